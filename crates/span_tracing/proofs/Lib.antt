@@ -1,0 +1,10 @@
+pub mod Joined
+pub mod Lines
+pub mod Entries
+pub mod Closing
+pub mod Lists
+pub mod Texts
+pub mod Agreeing
+pub mod Runs
+pub mod FieldNames
+pub mod Holding

@@ -1,0 +1,17 @@
+-- Steps without where their values lie in memory.
+use Rattle.span_tracing_machine.specs.PlainData.{plain_values, PlainStep, GlobalStep, EventStep, SpanStep, EnterStep, ExitStep, CloseStep}
+use Rattle.span_tracing_machine.specs.PlainData as plain
+use Rattle.span_tracing.specs.declared.action.Request.{Request}
+use Rattle.span_tracing.specs.declared.action.Action.{Action}
+use Rattle.span_tracing.specs.declared.action.Action.TheVariants as actions
+
+abbrev pub plain_request : Request → plain.Request
+plain_request r = record { lane = r.lane; moment = r.moment; callsite = r.callsite; parent = r.parent; values = plain_values r.values.now }
+
+abbrev pub plain_action : Action → PlainStep
+plain_action (actions.SetGlobalDefault handle) = GlobalStep handle
+plain_action (actions.Event r) = EventStep (plain_request r)
+plain_action (actions.NewSpan r) = SpanStep (plain_request r)
+plain_action (actions.Enter call) = EnterStep call
+plain_action (actions.Exit call) = ExitStep call
+plain_action (actions.TryClose call) = CloseStep call

@@ -1,0 +1,56 @@
+-- What a trace keeps of a plain state.
+use Rattle.std.specs.Prelude.{◌≡◌, List, length, map, Option}
+use Rattle.std.specs.Option.{option_map}
+use Rattle.tracing_appender_rolling.specs.Contents.{Contents}
+use Rattle.tracing_appender_rolling.specs.declared.appender.RollingFileAppender.{RollingFileAppender}
+use Rattle.span_tracing_machine.specs.declared.call.Reply.{Reply}
+use Rattle.span_tracing_machine.specs.PlainData.{PlainStep}
+use Rattle.span_tracing_machine.specs.declared.fate.Fate.{Fate}
+use Rattle.span_tracing_machine.specs.Missed.{starved_by}
+use Rattle.span_tracing_machine.specs.State.{Plain, PlainOutput, text_of, plain_reply, plain_after, plain_run, replies_of, missed_by, missed_in}
+use Rattle.span_tracing.specs.declared.trace.Trace.{Trace}
+use Rattle.span_tracing.specs.declared.state.TraceState.{TraceState}
+use Rattle.span_tracing.specs.Skeletons.{StateValue, state_value, skeleton_of, setting_of, texts_of, PlainSetting}
+use Rattle.span_tracing.specs.Stored.{AgreesOption}
+
+abbrev pub setting_in : Option PlainOutput → Option PlainSetting
+setting_in output = option_map (λ (o : PlainOutput). record { filter = o.filter; time = o.time }) output
+
+-- the trace keeps the skeleton, the output's setting, and the text of each open span's value list
+pub record Agrees (t : TraceState) (p : Plain) : Type 0 where
+  pub skeleton : skeleton_of t ≡ p.skeleton
+  pub setting : setting_of t ≡ setting_in p.output
+  pub texts : texts_of t ≡ map text_of p.value_lists
+
+-- the sink's files hold their texts; nothing is said where the folder's contents aren't known
+abbrev pub AgreesFiles : {D : Type 0} → (D → Option Contents) → Trace D → Plain → Type 0
+AgreesFiles contents t p = AgreesOption contents t.sink (option_map (λ (o : PlainOutput). o.sink) p.output)
+
+-- with these fates of the step's texts and lines, from each plain state that the old trace agrees with: the reply is
+-- the plain machine's, the new trace agrees with the state after, and those that found no memory are counted; and
+-- where the sink's files held their texts, they still do
+pub record FollowsStep {D : Type 0} (contents : D → Option Contents) (old new : Trace D) (reply : Reply) (step : PlainStep) : Type 0 where
+  pub fates : List Fate
+  pub agreed : (p : Plain) → Agrees old.state p →
+      (reply ≡ plain_reply p step)
+      × Agrees new.state (plain_after p step fates)
+      × (new.state.starved ≡ starved_by old.state.starved (missed_by p step fates))
+  pub files : (p : Plain) → Agrees old.state p → AgreesFiles contents old p → AgreesFiles contents new (plain_after p step fates)
+
+-- steps in order, with a list of fates for each
+pub record FollowsRun {D : Type 0} (contents : D → Option Contents) (old new : Trace D) (replies : List Reply) (steps : List PlainStep) : Type 0 where
+  pub fates : List (List Fate)
+  pub each : length fates ≡ length steps
+  pub agreed : (p : Plain) → Agrees old.state p →
+      (replies ≡ replies_of p steps)
+      × Agrees new.state (plain_run p steps fates)
+      × (new.state.starved ≡ starved_by old.state.starved (missed_in p steps fates))
+  pub files : (p : Plain) → Agrees old.state p → AgreesFiles contents old p → AgreesFiles contents new (plain_run p steps fates)
+
+-- a trace as a value: its state without capacities, and its sink
+pub record TraceValue (D : Type 0) : Type 0 where
+  pub state : StateValue
+  pub sink : Option (RollingFileAppender D)
+
+abbrev pub value_of : {D : Type 0} → Trace D → TraceValue D
+value_of t = record { state = state_value t.state; sink = t.sink }

@@ -1,0 +1,9 @@
+pub mod Lanes
+pub mod Shown
+pub mod Actions
+pub mod Skeletons
+pub mod Stored
+pub mod Agreement
+pub mod Routes
+pub mod Outputs
+pub mod Headline

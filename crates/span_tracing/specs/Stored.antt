@@ -1,0 +1,86 @@
+-- What a step does to what a trace stores.
+use Rattle.std.specs.Prelude.{◌≡◌, ℕ, List, [], ◌∷◌, ◌++◌, Option, Some, None, slice_get, filter, true}
+use Rattle.std.specs.Option.{option_map}
+use Rattle.tracing_appender_rolling.specs.Contents.{Contents}
+use Rattle.tracing_appender_rolling.specs.Sinks.{Handed, PlainSink}
+use Rattle.tracing_appender_rolling.specs.Appenders.{AgreesSink}
+use Rattle.tracing_appender_rolling.specs.declared.appender.RollingFileAppender.{RollingFileAppender}
+use Rattle.span_tracing_machine.specs.declared.fate.Fate.{Fate}
+use Rattle.span_tracing_machine.specs.declared.record.SpanRecord.{SpanRecord}
+use Rattle.span_tracing_machine.specs.declared.call.SpanName.{SpanName}
+use Rattle.span_tracing_machine.specs.PlainData.{Request, PlainStep, GlobalStep, EventStep, SpanStep, EnterStep, ExitStep, CloseStep}
+use Rattle.span_tracing_machine.specs.FieldTexts.{fields_text}
+use Rattle.span_tracing_machine.specs.Spans.{is_open}
+use Rattle.span_tracing_machine.specs.Skeleton.{Skeleton, Mask}
+use Rattle.span_tracing_machine.specs.Machine.{refusal_of, acted, after, or_same, made_at}
+use Rattle.span_tracing_machine.specs.Missed.{TextOf, given_by, wanted, wants_of, starved_by, count_missed}
+use Rattle.span_tracing_machine.specs.State.{PlainText, fields_of, step_mask}
+use Rattle.span_tracing.specs.declared.state.TraceState.{TraceState}
+use Rattle.span_tracing.specs.Skeletons.{skeleton_of, setting_of, texts_of, filter_in}
+
+-- the mask of a step
+abbrev pub mask_in : TraceState → PlainStep → Mask
+mask_in t step = step_mask (skeleton_of t) (filter_in (setting_of t)) step
+
+-- the texts of open spans, with that of a new one
+abbrev pub with_text : List PlainText → Skeleton → Request → Fate → Option ℕ → List PlainText
+with_text texts s n fate None = texts
+with_text texts s n fate (Some place) =
+    texts ++ (record { id = s.next_id; bytes = fields_text (fields_of (slice_get s.callsites place)) (given_by fate n.values) }) ∷ []
+
+abbrev pub open_texts : List SpanRecord → List PlainText → List PlainText
+open_texts spans texts = filter (λ (t : PlainText). is_open spans t.id) texts
+
+abbrev pub texts_left : Option SpanName → List SpanRecord → List PlainText → List PlainText
+texts_left None spans texts = texts
+texts_left (Some name) spans texts = open_texts spans texts
+
+unfoldable pub texts_acted : Skeleton → List PlainText → PlainStep → Mask → Fate → List PlainText
+texts_acted s texts (GlobalStep handle) mask fate = texts
+texts_acted s texts (EventStep e) mask fate = texts
+texts_acted s texts (SpanStep n) mask fate = with_text texts s n fate (made_at s n.callsite true mask)
+texts_acted s texts (EnterStep call) mask fate = texts
+texts_acted s texts (ExitStep call) mask fate = texts_left call.span (acted s (ExitStep call) mask).spans texts
+texts_acted s texts (CloseStep call) mask fate = texts_left call.span (acted s (CloseStep call) mask).spans texts
+
+-- a step that is not refused, whose one text or line met this fate
+pub record Acted (old new : TraceState) (step : PlainStep) (fate : Fate) : Type 0 where
+  pub skeleton : skeleton_of new ≡ acted (skeleton_of old) step (mask_in old step)
+  pub setting : setting_of new ≡ setting_of old
+  pub texts : texts_of new ≡ texts_acted (skeleton_of old) (texts_of old) step (mask_in old step) fate
+  pub starved : new.starved ≡ starved_by old.starved (count_missed (fate ∷ []) (wanted (skeleton_of old) step (mask_in old step)))
+
+-- any step
+pub record Stepped (old new : TraceState) (step : PlainStep) (fate : Fate) : Type 0 where
+  pub skeleton : skeleton_of new ≡ after (skeleton_of old) step (mask_in old step)
+  pub setting : setting_of new ≡ setting_of old
+  pub texts : texts_of new ≡ or_same (refusal_of (skeleton_of old) step (mask_in old step)) (texts_of old) (texts_acted (skeleton_of old) (texts_of old) step (mask_in old step) fate)
+  pub starved : new.starved ≡ starved_by old.starved (count_missed (fate ∷ []) (wants_of (skeleton_of old) step (mask_in old step)))
+
+-- a sink agrees with a plain one, or both are absent
+abbrev pub AgreesOption : {D : Type 0} → (D → Option Contents) → Option (RollingFileAppender D) → Option PlainSink → Type 0
+AgreesOption contents None None = Unit {0}
+AgreesOption contents None (Some s) = ⊥
+AgreesOption contents (Some a) None = ⊥
+AgreesOption contents (Some a) (Some s) = AgreesSink contents a s
+
+abbrev pub more_lines : List Handed → PlainSink → PlainSink
+more_lines lines s = record s { handed = s.handed ++ lines }
+
+-- the sink took these lines
+abbrev pub TakesLines : {D : Type 0} → (D → Option Contents) → Option (RollingFileAppender D) → Option (RollingFileAppender D) → List Handed → Type 0
+TakesLines contents old new lines =
+    (s : Option PlainSink) → AgreesOption contents old s → AgreesOption contents new (option_map (more_lines lines) s)
+
+-- the count after one text or line of this fate
+abbrev pub count_by : ℕ → Fate → ℕ
+count_by n fate = starved_by n (count_missed (fate ∷ []) (TextOf 0 ∷ []))
+
+-- the steps that take memory of their own: a new span, and an entry
+abbrev pub MayWantRoom : PlainStep → Type 0
+MayWantRoom (GlobalStep handle) = ⊥
+MayWantRoom (EventStep e) = ⊥
+MayWantRoom (SpanStep n) = Unit {0}
+MayWantRoom (EnterStep call) = Unit {0}
+MayWantRoom (ExitStep call) = ⊥
+MayWantRoom (CloseStep call) = ⊥

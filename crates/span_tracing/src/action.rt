@@ -1,0 +1,55 @@
+//! A step whose values are lent.
+
+ghost use Rattle.std.specs.Prelude.{◌≡◌};
+ghost use Rattle.span_tracing_machine.specs.PlainData.{plain_step};
+ghost use Rattle.span_tracing.specs.Actions.{plain_action};
+
+use span_tracing_machine::{FieldValue, Parent, SpanCall, Step};
+use tracing_appender_rolling::Moment;
+
+/// An event or a new span on a lane.
+#[derive(Clone, Copy, Debug)]
+pub(crate) struct Request<'a> {
+    pub(crate) lane: usize,
+    pub(crate) moment: Moment,
+    pub(crate) callsite: u64,
+    pub(crate) parent: Parent,
+    pub(crate) values: &'a [FieldValue],
+}
+
+/// A step of a trace.
+#[derive(Clone, Copy, Debug)]
+pub(crate) enum Action<'a> {
+    SetGlobalDefault(usize),
+    Event(Request<'a>),
+    NewSpan(Request<'a>),
+    Enter(SpanCall),
+    Exit(SpanCall),
+    TryClose(SpanCall),
+}
+
+/// The step, whose values stay where they are.
+pub(crate) fn action_of(step: &Step) -> Action<'_>
+    ensures { plain_action result ≡ plain_step step.now }
+{
+    match step {
+        Step::SetGlobalDefault(handle) => Action::SetGlobalDefault(*handle),
+        Step::Event(event) => Action::Event(Request {
+            lane: event.lane,
+            moment: event.moment,
+            callsite: event.callsite.0,
+            parent: event.parent,
+            values: event.values.as_slice(),
+        }),
+        Step::NewSpan(span) => Action::NewSpan(Request {
+            lane: span.lane,
+            moment: span.moment,
+            callsite: span.callsite.0,
+            parent: span.parent,
+            values: span.values.as_slice(),
+        }),
+        Step::Enter(call) => Action::Enter(*call),
+        Step::Exit(call) => Action::Exit(*call),
+        Step::TryClose(call) => Action::TryClose(*call),
+    }
+}

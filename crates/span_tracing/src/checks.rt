@@ -1,0 +1,254 @@
+//! Which steps are refused, and which requests are made.
+
+ghost use Rattle.std.specs.Prelude.{◌≡◌, map, Bool, true, false, IfSome, IfNone, ◌<◌, ◌≤◌, length, option_and_then, slice_get};
+ghost use Rattle.std.specs.Option.{option_map, option_copied};
+ghost use Rattle.span_tracing_machine.specs.Machine.{place_of, is_kind, known_place, knows_stack, parent_refusal, request_refusal, span_refusal, call_refusal, handle_refusal, ids_refusal, refusal_of, made_at, is_made};
+ghost use Rattle.span_tracing_machine.specs.State.{mask_at, mask_for};
+ghost use Rattle.span_tracing.specs.Actions.{plain_action};
+ghost use Rattle.span_tracing.specs.Skeletons.{plain_callsite, plain_setting, skeleton_of, setting_of, filter_in, next_number};
+ghost use Rattle.span_tracing.specs.Stored.{mask_in};
+
+use crate::action::Action;
+use crate::callsite::Callsite;
+use crate::state::{Setting, TraceState};
+use crate::store::{handles_of, is_open};
+use span_tracing_machine::{Parent, Refusal, SpanCall, SpanName};
+use tracing_appender_rolling::Moment;
+
+/// The place of the callsite with an identifier.
+pub(crate) fn place_of(callsites: &[Callsite], number: u64) -> Option<usize>
+    ensures within { IfSome result (λ place. place < length callsites.now) }
+    ensures value { result ≡ place_of (map plain_callsite callsites.now) number }
+{
+    for place in 0..callsites.len() {
+        if callsites[place].number == number {
+            return Some(place);
+        }
+    }
+    None
+}
+
+fn is_kind(callsite: Option<&Callsite>, is_span: bool) -> bool
+    ensures { result ≡ is_kind (option_map plain_callsite (option_copied callsite.entry)) is_span }
+{
+    match callsite {
+        None => false,
+        Some(known) => {
+            if is_span {
+                known.kind.is_span()
+            } else {
+                known.kind.is_event()
+            }
+        }
+    }
+}
+
+/// The place of a registered callsite of this kind.
+#[tactic(auto, using(crate::proofs::Lists::slice_get_map), unfolding(span_tracing_machine::specs::Machine::known_place))]
+pub(crate) fn known_place(callsites: &[Callsite], number: u64, is_span: bool) -> Option<usize>
+    ensures within { IfSome result (λ place. place < length callsites.now) }
+    ensures value { result ≡ known_place (map plain_callsite callsites.now) number is_span }
+{
+    match place_of(callsites, number) {
+        None => None,
+        Some(place) => {
+            if is_kind(callsites.get(place), is_span) {
+                Some(place)
+            } else {
+                None
+            }
+        }
+    }
+}
+
+fn is_passed(setting: &Option<Setting>, callsite: Option<&Callsite>) -> bool
+    ensures { result ≡ is_made (mask_at (filter_in (option_map plain_setting setting.now)) (option_map plain_callsite (option_copied callsite.entry))) }
+{
+    match (setting, callsite) {
+        (Some(output), Some(known)) => output.filter.passes(known.level),
+        _ => false,
+    }
+}
+
+impl TraceState {
+    fn knows_stack(&self, stack: usize) -> bool
+        ensures { result ≡ knows_stack (skeleton_of self.now) stack }
+    {
+        self.setting.is_some() && stack == 0
+    }
+
+    fn parent_refusal(&self, parent: Parent) -> Option<Refusal>
+        ensures { result ≡ parent_refusal (skeleton_of self.now) parent }
+    {
+        match parent {
+            Parent::Contextual => None,
+            Parent::Root => None,
+            Parent::Explicit(name) => {
+                if !self.knows_stack(name.stack) {
+                    return Some(Refusal::UnknownStack);
+                }
+                if !self.is_global {
+                    return Some(Refusal::ForeignParent);
+                }
+                if !is_open(self.spans.as_slice(), name.id.into_u64()) {
+                    return Some(Refusal::UnknownSpan);
+                }
+                None
+            }
+        }
+    }
+
+    fn request_refusal(
+        &self,
+        lane: usize,
+        moment: Moment,
+        number: u64,
+        is_span: bool,
+        parent: Parent,
+    ) -> Option<Refusal>
+        ensures { result ≡ request_refusal (skeleton_of self.now) lane moment number is_span parent }
+    {
+        if self.lanes.len() <= lane {
+            return Some(Refusal::UnknownLane);
+        }
+        if !moment.is_in_range() {
+            return Some(Refusal::BadMoment);
+        }
+        match known_place(self.callsites.as_slice(), number, is_span) {
+            None => Some(Refusal::UnknownCallsite),
+            Some(_) => self.parent_refusal(parent),
+        }
+    }
+
+    fn span_refusal(&self, span: Option<SpanName>) -> Option<Refusal>
+        ensures { result ≡ span_refusal (skeleton_of self.now) span }
+    {
+        match span {
+            None => None,
+            Some(name) => {
+                if !self.knows_stack(name.stack) {
+                    return Some(Refusal::UnknownStack);
+                }
+                if !is_open(self.spans.as_slice(), name.id.into_u64()) {
+                    return Some(Refusal::UnknownSpan);
+                }
+                None
+            }
+        }
+    }
+
+    fn call_refusal(&self, call: SpanCall) -> Option<Refusal>
+        ensures { result ≡ call_refusal (skeleton_of self.now) call }
+    {
+        if self.lanes.len() <= call.lane {
+            return Some(Refusal::UnknownLane);
+        }
+        if !call.moment.is_in_range() {
+            return Some(Refusal::BadMoment);
+        }
+        self.span_refusal(call.span)
+    }
+
+    fn handle_refusal(&self, span: Option<SpanName>) -> Option<Refusal>
+        ensures { result ≡ handle_refusal (skeleton_of self.now) span }
+    {
+        match span {
+            None => None,
+            Some(name) => {
+                if handles_of(self.spans.as_slice(), name.id.into_u64()) == 0 {
+                    return Some(Refusal::UnknownSpan);
+                }
+                None
+            }
+        }
+    }
+
+    /// Where a request is made, the place of its callsite.
+    #[tactic(auto, using(crate::proofs::Lists::slice_get_map), unfolding(span_tracing_machine::specs::Machine::made_at))]
+    pub(crate) fn made_at(&self, number: u64, is_span: bool) -> Option<usize>
+        ensures within { IfSome result (λ place. place < length self.now.callsites.items) }
+        ensures value { result ≡ made_at (skeleton_of self.now) number is_span (mask_for (skeleton_of self.now) (filter_in (setting_of self.now)) number is_span) }
+    {
+        if !self.is_global {
+            return None;
+        }
+        match known_place(self.callsites.as_slice(), number, is_span) {
+            None => None,
+            Some(place) => {
+                if is_passed(&self.setting, self.callsites.get(place)) {
+                    Some(place)
+                } else {
+                    None
+                }
+            }
+        }
+    }
+
+    fn ids_refusal(&self, number: u64) -> Option<Refusal>
+        ensures { result ≡ ids_refusal (skeleton_of self.now) (made_at (skeleton_of self.now) number true (mask_for (skeleton_of self.now) (filter_in (setting_of self.now)) number true)) }
+    {
+        self.made_at(number, true)?;
+        match self.coming_id() {
+            None => Some(Refusal::IdsSpent),
+            Some(_) => None,
+        }
+    }
+
+    /// The next span's id, where one is left.
+    pub(crate) fn coming_id(&self) -> Option<u64>
+        ensures some { IfSome result (λ id. (id ≡ next_number self.now.next_id) × (0 < id) × (id ≤ 18446744073709551615)) }
+        ensures none { IfNone result (next_number self.now.next_id ≡ 18446744073709551616) }
+    {
+        match self.next_id {
+            None => None,
+            Some(id) => Some(id.into_u64()),
+        }
+    }
+
+    /// The first refusal that a step meets.
+    #[tactic(auto, unfolding(span_tracing_machine::specs::Machine::refusal_of, span_tracing_machine::specs::State::step_mask))]
+    pub(crate) fn refusal(&self, action: &Action<'_>) -> Option<Refusal>
+        ensures { result ≡ refusal_of (skeleton_of self.now) (plain_action action.now) (mask_in self.now (plain_action action.now)) }
+    {
+        match action {
+            Action::SetGlobalDefault(handle) => {
+                if !self.knows_stack(*handle) {
+                    return Some(Refusal::UnknownStack);
+                }
+                if self.is_global {
+                    return Some(Refusal::GlobalSet);
+                }
+                None
+            }
+            Action::Event(event) => self.request_refusal(
+                event.lane,
+                event.moment,
+                event.callsite,
+                false,
+                event.parent,
+            ),
+            Action::NewSpan(span) => {
+                let refusal = self.request_refusal(
+                    span.lane,
+                    span.moment,
+                    span.callsite,
+                    true,
+                    span.parent,
+                );
+                if refusal.is_some() {
+                    return refusal;
+                }
+                self.ids_refusal(span.callsite)
+            }
+            Action::Enter(call) => self.call_refusal(*call),
+            Action::Exit(call) => self.call_refusal(*call),
+            Action::TryClose(call) => {
+                let refusal = self.call_refusal(*call);
+                if refusal.is_some() {
+                    return refusal;
+                }
+                self.handle_refusal(call.span)
+            }
+        }
+    }
+}

@@ -1,0 +1,146 @@
+//! Outputs: what passes, how it is formatted, and where it goes.
+
+ghost use Rattle.std.specs.Prelude.{◌≡◌, ◌≤◌, [], ◌∷◌, true, false, Ok, Err, IfOk, IfErr, IsErr, vec_len};
+ghost use Rattle.span_tracing.specs.Routes.{is_bad_route};
+
+use span_tracing_machine::Refusal;
+use std::alloc::Global;
+use tracing_appender_rolling::Builder;
+use tracing_core::LevelFilter;
+
+/// Bytes for which an output makes room before its first line.
+const LINE_CAPACITY: usize = 256;
+
+/// What stands at the start of a line.
+#[derive(Debug, Drop)]
+pub enum Timer {
+    /// This text.
+    FixedText(String),
+    /// No time, and no space after it.
+    Absent,
+}
+
+/// How the fields of events and spans are written.
+#[derive(Clone, Copy, Debug, PartialEq, Eq)]
+pub enum Fields {
+    /// `name=value`, with one space between two fields.
+    Default,
+}
+
+/// How an output writes its lines.
+#[derive(Debug, Drop)]
+pub struct LineFormat {
+    pub(crate) timer: Timer,
+    pub(crate) fields: Fields,
+}
+
+impl LineFormat {
+    /// Time, spans from the root with their fields, target, the event's fields.
+    pub fn full(timer: Timer, fields: Fields) -> LineFormat
+        ensures { (result.timer ≡ timer) × (result.fields ≡ fields) }
+    {
+        LineFormat { timer, fields }
+    }
+}
+
+/// To which sinks of its output a line goes.
+#[derive(Clone, Copy, Debug, PartialEq, Eq)]
+pub enum Route {
+    /// The sink at this place, from 0.
+    Sink(usize),
+}
+
+/// The name of an output's slots.
+#[derive(Clone, Copy, Debug, PartialEq, Eq)]
+pub struct OutputKey(pub u32);
+
+/// Where lines go, over a folder `D`.
+#[derive(Drop)]
+pub enum SinkSpec<D> {
+    /// Log files that are written as lines come.
+    Direct(Builder, D),
+}
+
+/// A filter, a format, and the sink that lines go to.
+#[derive(Drop)]
+pub struct Output<D> {
+    pub(crate) key: OutputKey,
+    pub(crate) filter: LevelFilter,
+    pub(crate) format: LineFormat,
+    pub(crate) builder: Builder,
+    pub(crate) folder: D,
+    /// Room for a line.
+    pub(crate) line: String,
+}
+
+/// Why an output could not be made, with its format and its sinks.
+#[derive(Drop)]
+pub struct OutputRefusal<D> {
+    pub refusal: Refusal,
+    pub format: LineFormat,
+    pub sinks: Vec<SinkSpec<D>>,
+}
+
+fn is_bad_route(route: Route, sinks: usize) -> bool
+    ensures { result ≡ is_bad_route route sinks }
+{
+    match route {
+        Route::Sink(place) => sinks <= place,
+    }
+}
+
+impl<D: Drop> Output<D> {
+    ghost use Rattle.span_tracing.specs.Outputs.{MadeOf};
+
+    /// An output of one sink.
+    ///
+    /// # Errors
+    ///
+    /// `BadRoute` where the route names a sink that isn't there, else `OutOfMemory`; format and sinks come back.
+    pub fn new(
+        alloc: Global,
+        filter: LevelFilter,
+        format: LineFormat,
+        route: Route,
+        mut sinks: Vec<SinkSpec<D>>,
+        key: OutputKey,
+    ) -> Result<Output<D>, OutputRefusal<D>>
+        requires { vec_len sinks ≤ 1 }
+        ensures bad { is_bad_route route (vec_len sinks) ≡ true →
+            result ≡ Err (record { refusal = Refusal.BadRoute; format = format; sinks = sinks }) }
+        ensures made { is_bad_route route (vec_len sinks) ≡ false →
+            IfOk result (λ output. MadeOf filter format sinks.items key output) }
+        ensures memory { is_bad_route route (vec_len sinks) ≡ false →
+            IfErr result (λ refused. refused ≡ record { refusal = Refusal.OutOfMemory; format = format; sinks = sinks }) }
+    {
+        if is_bad_route(route, sinks.len()) {
+            return Err(OutputRefusal {
+                refusal: Refusal::BadRoute,
+                format,
+                sinks,
+            });
+        }
+        let Ok(line) = String::with_capacity(alloc, LINE_CAPACITY) else {
+            return Err(OutputRefusal {
+                refusal: Refusal::OutOfMemory,
+                format,
+                sinks,
+            });
+        };
+        match sinks.pop() {
+            Some(SinkSpec::Direct(builder, folder)) => Ok(Output {
+                key,
+                filter,
+                format,
+                builder,
+                folder,
+                line,
+            }),
+            None => Err(OutputRefusal {
+                refusal: Refusal::BadRoute,
+                format,
+                sinks,
+            }),
+        }
+    }
+}

@@ -1,0 +1,272 @@
+//! Steps of a trace, one at a time and in runs.
+
+ghost use Rattle.std.specs.Prelude.{◌≡◌, ◌≢◌, [], ◌∷◌, OnErr, IfOk, true, ◌<◌, length, pos};
+ghost use Rattle.std.specs.List.{AllByRecursion};
+ghost use Rattle.tracing_appender_rolling.specs.Moments.{is_moment};
+ghost use Rattle.tracing_appender_rolling.specs.Sinks.{PlainSink};
+ghost use Rattle.tracing_appender_rolling.specs.Appenders.{AgreesSink};
+ghost use Rattle.span_tracing_machine.specs.PlainData.{plain_step, plain_steps, plain_values, GlobalStep, EventStep, SpanStep, EnterStep, ExitStep, CloseStep};
+ghost use Rattle.span_tracing_machine.specs.Machine.{refusal_of, reply_of, or_same};
+ghost use Rattle.span_tracing_machine.specs.Missed.{handed_by, handed_lines};
+ghost use Rattle.span_tracing_machine.specs.State.{handed_at, event_line, offer_of};
+ghost use Rattle.span_tracing.specs.Actions.{plain_action, plain_request};
+ghost use Rattle.span_tracing.specs.Skeletons.{skeleton_of, setting_of, texts_of, time_in, state_value};
+ghost use Rattle.span_tracing.specs.Stored.{Acted, Stepped, TakesLines, MayWantRoom, mask_in, more_lines};
+
+use crate::action::{Action, Request, action_of};
+use crate::trace::Trace;
+use span_tracing_machine::{Fate, FieldValue, Parent, Refusal, Reply, SpanCall, SpanName, Step};
+use std::alloc::AllocError;
+use tracing_appender_rolling::{Folder, FolderError, Moment, RollingFileAppender};
+use tracing_core::Identifier;
+
+/// A step's reply, and what became of its text or line.
+#[derive(Clone, Copy, Debug)]
+struct StepDone {
+    reply: Reply,
+    fate: Fate,
+}
+
+/// A reply to a step that missed nothing.
+fn whole(reply: Reply) -> StepDone
+    ensures { (result.reply ≡ reply) × (result.fate ≡ Fate.Whole) }
+{
+    StepDone {
+        reply,
+        fate: Fate::Whole,
+    }
+}
+
+/// Writes a line at a moment. A fault of the folder is counted by the sink.
+fn write_line<D: Folder>(sink: &mut RollingFileAppender<D>, line: &[u8], moment: Moment) -> Fate
+    requires { is_moment moment ≡ true }
+    ensures { (s : PlainSink) → AgreesSink D.contents sink.old s →
+        AgreesSink D.contents sink.new (more_lines (handed_by result (handed_at moment line.now)) s) }
+{
+    if sink.look(moment).is_err() {
+        return Fate::Missed;
+    }
+    match sink.push(line) {
+        Ok(()) => Fate::Whole,
+        Err(FolderError::OutOfMemory) => Fate::Unwritten,
+        Err(FolderError::Fault(_)) => Fate::Whole,
+    }
+}
+
+fn write_if_open<D: Folder>(
+    sink: &mut Option<RollingFileAppender<D>>,
+    line: &[u8],
+    moment: Moment,
+) -> Fate
+    requires { is_moment moment ≡ true }
+    ensures { TakesLines D.contents sink.old sink.new (handed_by result (handed_at moment line.now)) }
+{
+    match sink {
+        None => Fate::Whole,
+        Some(open) => write_line(open, line, moment),
+    }
+}
+
+impl<D: Folder> Trace<D> {
+    ghost use Rattle.span_tracing.specs.Agreement.{FollowsStep, FollowsRun, value_of};
+    ghost use Rattle.span_tracing.specs.Headline.{HoldsOffered, NothingStarved};
+
+    /// Hands an event's line over.
+    fn offer_line(&mut self, event: &Request<'_>, place: usize) -> Fate
+        requires place { place < length self.old.state.callsites.items }
+        requires moment { is_moment event.now.moment ≡ true }
+        ensures kept { self.new.state ≡ self.old.state }
+        ensures takes { TakesLines D.contents self.old.sink self.new.sink (handed_by result (handed_at event.now.moment
+            (event_line (skeleton_of self.old.state) (texts_of self.old.state) (time_in (setting_of self.old.state)) (plain_request event.now) place))) }
+    {
+        if self.state.event_line(&mut self.line, event, place).is_err() {
+            return Fate::Missed;
+        }
+        write_if_open(&mut self.sink, self.line.as_bytes(), event.moment)
+    }
+
+    /// An event that is not refused.
+    #[tactic(auto, unfolding(span_tracing_machine::specs::Machine::acted, span_tracing_machine::specs::Missed::wanted, crate::specs::Stored::texts_acted, span_tracing_machine::specs::State::step_mask, span_tracing_machine::specs::State::offer_of))]
+    fn event_once(&mut self, event: &Request<'_>) -> Fate
+        requires { is_moment event.now.moment ≡ true }
+        ensures acted { Acted self.old.state self.new.state (EventStep (plain_request event.now)) result }
+        ensures takes { TakesLines D.contents self.old.sink self.new.sink (handed_lines (result ∷ []) (offer_of (skeleton_of self.old.state) (texts_of self.old.state)
+            (time_in (setting_of self.old.state)) (EventStep (plain_request event.now)) (mask_in self.old.state (EventStep (plain_request event.now))))) }
+    {
+        let Some(place) = self.state.made_at(event.callsite, false) else {
+            return Fate::Whole;
+        };
+        let fate = self.offer_line(event, place);
+        self.state.count(fate);
+        fate
+    }
+
+    /// A step, with its reply.
+    #[tactic(auto, unfolding(span_tracing_machine::specs::Machine::answered, span_tracing_machine::specs::Machine::after, span_tracing_machine::specs::Machine::reply_of, span_tracing_machine::specs::Missed::wants_of, span_tracing_machine::specs::State::offer_of))]
+    fn step_once(&mut self, action: &Action<'_>) -> StepDone
+        ensures reply { result.reply ≢ Reply.Refused Refusal.OutOfMemory →
+            result.reply ≡ reply_of (skeleton_of self.old.state) (plain_action action.now) (mask_in self.old.state (plain_action action.now)) }
+        ensures stepped { result.reply ≢ Reply.Refused Refusal.OutOfMemory → Stepped self.old.state self.new.state (plain_action action.now) result.fate }
+        ensures takes { result.reply ≢ Reply.Refused Refusal.OutOfMemory → TakesLines D.contents self.old.sink self.new.sink
+            (or_same (refusal_of (skeleton_of self.old.state) (plain_action action.now) (mask_in self.old.state (plain_action action.now))) []
+            (handed_lines (result.fate ∷ []) (offer_of (skeleton_of self.old.state) (texts_of self.old.state) (time_in (setting_of self.old.state))
+            (plain_action action.now) (mask_in self.old.state (plain_action action.now))))) }
+        ensures refused { (refusal : Refusal) → result.reply ≡ Reply.Refused refusal → value_of self.new ≡ value_of self.old }
+        ensures memory { result.reply ≡ Reply.Refused Refusal.OutOfMemory → MayWantRoom (plain_action action.now) }
+    {
+        if let Some(refusal) = self.state.refusal(action) {
+            return whole(Reply::Refused(refusal));
+        }
+        match action {
+            Action::SetGlobalDefault(_) => {
+                self.state.set_global();
+                whole(Reply::Done)
+            }
+            Action::Event(event) => StepDone {
+                fate: self.event_once(event),
+                reply: Reply::Done,
+            },
+            Action::NewSpan(span) => match self.state.new_span(span) {
+                Ok(made) => StepDone {
+                    reply: Reply::Span(made.name),
+                    fate: made.fate,
+                },
+                Err(_) => whole(Reply::Refused(Refusal::OutOfMemory)),
+            },
+            Action::Enter(call) => match self.state.enter(call) {
+                Ok(()) => whole(Reply::Done),
+                Err(_) => whole(Reply::Refused(Refusal::OutOfMemory)),
+            },
+            Action::Exit(call) => {
+                self.state.exit(call);
+                whole(Reply::Done)
+            }
+            Action::TryClose(call) => whole(Reply::Closed(self.state.try_close(call))),
+        }
+    }
+
+    /// A step of the plain machine, from each plain state that the trace agrees with.
+    fn act(&mut self, action: &Action<'_>) -> Reply
+        ensures follows { result ≢ Reply.Refused Refusal.OutOfMemory → FollowsStep D.contents self.old self.new result (plain_action action.now) }
+        ensures refused { (refusal : Refusal) → result ≡ Reply.Refused refusal → value_of self.new ≡ value_of self.old }
+        ensures memory { result ≡ Reply.Refused Refusal.OutOfMemory → MayWantRoom (plain_action action.now) }
+    {
+        let done = self.step_once(action);
+        done.reply
+    }
+
+    /// A step. The reply and the new state are the plain machine's, from each plain state that the trace agrees with.
+    ///
+    /// A refusal changes nothing. Want of memory is answered for a new span or an entry alone.
+    pub fn step(&mut self, step: &Step) -> Reply
+        ensures follows { result ≢ Reply.Refused Refusal.OutOfMemory → FollowsStep D.contents self.old self.new result (plain_step step.now) }
+        ensures refused { (refusal : Refusal) → result ≡ Reply.Refused refusal → value_of self.new ≡ value_of self.old }
+        ensures memory { result ≡ Reply.Refused Refusal.OutOfMemory → MayWantRoom (plain_step step.now) }
+    {
+        self.act(&action_of(step))
+    }
+
+    /// Steps in order, with a reply to each.
+    ///
+    /// # Errors
+    ///
+    /// Want of memory for the replies, whose room is made first: then nothing was done.
+    pub fn run(&mut self, steps: &[Step]) -> Result<Vec<Reply>, AllocError>
+        ensures run { IfOk result (λ replies. AllByRecursion (λ reply. reply ≢ Reply.Refused Refusal.OutOfMemory) replies.items →
+            FollowsRun D.contents self.old self.new replies.items (plain_steps steps.now)) }
+        ensures files { IfOk result (λ replies. AllByRecursion (λ reply. reply ≢ Reply.Refused Refusal.OutOfMemory) replies.items →
+            NothingStarved self.old self.new → HoldsOffered D.contents self.old self.new (plain_steps steps.now)) }
+        ensures err { OnErr result (self.new ≡ self.old) }
+    {
+        self.run_all(steps)
+    }
+
+    /// Steps in order, with a reply to each.
+    fn run_all(&mut self, steps: &[Step]) -> Result<Vec<Reply>, AllocError>
+        ensures run { IfOk result (λ replies. AllByRecursion (λ reply. reply ≢ Reply.Refused Refusal.OutOfMemory) replies.items →
+            FollowsRun D.contents self.old self.new replies.items (plain_steps steps.now)) }
+        ensures err { OnErr result (self.new ≡ self.old) }
+    {
+        let mut replies = Vec::with_capacity(self.state.alloc, steps.len())?;
+        for step in steps {
+            replies.push_reserved(self.step(step));
+        }
+        Ok(replies)
+    }
+
+    /// Makes the stack with this handle the one that lanes reach. Takes no memory.
+    pub fn set_global_default(&mut self, handle: usize) -> Reply
+        ensures follows { FollowsStep D.contents self.old self.new result (GlobalStep handle) }
+        ensures refused { (refusal : Refusal) → result ≡ Reply.Refused refusal → value_of self.new ≡ value_of self.old }
+    {
+        self.act(&Action::SetGlobalDefault(handle))
+    }
+
+    /// An event on a lane. Where its line finds no memory, the line alone is missing.
+    pub fn event(
+        &mut self,
+        lane: usize,
+        moment: Moment,
+        callsite: Identifier,
+        parent: Parent,
+        values: &[FieldValue],
+    ) -> Reply
+        ensures follows { FollowsStep D.contents self.old self.new result (EventStep (record { lane = lane; moment = moment; callsite = callsite.0; parent = parent; values = plain_values values.now })) }
+        ensures refused { (refusal : Refusal) → result ≡ Reply.Refused refusal → value_of self.new ≡ value_of self.old }
+    {
+        self.act(&Action::Event(Request {
+            lane,
+            moment,
+            callsite: callsite.0,
+            parent,
+            values,
+        }))
+    }
+
+    /// A new span on a lane; answers its name, or none where it is dropped. Where its text finds no memory, the text alone is
+    /// missing.
+    pub fn new_span(
+        &mut self,
+        lane: usize,
+        moment: Moment,
+        callsite: Identifier,
+        parent: Parent,
+        values: &[FieldValue],
+    ) -> Reply
+        ensures follows { result ≢ Reply.Refused Refusal.OutOfMemory → FollowsStep D.contents self.old self.new result
+            (SpanStep (record { lane = lane; moment = moment; callsite = callsite.0; parent = parent; values = plain_values values.now })) }
+        ensures refused { (refusal : Refusal) → result ≡ Reply.Refused refusal → value_of self.new ≡ value_of self.old }
+    {
+        self.act(&Action::NewSpan(Request {
+            lane,
+            moment,
+            callsite: callsite.0,
+            parent,
+            values,
+        }))
+    }
+
+    /// Enters a span on a lane.
+    pub fn enter(&mut self, lane: usize, moment: Moment, span: Option<SpanName>) -> Reply
+        ensures follows { result ≢ Reply.Refused Refusal.OutOfMemory → FollowsStep D.contents self.old self.new result (EnterStep (record { lane = lane; moment = moment; span = span })) }
+        ensures refused { (refusal : Refusal) → result ≡ Reply.Refused refusal → value_of self.new ≡ value_of self.old }
+    {
+        self.act(&Action::Enter(SpanCall { lane, moment, span }))
+    }
+
+    /// Leaves a span on a lane: its last entry there goes. Takes no memory.
+    pub fn exit(&mut self, lane: usize, moment: Moment, span: Option<SpanName>) -> Reply
+        ensures follows { FollowsStep D.contents self.old self.new result (ExitStep (record { lane = lane; moment = moment; span = span })) }
+        ensures refused { (refusal : Refusal) → result ≡ Reply.Refused refusal → value_of self.new ≡ value_of self.old }
+    {
+        self.act(&Action::Exit(SpanCall { lane, moment, span }))
+    }
+
+    /// Gives up one handle of a span; answers whether the span closed. Takes no memory.
+    pub fn try_close(&mut self, lane: usize, moment: Moment, span: Option<SpanName>) -> Reply
+        ensures follows { FollowsStep D.contents self.old self.new result (CloseStep (record { lane = lane; moment = moment; span = span })) }
+        ensures refused { (refusal : Refusal) → result ≡ Reply.Refused refusal → value_of self.new ≡ value_of self.old }
+    {
+        self.act(&Action::TryClose(SpanCall { lane, moment, span }))
+    }
+}

@@ -1,0 +1,251 @@
+//! Setup calls, which are no steps.
+
+ghost use Rattle.std.specs.Prelude.{◌≡◌, ◌≢◌, ◌≤◌, ◌<◌, ◌⊎◌, ◌↔◌, ◌++◌, ◌∷◌, [], ℕ, List, map, true, false, is_some, IsTrue, IsSome, IsErr, Option, Some, None, Ok, Err, OnOk, OnErr, IfOk, IfErr, IfSome, vec_len, string_bytes};
+ghost use Rattle.std.specs.Option.{option_map, option_copied};
+ghost use Rattle.tracing_core.specs.Metadata.{plain_metadata};
+ghost use Rattle.tracing_appender_rolling.specs.Moments.{is_moment};
+ghost use Rattle.tracing_appender_rolling.specs.Contents.{Contents, bytes_at};
+ghost use Rattle.tracing_appender_rolling.specs.Appenders.{MayOpen};
+ghost use Rattle.tracing_appender_rolling.specs.Sinks.{file_text};
+ghost use Rattle.span_tracing_machine.specs.State.{Plain, PlainOutput, new_plain, with_lane, with_stack, register_refusal, registered};
+ghost use Rattle.span_tracing.specs.Skeletons.{skeleton_of, state_value};
+ghost use Rattle.span_tracing.specs.Stored.{AgreesOption};
+ghost use Rattle.span_tracing.specs.Outputs.{outputs_refusal, refusal_by};
+
+use crate::output::Output;
+use crate::state::{Setting, TraceState};
+use crate::steps::first_id;
+use crate::trace::Trace;
+use span_tracing_machine::Refusal;
+use std::alloc::{AllocError, Global};
+use tracing_appender_rolling::{Folder, FolderError, Moment, RollingFileAppender};
+use tracing_core::{Identifier, Metadata};
+
+/// Why a stack could not be added, with its outputs. Their folders are as the calls made until then left them.
+#[derive(Drop)]
+pub struct StackRefusal<D> {
+    pub refusal: Refusal,
+    pub outputs: Vec<Output<D>>,
+}
+
+/// An output whose file could not be opened.
+#[derive(Drop)]
+struct OutputBack<D> {
+    refusal: Refusal,
+    output: Output<D>,
+}
+
+fn refusal_of(error: FolderError) -> Refusal
+    ensures { result ≡ refusal_by error }
+{
+    match error {
+        FolderError::OutOfMemory => Refusal::OutOfMemory,
+        FolderError::Fault(_) => Refusal::FolderRefused,
+    }
+}
+
+fn outputs_refusal<D>(outputs: &[Output<D>]) -> Option<Refusal>
+    ensures { result ≡ outputs_refusal outputs.now }
+{
+    match outputs {
+        [] => Some(Refusal::NoOutput),
+        [output, ..] => {
+            if output.builder.has_bad_name() {
+                Some(Refusal::BadName)
+            } else {
+                None
+            }
+        }
+    }
+}
+
+impl<D: Folder> Trace<D> {
+    ghost use Rattle.span_tracing.specs.Agreement.{Agrees, AgreesFiles, value_of};
+    ghost use Rattle.span_tracing.specs.Outputs.{plain_output, output_names, output_setting, stack_refusal, IsOpeningRefusal, HandsOutputsBack};
+
+    /// A trace with no stack, no lane and no callsite.
+    pub fn new(alloc: Global) -> Trace<D>
+        ensures agrees { Agrees result.state new_plain }
+        ensures files { AgreesFiles D.contents result new_plain }
+        ensures starved { result.state.starved ≡ 0 }
+    {
+        Trace {
+            state: TraceState {
+                alloc,
+                callsites: Vec::new(alloc),
+                lanes: Vec::new(alloc),
+                spans: Vec::new(alloc),
+                next_id: first_id(),
+                setting: None,
+                is_global: false,
+                texts: Vec::new(alloc),
+                starved: 0,
+            },
+            sink: None,
+            line: String::new(alloc),
+        }
+    }
+
+    /// Whether the trace has a stack.
+    pub fn has_stack(&self) -> bool
+        ensures { result ≡ is_some self.now.state.setting }
+    {
+        self.state.setting.is_some()
+    }
+
+    /// Registers a callsite under an identifier. Equal metadata may be registered again.
+    ///
+    /// # Errors
+    ///
+    /// `Taken` where other metadata holds the identifier, else `OutOfMemory`; both leave the trace as it was.
+    pub fn register(
+        &mut self,
+        identifier: Identifier,
+        metadata: &Metadata<'_>,
+    ) -> Result<(), Refusal>
+        ensures refused { (refusal : Refusal) → register_refusal (skeleton_of self.old.state) (record { number = identifier.0; metadata = plain_metadata metadata.now }) ≡ Some refusal → result ≡ Err refusal }
+        ensures accepted { register_refusal (skeleton_of self.old.state) (record { number = identifier.0; metadata = plain_metadata metadata.now }) ≡ None → IfErr result (λ refusal. refusal ≡ Refusal.OutOfMemory) }
+        ensures ok { OnOk result ((p : Plain) → Agrees self.old.state p → Agrees self.new.state (registered p (record { number = identifier.0; metadata = plain_metadata metadata.now }))) }
+        ensures files { self.new.sink ≡ self.old.sink }
+        ensures starved { self.new.state.starved ≡ self.old.state.starved }
+        ensures err { OnErr result (value_of self.new ≡ value_of self.old) }
+    {
+        match self.state.callsite(identifier.0) {
+            Some(known) => {
+                if known.is_same(metadata) {
+                    Ok(())
+                } else {
+                    Err(Refusal::Taken)
+                }
+            }
+            None => match self.state.add_callsite(identifier.0, metadata) {
+                Ok(()) => Ok(()),
+                Err(_) => Err(Refusal::OutOfMemory),
+            },
+        }
+    }
+
+    /// Adds a lane, and answers its number: lanes are numbered from 0.
+    ///
+    /// # Errors
+    ///
+    /// Want of memory, which leaves the trace as it was.
+    pub fn thread(&mut self, name: Option<&str>, thread_id: u64) -> Result<usize, AllocError>
+        ensures number { IfOk result (λ lane. lane ≡ vec_len self.old.state.lanes) }
+        ensures ok { OnOk result ((p : Plain) → Agrees self.old.state p → Agrees self.new.state (with_lane p)) }
+        ensures files { (p : Plain) → AgreesFiles D.contents self.old p → AgreesFiles D.contents self.new (with_lane p) }
+        ensures err { OnErr result (value_of self.new ≡ value_of self.old) }
+    {
+        let name = match name {
+            None => None,
+            Some(text) => Some(String::from_str(self.state.alloc, text)?),
+        };
+        self.state.add_lane(name, thread_id)
+    }
+
+    /// Adds the stack, which has one output, and opens the output's first file. Answers the stack's handle, which is 0.
+    ///
+    /// # Errors
+    ///
+    /// `BadMoment`, `NoOutput` and `BadName`, in this order, before a folder is asked; then `FolderRefused` or `OutOfMemory`
+    /// where the file could not be opened. The outputs come back, and the trace is as it was.
+    pub fn add_stack(
+        &mut self,
+        mut outputs: Vec<Output<D>>,
+        moment: Moment,
+    ) -> Result<usize, StackRefusal<D>>
+        requires no_stack { is_some self.old.state.setting ≡ false }
+        requires one { vec_len outputs ≤ 1 }
+        ensures refused { (refusal : Refusal) → stack_refusal outputs.items moment ≡ Some refusal → result ≡ Err (record { refusal = refusal; outputs = outputs }) }
+        ensures handle { IfOk result (λ handle. handle ≡ 0) }
+        ensures ok { OnOk result ((output : Output D) → outputs.items ≡ output ∷ [] → (p : Plain) → Agrees self.old.state p →
+            Agrees self.new.state (with_stack p (plain_output D.contents output moment))) }
+        ensures files { OnOk result ((output : Output D) → outputs.items ≡ output ∷ [] → MayOpen (D.contents output.folder) (output_names output) → (p : Plain) →
+            AgreesFiles D.contents self.new (with_stack p (plain_output D.contents output moment))) }
+        ensures err { OnErr result (value_of self.new ≡ value_of self.old) }
+        ensures opening { stack_refusal outputs.items moment ≡ None → IfErr result (λ back. HandsOutputsBack D.contents outputs.items back.refusal back.outputs.items) }
+    {
+        if !moment.is_in_range() {
+            return Err(StackRefusal {
+                refusal: Refusal::BadMoment,
+                outputs,
+            });
+        }
+        if let Some(refusal) = outputs_refusal(outputs.as_slice()) {
+            return Err(StackRefusal { refusal, outputs });
+        }
+        match outputs.pop() {
+            None => Err(StackRefusal {
+                refusal: Refusal::NoOutput,
+                outputs,
+            }),
+            Some(output) => match self.open(output, moment) {
+                Ok(()) => Ok(0),
+                Err(refused) => {
+                    outputs.push_reserved(refused.output);
+                    Err(StackRefusal {
+                        refusal: refused.refusal,
+                        outputs,
+                    })
+                }
+            },
+        }
+    }
+
+    /// Opens an output's file, and takes the output.
+    fn open(&mut self, output: Output<D>, moment: Moment) -> Result<(), OutputBack<D>>
+        requires { is_moment moment ≡ true }
+        ensures ok { OnOk result (state_value self.new.state ≡ record (state_value self.old.state) { skeleton = record (skeleton_of self.old.state) { has_stack = true }; setting = Some (output_setting output) }) }
+        ensures files { OnOk result (MayOpen (D.contents output.folder) (output_names output) →
+            AgreesOption D.contents self.new.sink (Some (plain_output D.contents output moment).sink)) }
+        ensures err { OnErr result (self.new ≡ self.old) }
+        ensures back { IfErr result (λ back. IsOpeningRefusal D.contents output back.refusal back.output) }
+    {
+        let Output {
+            key,
+            filter,
+            format,
+            builder,
+            folder,
+            line,
+        } = output;
+        match RollingFileAppender::build(self.state.alloc, builder, folder, moment) {
+            Ok(sink) => {
+                self.sink = Some(sink);
+                self.line = line;
+                self.state.setting = Some(Setting {
+                    key,
+                    filter,
+                    format,
+                });
+                Ok(())
+            }
+            Err(refused) => Err(OutputBack {
+                refusal: refusal_of(refused.error),
+                output: Output {
+                    key,
+                    filter,
+                    format,
+                    builder: refused.builder,
+                    folder: refused.folder,
+                    line,
+                },
+            }),
+        }
+    }
+
+    /// The folder of a sink: sinks are numbered from 0.
+    pub fn folder(&self, sink: usize) -> Option<&D>
+        ensures there { IsSome result ↔ ((sink ≡ 0) × IsSome self.now.sink) }
+        ensures files { IfSome result (λ folder. (p : Plain) (o : PlainOutput) (c : Contents) → AgreesFiles D.contents self.now p → p.output ≡ Some o →
+            D.contents folder.now ≡ Some c → (name : List ℕ) → bytes_at c.files name ≡ file_text o.sink name) }
+    {
+        if sink != 0 {
+            return None;
+        }
+        match &self.sink {
+            None => None,
+            Some(open) => Some(open.folder()),
+        }
+    }
+}

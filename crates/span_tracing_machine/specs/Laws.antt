@@ -1,0 +1,90 @@
+-- Laws of the plain machine.
+use Rattle.std.specs.Prelude.{◌≡◌, ◌<◌, ◌≤◌, ℕ, ◌+◌, List, [], ◌∷◌, ◌++◌, true, Option, Some, None}
+use Rattle.std.specs.List.{AllByRecursion}
+use Rattle.tracing_appender_rolling.specs.Moments.{is_moment}
+use Rattle.tracing_appender_rolling.specs.Sinks.{Handed}
+use Rattle.span_tracing_machine.specs.declared.record.SpanRecord.{SpanRecord}
+use Rattle.span_tracing_machine.specs.PlainData.{PlainStep}
+use Rattle.span_tracing_machine.specs.Spans.{open_of, is_open, IsClosedUp, is_member, line_of, ancestry}
+use Rattle.span_tracing_machine.specs.Skeleton.{Skeleton, PlainCallsite, Mask}
+use Rattle.span_tracing_machine.specs.Machine.{after}
+use Rattle.span_tracing_machine.specs.Missed.{Fate, starved_by}
+use Rattle.span_tracing_machine.specs.State.{Plain, PlainOutput, plain_after, plain_run, replies_of, missed_by, missed_in, more_handed, offered_in, new_plain, registered, with_lane, with_stack}
+
+-- a parent, where there is one, stands among these
+abbrev pub ParentIn : List ℕ → Option ℕ → Type 0
+ParentIn ids None = Unit {0}
+ParentIn ids (Some id) = is_member ids id ≡ true
+
+-- ids rise from above a number, and each span's parent stands before it or among these ids
+abbrev pub IsOrdered : List ℕ → ℕ → List SpanRecord → Type 0
+IsOrdered earlier least [] = Unit {0}
+IsOrdered earlier least (s ∷ ss) = (least < s.id) × ParentIn earlier s.parent × IsOrdered (s.id ∷ earlier) s.id ss
+
+-- ids are given from above 0; ordered spans, each with a smaller id than the next one, the open ones and no others, and only open spans on lanes
+pub record IsWellFormed (s : Skeleton) : Type 0 where
+  pub started : 0 < s.next_id
+  pub ordered : IsOrdered [] 0 s.spans
+  pub below : AllByRecursion (λ (x : SpanRecord). x.id < s.next_id) s.spans
+  pub all_open : open_of s.lanes s.spans ≡ s.spans
+  pub entries : AllByRecursion (λ (lane : List ℕ). AllByRecursion (λ id. is_open s.spans id ≡ true) lane) s.lanes
+
+-- where spans are ordered, those that stay hold each span with a handle or an entry, and the parents of their members
+abbrev pub OpenIsClosedUp : Type 0
+OpenIsClosedUp = (lanes : List (List ℕ)) (ss : List SpanRecord) → IsOrdered [] 0 ss → IsClosedUp lanes ss (is_open (open_of lanes ss))
+
+-- a new trace's skeleton is well formed, and a step keeps it so
+abbrev pub StartsWellFormed : Type 0
+StartsWellFormed = IsWellFormed (new_plain.skeleton)
+
+abbrev pub StaysWellFormed : Type 0
+StaysWellFormed = (s : Skeleton) (step : PlainStep) (mask : Mask) → IsWellFormed s → IsWellFormed (after s step mask)
+
+-- a span's line of ancestors is whole: a longer walk finds no more
+abbrev pub LineIsWhole : Type 0
+LineIsWhole = (ss : List SpanRecord) (id more : ℕ) → IsOrdered [] 0 ss → is_open ss id ≡ true → ancestry ss (id + more) (Some id) ≡ line_of ss id
+
+-- a count that did not stop: it grew by the number of the missed ones
+abbrev pub CountGrows : Type 0
+CountGrows = (n count : ℕ) → n + count ≤ 18446744073709551615 → starved_by n count ≡ n + count
+
+-- a count that stopped
+abbrev pub CountStops : Type 0
+CountStops = (n count : ℕ) → n ≤ 18446744073709551615 → 18446744073709551615 ≤ n + count → starved_by n count ≡ 18446744073709551615
+
+-- so do the setup calls
+abbrev pub SetupStaysWellFormed : Type 0
+SetupStaysWellFormed = (p : Plain) → IsWellFormed p.skeleton →
+    ((c : PlainCallsite) → IsWellFormed (registered p c).skeleton)
+    × IsWellFormed (with_lane p).skeleton
+    × ((o : PlainOutput) → IsWellFormed (with_stack p o).skeleton)
+
+-- where a count below the greatest one stayed, nothing was missed
+abbrev pub NoneMissed : Type 0
+NoneMissed = (p : Plain) (step : PlainStep) (fates : List Fate) (n : ℕ) → n < 18446744073709551615 →
+    starved_by n (missed_by p step fates) ≡ n → plain_after p step fates ≡ plain_after p step []
+
+-- so in a run
+abbrev pub NoneMissedInRun : Type 0
+NoneMissedInRun = (p : Plain) (steps : List PlainStep) (fates : List (List Fate)) (n : ℕ) → n < 18446744073709551615 →
+    starved_by n (missed_in p steps fates) ≡ n → plain_run p steps fates ≡ plain_run p steps []
+
+-- a run in which nothing was missed hands over exactly the lines that its passed calls offer, in order
+abbrev pub RunHandsOffered : Type 0
+RunHandsOffered = (p : Plain) (o : PlainOutput) (steps : List PlainStep) → p.output ≡ Some o →
+    (plain_run p steps []).output ≡ Some (more_handed (offered_in p steps) o)
+
+-- and their moments are in range
+abbrev pub OffersInRange : Type 0
+OffersInRange = (p : Plain) (steps : List PlainStep) → AllByRecursion (λ (h : Handed). is_moment h.moment ≡ true) (offered_in p steps)
+
+-- what was missed changes no later reply
+abbrev pub MissedChangesNoReply : Type 0
+MissedChangesNoReply = (p : Plain) (steps : List PlainStep) (fates : List (List Fate)) (later : List PlainStep) →
+    replies_of (plain_run p steps fates) later ≡ replies_of (plain_run p steps []) later
+
+-- steps after steps are one run
+abbrev pub RunsCompose : Type 0
+RunsCompose = (p : Plain) (first second : List PlainStep) →
+    (plain_run p (first ++ second) [] ≡ plain_run (plain_run p first []) second [])
+    × (replies_of p (first ++ second) ≡ replies_of p first ++ replies_of (plain_run p first []) second)

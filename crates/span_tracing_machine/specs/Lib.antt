@@ -1,0 +1,11 @@
+pub mod Refusals
+pub mod PlainData
+pub mod FieldTexts
+pub mod Lines
+pub mod Spans
+pub mod Skeleton
+pub mod Machine
+pub mod Missed
+pub mod State
+pub mod Laws
+pub mod Rows

@@ -1,0 +1,34 @@
+-- A line of the full format, by its pieces.
+use Rattle.std.specs.Prelude.{ℕ, List, [], ◌∷◌, ◌++◌, Option, Some, None}
+use Rattle.std.specs.List.{flat_map}
+use Rattle.span_tracing_machine.specs.PlainData.{Given}
+use Rattle.span_tracing_machine.specs.FieldTexts.{fields_text}
+
+-- a span of a scope: its name and its stored text
+pub record Shown : Type 0 where
+  pub name : List ℕ
+  pub text : List ℕ
+
+-- the time and a space, where there is a timer
+abbrev pub time_piece : Option (List ℕ) → List ℕ
+time_piece None = []
+time_piece (Some time) = time ++ 32 ∷ []
+
+-- a text that is not empty stands in braces
+abbrev pub braced : List ℕ → List ℕ
+braced [] = []
+braced (b ∷ bs) = 123 ∷ (b ∷ bs) ++ 125 ∷ []
+
+-- the span's name, its text, a colon
+abbrev pub shown_piece : Shown → List ℕ
+shown_piece span = span.name ++ braced span.text ++ 58 ∷ []
+
+-- the spans from the root, and a space where there is one
+abbrev pub scope_piece : List Shown → List ℕ
+scope_piece [] = []
+scope_piece (span ∷ spans) = flat_map shown_piece (span ∷ spans) ++ 32 ∷ []
+
+-- time, scope, target, the event's fields, newline
+unfoldable pub full_line : Option (List ℕ) → List Shown → List ℕ → List (List ℕ) → List Given → List ℕ
+full_line time scope target names list =
+    time_piece time ++ scope_piece scope ++ target ++ 58 ∷ 32 ∷ [] ++ fields_text names list ++ 10 ∷ []

@@ -1,0 +1,185 @@
+-- The machine on skeletons: which step is refused, what it answers, and what it leaves.
+use Rattle.std.specs.Prelude.{ℕ, ◌+◌, ◌-◌, List, [], ◌∷◌, ◌++◌, length, Bool, true, false, not, ◌&&◌, ◌==◌, nat_lt, nat_le, if◌then◌else◌, Option, Some, None, slice_get, slice_set, option_and_then, unwrap_or}
+use Rattle.std.specs.List.{position_from, list_any}
+use Rattle.span_tracing_machine.specs.PlainData.{PlainStep, GlobalStep, EventStep, SpanStep, EnterStep, ExitStep, CloseStep}
+use Rattle.tracing_appender_rolling.specs.declared.moment.Moment.{Moment}
+use Rattle.tracing_appender_rolling.specs.Moments.{is_moment}
+use Rattle.span_tracing_machine.specs.declared.record.SpanRecord.{SpanRecord}
+use Rattle.span_tracing_machine.specs.declared.call.SpanName.{SpanName}
+use Rattle.span_tracing_machine.specs.declared.call.Parent.{Parent}
+use Rattle.span_tracing_machine.specs.declared.call.Parent.TheVariants.{Contextual, Root, Explicit}
+use Rattle.span_tracing_machine.specs.declared.refusal.Refusal.{Refusal}
+use Rattle.span_tracing_machine.specs.declared.refusal.Refusal.TheVariants.{UnknownCallsite, UnknownStack, UnknownSpan, ForeignParent, BadMoment, UnknownLane, GlobalSet, IdsSpent}
+use Rattle.span_tracing_machine.specs.declared.call.Reply.{Reply}
+use Rattle.span_tracing_machine.specs.declared.call.Reply.TheVariants.{Done, Span, Closed, Refused}
+use Rattle.span_tracing_machine.specs.declared.call.SpanCall.{SpanCall}
+use Rattle.span_tracing_machine.specs.Spans.{is_open, open_of, current, without_last, handles_of}
+use Rattle.span_tracing_machine.specs.Skeleton.{Skeleton, PlainCallsite, Mask}
+
+-- the place of the callsite with an identifier
+abbrev pub place_of : List PlainCallsite → ℕ → Option ℕ
+place_of callsites number = position_from (λ (c : PlainCallsite). c.number == number) 0 callsites
+
+abbrev pub is_kind : Option PlainCallsite → Bool → Bool
+is_kind None is_span = false
+is_kind (Some c) is_span = if is_span then c.metadata.kind.is_span else c.metadata.kind.is_event
+
+-- the place of a registered callsite of this kind
+unfoldable pub known_place : List PlainCallsite → ℕ → Bool → Option ℕ
+known_place callsites number is_span =
+    option_and_then (λ place. if is_kind (slice_get callsites place) is_span then Some place else None) (place_of callsites number)
+
+abbrev pub when : Bool → Refusal → Option Refusal
+when true refusal = Some refusal
+when false refusal = None
+
+-- the first refusal of two
+abbrev pub first : Option Refusal → Option Refusal → Option Refusal
+first None later = later
+first (Some refusal) later = Some refusal
+
+abbrev pub lane_refusal : Skeleton → ℕ → Option Refusal
+lane_refusal s lane = when (nat_le (length s.lanes) lane) UnknownLane
+
+abbrev pub moment_refusal : Moment → Option Refusal
+moment_refusal m = when (not (is_moment m)) BadMoment
+
+abbrev pub callsite_refusal : Option ℕ → Option Refusal
+callsite_refusal None = Some UnknownCallsite
+callsite_refusal (Some place) = None
+
+-- the number of a stack that was given: there is one at most
+abbrev pub knows_stack : Skeleton → ℕ → Bool
+knows_stack s stack = s.has_stack && (stack == 0)
+
+-- a parent stands in the reached stack and is open
+abbrev pub parent_refusal : Skeleton → Parent → Option Refusal
+parent_refusal s Contextual = None
+parent_refusal s Root = None
+parent_refusal s (Explicit name) =
+    first (when (not (knows_stack s name.stack)) UnknownStack)
+    (first (when (not s.is_global) ForeignParent)
+    (when (not (is_open s.spans name.id)) UnknownSpan))
+
+abbrev pub request_refusal : Skeleton → ℕ → Moment → ℕ → Bool → Parent → Option Refusal
+request_refusal s lane moment number is_span parent =
+    first (lane_refusal s lane)
+    (first (moment_refusal moment)
+    (first (callsite_refusal (known_place s.callsites number is_span))
+    (parent_refusal s parent)))
+
+-- a span argument of none passes
+abbrev pub span_refusal : Skeleton → Option SpanName → Option Refusal
+span_refusal s None = None
+span_refusal s (Some name) =
+    first (when (not (knows_stack s name.stack)) UnknownStack)
+    (when (not (is_open s.spans name.id)) UnknownSpan)
+
+abbrev pub call_refusal : Skeleton → SpanCall → Option Refusal
+call_refusal s call = first (lane_refusal s call.lane) (first (moment_refusal call.moment) (span_refusal s call.span))
+
+abbrev pub handle_refusal : Skeleton → Option SpanName → Option Refusal
+handle_refusal s None = None
+handle_refusal s (Some name) = when (handles_of s.spans name.id == 0) UnknownSpan
+
+-- a request is made where some output of the reached stack passes it
+abbrev pub is_made : Mask → Bool
+is_made mask = list_any (λ b. b) mask
+
+-- where a request is made, the place of its callsite
+unfoldable pub made_at : Skeleton → ℕ → Bool → Mask → Option ℕ
+made_at s number is_span mask = if is_made mask then known_place s.callsites number is_span else None
+
+-- ids are given up to 2^64 - 1
+abbrev pub ids_refusal : Skeleton → Option ℕ → Option Refusal
+ids_refusal s None = None
+ids_refusal s (Some place) = when (nat_lt 18446744073709551615 s.next_id) IdsSpent
+
+-- the first refusal that a step meets
+unfoldable pub refusal_of : Skeleton → PlainStep → Mask → Option Refusal
+refusal_of s (GlobalStep handle) mask = first (when (not (knows_stack s handle)) UnknownStack) (when s.is_global GlobalSet)
+refusal_of s (EventStep e) mask = request_refusal s e.lane e.moment e.callsite false e.parent
+refusal_of s (SpanStep n) mask = first (request_refusal s n.lane n.moment n.callsite true n.parent) (ids_refusal s (made_at s n.callsite true mask))
+refusal_of s (EnterStep call) mask = call_refusal s call
+refusal_of s (ExitStep call) mask = call_refusal s call
+refusal_of s (CloseStep call) mask = first (call_refusal s call) (handle_refusal s call.span)
+
+abbrev pub lane_at : List (List ℕ) → ℕ → List ℕ
+lane_at lanes n = unwrap_or (slice_get lanes n) []
+
+-- the span that a request stands under
+unfoldable pub parent_id : List (List ℕ) → ℕ → Parent → Option ℕ
+parent_id lanes lane Contextual = current (lane_at lanes lane)
+parent_id lanes lane Root = None
+parent_id lanes lane (Explicit name) = Some name.id
+
+abbrev pub with_span : Skeleton → Option ℕ → Option ℕ → Skeleton
+with_span s parent None = s
+with_span s parent (Some place) = record s { spans = s.spans ++ (record { id = s.next_id; callsite = place; parent = parent; handles = 1 }) ∷ []; next_id = s.next_id + 1 }
+
+abbrev pub changed_lane : Skeleton → ℕ → (List ℕ → List ℕ) → Skeleton
+changed_lane s lane f = record s { lanes = slice_set s.lanes lane (f (lane_at s.lanes lane)) }
+
+-- the record of an id with one handle less
+abbrev pub one_less : List SpanRecord → ℕ → List SpanRecord
+one_less [] id = []
+one_less (s ∷ ss) id = if s.id == id then (record s { handles = s.handles - 1 }) ∷ ss else s ∷ one_less ss id
+
+-- what stays open
+abbrev pub swept : Skeleton → Skeleton
+swept s = record s { spans = open_of s.lanes s.spans }
+
+abbrev pub without_handle : Skeleton → ℕ → Skeleton
+without_handle s id = swept (record s { spans = one_less s.spans id })
+
+abbrev pub entered : Skeleton → ℕ → Option SpanName → Skeleton
+entered s lane None = s
+entered s lane (Some name) = changed_lane s lane (λ ids. ids ++ name.id ∷ [])
+
+abbrev pub left : Skeleton → ℕ → Option SpanName → Skeleton
+left s lane None = s
+left s lane (Some name) = swept (changed_lane s lane (without_last name.id))
+
+abbrev pub given_up : Skeleton → Option SpanName → Skeleton
+given_up s None = s
+given_up s (Some name) = without_handle s name.id
+
+-- what a step that is not refused leaves
+unfoldable pub acted : Skeleton → PlainStep → Mask → Skeleton
+acted s (GlobalStep handle) mask = record s { is_global = true }
+acted s (EventStep e) mask = s
+acted s (SpanStep n) mask = with_span s (parent_id s.lanes n.lane n.parent) (made_at s n.callsite true mask)
+acted s (EnterStep call) mask = entered s call.lane call.span
+acted s (ExitStep call) mask = left s call.lane call.span
+acted s (CloseStep call) mask = given_up s call.span
+
+abbrev pub new_name : Skeleton → Option ℕ → Option SpanName
+new_name s None = None
+new_name s (Some place) = Some (record { stack = 0; id = s.next_id })
+
+-- what a step that is not refused answers
+unfoldable pub answered : Skeleton → PlainStep → Mask → Reply
+answered s (GlobalStep handle) mask = Done
+answered s (EventStep e) mask = Done
+answered s (SpanStep n) mask = Span (new_name s (made_at s n.callsite true mask))
+answered s (EnterStep call) mask = Done
+answered s (ExitStep call) mask = Done
+answered s (CloseStep call) mask = Closed (is_closed s call.span)
+  where
+    is_closed : Skeleton → Option SpanName → Bool
+    is_closed s None = false
+    is_closed s (Some name) = not (is_open (without_handle s name.id).spans name.id)
+
+abbrev pub or_refused : Option Refusal → Reply → Reply
+or_refused None reply = reply
+or_refused (Some refusal) reply = Refused refusal
+
+abbrev pub or_same : {A : Type 0} → Option Refusal → A → A → A
+or_same None old new = new
+or_same (Some refusal) old new = old
+
+unfoldable pub reply_of : Skeleton → PlainStep → Mask → Reply
+reply_of s step mask = or_refused (refusal_of s step mask) (answered s step mask)
+
+unfoldable pub after : Skeleton → PlainStep → Mask → Skeleton
+after s step mask = or_same (refusal_of s step mask) s (acted s step mask)

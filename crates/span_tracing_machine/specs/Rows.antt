@@ -1,0 +1,124 @@
+-- Worked rows of the plain machine.
+use Rattle.std.specs.Prelude.{◌≡◌, ℕ, pos, negsuc, List, [], ◌∷◌, ◌++◌, true, false, if◌then◌else◌, Option, Some, None, codes}
+use Rattle.std.specs.Option.{option_map}
+use Rattle.std.specs.Str.{bytes_eq}
+use Rattle.tracing_appender_rolling.specs.declared.moment.Moment.{Moment}
+use Rattle.tracing_appender_rolling.specs.Sinks.{file_text}
+use Rattle.tracing_core.specs.PlainKind.{PlainKind}
+use Rattle.span_tracing_machine.specs.declared.call.Parent.TheVariants.{Contextual}
+use Rattle.span_tracing_machine.specs.declared.call.Reply.TheVariants.{Done, Span, Closed, Refused}
+use Rattle.span_tracing_machine.specs.declared.refusal.Refusal.TheVariants.{UnknownSpan, BadMoment}
+use Rattle.span_tracing_machine.specs.declared.call.SpanCall.{SpanCall}
+use Rattle.span_tracing_machine.specs.PlainData.{Number, Text, PlainStep, GlobalStep, EventStep, SpanStep, EnterStep, ExitStep, CloseStep}
+use Rattle.span_tracing_machine.specs.Skeleton.{PlainCallsite}
+use Rattle.span_tracing_machine.specs.Missed.{Missed, Unwritten}
+use Rattle.span_tracing_machine.specs.State.{Plain, PlainOutput, new_plain, with_stack, with_callsite, with_lane, plain_run, replies_of}
+
+-- 2025-02-17 10:01:00
+abbrev pub at_ten : Moment
+at_ten = record { seconds = pos 1739786460; nanoseconds = 0 }
+
+-- an INFO callsite of the target app
+abbrev pub app_callsite : ℕ → PlainKind → List ℕ → List (List ℕ) → PlainCallsite
+app_callsite number kind name names = record {
+  number = number;
+  metadata = record { name = name; target = codes "app"; level = 3; module_path = None; file = None; line = None; field_names = names; callsite = number; kind = kind };
+}
+
+abbrev pub outer : PlainCallsite
+outer = app_callsite 1 (record { is_event = false; is_span = true; is_hint = false }) (codes "outer") (codes "x" ∷ [])
+
+abbrev pub event : PlainCallsite
+event = app_callsite 2 (record { is_event = true; is_span = false; is_hint = false }) (codes "e") (codes "message" ∷ codes "n" ∷ [])
+
+-- an INFO output with a fixed time over a folder that has these bytes by name
+abbrev pub output_over : (List ℕ → Option (List ℕ)) → PlainOutput
+output_over found = record {
+  filter = 3;
+  time = Some (codes "fake time");
+  sink = record { names = record { prefix = Some (codes "my_prefix"); suffix = Some (codes "log") }; opened = at_ten; found = found; handed = [] };
+}
+
+-- one stack, one lane, both callsites
+abbrev pub base_over : (List ℕ → Option (List ℕ)) → Plain
+base_over found = with_callsite (with_callsite (with_lane (with_stack new_plain (output_over found))) outer) event
+
+abbrev pub base : Plain
+base = base_over (λ _. None)
+
+abbrev pub the_name : List ℕ
+the_name = codes "my_prefix.2025-02-17.log"
+
+abbrev pub line_end : List ℕ
+line_end = 10 ∷ []
+
+-- what the output's sink has under a name
+abbrev pub file_in : Plain → List ℕ → Option (Option (List ℕ))
+file_in p name = option_map (λ (o : PlainOutput). file_text o.sink name) p.output
+
+abbrev pub new_outer : PlainStep
+new_outer = SpanStep (record { lane = 0; moment = at_ten; callsite = 1; parent = Contextual; values = (record { field = 0; value = Number (pos 42) }) ∷ [] })
+
+abbrev pub on_one : SpanCall
+on_one = record { lane = 0; moment = at_ten; span = Some (record { stack = 0; id = 1 }) }
+
+abbrev pub hi_at : Moment → PlainStep
+hi_at moment = EventStep (record { lane = 0; moment = moment; callsite = 2; parent = Contextual; values = (record { field = 0; value = Text (codes "hi") }) ∷ (record { field = 1; value = Number (pos 3) }) ∷ [] })
+
+-- the global default is set, a span is made and entered, an event happens in it
+abbrev pub stored_run : List PlainStep
+stored_run = GlobalStep 0 ∷ new_outer ∷ EnterStep on_one ∷ hi_at at_ten ∷ []
+
+abbrev pub StoredRunReplies : Type 0
+StoredRunReplies = replies_of base stored_run ≡ (Done ∷ Span (Some (record { stack = 0; id = 1 })) ∷ Done ∷ Done ∷ [])
+
+abbrev pub StoredRunFile : Type 0
+StoredRunFile = file_in (plain_run base stored_run []) the_name ≡ Some (Some (codes "fake time outer{x=42}: app: hi n=3" ++ line_end))
+
+-- the file held a line when it was opened
+abbrev pub m_event : PlainStep
+m_event = EventStep (record { lane = 0; moment = at_ten; callsite = 2; parent = Contextual; values = (record { field = 0; value = Text (codes "m") }) ∷ [] })
+
+abbrev pub base_with_old : Plain
+base_with_old = base_over (λ name. if bytes_eq the_name name then Some (codes "old" ++ line_end) else None)
+
+abbrev pub BytesAtOpening : Type 0
+BytesAtOpening = file_in (plain_run base_with_old (GlobalStep 0 ∷ m_event ∷ []) []) the_name ≡ Some (Some (codes "old" ++ line_end ++ codes "fake time app: m" ++ line_end))
+
+-- no steps: the opened file is there and has no bytes
+abbrev pub EmptyReplies : Type 0
+EmptyReplies = replies_of base [] ≡ []
+
+abbrev pub EmptyFile : Type 0
+EmptyFile = file_in (plain_run base [] []) the_name ≡ Some (Some [])
+
+-- an event one second before 0001-01-01
+abbrev pub too_early : Moment
+too_early = record { seconds = negsuc 62135596800; nanoseconds = 0 }
+
+abbrev pub TooEarlyReplies : Type 0
+TooEarlyReplies = replies_of base (GlobalStep 0 ∷ hi_at too_early ∷ []) ≡ (Done ∷ Refused BadMoment ∷ [])
+
+abbrev pub TooEarlyFile : Type 0
+TooEarlyFile = file_in (plain_run base (GlobalStep 0 ∷ hi_at too_early ∷ []) []) the_name ≡ Some (Some [])
+
+-- the span's text found no memory: it counts as not given
+abbrev pub MissedText : Type 0
+MissedText = file_in (plain_run base stored_run ([] ∷ (Missed ∷ []) ∷ [])) the_name ≡ Some (Some (codes "fake time outer: app: hi n=3" ++ line_end))
+
+-- the event's line found no memory, before or after its file was opened: the file has none of it
+abbrev pub MissedLine : Type 0
+MissedLine = file_in (plain_run base stored_run ([] ∷ [] ∷ [] ∷ (Missed ∷ []) ∷ [])) the_name ≡ Some (Some [])
+
+abbrev pub UnwrittenLine : Type 0
+UnwrittenLine = file_in (plain_run base stored_run ([] ∷ [] ∷ [] ∷ (Unwritten ∷ []) ∷ [])) the_name ≡ Some (Some [])
+
+-- a span is entered, given up while it is entered, and left: then nothing is kept of it
+abbrev pub cycle : List PlainStep
+cycle = GlobalStep 0 ∷ new_outer ∷ EnterStep on_one ∷ CloseStep on_one ∷ ExitStep on_one ∷ EnterStep on_one ∷ []
+
+abbrev pub CycleReplies : Type 0
+CycleReplies = replies_of base cycle ≡ (Done ∷ Span (Some (record { stack = 0; id = 1 })) ∷ Done ∷ Closed false ∷ Done ∷ Refused UnknownSpan ∷ [])
+
+abbrev pub CycleLeft : Type 0
+CycleLeft = ((plain_run base cycle []).skeleton.spans ≡ []) × ((plain_run base cycle []).value_lists ≡ []) × ((plain_run base cycle []).skeleton.next_id ≡ 2)

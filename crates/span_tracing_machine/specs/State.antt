@@ -1,0 +1,227 @@
+-- The plain machine: value lists, an output and its handed lines beside the skeleton.
+use Rattle.std.specs.Prelude.{ℕ, ◌+◌, List, [], ◌∷◌, ◌++◌, map, reverse, Bool, true, false, ◌==◌, nat_le, if◌then◌else◌, Option, Some, None, option_and_then, slice_get, filter, not, is_some}
+use Rattle.std.specs.Option.{option_map}
+use Rattle.tracing_core.specs.PlainMetadata.{is_same_metadata}
+use Rattle.tracing_appender_rolling.specs.declared.moment.Moment.{Moment}
+use Rattle.tracing_appender_rolling.specs.Sinks.{Handed, PlainSink}
+use Rattle.span_tracing_machine.specs.declared.record.SpanRecord.{SpanRecord}
+use Rattle.span_tracing_machine.specs.declared.call.SpanName.{SpanName}
+use Rattle.span_tracing_machine.specs.declared.call.Reply.{Reply}
+use Rattle.span_tracing_machine.specs.declared.refusal.Refusal.{Refusal}
+use Rattle.span_tracing_machine.specs.declared.refusal.Refusal.TheVariants.{Taken}
+use Rattle.span_tracing_machine.specs.PlainData.{Given, Request, PlainStep, GlobalStep, EventStep, SpanStep, EnterStep, ExitStep, CloseStep}
+use Rattle.span_tracing_machine.specs.FieldTexts.{fields_text}
+use Rattle.span_tracing_machine.specs.Lines.{Shown, full_line}
+use Rattle.span_tracing_machine.specs.Spans.{record_of, line_of, is_open}
+use Rattle.span_tracing_machine.specs.Skeleton.{Skeleton, PlainCallsite, Mask}
+use Rattle.span_tracing_machine.specs.Machine.{refusal_of, reply_of, acted, after, when, place_of, known_place, made_at, parent_id, or_same}
+use Rattle.span_tracing_machine.specs.Missed.{Fate, first_fate, given_by, handed_lines, first_fates, later_fates, count_missed, wants_of}
+
+-- an open span's value list over its callsite's field names
+pub record ValueList : Type 0 where
+  pub id : ℕ
+  pub names : List (List ℕ)
+  pub values : List Given
+
+-- a span's text, by its id
+pub record PlainText : Type 0 where
+  pub id : ℕ
+  pub bytes : List ℕ
+
+abbrev pub text_of : ValueList → PlainText
+text_of v = record { id = v.id; bytes = fields_text v.names v.values }
+
+-- an output: the greatest level that its filter passes (0 for none), its time text, its sink
+pub record PlainOutput : Type 0 where
+  pub filter : ℕ
+  pub time : Option (List ℕ)
+  pub sink : PlainSink
+
+-- the state: the skeleton, the stack's output where there is a stack, and the value lists of open spans
+pub record Plain : Type 0 where
+  pub skeleton : Skeleton
+  pub output : Option PlainOutput
+  pub value_lists : List ValueList
+
+-- a filter passes a level at most itself
+abbrev pub mask_at : Option ℕ → Option PlainCallsite → Mask
+mask_at None callsite = []
+mask_at (Some filter) None = []
+mask_at (Some filter) (Some c) = nat_le c.metadata.level filter ∷ []
+
+-- which outputs of the reached stack pass a request on a callsite of a kind; the filter is that of the stack's output
+abbrev pub mask_for : Skeleton → Option ℕ → ℕ → Bool → Mask
+mask_for s filter number is_span =
+    if s.is_global
+    then mask_at filter (option_and_then (λ place. slice_get s.callsites place) (known_place s.callsites number is_span))
+    else []
+
+unfoldable pub step_mask : Skeleton → Option ℕ → PlainStep → Mask
+step_mask s filter (GlobalStep handle) = []
+step_mask s filter (EventStep e) = mask_for s filter e.callsite false
+step_mask s filter (SpanStep n) = mask_for s filter n.callsite true
+step_mask s filter (EnterStep call) = []
+step_mask s filter (ExitStep call) = []
+step_mask s filter (CloseStep call) = []
+
+abbrev pub filter_of : Option PlainOutput → Option ℕ
+filter_of output = option_map (λ (o : PlainOutput). o.filter) output
+
+-- the mask of a step in a state: its filters are asked afresh
+abbrev pub mask_of : Plain → PlainStep → Mask
+mask_of p step = step_mask p.skeleton (filter_of p.output) step
+
+-- names and fields of a callsite by its place
+abbrev pub name_of : Option PlainCallsite → List ℕ
+name_of None = []
+name_of (Some c) = c.metadata.name
+
+abbrev pub target_of : Option PlainCallsite → List ℕ
+target_of None = []
+target_of (Some c) = c.metadata.target
+
+abbrev pub fields_of : Option PlainCallsite → List (List ℕ)
+fields_of None = []
+fields_of (Some c) = c.metadata.field_names
+
+-- the text of an id
+abbrev pub text_at : List PlainText → ℕ → List ℕ
+text_at [] id = []
+text_at (t ∷ ts) id = if t.id == id then t.bytes else text_at ts id
+
+abbrev pub callsite_at : Skeleton → Option SpanRecord → Option PlainCallsite
+callsite_at s None = None
+callsite_at s (Some r) = slice_get s.callsites r.callsite
+
+-- how a span of a scope is shown
+unfoldable pub shown_span : Skeleton → List PlainText → ℕ → Shown
+shown_span s texts id = record { name = name_of (callsite_at s (record_of s.spans id)); text = text_at texts id }
+
+-- the strict scope from the root: a span and its ancestors
+abbrev pub scope_ids : List SpanRecord → Option ℕ → List ℕ
+scope_ids spans None = []
+scope_ids spans (Some id) = reverse (line_of spans id)
+
+-- the line of an event at the callsite of a place
+unfoldable pub event_line : Skeleton → List PlainText → Option (List ℕ) → Request → ℕ → List ℕ
+event_line s texts time e place =
+    full_line time (map (shown_span s texts) (scope_ids s.spans (parent_id s.lanes e.lane e.parent)))
+    (target_of (slice_get s.callsites place)) (fields_of (slice_get s.callsites place)) e.values
+
+abbrev pub handed_at : Moment → List ℕ → Handed
+handed_at moment line = record { line = line; moment = moment }
+
+-- the line that a step that is not refused offers to the sink, with its moment
+unfoldable pub offer_of : Skeleton → List PlainText → Option (List ℕ) → PlainStep → Mask → Option Handed
+offer_of s texts time (GlobalStep handle) mask = None
+offer_of s texts time (EventStep e) mask = option_map (λ place. handed_at e.moment (event_line s texts time e place)) (made_at s e.callsite false mask)
+offer_of s texts time (SpanStep n) mask = None
+offer_of s texts time (EnterStep call) mask = None
+offer_of s texts time (ExitStep call) mask = None
+offer_of s texts time (CloseStep call) mask = None
+
+-- the value lists with those of a new span
+abbrev pub with_values : List ValueList → Skeleton → Request → Fate → Option ℕ → List ValueList
+with_values lists s n fate None = lists
+with_values lists s n fate (Some place) =
+    lists ++ (record { id = s.next_id; names = fields_of (slice_get s.callsites place); values = given_by fate n.values }) ∷ []
+
+-- a span that closed is forgotten; a call on no span closes none
+abbrev pub lists_left : Option SpanName → List SpanRecord → List ValueList → List ValueList
+lists_left None spans lists = lists
+lists_left (Some name) spans lists = filter (λ (v : ValueList). is_open spans v.id) lists
+
+unfoldable pub lists_acted : Skeleton → List ValueList → PlainStep → Mask → Fate → List ValueList
+lists_acted s lists (GlobalStep handle) mask fate = lists
+lists_acted s lists (EventStep e) mask fate = lists
+lists_acted s lists (SpanStep n) mask fate = with_values lists s n fate (made_at s n.callsite true mask)
+lists_acted s lists (EnterStep call) mask fate = lists
+lists_acted s lists (ExitStep call) mask fate = lists_left call.span (acted s (ExitStep call) mask).spans lists
+lists_acted s lists (CloseStep call) mask fate = lists_left call.span (acted s (CloseStep call) mask).spans lists
+
+abbrev pub time_of : Option PlainOutput → Option (List ℕ)
+time_of None = None
+time_of (Some o) = o.time
+
+-- the line that a step offers in this state
+abbrev pub plain_offer : Plain → PlainStep → Option Handed
+plain_offer p step = offer_of p.skeleton (map text_of p.value_lists) (time_of p.output) step (mask_of p step)
+
+abbrev pub more_handed : List Handed → PlainOutput → PlainOutput
+more_handed lines o = record o { sink = record (o.sink) { handed = o.sink.handed ++ lines } }
+
+-- what a step that is not refused leaves, with the fates of its texts and lines
+abbrev pub plain_acted : Plain → PlainStep → List Fate → Plain
+plain_acted p step fates = record {
+  skeleton = after p.skeleton step (mask_of p step);
+  output = option_map (more_handed (handed_lines fates (plain_offer p step))) p.output;
+  value_lists = lists_acted p.skeleton p.value_lists step (mask_of p step) (first_fate fates);
+}
+
+-- a step: a refusal leaves the state
+unfoldable pub plain_after : Plain → PlainStep → List Fate → Plain
+plain_after p step fates = or_same (refusal_of p.skeleton step (mask_of p step)) p (plain_acted p step fates)
+
+unfoldable pub plain_reply : Plain → PlainStep → Reply
+plain_reply p step = reply_of p.skeleton step (mask_of p step)
+
+-- steps in order, with a list of fates for each
+abbrev pub plain_run : Plain → List PlainStep → List (List Fate) → Plain
+plain_run p [] fates = p
+plain_run p (step ∷ steps) fates = plain_run (plain_after p step (first_fates fates)) steps (later_fates fates)
+
+abbrev pub replies_of : Plain → List PlainStep → List Reply
+replies_of p [] = []
+replies_of p (step ∷ steps) = plain_reply p step ∷ replies_of (plain_after p step []) steps
+
+-- how many texts and lines of these steps found no memory
+abbrev pub missed_by : Plain → PlainStep → List Fate → ℕ
+missed_by p step fates = count_missed fates (wants_of p.skeleton step (mask_of p step))
+
+abbrev pub missed_in : Plain → List PlainStep → List (List Fate) → ℕ
+missed_in p [] fates = 0
+missed_in p (step ∷ steps) fates = missed_by p step (first_fates fates) + missed_in (plain_after p step []) steps (later_fates fates)
+
+-- the lines that the passed calls of these steps offer, in order
+abbrev pub offered_by : Plain → PlainStep → List Handed
+offered_by p step = or_same (refusal_of p.skeleton step (mask_of p step)) [] (handed_lines [] (plain_offer p step))
+
+abbrev pub offered_in : Plain → List PlainStep → List Handed
+offered_in p [] = []
+offered_in p (step ∷ steps) = offered_by p step ++ offered_in (plain_after p step []) steps
+
+-- the state of a new trace
+abbrev pub new_plain : Plain
+new_plain = record {
+  skeleton = record { callsites = []; lanes = []; spans = []; next_id = 1; has_stack = false; is_global = false };
+  output = None;
+  value_lists = [];
+}
+
+abbrev pub with_skeleton : Plain → Skeleton → Plain
+with_skeleton p s = record p { skeleton = s }
+
+-- the setup calls
+abbrev pub with_callsite : Plain → PlainCallsite → Plain
+with_callsite p c = with_skeleton p (record (p.skeleton) { callsites = p.skeleton.callsites ++ c ∷ [] })
+
+-- the callsite with an identifier
+abbrev pub callsite_named : List PlainCallsite → ℕ → Option PlainCallsite
+callsite_named callsites number = option_and_then (λ place. slice_get callsites place) (place_of callsites number)
+
+-- an identifier that other metadata holds is taken; equal metadata may be registered again, which changes nothing
+abbrev pub taken_by : Option PlainCallsite → PlainCallsite → Option Refusal
+taken_by None c = None
+taken_by (Some known) c = when (not (is_same_metadata known.metadata c.metadata)) Taken
+
+abbrev pub register_refusal : Skeleton → PlainCallsite → Option Refusal
+register_refusal s c = taken_by (callsite_named s.callsites c.number) c
+
+abbrev pub registered : Plain → PlainCallsite → Plain
+registered p c = if is_some (callsite_named p.skeleton.callsites c.number) then p else with_callsite p c
+
+abbrev pub with_lane : Plain → Plain
+with_lane p = with_skeleton p (record (p.skeleton) { lanes = p.skeleton.lanes ++ [] ∷ [] })
+
+abbrev pub with_stack : Plain → PlainOutput → Plain
+with_stack p o = record p { skeleton = record (p.skeleton) { has_stack = true }; output = Some o }

@@ -1,0 +1,76 @@
+//! The steps of a trace and its replies.
+
+use crate::refusal::Refusal;
+use crate::value::FieldValue;
+use tracing_appender_rolling::Moment;
+use tracing_core::{Id, Identifier};
+
+/// A span, by its stack's number and its id in that stack.
+#[derive(Clone, Copy, Debug, PartialEq, Eq)]
+pub struct SpanName {
+    pub stack: usize,
+    pub id: Id,
+}
+
+/// Which span a request stands under.
+#[derive(Clone, Copy, Debug, PartialEq, Eq)]
+pub enum Parent {
+    /// The lane's current span, where there is one.
+    Contextual,
+    /// None.
+    Root,
+    /// This one.
+    Explicit(SpanName),
+}
+
+/// An event on a lane.
+#[derive(Debug, Drop)]
+pub struct EventCall {
+    pub lane: usize,
+    pub moment: Moment,
+    pub callsite: Identifier,
+    pub parent: Parent,
+    pub values: Vec<FieldValue>,
+}
+
+/// A new span on a lane.
+#[derive(Debug, Drop)]
+pub struct NewSpanCall {
+    pub lane: usize,
+    pub moment: Moment,
+    pub callsite: Identifier,
+    pub parent: Parent,
+    pub values: Vec<FieldValue>,
+}
+
+/// A call on a span, or on none: a call on none does nothing.
+#[derive(Clone, Copy, Debug, PartialEq, Eq)]
+pub struct SpanCall {
+    pub lane: usize,
+    pub moment: Moment,
+    pub span: Option<SpanName>,
+}
+
+/// One step of a trace.
+#[derive(Debug, Drop)]
+pub enum Step {
+    /// Makes the stack with this handle the one that lanes reach.
+    SetGlobalDefault(usize),
+    Event(EventCall),
+    NewSpan(NewSpanCall),
+    Enter(SpanCall),
+    Exit(SpanCall),
+    /// Gives up one handle of a span.
+    TryClose(SpanCall),
+}
+
+/// The answer to a step.
+#[derive(Clone, Copy, Debug, PartialEq, Eq)]
+pub enum Reply {
+    Done,
+    /// The new span, or none where it was dropped.
+    Span(Option<SpanName>),
+    /// Whether the span closed.
+    Closed(bool),
+    Refused(Refusal),
+}

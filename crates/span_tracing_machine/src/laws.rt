@@ -1,0 +1,50 @@
+//! Laws of the plain machine.
+
+ghost use Rattle.span_tracing_machine.specs.Spans.{OpenIsLeast};
+ghost use Rattle.span_tracing_machine.specs.Laws.{OpenIsClosedUp, StartsWellFormed, SetupStaysWellFormed, StaysWellFormed, LineIsWhole, CountGrows, CountStops, NoneMissed, NoneMissedInRun, RunHandsOffered, OffersInRange, MissedChangesNoReply, RunsCompose};
+
+/// The open spans are the least set that holds each span with a handle or an entry, and the parents of its members.
+pub fn open_is_least()
+    ensures least { OpenIsLeast }
+    ensures closed_up { OpenIsClosedUp }
+{}
+
+/// Setup calls and steps keep a skeleton well formed: ids rise, parents stand before their children, and the listed spans are the open ones.
+pub fn stays_well_formed()
+    ensures start { StartsWellFormed }
+    ensures setup { SetupStaysWellFormed }
+    ensures step { StaysWellFormed }
+{}
+
+/// A span's ancestors are all shown.
+pub fn line_is_whole()
+    ensures { LineIsWhole }
+{}
+
+/// The count of what found no memory grows by its number and stops at the greatest one.
+pub fn starved_counts()
+    ensures grows { CountGrows }
+    ensures stops { CountStops }
+{}
+
+/// A step or a run that raised no count missed nothing.
+pub fn none_missed()
+    ensures step { NoneMissed }
+    ensures run { NoneMissedInRun }
+{}
+
+/// Where nothing is missed, exactly the lines that passed calls offer are handed over, at moments in range.
+pub fn run_hands_offered()
+    ensures lines { RunHandsOffered }
+    ensures moments { OffersInRange }
+{}
+
+/// Want of memory for texts and lines changes no reply.
+pub fn missed_changes_no_reply()
+    ensures { MissedChangesNoReply }
+{}
+
+/// Steps in one run or in two are the same.
+pub fn runs_compose()
+    ensures { RunsCompose }
+{}

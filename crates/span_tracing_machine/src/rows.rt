@@ -1,0 +1,39 @@
+//! Worked rows: what the plain machine gives for a few runs, found by computing.
+
+ghost use Rattle.span_tracing_machine.specs.Rows.{StoredRunReplies, StoredRunFile, BytesAtOpening, EmptyReplies, EmptyFile, TooEarlyReplies, TooEarlyFile, MissedText, MissedLine, UnwrittenLine, CycleReplies, CycleLeft};
+
+/// A span, an event in it, and the file's one line.
+pub fn row_stored_run()
+    ensures replies { StoredRunReplies }
+    ensures file { StoredRunFile }
+{}
+
+/// A file that held a line when it was opened holds it before the new one.
+pub fn row_bytes_at_opening()
+    ensures { BytesAtOpening }
+{}
+
+/// No steps leave the opened file empty.
+pub fn row_empty()
+    ensures replies { EmptyReplies }
+    ensures file { EmptyFile }
+{}
+
+/// An event one second before the first moment is refused, and writes nothing.
+pub fn row_too_early()
+    ensures replies { TooEarlyReplies }
+    ensures file { TooEarlyFile }
+{}
+
+/// A text or a line that found no memory is missing, and nothing else.
+pub fn row_missed()
+    ensures text { MissedText }
+    ensures line { MissedLine }
+    ensures unwritten { UnwrittenLine }
+{}
+
+/// A span that closes at its last exit leaves nothing.
+pub fn row_span_cycle()
+    ensures replies { CycleReplies }
+    ensures left { CycleLeft }
+{}

@@ -1,0 +1,15 @@
+pub mod Days
+pub mod Texts
+pub mod Counted
+pub mod Years
+pub mod DayFacts
+pub mod Content
+pub mod Files
+pub mod Openings
+pub mod ByDay
+pub mod Named
+pub mod Listing
+pub mod Puts
+pub mod Joined
+pub mod Writing
+pub mod Keeping

@@ -1,0 +1,126 @@
+-- What a folder has: names stand for files with bytes, and a file outlives its name.
+use Rattle.std.specs.Prelude.{◌≡◌, ℕ, zero, suc, ◌+◌, ◌-◌, ◌^◌, min, Bool, true, false, ◌&&◌, if◌then◌else◌, List, [], ◌∷◌, ◌++◌, length, take, Option, Some, None, Result, Ok, Err}
+use Rattle.std.specs.List.{position_from, list_any}
+use Rattle.std.specs.Str.{bytes_eq}
+use Rattle.tracing_appender_rolling.specs.declared.moment.Moment.{Moment}
+use Rattle.tracing_appender_rolling.specs.declared.fault.FolderFault.{FolderFault}
+use Rattle.tracing_appender_rolling.specs.declared.fault.FolderFault.TheVariants.{Refused}
+use Rattle.tracing_appender_rolling.specs.declared.fault.FolderError.{FolderError}
+use Rattle.tracing_appender_rolling.specs.declared.fault.FolderError.TheVariants.{Fault, OutOfMemory}
+use Rattle.tracing_appender_rolling.specs.declared.fault.FileNumber.{FileNumber}
+
+-- a file that was ever made here: whether its name still stands for it, its creation moment where it is known, its bytes
+pub record Kept : Type 0 where
+  pub name : List ℕ
+  pub stands : Bool
+  pub created : Option Moment
+  pub bytes : List ℕ
+
+-- what becomes of a coming call: it is done, it is refused, or, where it is a write, it takes at most one byte
+pub data Outcome : Type 0 where
+  Done : Outcome
+  Refuses : Outcome
+  Short : Outcome
+
+-- the files in order of making, the links with what they name, and what becomes of each coming call, from 0
+pub record Contents : Type 0 where
+  pub files : List Kept
+  pub links : List (List ℕ × List ℕ)
+  pub coming : ℕ → Outcome
+
+-- a call is behind us
+abbrev pub called : Contents → Contents
+called c = record { files = c.files; links = c.links; coming = λ n. c.coming (suc n) }
+
+-- the folder refuses nothing and takes each write whole
+abbrev pub IsSound : Contents → Type 0
+IsSound c = (n : ℕ) → c.coming n ≡ Done
+
+-- the file that the name stands for
+abbrev pub has_name : List ℕ → Kept → Bool
+has_name name file = file.stands && bytes_eq file.name name
+
+abbrev pub file_named : List ℕ → List Kept → Option ℕ
+file_named name files = position_from (has_name name) 0 files
+
+abbrev pub link_named : List ℕ → List (List ℕ × List ℕ) → Bool
+link_named name links = list_any (λ l. bytes_eq l.0 name) links
+
+-- the bytes of the file that the name stands for
+abbrev pub bytes_at : List Kept → List ℕ → Option (List ℕ)
+bytes_at [] name = None
+bytes_at (file ∷ files) name = if has_name name file then Some file.bytes else bytes_at files name
+
+-- the file at a place with more bytes
+abbrev pub appended : List Kept → ℕ → List ℕ → List Kept
+appended [] place bytes = []
+appended (file ∷ files) zero bytes = record file { bytes = file.bytes ++ bytes } ∷ files
+appended (file ∷ files) (suc place) bytes = file ∷ appended files place bytes
+
+-- a new file of no bytes
+abbrev pub fresh : List ℕ → Kept
+fresh name = record { name = name; stands = true; created = None; bytes = [] }
+
+abbrev pub Answer : Type 0 → Type 0
+Answer T = Result T FolderError × Contents
+
+abbrev pub refusal : {T : Type 0} → FolderFault → Contents → Answer T
+refusal fault c = (Err (Fault fault), called c)
+
+-- the first where the outcome is a refusal, else the second
+abbrev pub if_refused : {X : Type 0} → Outcome → X → X → X
+if_refused Refuses x y = x
+if_refused Done x y = y
+if_refused Short x y = y
+
+-- what a call answers, and what it leaves
+abbrev pub unless_refused : {T : Type 0} → Contents → Answer T → Answer T
+unless_refused c answer = if_refused (c.coming 0) (refusal Refused c) answer
+
+-- open a name for appending
+abbrev pub open_at : Contents → List ℕ → Option ℕ → Answer FileNumber
+open_at c name (Some place) = (Ok (record { index = place }), called c)
+open_at c name None =
+    (Ok (record { index = length c.files }), record (called c) { files = c.files ++ fresh name ∷ [] })
+
+abbrev pub open_plain : List ℕ → Contents → Answer FileNumber
+open_plain name c =
+    if link_named name c.links then refusal Refused c else open_at c name (file_named name c.files)
+
+abbrev pub opened : Contents → List ℕ → Answer FileNumber
+opened c name = unless_refused c (open_plain name c)
+
+-- how many of so many bytes a write takes
+abbrev pub taken : Outcome → ℕ → ℕ
+taken Done n = n
+taken Short n = min 1 n
+taken Refuses n = 0
+
+abbrev pub write_plain : FileNumber → List ℕ → Contents → Answer ℕ
+write_plain file bytes c = (Ok (length bytes), record (called c) { files = appended c.files file.index bytes })
+
+abbrev pub written : Contents → FileNumber → List ℕ → Answer ℕ
+written c file bytes = unless_refused c (write_plain file (take (taken (c.coming 0) (length bytes)) bytes) c)
+
+-- a close changes nothing here
+abbrev pub nothing_plain : Contents → Answer (Unit {0})
+nothing_plain c = (Ok tt, called c)
+
+abbrev pub nothing : Contents → Answer (Unit {0})
+nothing c = unless_refused c (nothing_plain c)
+
+-- The call answered and left the contents as said, or it found no memory and left them as they were. Contents that aren't known stay so.
+abbrev pub Gives : {T : Type 0} → (Contents → Answer T) → Option Contents → Result T FolderError → Option Contents → Type 0
+Gives call None result after = after ≡ None
+Gives call (Some c) (Err OutOfMemory) after = after ≡ Some (called c)
+Gives call (Some c) (Err (Fault fault)) after = ((call c).0 ≡ Err (Fault fault)) × (after ≡ Some (call c).1)
+Gives call (Some c) (Ok value) after = ((call c).0 ≡ Ok value) × (after ≡ Some (call c).1)
+
+-- a fault raises the count, and nothing else does
+abbrev pub is_fault : {T : Type 0} → Result T FolderError → Bool
+is_fault (Ok value) = false
+is_fault (Err OutOfMemory) = false
+is_fault (Err (Fault fault)) = true
+
+abbrev pub failures_after : {T : Type 0} → ℕ → Result T FolderError → ℕ
+failures_after n result = if is_fault result then min (n + 1) (2 ^ 64 - 1) else n

@@ -1,0 +1,13 @@
+pub mod Moments
+pub mod Calendar
+pub mod Names
+pub mod Builders
+pub mod Contents
+pub mod Memory
+pub mod Entries
+pub mod Sinks
+pub mod Rows
+pub mod Faults
+pub mod Writes
+pub mod Looks
+pub mod Appenders

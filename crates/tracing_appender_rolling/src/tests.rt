@@ -1,0 +1,255 @@
+//! Names, days, a folder that fails, and each call once.
+
+ghost use Rattle.std.specs.Prelude.{◌≡◌, true};
+ghost use Rattle.tracing_appender_rolling.specs.Moments.{is_moment};
+
+use crate::{
+    Builder, FileNumber, Folder, FolderError, FolderFault, MemoryFolder, Moment,
+    RollingFileAppender, Rotation, date_text, day_of,
+};
+use std::alloc::{AllocError, Global};
+use std::test::Fail;
+
+/// 2025-02-17T00:00:00Z.
+const FIRST: Moment = Moment {
+    seconds: 1_739_750_400,
+    nanoseconds: 0,
+};
+
+/// 2025-02-18T00:00:00Z.
+const NEXT: Moment = Moment {
+    seconds: 1_739_836_800,
+    nanoseconds: 0,
+};
+
+/// A folder that opens so many files, and takes one byte at a write.
+#[derive(Drop)]
+struct SlowFolder {
+    openings: usize,
+    written: Vec<(usize, u8)>,
+    failures: u64,
+}
+
+impl SlowFolder {
+    fn new(alloc: Global, openings: usize) -> SlowFolder {
+        SlowFolder {
+            openings,
+            written: Vec::new(alloc),
+            failures: 0,
+        }
+    }
+}
+
+impl Folder for SlowFolder {
+    ghost use Rattle.std.specs.Prelude.{None};
+
+    ghost contents = { λ _. None };
+
+    ghost failed = { λ f. f.failures };
+
+    fn open_append(&mut self, _name: &str) -> Result<FileNumber, FolderError> {
+        if self.openings == 0 {
+            self.failures = self.failures.saturating_add(1);
+            return Err(FolderError::Fault(FolderFault::Refused));
+        }
+        self.openings -= 1;
+        Ok(FileNumber {
+            index: self.openings,
+        })
+    }
+
+    fn close_file(&mut self, _file: FileNumber) -> Result<(), FolderError> {
+        Ok(())
+    }
+
+    fn write(&mut self, file: FileNumber, bytes: &[u8]) -> Result<usize, FolderError> {
+        match bytes.first() {
+            Some(byte) => {
+                self.written.push((file.index, *byte))?;
+                Ok(1)
+            }
+            None => Ok(0),
+        }
+    }
+
+    fn failures(&self) -> u64 {
+        self.failures
+    }
+}
+
+fn builder(alloc: Global, prefix: &str, suffix: &str) -> Result<Builder, AllocError> {
+    let prefix = String::from_str(alloc, prefix)?;
+    let suffix = String::from_str(alloc, suffix)?;
+    Ok(
+        Builder::new(Rotation::Daily)
+            .filename_prefix(prefix)
+            .filename_suffix(suffix),
+    )
+}
+
+/// The name of the only file of a fresh appender.
+fn first_name(alloc: Global, prefix: &str, suffix: &str) -> Result<String, Fail> {
+    let folder = MemoryFolder::new(alloc);
+    let appender = RollingFileAppender::build(
+        alloc,
+        builder(alloc, prefix, suffix)?,
+        folder,
+        FIRST,
+    ).map_err(|refusal| refusal.error)?;
+    let entries = appender.folder().files()?;
+    let entry = entries.first().ok_or("no file")?;
+    Ok(String::from_str(alloc, entry.name)?)
+}
+
+#[test]
+fn names_have_their_parts(rt: HostRuntime) -> Result<(), Fail> {
+    let alloc = rt.alloc();
+    assert_eq!(rt;
+        first_name(alloc, "my_prefix", "log")?.as_str(),
+        "my_prefix.2025-02-17.log"
+    );
+    assert_eq!(rt;
+        first_name(alloc, "my_prefix", "")?.as_str(),
+        "my_prefix.2025-02-17"
+    );
+    assert_eq!(rt; first_name(alloc, "", "log")?.as_str(), "2025-02-17.log");
+    assert_eq!(rt; first_name(alloc, "", "")?.as_str(), "2025-02-17");
+    Ok(())
+}
+
+#[test]
+fn bad_names_are_told(rt: HostRuntime) -> Result<(), Fail> {
+    let alloc = rt.alloc();
+    assert!(rt; !builder(alloc, "app", "log")?.has_bad_name());
+    assert!(rt; builder(alloc, "logs/app", "log")?.has_bad_name());
+    assert!(rt; builder(alloc, "app", "l\0g")?.has_bad_name());
+    Ok(())
+}
+
+#[test]
+fn days_have_dates(rt: HostRuntime) -> Result<(), Fail> {
+    let alloc = rt.alloc();
+    let first = Moment {
+        seconds: -62_135_596_800,
+        nanoseconds: 0,
+    };
+    let before = Moment {
+        seconds: -1,
+        nanoseconds: 999_999_999,
+    };
+    let last = Moment {
+        seconds: 253_370_764_799,
+        nanoseconds: 999_999_999,
+    };
+    let past = Moment {
+        seconds: 253_370_764_800,
+        nanoseconds: 0,
+    };
+    assert!(rt; first.is_in_range() && before.is_in_range() && last.is_in_range());
+    assert!(rt; !past.is_in_range());
+    assert_eq!(rt; day_of(first), -719_162);
+    assert_eq!(rt; day_of(before), -1);
+    assert_eq!(rt; day_of(last), 2_932_531);
+    assert_eq!(rt; date_text(alloc, day_of(first))?.as_str(), "0001-01-01");
+    assert_eq!(rt; date_text(alloc, day_of(before))?.as_str(), "1969-12-31");
+    assert_eq!(rt; date_text(alloc, day_of(last))?.as_str(), "9998-12-31");
+    Ok(())
+}
+
+#[test]
+fn a_late_line_stays_with_the_later_day(rt: HostRuntime) -> Result<(), Fail> {
+    let alloc = rt.alloc();
+    let mut folder = MemoryFolder::new(alloc);
+    folder.put("app.2025-02-17", b"old\n", Some(FIRST))?;
+    folder.put("app.2025-02-18", b"gone\n", None)?;
+    folder.put("app.2025-02-18", b"found\n", None)?;
+    let mut appender = RollingFileAppender::build(
+        alloc,
+        builder(alloc, "app", "")?,
+        folder,
+        FIRST,
+    ).map_err(|refusal| refusal.error)?;
+    appender.look(FIRST)?;
+    appender.push(b"one\n")?;
+    appender.look(NEXT)?;
+    appender.push(b"two\n")?;
+    appender.look(FIRST)?;
+    appender.push(b"late\n")?;
+    assert_eq!(rt; appender.faults().switches, 0);
+    let folder = appender.into_folder();
+    assert_eq!(rt; folder.failures(), 0);
+    let entries = folder.files()?;
+    assert_eq!(rt; entries.len(), 2);
+    assert_eq!(rt; entries[0].name, "app.2025-02-17");
+    assert_eq!(rt; entries[0].bytes, b"old\none\n".as_slice());
+    assert_eq!(rt; entries[1].name, "app.2025-02-18");
+    assert_eq!(rt; entries[1].bytes, b"found\ntwo\nlate\n".as_slice());
+    Ok(())
+}
+
+#[test]
+fn files_are_in_order(rt: HostRuntime) -> Result<(), Fail> {
+    let alloc = rt.alloc();
+    let mut folder = MemoryFolder::new(alloc);
+    folder.put("b", b"2", None)?;
+    folder.put("a", b"1", None)?;
+    folder.put("ab", b"3", None)?;
+    let entries = folder.files()?;
+    assert_eq!(rt; entries.len(), 3);
+    assert_eq!(rt; entries[0].name, "a");
+    assert_eq!(rt; entries[1].name, "ab");
+    assert_eq!(rt; entries[2].name, "b");
+    assert_eq!(rt; entries[2].bytes, b"2".as_slice());
+    Ok(())
+}
+
+#[test]
+fn a_failed_switch_keeps_the_old_file(rt: HostRuntime) -> Result<(), Fail> {
+    let alloc = rt.alloc();
+    let folder = SlowFolder::new(alloc, 1);
+    let mut appender = RollingFileAppender::build(
+        alloc,
+        builder(alloc, "app", "")?,
+        folder,
+        FIRST,
+    ).map_err(|refusal| refusal.error)?;
+    appender.push(b"ab")?;
+    appender.look(NEXT)?;
+    appender.look(NEXT)?;
+    appender.push(b"c")?;
+    let faults = appender.faults();
+    assert_eq!(rt; faults.switches, 1);
+    assert_eq!(rt; faults.writes, 0);
+    assert_eq!(rt; faults.last, Some(FolderFault::Refused));
+    let written = appender.folder().written.as_slice();
+    assert_eq!(rt; written, [(0, b'a'), (0, b'b'), (0, b'c')].as_slice());
+    Ok(())
+}
+
+#[test]
+fn a_refused_folder_comes_back(rt: HostRuntime) -> Result<(), Fail> {
+    let alloc = rt.alloc();
+    let folder = SlowFolder::new(alloc, 0);
+    match RollingFileAppender::build(alloc, builder(alloc, "a/b", "")?, folder, FIRST) {
+        Ok(_) => Err("opened".into()),
+        Err(refusal) => {
+            assert_eq!(rt; refusal.error, FolderError::Fault(FolderFault::Refused));
+            assert!(rt; refusal.builder.has_bad_name());
+            assert_eq!(rt; refusal.folder.failures(), 1);
+            Ok(())
+        }
+    }
+}
+
+#[test]
+fn faults_have_texts(rt: HostRuntime) -> Result<(), Fail> {
+    let alloc = rt.alloc();
+    let fault = FolderError::Fault(FolderFault::WriteZero);
+    assert_eq!(rt;
+        format!(in alloc; "{fault}")?.as_str(),
+        "write took no bytes"
+    );
+    let memory = FolderError::from(AllocError);
+    assert_eq!(rt; format!(in alloc; "{memory}")?.as_str(), "out of memory");
+    Ok(())
+}

@@ -1,0 +1,16 @@
+pub use Rattle.tracing_core_fields.specs.Text
+pub use Rattle.tracing_core_fields.specs.LevelInner
+pub use Rattle.tracing_core_fields.specs.Level
+pub use Rattle.tracing_core_fields.specs.FilterInner
+pub use Rattle.tracing_core_fields.specs.LevelFilter
+pub use Rattle.tracing_core_fields.specs.PlainKind
+pub use Rattle.tracing_core_fields.specs.Equality
+pub use Rattle.tracing_core_fields.specs.PlainField
+pub use Rattle.tracing_core_fields.specs.FieldSet
+pub use Rattle.tracing_core_fields.specs.Field
+pub use Rattle.tracing_core_fields.specs.Iter
+pub use Rattle.tracing_core_fields.specs.PlainMetadata
+pub use Rattle.tracing_core_fields.specs.Metadata
+pub use Rattle.tracing_core_fields.specs.PlainValue
+pub use Rattle.tracing_core_fields.specs.Values
+pub use Rattle.tracing_core_fields.specs.ValueSet

@@ -1,0 +1,37 @@
+-- The fields that names give, one after another, and when two sets are the same.
+use Rattle.std.proofs.Common.{◌≡◌, ℕ, ◌+◌, ◌<◌, ◌&&◌, List, [], ◌∷◌, length, drop, refl, sym, ◌∙◌, ap, arith, zero, suc, nat_eq, slice_index_or}
+use Rattle.std.specs.Cmp.Derive.Mapped.{pointwise-map}
+use Rattle.std.specs.Cmp.Lexicographic.{pointwise}
+use Rattle.std.specs.Str.{bytes_eq}
+use Rattle.std.proofs.lemmas.Bool.{eq-eqb}
+use Rattle.tracing_core_fields.specs.FieldSet.{field_names, set_callsite, is_same_set}
+use Rattle.tracing_core_fields.specs.PlainField.{fields_named}
+use Rattle.tracing_core_fields.specs.declared.field.FieldSet.{FieldSet}
+
+pub length-fields_named : (callsite index : ℕ) (names : List (List ℕ)) → length (fields_named callsite index names) ≡ length names
+length-fields_named callsite index [] = refl
+length-fields_named callsite index (name ∷ names) = ap (λ n. suc n) (length-fields_named callsite (index + 1) names)
+
+-- the fields from a place on begin with the field of that place
+drop-fields_after : (callsite index : ℕ) (names : List (List ℕ)) (k n : ℕ) → k < length names → n ≡ index + k →
+    drop k (fields_named callsite index names) ≡ record { index = n; name = slice_index_or names k []; callsite = callsite } ∷ drop (suc k) (fields_named callsite index names)
+drop-fields_after callsite index [] k n below place = absurd (omega (arith, below))
+drop-fields_after callsite index (name ∷ names) zero n below place =
+    let same : index ≡ n = omega (arith, place) in
+    ap (λ m. record { index = m; name = name; callsite = callsite } ∷ fields_named callsite (index + 1) names) same
+drop-fields_after callsite index (name ∷ names) (suc k) n below place =
+    drop-fields_after callsite (index + 1) names k n (omega (arith, below)) (omega (arith, place))
+
+pub drop-fields_named : (callsite : ℕ) (names : List (List ℕ)) (k : ℕ) → k < length names →
+    drop k (fields_named callsite 0 names) ≡ record { index = k; name = slice_index_or names k []; callsite = callsite } ∷ drop (k + 1) (fields_named callsite 0 names)
+drop-fields_named callsite names k below =
+    let next : suc k ≡ k + 1 = omega arith in
+    let place : k ≡ 0 + k = omega arith in
+    drop-fields_after callsite 0 names k k below place
+    ∙ ap (λ m. record { index = k; name = slice_index_or names k []; callsite = callsite } ∷ drop m (fields_named callsite 0 names)) next
+
+-- where the callsites are the same, the names decide
+pub same_names-is_same_set : (a b : FieldSet) → set_callsite a ≡ set_callsite b → pointwise (λ x y. pointwise nat_eq x.now y.now) a.names.now b.names.now ≡ is_same_set a b
+same_names-is_same_set a b callsites =
+    sym (pointwise-map (λ name. name.now) bytes_eq a.names.now b.names.now)
+    ∙ sym (ap (λ t. t && pointwise bytes_eq (field_names a) (field_names b)) (eq-eqb _ _ callsites))

@@ -1,0 +1,16 @@
+pub mod Text
+pub mod LevelInner
+pub mod Level
+pub mod FilterInner
+pub mod LevelFilter
+pub mod PlainKind
+pub mod Equality
+pub mod PlainField
+pub mod FieldSet
+pub mod Field
+pub mod Iter
+pub mod PlainMetadata
+pub mod Metadata
+pub mod PlainValue
+pub mod Values
+pub mod ValueSet

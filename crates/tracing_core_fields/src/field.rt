@@ -1,0 +1,233 @@
+//! Fields, and the sets that they stand in.
+ghost use Rattle.std.specs.Prelude.{◌≡◌, ◌<◌, ◌↔◌, length, map, IsTrue, IfSome, Some};
+ghost use Rattle.std.specs.List.{position_from};
+ghost use Rattle.std.specs.Option.{option_map};
+ghost use Rattle.std.specs.Str.{bytes_eq};
+
+use crate::callsite::Identifier;
+use std::fmt;
+use std::hash::{Hash, Hasher};
+
+// The place of the first name that is this one.
+fn first_place(names: &[&str], name: &str) -> Option<usize>
+    ensures value { result ≡ position_from (λ other. bytes_eq other name.now) 0 (map (λ other. other.now) names.now) }
+    ensures bound { IfSome result (λ place. place < length names.now) }
+{
+    let mut place = 0;
+    for &other in names {
+        if other == name {
+            return Some(place);
+        }
+        place += 1;
+    }
+    None
+}
+
+/// The fields of a span or an event, by their names.
+#[derive(Clone, Copy, Debug)]
+pub struct FieldSet<'a> {
+    names: &'a [&'a str],
+    callsite: Identifier,
+}
+
+impl<'a> FieldSet<'a> {
+    ghost use Rattle.tracing_core_fields.specs.Field.{field_index, field_callsite, set_of_field};
+    ghost use Rattle.tracing_core_fields.specs.FieldSet.{field_names, set_callsite, index_of_name, plain_fields};
+    ghost use Rattle.tracing_core_fields.specs.Iter.{fields_left};
+
+    /// The set of these names at the callsite.
+    pub const fn new(names: &'a [&'a str], callsite: Identifier) -> FieldSet<'a>
+        ensures names { field_names result ≡ map (λ name. name.now) names.now }
+        ensures callsite { set_callsite result ≡ callsite.0 }
+    {
+        FieldSet { names, callsite }
+    }
+
+    /// The callsite of the set.
+    pub fn callsite(&self) -> Identifier
+        ensures { result.0 ≡ set_callsite self.now }
+    {
+        self.callsite
+    }
+
+    /// The first field of the name, or `None` where no field has it.
+    pub fn field(&self, name: &str) -> Option<Field<'a>>
+        ensures index { option_map field_index result ≡ index_of_name self.now name.now }
+        ensures set { IfSome result (λ field. set_of_field field ≡ self.now) }
+    {
+        let index = first_place(self.names, name)?;
+        Some(Field {
+            index,
+            fields: *self,
+        })
+    }
+
+    /// Whether the field is one of this set: it has the set's callsite, and a place below the set's length.
+    pub fn contains(&self, field: &Field<'_>) -> bool
+        ensures { IsTrue result ↔ ((field_callsite field.now ≡ set_callsite self.now)
+            × (field_index field.now < length (field_names self.now))) }
+    {
+        field.callsite() == self.callsite && field.index < self.names.len()
+    }
+
+    /// The fields, in order.
+    pub fn iter(&self) -> Iter<'a>
+        ensures { fields_left result ≡ plain_fields self.now }
+    {
+        Iter {
+            next_index: 0,
+            fields: *self,
+        }
+    }
+
+    /// How many fields the set has.
+    pub fn len(&self) -> usize
+        ensures { result ≡ length (field_names self.now) }
+    {
+        self.names.len()
+    }
+
+    /// Whether the set has no field.
+    pub fn is_empty(&self) -> bool
+        ensures { IsTrue result ↔ (length (field_names self.now) ≡ 0) }
+    {
+        self.names.is_empty()
+    }
+}
+
+impl PartialEq for FieldSet<'_> {
+    ghost use Rattle.std.specs.Cmp.{partial_equiv_from_equiv};
+    ghost use Rattle.tracing_core_fields.specs.FieldSet.{is_same_set, is_same_set-equivalence, IsSameSet};
+
+    ghost eq = { is_same_set };
+
+    ghost laws = { partial_equiv_from_equiv is_same_set-equivalence };
+
+    fn eq(&self, other: &Self) -> bool
+        ensures test { result ≡ is_same_set self.now other.now }
+        ensures same { IsTrue result ↔ IsSameSet self.now other.now }
+    {
+        self.callsite == other.callsite && self.names == other.names
+    }
+}
+
+impl Eq for FieldSet<'_> {
+    ghost use Rattle.tracing_core_fields.specs.FieldSet.{is_same_set-equivalence};
+
+    ghost laws = { is_same_set-equivalence };
+}
+
+/// One field of a set.
+#[derive(Clone, Copy, Debug)]
+pub struct Field<'a> {
+    index: usize,
+    fields: FieldSet<'a>,
+    ghost in_range: { index < length fields.names.now },
+}
+
+impl<'a> Field<'a> {
+    ghost use Rattle.tracing_core_fields.specs.Field.{field_index, field_callsite, field_name, set_of_field};
+    ghost use Rattle.tracing_core_fields.specs.FieldSet.{field_names};
+
+    /// The callsite of the field's set.
+    pub fn callsite(&self) -> Identifier
+        ensures { result.0 ≡ field_callsite self.now }
+    {
+        self.fields.callsite
+    }
+
+    /// The name of the field.
+    pub fn name(&self) -> &'a str
+        ensures { result.now ≡ field_name self.now }
+    {
+        self.fields.names[self.index]
+    }
+
+    /// The place of the field in its set.
+    pub fn index(&self) -> usize
+        ensures value { result ≡ field_index self.now }
+        ensures range { result < length (field_names (set_of_field self.now)) }
+    {
+        self.index
+    }
+}
+
+impl PartialEq for Field<'_> {
+    ghost use Rattle.std.specs.Prelude.{◌==◌};
+    ghost use Rattle.std.proofs.Common.{rules};
+    ghost use Rattle.std.specs.Cmp.Rules.{comparing};
+    ghost use Rattle.tracing_core_fields.specs.Field.{is_same_field};
+
+    ghost eq = { is_same_field };
+
+    ghost laws = { Prim.search (comparing, rules) };
+
+    fn eq(&self, other: &Self) -> bool {
+        self.callsite() == other.callsite() && self.index == other.index
+    }
+}
+
+impl Eq for Field<'_> {
+    ghost use Rattle.std.proofs.Common.{rules};
+    ghost use Rattle.std.specs.Cmp.Rules.{comparing};
+
+    ghost laws = { Prim.search (comparing, rules) };
+}
+
+impl Hash for Field<'_> {
+    ghost use Rattle.std.proofs.Common.{rules};
+    ghost use Rattle.tracing_core_fields.specs.Field.{field_hash_input};
+
+    ghost hash_input = { field_hash_input };
+
+    ghost respects_eq = { Prim.search rules };
+
+    fn hash<H: Hasher>(&self, state: &mut H) {
+        state.write_u64(self.fields.callsite.0);
+        state.write_usize(self.index);
+    }
+}
+
+impl fmt::Display for Field<'_> {
+    ghost use Rattle.std.specs.Fmt.{padded};
+    ghost use Rattle.tracing_core_fields.specs.Field.{field_name};
+
+    ghost output = { λ field. Some (field_name field) };
+
+    ghost styled_output = { λ field spec. Some (padded spec (field_name field)) };
+
+    fn fmt<W: fmt::Write>(&self, f: &mut fmt::Formatter<W>) -> fmt::Result {
+        f.pad(self.name())
+    }
+}
+
+/// The fields of a set, in order.
+#[derive(Clone, Copy, Debug)]
+pub struct Iter<'a> {
+    next_index: usize,
+    fields: FieldSet<'a>,
+}
+
+impl<'a> Iterator for Iter<'a> {
+    ghost use Rattle.std.specs.Iterator.{YieldsFirstBy, item_count};
+    ghost use Rattle.tracing_core_fields.specs.Field.{plain_field};
+    ghost use Rattle.tracing_core_fields.specs.Iter.{fields_left};
+
+    type Item = Field<'a>;
+
+    ghost next_gives = { YieldsFirstBy plain_field fields_left };
+
+    ghost remaining = { item_count fields_left };
+
+    fn next(&mut self) -> Option<Field<'a>> {
+        if self.next_index >= self.fields.names.len() {
+            return None;
+        }
+        let field = Field {
+            index: self.next_index,
+            fields: self.fields,
+        };
+        self.next_index += 1;
+        Some(field)
+    }
+}

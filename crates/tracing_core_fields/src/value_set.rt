@@ -1,0 +1,139 @@
+//! Values of fields, and the sets that they are recorded in.
+ghost use Rattle.std.specs.Prelude.{◌≡◌, ◌↔◌, ◌==◌, IsTrue, List, [], length, min, take, count_by, not};
+ghost use Rattle.std.specs.Option.{is_some};
+ghost use Rattle.tracing_core_fields.specs.FieldSet.{field_names, set_callsite};
+ghost use Rattle.tracing_core_fields.specs.PlainValue.{present_value};
+ghost use Rattle.tracing_core_fields.specs.ValueSet.{entries_of, entry_count, fields_of_values};
+ghost use Rattle.tracing_core_fields.specs.Values.{is_own, given_entries, placed_entries};
+
+use crate::callsite::Identifier;
+use crate::field::{Field, FieldSet};
+
+/// The value of a field.
+#[derive(Clone, Copy, Debug, PartialEq, Eq)]
+pub enum AnyValue<'a> {
+    /// A signed number.
+    I64(i64),
+    /// An unsigned number.
+    U64(u64),
+    /// A text.
+    Str(&'a str),
+    /// No value: the field is passed over.
+    Empty,
+}
+
+#[derive(Clone, Copy, Debug)]
+enum Values<'a> {
+    Explicit(&'a [(Field<'a>, Option<AnyValue<'a>>)]),
+    All(&'a [Option<AnyValue<'a>>]),
+}
+
+/// The values of fields at one callsite.
+///
+/// Its entries are its own fields that have a value: fields of other callsites, absent values and
+/// [`AnyValue::Empty`] are passed over.
+#[derive(Clone, Copy, Debug)]
+pub struct ValueSet<'a> {
+    values: Values<'a>,
+    fields: FieldSet<'a>,
+}
+
+impl<'a> FieldSet<'a> {
+    /// The set of these fields with their values. Fields of other callsites are passed over.
+    pub fn value_set(&self, values: &'a [(Field<'a>, Option<AnyValue<'a>>)]) -> ValueSet<'a>
+        ensures entries { entries_of result ≡ given_entries (set_callsite self.now) values.now }
+        ensures count { entry_count result ≡ count_by (is_own (set_callsite self.now)) values.now }
+        ensures fields { fields_of_values result ≡ self.now }
+    {
+        ValueSet {
+            values: Values::Explicit(values),
+            fields: *self,
+        }
+    }
+
+    /// The set of the fields in order with these values. Where values are fewer, the other fields have
+    /// none; where they are more, the surplus is ignored.
+    pub fn value_set_all(&self, values: &'a [Option<AnyValue<'a>>]) -> ValueSet<'a>
+        ensures entries { entries_of result ≡ placed_entries (take (length (field_names self.now)) values.now) }
+        ensures count { entry_count result ≡ min (length (field_names self.now)) (length values.now) }
+        ensures fields { fields_of_values result ≡ self.now }
+    {
+        ValueSet {
+            values: Values::All(values),
+            fields: *self,
+        }
+    }
+}
+
+// Whether the value is there, and is not `Empty`.
+fn is_present(value: &Option<AnyValue<'_>>) -> bool
+    ensures { result ≡ is_some (present_value value.now) }
+{
+    !matches!(value, None | Some(AnyValue::Empty))
+}
+
+// How many of the fields are of the callsite.
+fn count_own(callsite: Identifier, entries: &[(Field<'_>, Option<AnyValue<'_>>)]) -> usize
+    ensures { result ≡ count_by (is_own callsite.0) entries.now }
+{
+    let mut count = 0;
+    for entry in entries {
+        if entry.0.callsite() == callsite {
+            count += 1;
+        }
+    }
+    count
+}
+
+// Whether no field of the callsite has a value.
+fn lacks_given(callsite: Identifier, entries: &[(Field<'_>, Option<AnyValue<'_>>)]) -> bool
+    ensures { result ≡ (length (given_entries callsite.0 entries.now) == 0) }
+{
+    for entry in entries {
+        if entry.0.callsite() == callsite && is_present(&entry.1) {
+            return false;
+        }
+    }
+    true
+}
+
+// Whether no value is present.
+fn lacks_placed(values: &[Option<AnyValue<'_>>]) -> bool
+    ensures { result ≡ (length (placed_entries values.now) == 0) }
+{
+    for value in values {
+        if is_present(value) {
+            return false;
+        }
+    }
+    true
+}
+
+impl<'a> ValueSet<'a> {
+    /// The callsite of the fields.
+    pub fn callsite(&self) -> Identifier
+        ensures { result.0 ≡ set_callsite (fields_of_values self.now) }
+    {
+        self.fields.callsite()
+    }
+
+    /// How many of its own fields the set was given, with a value or without one.
+    pub fn len(&self) -> usize
+        ensures { result ≡ entry_count self.now }
+    {
+        match self.values {
+            Values::Explicit(entries) => count_own(self.callsite(), entries),
+            Values::All(values) => self.fields.len().min(values.len()),
+        }
+    }
+
+    /// Whether none of its own fields has a value.
+    pub fn is_empty(&self) -> bool
+        ensures { IsTrue result ↔ (entries_of self.now ≡ []) }
+    {
+        match self.values {
+            Values::Explicit(entries) => lacks_given(self.callsite(), entries),
+            Values::All(values) => lacks_placed(&values[..self.fields.len().min(values.len())]),
+        }
+    }
+}
