@@ -14,7 +14,7 @@ use Rattle.span_tracing_machine.specs.Missed.{handed_lines, starved_by, count_mi
 use Rattle.span_tracing_machine.specs.State.{Plain, PlainOutput, ValueList, text_of, step_mask, mask_of, filter_of, time_of, with_values, lists_acted, offer_of, plain_offer, more_handed, plain_acted, plain_after, plain_reply}
 use Rattle.span_tracing.specs.declared.state.TraceState.{TraceState}
 use Rattle.span_tracing.specs.declared.trace.Trace.{Trace}
-use Rattle.span_tracing.specs.Skeletons.{skeleton_of, setting_of, texts_of, filter_in, time_in}
+use Rattle.span_tracing.specs.Skeletons.{plain_setting, skeleton_of, setting_of, texts_of, filter_in, time_in}
 use Rattle.span_tracing.specs.Stored.{mask_in, with_text, texts_acted, Stepped, AgreesOption, more_lines, TakesLines}
 use Rattle.span_tracing.specs.Agreement.{setting_in, Agrees, AgreesFiles, FollowsStep}
 use Rattle.span_tracing.proofs.Texts.{lists_left_plain}
@@ -72,7 +72,7 @@ agree_cases old new step p fate s a (Some r) e =
     let known = refusal_same old p step a ∙ e in
     record {
       skeleton = s.skeleton ∙ after_refused (skeleton_of old) step (mask_in old step) r known ∙ a.skeleton;
-      setting = s.setting ∙ a.setting;
+      setting = ap (option_map plain_setting) s.setting ∙ a.setting;
       texts = (rw known at s.texts) ∙ a.texts;
     }
 agree_cases old new step p fate s a None e =
@@ -80,7 +80,7 @@ agree_cases old new step p fate s a None e =
     let lines = handed_lines (fate ∷ []) (plain_offer p step) in
     record {
       skeleton = s.skeleton ∙ ap (λ k. after k step (mask_in old step)) a.skeleton ∙ ap (after p.skeleton step) (mask_same old p step a);
-      setting = s.setting ∙ a.setting ∙ sym (setting_more p.output lines);
+      setting = ap (option_map plain_setting) s.setting ∙ a.setting ∙ sym (setting_more p.output lines);
       texts = (rw known at s.texts)
           ∙ ap (λ k. texts_acted k (texts_of old) step (mask_in old step) fate) a.skeleton
           ∙ ap (λ x. texts_acted p.skeleton x step (mask_in old step) fate) a.texts
@@ -123,6 +123,7 @@ pub follows : {D : Type 0} (contents : D → Option Contents) (old new : Trace D
 unfolding plain_reply
 follows contents old new reply step fate r s takes = record {
   fates = fate ∷ [];
+  kept = (s.threads, s.setting);
   agreed = λ p a. (
     r ∙ ap (λ k. reply_of k step (mask_in old.state step)) a.skeleton ∙ ap (reply_of p.skeleton step) (mask_same old.state p step a),
     agree_step old.state new.state step p fate s a,

@@ -1,6 +1,7 @@
 -- Facts on lists under the names that attributes take.
 use Rattle.std.proofs.Common.{◌≡◌, ℕ, List, [], ◌∷◌, ◌++◌, map, set, get_or, length, ◌<◌, zero, suc, refl, ap, sym, arith, ◌-◌, ◌==◌, true, take, drop, ◌∙◌}
 use Rattle.span_tracing.specs.declared.lane.Lane.{Lane}
+use Rattle.span_tracing.specs.Skeletons.{PlainThread, plain_thread}
 use Rattle.span_tracing.specs.Lanes.{plain_lanes}
 use Rattle.span_tracing_machine.specs.Machine.{lane_at, one_less}
 use Rattle.span_tracing_machine.specs.declared.record.SpanRecord.{SpanRecord}
@@ -59,3 +60,9 @@ only_last xs (r ∷ rs) x y e f =
     let m : length xs ≡ 1 = ap length f in
     let k = length-append rs (x ∷ []) in
     absurd (omega (arith, n, m, k))
+
+-- a lane with other entries is the same thread
+pub thread_same : (lanes : List Lane) (lane : ℕ) (e v : Lane) → lane < length lanes → e ≡ get_or lanes lane e → plain_thread v ≡ plain_thread e → map plain_thread (set lanes lane v) ≡ map plain_thread lanes
+thread_same [] lane e v h r k = absurd (omega arith)
+thread_same (l ∷ ls) zero e v h r k = ap (λ (x : PlainThread). x ∷ map plain_thread ls) (k ∙ ap plain_thread r)
+thread_same (l ∷ ls) (suc n) e v h r k = ap (λ ys. plain_thread l ∷ ys) (thread_same ls n e v (omega arith) r k)

@@ -1,12 +1,14 @@
 -- A run, one step more.
-use Rattle.std.proofs.Common.{◌≡◌, ℕ, ◌+◌, ◌<◌, zero, suc, arith, subst, Option, Some, None, List, [], ◌∷◌, ◌++◌, length, take, map, get_or, refl, sym, ap, ◌∙◌}
+use Rattle.std.proofs.Common.{◌≡◌, ◌≢◌, Bool, true, false, if◌then◌else◌, ℕ, ◌+◌, ◌<◌, zero, suc, arith, subst, Option, Some, None, List, [], ◌∷◌, ◌++◌, length, take, map, get_or, refl, sym, ap, ◌∙◌}
 use Rattle.std.specs.Option.{option_map}
-use Rattle.std.proofs.lemmas.List.{take_more, map-append}
-use Rattle.std.specs.List.{AllByRecursion}
+use Rattle.std.proofs.lemmas.List.{append-nil, take_more, map-append}
+use Rattle.std.proofs.lemmas.Bool.{false≢true}
 use Rattle.tracing_appender_rolling.specs.Contents.{Contents}
 use Rattle.tracing_appender_rolling.specs.Sinks.{Handed}
 use Rattle.span_tracing_machine.specs.declared.call.Step.{Step}
 use Rattle.span_tracing_machine.specs.declared.call.Reply.{Reply}
+use Rattle.span_tracing_machine.specs.declared.call.Reply.TheVariants.{Done, Span, Closed, Refused}
+use Rattle.span_tracing_machine.specs.declared.refusal.Refusal.TheVariants.{UnknownCallsite, UnknownStack, UnknownSpan, ForeignParent, NoOutput, BadName, FolderRefused, BadMoment, OutOfMemory, BadRoute, UnknownLane, GlobalSet, Taken, IdsSpent}
 use Rattle.span_tracing_machine.specs.declared.fate.Fate.{Fate}
 use Rattle.span_tracing_machine.specs.declared.refusal.Refusal.{Refusal}
 use Rattle.span_tracing_machine.specs.PlainData.{PlainStep, plain_step, plain_steps}
@@ -15,7 +17,10 @@ use Rattle.span_tracing_machine.specs.Machine.{reply_of, refusal_of, acted, afte
 use Rattle.span_tracing_machine.specs.Missed.{first_fates, later_fates, one_more, starved_by, count_missed, wants_of}
 use Rattle.span_tracing_machine.specs.State.{Plain, PlainOutput, step_mask, mask_of, filter_of, more_handed, plain_acted, plain_after, plain_reply, plain_run, replies_of, missed_by, missed_in}
 use Rattle.span_tracing.specs.declared.trace.Trace.{Trace}
-use Rattle.span_tracing.specs.Agreement.{Agrees, AgreesFiles, FollowsStep, FollowsRun}
+use Rattle.tracing_appender_rolling.specs.declared.appender.RollingFileAppender.{RollingFileAppender}
+use Rattle.span_tracing.specs.Skeletons.{plain_setting}
+use Rattle.span_tracing.specs.Stored.{AgreesOption, MayWantRoom}
+use Rattle.span_tracing.specs.Agreement.{Agrees, AgreesFiles, FollowsStep, FollowsRun, TraceValue, value_of, is_memory, replies_done, steps_done, OnlyRoomWanted, RunsSteps}
 
 -- the skeleton after a step goes by skeleton and filter alone
 abbrev next : Skeleton → Option ℕ → PlainStep → Skeleton
@@ -134,9 +139,10 @@ last_missed p xs ms x m e =
     ∙ sym (missed_are p (xs ++ x ∷ []) (ms ++ m ∷ []))
 
 -- a run with one step more
-pub follows_more : {D : Type 0} (contents : D → Option Contents) (first old new : Trace D) (replies : List Reply) (reply : Reply) (xs : List PlainStep) (x : PlainStep) → FollowsRun contents first old replies xs → FollowsStep contents old new reply x → FollowsRun contents first new (replies ++ reply ∷ []) (xs ++ x ∷ [])
+follows_more : {D : Type 0} (contents : D → Option Contents) (first old new : Trace D) (replies : List Reply) (reply : Reply) (xs : List PlainStep) (x : PlainStep) → FollowsRun contents first old replies xs → FollowsStep contents old new reply x → FollowsRun contents first new (replies ++ reply ∷ []) (xs ++ x ∷ [])
 follows_more contents first old new replies reply xs x w s = record {
   fates = w.fates ++ s.fates ∷ [];
+  kept = (s.kept.0 ∙ w.kept.0, s.kept.1 ∙ w.kept.1);
   each = length-more w.fates s.fates ∙ ap suc w.each ∙ sym (length-more xs x);
   agreed = λ p a.
       let before = w.agreed p a in
@@ -152,14 +158,95 @@ follows_more contents first old new replies reply xs x w s = record {
       (s.files (plain_run p xs w.fates) (w.agreed p a).1 (w.files p a files));
 }
 
-pub follows_none : {D : Type 0} (contents : D → Option Contents) (t : Trace D) → FollowsRun contents t t [] []
-follows_none contents t = record { fates = []; each = refl; agreed = λ p a. (refl, a, refl); files = λ p a files. files }
+follows_none : {D : Type 0} (contents : D → Option Contents) (t : Trace D) → FollowsRun contents t t [] []
+follows_none contents t = record { fates = []; kept = (refl, refl); each = refl; agreed = λ p a. (refl, a, refl); files = λ p a files. files }
 
 -- the first steps and the one at an index
 pub take_step : (steps : List Step) (i : ℕ) (x : Step) → i < length steps → x ≡ get_or steps i x → plain_steps (take (i + 1) steps) ≡ plain_steps (take i steps) ++ plain_step x ∷ []
 take_step steps i x h e = ap (map plain_step) (take_more steps i x h ∙ ap (λ y. take i steps ++ y ∷ []) (sym e)) ∙ map-append plain_step (take i steps) (x ∷ [])
 
--- each of the first ones, and the last one
-pub all_split : {X : Type 0} (P : X → Type 0) (xs : List X) (x : X) → AllByRecursion P (xs ++ x ∷ []) → AllByRecursion P xs × P x
-all_split P [] x h = (tt, h.0)
-all_split P (y ∷ ys) x h = let rest = all_split P ys x h.1 in ((h.0, rest.0), rest.1)
+-- one more behind those that are kept
+kept_more : {A : Type 0} (b : Bool) (x : A) (xs ys more : List A) → ys ≡ xs ++ more → (if b then ys else x ∷ ys) ≡ (if b then xs else x ∷ xs) ++ more
+kept_more true x xs ys more e = e
+kept_more false x xs ys more e = ap (λ zs. x ∷ zs) e
+
+-- a step that was refused for want of memory left the trace as a value
+agrees_still : {D : Type 0} (old new : Trace D) (p : Plain) → value_of new ≡ value_of old → Agrees old.state p → Agrees new.state p
+agrees_still {D} old new p e a = record {
+  skeleton = ap (λ (v : TraceValue D). v.state.skeleton) e ∙ a.skeleton;
+  setting = ap (λ (v : TraceValue D). option_map plain_setting v.state.output) e ∙ a.setting;
+  texts = ap (λ (v : TraceValue D). v.state.texts) e ∙ a.texts;
+}
+
+follows_still : {D : Type 0} (contents : D → Option Contents) (first old new : Trace D) (replies : List Reply) (xs : List PlainStep) → value_of new ≡ value_of old → FollowsRun contents first old replies xs → FollowsRun contents first new replies xs
+follows_still {D} contents first old new replies xs e w = record {
+  fates = w.fates;
+  kept = (ap (λ (v : TraceValue D). v.state.threads) e ∙ w.kept.0, ap (λ (v : TraceValue D). v.state.output) e ∙ w.kept.1);
+  each = w.each;
+  agreed = λ p a.
+      let before = w.agreed p a in
+      (before.0, agrees_still old new (plain_run p xs w.fates) e before.1, ap (λ (v : TraceValue D). v.state.starved) e ∙ before.2);
+  files = λ p a files.
+      subst (λ (s : Option (RollingFileAppender D)). AgreesOption contents s (option_map (λ (o : PlainOutput). o.sink) (plain_run p xs w.fates).output))
+      (ap (λ (v : TraceValue D). v.sink) (sym e)) (w.files p a files);
+}
+
+-- one reply more among those that were done
+replies_more_done : (rs : List Reply) (r : Reply) (b : Bool) → is_memory r ≡ b → replies_done (rs ++ r ∷ []) ≡ replies_done rs ++ (if b then [] else r ∷ [])
+replies_more_done [] r true e = rw e refl
+replies_more_done [] r false e = rw e refl
+replies_more_done (q ∷ qs) r b e = kept_more (is_memory q) q (replies_done qs) (replies_done (qs ++ r ∷ [])) (if b then [] else r ∷ []) (replies_more_done qs r b e)
+
+steps_more_done : (rs : List Reply) (r : Reply) (xs : List PlainStep) (x : PlainStep) (b : Bool) → is_memory r ≡ b → length rs ≡ length xs → steps_done (rs ++ r ∷ []) (xs ++ x ∷ []) ≡ steps_done rs xs ++ (if b then [] else x ∷ [])
+steps_more_done [] r [] x true e n = rw e refl
+steps_more_done [] r [] x false e n = rw e refl
+steps_more_done [] r (y ∷ ys) x b e n = absurd (omega (arith, n))
+steps_more_done (q ∷ qs) r [] x b e n = absurd (omega (arith, n))
+steps_more_done (q ∷ qs) r (y ∷ ys) x b e n = kept_more (is_memory q) y (steps_done qs ys) (steps_done (qs ++ r ∷ []) (ys ++ x ∷ [])) (if b then [] else x ∷ []) (steps_more_done qs r ys x b e (omega (arith, n)))
+
+room_more : (rs : List Reply) (r : Reply) (xs : List PlainStep) (x : PlainStep) → length rs ≡ length xs → OnlyRoomWanted rs xs → (is_memory r ≡ true → MayWantRoom x) → OnlyRoomWanted (rs ++ r ∷ []) (xs ++ x ∷ [])
+room_more [] r [] x n w f = (f, tt)
+room_more [] r (y ∷ ys) x n w f = absurd (omega (arith, n))
+room_more (q ∷ qs) r [] x n w f = absurd (omega (arith, n))
+room_more (q ∷ qs) r (y ∷ ys) x n w f = (w.0, room_more qs r ys x (omega (arith, n)) w.1 f)
+
+-- what a reply is where it is want of memory, and where it is not
+memory_is : (r : Reply) → is_memory r ≡ true → r ≡ Refused OutOfMemory
+memory_is Done e = cc
+memory_is (Span name) e = cc
+memory_is (Closed b) e = cc
+memory_is (Refused OutOfMemory) e = refl
+memory_is (Refused UnknownCallsite) e = cc
+memory_is (Refused UnknownStack) e = cc
+memory_is (Refused UnknownSpan) e = cc
+memory_is (Refused ForeignParent) e = cc
+memory_is (Refused NoOutput) e = cc
+memory_is (Refused BadName) e = cc
+memory_is (Refused FolderRefused) e = cc
+memory_is (Refused BadMoment) e = cc
+memory_is (Refused BadRoute) e = cc
+memory_is (Refused UnknownLane) e = cc
+memory_is (Refused GlobalSet) e = cc
+memory_is (Refused Taken) e = cc
+memory_is (Refused IdsSpent) e = cc
+
+not_memory : (r : Reply) → is_memory r ≡ false → r ≢ Refused OutOfMemory
+not_memory r e h = false≢true (sym e ∙ ap is_memory h)
+
+follows_either : {D : Type 0} (contents : D → Option Contents) (first old new : Trace D) (replies : List Reply) (reply : Reply) (xs : List PlainStep) (x : PlainStep) (b : Bool) → is_memory reply ≡ b → (reply ≢ Refused OutOfMemory → FollowsStep contents old new reply x) → (reply ≡ Refused OutOfMemory → value_of new ≡ value_of old) → FollowsRun contents first old replies xs → FollowsRun contents first new (replies ++ (if b then [] else reply ∷ [])) (xs ++ (if b then [] else x ∷ []))
+follows_either contents first old new replies reply xs x true e step still w =
+    rw (append-nil, append-nil) (follows_still contents first old new replies xs (still (memory_is reply e)) w)
+follows_either contents first old new replies reply xs x false e step still w =
+    follows_more contents first old new replies reply xs x w (step (not_memory reply e))
+
+-- a run of one step more, which may be refused for want of memory
+pub runs_more : {D : Type 0} (contents : D → Option Contents) (first old new : Trace D) (replies : List Reply) (reply : Reply) (xs : List PlainStep) (x : PlainStep) → RunsSteps contents first old replies xs → (reply ≢ Refused OutOfMemory → FollowsStep contents old new reply x) → (reply ≡ Refused OutOfMemory → value_of new ≡ value_of old) → (reply ≡ Refused OutOfMemory → MayWantRoom x) → RunsSteps contents first new (replies ++ reply ∷ []) (xs ++ x ∷ [])
+runs_more contents first old new replies reply xs x w step still room = record {
+  count = length-more replies reply ∙ ap suc w.count ∙ sym (length-more xs x);
+  room = room_more replies reply xs x w.count w.room (λ e. room (memory_is reply e));
+  follows = rw (replies_more_done replies reply (is_memory reply) refl, steps_more_done replies reply xs x (is_memory reply) refl w.count)
+      (follows_either contents first old new (replies_done replies) reply (steps_done replies xs) x (is_memory reply) refl step still w.follows);
+}
+
+pub runs_none : {D : Type 0} (contents : D → Option Contents) (t : Trace D) → RunsSteps contents t t [] []
+runs_none contents t = record { count = refl; room = tt; follows = follows_none contents t }

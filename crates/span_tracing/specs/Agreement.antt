@@ -1,17 +1,19 @@
 -- What a trace keeps of a plain state.
-use Rattle.std.specs.Prelude.{◌≡◌, List, length, map, Option}
+use Rattle.std.specs.Prelude.{◌≡◌, Bool, true, false, if◌then◌else◌, List, [], ◌∷◌, length, map, Option}
 use Rattle.std.specs.Option.{option_map}
 use Rattle.tracing_appender_rolling.specs.Contents.{Contents}
 use Rattle.tracing_appender_rolling.specs.declared.appender.RollingFileAppender.{RollingFileAppender}
 use Rattle.span_tracing_machine.specs.declared.call.Reply.{Reply}
+use Rattle.span_tracing_machine.specs.declared.call.Reply.TheVariants.{Refused}
+use Rattle.span_tracing_machine.specs.declared.refusal.Refusal.TheVariants.{OutOfMemory}
 use Rattle.span_tracing_machine.specs.PlainData.{PlainStep}
 use Rattle.span_tracing_machine.specs.declared.fate.Fate.{Fate}
 use Rattle.span_tracing_machine.specs.Missed.{starved_by}
 use Rattle.span_tracing_machine.specs.State.{Plain, PlainOutput, text_of, plain_reply, plain_after, plain_run, replies_of, missed_by, missed_in}
 use Rattle.span_tracing.specs.declared.trace.Trace.{Trace}
 use Rattle.span_tracing.specs.declared.state.TraceState.{TraceState}
-use Rattle.span_tracing.specs.Skeletons.{StateValue, state_value, skeleton_of, setting_of, texts_of, PlainSetting}
-use Rattle.span_tracing.specs.Stored.{AgreesOption}
+use Rattle.span_tracing.specs.Skeletons.{StateValue, state_value, skeleton_of, threads_of, setting_of, texts_of, PlainSetting}
+use Rattle.span_tracing.specs.Stored.{AgreesOption, MayWantRoom}
 
 abbrev pub setting_in : Option PlainOutput → Option PlainSetting
 setting_in output = option_map (λ (o : PlainOutput). record { filter = o.filter; time = o.time }) output
@@ -26,20 +28,46 @@ pub record Agrees (t : TraceState) (p : Plain) : Type 0 where
 abbrev pub AgreesFiles : {D : Type 0} → (D → Option Contents) → Trace D → Plain → Type 0
 AgreesFiles contents t p = AgreesOption contents t.sink (option_map (λ (o : PlainOutput). o.sink) p.output)
 
+-- the lanes' threads and the output's setting stay
+abbrev pub KeepsSetup : TraceState → TraceState → Type 0
+KeepsSetup old new = (threads_of new ≡ threads_of old) × (new.setting ≡ old.setting)
+
 -- with these fates of the step's texts and lines, from each plain state that the old trace agrees with: the reply is
 -- the plain machine's, the new trace agrees with the state after, and those that found no memory are counted; and
 -- where the sink's files held their texts, they still do
 pub record FollowsStep {D : Type 0} (contents : D → Option Contents) (old new : Trace D) (reply : Reply) (step : PlainStep) : Type 0 where
   pub fates : List Fate
+  pub kept : KeepsSetup old.state new.state
   pub agreed : (p : Plain) → Agrees old.state p →
       (reply ≡ plain_reply p step)
       × Agrees new.state (plain_after p step fates)
       × (new.state.starved ≡ starved_by old.state.starved (missed_by p step fates))
   pub files : (p : Plain) → Agrees old.state p → AgreesFiles contents old p → AgreesFiles contents new (plain_after p step fates)
 
+-- of these steps and their replies, those that were not refused for want of memory
+abbrev pub is_memory : Reply → Bool
+is_memory (Refused OutOfMemory) = true
+is_memory reply = false
+
+abbrev pub replies_done : List Reply → List Reply
+replies_done [] = []
+replies_done (reply ∷ replies) = if is_memory reply then replies_done replies else reply ∷ replies_done replies
+
+abbrev pub steps_done : List Reply → List PlainStep → List PlainStep
+steps_done [] steps = []
+steps_done (reply ∷ replies) [] = []
+steps_done (reply ∷ replies) (step ∷ steps) = if is_memory reply then steps_done replies steps else step ∷ steps_done replies steps
+
+-- want of memory is answered for a new span or an entry alone
+abbrev pub OnlyRoomWanted : List Reply → List PlainStep → Type 0
+OnlyRoomWanted [] steps = Unit {0}
+OnlyRoomWanted (reply ∷ replies) [] = Unit {0}
+OnlyRoomWanted (reply ∷ replies) (step ∷ steps) = (is_memory reply ≡ true → MayWantRoom step) × OnlyRoomWanted replies steps
+
 -- steps in order, with a list of fates for each
 pub record FollowsRun {D : Type 0} (contents : D → Option Contents) (old new : Trace D) (replies : List Reply) (steps : List PlainStep) : Type 0 where
   pub fates : List (List Fate)
+  pub kept : KeepsSetup old.state new.state
   pub each : length fates ≡ length steps
   pub agreed : (p : Plain) → Agrees old.state p →
       (replies ≡ replies_of p steps)
@@ -54,3 +82,9 @@ pub record TraceValue (D : Type 0) : Type 0 where
 
 abbrev pub value_of : {D : Type 0} → Trace D → TraceValue D
 value_of t = record { state = state_value t.state; sink = t.sink }
+
+-- a run: a reply for each step; a step that was refused for want of memory did nothing, and the others are a run of the plain machine
+pub record RunsSteps {D : Type 0} (contents : D → Option Contents) (old new : Trace D) (replies : List Reply) (steps : List PlainStep) : Type 0 where
+  pub count : length replies ≡ length steps
+  pub room : OnlyRoomWanted replies steps
+  pub follows : FollowsRun contents old new (replies_done replies) (steps_done replies steps)

@@ -18,7 +18,8 @@ use Rattle.span_tracing.specs.declared.output.OutputKey.{OutputKey}
 use Rattle.span_tracing.specs.declared.output.SinkSpec.{SinkSpec}
 use Rattle.span_tracing.specs.declared.output.SinkSpec.TheVariants.{Direct}
 use Rattle.span_tracing.specs.declared.output.Output.{Output}
-use Rattle.span_tracing.specs.Skeletons.{PlainSetting, plain_time}
+use Rattle.span_tracing.specs.declared.state.Setting.{Setting}
+use Rattle.span_tracing.specs.Skeletons.{plain_time}
 
 -- the output has these parts, and the one sink
 pub record MadeOf {D : Type 0} (filter : ℕ) (format : LineFormat) (sinks : List (SinkSpec D)) (key : OutputKey) (output : Output D) : Type 0 where
@@ -46,9 +47,9 @@ outputs_refusal (o ∷ os) = when (is_bad_name (output_names o)) BadName
 abbrev pub stack_refusal : {D : Type 0} → List (Output D) → Moment → Option Refusal
 stack_refusal outputs moment = first (when (not (is_moment moment)) BadMoment) (outputs_refusal outputs)
 
--- the filter and the time of an output
-abbrev pub output_setting : {D : Type 0} → Output D → PlainSetting
-output_setting o = record { filter = o.filter; time = plain_time o.format.timer }
+-- what a trace keeps of an output beside its sink
+abbrev pub setting_of : {D : Type 0} → Output D → Setting
+setting_of o = record { key = o.key; filter = o.filter; format = o.format }
 
 -- the same output, but for what its folder's calls left
 pub record SameOutput {D : Type 0} (old new : Output D) : Type 0 where

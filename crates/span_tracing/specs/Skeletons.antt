@@ -4,6 +4,7 @@ use Rattle.std.specs.Option.{option_map}
 use Rattle.span_tracing_machine.specs.Skeleton.{Skeleton, PlainCallsite}
 use Rattle.span_tracing_machine.specs.State.{PlainText}
 use Rattle.span_tracing.specs.declared.callsite.Callsite.{Callsite}
+use Rattle.span_tracing.specs.declared.lane.Lane.{Lane}
 use Rattle.span_tracing.specs.declared.output.Timer.{Timer}
 use Rattle.span_tracing.specs.declared.output.Timer.TheVariants.{FixedText, Absent}
 use Rattle.span_tracing.specs.declared.state.Setting.{Setting}
@@ -70,12 +71,24 @@ plain_text t = record { id = t.id; bytes = string_bytes t.text }
 abbrev pub texts_of : TraceState → List PlainText
 texts_of t = map plain_text t.texts.items
 
+-- a lane's name and thread
+pub record PlainThread : Type 0 where
+  pub name : Option (List ℕ)
+  pub number : ℕ
+
+abbrev pub plain_thread : Lane → PlainThread
+plain_thread lane = record { name = option_map string_bytes lane.name; number = lane.thread_id }
+
+abbrev pub threads_of : TraceState → List PlainThread
+threads_of t = map plain_thread t.lanes.items
+
 -- the state as a value: without capacities
 pub record StateValue : Type 0 where
   pub skeleton : Skeleton
-  pub setting : Option PlainSetting
+  pub threads : List PlainThread
+  pub output : Option Setting
   pub texts : List PlainText
   pub starved : ℕ
 
 abbrev pub state_value : TraceState → StateValue
-state_value t = record { skeleton = skeleton_of t; setting = setting_of t; texts = texts_of t; starved = t.starved }
+state_value t = record { skeleton = skeleton_of t; threads = threads_of t; output = t.setting; texts = texts_of t; starved = t.starved }

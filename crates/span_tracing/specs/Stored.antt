@@ -16,7 +16,7 @@ use Rattle.span_tracing_machine.specs.Machine.{refusal_of, acted, after, or_same
 use Rattle.span_tracing_machine.specs.Missed.{TextOf, given_by, wanted, wants_of, starved_by, count_missed}
 use Rattle.span_tracing_machine.specs.State.{PlainText, fields_of, step_mask}
 use Rattle.span_tracing.specs.declared.state.TraceState.{TraceState}
-use Rattle.span_tracing.specs.Skeletons.{skeleton_of, setting_of, texts_of, filter_in}
+use Rattle.span_tracing.specs.Skeletons.{skeleton_of, threads_of, setting_of, texts_of, filter_in}
 
 -- the mask of a step
 abbrev pub mask_in : TraceState → PlainStep → Mask
@@ -46,14 +46,16 @@ texts_acted s texts (CloseStep call) mask fate = texts_left call.span (acted s (
 -- a step that is not refused, whose one text or line met this fate
 pub record Acted (old new : TraceState) (step : PlainStep) (fate : Fate) : Type 0 where
   pub skeleton : skeleton_of new ≡ acted (skeleton_of old) step (mask_in old step)
-  pub setting : setting_of new ≡ setting_of old
+  pub setting : new.setting ≡ old.setting
+  pub threads : threads_of new ≡ threads_of old
   pub texts : texts_of new ≡ texts_acted (skeleton_of old) (texts_of old) step (mask_in old step) fate
   pub starved : new.starved ≡ starved_by old.starved (count_missed (fate ∷ []) (wanted (skeleton_of old) step (mask_in old step)))
 
 -- any step
 pub record Stepped (old new : TraceState) (step : PlainStep) (fate : Fate) : Type 0 where
   pub skeleton : skeleton_of new ≡ after (skeleton_of old) step (mask_in old step)
-  pub setting : setting_of new ≡ setting_of old
+  pub setting : new.setting ≡ old.setting
+  pub threads : threads_of new ≡ threads_of old
   pub texts : texts_of new ≡ or_same (refusal_of (skeleton_of old) step (mask_in old step)) (texts_of old) (texts_acted (skeleton_of old) (texts_of old) step (mask_in old step) fate)
   pub starved : new.starved ≡ starved_by old.starved (count_missed (fate ∷ []) (wants_of (skeleton_of old) step (mask_in old step)))
 

@@ -26,3 +26,6 @@ pub use tracing_appender_rolling::{
     Builder, FileEntry, FileNumber, Folder, FolderError, FolderFault, MemoryFolder, Moment,
     Rotation,
 };
+
+#[cfg(test)]
+mod tests;

@@ -1,7 +1,6 @@
 //! Steps of a trace, one at a time and in runs.
 
 ghost use Rattle.std.specs.Prelude.{◌≡◌, ◌≢◌, [], ◌∷◌, OnErr, IfOk, true, ◌<◌, length, pos};
-ghost use Rattle.std.specs.List.{AllByRecursion};
 ghost use Rattle.tracing_appender_rolling.specs.Moments.{is_moment};
 ghost use Rattle.tracing_appender_rolling.specs.Sinks.{PlainSink};
 ghost use Rattle.tracing_appender_rolling.specs.Appenders.{AgreesSink};
@@ -68,7 +67,7 @@ fn write_if_open<D: Folder>(
 }
 
 impl<D: Folder> Trace<D> {
-    ghost use Rattle.span_tracing.specs.Agreement.{FollowsStep, FollowsRun, value_of};
+    ghost use Rattle.span_tracing.specs.Agreement.{FollowsStep, RunsSteps, steps_done, value_of};
     ghost use Rattle.span_tracing.specs.Headline.{HoldsOffered, NothingStarved};
 
     /// Hands an event's line over.
@@ -166,25 +165,23 @@ impl<D: Folder> Trace<D> {
         self.act(&action_of(step))
     }
 
-    /// Steps in order, with a reply to each.
+    /// Steps in order, with a reply to each. A step that is refused for want of memory does nothing, and the others run.
     ///
     /// # Errors
     ///
     /// Want of memory for the replies, whose room is made first: then nothing was done.
     pub fn run(&mut self, steps: &[Step]) -> Result<Vec<Reply>, AllocError>
-        ensures run { IfOk result (λ replies. AllByRecursion (λ reply. reply ≢ Reply.Refused Refusal.OutOfMemory) replies.items →
-            FollowsRun D.contents self.old self.new replies.items (plain_steps steps.now)) }
-        ensures files { IfOk result (λ replies. AllByRecursion (λ reply. reply ≢ Reply.Refused Refusal.OutOfMemory) replies.items →
-            NothingStarved self.old self.new → HoldsOffered D.contents self.old self.new (plain_steps steps.now)) }
+        ensures run { IfOk result (λ replies. RunsSteps D.contents self.old self.new replies.items (plain_steps steps.now)) }
+        ensures files { IfOk result (λ replies. NothingStarved self.old self.new →
+            HoldsOffered D.contents self.old self.new (steps_done replies.items (plain_steps steps.now))) }
         ensures err { OnErr result (self.new ≡ self.old) }
     {
         self.run_all(steps)
     }
 
-    /// Steps in order, with a reply to each.
+    // The clause on files follows from this one, once for all paths.
     fn run_all(&mut self, steps: &[Step]) -> Result<Vec<Reply>, AllocError>
-        ensures run { IfOk result (λ replies. AllByRecursion (λ reply. reply ≢ Reply.Refused Refusal.OutOfMemory) replies.items →
-            FollowsRun D.contents self.old self.new replies.items (plain_steps steps.now)) }
+        ensures run { IfOk result (λ replies. RunsSteps D.contents self.old self.new replies.items (plain_steps steps.now)) }
         ensures err { OnErr result (self.new ≡ self.old) }
     {
         let mut replies = Vec::with_capacity(self.state.alloc, steps.len())?;

@@ -1,6 +1,6 @@
 //! Setup calls, which are no steps.
 
-ghost use Rattle.std.specs.Prelude.{◌≡◌, ◌≢◌, ◌≤◌, ◌<◌, ◌⊎◌, ◌↔◌, ◌++◌, ◌∷◌, [], ℕ, List, map, true, false, is_some, IsTrue, IsSome, IsErr, Option, Some, None, Ok, Err, OnOk, OnErr, IfOk, IfErr, IfSome, vec_len, string_bytes};
+ghost use Rattle.std.specs.Prelude.{◌≡◌, ◌≢◌, ◌≤◌, ◌<◌, ◌⊎◌, ◌↔◌, ◌++◌, ◌∷◌, [], ℕ, List, map, true, false, is_some, IsTrue, IsSome, IsErr, Option, Some, None, Ok, Err, OnOk, OnErr, IfOk, IfErr, IfSome, option_and_then, vec_len, string_bytes};
 ghost use Rattle.std.specs.Option.{option_map, option_copied};
 ghost use Rattle.tracing_core.specs.Metadata.{plain_metadata};
 ghost use Rattle.tracing_appender_rolling.specs.Moments.{is_moment};
@@ -8,7 +8,7 @@ ghost use Rattle.tracing_appender_rolling.specs.Contents.{Contents, bytes_at};
 ghost use Rattle.tracing_appender_rolling.specs.Appenders.{MayOpen};
 ghost use Rattle.tracing_appender_rolling.specs.Sinks.{file_text};
 ghost use Rattle.span_tracing_machine.specs.State.{Plain, PlainOutput, new_plain, with_lane, with_stack, register_refusal, registered};
-ghost use Rattle.span_tracing.specs.Skeletons.{skeleton_of, state_value};
+ghost use Rattle.span_tracing.specs.Skeletons.{skeleton_of, threads_of, state_value};
 ghost use Rattle.span_tracing.specs.Stored.{AgreesOption};
 ghost use Rattle.span_tracing.specs.Outputs.{outputs_refusal, refusal_by};
 
@@ -61,7 +61,8 @@ fn outputs_refusal<D>(outputs: &[Output<D>]) -> Option<Refusal>
 
 impl<D: Folder> Trace<D> {
     ghost use Rattle.span_tracing.specs.Agreement.{Agrees, AgreesFiles, value_of};
-    ghost use Rattle.span_tracing.specs.Outputs.{plain_output, output_names, output_setting, stack_refusal, IsOpeningRefusal, HandsOutputsBack};
+    ghost use Rattle.span_tracing.specs.Headline.{folder_of};
+    ghost use Rattle.span_tracing.specs.Outputs.{plain_output, output_names, setting_of, stack_refusal, IsOpeningRefusal, HandsOutputsBack};
 
     /// A trace with no stack, no lane and no callsite.
     pub fn new(alloc: Global) -> Trace<D>
@@ -133,7 +134,9 @@ impl<D: Folder> Trace<D> {
     pub fn thread(&mut self, name: Option<&str>, thread_id: u64) -> Result<usize, AllocError>
         ensures number { IfOk result (λ lane. lane ≡ vec_len self.old.state.lanes) }
         ensures ok { OnOk result ((p : Plain) → Agrees self.old.state p → Agrees self.new.state (with_lane p)) }
-        ensures files { (p : Plain) → AgreesFiles D.contents self.old p → AgreesFiles D.contents self.new (with_lane p) }
+        ensures thread { OnOk result (threads_of self.new.state ≡ threads_of self.old.state ++ (record { name = option_copied name.entry; number = thread_id }) ∷ []) }
+        ensures sink { self.new.sink ≡ self.old.sink }
+        ensures starved { self.new.state.starved ≡ self.old.state.starved }
         ensures err { OnErr result (value_of self.new ≡ value_of self.old) }
     {
         let name = match name {
@@ -158,6 +161,9 @@ impl<D: Folder> Trace<D> {
         requires one { vec_len outputs ≤ 1 }
         ensures refused { (refusal : Refusal) → stack_refusal outputs.items moment ≡ Some refusal → result ≡ Err (record { refusal = refusal; outputs = outputs }) }
         ensures handle { IfOk result (λ handle. handle ≡ 0) }
+        ensures moment { OnOk result (is_moment moment ≡ true) }
+        ensures starved { self.new.state.starved ≡ self.old.state.starved }
+        ensures kept { OnOk result ((output : Output D) → outputs.items ≡ output ∷ [] → self.new.state.setting ≡ Some (setting_of output)) }
         ensures ok { OnOk result ((output : Output D) → outputs.items ≡ output ∷ [] → (p : Plain) → Agrees self.old.state p →
             Agrees self.new.state (with_stack p (plain_output D.contents output moment))) }
         ensures files { OnOk result ((output : Output D) → outputs.items ≡ output ∷ [] → MayOpen (D.contents output.folder) (output_names output) → (p : Plain) →
@@ -195,7 +201,7 @@ impl<D: Folder> Trace<D> {
     /// Opens an output's file, and takes the output.
     fn open(&mut self, output: Output<D>, moment: Moment) -> Result<(), OutputBack<D>>
         requires { is_moment moment ≡ true }
-        ensures ok { OnOk result (state_value self.new.state ≡ record (state_value self.old.state) { skeleton = record (skeleton_of self.old.state) { has_stack = true }; setting = Some (output_setting output) }) }
+        ensures ok { OnOk result (state_value self.new.state ≡ record (state_value self.old.state) { skeleton = record (skeleton_of self.old.state) { has_stack = true }; output = Some (setting_of output) }) }
         ensures files { OnOk result (MayOpen (D.contents output.folder) (output_names output) →
             AgreesOption D.contents self.new.sink (Some (plain_output D.contents output moment).sink)) }
         ensures err { OnErr result (self.new ≡ self.old) }
@@ -237,6 +243,7 @@ impl<D: Folder> Trace<D> {
     /// The folder of a sink: sinks are numbered from 0.
     pub fn folder(&self, sink: usize) -> Option<&D>
         ensures there { IsSome result ↔ ((sink ≡ 0) × IsSome self.now.sink) }
+        ensures same { sink ≡ 0 → option_and_then (λ folder. D.contents folder) (option_copied result) ≡ folder_of D.contents self.now.sink }
         ensures files { IfSome result (λ folder. (p : Plain) (o : PlainOutput) (c : Contents) → AgreesFiles D.contents self.now p → p.output ≡ Some o →
             D.contents folder.now ≡ Some c → (name : List ℕ) → bytes_at c.files name ≡ file_text o.sink name) }
     {

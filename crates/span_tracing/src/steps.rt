@@ -11,7 +11,7 @@ ghost use Rattle.span_tracing_machine.specs.Missed.{given_by, starved_by};
 ghost use Rattle.span_tracing_machine.specs.State.{fields_of, callsite_named};
 ghost use Rattle.span_tracing.specs.Actions.{plain_request};
 ghost use Rattle.span_tracing.specs.Lanes.{plain_lanes};
-ghost use Rattle.span_tracing.specs.Skeletons.{plain_callsite, skeleton_of, setting_of, texts_of, plain_text, state_value, next_number};
+ghost use Rattle.span_tracing.specs.Skeletons.{plain_callsite, plain_thread, skeleton_of, threads_of, texts_of, plain_text, state_value, next_number};
 ghost use Rattle.span_tracing.specs.Stored.{Acted, open_texts, mask_in, count_by};
 
 use crate::action::Request;
@@ -43,7 +43,7 @@ impl TraceState {
     /// Counts a text or line that found no memory.
     pub(crate) fn count(&mut self, fate: Fate)
         ensures starved { self.new.starved ≡ count_by self.old.starved fate }
-        ensures kept { (skeleton_of self.new ≡ skeleton_of self.old) × (texts_of self.new ≡ texts_of self.old) × (setting_of self.new ≡ setting_of self.old) }
+        ensures kept { (skeleton_of self.new ≡ skeleton_of self.old) × (texts_of self.new ≡ texts_of self.old) × (self.new.setting ≡ self.old.setting) × (threads_of self.new ≡ threads_of self.old) }
     {
         match fate {
             Fate::Whole => {}
@@ -54,7 +54,7 @@ impl TraceState {
 
     fn count_one(&mut self)
         ensures starved { self.new.starved ≡ starved_by self.old.starved 1 }
-        ensures kept { (skeleton_of self.new ≡ skeleton_of self.old) × (texts_of self.new ≡ texts_of self.old) × (setting_of self.new ≡ setting_of self.old) }
+        ensures kept { (skeleton_of self.new ≡ skeleton_of self.old) × (texts_of self.new ≡ texts_of self.old) × (self.new.setting ≡ self.old.setting) × (threads_of self.new ≡ threads_of self.old) }
     {
         if self.starved < usize::MAX {
             self.starved += 1;
@@ -98,7 +98,7 @@ impl TraceState {
         requires { (0 < span.id) × (span.id ≤ 18446744073709551615) }
         ensures skeleton { OnOk result (skeleton_of self.new ≡ record (skeleton_of self.old) { spans = self.old.spans.items ++ span ∷ []; next_id = span.id + 1 }) }
         ensures texts { OnOk result (texts_of self.new ≡ texts_of self.old ++ (record { id = span.id; bytes = string_bytes text }) ∷ []) }
-        ensures kept { (setting_of self.new ≡ setting_of self.old) × (self.new.starved ≡ self.old.starved) }
+        ensures kept { (self.new.setting ≡ self.old.setting) × (threads_of self.new ≡ threads_of self.old) × (self.new.starved ≡ self.old.starved) }
         ensures err { OnErr result (state_value self.new ≡ state_value self.old) }
     {
         self.spans.push(span)?;
@@ -174,13 +174,17 @@ impl TraceState {
     }
 
     /// Adds a lane.
+    #[tactic(auto, using(crate::proofs::Lists::map_more))]
     pub(crate) fn add_lane(
         &mut self,
         name: Option<String>,
         thread_id: u64,
     ) -> Result<usize, AllocError>
         ensures number { IfOk result (λ lane. lane ≡ vec_len self.old.lanes) }
-        ensures ok { OnOk result (state_value self.new ≡ record (state_value self.old) { skeleton = record (skeleton_of self.old) { lanes = plain_lanes self.old.lanes.items ++ [] ∷ [] } }) }
+        ensures ok { OnOk result (state_value self.new ≡ record (state_value self.old) {
+          skeleton = record (skeleton_of self.old) { lanes = plain_lanes self.old.lanes.items ++ [] ∷ [] };
+          threads = threads_of self.old ++ (record { name = option_map string_bytes name; number = thread_id }) ∷ [];
+        }) }
         ensures err { OnErr result (state_value self.new ≡ state_value self.old) }
     {
         let number = self.lanes.len();
@@ -217,7 +221,7 @@ impl TraceState {
     fn sweep(&mut self)
         ensures skeleton { skeleton_of self.new ≡ swept (skeleton_of self.old) }
         ensures texts { texts_of self.new ≡ open_texts (swept (skeleton_of self.old)).spans (texts_of self.old) }
-        ensures kept { (setting_of self.new ≡ setting_of self.old) × (self.new.starved ≡ self.old.starved) }
+        ensures kept { (self.new.setting ≡ self.old.setting) × (threads_of self.new ≡ threads_of self.old) × (self.new.starved ≡ self.old.starved) }
     {
         drop_closed(&mut self.spans, self.lanes.as_slice());
         drop_texts(&mut self.texts, self.spans.as_slice());
@@ -272,6 +276,7 @@ fn id_after(id: u64) -> Option<Id>
 
 #[tactic(auto, using(crate::proofs::Lists::map_set, crate::proofs::Lists::slice_get_map))]
 fn push_entry(lanes: &mut Vec<Lane>, lane: usize, id: u64) -> Result<(), AllocError>
+    ensures threads { map plain_thread lanes.new.items ≡ map plain_thread lanes.old.items }
     ensures err { OnErr result (plain_lanes lanes.new.items ≡ plain_lanes lanes.old.items) }
     ensures ok { OnOk result (plain_lanes lanes.new.items
         ≡ slice_set (plain_lanes lanes.old.items) lane (lane_at (plain_lanes lanes.old.items) lane ++ id ∷ [])) }
@@ -286,7 +291,8 @@ fn push_entry(lanes: &mut Vec<Lane>, lane: usize, id: u64) -> Result<(), AllocEr
 
 #[tactic(auto, using(crate::proofs::Lists::map_set, crate::proofs::Lists::slice_get_map))]
 fn drop_entry(lanes: &mut Vec<Lane>, lane: usize, id: u64)
-    ensures { plain_lanes lanes.new.items
+    ensures threads { map plain_thread lanes.new.items ≡ map plain_thread lanes.old.items }
+    ensures lanes { plain_lanes lanes.new.items
         ≡ slice_set (plain_lanes lanes.old.items) lane (without_last id (lane_at (plain_lanes lanes.old.items) lane)) }
 {
     if lane >= lanes.len() {

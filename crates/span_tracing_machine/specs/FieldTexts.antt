@@ -1,5 +1,5 @@
 -- The texts of fields, by their pieces.
-use Rattle.std.specs.Prelude.{ℕ, List, [], ◌∷◌, ◌++◌, Bool, true, false, ◌||◌, ◌&&◌, ◌==◌, nat_eq, nat_lt, nat_le, if◌then◌else◌, Option, Some, None, option_and_then, codes, encode_utf8, slice_get, drop}
+use Rattle.std.specs.Prelude.{ℕ, List, [], ◌++◌, Bool, true, false, ◌||◌, ◌&&◌, ◌==◌, nat_eq, nat_lt, nat_le, if◌then◌else◌, Option, Some, None, option_and_then, codes, encode_utf8, slice_get, drop}
 use Rattle.std.specs.List.{flat_map, filter_map, join_by, starts_with}
 use Rattle.std.specs.Fmt.{signed_decimal, digits}
 use Rattle.std.specs.Str.{chars, bytes_eq}
@@ -12,18 +12,18 @@ is_control c = nat_lt c 32 || (nat_le 127 c && nat_le c 159)
 -- how a character stands between quotes
 unfoldable pub debug_char : ℕ → List ℕ
 debug_char c =
-    if c == 34 then 92 ∷ 34 ∷ []
-    else (if c == 92 then 92 ∷ 92 ∷ []
-    else (if c == 10 then 92 ∷ 110 ∷ []
-    else (if c == 13 then 92 ∷ 114 ∷ []
-    else (if c == 9 then 92 ∷ 116 ∷ []
-    else (if c == 0 then 92 ∷ 48 ∷ []
-    else (if is_control c then 92 ∷ 117 ∷ 123 ∷ digits 16 false c ++ 125 ∷ []
+    if c == 34 then codes "\\\""
+    else (if c == 92 then codes "\\\\"
+    else (if c == 10 then codes "\\n"
+    else (if c == 13 then codes "\\r"
+    else (if c == 9 then codes "\\t"
+    else (if c == 0 then codes "\\0"
+    else (if is_control c then codes "\\u{" ++ (digits 16 false c ++ codes "}")
     else encode_utf8 c))))))
 
 -- a text between quotes
 unfoldable pub quoted : List ℕ → List ℕ
-quoted bytes = 34 ∷ flat_map debug_char (chars bytes) ++ 34 ∷ []
+quoted bytes = codes "\"" ++ flat_map debug_char (chars bytes) ++ codes "\""
 
 abbrev pub is_message : List ℕ → Bool
 is_message name = bytes_eq name (codes "message")
@@ -34,7 +34,7 @@ plain_name name = if starts_with nat_eq name (codes "r#") then drop 2 name else 
 
 -- what stands before a field's value
 abbrev pub label : List ℕ → List ℕ
-label name = if is_message name then [] else plain_name name ++ 61 ∷ []
+label name = if is_message name then [] else plain_name name ++ codes "="
 
 -- how a character stands in a message: those that steer a terminal are written out
 unfoldable pub sanitized_char : ℕ → List ℕ
@@ -44,7 +44,7 @@ sanitized_char c =
     else (if c == 8 then codes "\\x08"
     else (if c == 12 then codes "\\x0c"
     else (if c == 127 then codes "\\x7f"
-    else (if nat_le 128 c && nat_le c 159 then 92 ∷ 117 ∷ 123 ∷ digits 16 false c ++ 125 ∷ []
+    else (if nat_le 128 c && nat_le c 159 then codes "\\u{" ++ (digits 16 false c ++ codes "}")
     else encode_utf8 c)))))
 
 -- a text with such characters written out
@@ -69,8 +69,8 @@ given_piece names given = option_and_then (λ name. value_piece name given.value
 abbrev pub further : Bool → Option (List ℕ) → List ℕ
 further is_first None = []
 further true (Some piece) = piece
-further false (Some piece) = 32 ∷ piece
+further false (Some piece) = codes " " ++ piece
 
 -- the text of a list of values, with one space between two pieces
 unfoldable pub fields_text : List (List ℕ) → List Given → List ℕ
-fields_text names list = join_by (λ piece. piece) (32 ∷ []) (filter_map (given_piece names) list)
+fields_text names list = join_by (λ piece. piece) (codes " ") (filter_map (given_piece names) list)

@@ -10,6 +10,7 @@ use Rattle.span_tracing_machine.specs.declared.call.Reply.TheVariants.{Done, Spa
 use Rattle.span_tracing_machine.specs.declared.refusal.Refusal.TheVariants.{UnknownSpan, BadMoment}
 use Rattle.span_tracing_machine.specs.declared.call.SpanCall.{SpanCall}
 use Rattle.span_tracing_machine.specs.PlainData.{Number, Text, PlainStep, GlobalStep, EventStep, SpanStep, EnterStep, ExitStep, CloseStep}
+use Rattle.span_tracing_machine.specs.Lines.{line_end}
 use Rattle.span_tracing_machine.specs.Skeleton.{PlainCallsite}
 use Rattle.span_tracing_machine.specs.Missed.{Missed, Unwritten}
 use Rattle.span_tracing_machine.specs.State.{Plain, PlainOutput, new_plain, with_stack, with_callsite, with_lane, plain_run, replies_of}
@@ -49,9 +50,6 @@ base = base_over (λ _. None)
 abbrev pub the_name : List ℕ
 the_name = codes "my_prefix.2025-02-17.log"
 
-abbrev pub line_end : List ℕ
-line_end = 10 ∷ []
-
 -- what the output's sink has under a name
 abbrev pub file_in : Plain → List ℕ → Option (Option (List ℕ))
 file_in p name = option_map (λ (o : PlainOutput). file_text o.sink name) p.output
@@ -75,10 +73,11 @@ StoredRunReplies = replies_of base stored_run ≡ (Done ∷ Span (Some (record {
 abbrev pub StoredRunFile : Type 0
 StoredRunFile = file_in (plain_run base stored_run []) the_name ≡ Some (Some (codes "fake time outer{x=42}: app: hi n=3" ++ line_end))
 
--- the file held a line when it was opened
+-- an event of the message m alone
 abbrev pub m_event : PlainStep
 m_event = EventStep (record { lane = 0; moment = at_ten; callsite = 2; parent = Contextual; values = (record { field = 0; value = Text (codes "m") }) ∷ [] })
 
+-- the same start over a folder whose file held a line when it was opened
 abbrev pub base_with_old : Plain
 base_with_old = base_over (λ name. if bytes_eq the_name name then Some (codes "old" ++ line_end) else None)
 

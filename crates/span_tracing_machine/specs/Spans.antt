@@ -43,7 +43,7 @@ is_parent id (Some p) = p == id
 abbrev pub has_child : List SpanRecord → ℕ → Bool
 has_child spans id = list_any (λ s. is_parent id s.parent) spans
 
--- the first entry of an id on a lane is no duplicate
+-- a span is entered where some lane has an entry of its id
 abbrev pub is_entered : List (List ℕ) → ℕ → Bool
 is_entered lanes id = list_any (λ lane. is_member lane id) lanes
 

@@ -4,11 +4,18 @@ ghost use Rattle.std.specs.Prelude.{◌≡◌, None, string_bytes};
 ghost use Rattle.std.specs.Option.{option_map};
 ghost use Rattle.tracing_appender_rolling.specs.Names.{text_or_none, has_bad_byte};
 
+#[derive(Clone, Copy, Debug, PartialEq, Eq)]
+enum RotationKind {
+    Daily,
+}
+
 /// How often a sink's file changes.
 #[derive(Clone, Copy, Debug, PartialEq, Eq)]
-pub enum Rotation {
+pub struct Rotation(RotationKind);
+
+impl Rotation {
     /// Each day in UTC.
-    Daily,
+    pub const DAILY: Rotation = Rotation(RotationKind::Daily);
 }
 
 /// The names of a sink's files, and when they change.

@@ -81,7 +81,7 @@ fn builder(alloc: Global, prefix: &str, suffix: &str) -> Result<Builder, AllocEr
     let prefix = String::from_str(alloc, prefix)?;
     let suffix = String::from_str(alloc, suffix)?;
     Ok(
-        Builder::new(Rotation::Daily)
+        Builder::new(Rotation::DAILY)
             .filename_prefix(prefix)
             .filename_suffix(suffix),
     )

@@ -5,7 +5,7 @@ ghost use Rattle.std.specs.Int.NonZero.{non_zero_u64_get};
 use std::marker::Model;
 use std::num::NonZeroU64;
 
-/// Names a span, within the collector that gave the id.
+/// Names a span, within the subscriber that gave the id.
 ///
 /// A contract sees an id as its number, which is not 0.
 #[derive(Clone, Copy, Debug, PartialEq, Eq, Hash)]

@@ -1,11 +1,8 @@
-use Rattle.std.proofs.Common.{◌≢◌, Vec}
+use Rattle.std.proofs.Common.{Vec}
 use Rattle.std.specs.Global.{Global}
-use Rattle.std.specs.List.{AllByRecursion}
 use Rattle.span_tracing_machine.specs.declared.call.Reply.{Reply}
-use Rattle.span_tracing_machine.specs.declared.call.Reply.TheVariants.{Refused}
-use Rattle.span_tracing_machine.specs.declared.refusal.Refusal.TheVariants.{OutOfMemory}
 use Rattle.span_tracing_machine.specs.PlainData.{plain_steps}
-use Rattle.span_tracing.specs.Agreement.{FollowsRun}
+use Rattle.span_tracing.specs.Agreement.{RunsSteps, replies_done, steps_done}
 use Rattle.span_tracing.specs.Headline.{HoldsOffered, NothingStarved}
 use Rattle.span_tracing.proofs.Holding.{holds, ok_then}
 use Rattle.span_tracing.proofs.trace.Trace.run.Goals as goal
@@ -17,7 +14,7 @@ returns-clause-files g c =
     let new = c.run_all.new.self in
     let steps = plain_steps c.args.steps.now in
     ok_then
-    (λ (replies : Vec Reply Global). AllByRecursion (λ (reply : Reply). reply ≢ Refused OutOfMemory) replies.items → FollowsRun contents old new replies.items steps)
-    (λ (replies : Vec Reply Global). AllByRecursion (λ (reply : Reply). reply ≢ Refused OutOfMemory) replies.items → NothingStarved old new → HoldsOffered contents old new steps)
-    (λ replies follows fine starved. holds contents old new replies.items steps (follows fine) starved)
+    (λ (replies : Vec Reply Global). RunsSteps contents old new replies.items steps)
+    (λ (replies : Vec Reply Global). NothingStarved old new → HoldsOffered contents old new (steps_done replies.items steps))
+    (λ replies runs starved. holds contents old new (replies_done replies.items) (steps_done replies.items steps) runs.follows starved)
     c.run_all.result c.run_all.ensures.run

@@ -1,9 +1,7 @@
-use Rattle.std.proofs.Common.{arith, ◌≢◌, take}
-use Rattle.span_tracing_machine.specs.declared.call.Reply.{Reply}
-use Rattle.span_tracing_machine.specs.declared.call.Reply.TheVariants.{Refused}
+use Rattle.std.proofs.Common.{arith, take}
 use Rattle.span_tracing_machine.specs.declared.refusal.Refusal.TheVariants.{OutOfMemory}
 use Rattle.span_tracing_machine.specs.PlainData.{plain_step, plain_steps}
-use Rattle.span_tracing.proofs.Runs.{follows_more, take_step, all_split}
+use Rattle.span_tracing.proofs.Runs.{runs_more, runs_none, take_step}
 use Rattle.span_tracing.proofs.trace.Trace.run_all.Goals as goal
 
 pub loop-step-preserved : goal.loop-step-preserved
@@ -13,7 +11,12 @@ loop-step-preserved g c =
     record {
       room = omega (arith, c.push_reserved.ensures.capacity);
       count = omega (arith, c.push_reserved.ensures.len);
-      followed = λ fine.
-          let each = all_split (λ (r : Reply). r ≢ Refused OutOfMemory) c.loop-step.replies.items c.step.result (rw c.push_reserved.ensures.items at fine) in
-          rw (c.push_reserved.ensures.items, more) (follows_more g.D.Folder.contents c.args.self.now c.loop-step.self c.step.new.self c.loop-step.replies.items c.step.result (plain_steps (take c.loop-step.step-index steps)) (plain_step c.step-item.result) (c.loop-step.invariant.followed each.0) (c.step.ensures.follows each.1));
+      followed = rw (c.push_reserved.ensures.items, more) (runs_more g.D.Folder.contents c.args.self.now c.loop-step.self c.step.new.self c.loop-step.replies.items c.step.result (plain_steps (take c.loop-step.step-index steps)) (plain_step c.step-item.result) c.loop-step.invariant.followed c.step.ensures.follows (λ e. c.step.ensures.refused OutOfMemory e) c.step.ensures.memory);
     }
+
+pub loop-step-init : goal.loop-step-init
+loop-step-init g c = record {
+  room = c.in_ok-replies.ensures.capacity;
+  count = c.in_ok-replies.ensures.len;
+  followed = rw (c.in_ok-replies.ensures.items) (runs_none g.D.Folder.contents c.args.self.now);
+}

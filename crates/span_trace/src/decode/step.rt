@@ -1,0 +1,145 @@
+//! Step lines.
+
+use crate::decode::members::{Members, owned_text, pair};
+use crate::decode::setup::{CallsiteLine, Setup};
+use crate::fault::LineFault;
+use serde_json::Value as Json;
+use span_tracing::{EventCall, FieldValue, NewSpanCall, Parent, SpanCall, SpanName, Step, Value};
+use std::alloc::Global;
+use tracing_core::{Id, Identifier};
+
+/// The step of that name.
+pub(crate) fn step_line(
+    alloc: Global,
+    setup: &[Setup],
+    name: &str,
+    members: Members<'_>,
+) -> Result<Step, LineFault> {
+    match name {
+        "set_global_default" => {
+            members.only(&["do", "handle"])?;
+            Ok(Step::SetGlobalDefault(members.size("handle")?))
+        }
+        "event" => Ok(Step::Event(event_call(alloc, setup, members)?)),
+        "new_span" => Ok(Step::NewSpan(new_span_call(alloc, setup, members)?)),
+        "enter" => Ok(Step::Enter(span_call(members)?)),
+        "exit" => Ok(Step::Exit(span_call(members)?)),
+        "try_close" => Ok(Step::TryClose(span_call(members)?)),
+        _ => Err(LineFault::NotReadable),
+    }
+}
+
+const REQUEST_KEYS: [&str; 6] = ["do", "lane", "moment", "callsite", "parent", "values"];
+
+fn event_call(
+    alloc: Global,
+    setup: &[Setup],
+    members: Members<'_>,
+) -> Result<EventCall, LineFault> {
+    members.only(&REQUEST_KEYS)?;
+    let id = members.number("callsite")?;
+    Ok(EventCall {
+        lane: members.size("lane")?,
+        moment: members.moment()?,
+        callsite: Identifier(id),
+        parent: parent_of(members)?,
+        values: field_values(alloc, first_callsite(setup, id), members.list("values")?)?,
+    })
+}
+
+fn new_span_call(
+    alloc: Global,
+    setup: &[Setup],
+    members: Members<'_>,
+) -> Result<NewSpanCall, LineFault> {
+    members.only(&REQUEST_KEYS)?;
+    let id = members.number("callsite")?;
+    Ok(NewSpanCall {
+        lane: members.size("lane")?,
+        moment: members.moment()?,
+        callsite: Identifier(id),
+        parent: parent_of(members)?,
+        values: field_values(alloc, first_callsite(setup, id), members.list("values")?)?,
+    })
+}
+
+fn span_call(members: Members<'_>) -> Result<SpanCall, LineFault> {
+    members.only(&["do", "lane", "moment", "span"])?;
+    let value = members.get("span")?;
+    Ok(SpanCall {
+        lane: members.size("lane")?,
+        moment: members.moment()?,
+        span: if value.is_null() {
+            None
+        } else {
+            Some(span_name(value)?)
+        },
+    })
+}
+
+/// A stack's number and a span's id in it, which is not 0.
+fn span_name(value: &Json) -> Result<SpanName, LineFault> {
+    let (first, second) = pair(value)?;
+    let stack = first.as_u64().ok_or(LineFault::NotReadable)? as usize;
+    let number = second.as_u64().ok_or(LineFault::NotReadable)?;
+    let id = Id::from_u64(number).ok_or(LineFault::NotReadable)?;
+    Ok(SpanName { stack, id })
+}
+
+fn parent_of(members: Members<'_>) -> Result<Parent, LineFault> {
+    let Some(value) = members.find("parent") else {
+        return Ok(Parent::Contextual);
+    };
+    if value.as_str() == Some("root") {
+        return Ok(Parent::Root);
+    }
+    Ok(Parent::Explicit(span_name(value)?))
+}
+
+/// The first callsite of that id.
+fn first_callsite(setup: &[Setup], id: u64) -> Option<&CallsiteLine> {
+    for line in setup {
+        if let Setup::Callsite(callsite) = line
+            && callsite.id == id
+        {
+            return Some(callsite);
+        }
+    }
+    None
+}
+
+/// A list of names and values. Each name has to be that of a field of the callsite.
+fn field_values(
+    alloc: Global,
+    callsite: Option<&CallsiteLine>,
+    list: &[Json],
+) -> Result<Vec<FieldValue>, LineFault> {
+    let mut values = Vec::new(alloc);
+    for entry in list {
+        let (first, second) = pair(entry)?;
+        let name = first.as_str().ok_or(LineFault::NotReadable)?;
+        let field = field_named(callsite, name).ok_or(LineFault::NotReadable)?;
+        values.push(FieldValue {
+            field,
+            value: value_of(alloc, second)?,
+        })?;
+    }
+    Ok(values)
+}
+
+fn field_named(callsite: Option<&CallsiteLine>, name: &str) -> Option<usize> {
+    callsite?.field_index(name)
+}
+
+fn value_of(alloc: Global, value: &Json) -> Result<Value, LineFault> {
+    match value {
+        Json::Null => Ok(Value::Empty),
+        Json::String(_) => Ok(Value::Text(owned_text(alloc, value)?)),
+        Json::Number(number) => match (number.as_u64(), number.as_i64()) {
+            (Some(whole), _) => Ok(Value::U64(whole)),
+            (None, Some(whole)) => Ok(Value::I64(whole)),
+            (None, None) => Err(LineFault::NotReadable),
+        },
+        Json::Bool(_) | Json::Array(_) | Json::Object(_) => Err(LineFault::NotReadable),
+    }
+}

@@ -1,0 +1,98 @@
+//! The program over any input and outputs.
+
+ghost use Rattle.std.specs.Prelude.{◌≡◌, ◌≤◌, ◌⊎◌, false, map, string_bytes};
+ghost use Rattle.span_trace.specs.Arguments.{asks_replay};
+
+use crate::fault::Stop;
+use crate::print::{PrintFault, write_files, write_replies};
+use crate::read::Input;
+use crate::script::Script;
+use crate::setup::Stage;
+use span_tracing::{MemoryFolder, Reply, Trace};
+use std::alloc::Global;
+use std::io::{Read, Write};
+
+/// A trace whose steps have run, with the replies.
+#[derive(Drop)]
+struct Answer {
+    replies: Vec<Reply>,
+    trace: Trace<MemoryFolder>,
+    folder: Option<String>,
+}
+
+impl Answer {
+    fn has_refusal(&self) -> bool {
+        self.replies
+            .iter()
+            .any(|reply| matches!(reply, Reply::Refused(_)))
+    }
+
+    fn write<W: Write>(&self, alloc: Global, output: &mut W) -> Result<(), PrintFault> {
+        write_replies(alloc, self.replies.as_slice(), output)?;
+        if let (Some(name), Some(folder)) = (&self.folder, self.trace.folder(0)) {
+            write_files(alloc, name.as_str(), folder, output)?;
+        }
+        Ok(())
+    }
+}
+
+/// Whether the arguments are the one word `replay`.
+fn asks_replay(arguments: &[String]) -> bool
+    ensures { result ≡ asks_replay (map string_bytes arguments.now) }
+{
+    match arguments {
+        [word] => word.as_str() == "replay",
+        _ => false,
+    }
+}
+
+/// Reads the whole input, makes its setup calls, and then runs its steps.
+fn replay<R: Read>(alloc: Global, input: &mut R) -> Result<Answer, Stop> {
+    let read = Input::read(alloc, input)?;
+    let Script { setup, steps } = Script::read(alloc, &read)?;
+    let Stage { mut trace, folder } = Stage::set_up(alloc, setup)?;
+    let replies = trace.run(steps.as_slice())?;
+    Ok(Answer {
+        replies,
+        trace,
+        folder,
+    })
+}
+
+/// Runs the program on one word, `replay`, and an input of JSON lines, and gives its status.
+///
+/// 0: done. 1: a step was refused; all steps ran. 2: the arguments or a line are not readable, or a setup call was refused.
+/// 3: a folder refused a setup call. 4: there was no memory outside a step. 5: the output refused a write.
+///
+/// The output has a line for each step and then one for each file. With 2 and 3 nothing is written to it.
+pub fn main_with<R: Read, W: Write, E: Write>(
+    alloc: Global,
+    arguments: &[String],
+    input: &mut R,
+    output: &mut W,
+    errors: &mut E,
+) -> u8
+    ensures range { result ≤ 5 }
+
+    // Other arguments are refused before the input is read.
+    ensures usage { asks_replay (map string_bytes arguments.now) ≡ false → result ≡ 2 }
+    ensures unread { asks_replay (map string_bytes arguments.now) ≡ false → input.new ≡ input.old }
+
+    // Where the program refuses its input, it writes none of its output.
+    ensures quiet { (result ≡ 2) ⊎ (result ≡ 3) → output.new ≡ output.old }
+{
+    if !asks_replay(arguments) {
+        Stop::Usage.tell(errors);
+        return Stop::Usage.status();
+    }
+    match replay(alloc, input) {
+        Err(stop) => {
+            stop.tell(errors);
+            stop.status()
+        }
+        Ok(answer) => match answer.write(alloc, output) {
+            Err(fault) => fault.status(),
+            Ok(()) => u8::from(answer.has_refusal()),
+        },
+    }
+}

@@ -1,0 +1,67 @@
+//! The whole input, as setup calls and the steps after them.
+
+use crate::decode::{Line, Setup, decode_line};
+use crate::fault::{LineFault, Stop};
+use crate::read::Input;
+use span_tracing::Step;
+use std::alloc::Global;
+
+/// What an input asks for. The setup call of line N stands at place N - 1.
+#[derive(Debug, Drop)]
+pub(crate) struct Script {
+    pub(crate) setup: Vec<Setup>,
+    pub(crate) steps: Vec<Step>,
+}
+
+impl Script {
+    /// Reads all lines.
+    ///
+    /// # Errors
+    ///
+    /// The first line at fault. Where the end of the input was not seen, the line behind the whole ones is not readable.
+    pub(crate) fn read(alloc: Global, input: &Input) -> Result<Script, Stop> {
+        let mut script = Script {
+            setup: Vec::new(alloc),
+            steps: Vec::new(alloc),
+        };
+        let mut number: u64 = 0;
+        if let Some(lines) = input.whole_lines() {
+            for line in lines.split(|byte| *byte == b'\n') {
+                number = number.saturating_add(1);
+                if let Err(fault) = script.add(alloc, line) {
+                    return Err(Stop::Line { number, fault });
+                }
+            }
+        }
+        if input.is_whole() {
+            Ok(script)
+        } else {
+            Err(Stop::Line {
+                number: number.saturating_add(1),
+                fault: LineFault::NotReadable,
+            })
+        }
+    }
+
+    fn add(&mut self, alloc: Global, bytes: &[u8]) -> Result<(), LineFault> {
+        match decode_line(alloc, self.setup.as_slice(), bytes)? {
+            Line::Setup(setup) => {
+                if !self.steps.is_empty() || self.has_stack_already(&setup) {
+                    return Err(LineFault::NotReadable);
+                }
+                self.setup.push(setup)?;
+            }
+            Line::Step(step) => self.steps.push(step)?,
+        }
+        Ok(())
+    }
+
+    /// Whether the call would give a second stack.
+    fn has_stack_already(&self, setup: &Setup) -> bool {
+        matches!(setup, Setup::Stack(_))
+            && self
+                .setup
+                .iter()
+                .any(|line| matches!(line, Setup::Stack(_)))
+    }
+}

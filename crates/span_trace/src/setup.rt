@@ -1,0 +1,170 @@
+//! The setup calls of a script, made on a new trace.
+
+ghost use Rattle.std.specs.Prelude.{◌≤◌, IfOk, vec_len};
+
+use crate::decode::{CallsiteLine, LaneLine, OutputLine, Setup, SinkLine, StackLine};
+use crate::fault::{LineFault, Stop};
+use span_tracing::{
+    Builder, Fields, LineFormat, MemoryFolder, Output, OutputKey, Refusal, Rotation, Route,
+    SinkSpec, Timer, Trace,
+};
+use std::alloc::{AllocError, Global};
+use tracing_core::{FieldSet, Identifier, Metadata};
+
+/// A trace that is set up, and the name under which the files of its sink are shown.
+#[derive(Drop)]
+pub(crate) struct Stage {
+    pub(crate) trace: Trace<MemoryFolder>,
+    pub(crate) folder: Option<String>,
+}
+
+impl Stage {
+    /// Makes the calls in order.
+    ///
+    /// # Errors
+    ///
+    /// The first refused call, by its line.
+    pub(crate) fn set_up(alloc: Global, setup: Vec<Setup>) -> Result<Stage, Stop> {
+        let mut stage = Stage {
+            trace: Trace::new(alloc),
+            folder: None,
+        };
+        let mut number: u64 = 0;
+        for call in setup {
+            number = number.saturating_add(1);
+            if let Err(fault) = stage.make(alloc, call) {
+                return Err(Stop::Line { number, fault });
+            }
+        }
+        Ok(stage)
+    }
+
+    fn make(&mut self, alloc: Global, call: Setup) -> Result<(), LineFault> {
+        match call {
+            Setup::Stack(line) => self.add_stack(alloc, line),
+            Setup::Callsite(line) => self.register(alloc, &line).map_err(LineFault::Refused),
+            Setup::Lane(line) => self.add_lane(&line).map_err(LineFault::Refused),
+        }
+    }
+
+    fn add_stack(&mut self, alloc: Global, line: StackLine) -> Result<(), LineFault> {
+        let StackLine { moment, output } = line;
+        let made = match output {
+            None => None,
+            Some(output) => Some(self.make_output(alloc, output).map_err(LineFault::Refused)?),
+        };
+        let outputs = list_of(alloc, made).map_err(refused_memory)?;
+        if self.trace.has_stack() {
+            return Err(LineFault::NotReadable);
+        }
+        match self.trace.add_stack(outputs, moment) {
+            Ok(_) => Ok(()),
+            Err(refused) => Err(LineFault::Refused(refused.refusal)),
+        }
+    }
+
+    fn make_output(
+        &mut self,
+        alloc: Global,
+        line: OutputLine,
+    ) -> Result<Output<MemoryFolder>, Refusal> {
+        let OutputLine {
+            key,
+            filter,
+            route,
+            time,
+            sink,
+        } = line;
+        let timer = match time {
+            Some(text) => Timer::FixedText(text),
+            None => Timer::Absent,
+        };
+        let spec = match sink {
+            None => None,
+            Some(line) => Some(self.make_sink(alloc, line)),
+        };
+        let sinks = list_of(alloc, spec).or(Err(Refusal::OutOfMemory))?;
+        let format = LineFormat::full(timer, Fields::Default);
+        match Output::new(
+            alloc,
+            filter,
+            format,
+            Route::Sink(route),
+            sinks,
+            OutputKey(key),
+        ) {
+            Ok(output) => Ok(output),
+            Err(refused) => Err(refused.refusal),
+        }
+    }
+
+    fn make_sink(&mut self, alloc: Global, line: SinkLine) -> SinkSpec<MemoryFolder> {
+        let SinkLine {
+            folder,
+            prefix,
+            suffix,
+        } = line;
+        self.folder = Some(folder);
+        let mut builder = Builder::new(Rotation::DAILY);
+        if let Some(text) = prefix {
+            builder = builder.filename_prefix(text);
+        }
+        if let Some(text) = suffix {
+            builder = builder.filename_suffix(text);
+        }
+        SinkSpec::Direct(builder, MemoryFolder::new(alloc))
+    }
+
+    fn register(&mut self, alloc: Global, line: &CallsiteLine) -> Result<(), Refusal> {
+        let identifier = Identifier(line.id);
+        let names = names_of(alloc, line.fields.as_slice()).or(Err(Refusal::OutOfMemory))?;
+        let metadata = Metadata::new(
+            line.name.as_str(),
+            line.target.as_str(),
+            line.level,
+            text_of(&line.file),
+            line.line,
+            None,
+            FieldSet::new(names.as_slice(), identifier),
+            line.kind,
+        );
+        self.trace.register(identifier, &metadata)
+    }
+
+    fn add_lane(&mut self, line: &LaneLine) -> Result<(), Refusal> {
+        match self.trace.thread(text_of(&line.name), line.thread) {
+            Ok(_) => Ok(()),
+            Err(_) => Err(Refusal::OutOfMemory),
+        }
+    }
+}
+
+fn refused_memory(_: AllocError) -> LineFault {
+    LineFault::Refused(Refusal::OutOfMemory)
+}
+
+/// A list of the item, or an empty one.
+fn list_of<T: Drop>(alloc: Global, item: Option<T>) -> Result<Vec<T>, AllocError>
+    ensures { IfOk result (λ list. vec_len list ≤ 1) }
+{
+    let mut list = Vec::new(alloc);
+    if let Some(value) = item {
+        list.push(value)?;
+    }
+    Ok(list)
+}
+
+fn text_of(text: &Option<String>) -> Option<&str> {
+    match text {
+        None => None,
+        Some(owned) => Some(owned.as_str()),
+    }
+}
+
+fn names_of(alloc: Global, fields: &[String]) -> Result<Vec<&str>, AllocError> {
+    let mut names = Vec::new(alloc);
+    for field in fields {
+        names.push(field.as_str())?;
+    }
+    Ok(names)
+}

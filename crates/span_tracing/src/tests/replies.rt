@@ -1,0 +1,221 @@
+//! Each step once, and each refusal of a step.
+
+use super::*;
+use crate::{EventCall, NewSpanCall, Parent, SpanCall, Step};
+
+#[test]
+fn each_step_answers(rt: HostRuntime) -> Result<(), Fail> {
+    let alloc = rt.alloc();
+    let mut trace = set_trace(&rt, alloc, LevelFilter::INFO, fixed_time(alloc)?)?;
+    let reply = trace.new_span(0, OPENED, OUTER, Parent::Root, &[]);
+    let outer = made(reply)?;
+    assert_eq!(rt; outer, span_name(0, 1)?);
+    let inner = made(trace.new_span(0, OPENED, INNER, Parent::Explicit(outer), &[]))?;
+    assert_eq!(rt; inner, span_name(0, 2)?);
+    assert_eq!(rt; answered(trace.enter(0, OPENED, Some(outer)))?, Reply::Done);
+    assert_eq!(rt; answered(trace.enter(0, OPENED, None))?, Reply::Done);
+    assert_eq!(rt;
+        trace.event(0, OPENED, EVENT, Parent::Contextual, &[]),
+        Reply::Done
+    );
+    assert_eq!(rt; trace.exit(0, OPENED, Some(outer)), Reply::Done);
+    assert_eq!(rt; trace.exit(0, OPENED, None), Reply::Done);
+    assert_eq!(rt;
+        trace.try_close(0, OPENED, Some(inner)),
+        Reply::Closed(true)
+    );
+    assert_eq!(rt;
+        trace.try_close(0, OPENED, Some(outer)),
+        Reply::Closed(true)
+    );
+    assert_eq!(rt; trace.try_close(0, OPENED, None), Reply::Closed(false));
+    let last = made(trace.new_span(1, OPENED, OUTER, Parent::Contextual, &[]))?;
+    assert_eq!(rt; last, span_name(0, 3)?);
+    Ok(())
+}
+
+#[test]
+fn requests_are_refused_in_order(rt: HostRuntime) -> Result<(), Fail> {
+    let alloc = rt.alloc();
+    let folder = MemoryFolder::new(alloc);
+    let timer = fixed_time(alloc)?;
+    let mut trace = trace_over(&rt, alloc, folder, LevelFilter::INFO, timer)?;
+    let unknown = Identifier(9);
+    let foreign = Parent::Explicit(span_name(1, 1)?);
+    let closed = Parent::Explicit(span_name(0, 1)?);
+    let long_second = Moment {
+        seconds: OPENED.seconds,
+        nanoseconds: 1_000_000_000,
+    };
+    for (lane, moment, event_at, span_at, parent, refusal) in [
+        (
+            2,
+            TOO_EARLY,
+            unknown,
+            unknown,
+            foreign,
+            Refusal::UnknownLane,
+        ),
+        (1, TOO_EARLY, unknown, unknown, foreign, Refusal::BadMoment),
+        (
+            1,
+            long_second,
+            EVENT,
+            OUTER,
+            Parent::Root,
+            Refusal::BadMoment,
+        ),
+        (
+            1,
+            OPENED,
+            unknown,
+            unknown,
+            foreign,
+            Refusal::UnknownCallsite,
+        ),
+        (1, OPENED, OUTER, EVENT, foreign, Refusal::UnknownCallsite),
+        (1, OPENED, EVENT, OUTER, foreign, Refusal::UnknownStack),
+        (1, OPENED, EVENT, OUTER, closed, Refusal::ForeignParent),
+    ] {
+        let refused = Reply::Refused(refusal);
+        assert_eq!(rt; trace.event(lane, moment, event_at, parent, &[]), refused);
+        assert_eq!(rt; trace.new_span(lane, moment, span_at, parent, &[]), refused);
+    }
+    let reply = trace.event(1, OPENED, EVENT, Parent::Root, &[]);
+    assert_eq!(rt; reply, Reply::Done);
+    let reply = trace.new_span(1, OPENED, OUTER, Parent::Root, &[]);
+    assert_eq!(rt; reply, Reply::Span(None));
+    assert_eq!(rt; trace.set_global_default(0), Reply::Done);
+    let refused = Reply::Refused(Refusal::UnknownSpan);
+    assert_eq!(rt; trace.event(1, OPENED, EVENT, closed, &[]), refused);
+    assert_eq!(rt; trace.new_span(1, OPENED, OUTER, closed, &[]), refused);
+    has_file(&rt, &trace, TODAY, "")
+}
+
+#[test]
+fn calls_on_spans_are_refused_in_order(rt: HostRuntime) -> Result<(), Fail> {
+    let alloc = rt.alloc();
+    let mut trace = set_trace(&rt, alloc, LevelFilter::INFO, fixed_time(alloc)?)?;
+    let foreign = Some(span_name(1, 1)?);
+    let closed = Some(span_name(0, 1)?);
+    for (lane, moment, span, refusal) in [
+        (2, TOO_EARLY, foreign, Refusal::UnknownLane),
+        (1, TOO_EARLY, foreign, Refusal::BadMoment),
+        (1, TOO_EARLY, None, Refusal::BadMoment),
+        (1, OPENED, foreign, Refusal::UnknownStack),
+        (1, OPENED, closed, Refusal::UnknownSpan),
+    ] {
+        let refused = Reply::Refused(refusal);
+        assert_eq!(rt; trace.enter(lane, moment, span), refused);
+        assert_eq!(rt; trace.exit(lane, moment, span), refused);
+        assert_eq!(rt; trace.try_close(lane, moment, span), refused);
+    }
+    let span = made(trace.new_span(0, OPENED, OUTER, Parent::Root, &[]))?;
+    assert_eq!(rt; answered(trace.enter(0, OPENED, Some(span)))?, Reply::Done);
+    assert_eq!(rt;
+        trace.try_close(0, OPENED, Some(span)),
+        Reply::Closed(false)
+    );
+    assert_eq!(rt;
+        trace.try_close(0, OPENED, Some(span)),
+        Reply::Refused(Refusal::UnknownSpan)
+    );
+    assert_eq!(rt; trace.exit(0, OPENED, Some(span)), Reply::Done);
+    assert_eq!(rt;
+        trace.exit(0, OPENED, Some(span)),
+        Reply::Refused(Refusal::UnknownSpan)
+    );
+    Ok(())
+}
+
+#[test]
+fn the_last_id_is_given_once(rt: HostRuntime) -> Result<(), Fail> {
+    let alloc = rt.alloc();
+    let mut trace = set_trace(&rt, alloc, LevelFilter::INFO, Timer::Absent)?;
+    trace.state.next_id = Id::from_u64(u64::MAX);
+    let last = made(trace.new_span(0, OPENED, OUTER, Parent::Root, &[]))?;
+    assert_eq!(rt; last, span_name(0, u64::MAX)?);
+    let reply = trace.event(0, OPENED, EVENT, Parent::Explicit(last), &[]);
+    assert_eq!(rt; reply, Reply::Done);
+    let spent = Reply::Refused(Refusal::IdsSpent);
+    let reply = trace.new_span(0, OPENED, OUTER, Parent::Root, &[]);
+    assert_eq!(rt; reply, spent);
+    assert_eq!(rt; trace.try_close(0, OPENED, Some(last)), Reply::Closed(true));
+    let reply = trace.new_span(0, OPENED, OUTER, Parent::Root, &[]);
+    assert_eq!(rt; reply, spent);
+    has_file(&rt, &trace, TODAY, "outer: app: \n")
+}
+
+#[test]
+fn steps_are_the_calls(rt: HostRuntime) -> Result<(), Fail> {
+    let alloc = rt.alloc();
+    let folder = MemoryFolder::new(alloc);
+    let timer = fixed_time(alloc)?;
+    let mut trace = trace_over(&rt, alloc, folder, LevelFilter::INFO, timer)?;
+    assert_eq!(rt; trace.step(&Step::SetGlobalDefault(0)), Reply::Done);
+    let name = span_name(0, 1)?;
+    let call = SpanCall {
+        lane: 0,
+        moment: OPENED,
+        span: Some(name),
+    };
+    let steps = vec![in alloc;
+        Step::NewSpan(NewSpanCall {
+            lane: 0,
+            moment: OPENED,
+            callsite: OUTER,
+            parent: Parent::Contextual,
+            values: vec![in alloc; number_field(0, 42)]?,
+        }),
+        Step::Enter(call),
+        Step::Event(EventCall {
+            lane: 0,
+            moment: OPENED,
+            callsite: EVENT,
+            parent: Parent::Contextual,
+            values: vec![in alloc; text_field(alloc, 0, "hi")?, number_field(1, 3)]?,
+        }),
+        Step::SetGlobalDefault(0),
+        Step::Exit(call),
+        Step::TryClose(call),
+        Step::TryClose(call),
+    ]?;
+    let replies = trace.run(steps.as_slice())?;
+    if replies.contains(&Reply::Refused(Refusal::OutOfMemory)) {
+        return Err("want of memory".into());
+    }
+    let wanted = [
+        Reply::Span(Some(name)),
+        Reply::Done,
+        Reply::Done,
+        Reply::Refused(Refusal::GlobalSet),
+        Reply::Done,
+        Reply::Closed(true),
+        Reply::Refused(Refusal::UnknownSpan),
+    ];
+    assert_eq!(rt; replies.as_slice(), wanted.as_slice());
+    has_file(&rt, &trace, TODAY, "fake time outer{x=42}: app: hi n=3\n")
+}
+
+#[test]
+fn faults_of_a_folder_change_no_reply(rt: HostRuntime) -> Result<(), Fail> {
+    let alloc = rt.alloc();
+    let folder = FailingFolder {
+        openings: 1,
+        writes: 1,
+        failures: 0,
+    };
+    let timer = fixed_time(alloc)?;
+    let mut trace = trace_over(&rt, alloc, folder, LevelFilter::INFO, timer)?;
+    assert_eq!(rt; trace.set_global_default(0), Reply::Done);
+    for (moment, failures) in [(OPENED, 0), (OPENED, 1), (NEXT_DAY, 3), (NEXT_DAY, 4)] {
+        let reply = trace.event(0, moment, EVENT, Parent::Root, &[]);
+        assert_eq!(rt; reply, Reply::Done);
+        if trace.state.starved > 0 {
+            return Err("want of memory".into());
+        }
+        let folder = trace.folder(0).ok_or("no folder")?;
+        assert_eq!(rt; folder.failures(), failures);
+    }
+    Ok(())
+}
