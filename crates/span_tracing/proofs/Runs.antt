@@ -12,15 +12,16 @@ use Rattle.span_tracing_machine.specs.declared.refusal.Refusal.TheVariants.{Unkn
 use Rattle.span_tracing_machine.specs.declared.fate.Fate.{Fate}
 use Rattle.span_tracing_machine.specs.declared.refusal.Refusal.{Refusal}
 use Rattle.span_tracing_machine.specs.PlainData.{PlainStep, plain_step, plain_steps}
-use Rattle.span_tracing_machine.specs.Skeleton.{Skeleton}
+use Rattle.span_tracing_machine.specs.Skeleton.{Skeleton, Mask}
 use Rattle.span_tracing_machine.specs.Machine.{reply_of, refusal_of, acted, after, or_same}
 use Rattle.span_tracing_machine.specs.Missed.{first_fates, later_fates, one_more, starved_by, count_missed, wants_of}
 use Rattle.span_tracing_machine.specs.State.{Plain, PlainOutput, step_mask, mask_of, filter_of, more_handed, plain_acted, plain_after, plain_reply, plain_run, replies_of, missed_by, missed_in}
 use Rattle.span_tracing.specs.declared.trace.Trace.{Trace}
 use Rattle.tracing_appender_rolling.specs.declared.appender.RollingFileAppender.{RollingFileAppender}
-use Rattle.span_tracing.specs.Skeletons.{plain_setting}
-use Rattle.span_tracing.specs.Stored.{AgreesOption, MayWantRoom}
-use Rattle.span_tracing.specs.Agreement.{Agrees, AgreesFiles, FollowsStep, FollowsRun, TraceValue, value_of, is_memory, replies_done, steps_done, OnlyRoomWanted, RunsSteps}
+use Rattle.span_tracing.specs.Skeletons.{plain_setting, skeleton_of}
+use Rattle.span_tracing.proofs.Agreeing.{mask_same}
+use Rattle.span_tracing.specs.Stored.{AgreesOption, WantsRoom, mask_in}
+use Rattle.span_tracing.specs.Agreement.{Agrees, AgreesFiles, FollowsStep, FollowsRun, TraceValue, value_of, is_memory, replies_done, steps_done, RoomWanted, RunsSteps}
 
 -- the skeleton after a step goes by skeleton and filter alone
 abbrev next : Skeleton → Option ℕ → PlainStep → Skeleton
@@ -204,11 +205,31 @@ steps_more_done [] r (y ∷ ys) x b e n = absurd (omega (arith, n))
 steps_more_done (q ∷ qs) r [] x b e n = absurd (omega (arith, n))
 steps_more_done (q ∷ qs) r (y ∷ ys) x b e n = kept_more (is_memory q) y (steps_done qs ys) (steps_done (qs ++ r ∷ []) (ys ++ x ∷ [])) (if b then [] else x ∷ []) (steps_more_done qs r ys x b e (omega (arith, n)))
 
-room_more : (rs : List Reply) (r : Reply) (xs : List PlainStep) (x : PlainStep) → length rs ≡ length xs → OnlyRoomWanted rs xs → (is_memory r ≡ true → MayWantRoom x) → OnlyRoomWanted (rs ++ r ∷ []) (xs ++ x ∷ [])
-room_more [] r [] x n w f = (f, tt)
-room_more [] r (y ∷ ys) x n w f = absurd (omega (arith, n))
-room_more (q ∷ qs) r [] x n w f = absurd (omega (arith, n))
-room_more (q ∷ qs) r (y ∷ ys) x n w f = (w.0, room_more qs r ys x (omega (arith, n)) w.1 f)
+-- a run over the first of the steps that were done
+run_first : (b : Bool) (s : Skeleton) (f : Option ℕ) (y : PlainStep) (xs : List PlainStep) → skeleton_run s f (if b then xs else y ∷ xs) ≡ skeleton_run (if b then s else next s f y) f xs
+run_first true s f y xs = refl
+run_first false s f y xs = refl
+
+room_more : (s : Skeleton) (f : Option ℕ) (rs : List Reply) (r : Reply) (xs : List PlainStep) (x : PlainStep) → length rs ≡ length xs → RoomWanted s f rs xs → (is_memory r ≡ true → WantsRoom (skeleton_run s f (steps_done rs xs)) x (step_mask (skeleton_run s f (steps_done rs xs)) f x)) → RoomWanted s f (rs ++ r ∷ []) (xs ++ x ∷ [])
+room_more s f [] r [] x n w g = (g, tt)
+room_more s f [] r (y ∷ ys) x n w g = absurd (omega (arith, n))
+room_more s f (q ∷ qs) r [] x n w g = absurd (omega (arith, n))
+room_more s f (q ∷ qs) r (y ∷ ys) x n w g = (
+  w.0,
+  room_more (if is_memory q then s else next s f y) f qs r ys x (omega (arith, n)) w.1
+      (λ e. subst (λ (k : Skeleton). WantsRoom k x (step_mask k f x)) (run_first (is_memory q) s f y (steps_done qs ys)) (g e)),
+)
+
+-- what a trace wants room for is what the plain machine does
+room_same : {D : Type 0} (contents : D → Option Contents) (first old : Trace D) (replies : List Reply) (xs : List PlainStep) (x : PlainStep) (p : Plain) → FollowsRun contents first old replies xs → Agrees first.state p → WantsRoom (skeleton_of old.state) x (mask_in old.state x) → WantsRoom (skeleton_run p.skeleton (filter_of p.output) xs) x (step_mask (skeleton_run p.skeleton (filter_of p.output) xs) (filter_of p.output) x)
+room_same contents first old replies xs x p w a wants =
+    let q = plain_run p xs w.fates in
+    let now = (w.agreed p a).1 in
+    let in_plain : WantsRoom q.skeleton x (mask_of q x) =
+    subst (λ (m : Mask). WantsRoom q.skeleton x m) (mask_same old.state q x now) (subst (λ (k : Skeleton). WantsRoom k x (mask_in old.state x)) now.skeleton wants) in
+    let filtered : WantsRoom q.skeleton x (step_mask q.skeleton (filter_of p.output) x) =
+    subst (λ (f : Option ℕ). WantsRoom q.skeleton x (step_mask q.skeleton f x)) (filter_kept p xs w.fates) in_plain in
+    subst (λ (k : Skeleton). WantsRoom k x (step_mask k (filter_of p.output) x)) (skeleton_kept p xs w.fates) filtered
 
 -- what a reply is where it is want of memory, and where it is not
 memory_is : (r : Reply) → is_memory r ≡ true → r ≡ Refused OutOfMemory
@@ -240,13 +261,14 @@ follows_either contents first old new replies reply xs x false e step still w =
     follows_more contents first old new replies reply xs x w (step (not_memory reply e))
 
 -- a run of one step more, which may be refused for want of memory
-pub runs_more : {D : Type 0} (contents : D → Option Contents) (first old new : Trace D) (replies : List Reply) (reply : Reply) (xs : List PlainStep) (x : PlainStep) → RunsSteps contents first old replies xs → (reply ≢ Refused OutOfMemory → FollowsStep contents old new reply x) → (reply ≡ Refused OutOfMemory → value_of new ≡ value_of old) → (reply ≡ Refused OutOfMemory → MayWantRoom x) → RunsSteps contents first new (replies ++ reply ∷ []) (xs ++ x ∷ [])
+pub runs_more : {D : Type 0} (contents : D → Option Contents) (first old new : Trace D) (replies : List Reply) (reply : Reply) (xs : List PlainStep) (x : PlainStep) → RunsSteps contents first old replies xs → (reply ≢ Refused OutOfMemory → FollowsStep contents old new reply x) → (reply ≡ Refused OutOfMemory → value_of new ≡ value_of old) → (reply ≡ Refused OutOfMemory → WantsRoom (skeleton_of old.state) x (mask_in old.state x)) → RunsSteps contents first new (replies ++ reply ∷ []) (xs ++ x ∷ [])
 runs_more contents first old new replies reply xs x w step still room = record {
   count = length-more replies reply ∙ ap suc w.count ∙ sym (length-more xs x);
-  room = room_more replies reply xs x w.count w.room (λ e. room (memory_is reply e));
+  room = λ p a. room_more p.skeleton (filter_of p.output) replies reply xs x w.count (w.room p a)
+      (λ e. room_same contents first old (replies_done replies) (steps_done replies xs) x p w.follows a (room (memory_is reply e)));
   follows = rw (replies_more_done replies reply (is_memory reply) refl, steps_more_done replies reply xs x (is_memory reply) refl w.count)
       (follows_either contents first old new (replies_done replies) reply (steps_done replies xs) x (is_memory reply) refl step still w.follows);
 }
 
 pub runs_none : {D : Type 0} (contents : D → Option Contents) (t : Trace D) → RunsSteps contents t t [] []
-runs_none contents t = record { count = refl; room = tt; follows = follows_none contents t }
+runs_none contents t = record { count = refl; room = λ p a. tt; follows = follows_none contents t }

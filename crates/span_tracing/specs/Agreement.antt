@@ -1,5 +1,5 @@
 -- What a trace keeps of a plain state.
-use Rattle.std.specs.Prelude.{◌≡◌, Bool, true, false, if◌then◌else◌, List, [], ◌∷◌, length, map, Option}
+use Rattle.std.specs.Prelude.{◌≡◌, Bool, true, false, if◌then◌else◌, List, [], ◌∷◌, length, map, Option, ℕ}
 use Rattle.std.specs.Option.{option_map}
 use Rattle.tracing_appender_rolling.specs.Contents.{Contents}
 use Rattle.tracing_appender_rolling.specs.declared.appender.RollingFileAppender.{RollingFileAppender}
@@ -9,11 +9,13 @@ use Rattle.span_tracing_machine.specs.declared.refusal.Refusal.TheVariants.{OutO
 use Rattle.span_tracing_machine.specs.PlainData.{PlainStep}
 use Rattle.span_tracing_machine.specs.declared.fate.Fate.{Fate}
 use Rattle.span_tracing_machine.specs.Missed.{starved_by}
-use Rattle.span_tracing_machine.specs.State.{Plain, PlainOutput, text_of, plain_reply, plain_after, plain_run, replies_of, missed_by, missed_in}
+use Rattle.span_tracing_machine.specs.Skeleton.{Skeleton}
+use Rattle.span_tracing_machine.specs.Machine.{after}
+use Rattle.span_tracing_machine.specs.State.{Plain, PlainOutput, text_of, plain_reply, plain_after, plain_run, replies_of, missed_by, missed_in, step_mask, filter_of}
 use Rattle.span_tracing.specs.declared.trace.Trace.{Trace}
 use Rattle.span_tracing.specs.declared.state.TraceState.{TraceState}
 use Rattle.span_tracing.specs.Skeletons.{StateValue, state_value, skeleton_of, threads_of, setting_of, texts_of, PlainSetting}
-use Rattle.span_tracing.specs.Stored.{AgreesOption, MayWantRoom}
+use Rattle.span_tracing.specs.Stored.{AgreesOption, WantsRoom}
 
 abbrev pub setting_in : Option PlainOutput → Option PlainSetting
 setting_in output = option_map (λ (o : PlainOutput). record { filter = o.filter; time = o.time }) output
@@ -58,11 +60,13 @@ steps_done [] steps = []
 steps_done (reply ∷ replies) [] = []
 steps_done (reply ∷ replies) (step ∷ steps) = if is_memory reply then steps_done replies steps else step ∷ steps_done replies steps
 
--- want of memory is answered for a new span or an entry alone
-abbrev pub OnlyRoomWanted : List Reply → List PlainStep → Type 0
-OnlyRoomWanted [] steps = Unit {0}
-OnlyRoomWanted (reply ∷ replies) [] = Unit {0}
-OnlyRoomWanted (reply ∷ replies) (step ∷ steps) = (is_memory reply ≡ true → MayWantRoom step) × OnlyRoomWanted replies steps
+-- want of memory is answered where nothing else stands in the way, for a span that is made or an entry; such a step does nothing
+abbrev pub RoomWanted : Skeleton → Option ℕ → List Reply → List PlainStep → Type 0
+RoomWanted s filter [] steps = Unit {0}
+RoomWanted s filter (reply ∷ replies) [] = Unit {0}
+RoomWanted s filter (reply ∷ replies) (step ∷ steps) =
+    (is_memory reply ≡ true → WantsRoom s step (step_mask s filter step))
+    × RoomWanted (if is_memory reply then s else after s step (step_mask s filter step)) filter replies steps
 
 -- steps in order, with a list of fates for each
 pub record FollowsRun {D : Type 0} (contents : D → Option Contents) (old new : Trace D) (replies : List Reply) (steps : List PlainStep) : Type 0 where
@@ -86,5 +90,5 @@ value_of t = record { state = state_value t.state; sink = t.sink }
 -- a run: a reply for each step; a step that was refused for want of memory did nothing, and the others are a run of the plain machine
 pub record RunsSteps {D : Type 0} (contents : D → Option Contents) (old new : Trace D) (replies : List Reply) (steps : List PlainStep) : Type 0 where
   pub count : length replies ≡ length steps
-  pub room : OnlyRoomWanted replies steps
+  pub room : (p : Plain) → Agrees old.state p → RoomWanted p.skeleton (filter_of p.output) replies steps
   pub follows : FollowsRun contents old new (replies_done replies) (steps_done replies steps)

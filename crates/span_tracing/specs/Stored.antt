@@ -1,5 +1,5 @@
 -- What a step does to what a trace stores.
-use Rattle.std.specs.Prelude.{◌≡◌, ℕ, List, [], ◌∷◌, ◌++◌, Option, Some, None, slice_get, filter, true}
+use Rattle.std.specs.Prelude.{◌≡◌, ℕ, List, [], ◌∷◌, ◌++◌, Option, Some, None, slice_get, filter, true, IsSome}
 use Rattle.std.specs.Option.{option_map}
 use Rattle.tracing_appender_rolling.specs.Contents.{Contents}
 use Rattle.tracing_appender_rolling.specs.Sinks.{Handed, PlainSink}
@@ -78,11 +78,15 @@ TakesLines contents old new lines =
 abbrev pub count_by : ℕ → Fate → ℕ
 count_by n fate = starved_by n (count_missed (fate ∷ []) (TextOf 0 ∷ []))
 
--- the steps that take memory of their own: a new span, and an entry
-abbrev pub MayWantRoom : PlainStep → Type 0
-MayWantRoom (GlobalStep handle) = ⊥
-MayWantRoom (EventStep e) = ⊥
-MayWantRoom (SpanStep n) = Unit {0}
-MayWantRoom (EnterStep call) = Unit {0}
-MayWantRoom (ExitStep call) = ⊥
-MayWantRoom (CloseStep call) = ⊥
+-- what takes memory of its own: a span that is made, and an entry of a span
+abbrev pub TakesRoom : Skeleton → PlainStep → Mask → Type 0
+TakesRoom s (GlobalStep handle) mask = ⊥
+TakesRoom s (EventStep e) mask = ⊥
+TakesRoom s (SpanStep n) mask = IsSome (made_at s n.callsite true mask)
+TakesRoom s (EnterStep call) mask = IsSome call.span
+TakesRoom s (ExitStep call) mask = ⊥
+TakesRoom s (CloseStep call) mask = ⊥
+
+-- want of memory is told last: nothing else stands in the way
+abbrev pub WantsRoom : Skeleton → PlainStep → Mask → Type 0
+WantsRoom s step mask = (refusal_of s step mask ≡ None) × TakesRoom s step mask

@@ -10,7 +10,7 @@ ghost use Rattle.span_tracing_machine.specs.Missed.{handed_by, handed_lines};
 ghost use Rattle.span_tracing_machine.specs.State.{handed_at, event_line, offer_of};
 ghost use Rattle.span_tracing.specs.Actions.{plain_action, plain_request};
 ghost use Rattle.span_tracing.specs.Skeletons.{skeleton_of, setting_of, texts_of, time_in, state_value};
-ghost use Rattle.span_tracing.specs.Stored.{Acted, Stepped, TakesLines, MayWantRoom, mask_in, more_lines};
+ghost use Rattle.span_tracing.specs.Stored.{Acted, Stepped, TakesLines, WantsRoom, mask_in, more_lines};
 
 use crate::action::{Action, Request, action_of};
 use crate::trace::Trace;
@@ -111,7 +111,8 @@ impl<D: Folder> Trace<D> {
             (handed_lines (result.fate ∷ []) (offer_of (skeleton_of self.old.state) (texts_of self.old.state) (time_in (setting_of self.old.state))
             (plain_action action.now) (mask_in self.old.state (plain_action action.now))))) }
         ensures refused { (refusal : Refusal) → result.reply ≡ Reply.Refused refusal → value_of self.new ≡ value_of self.old }
-        ensures memory { result.reply ≡ Reply.Refused Refusal.OutOfMemory → MayWantRoom (plain_action action.now) }
+        ensures memory { result.reply ≡ Reply.Refused Refusal.OutOfMemory →
+            WantsRoom (skeleton_of self.old.state) (plain_action action.now) (mask_in self.old.state (plain_action action.now)) }
     {
         if let Some(refusal) = self.state.refusal(action) {
             return whole(Reply::Refused(refusal));
@@ -148,7 +149,8 @@ impl<D: Folder> Trace<D> {
     fn act(&mut self, action: &Action<'_>) -> Reply
         ensures follows { result ≢ Reply.Refused Refusal.OutOfMemory → FollowsStep D.contents self.old self.new result (plain_action action.now) }
         ensures refused { (refusal : Refusal) → result ≡ Reply.Refused refusal → value_of self.new ≡ value_of self.old }
-        ensures memory { result ≡ Reply.Refused Refusal.OutOfMemory → MayWantRoom (plain_action action.now) }
+        ensures memory { result ≡ Reply.Refused Refusal.OutOfMemory →
+            WantsRoom (skeleton_of self.old.state) (plain_action action.now) (mask_in self.old.state (plain_action action.now)) }
     {
         let done = self.step_once(action);
         done.reply
@@ -160,7 +162,8 @@ impl<D: Folder> Trace<D> {
     pub fn step(&mut self, step: &Step) -> Reply
         ensures follows { result ≢ Reply.Refused Refusal.OutOfMemory → FollowsStep D.contents self.old self.new result (plain_step step.now) }
         ensures refused { (refusal : Refusal) → result ≡ Reply.Refused refusal → value_of self.new ≡ value_of self.old }
-        ensures memory { result ≡ Reply.Refused Refusal.OutOfMemory → MayWantRoom (plain_step step.now) }
+        ensures memory { result ≡ Reply.Refused Refusal.OutOfMemory →
+            WantsRoom (skeleton_of self.old.state) (plain_step step.now) (mask_in self.old.state (plain_step step.now)) }
     {
         self.act(&action_of(step))
     }
@@ -232,6 +235,8 @@ impl<D: Folder> Trace<D> {
     ) -> Reply
         ensures follows { result ≢ Reply.Refused Refusal.OutOfMemory → FollowsStep D.contents self.old self.new result
             (SpanStep (record { lane = lane; moment = moment; callsite = callsite.0; parent = parent; values = plain_values values.now })) }
+        ensures memory { let step = SpanStep (record { lane = lane; moment = moment; callsite = callsite.0; parent = parent; values = plain_values values.now }) in
+            result ≡ Reply.Refused Refusal.OutOfMemory → WantsRoom (skeleton_of self.old.state) step (mask_in self.old.state step) }
         ensures refused { (refusal : Refusal) → result ≡ Reply.Refused refusal → value_of self.new ≡ value_of self.old }
     {
         self.act(&Action::NewSpan(Request {
@@ -246,6 +251,8 @@ impl<D: Folder> Trace<D> {
     /// Enters a span on a lane.
     pub fn enter(&mut self, lane: usize, moment: Moment, span: Option<SpanName>) -> Reply
         ensures follows { result ≢ Reply.Refused Refusal.OutOfMemory → FollowsStep D.contents self.old self.new result (EnterStep (record { lane = lane; moment = moment; span = span })) }
+        ensures memory { let step = EnterStep (record { lane = lane; moment = moment; span = span }) in
+            result ≡ Reply.Refused Refusal.OutOfMemory → WantsRoom (skeleton_of self.old.state) step (mask_in self.old.state step) }
         ensures refused { (refusal : Refusal) → result ≡ Reply.Refused refusal → value_of self.new ≡ value_of self.old }
     {
         self.act(&Action::Enter(SpanCall { lane, moment, span }))

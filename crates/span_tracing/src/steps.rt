@@ -1,6 +1,6 @@
 //! What steps do to a trace's state.
 
-ghost use Rattle.std.specs.Prelude.{◌≡◌, None, ◌+◌, ◌++◌, ◌∷◌, ℕ, [], map, OnOk, OnErr, IfOk, Some, true, string_bytes, slice_get, slice_set, ◌<◌, ◌≤◌, length, vec_len};
+ghost use Rattle.std.specs.Prelude.{◌≡◌, None, ◌+◌, ◌++◌, ◌∷◌, ℕ, [], map, OnOk, OnErr, IfOk, Some, true, string_bytes, slice_get, slice_set, ◌<◌, ◌≤◌, length, vec_len, IsSome};
 ghost use Rattle.std.specs.Option.{option_map, option_copied};
 ghost use Rattle.tracing_core.specs.Metadata.{plain_metadata};
 ghost use Rattle.span_tracing_machine.specs.Spans.{without_last};
@@ -116,6 +116,7 @@ impl TraceState {
         requires { ids_refusal (skeleton_of self.old) (made_at (skeleton_of self.old) span.now.callsite true (mask_in self.old (SpanStep (plain_request span.now)))) ≡ None }
         ensures named { IfOk result (λ made. Reply.Span made.name ≡ answered (skeleton_of self.old) (SpanStep (plain_request span.now)) (mask_in self.old (SpanStep (plain_request span.now)))) }
         ensures acted { IfOk result (λ made. Acted self.old self.new (SpanStep (plain_request span.now)) made.fate) }
+        ensures made { OnErr result (IsSome (made_at (skeleton_of self.old) span.now.callsite true (mask_in self.old (SpanStep (plain_request span.now))))) }
         ensures err { OnErr result (state_value self.new ≡ state_value self.old) }
     {
         let Some(place) = self.made_at(span.callsite, true) else {
@@ -209,6 +210,7 @@ impl TraceState {
     #[tactic(auto, unfolding(span_tracing_machine::specs::Machine::acted, span_tracing_machine::specs::Missed::wanted, crate::specs::Stored::texts_acted))]
     pub(crate) fn enter(&mut self, call: &SpanCall) -> Result<(), AllocError>
         ensures ok { OnOk result (Acted self.old self.new (EnterStep call.now) Fate.Whole) }
+        ensures given { OnErr result (IsSome call.now.span) }
         ensures err { OnErr result (state_value self.new ≡ state_value self.old) }
     {
         if let Some(name) = call.span {
