@@ -81,6 +81,16 @@ fn requests_are_refused_in_order(rt: HostRuntime) -> Result<(), Fail> {
         assert_eq!(rt; trace.event(lane, moment, event_at, parent, &[]), refused);
         assert_eq!(rt; trace.new_span(lane, moment, span_at, parent, &[]), refused);
     }
+    has_file(&rt, &trace, TODAY, "")
+}
+
+#[test]
+fn a_closed_parent_is_unknown_at_the_default(rt: HostRuntime) -> Result<(), Fail> {
+    let alloc = rt.alloc();
+    let folder = MemoryFolder::new(alloc);
+    let timer = fixed_time(alloc)?;
+    let mut trace = trace_over(&rt, alloc, folder, LevelFilter::INFO, timer)?;
+    let closed = Parent::Explicit(span_name(0, 1)?);
     let reply = trace.event(1, OPENED, EVENT, Parent::Root, &[]);
     assert_eq!(rt; reply, Reply::Done);
     let reply = trace.new_span(1, OPENED, OUTER, Parent::Root, &[]);
@@ -146,18 +156,12 @@ fn the_last_id_is_given_once(rt: HostRuntime) -> Result<(), Fail> {
     has_file(&rt, &trace, TODAY, "outer: app: \n")
 }
 
-#[test]
-fn steps_are_the_calls(rt: HostRuntime) -> Result<(), Fail> {
-    let alloc = rt.alloc();
-    let folder = MemoryFolder::new(alloc);
-    let timer = fixed_time(alloc)?;
-    let mut trace = trace_over(&rt, alloc, folder, LevelFilter::INFO, timer)?;
-    assert_eq!(rt; trace.step(&Step::SetGlobalDefault(0)), Reply::Done);
-    let name = span_name(0, 1)?;
+// A span is made, entered and left, and given up twice; an event happens in it.
+fn steps_of_a_span(alloc: Global) -> Result<Vec<Step>, Fail> {
     let call = SpanCall {
         lane: 0,
         moment: OPENED,
-        span: Some(name),
+        span: Some(span_name(0, 1)?),
     };
     let steps = vec![in alloc;
         Step::NewSpan(NewSpanCall {
@@ -180,12 +184,23 @@ fn steps_are_the_calls(rt: HostRuntime) -> Result<(), Fail> {
         Step::TryClose(call),
         Step::TryClose(call),
     ]?;
+    Ok(steps)
+}
+
+#[test]
+fn steps_are_the_calls(rt: HostRuntime) -> Result<(), Fail> {
+    let alloc = rt.alloc();
+    let folder = MemoryFolder::new(alloc);
+    let timer = fixed_time(alloc)?;
+    let mut trace = trace_over(&rt, alloc, folder, LevelFilter::INFO, timer)?;
+    assert_eq!(rt; trace.step(&Step::SetGlobalDefault(0)), Reply::Done);
+    let steps = steps_of_a_span(alloc)?;
     let replies = trace.run(steps.as_slice())?;
     if replies.contains(&Reply::Refused(Refusal::OutOfMemory)) {
         return Err("want of memory".into());
     }
     let wanted = [
-        Reply::Span(Some(name)),
+        Reply::Span(Some(span_name(0, 1)?)),
         Reply::Done,
         Reply::Done,
         Reply::Refused(Refusal::GlobalSet),
