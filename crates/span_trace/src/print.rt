@@ -72,6 +72,7 @@ pub(crate) fn write_files<W: Write>(
 fn reply_value(alloc: Global, reply: Reply) -> Result<Json, AllocError> {
     match reply {
         Reply::Done => Json::try_from_str(alloc, "done"),
+        Reply::Enabled(is_enabled) => json!(in alloc; {"enabled": is_enabled}),
         Reply::Span(None) => json!(in alloc; {"span": null}),
         Reply::Span(Some(name)) => {
             let stack = name.stack as u64;

@@ -7,7 +7,7 @@ use Rattle.tracing_appender_rolling.specs.Contents.{Contents}
 use Rattle.tracing_appender_rolling.specs.Sinks.{Handed}
 use Rattle.span_tracing_machine.specs.declared.call.Step.{Step}
 use Rattle.span_tracing_machine.specs.declared.call.Reply.{Reply}
-use Rattle.span_tracing_machine.specs.declared.call.Reply.TheVariants.{Done, Span, Closed, Refused}
+use Rattle.span_tracing_machine.specs.declared.call.Reply.TheVariants.{Done, Enabled, Span, Closed, Refused}
 use Rattle.span_tracing_machine.specs.declared.refusal.Refusal.TheVariants.{UnknownCallsite, UnknownStack, UnknownSpan, ForeignParent, NoOutput, BadName, FolderRefused, BadMoment, OutOfMemory, BadRoute, UnknownLane, GlobalSet, Taken, IdsSpent}
 use Rattle.span_tracing_machine.specs.declared.fate.Fate.{Fate}
 use Rattle.span_tracing_machine.specs.declared.refusal.Refusal.{Refusal}
@@ -234,6 +234,7 @@ room_same contents first old replies xs x p w a wants =
 -- what a reply is where it is want of memory, and where it is not
 memory_is : (r : Reply) → is_memory r ≡ true → r ≡ Refused OutOfMemory
 memory_is Done e = cc
+memory_is (Enabled b) e = cc
 memory_is (Span name) e = cc
 memory_is (Closed b) e = cc
 memory_is (Refused OutOfMemory) e = refl

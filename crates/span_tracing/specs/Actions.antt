@@ -1,5 +1,5 @@
 -- Steps without where their values lie in memory.
-use Rattle.span_tracing_machine.specs.PlainData.{plain_values, PlainStep, GlobalStep, EventStep, SpanStep, EnterStep, ExitStep, CloseStep}
+use Rattle.span_tracing_machine.specs.PlainData.{plain_values, PlainStep, GlobalStep, EventStep, EnabledStep, SpanStep, EnterStep, ExitStep, CloseStep}
 use Rattle.span_tracing_machine.specs.PlainData as plain
 use Rattle.span_tracing.specs.declared.action.Request.{Request}
 use Rattle.span_tracing.specs.declared.action.Action.{Action}
@@ -11,6 +11,7 @@ plain_request r = record { lane = r.lane; moment = r.moment; callsite = r.callsi
 abbrev pub plain_action : Action → PlainStep
 plain_action (actions.SetGlobalDefault handle) = GlobalStep handle
 plain_action (actions.Event r) = EventStep (plain_request r)
+plain_action (actions.Enabled call) = EnabledStep call
 plain_action (actions.NewSpan r) = SpanStep (plain_request r)
 plain_action (actions.Enter call) = EnterStep call
 plain_action (actions.Exit call) = ExitStep call

@@ -8,7 +8,7 @@ use Rattle.tracing_appender_rolling.specs.declared.appender.RollingFileAppender.
 use Rattle.span_tracing_machine.specs.declared.fate.Fate.{Fate}
 use Rattle.span_tracing_machine.specs.declared.record.SpanRecord.{SpanRecord}
 use Rattle.span_tracing_machine.specs.declared.call.SpanName.{SpanName}
-use Rattle.span_tracing_machine.specs.PlainData.{Request, PlainStep, GlobalStep, EventStep, SpanStep, EnterStep, ExitStep, CloseStep}
+use Rattle.span_tracing_machine.specs.PlainData.{Request, PlainStep, GlobalStep, EventStep, EnabledStep, SpanStep, EnterStep, ExitStep, CloseStep}
 use Rattle.span_tracing_machine.specs.FieldTexts.{fields_text}
 use Rattle.span_tracing_machine.specs.Spans.{is_open}
 use Rattle.span_tracing_machine.specs.Skeleton.{Skeleton, Mask}
@@ -38,6 +38,7 @@ texts_left (Some name) spans texts = open_texts spans texts
 unfoldable pub texts_acted : Skeleton → List PlainText → PlainStep → Mask → Fate → List PlainText
 texts_acted s texts (GlobalStep handle) mask fate = texts
 texts_acted s texts (EventStep e) mask fate = texts
+texts_acted s texts (EnabledStep call) mask fate = texts
 texts_acted s texts (SpanStep n) mask fate = with_text texts s n fate (made_at s n.callsite true mask)
 texts_acted s texts (EnterStep call) mask fate = texts
 texts_acted s texts (ExitStep call) mask fate = texts_left call.span (acted s (ExitStep call) mask).spans texts
@@ -82,6 +83,7 @@ count_by n fate = starved_by n (count_missed (fate ∷ []) (TextOf 0 ∷ []))
 abbrev pub TakesRoom : Skeleton → PlainStep → Mask → Type 0
 TakesRoom s (GlobalStep handle) mask = ⊥
 TakesRoom s (EventStep e) mask = ⊥
+TakesRoom s (EnabledStep call) mask = ⊥
 TakesRoom s (SpanStep n) mask = IsSome (made_at s n.callsite true mask)
 TakesRoom s (EnterStep call) mask = IsSome call.span
 TakesRoom s (ExitStep call) mask = ⊥

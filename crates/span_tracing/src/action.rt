@@ -4,7 +4,7 @@ ghost use Rattle.std.specs.Prelude.{◌≡◌};
 ghost use Rattle.span_tracing_machine.specs.PlainData.{plain_step};
 ghost use Rattle.span_tracing.specs.Actions.{plain_action};
 
-use span_tracing_machine::{FieldValue, Parent, SpanCall, Step};
+use span_tracing_machine::{EnabledCall, FieldValue, Parent, SpanCall, Step};
 use tracing_appender_rolling::Moment;
 
 /// An event or a new span on a lane.
@@ -22,6 +22,7 @@ pub(crate) struct Request<'a> {
 pub(crate) enum Action<'a> {
     SetGlobalDefault(usize),
     Event(Request<'a>),
+    Enabled(EnabledCall),
     NewSpan(Request<'a>),
     Enter(SpanCall),
     Exit(SpanCall),
@@ -41,6 +42,7 @@ pub(crate) fn action_of(step: &Step) -> Action<'_>
             parent: event.parent,
             values: event.values.as_slice(),
         }),
+        Step::Enabled(call) => Action::Enabled(*call),
         Step::NewSpan(span) => Action::NewSpan(Request {
             lane: span.lane,
             moment: span.moment,

@@ -2,8 +2,8 @@
 
 ghost use Rattle.std.specs.Prelude.{◌≡◌, map, Bool, true, false, IfSome, IfNone, ◌<◌, ◌≤◌, length, option_and_then, slice_get};
 ghost use Rattle.std.specs.Option.{option_map, option_copied};
-ghost use Rattle.span_tracing_machine.specs.Machine.{place_of, is_kind, known_place, knows_stack, parent_refusal, request_refusal, span_refusal, call_refusal, handle_refusal, ids_refusal, refusal_of, made_at, is_made};
-ghost use Rattle.span_tracing_machine.specs.State.{mask_at, mask_for};
+ghost use Rattle.span_tracing_machine.specs.Machine.{place_of, is_kind, known_place, knows_stack, parent_refusal, request_refusal, enabled_refusal, span_refusal, call_refusal, handle_refusal, ids_refusal, refusal_of, made_at, is_made};
+ghost use Rattle.span_tracing_machine.specs.State.{mask_at, mask_for, mask_asked};
 ghost use Rattle.span_tracing.specs.Actions.{plain_action};
 ghost use Rattle.span_tracing.specs.Skeletons.{plain_callsite, plain_setting, skeleton_of, setting_of, filter_in, next_number};
 ghost use Rattle.span_tracing.specs.Stored.{mask_in};
@@ -12,7 +12,7 @@ use crate::action::Action;
 use crate::callsite::Callsite;
 use crate::state::{Setting, TraceState};
 use crate::store::{handles_of, is_open};
-use span_tracing_machine::{Parent, Refusal, SpanCall, SpanName};
+use span_tracing_machine::{EnabledCall, Parent, Refusal, SpanCall, SpanName};
 use tracing_appender_rolling::Moment;
 
 /// The place of the callsite with an identifier.
@@ -120,6 +120,21 @@ impl TraceState {
         }
     }
 
+    fn enabled_refusal(&self, call: &EnabledCall) -> Option<Refusal>
+        ensures { result ≡ enabled_refusal (skeleton_of self.now) call.now }
+    {
+        if self.lanes.len() <= call.lane {
+            return Some(Refusal::UnknownLane);
+        }
+        if !call.moment.is_in_range() {
+            return Some(Refusal::BadMoment);
+        }
+        match place_of(self.callsites.as_slice(), call.callsite.0) {
+            None => Some(Refusal::UnknownCallsite),
+            Some(_) => None,
+        }
+    }
+
     fn span_refusal(&self, span: Option<SpanName>) -> Option<Refusal>
         ensures { result ≡ span_refusal (skeleton_of self.now) span }
     {
@@ -184,6 +199,20 @@ impl TraceState {
         }
     }
 
+    /// Whether a request at a callsite of any kind would be made.
+    #[tactic(auto, using(crate::proofs::Lists::slice_get_map))]
+    pub(crate) fn is_enabled(&self, number: u64) -> bool
+        ensures { result ≡ is_made (mask_asked (skeleton_of self.now) (filter_in (setting_of self.now)) number) }
+    {
+        if !self.is_global {
+            return false;
+        }
+        match place_of(self.callsites.as_slice(), number) {
+            None => false,
+            Some(place) => is_passed(&self.setting, self.callsites.get(place)),
+        }
+    }
+
     fn ids_refusal(&self, number: u64) -> Option<Refusal>
         ensures { result ≡ ids_refusal (skeleton_of self.now) (made_at (skeleton_of self.now) number true (mask_for (skeleton_of self.now) (filter_in (setting_of self.now)) number true)) }
     {
@@ -227,6 +256,7 @@ impl TraceState {
                 false,
                 event.parent,
             ),
+            Action::Enabled(call) => self.enabled_refusal(call),
             Action::NewSpan(span) => {
                 let refusal = self.request_refusal(
                     span.lane,

@@ -4,7 +4,7 @@ ghost use Rattle.std.specs.Prelude.{◌≡◌, ◌≢◌, [], ◌∷◌, OnErr, 
 ghost use Rattle.tracing_appender_rolling.specs.Moments.{is_moment};
 ghost use Rattle.tracing_appender_rolling.specs.Sinks.{PlainSink};
 ghost use Rattle.tracing_appender_rolling.specs.Appenders.{AgreesSink};
-ghost use Rattle.span_tracing_machine.specs.PlainData.{plain_step, plain_steps, plain_values, GlobalStep, EventStep, SpanStep, EnterStep, ExitStep, CloseStep};
+ghost use Rattle.span_tracing_machine.specs.PlainData.{plain_step, plain_steps, plain_values, GlobalStep, EventStep, EnabledStep, SpanStep, EnterStep, ExitStep, CloseStep};
 ghost use Rattle.span_tracing_machine.specs.Machine.{refusal_of, reply_of, or_same};
 ghost use Rattle.span_tracing_machine.specs.Missed.{handed_by, handed_lines};
 ghost use Rattle.span_tracing_machine.specs.State.{handed_at, event_line, offer_of};
@@ -14,7 +14,9 @@ ghost use Rattle.span_tracing.specs.Stored.{Acted, Stepped, TakesLines, WantsRoo
 
 use crate::action::{Action, Request, action_of};
 use crate::trace::Trace;
-use span_tracing_machine::{Fate, FieldValue, Parent, Refusal, Reply, SpanCall, SpanName, Step};
+use span_tracing_machine::{
+    EnabledCall, Fate, FieldValue, Parent, Refusal, Reply, SpanCall, SpanName, Step,
+};
 use std::alloc::AllocError;
 use tracing_appender_rolling::{Folder, FolderError, Moment, RollingFileAppender};
 use tracing_core::Identifier;
@@ -67,6 +69,7 @@ fn write_if_open<D: Folder>(
 }
 
 impl<D: Folder> Trace<D> {
+    ghost use Rattle.span_tracing_machine.specs.declared.call.EnabledCall.{EnabledCall};
     ghost use Rattle.span_tracing.specs.Agreement.{FollowsStep, RunsSteps, steps_done, value_of};
     ghost use Rattle.span_tracing.specs.Headline.{HoldsOffered, NothingStarved};
 
@@ -113,6 +116,7 @@ impl<D: Folder> Trace<D> {
         ensures refused { (refusal : Refusal) → result.reply ≡ Reply.Refused refusal → value_of self.new ≡ value_of self.old }
         ensures memory { result.reply ≡ Reply.Refused Refusal.OutOfMemory →
             WantsRoom (skeleton_of self.old.state) (plain_action action.now) (mask_in self.old.state (plain_action action.now)) }
+        ensures asked { (call : EnabledCall) → plain_action action.now ≡ EnabledStep call → self.new ≡ self.old }
     {
         if let Some(refusal) = self.state.refusal(action) {
             return whole(Reply::Refused(refusal));
@@ -126,6 +130,7 @@ impl<D: Folder> Trace<D> {
                 fate: self.event_once(event),
                 reply: Reply::Done,
             },
+            Action::Enabled(call) => whole(Reply::Enabled(self.state.enabled(call))),
             Action::NewSpan(span) => match self.state.new_span(span) {
                 Ok(made) => StepDone {
                     reply: Reply::Span(made.name),
@@ -151,6 +156,7 @@ impl<D: Folder> Trace<D> {
         ensures refused { (refusal : Refusal) → result ≡ Reply.Refused refusal → value_of self.new ≡ value_of self.old }
         ensures memory { result ≡ Reply.Refused Refusal.OutOfMemory →
             WantsRoom (skeleton_of self.old.state) (plain_action action.now) (mask_in self.old.state (plain_action action.now)) }
+        ensures asked { (call : EnabledCall) → plain_action action.now ≡ EnabledStep call → self.new ≡ self.old }
     {
         let done = self.step_once(action);
         done.reply
@@ -220,6 +226,19 @@ impl<D: Folder> Trace<D> {
             callsite: callsite.0,
             parent,
             values,
+        }))
+    }
+
+    /// Asks whether a request at a callsite would be made on a lane: an event, or a new span. Asking leaves no mark, and takes
+    /// no memory.
+    pub fn enabled(&mut self, lane: usize, moment: Moment, callsite: Identifier) -> Reply
+        ensures follows { FollowsStep D.contents self.old self.new result (EnabledStep (record { lane = lane; moment = moment; callsite = callsite })) }
+        ensures still { self.new ≡ self.old }
+    {
+        self.act(&Action::Enabled(EnabledCall {
+            lane,
+            moment,
+            callsite,
         }))
     }
 

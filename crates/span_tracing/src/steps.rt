@@ -5,7 +5,7 @@ ghost use Rattle.std.specs.Option.{option_map, option_copied};
 ghost use Rattle.tracing_core.specs.Metadata.{plain_metadata};
 ghost use Rattle.span_tracing_machine.specs.Spans.{without_last};
 ghost use Rattle.span_tracing_machine.specs.FieldTexts.{fields_text};
-ghost use Rattle.span_tracing_machine.specs.PlainData.{plain_values, GlobalStep, SpanStep, EnterStep, ExitStep, CloseStep};
+ghost use Rattle.span_tracing_machine.specs.PlainData.{plain_values, GlobalStep, EnabledStep, SpanStep, EnterStep, ExitStep, CloseStep};
 ghost use Rattle.span_tracing_machine.specs.Machine.{answered, made_at, swept, ids_refusal, lane_at, one_less};
 ghost use Rattle.span_tracing_machine.specs.Missed.{given_by, starved_by};
 ghost use Rattle.span_tracing_machine.specs.State.{fields_of, callsite_named};
@@ -21,7 +21,7 @@ use crate::fields::push_fields;
 use crate::lane::Lane;
 use crate::state::{SpanText, TraceState};
 use crate::store::{drop_closed, is_open, remove_last};
-use span_tracing_machine::{Fate, Reply, SpanCall, SpanName, SpanRecord};
+use span_tracing_machine::{EnabledCall, Fate, Reply, SpanCall, SpanName, SpanRecord};
 use std::alloc::AllocError;
 use tracing_core::{Id, Metadata};
 
@@ -204,6 +204,15 @@ impl TraceState {
         ensures { (handle : ℕ) → Acted self.old self.new (GlobalStep handle) Fate.Whole }
     {
         self.is_global = true;
+    }
+
+    /// A question that is not refused; answers whether a request would be made.
+    #[tactic(auto, unfolding(span_tracing_machine::specs::Machine::acted, span_tracing_machine::specs::Machine::answered, span_tracing_machine::specs::Missed::wanted, crate::specs::Stored::texts_acted, span_tracing_machine::specs::State::step_mask))]
+    pub(crate) fn enabled(&self, call: &EnabledCall) -> bool
+        ensures answer { Reply.Enabled result ≡ answered (skeleton_of self.now) (EnabledStep call.now) (mask_in self.now (EnabledStep call.now)) }
+        ensures acted { Acted self.now self.now (EnabledStep call.now) Fate.Whole }
+    {
+        self.is_enabled(call.callsite.0)
     }
 
     /// An entry that is not refused.

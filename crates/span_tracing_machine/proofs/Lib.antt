@@ -9,3 +9,4 @@ pub mod Lanes
 pub mod Swept
 pub mod Stays
 pub mod Ancestors
+pub mod Asking

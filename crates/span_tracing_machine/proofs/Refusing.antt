@@ -8,9 +8,10 @@ use Rattle.span_tracing_machine.specs.declared.call.Parent.{Parent}
 use Rattle.span_tracing_machine.specs.declared.call.Parent.TheVariants.{Contextual, Root, Explicit}
 use Rattle.span_tracing_machine.specs.declared.call.SpanCall.{SpanCall}
 use Rattle.span_tracing_machine.specs.declared.call.SpanName.{SpanName}
-use Rattle.span_tracing_machine.specs.PlainData.{Request, PlainStep, GlobalStep, EventStep, SpanStep, EnterStep, ExitStep, CloseStep}
+use Rattle.span_tracing_machine.specs.declared.call.EnabledCall.{EnabledCall}
+use Rattle.span_tracing_machine.specs.PlainData.{Request, PlainStep, GlobalStep, EventStep, EnabledStep, SpanStep, EnterStep, ExitStep, CloseStep}
 use Rattle.span_tracing_machine.specs.Skeleton.{Skeleton, Mask}
-use Rattle.span_tracing_machine.specs.Machine.{first, when, known_place, lane_refusal, moment_refusal, callsite_refusal, parent_refusal, request_refusal, span_refusal, call_refusal, handle_refusal, ids_refusal, made_at, refusal_of}
+use Rattle.span_tracing_machine.specs.Machine.{first, when, known_place, lane_refusal, moment_refusal, callsite_refusal, parent_refusal, request_refusal, enabled_refusal, place_of, span_refusal, call_refusal, handle_refusal, ids_refusal, made_at, refusal_of}
 
 -- where neither of two refuses, the first doesn't
 pub first_none : (a b : Option Refusal) → first a b ≡ None → a ≡ None
@@ -56,6 +57,9 @@ not_request : (s : Skeleton) (lane : ℕ) (m : Moment) (number : ℕ) (is_span :
 not_request s lane m number is_span parent h =
     not_first _ _ (not_when _ UnknownLane (λ e. cc)) (not_first _ _ (not_when _ BadMoment (λ e. cc)) (not_first _ _ (not_callsite (known_place s.callsites number is_span)) (not_parent s parent))) h
 
+not_enabled : (s : Skeleton) (call : EnabledCall) → NoMemory (enabled_refusal s call)
+not_enabled s call h = not_first _ _ (not_when _ UnknownLane (λ e. cc)) (not_first _ _ (not_when _ BadMoment (λ e. cc)) (not_callsite (place_of s.callsites call.callsite.0))) h
+
 not_span : (s : Skeleton) (span : Option SpanName) → NoMemory (span_refusal s span)
 not_span s None h = cc
 not_span s (Some name) h = not_first _ _ (not_when _ UnknownStack (λ e. cc)) (not_when _ UnknownSpan (λ e. cc)) h
@@ -75,6 +79,7 @@ pub never_memory : (s : Skeleton) (step : PlainStep) (mask : Mask) → refusal_o
 unfolding refusal_of
 never_memory s (GlobalStep handle) mask h = not_first _ _ (not_when _ UnknownStack (λ e. cc)) (not_when s.is_global GlobalSet (λ e. cc)) h
 never_memory s (EventStep e) mask h = not_request s e.lane e.moment e.callsite false e.parent h
+never_memory s (EnabledStep call) mask h = not_enabled s call h
 never_memory s (SpanStep n) mask h = not_first _ _ (not_request s n.lane n.moment n.callsite true n.parent) (not_ids s (made_at s n.callsite true mask)) h
 never_memory s (EnterStep call) mask h = not_call s call h
 never_memory s (ExitStep call) mask h = not_call s call h

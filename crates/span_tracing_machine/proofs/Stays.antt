@@ -9,7 +9,7 @@ use Rattle.span_tracing_machine.specs.declared.call.Parent.{Parent}
 use Rattle.span_tracing_machine.specs.declared.call.Parent.TheVariants.{Contextual, Root, Explicit}
 use Rattle.span_tracing_machine.specs.declared.refusal.Refusal.{Refusal}
 use Rattle.span_tracing_machine.specs.declared.refusal.Refusal.TheVariants.{UnknownStack, UnknownSpan, ForeignParent}
-use Rattle.span_tracing_machine.specs.PlainData.{PlainStep, GlobalStep, EventStep, SpanStep, EnterStep, ExitStep, CloseStep}
+use Rattle.span_tracing_machine.specs.PlainData.{PlainStep, GlobalStep, EventStep, EnabledStep, SpanStep, EnterStep, ExitStep, CloseStep}
 use Rattle.span_tracing_machine.specs.Spans.{is_member, is_open, is_entered, open_of, without_last}
 use Rattle.span_tracing_machine.specs.Skeleton.{Skeleton, PlainCallsite, Mask}
 use Rattle.span_tracing_machine.specs.Machine.{when, first, lane_refusal, moment_refusal, callsite_refusal, known_place, knows_stack, parent_refusal, span_refusal, call_refusal, ids_refusal, made_at, refusal_of, lane_at, parent_id, with_span, one_less, entered, left, given_up, acted, after, or_same}
@@ -126,6 +126,7 @@ acted_well : (s : Skeleton) (step : PlainStep) (mask : Mask) → IsWellFormed s 
 unfolding acted refusal_of
 acted_well s (GlobalStep handle) mask well passes = record { started = well.started; ordered = well.ordered; below = well.below; all_open = well.all_open; entries = well.entries }
 acted_well s (EventStep e) mask well passes = well
+acted_well s (EnabledStep call) mask well passes = well
 acted_well s (SpanStep n) mask well passes =
     let on_parent : Option Refusal = parent_refusal s n.parent in
     let on_callsite : Option Refusal = first (callsite_refusal (known_place s.callsites n.callsite true)) on_parent in

@@ -1,5 +1,5 @@
 -- Laws of the plain machine.
-use Rattle.std.specs.Prelude.{◌≡◌, ◌<◌, ◌≤◌, ℕ, ◌+◌, List, [], ◌∷◌, ◌++◌, true, Option, Some, None}
+use Rattle.std.specs.Prelude.{◌≡◌, ◌<◌, ◌≤◌, ℕ, ◌+◌, List, [], ◌∷◌, ◌++◌, Bool, true, Option, Some, None}
 use Rattle.std.specs.List.{AllByRecursion}
 use Rattle.tracing_appender_rolling.specs.Moments.{is_moment}
 use Rattle.tracing_appender_rolling.specs.Sinks.{Handed}
@@ -7,9 +7,9 @@ use Rattle.span_tracing_machine.specs.declared.record.SpanRecord.{SpanRecord}
 use Rattle.span_tracing_machine.specs.PlainData.{PlainStep}
 use Rattle.span_tracing_machine.specs.Spans.{open_of, is_open, IsClosedUp, is_member, line_of, ancestry}
 use Rattle.span_tracing_machine.specs.Skeleton.{Skeleton, PlainCallsite, Mask}
-use Rattle.span_tracing_machine.specs.Machine.{after}
+use Rattle.span_tracing_machine.specs.Machine.{after, known_place}
 use Rattle.span_tracing_machine.specs.Missed.{Fate, starved_by}
-use Rattle.span_tracing_machine.specs.State.{Plain, PlainOutput, plain_after, plain_run, replies_of, missed_by, missed_in, more_handed, offered_in, new_plain, registered, with_lane, with_stack}
+use Rattle.span_tracing_machine.specs.State.{Plain, PlainOutput, mask_asked, mask_for, plain_after, plain_run, replies_of, missed_by, missed_in, more_handed, offered_in, new_plain, registered, with_lane, with_stack}
 
 -- a parent, where there is one, stands among these
 abbrev pub ParentIn : List ℕ → Option ℕ → Type 0
@@ -82,6 +82,11 @@ OffersInRange = (p : Plain) (steps : List PlainStep) → AllByRecursion (λ (h :
 abbrev pub MissedChangesNoReply : Type 0
 MissedChangesNoReply = (p : Plain) (steps : List PlainStep) (fates : List (List Fate)) (later : List PlainStep) →
     replies_of (plain_run p steps fates) later ≡ replies_of (plain_run p steps []) later
+
+-- the mask that `enabled` asks for is that of a request at the callsite, where there is such a request
+abbrev pub EnabledTellsMade : Type 0
+EnabledTellsMade = (s : Skeleton) (filter : Option ℕ) (number place : ℕ) (is_span : Bool) → known_place s.callsites number is_span ≡ Some place →
+    mask_asked s filter number ≡ mask_for s filter number is_span
 
 -- steps after steps are one run
 abbrev pub RunsCompose : Type 0

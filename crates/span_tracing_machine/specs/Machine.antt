@@ -1,7 +1,7 @@
 -- The machine on skeletons: which step is refused, what it answers, and what it leaves.
 use Rattle.std.specs.Prelude.{ℕ, ◌+◌, ◌-◌, List, [], ◌∷◌, ◌++◌, length, Bool, true, false, not, ◌&&◌, ◌==◌, nat_lt, nat_le, if◌then◌else◌, Option, Some, None, slice_get, slice_set, option_and_then, unwrap_or}
 use Rattle.std.specs.List.{position_from, list_any}
-use Rattle.span_tracing_machine.specs.PlainData.{PlainStep, GlobalStep, EventStep, SpanStep, EnterStep, ExitStep, CloseStep}
+use Rattle.span_tracing_machine.specs.PlainData.{PlainStep, GlobalStep, EventStep, EnabledStep, SpanStep, EnterStep, ExitStep, CloseStep}
 use Rattle.tracing_appender_rolling.specs.declared.moment.Moment.{Moment}
 use Rattle.tracing_appender_rolling.specs.Moments.{is_moment}
 use Rattle.span_tracing_machine.specs.declared.record.SpanRecord.{SpanRecord}
@@ -11,8 +11,9 @@ use Rattle.span_tracing_machine.specs.declared.call.Parent.TheVariants.{Contextu
 use Rattle.span_tracing_machine.specs.declared.refusal.Refusal.{Refusal}
 use Rattle.span_tracing_machine.specs.declared.refusal.Refusal.TheVariants.{UnknownCallsite, UnknownStack, UnknownSpan, ForeignParent, BadMoment, UnknownLane, GlobalSet, IdsSpent}
 use Rattle.span_tracing_machine.specs.declared.call.Reply.{Reply}
-use Rattle.span_tracing_machine.specs.declared.call.Reply.TheVariants.{Done, Span, Closed, Refused}
+use Rattle.span_tracing_machine.specs.declared.call.Reply.TheVariants.{Done, Enabled, Span, Closed, Refused}
 use Rattle.span_tracing_machine.specs.declared.call.SpanCall.{SpanCall}
+use Rattle.span_tracing_machine.specs.declared.call.EnabledCall.{EnabledCall}
 use Rattle.span_tracing_machine.specs.Spans.{is_open, open_of, current, without_last, handles_of}
 use Rattle.span_tracing_machine.specs.Skeleton.{Skeleton, PlainCallsite, Mask}
 
@@ -68,6 +69,13 @@ request_refusal s lane moment number is_span parent =
     (first (callsite_refusal (known_place s.callsites number is_span))
     (parent_refusal s parent)))
 
+-- a callsite of any kind may be asked about
+abbrev pub enabled_refusal : Skeleton → EnabledCall → Option Refusal
+enabled_refusal s call =
+    first (lane_refusal s call.lane)
+    (first (moment_refusal call.moment)
+    (callsite_refusal (place_of s.callsites call.callsite.0)))
+
 -- a span argument of none passes
 abbrev pub span_refusal : Skeleton → Option SpanName → Option Refusal
 span_refusal s None = None
@@ -99,6 +107,7 @@ ids_refusal s (Some place) = when (nat_lt 18446744073709551615 s.next_id) IdsSpe
 unfoldable pub refusal_of : Skeleton → PlainStep → Mask → Option Refusal
 refusal_of s (GlobalStep handle) mask = first (when (not (knows_stack s handle)) UnknownStack) (when s.is_global GlobalSet)
 refusal_of s (EventStep e) mask = request_refusal s e.lane e.moment e.callsite false e.parent
+refusal_of s (EnabledStep call) mask = enabled_refusal s call
 refusal_of s (SpanStep n) mask = first (request_refusal s n.lane n.moment n.callsite true n.parent) (ids_refusal s (made_at s n.callsite true mask))
 refusal_of s (EnterStep call) mask = call_refusal s call
 refusal_of s (ExitStep call) mask = call_refusal s call
@@ -148,6 +157,7 @@ given_up s (Some name) = without_handle s name.id
 unfoldable pub acted : Skeleton → PlainStep → Mask → Skeleton
 acted s (GlobalStep handle) mask = record s { is_global = true }
 acted s (EventStep e) mask = s
+acted s (EnabledStep call) mask = s
 acted s (SpanStep n) mask = with_span s (parent_id s.lanes n.lane n.parent) (made_at s n.callsite true mask)
 acted s (EnterStep call) mask = entered s call.lane call.span
 acted s (ExitStep call) mask = left s call.lane call.span
@@ -161,6 +171,7 @@ new_name s (Some place) = Some (record { stack = 0; id = s.next_id })
 unfoldable pub answered : Skeleton → PlainStep → Mask → Reply
 answered s (GlobalStep handle) mask = Done
 answered s (EventStep e) mask = Done
+answered s (EnabledStep call) mask = Enabled (is_made mask)
 answered s (SpanStep n) mask = Span (new_name s (made_at s n.callsite true mask))
 answered s (EnterStep call) mask = Done
 answered s (ExitStep call) mask = Done

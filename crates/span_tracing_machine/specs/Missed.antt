@@ -3,7 +3,7 @@ use Rattle.std.specs.Prelude.{ℕ, zero, suc, ◌+◌, List, [], ◌∷◌, Bool
 use Rattle.tracing_appender_rolling.specs.Sinks.{Handed}
 pub use Rattle.span_tracing_machine.specs.declared.fate.Fate.{Fate}
 pub use Rattle.span_tracing_machine.specs.declared.fate.Fate.TheVariants.{Whole, Missed, Unwritten}
-use Rattle.span_tracing_machine.specs.PlainData.{PlainStep, GlobalStep, EventStep, SpanStep, EnterStep, ExitStep, CloseStep, Given}
+use Rattle.span_tracing_machine.specs.PlainData.{PlainStep, GlobalStep, EventStep, EnabledStep, SpanStep, EnterStep, ExitStep, CloseStep, Given}
 use Rattle.span_tracing_machine.specs.Skeleton.{Skeleton, Mask}
 use Rattle.span_tracing_machine.specs.Machine.{refusal_of, made_at, or_same}
 
@@ -20,6 +20,7 @@ want_if (Some place) w = w ∷ []
 unfoldable pub wanted : Skeleton → PlainStep → Mask → List Want
 wanted s (GlobalStep handle) mask = []
 wanted s (EventStep e) mask = want_if (made_at s e.callsite false mask) (LineTo 0 0)
+wanted s (EnabledStep call) mask = []
 wanted s (SpanStep n) mask = want_if (made_at s n.callsite true mask) (TextOf 0)
 wanted s (EnterStep call) mask = []
 wanted s (ExitStep call) mask = []

@@ -7,6 +7,7 @@ use Rattle.span_tracing_machine.specs.declared.value.FieldValue.{FieldValue}
 use Rattle.span_tracing_machine.specs.declared.call.Parent.{Parent}
 use Rattle.span_tracing_machine.specs.declared.call.SpanCall.{SpanCall}
 use Rattle.span_tracing_machine.specs.declared.call.EventCall.{EventCall}
+use Rattle.span_tracing_machine.specs.declared.call.EnabledCall.{EnabledCall}
 use Rattle.span_tracing_machine.specs.declared.call.NewSpanCall.{NewSpanCall}
 use Rattle.span_tracing_machine.specs.declared.call.Step.{Step}
 use Rattle.span_tracing_machine.specs.declared.call.Step.TheVariants as steps
@@ -46,6 +47,7 @@ pub record Request : Type 0 where
 pub data PlainStep : Type 0 where
   GlobalStep : ℕ → PlainStep
   EventStep : Request → PlainStep
+  EnabledStep : EnabledCall → PlainStep
   SpanStep : Request → PlainStep
   EnterStep : SpanCall → PlainStep
   ExitStep : SpanCall → PlainStep
@@ -60,6 +62,7 @@ span_request n = record { lane = n.lane; moment = n.moment; callsite = n.callsit
 abbrev pub plain_step : Step → PlainStep
 plain_step (steps.SetGlobalDefault handle) = GlobalStep handle
 plain_step (steps.Event e) = EventStep (event_request e)
+plain_step (steps.Enabled call) = EnabledStep call
 plain_step (steps.NewSpan n) = SpanStep (span_request n)
 plain_step (steps.Enter call) = EnterStep call
 plain_step (steps.Exit call) = ExitStep call

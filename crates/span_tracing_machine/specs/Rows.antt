@@ -6,10 +6,10 @@ use Rattle.tracing_appender_rolling.specs.declared.moment.Moment.{Moment}
 use Rattle.tracing_appender_rolling.specs.Sinks.{file_text}
 use Rattle.tracing_core.specs.PlainKind.{PlainKind}
 use Rattle.span_tracing_machine.specs.declared.call.Parent.TheVariants.{Contextual}
-use Rattle.span_tracing_machine.specs.declared.call.Reply.TheVariants.{Done, Span, Closed, Refused}
-use Rattle.span_tracing_machine.specs.declared.refusal.Refusal.TheVariants.{UnknownSpan, BadMoment}
+use Rattle.span_tracing_machine.specs.declared.call.Reply.TheVariants.{Done, Enabled, Span, Closed, Refused}
+use Rattle.span_tracing_machine.specs.declared.refusal.Refusal.TheVariants.{UnknownCallsite, UnknownSpan, BadMoment}
 use Rattle.span_tracing_machine.specs.declared.call.SpanCall.{SpanCall}
-use Rattle.span_tracing_machine.specs.PlainData.{Number, Text, PlainStep, GlobalStep, EventStep, SpanStep, EnterStep, ExitStep, CloseStep}
+use Rattle.span_tracing_machine.specs.PlainData.{Number, Text, PlainStep, GlobalStep, EventStep, EnabledStep, SpanStep, EnterStep, ExitStep, CloseStep}
 use Rattle.span_tracing_machine.specs.Lines.{line_end}
 use Rattle.span_tracing_machine.specs.Skeleton.{PlainCallsite}
 use Rattle.span_tracing_machine.specs.Missed.{Missed, Unwritten}
@@ -121,3 +121,46 @@ CycleReplies = replies_of base cycle ≡ (Done ∷ Span (Some (record { stack = 
 
 abbrev pub CycleLeft : Type 0
 CycleLeft = ((plain_run base cycle []).skeleton.spans ≡ []) × ((plain_run base cycle []).value_lists ≡ []) × ((plain_run base cycle []).skeleton.next_id ≡ 2)
+
+-- a DEBUG callsite of an event
+abbrev pub quiet : PlainCallsite
+quiet = record { number = 3; metadata = record (event.metadata) { level = 4; callsite = 3 } }
+
+abbrev pub with_quiet : Plain
+with_quiet = with_callsite base quiet
+
+abbrev pub asked : ℕ → PlainStep
+asked number = EnabledStep (record { lane = 0; moment = at_ten; callsite = record { 0 = number } })
+
+-- a lane that reaches nothing, then INFO callsites of both kinds, a DEBUG one, and one that isn't registered
+abbrev pub EnabledReplies : Type 0
+EnabledReplies = replies_of with_quiet (asked 2 ∷ GlobalStep 0 ∷ asked 1 ∷ asked 2 ∷ asked 3 ∷ asked 4 ∷ [])
+    ≡ (Enabled false ∷ Done ∷ Enabled true ∷ Enabled true ∷ Enabled false ∷ Refused UnknownCallsite ∷ [])
+
+-- asking leaves no mark: the run after it is the run without it
+abbrev pub EnabledLeaves : Type 0
+EnabledLeaves = plain_run base (GlobalStep 0 ∷ asked 2 ∷ []) [] ≡ plain_run base (GlobalStep 0 ∷ []) []
+
+-- a span that is entered within another one, and an event in both
+abbrev pub inner : PlainCallsite
+inner = app_callsite 5 (record { is_event = false; is_span = true; is_hint = false }) (codes "inner") (codes "y" ∷ [])
+
+abbrev pub new_inner : PlainStep
+new_inner = SpanStep (record { lane = 0; moment = at_ten; callsite = 5; parent = Contextual; values = (record { field = 0; value = Text (codes "a") }) ∷ [] })
+
+abbrev pub on_two : SpanCall
+on_two = record { lane = 0; moment = at_ten; span = Some (record { stack = 0; id = 2 }) }
+
+abbrev pub nested : List PlainStep
+nested = GlobalStep 0 ∷ new_outer ∷ EnterStep on_one ∷ new_inner ∷ EnterStep on_two ∷ m_event ∷ []
+
+abbrev pub NestedFile : Type 0
+NestedFile = file_in (plain_run (with_callsite base inner) nested []) the_name
+    ≡ Some (Some (codes "fake time outer{x=42}:inner{y=\"a\"}: app: m" ++ line_end))
+
+-- the outer span's handle is given up while the inner one is open: it stays open, and closes with it
+abbrev pub closing : List PlainStep
+closing = nested ++ ExitStep on_two ∷ ExitStep on_one ∷ CloseStep on_one ∷ CloseStep on_two ∷ []
+
+abbrev pub NestedLeft : Type 0
+NestedLeft = (plain_run (with_callsite base inner) closing []).skeleton.spans ≡ []

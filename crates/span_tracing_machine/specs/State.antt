@@ -9,7 +9,7 @@ use Rattle.span_tracing_machine.specs.declared.call.SpanName.{SpanName}
 use Rattle.span_tracing_machine.specs.declared.call.Reply.{Reply}
 use Rattle.span_tracing_machine.specs.declared.refusal.Refusal.{Refusal}
 use Rattle.span_tracing_machine.specs.declared.refusal.Refusal.TheVariants.{Taken}
-use Rattle.span_tracing_machine.specs.PlainData.{Given, Request, PlainStep, GlobalStep, EventStep, SpanStep, EnterStep, ExitStep, CloseStep}
+use Rattle.span_tracing_machine.specs.PlainData.{Given, Request, PlainStep, GlobalStep, EventStep, EnabledStep, SpanStep, EnterStep, ExitStep, CloseStep}
 use Rattle.span_tracing_machine.specs.FieldTexts.{fields_text}
 use Rattle.span_tracing_machine.specs.Lines.{Shown, full_line}
 use Rattle.span_tracing_machine.specs.Spans.{record_of, line_of, is_open}
@@ -56,9 +56,18 @@ mask_for s filter number is_span =
     then mask_at filter (option_and_then (λ place. slice_get s.callsites place) (known_place s.callsites number is_span))
     else []
 
+-- the callsite with an identifier
+abbrev pub callsite_named : List PlainCallsite → ℕ → Option PlainCallsite
+callsite_named callsites number = option_and_then (λ place. slice_get callsites place) (place_of callsites number)
+
+-- which outputs of the reached stack would pass a request on a callsite, whatever its kind
+abbrev pub mask_asked : Skeleton → Option ℕ → ℕ → Mask
+mask_asked s filter number = if s.is_global then mask_at filter (callsite_named s.callsites number) else []
+
 unfoldable pub step_mask : Skeleton → Option ℕ → PlainStep → Mask
 step_mask s filter (GlobalStep handle) = []
 step_mask s filter (EventStep e) = mask_for s filter e.callsite false
+step_mask s filter (EnabledStep call) = mask_asked s filter call.callsite.0
 step_mask s filter (SpanStep n) = mask_for s filter n.callsite true
 step_mask s filter (EnterStep call) = []
 step_mask s filter (ExitStep call) = []
@@ -115,6 +124,7 @@ handed_at moment line = record { line = line; moment = moment }
 unfoldable pub offer_of : Skeleton → List PlainText → Option (List ℕ) → PlainStep → Mask → Option Handed
 offer_of s texts time (GlobalStep handle) mask = None
 offer_of s texts time (EventStep e) mask = option_map (λ place. handed_at e.moment (event_line s texts time e place)) (made_at s e.callsite false mask)
+offer_of s texts time (EnabledStep call) mask = None
 offer_of s texts time (SpanStep n) mask = None
 offer_of s texts time (EnterStep call) mask = None
 offer_of s texts time (ExitStep call) mask = None
@@ -134,6 +144,7 @@ lists_left (Some name) spans lists = filter (λ (v : ValueList). is_open spans v
 unfoldable pub lists_acted : Skeleton → List ValueList → PlainStep → Mask → Fate → List ValueList
 lists_acted s lists (GlobalStep handle) mask fate = lists
 lists_acted s lists (EventStep e) mask fate = lists
+lists_acted s lists (EnabledStep call) mask fate = lists
 lists_acted s lists (SpanStep n) mask fate = with_values lists s n fate (made_at s n.callsite true mask)
 lists_acted s lists (EnterStep call) mask fate = lists
 lists_acted s lists (ExitStep call) mask fate = lists_left call.span (acted s (ExitStep call) mask).spans lists
@@ -204,10 +215,6 @@ with_skeleton p s = record p { skeleton = s }
 -- the setup calls
 abbrev pub with_callsite : Plain → PlainCallsite → Plain
 with_callsite p c = with_skeleton p (record (p.skeleton) { callsites = p.skeleton.callsites ++ c ∷ [] })
-
--- the callsite with an identifier
-abbrev pub callsite_named : List PlainCallsite → ℕ → Option PlainCallsite
-callsite_named callsites number = option_and_then (λ place. slice_get callsites place) (place_of callsites number)
 
 -- an identifier that other metadata holds is taken; equal metadata may be registered again, which changes nothing
 abbrev pub taken_by : Option PlainCallsite → PlainCallsite → Option Refusal

@@ -51,12 +51,22 @@ pub struct SpanCall {
     pub span: Option<SpanName>,
 }
 
+/// A question on a lane: whether a request at a callsite would be made.
+#[derive(Clone, Copy, Debug, PartialEq, Eq)]
+pub struct EnabledCall {
+    pub lane: usize,
+    pub moment: Moment,
+    pub callsite: Identifier,
+}
+
 /// One step of a trace.
 #[derive(Debug, Drop)]
 pub enum Step {
     /// Makes the stack with this handle the one that lanes reach.
     SetGlobalDefault(usize),
     Event(EventCall),
+    /// Asks whether a request would be made. It is no request, and leaves no mark.
+    Enabled(EnabledCall),
     NewSpan(NewSpanCall),
     Enter(SpanCall),
     Exit(SpanCall),
@@ -68,6 +78,8 @@ pub enum Step {
 #[derive(Clone, Copy, Debug, PartialEq, Eq)]
 pub enum Reply {
     Done,
+    /// Whether a request would be made.
+    Enabled(bool),
     /// The new span, or none where it was dropped.
     Span(Option<SpanName>),
     /// Whether the span closed.

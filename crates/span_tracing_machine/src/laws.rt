@@ -1,7 +1,7 @@
 //! Laws of the plain machine.
 
 ghost use Rattle.span_tracing_machine.specs.Spans.{OpenIsLeast};
-ghost use Rattle.span_tracing_machine.specs.Laws.{OpenIsClosedUp, StartsWellFormed, SetupStaysWellFormed, StaysWellFormed, LineIsWhole, CountGrows, CountStops, NoneMissed, NoneMissedInRun, RunHandsOffered, OffersInRange, MissedChangesNoReply, RunsCompose};
+ghost use Rattle.span_tracing_machine.specs.Laws.{OpenIsClosedUp, StartsWellFormed, SetupStaysWellFormed, StaysWellFormed, LineIsWhole, CountGrows, CountStops, NoneMissed, NoneMissedInRun, RunHandsOffered, OffersInRange, MissedChangesNoReply, EnabledTellsMade, RunsCompose};
 
 /// The open spans are the least set that holds each span with a handle or an entry, and the parents of its members.
 pub fn open_is_least()
@@ -42,6 +42,11 @@ pub fn run_hands_offered()
 /// Want of memory for texts and lines changes no reply.
 pub fn missed_changes_no_reply()
     ensures { MissedChangesNoReply }
+{}
+
+/// Asking whether a request would be made asks what the request itself asks.
+pub fn enabled_tells_made()
+    ensures { EnabledTellsMade }
 {}
 
 /// Steps in one run or in two are the same.

@@ -10,15 +10,16 @@ mod refusal;
 mod rows;
 mod value;
 
-pub use call::{EventCall, NewSpanCall, Parent, Reply, SpanCall, SpanName, Step};
+pub use call::{EnabledCall, EventCall, NewSpanCall, Parent, Reply, SpanCall, SpanName, Step};
 pub use fate::Fate;
 pub use laws::{
-    line_is_whole, missed_changes_no_reply, none_missed, open_is_least, run_hands_offered,
+    enabled_tells_made, line_is_whole, missed_changes_no_reply, none_missed, open_is_least, run_hands_offered,
     runs_compose, starved_counts, stays_well_formed,
 };
 pub use record::SpanRecord;
 pub use refusal::Refusal;
 pub use rows::{
-    row_bytes_at_opening, row_empty, row_missed, row_span_cycle, row_stored_run, row_too_early,
+    row_bytes_at_opening, row_empty, row_enabled, row_missed, row_nested_spans, row_span_cycle,
+    row_stored_run, row_too_early,
 };
 pub use value::{FieldValue, Value};

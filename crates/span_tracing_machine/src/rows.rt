@@ -1,6 +1,6 @@
 //! Worked rows: what the plain machine gives for a few runs, found by computing.
 
-ghost use Rattle.span_tracing_machine.specs.Rows.{StoredRunReplies, StoredRunFile, BytesAtOpening, EmptyReplies, EmptyFile, TooEarlyReplies, TooEarlyFile, MissedText, MissedLine, UnwrittenLine, CycleReplies, CycleLeft};
+ghost use Rattle.span_tracing_machine.specs.Rows.{StoredRunReplies, StoredRunFile, BytesAtOpening, EmptyReplies, EmptyFile, TooEarlyReplies, TooEarlyFile, MissedText, MissedLine, UnwrittenLine, CycleReplies, CycleLeft, EnabledReplies, EnabledLeaves, NestedFile, NestedLeft};
 
 /// A span, an event in it, and the file's one line.
 pub fn row_stored_run()
@@ -36,4 +36,16 @@ pub fn row_missed()
 pub fn row_span_cycle()
     ensures replies { CycleReplies }
     ensures left { CycleLeft }
+{}
+
+/// Asking whether a request would be made goes by the filter and the reached stack, and leaves no mark.
+pub fn row_enabled()
+    ensures replies { EnabledReplies }
+    ensures left { EnabledLeaves }
+{}
+
+/// A span inside a span: both stand in an event's line from the root, and the outer one closes with the inner one.
+pub fn row_nested_spans()
+    ensures file { NestedFile }
+    ensures left { NestedLeft }
 {}

@@ -4,7 +4,9 @@ use crate::decode::members::{Members, owned_text, pair};
 use crate::decode::setup::{CallsiteLine, Setup};
 use crate::fault::LineFault;
 use serde_json::Value as Json;
-use span_tracing::{EventCall, FieldValue, NewSpanCall, Parent, SpanCall, SpanName, Step, Value};
+use span_tracing::{
+    EnabledCall, EventCall, FieldValue, NewSpanCall, Parent, SpanCall, SpanName, Step, Value,
+};
 use std::alloc::Global;
 use tracing_core::{Id, Identifier};
 
@@ -21,6 +23,7 @@ pub(crate) fn step_line(
             Ok(Step::SetGlobalDefault(members.size("handle")?))
         }
         "event" => Ok(Step::Event(event_call(alloc, setup, members)?)),
+        "enabled" => Ok(Step::Enabled(enabled_call(members)?)),
         "new_span" => Ok(Step::NewSpan(new_span_call(alloc, setup, members)?)),
         "enter" => Ok(Step::Enter(span_call(members)?)),
         "exit" => Ok(Step::Exit(span_call(members)?)),
@@ -60,6 +63,15 @@ fn new_span_call(
         callsite: Identifier(id),
         parent: parent_of(members)?,
         values: field_values(alloc, first_callsite(setup, id), members.list("values")?)?,
+    })
+}
+
+fn enabled_call(members: Members<'_>) -> Result<EnabledCall, LineFault> {
+    members.only(&["do", "lane", "moment", "callsite"])?;
+    Ok(EnabledCall {
+        lane: members.size("lane")?,
+        moment: members.moment()?,
+        callsite: Identifier(members.number("callsite")?),
     })
 }
 

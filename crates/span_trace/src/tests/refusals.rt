@@ -19,7 +19,7 @@ const EXIT: &str = r#"{"do":"exit","lane":0,"moment":[1739786460,0],"span":[0,1]
 
 const CLOSE: &str = r#"{"do":"try_close","lane":0,"moment":[1739786460,0],"span":[0,1]}"#;
 
-const REPLIES: [Row<'static>; 9] = [
+const REPLIES: [Row<'static>; 10] = [
     Row {
         steps: &[DEFAULT, NEW_SPAN, ENTER, EVENT],
         replies: &[r#""done""#, r#"{"span":[0,1]}"#, r#""done""#, r#""done""#],
@@ -46,6 +46,28 @@ const REPLIES: [Row<'static>; 9] = [
         ],
         status: 1,
         text: r"fake time outer{x=42}: app: hi n=3\n",
+    },
+    Row {
+        steps: &[
+            r#"{"do":"enabled","lane":0,"moment":[1739786460,0],"callsite":2}"#,
+            DEFAULT,
+            r#"{"do":"enabled","lane":0,"moment":[1739786460,0],"callsite":2}"#,
+            r#"{"do":"enabled","lane":0,"moment":[1739786460,0],"callsite":1}"#,
+            r#"{"do":"enabled","lane":0,"moment":[1739786460,0],"callsite":9}"#,
+            r#"{"do":"enabled","lane":0,"moment":[253370764800,0],"callsite":9}"#,
+            r#"{"do":"enabled","lane":1,"moment":[253370764800,0],"callsite":9}"#,
+        ],
+        replies: &[
+            r#"{"enabled":false}"#,
+            r#""done""#,
+            r#"{"enabled":true}"#,
+            r#"{"enabled":true}"#,
+            r#"{"refused":1}"#,
+            r#"{"refused":13}"#,
+            r#"{"refused":23}"#,
+        ],
+        status: 1,
+        text: "",
     },
     Row {
         steps: &[DEFAULT, NEW_SPAN, CLOSE, CLOSE],

@@ -8,7 +8,7 @@ use std::process::Abort;
 use std::test::Fail;
 
 /// Whole lines.
-const LINES: [&str; 22] = [
+const LINES: [&str; 26] = [
     "",
     " ",
     "null",
@@ -24,6 +24,10 @@ const LINES: [&str; 22] = [
     r#"{"do":"LANE","thread":1}"#,
     r#"{"do":"shelf","filter":"info"}"#,
     r#"{"do":"enabled","lane":0,"callsite":1}"#,
+    r#"{"do":"enabled","moment":[0,0],"callsite":1}"#,
+    r#"{"do":"enabled","lane":0,"moment":[0,0]}"#,
+    r#"{"do":"enabled","lane":0,"moment":[0,0],"callsite":null}"#,
+    r#"{"do":"enabled","lane":0,"moment":[0,0],"callsite":1,"values":[]}"#,
     r#"{"do":"record","lane":0,"moment":[0,0],"span":[0,1],"values":[]}"#,
     r#"{"do":"clone_span","lane":0,"moment":[0,0],"span":[0,1]}"#,
     r#"{"do":"work","moment":[0,0],"sink":0,"lines":9}"#,

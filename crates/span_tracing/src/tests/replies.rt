@@ -1,7 +1,7 @@
 //! Each step once, and each refusal of a step.
 
 use super::*;
-use crate::{EventCall, NewSpanCall, Parent, SpanCall, Step};
+use crate::{EnabledCall, EventCall, NewSpanCall, Parent, SpanCall, Step};
 
 #[test]
 fn each_step_answers(rt: HostRuntime) -> Result<(), Fail> {
@@ -31,6 +31,40 @@ fn each_step_answers(rt: HostRuntime) -> Result<(), Fail> {
     assert_eq!(rt; trace.try_close(0, OPENED, None), Reply::Closed(false));
     let last = made(trace.new_span(1, OPENED, OUTER, Parent::Contextual, &[]))?;
     assert_eq!(rt; last, span_name(0, 3)?);
+    Ok(())
+}
+
+#[test]
+fn enabled_tells_what_would_be_made(rt: HostRuntime) -> Result<(), Fail> {
+    let alloc = rt.alloc();
+    let folder = MemoryFolder::new(alloc);
+    let timer = fixed_time(alloc)?;
+    let mut trace = trace_over(&rt, alloc, folder, LevelFilter::INFO, timer)?;
+    assert_eq!(rt; trace.enabled(1, OPENED, EVENT), Reply::Enabled(false));
+    assert_eq!(rt; trace.set_global_default(0), Reply::Done);
+    assert_eq!(rt; trace.enabled(0, OPENED, EVENT), Reply::Enabled(true));
+    assert_eq!(rt; trace.enabled(1, OPENED, OUTER), Reply::Enabled(true));
+    assert_eq!(rt; trace.enabled(1, OPENED, DETAIL), Reply::Enabled(false));
+    let steps = [Step::Enabled(EnabledCall {
+        lane: 0,
+        moment: OPENED,
+        callsite: EVENT,
+    })];
+    assert_eq!(rt; trace.run(&steps)?.as_slice(), [Reply::Enabled(true)].as_slice());
+    has_file(&rt, &trace, TODAY, "")
+}
+
+#[test]
+fn questions_are_refused_in_order(rt: HostRuntime) -> Result<(), Fail> {
+    let alloc = rt.alloc();
+    let mut trace = set_trace(&rt, alloc, LevelFilter::INFO, fixed_time(alloc)?)?;
+    let unknown = Identifier(9);
+    let lane = Reply::Refused(Refusal::UnknownLane);
+    let moment = Reply::Refused(Refusal::BadMoment);
+    let callsite = Reply::Refused(Refusal::UnknownCallsite);
+    assert_eq!(rt; trace.enabled(2, TOO_EARLY, unknown), lane);
+    assert_eq!(rt; trace.enabled(1, TOO_EARLY, unknown), moment);
+    assert_eq!(rt; trace.enabled(1, OPENED, unknown), callsite);
     Ok(())
 }
 
