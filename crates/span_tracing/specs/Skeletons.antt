@@ -66,7 +66,7 @@ time_in None = None
 time_in (Some s) = s.time
 
 abbrev pub plain_text : SpanText → PlainText
-plain_text t = record { id = t.id; bytes = string_bytes t.text }
+plain_text t = record { id = t.id; name = string_bytes t.name; bytes = string_bytes t.text }
 
 abbrev pub texts_of : TraceState → List PlainText
 texts_of t = map plain_text t.texts.items

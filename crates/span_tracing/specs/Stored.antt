@@ -14,7 +14,7 @@ use Rattle.span_tracing_machine.specs.Spans.{is_open}
 use Rattle.span_tracing_machine.specs.Skeleton.{Skeleton, Mask}
 use Rattle.span_tracing_machine.specs.Machine.{refusal_of, acted, after, or_same, made_at}
 use Rattle.span_tracing_machine.specs.Missed.{TextOf, given_by, wanted, wants_of, starved_by, count_missed}
-use Rattle.span_tracing_machine.specs.State.{PlainText, fields_of, step_mask}
+use Rattle.span_tracing_machine.specs.State.{PlainText, name_of, fields_of, step_mask}
 use Rattle.span_tracing.specs.declared.state.TraceState.{TraceState}
 use Rattle.span_tracing.specs.Skeletons.{skeleton_of, threads_of, setting_of, texts_of, filter_in}
 
@@ -26,7 +26,7 @@ mask_in t step = step_mask (skeleton_of t) (filter_in (setting_of t)) step
 abbrev pub with_text : List PlainText → Skeleton → Request → Fate → Option ℕ → List PlainText
 with_text texts s n fate None = texts
 with_text texts s n fate (Some place) =
-    texts ++ (record { id = s.next_id; bytes = fields_text (fields_of (slice_get s.callsites place)) (given_by fate n.values) }) ∷ []
+    texts ++ (record { id = s.next_id; name = name_of (slice_get s.callsites place); bytes = fields_text (fields_of (slice_get s.callsites place)) (given_by fate n.values) }) ∷ []
 
 abbrev pub open_texts : List SpanRecord → List PlainText → List PlainText
 open_texts spans texts = filter (λ (t : PlainText). is_open spans t.id) texts

@@ -3,31 +3,33 @@
 ghost use Rattle.std.specs.Prelude.{◌≡◌, map, IfOk, OnOk, string_bytes, ◌<◌, length};
 ghost use Rattle.std.specs.Option.{option_map, option_copied};
 ghost use Rattle.span_tracing_machine.specs.Machine.{lane_at, parent_id};
-ghost use Rattle.span_tracing_machine.specs.State.{name_of, text_at, shown_span, scope_ids, event_line};
+ghost use Rattle.span_tracing_machine.specs.State.{shown_span, scope_ids, event_line};
 ghost use Rattle.span_tracing.specs.Actions.{plain_request};
 ghost use Rattle.span_tracing.specs.Shown.{shown_of};
 ghost use Rattle.span_tracing.specs.Lanes.{plain_lanes};
 ghost use Rattle.span_tracing.specs.Skeletons.{plain_callsite, plain_setting, plain_text, plain_time, skeleton_of, setting_of, texts_of, time_in};
 
 use crate::action::Request;
-use crate::callsite::Callsite;
 use crate::lane::Lane;
 use crate::line::{ShownSpan, push_full_line};
 use crate::output::Timer;
 use crate::state::{Setting, SpanText, TraceState};
-use crate::store::{current, line_of, record_of};
+use crate::store::{current, line_of};
 use span_tracing_machine::Parent;
 use std::alloc::AllocError;
 
-fn text_at(texts: &[SpanText], id: u64) -> &str
-    ensures { result.now ≡ text_at (map plain_text texts.now) id }
+fn shown_at(texts: &[SpanText], id: u64) -> ShownSpan<'_>
+    ensures { shown_of result ≡ shown_span (map plain_text texts.now) id }
 {
     for stored in texts {
         if stored.id == id {
-            return stored.text.as_str();
+            return ShownSpan {
+                name: stored.name.as_str(),
+                text: stored.text.as_str(),
+            };
         }
     }
-    ""
+    ShownSpan { name: "", text: "" }
 }
 
 #[tactic(auto, using(crate::proofs::Lists::slice_get_map))]
@@ -37,15 +39,6 @@ fn lane_at(lanes: &[Lane], lane: usize) -> &[u64]
     match lanes.get(lane) {
         None => &[],
         Some(entered) => entered.entries.as_slice(),
-    }
-}
-
-fn name_of(callsite: Option<&Callsite>) -> &str
-    ensures { result.now ≡ name_of (option_map plain_callsite (option_copied callsite.entry)) }
-{
-    match callsite {
-        None => "",
-        Some(known) => known.name.as_str(),
     }
 }
 
@@ -80,20 +73,6 @@ impl TraceState {
         }
     }
 
-    #[tactic(auto, using(crate::proofs::Lists::slice_get_map), unfolding(span_tracing_machine::specs::State::shown_span))]
-    fn shown(&self, id: u64) -> ShownSpan<'_>
-        ensures { shown_of result ≡ shown_span (skeleton_of self.now) (texts_of self.now) id }
-    {
-        let callsite = match record_of(self.spans.as_slice(), id) {
-            None => None,
-            Some(record) => self.callsites.get(record.callsite),
-        };
-        ShownSpan {
-            name: name_of(callsite),
-            text: text_at(self.texts.as_slice(), id),
-        }
-    }
-
     fn scope_ids(&self, start: Option<u64>) -> Result<Vec<u64>, AllocError>
         ensures { IfOk result (λ ids. ids.items ≡ scope_ids self.now.spans.items start) }
     {
@@ -109,11 +88,11 @@ impl TraceState {
 
     fn shown_scope(&self, ids: &[u64]) -> Result<Vec<ShownSpan<'_>>, AllocError>
         ensures { IfOk result (λ scope. map shown_of scope.items
-            ≡ map (shown_span (skeleton_of self.now) (texts_of self.now)) ids.now) }
+            ≡ map (shown_span (texts_of self.now)) ids.now) }
     {
         let mut scope = Vec::new(self.alloc);
         for id in ids {
-            scope.push(self.shown(*id))?;
+            scope.push(shown_at(self.texts.as_slice(), *id))?;
         }
         Ok(scope)
     }

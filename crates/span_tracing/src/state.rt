@@ -7,10 +7,11 @@ use span_tracing_machine::SpanRecord;
 use std::alloc::Global;
 use tracing_core::{Id, LevelFilter};
 
-/// The text of an open span.
+/// The name and the text of an open span.
 #[derive(Debug, Drop)]
 pub(crate) struct SpanText {
     pub(crate) id: u64,
+    pub(crate) name: String,
     pub(crate) text: String,
 }
 

@@ -94,15 +94,25 @@ impl TraceState {
 
     /// Adds a span, and its text. Where either finds no memory, neither is added.
     #[tactic(auto, using(crate::proofs::Lists::map_more))]
-    fn push_span(&mut self, span: SpanRecord, text: String) -> Result<(), AllocError>
+    fn push_span(
+        &mut self,
+        span: SpanRecord,
+        name: String,
+        text: String,
+    ) -> Result<(), AllocError>
         requires { (0 < span.id) × (span.id ≤ 18446744073709551615) }
         ensures skeleton { OnOk result (skeleton_of self.new ≡ record (skeleton_of self.old) { spans = self.old.spans.items ++ span ∷ []; next_id = span.id + 1 }) }
-        ensures texts { OnOk result (texts_of self.new ≡ texts_of self.old ++ (record { id = span.id; bytes = string_bytes text }) ∷ []) }
+        ensures texts { OnOk result (texts_of self.new ≡ texts_of self.old ++ (record { id = span.id; name = string_bytes name; bytes = string_bytes text }) ∷ []) }
         ensures kept { (self.new.setting ≡ self.old.setting) × (threads_of self.new ≡ threads_of self.old) × (self.new.starved ≡ self.old.starved) }
         ensures err { OnErr result (state_value self.new ≡ state_value self.old) }
     {
         self.spans.push(span)?;
-        if self.texts.push(SpanText { id: span.id, text }).is_err() {
+        let stored = SpanText {
+            id: span.id,
+            name,
+            text,
+        };
+        if self.texts.push(stored).is_err() {
             let _span = self.spans.pop();
             return Err(AllocError);
         }
@@ -131,16 +141,17 @@ impl TraceState {
                 fate: Fate::Whole,
             });
         };
+        let name = String::from_str(self.alloc, self.callsites[place].name.as_str())?;
         let made = self.text_or_missed(span, place);
         let parent = self.parent_id(span.lane, span.parent);
         let fate = made.fate;
         self.push_span(
             SpanRecord {
                 id: id.into_u64(),
-                callsite: place,
                 parent,
                 handles: 1,
             },
+            name,
             made.text,
         )?;
         self.count(fate);

@@ -15,7 +15,7 @@ fn is_member(ids: &[u64], id: u64) -> bool
 }
 
 /// The record of an id, where it is open.
-pub(crate) fn record_of(spans: &[SpanRecord], id: u64) -> Option<SpanRecord>
+fn record_of(spans: &[SpanRecord], id: u64) -> Option<SpanRecord>
     ensures { result ≡ record_of spans.now id }
 {
     for span in spans {

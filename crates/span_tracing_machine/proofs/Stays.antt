@@ -56,7 +56,7 @@ span_listed s call name is passes =
 made_well : (s : Skeleton) (parent place : Option ℕ) → IsWellFormed s → ((p : ℕ) → parent ≡ Some p → is_open s.spans p ≡ true) → IsWellFormed (with_span s parent place)
 made_well s parent None well listed = well
 made_well s parent (Some place) well listed =
-    let new : SpanRecord = record { id = s.next_id; callsite = place; parent = parent; handles = 1 } in
+    let new : SpanRecord = record { id = s.next_id; parent = parent; handles = 1 } in
     record {
       started = omega (arith, well.started);
       ordered = ordered_more [] 0 s.next_id s.spans new well.ordered well.below well.started refl (λ p is. inr (listed p is));

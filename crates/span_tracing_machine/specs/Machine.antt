@@ -124,7 +124,7 @@ parent_id lanes lane (Explicit name) = Some name.id
 
 abbrev pub with_span : Skeleton → Option ℕ → Option ℕ → Skeleton
 with_span s parent None = s
-with_span s parent (Some place) = record s { spans = s.spans ++ (record { id = s.next_id; callsite = place; parent = parent; handles = 1 }) ∷ []; next_id = s.next_id + 1 }
+with_span s parent (Some place) = record s { spans = s.spans ++ (record { id = s.next_id; parent = parent; handles = 1 }) ∷ []; next_id = s.next_id + 1 }
 
 abbrev pub changed_lane : Skeleton → ℕ → (List ℕ → List ℕ) → Skeleton
 changed_lane s lane f = record s { lanes = slice_set s.lanes lane (f (lane_at s.lanes lane)) }

@@ -12,24 +12,26 @@ use Rattle.span_tracing_machine.specs.declared.refusal.Refusal.TheVariants.{Take
 use Rattle.span_tracing_machine.specs.PlainData.{Given, Request, PlainStep, GlobalStep, EventStep, EnabledStep, SpanStep, EnterStep, ExitStep, CloseStep}
 use Rattle.span_tracing_machine.specs.FieldTexts.{fields_text}
 use Rattle.span_tracing_machine.specs.Lines.{Shown, full_line}
-use Rattle.span_tracing_machine.specs.Spans.{record_of, line_of, is_open}
+use Rattle.span_tracing_machine.specs.Spans.{line_of, is_open}
 use Rattle.span_tracing_machine.specs.Skeleton.{Skeleton, PlainCallsite, Mask}
 use Rattle.span_tracing_machine.specs.Machine.{refusal_of, reply_of, acted, after, when, place_of, known_place, made_at, parent_id, or_same}
 use Rattle.span_tracing_machine.specs.Missed.{Fate, first_fate, given_by, handed_lines, first_fates, later_fates, count_missed, wants_of}
 
--- an open span's value list over its callsite's field names
+-- an open span's name, and its value list over its callsite's field names
 pub record ValueList : Type 0 where
   pub id : ℕ
+  pub name : List ℕ
   pub names : List (List ℕ)
   pub values : List Given
 
--- a span's text, by its id
+-- a span's name and text, by its id
 pub record PlainText : Type 0 where
   pub id : ℕ
+  pub name : List ℕ
   pub bytes : List ℕ
 
 abbrev pub text_of : ValueList → PlainText
-text_of v = record { id = v.id; bytes = fields_text v.names v.values }
+text_of v = record { id = v.id; name = v.name; bytes = fields_text v.names v.values }
 
 -- an output: the greatest level that its filter passes (0 for none), its time text, its sink
 pub record PlainOutput : Type 0 where
@@ -93,18 +95,10 @@ abbrev pub fields_of : Option PlainCallsite → List (List ℕ)
 fields_of None = []
 fields_of (Some c) = c.metadata.field_names
 
--- the text of an id
-abbrev pub text_at : List PlainText → ℕ → List ℕ
-text_at [] id = []
-text_at (t ∷ ts) id = if t.id == id then t.bytes else text_at ts id
-
-abbrev pub callsite_at : Skeleton → Option SpanRecord → Option PlainCallsite
-callsite_at s None = None
-callsite_at s (Some r) = slice_get s.callsites r.callsite
-
 -- how a span of a scope is shown
-unfoldable pub shown_span : Skeleton → List PlainText → ℕ → Shown
-shown_span s texts id = record { name = name_of (callsite_at s (record_of s.spans id)); text = text_at texts id }
+abbrev pub shown_span : List PlainText → ℕ → Shown
+shown_span [] id = record { name = []; text = [] }
+shown_span (t ∷ ts) id = if t.id == id then record { name = t.name; text = t.bytes } else shown_span ts id
 
 -- the strict scope from the root: a span and its ancestors
 abbrev pub scope_ids : List SpanRecord → Option ℕ → List ℕ
@@ -114,7 +108,7 @@ scope_ids spans (Some id) = reverse (line_of spans id)
 -- the line of an event at the callsite of a place
 unfoldable pub event_line : Skeleton → List PlainText → Option (List ℕ) → Request → ℕ → List ℕ
 event_line s texts time e place =
-    full_line time (map (shown_span s texts) (scope_ids s.spans (parent_id s.lanes e.lane e.parent)))
+    full_line time (map (shown_span texts) (scope_ids s.spans (parent_id s.lanes e.lane e.parent)))
     (target_of (slice_get s.callsites place)) (fields_of (slice_get s.callsites place)) e.values
 
 abbrev pub handed_at : Moment → List ℕ → Handed
@@ -134,7 +128,7 @@ offer_of s texts time (CloseStep call) mask = None
 abbrev pub with_values : List ValueList → Skeleton → Request → Fate → Option ℕ → List ValueList
 with_values lists s n fate None = lists
 with_values lists s n fate (Some place) =
-    lists ++ (record { id = s.next_id; names = fields_of (slice_get s.callsites place); values = given_by fate n.values }) ∷ []
+    lists ++ (record { id = s.next_id; name = name_of (slice_get s.callsites place); names = fields_of (slice_get s.callsites place); values = given_by fate n.values }) ∷ []
 
 -- a span that closed is forgotten; a call on no span closes none
 abbrev pub lists_left : Option SpanName → List SpanRecord → List ValueList → List ValueList
