@@ -1,2 +1,5 @@
 mod FieldLemmas
 mod TextLemmas
+mod VisitLemmas
+mod BytesLemmas
+mod NamesLemmas
