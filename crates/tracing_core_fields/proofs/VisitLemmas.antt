@@ -2,11 +2,13 @@
 use Rattle.std.proofs.Common.{◌≡◌, ℕ, ◌+◌, ◌<◌, ◌≤◌, List, [], Option, Some, None, Result, Ok, Err, IsErrAnd, length, drop, filter_map, get_or, ap, subst, sym, ◌∙◌}
 use Rattle.std.specs.List.{cons_option, enumerate_from}
 use Rattle.std.proofs.lemmas.List.{drop_more, drop_all}
+use Rattle.tracing_core_fields.specs.OwnedValues.{indexed_entry, indexed_entries}
 use Rattle.tracing_core_fields.specs.PlainField.{PlainField}
 use Rattle.tracing_core_fields.specs.PlainValue.{PlainValue}
 use Rattle.tracing_core_fields.specs.Values.{given_entry, given_entries, placed_entry}
 use Rattle.tracing_core_fields.specs.Visits.{TakesIfThere, Visits, all_taken, taken, refused}
 use Rattle.tracing_core_fields.specs.declared.field.Field.{Field}
+use Rattle.tracing_core_fields.specs.declared.owned_value.FieldValue.{FieldValue}
 use Rattle.tracing_core_fields.specs.declared.value_set.AnyValue.{AnyValue}
 
 -- a refusal that is handed on as it is
@@ -30,6 +32,15 @@ placed_more values i below = ap (λ left. filter_map placed_entry (enumerate_fro
 
 pub placed_none : (values : List (Option AnyValue)) (i : ℕ) → length values ≤ i → filter_map placed_entry (enumerate_from i (drop i values)) ≡ []
 placed_none values i past = ap (λ left. filter_map placed_entry (enumerate_from i left)) (drop_all i values past)
+
+pub indexed_more : (count : ℕ) (values : List FieldValue) (i : ℕ) (given : FieldValue) → i < length values → given ≡ get_or values i given →
+    indexed_entries count (drop i values) ≡ cons_option (indexed_entry count given) (indexed_entries count (drop (i + 1) values))
+indexed_more count values i given below is =
+    ap (indexed_entries count) (drop_more values i given below)
+    ∙ ap (λ v. cons_option (indexed_entry count v) (indexed_entries count (drop (i + 1) values))) (sym is)
+
+pub indexed_none : (count : ℕ) (values : List FieldValue) (i : ℕ) → length values ≤ i → indexed_entries count (drop i values) ≡ []
+indexed_none count values i past = ap (indexed_entries count) (drop_all i values past)
 
 module _ {V E : Type 0} (takes : V → PlainField → PlainValue → Result (Unit {0}) E → V → Type 0) (callsite : ℕ) (names : List (List ℕ)) where
   -- a visit of what is left, by the visitor as it is now, ends the visit of all from the start

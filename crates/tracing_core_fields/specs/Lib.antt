@@ -17,5 +17,6 @@ pub mod DebugText
 pub mod ErrorText
 pub mod PlainValue
 pub mod Visits
+pub mod OwnedValues
 pub mod Values
 pub mod ValueSet

@@ -2,12 +2,14 @@
 ghost use Rattle.std.specs.Prelude.{◌≡◌, ◌<◌, ◌≤◌, MatchOption, length};
 ghost use Rattle.tracing_core_fields.specs.Field.{plain_field};
 ghost use Rattle.tracing_core_fields.specs.FieldSet.{field_names, set_callsite};
+ghost use Rattle.tracing_core_fields.specs.OwnedValues.{indexed_entry, indexed_entries};
 ghost use Rattle.tracing_core_fields.specs.PlainValue.{present_value};
 ghost use Rattle.tracing_core_fields.specs.ValueSet.{entries_of, fields_of_values};
 ghost use Rattle.tracing_core_fields.specs.Values.{given_entry, given_entries, placed_entry, placed_entries};
 ghost use Rattle.tracing_core_fields.specs.Visits.{TakesIfThere, Visits};
 
 use crate::field::{Field, FieldSet};
+use crate::owned_value::FieldValue;
 use crate::value_set::{AnyValue, ValueSet, Values};
 use crate::visit::Visit;
 
@@ -96,6 +98,37 @@ fn record_placed<V: Visit>(
     Ok(())
 }
 
+// Hands on the value of the field at the index, where the set has such a field.
+fn record_owned<V: Visit>(
+    fields: &FieldSet<'_>,
+    given: &FieldValue,
+    visitor: &mut V,
+) -> Result<(), V::Error>
+    ensures { TakesIfThere V.takes (set_callsite fields.now) (field_names fields.now)
+        (indexed_entry (length (field_names fields.now)) given.now) visitor.old result visitor.new }
+{
+    if given.field < fields.len() {
+        record_value(visitor, &fields.at(given.field), &Some(given.value.lend()))
+    } else {
+        Ok(())
+    }
+}
+
+// Visits the fields of the set whose values are given by their indices.
+fn record_indexed<V: Visit>(
+    fields: &FieldSet<'_>,
+    values: &[FieldValue],
+    visitor: &mut V,
+) -> Result<(), V::Error>
+    ensures { Visits V.takes (set_callsite fields.now) (field_names fields.now)
+        (indexed_entries (length (field_names fields.now)) values.now) visitor.old result visitor.new }
+{
+    for given in values {
+        record_owned(fields, given, visitor)?;
+    }
+    Ok(())
+}
+
 impl ValueSet<'_> {
     /// Hands the values to the visitor, in order, up to its first refusal, which is the answer.
     ///
@@ -111,6 +144,7 @@ impl ValueSet<'_> {
                 let count = self.fields.len().min(values.len());
                 record_placed(&self.fields, &values[..count], visitor)
             }
+            Values::Indexed(values) => record_indexed(&self.fields, values, visitor),
         }
     }
 }

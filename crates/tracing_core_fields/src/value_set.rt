@@ -2,6 +2,7 @@
 ghost use Rattle.std.specs.Prelude.{◌≡◌, ◌↔◌, ◌==◌, IsTrue, List, [], length, min, take, count_by, not};
 ghost use Rattle.std.specs.Option.{is_some};
 ghost use Rattle.tracing_core_fields.specs.FieldSet.{field_names, set_callsite};
+ghost use Rattle.tracing_core_fields.specs.OwnedValues.{is_indexed, indexed_entries};
 ghost use Rattle.tracing_core_fields.specs.PlainValue.{present_value};
 ghost use Rattle.tracing_core_fields.specs.ValueSet.{entries_of, entry_count, fields_of_values};
 ghost use Rattle.tracing_core_fields.specs.Values.{is_own, given_entries, placed_entries};
@@ -10,6 +11,7 @@ use crate::callsite::Identifier;
 use crate::debug_text::DebugText;
 use crate::error_text::ErrorText;
 use crate::field::{Field, FieldSet};
+use crate::owned_value::{FieldValue, OwnedValue};
 
 /// The value of a field: a case for each call of [`Visit`](crate::Visit), and `Empty`.
 #[derive(Clone, Copy, Debug, PartialEq, Eq)]
@@ -40,6 +42,7 @@ pub enum AnyValue<'a> {
 pub(crate) enum Values<'a> {
     Explicit(&'a [(Field<'a>, Option<AnyValue<'a>>)]),
     All(&'a [Option<AnyValue<'a>>]),
+    Indexed(&'a [FieldValue]),
 }
 
 /// The values of fields at one callsite.
@@ -74,6 +77,19 @@ impl<'a> FieldSet<'a> {
     {
         ValueSet {
             values: Values::All(values),
+            fields: *self,
+        }
+    }
+
+    /// The set of the fields at these indices with their values, which are owned. An index past the end is
+    /// passed over.
+    pub fn value_set_indexed(&self, values: &'a [FieldValue]) -> ValueSet<'a>
+        ensures entries { entries_of result ≡ indexed_entries (length (field_names self.now)) values.now }
+        ensures count { entry_count result ≡ count_by (is_indexed (length (field_names self.now))) values.now }
+        ensures fields { fields_of_values result ≡ self.now }
+    {
+        ValueSet {
+            values: Values::Indexed(values),
             fields: *self,
         }
     }
@@ -123,6 +139,31 @@ fn lacks_placed(values: &[Option<AnyValue<'_>>]) -> bool
     true
 }
 
+// How many of the values are of fields below the count.
+fn count_indexed(count: usize, values: &[FieldValue]) -> usize
+    ensures { result ≡ count_by (is_indexed count) values.now }
+{
+    let mut found = 0;
+    for given in values {
+        if given.field < count {
+            found += 1;
+        }
+    }
+    found
+}
+
+// Whether no field below the count has a value.
+fn lacks_indexed(count: usize, values: &[FieldValue]) -> bool
+    ensures { result ≡ (length (indexed_entries count values.now) == 0) }
+{
+    for given in values {
+        if given.field < count && !matches!(given.value, OwnedValue::Empty) {
+            return false;
+        }
+    }
+    true
+}
+
 impl<'a> ValueSet<'a> {
     /// The callsite of the fields.
     pub fn callsite(&self) -> Identifier
@@ -138,6 +179,7 @@ impl<'a> ValueSet<'a> {
         match self.values {
             Values::Explicit(entries) => count_own(self.callsite(), entries),
             Values::All(values) => self.fields.len().min(values.len()),
+            Values::Indexed(values) => count_indexed(self.fields.len(), values),
         }
     }
 
@@ -148,6 +190,7 @@ impl<'a> ValueSet<'a> {
         match self.values {
             Values::Explicit(entries) => lacks_given(self.callsite(), entries),
             Values::All(values) => lacks_placed(&values[..self.fields.len().min(values.len())]),
+            Values::Indexed(values) => lacks_indexed(self.fields.len(), values),
         }
     }
 }

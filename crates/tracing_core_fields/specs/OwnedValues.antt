@@ -1,0 +1,27 @@
+-- Values that are owned, and the entries that they give.
+use Rattle.std.specs.Prelude.{ℕ, Bool, nat_lt, List, string_bytes, Option, Some, None, if◌then◌else◌}
+use Rattle.std.specs.List.{filter_map}
+use Rattle.std.specs.Option.{option_map}
+use Rattle.tracing_core_fields.specs.PlainValue.{PlainValue, Signed, Unsigned, Text}
+use Rattle.tracing_core_fields.specs.declared.owned_value.OwnedValue.{OwnedValue}
+use Rattle.tracing_core_fields.specs.declared.owned_value.OwnedValue.TheVariants as owned
+use Rattle.tracing_core_fields.specs.declared.owned_value.FieldValue.{FieldValue}
+
+-- what the value is; `Empty` is no value
+abbrev pub plain_owned : OwnedValue → Option PlainValue
+plain_owned (owned.I64 n) = Some (Signed n)
+plain_owned (owned.U64 n) = Some (Unsigned n)
+plain_owned (owned.Text text) = Some (Text (string_bytes text))
+plain_owned owned.Empty = None
+
+-- whether a set of so many fields has one at the index
+abbrev pub is_indexed : ℕ → FieldValue → Bool
+is_indexed count given = nat_lt given.field count
+
+-- the index and the value, where the set has such a field and the value is present
+abbrev pub indexed_entry : ℕ → FieldValue → Option (ℕ × PlainValue)
+indexed_entry count given = if is_indexed count given then option_map (λ value. (given.field, value)) (plain_owned given.value) else None
+
+-- the entries of values that are given by their fields' indices
+abbrev pub indexed_entries : ℕ → List FieldValue → List (ℕ × PlainValue)
+indexed_entries count values = filter_map (indexed_entry count) values
