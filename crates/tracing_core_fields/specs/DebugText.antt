@@ -1,5 +1,6 @@
 -- What a debug text is, with no borrowed parts.
-use Rattle.tracing_core_fields.specs.PlainDebug.{PlainDebug, Written, Unwritable, OfSigned, OfUnsigned, OfTruth, OfText, OfBytes}
+use Rattle.tracing_core_fields.specs.ErrorText.{error_text, source_texts}
+use Rattle.tracing_core_fields.specs.PlainDebug.{PlainDebug, Written, Unwritable, OfSigned, OfUnsigned, OfTruth, OfText, OfBytes, OfError}
 use Rattle.tracing_core_fields.specs.declared.debug_text.DebugText.{DebugText}
 use Rattle.tracing_core_fields.specs.declared.debug_text.DebugText.TheVariants as text
 
@@ -13,3 +14,4 @@ plain_debug (text.U128 n) = OfUnsigned n
 plain_debug (text.Bool b) = OfTruth b
 plain_debug (text.Str s) = OfText s.now
 plain_debug (text.Bytes bytes) = OfBytes bytes.now
+plain_debug (text.Error error) = OfError (error_text error) (source_texts error)

@@ -4,7 +4,7 @@ use Rattle.std.specs.Fmt.{debug_str, digit_glyph, signed_decimal, decimal}
 use Rattle.std.specs.List.{join_by}
 
 -- a plain text and an alternate one, nothing since it fails, or what Rust's `Debug` writes of a number, a bool or a text,
--- or the bytes
+-- or the bytes, or an error by its text and its sources' texts
 pub data PlainDebug : Type 0 where
   Written : List ℕ → List ℕ → PlainDebug
   Unwritable : PlainDebug
@@ -13,6 +13,7 @@ pub data PlainDebug : Type 0 where
   OfTruth : Bool → PlainDebug
   OfText : List ℕ → PlainDebug
   OfBytes : List ℕ → PlainDebug
+  OfError : List ℕ → List (List ℕ) → PlainDebug
 
 -- the byte in two hexadecimal digits
 abbrev pub hex_pair : ℕ → List ℕ
@@ -31,8 +32,10 @@ plain_output (OfUnsigned n) = Some (decimal n)
 plain_output (OfTruth b) = Some (if b then codes "true" else codes "false")
 plain_output (OfText text) = debug_str text
 plain_output (OfBytes bytes) = Some (bytes_text bytes)
+plain_output (OfError text sources) = Some text
 
 -- what `{:#?}` writes, where the contracts of std say it
 abbrev pub alternate_output : PlainDebug → Option (List ℕ)
 alternate_output (Written plain alternate) = Some alternate
+alternate_output (OfError text sources) = Some text
 alternate_output _ = None

@@ -2,7 +2,7 @@
 use Rattle.std.specs.Prelude.{ℕ, ℤ, Bool, List, Option, Some, None, option_and_then}
 use Rattle.tracing_core_fields.specs.DebugText.{plain_debug}
 use Rattle.tracing_core_fields.specs.ErrorText.{error_text, source_texts}
-use Rattle.tracing_core_fields.specs.PlainDebug.{PlainDebug, Written, OfSigned, OfUnsigned, OfTruth, OfText, OfBytes}
+use Rattle.tracing_core_fields.specs.PlainDebug.{PlainDebug, OfSigned, OfUnsigned, OfTruth, OfText, OfBytes, OfError}
 use Rattle.tracing_core_fields.specs.declared.value_set.AnyValue.{AnyValue}
 use Rattle.tracing_core_fields.specs.declared.value_set.AnyValue.TheVariants as any
 
@@ -36,7 +36,7 @@ plain_value any.Empty = None
 abbrev pub present_value : Option AnyValue → Option PlainValue
 present_value value = option_and_then plain_value value
 
--- the debug text that stands for the value: an error's is its text, in both forms
+-- the debug text that stands for the value
 abbrev pub debug_of : PlainValue → PlainDebug
 debug_of (Signed n) = OfSigned n
 debug_of (Unsigned n) = OfUnsigned n
@@ -45,5 +45,5 @@ debug_of (WideUnsigned n) = OfUnsigned n
 debug_of (Truth b) = OfTruth b
 debug_of (Text text) = OfText text
 debug_of (Bytes bytes) = OfBytes bytes
-debug_of (Error text sources) = Written text text
+debug_of (Error text sources) = OfError text sources
 debug_of (Debug text) = text

@@ -5,6 +5,7 @@ ghost use Rattle.std.specs.List.{flat_map};
 ghost use Rattle.tracing_core_fields.specs.DebugText.{plain_debug};
 ghost use Rattle.tracing_core_fields.specs.PlainDebug.{Unwritable, plain_output, alternate_output, bytes_text, hex_pair};
 
+use crate::error_text::ErrorText;
 use std::fmt;
 
 /// Stands for a value that has Rust's `Debug`: it writes a plain or an alternate text, or fails.
@@ -35,6 +36,8 @@ pub enum DebugText<'a> {
     Str(&'a str),
     /// Bytes, written in brackets as two lower-case hexadecimal digits each, with a space between.
     Bytes(&'a [u8]),
+    /// An error: it writes the error's text, without its sources.
+    Error(ErrorText<'a>),
 }
 
 // Writes the byte.
@@ -97,6 +100,7 @@ impl fmt::Debug for DebugText<'_> {
             DebugText::Bool(b) => fmt::Debug::fmt(b, f),
             DebugText::Str(text) => fmt::Debug::fmt(text, f),
             DebugText::Bytes(bytes) => write_bytes(bytes, f),
+            DebugText::Error(error) => f.write_str(error.text()),
         }
     }
 }

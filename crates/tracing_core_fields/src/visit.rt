@@ -74,18 +74,11 @@ pub trait Visit {
         self.record_debug(field, &DebugText::Bytes(value))
     }
 
-    /// Takes an error. Its debug text is its text, in both forms.
+    /// Takes an error.
     fn record_error(&mut self, field: &Field<'_>, value: &ErrorText<'_>) -> Result<(), Self::Error>
         ensures { takes self.old (plain_field field.now) (Error (error_text value.now) (source_texts value.now)) result self.new }
     {
-        let text = value.text();
-        self.record_debug(
-            field,
-            &DebugText::Texts {
-                plain: text,
-                alternate: text,
-            },
-        )
+        self.record_debug(field, &DebugText::Error(*value))
     }
 
     /// Takes anything else, by its debug text.
