@@ -1,12 +1,10 @@
 -- What is told of the current span.
 use Rattle.std.specs.Prelude.{ℕ, Bool, true, false, Option, Some, None}
 use Rattle.std.specs.Borrow.{Bor}
-use Rattle.std.specs.Option.{option_map}
+use Rattle.std.specs.Option.{option_and, option_copied, option_map}
 use Rattle.tracing_core_fields.specs.Metadata.{plain_metadata}
 use Rattle.tracing_core_fields.specs.PlainMetadata.{PlainMetadata}
 use Rattle.tracing_core_fields.specs.declared.metadata.Metadata.{Metadata}
-use Rattle.tracing_core_hub.specs.declared.requests.current.Inner.{Inner}
-use Rattle.tracing_core_hub.specs.declared.requests.current.Inner.TheVariants as inner
 use Rattle.tracing_core_hub.specs.declared.requests.current.Current.{Current}
 
 -- which span is current, that none is, or nothing
@@ -15,13 +13,17 @@ pub data PlainCurrent : Type 0 where
   Outside : PlainCurrent
   Untold : PlainCurrent
 
-abbrev pub plain_inner : Inner → PlainCurrent
-plain_inner (inner.Inside span) = Inside span.id (plain_metadata span.metadata.now)
-plain_inner inner.Outside = Outside
-plain_inner inner.Untold = Untold
+-- a span is told where both its id and its metadata are
+abbrev pub plain_told : Option ℕ → Option PlainMetadata → Bool → PlainCurrent
+plain_told (Some id) (Some metadata) outside = Inside id metadata
+plain_told None metadata true = Outside
+plain_told None metadata false = Untold
+plain_told (Some id) None true = Outside
+plain_told (Some id) None false = Untold
 
 abbrev pub plain_current : Current → PlainCurrent
-plain_current current = plain_inner current.inner
+plain_current current =
+    plain_told current.id (option_map (λ lent. plain_metadata lent.now) current.metadata) current.outside
 
 abbrev pub is_told : PlainCurrent → Bool
 is_told (Inside id metadata) = true
@@ -43,11 +45,6 @@ metadata_told told = option_map (λ span. span.1) (span_told told)
 abbrev pub plain_span : ℕ × Bor Metadata → ℕ × PlainMetadata
 plain_span span = (span.0, plain_metadata span.1.now)
 
-abbrev pub metadata_in : Inner → Option Metadata
-metadata_in (inner.Inside span) = Some span.metadata.now
-metadata_in inner.Outside = None
-metadata_in inner.Untold = None
-
 -- the metadata of the current span, with its borrowed parts
 abbrev pub current_metadata : Current → Option Metadata
-current_metadata current = metadata_in current.inner
+current_metadata current = option_and current.id (option_copied current.metadata)

@@ -5,6 +5,8 @@ mod current;
 mod event;
 mod parent;
 mod record;
+#[cfg(test)]
+mod tests;
 
 pub use attributes::Attributes;
 pub use current::Current;

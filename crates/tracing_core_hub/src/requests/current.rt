@@ -6,24 +6,14 @@ ghost use Rattle.tracing_core_hub.specs.Currents.{PlainCurrent, Inside, Outside,
 
 use tracing_core_fields::{Id, Metadata};
 
-// The span that is current.
-#[derive(Clone, Copy, Debug)]
-struct Span<'m> {
-    id: Id,
-    metadata: &'m Metadata<'m>,
-}
-
-#[derive(Clone, Copy, Debug)]
-enum Inner<'m> {
-    Inside(Span<'m>),
-    Outside,
-    Untold,
-}
-
 /// What a subscriber tells of the current span: which one it is, that there is none, or nothing.
 #[derive(Clone, Copy, Debug)]
 pub struct Current<'m> {
-    inner: Inner<'m>,
+    // There is a current span where both of these are known.
+    id: Option<Id>,
+    metadata: Option<&'m Metadata<'m>>,
+    // Where there is none: whether that was told.
+    outside: bool,
 }
 
 impl<'m> Current<'m> {
@@ -33,7 +23,9 @@ impl<'m> Current<'m> {
         ensures metadata { current_metadata result ≡ Some metadata.now }
     {
         Current {
-            inner: Inner::Inside(Span { id, metadata }),
+            id: Some(id),
+            metadata: Some(metadata),
+            outside: false,
         }
     }
 
@@ -42,7 +34,9 @@ impl<'m> Current<'m> {
         ensures { plain_current result ≡ Outside }
     {
         Current {
-            inner: Inner::Outside,
+            id: None,
+            metadata: None,
+            outside: true,
         }
     }
 
@@ -51,7 +45,9 @@ impl<'m> Current<'m> {
         ensures { plain_current result ≡ Untold }
     {
         Current {
-            inner: Inner::Untold,
+            id: None,
+            metadata: None,
+            outside: false,
         }
     }
 
@@ -59,7 +55,7 @@ impl<'m> Current<'m> {
     pub fn is_known(&self) -> bool
         ensures { result ≡ is_told (plain_current self.now) }
     {
-        !matches!(self.inner, Inner::Untold)
+        (self.id.is_some() && self.metadata.is_some()) || self.outside
     }
 
     /// The id and the metadata of the current span, where there is one.
@@ -68,9 +64,9 @@ impl<'m> Current<'m> {
         ensures metadata { option_map (λ span. span.1.now) result ≡ current_metadata self.entry }
         ensures plain { option_map plain_span result ≡ span_told (plain_current self.entry) }
     {
-        match self.inner {
-            Inner::Inside(Span { id, metadata }) => Some((id, metadata)),
-            Inner::Outside | Inner::Untold => None,
+        match (self.id, self.metadata) {
+            (Some(id), Some(metadata)) => Some((id, metadata)),
+            _ => None,
         }
     }
 
@@ -78,9 +74,9 @@ impl<'m> Current<'m> {
     pub fn id(&self) -> Option<&Id>
         ensures { option_copied result ≡ id_told (plain_current self.now) }
     {
-        match &self.inner {
-            Inner::Inside(span) => Some(&span.id),
-            Inner::Outside | Inner::Untold => None,
+        match (&self.id, self.metadata) {
+            (Some(id), Some(_)) => Some(id),
+            _ => None,
         }
     }
 
@@ -89,9 +85,9 @@ impl<'m> Current<'m> {
         ensures metadata { option_copied result ≡ current_metadata self.now }
         ensures plain { option_map plain_metadata (option_copied result) ≡ metadata_told (plain_current self.now) }
     {
-        match self.inner {
-            Inner::Inside(Span { metadata, .. }) => Some(metadata),
-            Inner::Outside | Inner::Untold => None,
+        match (self.id, self.metadata) {
+            (Some(_), Some(metadata)) => Some(metadata),
+            _ => None,
         }
     }
 }
@@ -102,9 +98,9 @@ impl<'m> From<Current<'m>> for Option<Id> {
     fn from(current: Current<'m>) -> Option<Id>
         ensures { result ≡ id_told (plain_current current.entry) }
     {
-        match current.inner {
-            Inner::Inside(Span { id, .. }) => Some(id),
-            Inner::Outside | Inner::Untold => None,
+        match (current.id, current.metadata) {
+            (Some(id), Some(_)) => Some(id),
+            _ => None,
         }
     }
 }
