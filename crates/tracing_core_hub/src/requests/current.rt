@@ -25,7 +25,7 @@ impl<'m> Current<'m> {
         Current {
             id: Some(id),
             metadata: Some(metadata),
-            outside: false,
+            ..Current::unknown()
         }
     }
 
@@ -99,7 +99,7 @@ impl<'m> From<Current<'m>> for Option<Id> {
         ensures { result ≡ id_told (plain_current current.entry) }
     {
         match (current.id, current.metadata) {
-            (Some(id), Some(_)) => Some(id),
+            (Some(own), Some(_)) => Some(own),
             _ => None,
         }
     }
