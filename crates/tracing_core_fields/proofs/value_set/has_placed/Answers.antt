@@ -1,4 +1,4 @@
-use Rattle.std.proofs.Common.{◌≡◌, sym, ◌∙◌, ap, arith, Some, None, slice_get, option_and_then, length, Option, refl}
+use Rattle.std.proofs.Common.{sym, ◌∙◌, ap, arith, option_and_then, length, Option, refl}
 use Rattle.std.specs.Option.{is_some}
 use Rattle.std.proofs.lemmas.Option.{slice_get_read, slice_get_past}
 use Rattle.tracing_core_fields.specs.PlainValue.{present_value}
