@@ -5,12 +5,17 @@ pub use Rattle.tracing_core_fields.specs.FilterInner
 pub use Rattle.tracing_core_fields.specs.LevelFilter
 pub use Rattle.tracing_core_fields.specs.PlainKind
 pub use Rattle.tracing_core_fields.specs.Equality
+pub use Rattle.tracing_core_fields.specs.Names
 pub use Rattle.tracing_core_fields.specs.PlainField
 pub use Rattle.tracing_core_fields.specs.FieldSet
 pub use Rattle.tracing_core_fields.specs.Field
 pub use Rattle.tracing_core_fields.specs.Iter
 pub use Rattle.tracing_core_fields.specs.PlainMetadata
 pub use Rattle.tracing_core_fields.specs.Metadata
+pub use Rattle.tracing_core_fields.specs.PlainDebug
+pub use Rattle.tracing_core_fields.specs.DebugText
+pub use Rattle.tracing_core_fields.specs.ErrorText
 pub use Rattle.tracing_core_fields.specs.PlainValue
+pub use Rattle.tracing_core_fields.specs.Visits
 pub use Rattle.tracing_core_fields.specs.Values
 pub use Rattle.tracing_core_fields.specs.ValueSet

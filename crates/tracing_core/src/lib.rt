@@ -1,8 +1,8 @@
-//! The core of tracing: levels, metadata, fields, value sets and span ids.
+//! The core of tracing: levels, metadata, fields, values, visits and span ids.
 #![tactic(auto)]
 
 pub use tracing_core_fields::{
-    AnyValue, Field, FieldSet, Id, Identifier, Iter, Kind, Level, LevelFilter, Metadata,
-    ParseLevelError, ParseLevelFilterError, ValueSet, filters_read_their_names,
+    AnyValue, DebugText, ErrorText, Field, FieldSet, Id, Identifier, Iter, Kind, Level, LevelFilter,
+    Metadata, ParseLevelError, ParseLevelFilterError, ValueSet, Visit, filters_read_their_names,
     levels_read_their_names, numbers_are_read_as_usize,
 };

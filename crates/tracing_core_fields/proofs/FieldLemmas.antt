@@ -1,12 +1,6 @@
--- The fields that names give, one after another, and when two sets are the same.
-use Rattle.std.proofs.Common.{◌≡◌, ℕ, ◌+◌, ◌<◌, ◌&&◌, List, [], ◌∷◌, length, drop, refl, sym, ◌∙◌, ap, arith, zero, suc, nat_eq, slice_index_or}
-use Rattle.std.specs.Cmp.Derive.Mapped.{pointwise-map}
-use Rattle.std.specs.Cmp.Lexicographic.{pointwise}
-use Rattle.std.specs.Str.{bytes_eq}
-use Rattle.std.proofs.lemmas.Bool.{eq-eqb}
-use Rattle.tracing_core_fields.specs.FieldSet.{field_names, set_callsite, is_same_set}
+-- The fields that names give, one after another.
+use Rattle.std.proofs.Common.{◌≡◌, ℕ, ◌+◌, ◌<◌, List, [], ◌∷◌, length, drop, refl, ◌∙◌, ap, arith, zero, suc, slice_index_or}
 use Rattle.tracing_core_fields.specs.PlainField.{fields_named}
-use Rattle.tracing_core_fields.specs.declared.field.FieldSet.{FieldSet}
 
 pub length-fields_named : (callsite index : ℕ) (names : List (List ℕ)) → length (fields_named callsite index names) ≡ length names
 length-fields_named callsite index [] = refl
@@ -29,9 +23,3 @@ drop-fields_named callsite names k below =
     let place : k ≡ 0 + k = omega arith in
     drop-fields_after callsite 0 names k k below place
     ∙ ap (λ m. record { index = k; name = slice_index_or names k []; callsite = callsite } ∷ drop m (fields_named callsite 0 names)) next
-
--- where the callsites are the same, the names decide
-pub same_names-is_same_set : (a b : FieldSet) → set_callsite a ≡ set_callsite b → pointwise (λ x y. pointwise nat_eq x.now y.now) a.names.now b.names.now ≡ is_same_set a b
-same_names-is_same_set a b callsites =
-    sym (pointwise-map (λ name. name.now) bytes_eq a.names.now b.names.now)
-    ∙ sym (ap (λ t. t && pointwise bytes_eq (field_names a) (field_names b)) (eq-eqb _ _ callsites))

@@ -1,3 +1,6 @@
 mod EntryLemmas
 mod FieldLemmas
 mod TextLemmas
+mod VisitLemmas
+mod BytesLemmas
+mod NamesLemmas

@@ -1,19 +1,21 @@
 -- The names and the callsite of a set of fields.
-use Rattle.std.specs.Prelude.{◌≡◌, ℕ, ◌&&◌, ◌==◌, Bool, List, map, Option}
+use Rattle.std.specs.Prelude.{◌≡◌, ℕ, ◌&&◌, ◌==◌, ◌++◌, Bool, List, [], ◌∷◌, Option}
 use Rattle.std.proofs.Common.{ap}
 use Rattle.std.specs.Bool.{Decides}
 use Rattle.std.specs.Cmp.{IsEquivalence}
 use Rattle.std.specs.Cmp.Lexicographic.{pointwise, pointwise_decides, bytes_decides}
-use Rattle.std.specs.List.{position_from}
+use Rattle.std.specs.Fmt.{comma_space}
+use Rattle.std.specs.List.{join_by, position_from}
 use Rattle.std.specs.Str.{bytes_eq}
 use Rattle.std.proofs.lemmas.Bool.{and_parts, and_from, eqb-true, eq-eqb}
 use Rattle.tracing_core_fields.specs.Equality.{equivalence_by}
+use Rattle.tracing_core_fields.specs.Names.{names_in}
 use Rattle.tracing_core_fields.specs.PlainField.{PlainField, fields_named}
 use Rattle.tracing_core_fields.specs.declared.field.FieldSet.{FieldSet}
 
 -- the names, in the order of the fields
 abbrev pub field_names : FieldSet → List (List ℕ)
-field_names set = map (λ name. name.now) set.names.now
+field_names set = names_in set.names
 
 -- the number of the callsite
 abbrev pub set_callsite : FieldSet → ℕ
@@ -26,6 +28,10 @@ index_of_name set name = position_from (λ other. bytes_eq other name) 0 (field_
 -- the fields, in order
 abbrev pub plain_fields : FieldSet → List PlainField
 plain_fields set = fields_named (set_callsite set) 0 (field_names set)
+
+-- the names between braces, a comma between each two
+abbrev pub set_text : List (List ℕ) → List ℕ
+set_text names = 123 ∷ (join_by (λ name. name) comma_space names ++ 125 ∷ [])
 
 -- the sets have the same callsite and the same names
 abbrev pub IsSameSet : FieldSet → FieldSet → Type 0

@@ -5,12 +5,17 @@ pub mod FilterInner
 pub mod LevelFilter
 pub mod PlainKind
 pub mod Equality
+pub mod Names
 pub mod PlainField
 pub mod FieldSet
 pub mod Field
 pub mod Iter
 pub mod PlainMetadata
 pub mod Metadata
+pub mod PlainDebug
+pub mod DebugText
+pub mod ErrorText
 pub mod PlainValue
+pub mod Visits
 pub mod Values
 pub mod ValueSet

@@ -1,38 +1,25 @@
 //! Fields, and the sets that they stand in.
-ghost use Rattle.std.specs.Prelude.{◌≡◌, ◌<◌, ◌↔◌, length, map, IsTrue, IfSome, Some};
-ghost use Rattle.std.specs.List.{position_from};
+ghost use Rattle.std.specs.Prelude.{◌≡◌, ◌<◌, ◌↔◌, length, map, string_bytes, IsTrue, IfSome, Some};
 ghost use Rattle.std.specs.Option.{option_map};
-ghost use Rattle.std.specs.Str.{bytes_eq};
+ghost use Rattle.tracing_core_fields.specs.FieldSet.{field_names};
 
 use crate::callsite::Identifier;
+use crate::names::Names;
+use std::convert::AsStr;
 use std::fmt;
 use std::hash::{Hash, Hasher};
-
-// The place of the first name that is this one.
-fn first_place(names: &[&str], name: &str) -> Option<usize>
-    ensures value { result ≡ position_from (λ other. bytes_eq other name.now) 0 (map (λ other. other.now) names.now) }
-    ensures bound { IfSome result (λ place. place < length names.now) }
-{
-    let mut place = 0;
-    for &other in names {
-        if other == name {
-            return Some(place);
-        }
-        place += 1;
-    }
-    None
-}
 
 /// The fields of a span or an event, by their names.
 #[derive(Clone, Copy, Debug)]
 pub struct FieldSet<'a> {
-    names: &'a [&'a str],
+    names: Names<'a>,
     callsite: Identifier,
 }
 
 impl<'a> FieldSet<'a> {
-    ghost use Rattle.tracing_core_fields.specs.Field.{field_index, field_callsite, set_of_field};
-    ghost use Rattle.tracing_core_fields.specs.FieldSet.{field_names, set_callsite, index_of_name, plain_fields};
+    ghost use Rattle.tracing_core_fields.specs.Field.{field_index, field_callsite, plain_field, set_of_field};
+    ghost use Rattle.tracing_core_fields.specs.Visits.{IsFieldAt};
+    ghost use Rattle.tracing_core_fields.specs.FieldSet.{set_callsite, index_of_name, plain_fields};
     ghost use Rattle.tracing_core_fields.specs.Iter.{fields_left};
 
     /// The set of these names at the callsite.
@@ -40,6 +27,16 @@ impl<'a> FieldSet<'a> {
         ensures names { field_names result ≡ map (λ name. name.now) names.now }
         ensures callsite { set_callsite result ≡ callsite.0 }
     {
+        let names = Names::Lent(names);
+        FieldSet { names, callsite }
+    }
+
+    /// The set of these names, which are owned texts, at the callsite.
+    pub const fn of_strings(names: &'a [String], callsite: Identifier) -> FieldSet<'a>
+        ensures names { field_names result ≡ map string_bytes names.now }
+        ensures callsite { set_callsite result ≡ callsite.0 }
+    {
+        let names = Names::Owned(names);
         FieldSet { names, callsite }
     }
 
@@ -55,7 +52,7 @@ impl<'a> FieldSet<'a> {
         ensures index { option_map field_index result ≡ index_of_name self.now name.now }
         ensures set { IfSome result (λ field. set_of_field field ≡ self.now) }
     {
-        let index = first_place(self.names, name)?;
+        let index = self.names.place_of(name)?;
         Some(Field {
             index,
             fields: *self,
@@ -68,6 +65,30 @@ impl<'a> FieldSet<'a> {
             × (field_index field.now < length (field_names self.now))) }
     {
         field.callsite() == self.callsite && field.index < self.names.len()
+    }
+
+    // The field at the place.
+    pub(crate) fn at(&self, place: usize) -> Field<'a>
+        requires { place < length (field_names self.now) }
+        ensures { IsFieldAt (set_callsite self.now) (field_names self.now) place (plain_field result) }
+    {
+        Field {
+            index: place,
+            fields: *self,
+        }
+    }
+
+    // The field of this set at the place of the field, which has the set's callsite. Where the set has no
+    // such place, the field itself.
+    pub(crate) fn own(&self, field: &Field<'a>) -> Field<'a>
+        requires { field_callsite field.now ≡ set_callsite self.now }
+        ensures { IsFieldAt (set_callsite self.now) (field_names self.now) (field_index field.now) (plain_field result) }
+    {
+        if field.index < self.names.len() {
+            self.at(field.index)
+        } else {
+            *field
+        }
     }
 
     /// The fields, in order.
@@ -91,7 +112,7 @@ impl<'a> FieldSet<'a> {
     pub fn is_empty(&self) -> bool
         ensures { IsTrue result ↔ (length (field_names self.now) ≡ 0) }
     {
-        self.names.is_empty()
+        self.names.len() == 0
     }
 }
 
@@ -107,7 +128,7 @@ impl PartialEq for FieldSet<'_> {
         ensures test { result ≡ is_same_set self.now other.now }
         ensures same { IsTrue result ↔ IsSameSet self.now other.now }
     {
-        self.callsite == other.callsite && self.names == other.names
+        self.callsite == other.callsite && self.names.are(&other.names)
     }
 }
 
@@ -117,17 +138,44 @@ impl Eq for FieldSet<'_> {
     ghost laws = { is_same_set-equivalence };
 }
 
+/// Writes the names between braces, a comma between each two.
+impl fmt::Display for FieldSet<'_> {
+    ghost use Rattle.tracing_core_fields.specs.FieldSet.{set_text};
+
+    ghost output = { λ set. Some (set_text (field_names set)) };
+
+    fn fmt<W: fmt::Write>(&self, f: &mut fmt::Formatter<W>) -> fmt::Result {
+        f.write_str("{")?;
+        self.names.write(f)?;
+        f.write_str("}")
+    }
+}
+
+impl<'a> IntoIterator for &FieldSet<'a> {
+    ghost use Rattle.tracing_core_fields.specs.FieldSet.{plain_fields};
+    ghost use Rattle.tracing_core_fields.specs.Iter.{fields_left};
+
+    type Item = Field<'a>;
+
+    type IntoIter = Iter<'a>;
+
+    ghost into_iter_gives = { λ set it. fields_left it ≡ plain_fields set.now };
+
+    fn into_iter(self) -> Iter<'a> {
+        self.iter()
+    }
+}
+
 /// One field of a set.
 #[derive(Clone, Copy, Debug)]
 pub struct Field<'a> {
     index: usize,
     fields: FieldSet<'a>,
-    ghost in_range: { index < length fields.names.now },
+    ghost in_range: { index < length (field_names fields) },
 }
 
 impl<'a> Field<'a> {
     ghost use Rattle.tracing_core_fields.specs.Field.{field_index, field_callsite, field_name, set_of_field};
-    ghost use Rattle.tracing_core_fields.specs.FieldSet.{field_names};
 
     /// The callsite of the field's set.
     pub fn callsite(&self) -> Identifier
@@ -140,7 +188,7 @@ impl<'a> Field<'a> {
     pub fn name(&self) -> &'a str
         ensures { result.now ≡ field_name self.now }
     {
-        self.fields.names[self.index]
+        self.fields.names.name(self.index)
     }
 
     /// The place of the field in its set.
@@ -149,6 +197,17 @@ impl<'a> Field<'a> {
         ensures range { result < length (field_names (set_of_field self.now)) }
     {
         self.index
+    }
+}
+
+// Stands for `AsRef<str>`.
+impl AsStr for Field<'_> {
+    ghost use Rattle.tracing_core_fields.specs.Field.{field_name};
+
+    ghost text = { field_name };
+
+    fn as_str(&self) -> &str {
+        self.name()
     }
 }
 

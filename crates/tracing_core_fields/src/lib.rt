@@ -1,17 +1,24 @@
-//! The plain data of tracing: levels, metadata, fields, value sets and span ids.
+//! The plain data of tracing: levels, metadata, fields, value sets, visits and span ids.
 #![tactic(auto)]
 
 mod callsite;
+mod debug_text;
+mod error_text;
 mod field;
 mod kind;
 mod level;
 mod level_filter;
 mod metadata;
+mod names;
 mod parse;
+mod record;
 mod span;
 mod value_set;
+mod visit;
 
 pub use callsite::Identifier;
+pub use debug_text::DebugText;
+pub use error_text::ErrorText;
 pub use field::{Field, FieldSet, Iter};
 pub use kind::Kind;
 pub use level::{Level, ParseLevelError, levels_read_their_names};
@@ -20,6 +27,7 @@ pub use metadata::Metadata;
 pub use parse::numbers_are_read_as_usize;
 pub use span::Id;
 pub use value_set::{AnyValue, ValueSet};
+pub use visit::Visit;
 
 #[cfg(test)]
 mod tests;

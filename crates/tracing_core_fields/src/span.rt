@@ -53,3 +53,13 @@ impl Id {
         NonZeroU64::new(self.0).unwrap()
     }
 }
+
+impl From<&Id> for Option<Id> {
+    ghost use Rattle.std.specs.Prelude.{Some};
+
+    ghost from_gives = { λ id answer. answer ≡ Some id.now };
+
+    fn from(id: &Id) -> Option<Id> {
+        Some(*id)
+    }
+}

@@ -1,6 +1,8 @@
 use super::*;
 use std::test::Fail;
 
+mod visits;
+
 const NAMES: [&str; 3] = ["message", "count", "count"];
 
 #[test]

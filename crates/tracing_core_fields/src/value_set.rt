@@ -7,23 +7,37 @@ ghost use Rattle.tracing_core_fields.specs.ValueSet.{entries_of, entry_count, fi
 ghost use Rattle.tracing_core_fields.specs.Values.{is_own, given_entries, placed_entries, has_entry};
 
 use crate::callsite::Identifier;
+use crate::debug_text::DebugText;
+use crate::error_text::ErrorText;
 use crate::field::{Field, FieldSet};
 
-/// The value of a field.
+/// The value of a field: a case for each call of [`Visit`](crate::Visit), and `Empty`.
 #[derive(Clone, Copy, Debug, PartialEq, Eq)]
 pub enum AnyValue<'a> {
-    /// A signed number.
+    /// A signed number of at most 64 bits.
     I64(i64),
-    /// An unsigned number.
+    /// An unsigned number of at most 64 bits.
     U64(u64),
+    /// A signed number of 128 bits.
+    I128(i128),
+    /// An unsigned number of 128 bits.
+    U128(u128),
+    /// A bool.
+    Bool(bool),
     /// A text.
     Str(&'a str),
+    /// Bytes that need not be a text.
+    Bytes(&'a [u8]),
+    /// An error, by its text and the texts of its sources.
+    Error(ErrorText<'a>),
+    /// Anything else, by what it writes.
+    Debug(DebugText<'a>),
     /// No value: the field is passed over.
     Empty,
 }
 
 #[derive(Clone, Copy, Debug)]
-enum Values<'a> {
+pub(crate) enum Values<'a> {
     Explicit(&'a [(Field<'a>, Option<AnyValue<'a>>)]),
     All(&'a [Option<AnyValue<'a>>]),
 }
@@ -34,8 +48,8 @@ enum Values<'a> {
 /// [`AnyValue::Empty`] are passed over.
 #[derive(Clone, Copy, Debug)]
 pub struct ValueSet<'a> {
-    values: Values<'a>,
-    fields: FieldSet<'a>,
+    pub(crate) values: Values<'a>,
+    pub(crate) fields: FieldSet<'a>,
 }
 
 impl<'a> FieldSet<'a> {

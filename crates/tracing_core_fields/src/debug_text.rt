@@ -1,0 +1,102 @@
+//! What is written for values that no other call of a visitor fits.
+ghost use Rattle.std.specs.Prelude.{◌≡◌, ◌∷◌, [], true, IsErr, Some};
+ghost use Rattle.std.specs.Fmt.{DisplaysOnOk, DisplaysStyledOnOk, WritesOnOk, formatter_spec, spec_alternate};
+ghost use Rattle.std.specs.List.{flat_map};
+ghost use Rattle.tracing_core_fields.specs.DebugText.{plain_debug};
+ghost use Rattle.tracing_core_fields.specs.PlainDebug.{Unwritable, plain_output, alternate_output, bytes_text, hex_pair};
+
+use std::fmt;
+
+/// Stands for a value that has Rust's `Debug`: it writes a plain or an alternate text, or fails.
+///
+/// `{:?}` writes the plain text, and `{:#?}` the alternate one.
+#[derive(Clone, Copy, PartialEq, Eq)]
+pub enum DebugText<'a> {
+    /// Texts that were written before.
+    Texts {
+        /// What `{:?}` writes.
+        plain: &'a str,
+        /// What `{:#?}` writes.
+        alternate: &'a str,
+    },
+    /// A value whose text can't be written: formatting it is an error.
+    Failing,
+    /// A signed number of at most 64 bits.
+    I64(i64),
+    /// An unsigned number of at most 64 bits.
+    U64(u64),
+    /// A signed number of 128 bits.
+    I128(i128),
+    /// An unsigned number of 128 bits.
+    U128(u128),
+    /// A bool.
+    Bool(bool),
+    /// A text, written between quotes and with escapes.
+    Str(&'a str),
+    /// Bytes, written in brackets as two lower-case hexadecimal digits each, with a space between.
+    Bytes(&'a [u8]),
+}
+
+// Writes the byte.
+#[tactic(auto, using(std::proofs::lemmas::Fmt::hex_byte))]
+fn write_byte<W: fmt::Write>(byte: u8, f: &mut fmt::Formatter<W>) -> fmt::Result
+    ensures { WritesOnOk W.write_str_gives f.old result (hex_pair byte) f.new }
+{
+    write!(f, "{byte:02x}")
+}
+
+// Writes a space and the byte.
+fn write_later_byte<W: fmt::Write>(byte: u8, f: &mut fmt::Formatter<W>) -> fmt::Result
+    ensures { WritesOnOk W.write_str_gives f.old result (32 ∷ hex_pair byte) f.new }
+{
+    f.write_str(" ")?;
+    write_byte(byte, f)
+}
+
+// Writes a space before each of the bytes.
+fn write_later_bytes<W: fmt::Write>(bytes: &[u8], f: &mut fmt::Formatter<W>) -> fmt::Result
+    ensures { WritesOnOk W.write_str_gives f.old result (flat_map (λ byte. 32 ∷ hex_pair byte) bytes.now) f.new }
+{
+    for &byte in bytes {
+        write_later_byte(byte, f)?;
+    }
+    Ok(())
+}
+
+// Writes the bytes in brackets.
+fn write_bytes<W: fmt::Write>(bytes: &[u8], f: &mut fmt::Formatter<W>) -> fmt::Result
+    ensures { WritesOnOk W.write_str_gives f.old result (bytes_text bytes.now) f.new }
+{
+    let [first, later @ ..] = bytes else {
+        return f.write_str("[]");
+    };
+    f.write_str("[")?;
+    write_byte(*first, f)?;
+    write_later_bytes(later, f)?;
+    f.write_str("]")
+}
+
+impl fmt::Debug for DebugText<'_> {
+    ghost debug_output = { λ text. plain_output (plain_debug text) };
+
+    fn fmt<W: fmt::Write>(&self, f: &mut fmt::Formatter<W>) -> fmt::Result
+        ensures writes { DisplaysOnOk W.write_str_gives f.old result (plain_output (plain_debug self.now)) f.new }
+        ensures alternate { spec_alternate (formatter_spec f.old) ≡ true →
+            DisplaysStyledOnOk W.write_str_gives f.old result (alternate_output (plain_debug self.now)) f.new }
+        ensures failing { plain_debug self.now ≡ Unwritable → IsErr result }
+    {
+        match self {
+            DebugText::Texts { plain, alternate } => {
+                f.write_str(if f.alternate() { alternate } else { plain })
+            }
+            DebugText::Failing => Err(fmt::Error),
+            DebugText::I64(n) => fmt::Debug::fmt(n, f),
+            DebugText::U64(n) => fmt::Debug::fmt(n, f),
+            DebugText::I128(n) => fmt::Debug::fmt(n, f),
+            DebugText::U128(n) => fmt::Debug::fmt(n, f),
+            DebugText::Bool(b) => fmt::Debug::fmt(b, f),
+            DebugText::Str(text) => fmt::Debug::fmt(text, f),
+            DebugText::Bytes(bytes) => write_bytes(bytes, f),
+        }
+    }
+}

@@ -1,0 +1,116 @@
+//! How a visitor takes the entries of a value set.
+ghost use Rattle.std.specs.Prelude.{◌≡◌, ◌<◌, ◌≤◌, MatchOption, length};
+ghost use Rattle.tracing_core_fields.specs.Field.{plain_field};
+ghost use Rattle.tracing_core_fields.specs.FieldSet.{field_names, set_callsite};
+ghost use Rattle.tracing_core_fields.specs.PlainValue.{present_value};
+ghost use Rattle.tracing_core_fields.specs.ValueSet.{entries_of, fields_of_values};
+ghost use Rattle.tracing_core_fields.specs.Values.{given_entry, given_entries, placed_entry, placed_entries};
+ghost use Rattle.tracing_core_fields.specs.Visits.{TakesIfThere, Visits};
+
+use crate::field::{Field, FieldSet};
+use crate::value_set::{AnyValue, ValueSet, Values};
+use crate::visit::Visit;
+
+// Hands the value to the visitor by the call of its kind. A value that isn't there is passed over.
+fn record_value<V: Visit>(
+    visitor: &mut V,
+    field: &Field<'_>,
+    value: &Option<AnyValue<'_>>,
+) -> Result<(), V::Error>
+    ensures { MatchOption (present_value value.now)
+        ((result ≡ Ok tt) × (visitor.new ≡ visitor.old))
+        (λ plain. V.takes visitor.old (plain_field field.now) plain result visitor.new) }
+{
+    match value {
+        None | Some(AnyValue::Empty) => Ok(()),
+        Some(AnyValue::I64(n)) => visitor.record_i64(field, *n),
+        Some(AnyValue::U64(n)) => visitor.record_u64(field, *n),
+        Some(AnyValue::I128(n)) => visitor.record_i128(field, *n),
+        Some(AnyValue::U128(n)) => visitor.record_u128(field, *n),
+        Some(AnyValue::Bool(b)) => visitor.record_bool(field, *b),
+        Some(AnyValue::Str(text)) => visitor.record_str(field, text),
+        Some(AnyValue::Bytes(bytes)) => visitor.record_bytes(field, bytes),
+        Some(AnyValue::Error(error)) => visitor.record_error(field, error),
+        Some(AnyValue::Debug(text)) => visitor.record_debug(field, text),
+    }
+}
+
+// Hands on the value of the field, where the set has the field's callsite.
+fn record_entry<'a, V: Visit>(
+    fields: &FieldSet<'a>,
+    entry: &(Field<'a>, Option<AnyValue<'a>>),
+    visitor: &mut V,
+) -> Result<(), V::Error>
+    ensures { TakesIfThere V.takes (set_callsite fields.now) (field_names fields.now)
+        (given_entry (set_callsite fields.now) entry.now) visitor.old result visitor.new }
+{
+    if entry.0.callsite() == fields.callsite() {
+        record_value(visitor, &fields.own(&entry.0), &entry.1)
+    } else {
+        Ok(())
+    }
+}
+
+// Visits the fields of the set that are given with a value.
+fn record_given<'a, V: Visit>(
+    fields: &FieldSet<'a>,
+    entries: &[(Field<'a>, Option<AnyValue<'a>>)],
+    visitor: &mut V,
+) -> Result<(), V::Error>
+    ensures { Visits V.takes (set_callsite fields.now) (field_names fields.now)
+        (given_entries (set_callsite fields.now) entries.now) visitor.old result visitor.new }
+{
+    for entry in entries {
+        record_entry(fields, entry, visitor)?;
+    }
+    Ok(())
+}
+
+// Hands on the value of the field at the place.
+fn record_at<V: Visit>(
+    fields: &FieldSet<'_>,
+    place: usize,
+    value: &Option<AnyValue<'_>>,
+    visitor: &mut V,
+) -> Result<(), V::Error>
+    requires { place < length (field_names fields.now) }
+    ensures { TakesIfThere V.takes (set_callsite fields.now) (field_names fields.now)
+        (placed_entry (place, value.now)) visitor.old result visitor.new }
+{
+    record_value(visitor, &fields.at(place), value)
+}
+
+// Visits the fields of the set whose values are given in order.
+fn record_placed<V: Visit>(
+    fields: &FieldSet<'_>,
+    values: &[Option<AnyValue<'_>>],
+    visitor: &mut V,
+) -> Result<(), V::Error>
+    requires { length values.now ≤ length (field_names fields.now) }
+    ensures { Visits V.takes (set_callsite fields.now) (field_names fields.now)
+        (placed_entries values.now) visitor.old result visitor.new }
+{
+    for (place, value) in values.iter().enumerate() {
+        record_at(fields, place, value, visitor)?;
+    }
+    Ok(())
+}
+
+impl ValueSet<'_> {
+    /// Hands the values to the visitor, in order, up to its first refusal, which is the answer.
+    ///
+    /// Absent values, [`AnyValue::Empty`] and the fields of other callsites are passed over. Each field
+    /// that the visitor meets is the set's own field at that place.
+    pub fn record<V: Visit>(&self, visitor: &mut V) -> Result<(), V::Error>
+        ensures { Visits V.takes (set_callsite (fields_of_values self.now)) (field_names (fields_of_values self.now))
+            (entries_of self.now) visitor.old result visitor.new }
+    {
+        match self.values {
+            Values::Explicit(entries) => record_given(&self.fields, entries, visitor),
+            Values::All(values) => {
+                let count = self.fields.len().min(values.len());
+                record_placed(&self.fields, &values[..count], visitor)
+            }
+        }
+    }
+}
