@@ -1,3 +1,4 @@
+mod EntryLemmas
 mod FieldLemmas
 mod TextLemmas
 mod VisitLemmas

@@ -1,0 +1,6 @@
+//! Requests of spans and events.
+#![tactic(auto)]
+
+mod requests;
+
+pub use requests::{Attributes, Current, Event, Record};
