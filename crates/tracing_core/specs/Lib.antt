@@ -19,3 +19,4 @@ pub use Rattle.tracing_core_fields.specs.PlainValue
 pub use Rattle.tracing_core_fields.specs.Visits
 pub use Rattle.tracing_core_fields.specs.Values
 pub use Rattle.tracing_core_fields.specs.ValueSet
+pub use Rattle.tracing_core_values.specs.Shown

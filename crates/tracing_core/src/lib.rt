@@ -2,7 +2,8 @@
 #![tactic(auto)]
 
 pub use tracing_core_fields::{
-    AnyValue, DebugText, ErrorText, Field, FieldSet, Id, Identifier, Iter, Kind, Level, LevelFilter,
-    Metadata, ParseLevelError, ParseLevelFilterError, ValueSet, Visit, filters_read_their_names,
-    levels_read_their_names, numbers_are_read_as_usize,
+    AnyValue, DebugText, ErrorText, Field, FieldSet, Id, Identifier, Iter, Kind, Level,
+    LevelFilter, Metadata, ParseLevelError, ParseLevelFilterError, ValueSet, Visit,
+    filters_read_their_names, levels_read_their_names, numbers_are_read_as_usize,
 };
+pub use tracing_core_values::{DebugValue, DisplayValue, Empty, Value, debug, display};
