@@ -1,13 +1,15 @@
 //! What is known of a span that is to be made.
 ghost use Rattle.std.specs.Prelude.{◌≡◌, ◌↔◌, IsTrue, []};
 ghost use Rattle.std.specs.Option.{option_copied};
+ghost use Rattle.tracing_core_fields.specs.FieldSet.{field_names, set_callsite};
 ghost use Rattle.tracing_core_fields.specs.Metadata.{plain_metadata};
 ghost use Rattle.tracing_core_fields.specs.ValueSet.{entries_of, fields_of_values, has_value};
+ghost use Rattle.tracing_core_fields.specs.Visits.{Visits};
 ghost use Rattle.tracing_core_hub.specs.PlainRequests.{plain_attributes, explicit_parent};
 ghost use Rattle.tracing_core_hub.specs.Attributes.{attributes_metadata, attributes_values};
 
 use crate::requests::parent::Parent;
-use tracing_core_fields::{Field, FieldSet, Id, Metadata, ValueSet};
+use tracing_core_fields::{Field, FieldSet, Id, Metadata, ValueSet, Visit};
 
 /// What is known of a span that is to be made: its metadata, the values of its fields, and which span
 /// it stands under.
@@ -109,6 +111,14 @@ impl<'m, 'v> Attributes<'m, 'v> {
         ensures { option_copied result ≡ explicit_parent (plain_attributes self.now).parent }
     {
         self.parent.named()
+    }
+
+    /// Hands the values to the visitor, in order, up to its first refusal, which is the answer.
+    pub fn record<V: Visit>(&self, visitor: &mut V) -> Result<(), V::Error>
+        ensures { let fields = fields_of_values (attributes_values self.now) in
+            Visits V.takes (set_callsite fields) (field_names fields) (plain_attributes self.now).entries visitor.old result visitor.new }
+    {
+        self.values.record(visitor)
     }
 
     /// Whether the field is one of the values' fields, and has a value.

@@ -1,15 +1,16 @@
 //! What happened, at a moment.
 ghost use Rattle.std.specs.Prelude.{◌≡◌, ◌↔◌, IsTrue};
 ghost use Rattle.std.specs.Option.{option_copied};
-ghost use Rattle.tracing_core_fields.specs.FieldSet.{plain_fields};
+ghost use Rattle.tracing_core_fields.specs.FieldSet.{plain_fields, field_names, set_callsite};
 ghost use Rattle.tracing_core_fields.specs.Iter.{fields_left};
 ghost use Rattle.tracing_core_fields.specs.Metadata.{plain_metadata};
 ghost use Rattle.tracing_core_fields.specs.ValueSet.{entries_of, fields_of_values};
+ghost use Rattle.tracing_core_fields.specs.Visits.{Visits};
 ghost use Rattle.tracing_core_hub.specs.PlainRequests.{plain_event, explicit_parent, child_or_root};
 ghost use Rattle.tracing_core_hub.specs.Events.{event_metadata, event_values};
 
 use crate::requests::parent::Parent;
-use tracing_core_fields::{Id, Iter, Metadata, ValueSet};
+use tracing_core_fields::{Id, Iter, Metadata, ValueSet, Visit};
 
 /// What happened at a moment: its metadata, the values of its fields, and which span it stands under.
 #[derive(Clone, Copy, Debug)]
@@ -59,6 +60,14 @@ impl<'m, 'v> Event<'m, 'v> {
                 None => Parent::Root,
             },
         }
+    }
+
+    /// Hands the values to the visitor, in order, up to its first refusal, which is the answer.
+    pub fn record<V: Visit>(&self, visitor: &mut V) -> Result<(), V::Error>
+        ensures { let fields = fields_of_values (event_values self.now) in
+            Visits V.takes (set_callsite fields) (field_names fields) (plain_event self.now).entries visitor.old result visitor.new }
+    {
+        self.values.record(visitor)
     }
 
     /// The fields that the values are of, in order.

@@ -1,10 +1,12 @@
 //! Values that are given to a span after it was made.
 ghost use Rattle.std.specs.Prelude.{◌≡◌, ◌↔◌, IsTrue, []};
-ghost use Rattle.tracing_core_fields.specs.ValueSet.{entries_of, entry_count, has_value};
+ghost use Rattle.tracing_core_fields.specs.FieldSet.{field_names, set_callsite};
+ghost use Rattle.tracing_core_fields.specs.ValueSet.{entries_of, entry_count, fields_of_values, has_value};
+ghost use Rattle.tracing_core_fields.specs.Visits.{Visits};
 ghost use Rattle.tracing_core_hub.specs.PlainRequests.{plain_record};
 ghost use Rattle.tracing_core_hub.specs.Records.{record_values};
 
-use tracing_core_fields::{Field, ValueSet};
+use tracing_core_fields::{Field, ValueSet, Visit};
 
 /// Values that are given to a span after it was made.
 #[derive(Clone, Copy, Debug)]
@@ -19,6 +21,14 @@ impl<'v> Record<'v> {
         ensures values { record_values result ≡ values.entry }
     {
         Record { values }
+    }
+
+    /// Hands the values to the visitor, in order, up to its first refusal, which is the answer.
+    pub fn record<V: Visit>(&self, visitor: &mut V) -> Result<(), V::Error>
+        ensures { let fields = fields_of_values (record_values self.now) in
+            Visits V.takes (set_callsite fields) (field_names fields) (plain_record self.now) visitor.old result visitor.new }
+    {
+        self.values.record(visitor)
     }
 
     /// How many of their own fields the values were given, with a value or without one.

@@ -1,8 +1,37 @@
 use crate::{Attributes, Current, Event, Record};
+use std::fmt;
+use std::fmt::Write;
 use std::test::Fail;
-use tracing_core_fields::{AnyValue, FieldSet, Id, Identifier, Kind, Level, Metadata};
+use tracing_core_fields::{
+    AnyValue, DebugText, Field, FieldSet, Id, Identifier, Kind, Level, Metadata, Visit,
+};
 
 const NAMES: [&str; 2] = ["message", "count"];
+
+// Writes each field and its value, and refuses once there is no room for another.
+#[derive(Drop)]
+struct Lines {
+    text: String,
+    room: usize,
+}
+
+impl Visit for Lines {
+    type Error = fmt::Error;
+
+    ghost takes = { λ _ _ _ _ _. Unit {0} };
+
+    ghost forwards = { λ _ _ _ _ _ _. tt };
+
+    fn record_debug(&mut self, field: &Field<'_>, value: &DebugText<'_>) -> fmt::Result {
+        if self.room == 0 {
+            return Err(fmt::Error);
+        }
+        self.room -= 1;
+        let name = field.name();
+        write!(self.text, "{name}={value:?};")?;
+        Ok(())
+    }
+}
 
 fn metadata_of(fields: FieldSet<'_>) -> Metadata<'_> {
     Metadata::new(
@@ -79,6 +108,30 @@ fn events_keep_their_parts(rt: HostRuntime) -> Result<(), Fail> {
     let child = Event::new_child_of(Some(id), &metadata, set.value_set_all(&all));
     assert!(rt; !child.is_root() && !child.is_contextual());
     assert_eq!(rt; child.parent().copied(), Some(id));
+    Ok(())
+}
+
+#[test]
+fn values_are_visited(rt: HostRuntime) -> Result<(), Fail> {
+    let set = FieldSet::new(&NAMES, Identifier(7));
+    let metadata = metadata_of(set);
+    let all = [Some(AnyValue::Bool(true)), Some(AnyValue::I64(-1))];
+    let values = set.value_set_all(&all);
+    let mut lines = Lines {
+        text: String::new(rt.alloc()),
+        room: 5,
+    };
+    assert!(rt;
+        Attributes::new(&metadata, values)
+            .record(&mut lines)
+            .is_ok()
+    );
+    assert!(rt; Record::new(values).record(&mut lines).is_ok());
+    assert!(rt; Event::new(&metadata, values).record(&mut lines).is_err());
+    assert_eq!(rt;
+        lines.text.as_str(),
+        "message=true;count=-1;message=true;count=-1;message=true;"
+    );
     Ok(())
 }
 
