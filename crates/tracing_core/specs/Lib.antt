@@ -16,6 +16,7 @@ pub use Rattle.tracing_core_fields.specs.PlainDebug
 pub use Rattle.tracing_core_fields.specs.DebugText
 pub use Rattle.tracing_core_fields.specs.ErrorText
 pub use Rattle.tracing_core_fields.specs.PlainValue
+pub use Rattle.tracing_core_fields.specs.OwnedValues
 pub use Rattle.tracing_core_fields.specs.Visits
 pub use Rattle.tracing_core_fields.specs.Values
 pub use Rattle.tracing_core_fields.specs.ValueSet

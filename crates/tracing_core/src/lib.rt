@@ -1,9 +1,9 @@
-//! The core of tracing: levels, metadata, fields, values, visits and span ids.
+//! The core of tracing: levels, metadata, fields, values, visits, span ids, and the hub of subscribers.
 #![tactic(auto)]
 
 pub use tracing_core_fields::{
-    AnyValue, DebugText, ErrorText, Field, FieldSet, Id, Identifier, Iter, Kind, Level,
-    LevelFilter, Metadata, ParseLevelError, ParseLevelFilterError, ValueSet, Visit,
+    AnyValue, DebugText, ErrorText, Field, FieldSet, FieldValue, Id, Identifier, Iter, Kind, Level,
+    LevelFilter, Metadata, OwnedValue, ParseLevelError, ParseLevelFilterError, ValueSet, Visit,
     filters_read_their_names, levels_read_their_names, numbers_are_read_as_usize,
 };
 pub use tracing_core_values::{DebugValue, DisplayValue, Empty, Value, debug, display};
