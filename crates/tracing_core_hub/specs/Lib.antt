@@ -1,2 +1,5 @@
 pub mod Interests
 pub mod PlainRequests
+pub mod Calls
+pub mod Steady
+pub mod NoReplies

@@ -2,9 +2,17 @@
 #![tactic(auto)]
 
 mod at;
+mod current_span;
+mod dispatch;
 mod interest;
+mod refusal;
 mod requests;
+mod subscriber;
 
 pub use at::At;
+pub use current_span::CurrentSpan;
+pub use dispatch::{Dispatch, WeakDispatch};
 pub use interest::{Interest, interests_join_in_any_order};
+pub use refusal::RequestError;
 pub use requests::{Attributes, Event, Record};
+pub use subscriber::{NoSubscriber, Subscriber};
