@@ -3,3 +3,4 @@ pub mod PlainRequests
 pub mod Calls
 pub mod Steady
 pub mod NoReplies
+pub mod Table

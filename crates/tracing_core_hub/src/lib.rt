@@ -2,15 +2,19 @@
 #![tactic(auto)]
 
 mod at;
+mod callsite;
 mod current_span;
 mod dispatch;
+mod hub;
 mod interest;
 mod refusal;
 mod requests;
 mod subscriber;
 
 pub use at::At;
+pub use callsite::Callsite;
 pub use current_span::CurrentSpan;
+pub use hub::Hub;
 pub use dispatch::{Dispatch, WeakDispatch};
 pub use interest::{Interest, interests_join_in_any_order};
 pub use refusal::RequestError;
