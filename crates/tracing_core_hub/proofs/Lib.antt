@@ -1,1 +1,3 @@
-mod Boxes
+pub mod Boxes
+pub mod Entries
+pub mod Loops

@@ -4,3 +4,5 @@ pub mod Calls
 pub mod Steady
 pub mod NoReplies
 pub mod Table
+pub mod Handles
+pub mod Asking

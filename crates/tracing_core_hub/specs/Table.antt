@@ -1,5 +1,5 @@
 -- What a hub keeps, as plain data.
-use Rattle.std.specs.Prelude.{◌≡◌, ℕ, List, [], Option, Some, None}
+use Rattle.std.specs.Prelude.{ℕ, List, [], Option, Some, None}
 use Rattle.tracing_core_hub.specs.declared.hub.parts.Entry.{Entry}
 use Rattle.tracing_core_hub.specs.declared.hub.parts.Row.{Row}
 use Rattle.tracing_core_hub.specs.declared.hub.parts.Setting.{Setting}

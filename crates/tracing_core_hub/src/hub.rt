@@ -4,6 +4,8 @@ ghost use Rattle.tracing_core_hub.specs.Table.{Table, fresh, chosen, own_setting
 ghost use Rattle.tracing_core_hub.specs.declared.hub.parts.Lane.TheVariants.{Running};
 ghost use Rattle.tracing_core_hub.specs.declared.hub.parts.Setting.TheVariants.{Unset};
 
+mod asking;
+mod entries;
 mod parts;
 
 use crate::dispatch::WeakDispatch;

@@ -17,6 +17,6 @@ pub use current_span::CurrentSpan;
 pub use hub::Hub;
 pub use dispatch::{Dispatch, WeakDispatch};
 pub use interest::{Interest, interests_join_in_any_order};
-pub use refusal::RequestError;
+pub use refusal::{HandleError, RequestError};
 pub use requests::{Attributes, Event, Record};
 pub use subscriber::{NoSubscriber, Subscriber};

@@ -20,3 +20,14 @@ pub enum RequestError {
     #[error("too many handles")]
     TooManyHandles,
 }
+
+/// Why a hub gives no further handle.
+#[derive(Clone, Copy, Debug, PartialEq, Eq, Error)]
+pub enum HandleError {
+    /// No subscriber of this hub has the handle.
+    #[error("unknown handle")]
+    Unknown,
+    /// The subscriber has as many handles as can be counted.
+    #[error("too many handles")]
+    TooMany,
+}
