@@ -1,3 +1,5 @@
 pub mod Boxes
 pub mod Entries
 pub mod Loops
+pub mod Asks
+pub mod Tables

@@ -6,3 +6,5 @@ pub mod NoReplies
 pub mod Table
 pub mod Handles
 pub mod Asking
+pub mod Commands
+pub mod Defaults

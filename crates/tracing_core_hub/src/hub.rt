@@ -5,11 +5,17 @@ ghost use Rattle.tracing_core_hub.specs.declared.hub.parts.Lane.TheVariants.{Run
 ghost use Rattle.tracing_core_hub.specs.declared.hub.parts.Setting.TheVariants.{Unset};
 
 mod asking;
+mod defaults;
 mod entries;
+mod gate;
+mod handles;
+mod taking;
 mod parts;
+mod rows;
 
 use crate::dispatch::WeakDispatch;
-use parts::{Entry, Lane, Row, Setting};
+pub(crate) use parts::Setting;
+use parts::{Entry, Lane, Row};
 use std::alloc::{AllocError, Global};
 use std::marker::Model;
 use tracing_core_fields::LevelFilter;

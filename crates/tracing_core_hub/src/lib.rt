@@ -5,6 +5,7 @@ mod at;
 mod callsite;
 mod current_span;
 mod dispatch;
+mod guard;
 mod hub;
 mod interest;
 mod refusal;
@@ -14,9 +15,13 @@ mod subscriber;
 pub use at::At;
 pub use callsite::Callsite;
 pub use current_span::CurrentSpan;
+pub use guard::{DefaultGuard, WrongLane};
 pub use hub::Hub;
 pub use dispatch::{Dispatch, WeakDispatch};
 pub use interest::{Interest, interests_join_in_any_order};
-pub use refusal::{HandleError, RequestError};
+pub use refusal::{
+    AddError, HandleError, RegisterError, RequestError, SetDefaultError, SetGlobalDefaultError,
+    TooManyHandles, UnknownLane,
+};
 pub use requests::{Attributes, Event, Record};
 pub use subscriber::{NoSubscriber, Subscriber};

@@ -96,7 +96,7 @@ pub(crate) fn ask_hints<S: Subscriber>(entries: &mut [Entry<S>]) -> LevelFilter
 
 impl<C: Callsite> Row<C> {
     // Asks all of the callsite, and tells it what they have in common.
-    fn ask<S: Subscriber>(&mut self, entries: &mut [Entry<S>])
+    pub(crate) fn ask<S: Subscriber>(&mut self, entries: &mut [Entry<S>])
         ensures { RowAsked ⟦<S as Subscriber>⟧ ⟦<C as Callsite>⟧ entries.old self.old self.new entries.new }
     {
         let interest = self.interest_of_all(entries);

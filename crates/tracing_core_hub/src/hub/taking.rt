@@ -1,0 +1,68 @@
+//! Taking subscribers and callsites, and asking all again.
+ghost use Rattle.std.specs.Prelude.{◌≡◌};
+ghost use Rattle.tracing_core_hub.specs.Commands.{Rebuilt, AddGives, RegisterGives};
+
+use crate::callsite::Callsite;
+use crate::dispatch::{Dispatch, WeakDispatch};
+use crate::hub::Hub;
+use crate::hub::asking::{ask_hints, ask_rows};
+use crate::hub::parts::{Entry, Row};
+use crate::interest::Interest;
+use crate::refusal::{AddError, RegisterError};
+use crate::subscriber::Subscriber;
+
+impl<S: Subscriber, C: Callsite> Hub<S, C> {
+    /// Asks all subscribers of each callsite and for their hints, and keeps what they say: the common
+    /// interest in each callsite, and the greatest level. Then no subscriber counts as lent.
+    pub fn rebuild_interest_cache(&mut self)
+        ensures { Rebuilt ⟦<S as Subscriber>⟧ ⟦<C as Callsite>⟧ self.old self.new }
+    {
+        ask_rows(&mut self.entries, &mut self.rows);
+        self.greatest = ask_hints(&mut self.entries);
+    }
+
+    /// Takes a subscriber, tells it its handle, and rebuilds what is kept. It comes back where there is no
+    /// memory for it, or no number is left; then it wasn't told anything.
+    pub fn add(&mut self, subscriber: S) -> Result<Dispatch, AddError<S>>
+        ensures { AddGives ⟦<S as Subscriber>⟧ ⟦<C as Callsite>⟧ self.old subscriber result self.new }
+    {
+        if self.next == u64::MAX {
+            return Err(AddError::NumbersSpent(subscriber));
+        }
+        if self.entries.reserve(1).is_err() {
+            return Err(AddError::OutOfMemory(subscriber));
+        }
+        let serial = self.next;
+        let mut subscriber = subscriber;
+        subscriber.on_register_dispatch(&WeakDispatch::new(Some(serial)));
+        self.entries.push_reserved(Entry {
+            serial,
+            handles: 1,
+            lent: false,
+            subscriber,
+        });
+        self.next = serial + 1;
+        self.rebuild_interest_cache();
+        Ok(Dispatch::new(Some(serial)))
+    }
+
+    /// Takes a callsite, asks all subscribers of it, and tells it their common interest, which is never
+    /// where there is none. It comes back where its identifier is known, or there is no memory for it.
+    pub fn register(&mut self, callsite: C) -> Result<Interest, RegisterError<C>>
+        ensures { RegisterGives ⟦<S as Subscriber>⟧ ⟦<C as Callsite>⟧ self.old callsite result self.new }
+    {
+        let mut row = Row::new(callsite);
+        if self.knows(row.identifier) {
+            let Row { callsite, .. } = row;
+            return Err(RegisterError::Taken(callsite));
+        }
+        if self.rows.reserve(1).is_err() {
+            let Row { callsite, .. } = row;
+            return Err(RegisterError::OutOfMemory(callsite));
+        }
+        row.ask(&mut self.entries);
+        let interest = row.interest;
+        self.rows.push_reserved(row);
+        Ok(interest)
+    }
+}
