@@ -1,8 +1,10 @@
 -- What a value set has.
-use Rattle.std.specs.Prelude.{ℕ, List, length, min, take, count_by}
+use Rattle.std.specs.Prelude.{ℕ, ◌==◌, ◌&&◌, Bool, List, length, min, take, count_by}
 use Rattle.tracing_core_fields.specs.FieldSet.{field_names, set_callsite}
 use Rattle.tracing_core_fields.specs.PlainValue.{PlainValue}
-use Rattle.tracing_core_fields.specs.Values.{is_own, given_entries, placed_entries}
+use Rattle.tracing_core_fields.specs.Values.{is_own, given_entries, placed_entries, has_entry}
+use Rattle.tracing_core_fields.specs.Field.{field_callsite, field_index}
+use Rattle.tracing_core_fields.specs.declared.field.Field.{Field}
 use Rattle.tracing_core_fields.specs.declared.field.FieldSet.{FieldSet}
 use Rattle.tracing_core_fields.specs.declared.value_set.Values.{Values}
 use Rattle.tracing_core_fields.specs.declared.value_set.Values.TheVariants.{Explicit, All}
@@ -27,3 +29,7 @@ count_in fields (All values) = min (length (field_names fields)) (length values.
 -- how many of its own fields it was given, present or not
 abbrev pub entry_count : ValueSet → ℕ
 entry_count set = count_in set.fields set.values
+
+-- whether the field is one of its own, and has a value
+abbrev pub has_value : ValueSet → Field → Bool
+has_value set field = (field_callsite field == set_callsite (fields_of_values set)) && has_entry (field_index field) (entries_of set)

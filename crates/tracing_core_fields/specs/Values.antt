@@ -1,6 +1,6 @@
 -- The entries that values give.
 use Rattle.std.specs.Prelude.{ℕ, ◌==◌, Bool, List, Option, None, if◌then◌else◌}
-use Rattle.std.specs.List.{enumerate_from, filter_map}
+use Rattle.std.specs.List.{enumerate_from, filter_map, list_any}
 use Rattle.std.specs.Option.{option_map}
 use Rattle.tracing_core_fields.specs.Field.{field_callsite, field_index}
 use Rattle.tracing_core_fields.specs.PlainValue.{PlainValue, present_value}
@@ -27,3 +27,7 @@ placed_entry entry = option_map (λ value. (entry.0, value)) (present_value entr
 -- the entries of values that are given by their places
 abbrev pub placed_entries : List (Option AnyValue) → List (ℕ × PlainValue)
 placed_entries values = filter_map placed_entry (enumerate_from 0 values)
+
+-- whether there is an entry at the place
+abbrev pub has_entry : ℕ → List (ℕ × PlainValue) → Bool
+has_entry place entries = list_any (λ entry. entry.0 == place) entries

@@ -158,11 +158,16 @@ fn values_are_counted(rt: HostRuntime) -> Result<(), Fail> {
         (values.len(), values.is_empty(), values.callsite()),
         (2, true, Identifier(7))
     );
+    assert!(rt; !values.contains(&own) && !values.contains(&other));
     let pairs = [(own, Some(AnyValue::Str("hi")))];
     assert!(rt; !set.value_set(&pairs).is_empty());
+    assert!(rt; set.value_set(&pairs).contains(&own) && !set.value_set(&pairs).contains(&other));
+    assert_eq!(rt; set.value_set(&pairs).field_set().len(), 3);
     let all = [None, None, Some(AnyValue::Empty), Some(AnyValue::I64(-1))];
     let values = set.value_set_all(&all);
     assert_eq!(rt; (values.len(), values.is_empty()), (3, true));
+    let count = set.field("count").ok_or("count")?;
+    assert!(rt; set.value_set_all(&all[2..]).contains(&count) && !values.contains(&count));
     assert_eq!(rt;
         (
             set.value_set_all(&all[3..]).len(),

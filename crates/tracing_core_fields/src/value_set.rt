@@ -3,8 +3,8 @@ ghost use Rattle.std.specs.Prelude.{◌≡◌, ◌↔◌, ◌==◌, IsTrue, List
 ghost use Rattle.std.specs.Option.{is_some};
 ghost use Rattle.tracing_core_fields.specs.FieldSet.{field_names, set_callsite};
 ghost use Rattle.tracing_core_fields.specs.PlainValue.{present_value};
-ghost use Rattle.tracing_core_fields.specs.ValueSet.{entries_of, entry_count, fields_of_values};
-ghost use Rattle.tracing_core_fields.specs.Values.{is_own, given_entries, placed_entries};
+ghost use Rattle.tracing_core_fields.specs.ValueSet.{entries_of, entry_count, fields_of_values, has_value};
+ghost use Rattle.tracing_core_fields.specs.Values.{is_own, given_entries, placed_entries, has_entry};
 
 use crate::callsite::Identifier;
 use crate::field::{Field, FieldSet};
@@ -109,7 +109,40 @@ fn lacks_placed(values: &[Option<AnyValue<'_>>]) -> bool
     true
 }
 
+// Whether the field of the callsite at the place has a value.
+fn has_given(
+    callsite: Identifier,
+    place: usize,
+    entries: &[(Field<'_>, Option<AnyValue<'_>>)],
+) -> bool
+    ensures { result ≡ has_entry place (given_entries callsite.0 entries.now) }
+{
+    for entry in entries {
+        if entry.0.callsite() == callsite && entry.0.index() == place && is_present(&entry.1) {
+            return true;
+        }
+    }
+    false
+}
+
+// Whether the value at the place is present.
+fn has_placed(place: usize, values: &[Option<AnyValue<'_>>]) -> bool
+    ensures { result ≡ has_entry place (placed_entries values.now) }
+{
+    match values.get(place) {
+        Some(value) => is_present(value),
+        None => false,
+    }
+}
+
 impl<'a> ValueSet<'a> {
+    /// The fields that the values are of.
+    pub fn field_set(&self) -> &FieldSet<'a>
+        ensures { result.now ≡ fields_of_values self.now }
+    {
+        &self.fields
+    }
+
     /// The callsite of the fields.
     pub fn callsite(&self) -> Identifier
         ensures { result.0 ≡ set_callsite (fields_of_values self.now) }
@@ -134,6 +167,25 @@ impl<'a> ValueSet<'a> {
         match self.values {
             Values::Explicit(entries) => lacks_given(self.callsite(), entries),
             Values::All(values) => lacks_placed(&values[..self.fields.len().min(values.len())]),
+        }
+    }
+
+    /// Whether the field is one of its own, and has a value.
+    pub fn contains(&self, field: &Field<'_>) -> bool
+        ensures { result ≡ has_value self.now field.now }
+    {
+        field.callsite() == self.callsite() && self.has_place(field.index())
+    }
+
+    // Whether its own field at the place has a value.
+    fn has_place(&self, place: usize) -> bool
+        ensures { result ≡ has_entry place (entries_of self.now) }
+    {
+        match self.values {
+            Values::Explicit(entries) => has_given(self.callsite(), place, entries),
+            Values::All(values) => {
+                has_placed(place, &values[..self.fields.len().min(values.len())])
+            }
         }
     }
 }

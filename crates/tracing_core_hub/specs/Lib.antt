@@ -8,3 +8,7 @@ pub mod Handles
 pub mod Asking
 pub mod Commands
 pub mod Defaults
+pub mod Attributes
+pub mod Records
+pub mod Events
+pub mod Currents

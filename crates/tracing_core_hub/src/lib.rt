@@ -23,5 +23,5 @@ pub use refusal::{
     AddError, HandleError, RegisterError, RequestError, SetDefaultError, SetGlobalDefaultError,
     TooManyHandles, UnknownLane,
 };
-pub use requests::{Attributes, Event, Record};
+pub use requests::{Attributes, Current, Event, Record};
 pub use subscriber::{NoSubscriber, Subscriber};

@@ -1,9 +1,14 @@
-//! What requests carry.
-pub(crate) mod attributes;
-pub(crate) mod event;
-pub(crate) mod parent;
-pub(crate) mod record;
+//! What is handed to a subscriber, and what it answers of the current span.
+
+mod attributes;
+mod current;
+mod event;
+mod parent;
+mod record;
+#[cfg(test)]
+mod tests;
 
 pub use attributes::Attributes;
+pub use current::Current;
 pub use event::Event;
 pub use record::Record;

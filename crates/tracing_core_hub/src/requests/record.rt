@@ -1,8 +1,44 @@
-//! Values that a span gets once it stands.
-use tracing_core_fields::ValueSet;
+//! Values that are given to a span after it was made.
+ghost use Rattle.std.specs.Prelude.{◌≡◌, ◌↔◌, IsTrue, []};
+ghost use Rattle.tracing_core_fields.specs.ValueSet.{entries_of, entry_count, has_value};
+ghost use Rattle.tracing_core_hub.specs.PlainRequests.{plain_record};
+ghost use Rattle.tracing_core_hub.specs.Records.{record_values};
 
-/// Values that a span gets once it stands.
+use tracing_core_fields::{Field, ValueSet};
+
+/// Values that are given to a span after it was made.
 #[derive(Clone, Copy, Debug)]
 pub struct Record<'v> {
     values: ValueSet<'v>,
+}
+
+impl<'v> Record<'v> {
+    /// The record of these values.
+    pub fn new(values: ValueSet<'v>) -> Record<'v>
+        ensures plain { plain_record result ≡ entries_of values.entry }
+        ensures values { record_values result ≡ values.entry }
+    {
+        Record { values }
+    }
+
+    /// How many of their own fields the values were given, with a value or without one.
+    pub fn len(&self) -> usize
+        ensures { result ≡ entry_count (record_values self.now) }
+    {
+        self.values.len()
+    }
+
+    /// Whether the field is one of the values' fields, and has a value.
+    pub fn contains(&self, field: &Field<'_>) -> bool
+        ensures { result ≡ has_value (record_values self.now) field.now }
+    {
+        self.values.contains(field)
+    }
+
+    /// Whether no field has a value.
+    pub fn is_empty(&self) -> bool
+        ensures { IsTrue result ↔ (plain_record self.now ≡ []) }
+    {
+        self.values.is_empty()
+    }
 }

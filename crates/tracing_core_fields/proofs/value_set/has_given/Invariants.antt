@@ -1,0 +1,7 @@
+use Rattle.std.proofs.Common.{◌≡◌, drop}
+use Rattle.tracing_core_fields.specs.Values.{given_entries, has_entry}
+use Rattle.tracing_core_fields.proofs.value_set.has_given.Given as goal
+
+abbrev pub invariant-loop-entry : goal.invariant-loop-entry
+invariant-loop-entry l =
+    has_entry l.place (given_entries l.callsite.0 (drop l.entry-index l.entries)) ≡ has_entry l.place (given_entries l.callsite.0 l.entries)
