@@ -1,6 +1,6 @@
 -- What the commands of a hub leave and answer.
 use Rattle.std.specs.Prelude.{◌≡◌, ℕ, ◌+◌, ◌==◌, nat_le, Bool, true, false, if◌then◌else◌, List, [], ◌∷◌, ◌++◌, Option, Some, None, Result, Ok, Err, IsSome, slice_get}
-use Rattle.tracing_core_fields.specs.PlainMetadata.{PlainMetadata}
+use Rattle.tracing_core_fields.specs.PlainMetadata.{PlainMetadata, is_same_metadata}
 use Rattle.tracing_core_hub.specs.Asking.{Each, RowAsked, Hints}
 use Rattle.tracing_core_hub.specs.Calls.{Asked, DispatchRegistered}
 use Rattle.tracing_core_hub.specs.Handles.{entry_of, changed, most}
@@ -49,6 +49,11 @@ becomes subscriber e = record e { subscriber = subscriber }
 abbrev pub new_row : {C : Type 0} (h : SiteGhosts C) → C → Row C
 new_row h callsite = record { callsite = callsite; identifier = (h.metadata_of callsite).callsite; level = (h.metadata_of callsite).level; interest = Never }
 
+-- nothing where the identifier isn't known, and the kept interest where its metadata is the same
+abbrev pub kept_alike : {C : Type 0} → SiteGhosts C → PlainMetadata → Option (Row C) → Option (Option PlainInterest)
+kept_alike h metadata None = None
+kept_alike h metadata (Some row) = Some (if is_same_metadata (h.metadata_of row.callsite) metadata then Some row.interest else None)
+
 module _ {S : Type 0} (g : Ghosts S) where
   -- the subscriber was asked, where there is one
   abbrev pub AskGivesAt : PlainMetadata → At → ℕ → List (Entry S) → Option (Entry S) → Bool → List (Entry S) → Type 0
@@ -88,6 +93,16 @@ module _ {S : Type 0} (g : Ghosts S) where
     RegisterGives t callsite (Err (registering.Taken back)) u = IsSome (row_of (h.metadata_of callsite).callsite t.rows) × (back ≡ callsite) × (u ≡ t)
     RegisterGives t callsite (Err (registering.OutOfMemory back)) u =
         (row_of (h.metadata_of callsite).callsite t.rows ≡ None) × (back ≡ callsite) × (u ≡ t)
+
+    -- registering where another callsite with the same metadata counts as this one
+    abbrev pub RegisterOnceGivesAt : Table S C → C → Option (Option PlainInterest) → Result PlainInterest (RegisterError C) → Table S C → Type 0
+    RegisterOnceGivesAt t callsite None result u = RegisterGives t callsite result u
+    RegisterOnceGivesAt t callsite (Some None) result u = (result ≡ Err (registering.Taken callsite)) × (u ≡ t)
+    RegisterOnceGivesAt t callsite (Some (Some interest)) result u = (result ≡ Ok interest) × (u ≡ t)
+
+    abbrev pub RegisterOnceGives : Table S C → C → Result PlainInterest (RegisterError C) → Table S C → Type 0
+    RegisterOnceGives t callsite result u =
+        RegisterOnceGivesAt t callsite (kept_alike h (h.metadata_of callsite) (row_of (h.metadata_of callsite).callsite t.rows)) result u
 
     -- what is known is answered; else the subscriber of the number is asked
     abbrev pub AnswerGives : Row C → At → Option Bool → Option ℕ → List (Entry S) → Bool → List (Entry S) → Type 0

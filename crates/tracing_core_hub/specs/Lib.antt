@@ -12,3 +12,6 @@ pub mod Attributes
 pub mod Records
 pub mod Events
 pub mod Currents
+pub mod DefaultCallsites
+pub mod Lent
+pub mod Everything

@@ -4,6 +4,10 @@ ghost use Rattle.tracing_core_fields.specs.Metadata.{plain_metadata};
 ghost use Rattle.tracing_core_fields.specs.PlainMetadata.{PlainMetadata};
 ghost use Rattle.tracing_core_hub.specs.Interests.{PlainInterest};
 
+mod default;
+
+pub use default::DefaultCallsite;
+
 use crate::interest::Interest;
 use tracing_core_fields::Metadata;
 

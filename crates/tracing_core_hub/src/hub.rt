@@ -9,13 +9,14 @@ mod defaults;
 mod entries;
 mod gate;
 mod handles;
+mod lending;
 mod taking;
 mod parts;
 mod rows;
 
 use crate::dispatch::WeakDispatch;
-pub(crate) use parts::Setting;
-use parts::{Entry, Lane, Row};
+pub(crate) use parts::{Row, Setting};
+use parts::{Entry, Lane};
 use std::alloc::{AllocError, Global};
 use std::marker::Model;
 use tracing_core_fields::LevelFilter;

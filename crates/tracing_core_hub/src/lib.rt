@@ -13,7 +13,7 @@ mod requests;
 mod subscriber;
 
 pub use at::At;
-pub use callsite::Callsite;
+pub use callsite::{Callsite, DefaultCallsite};
 pub use current_span::CurrentSpan;
 pub use guard::{DefaultGuard, WrongLane};
 pub use hub::Hub;
@@ -25,3 +25,6 @@ pub use refusal::{
 };
 pub use requests::{Attributes, Current, Event, Record};
 pub use subscriber::{NoSubscriber, Subscriber};
+
+#[cfg(test)]
+mod tests;

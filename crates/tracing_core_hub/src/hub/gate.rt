@@ -8,7 +8,7 @@ use crate::at::At;
 use crate::callsite::Callsite;
 use crate::dispatch::WeakDispatch;
 use crate::hub::Hub;
-use crate::hub::parts::{Lane, Setting};
+use crate::hub::parts::{Lane, Row, Setting};
 use crate::hub::rows::find_row;
 use crate::interest::Interest;
 use crate::subscriber::Subscriber;
@@ -50,6 +50,13 @@ impl<S, C> Hub<S, C> {
         ensures { result ≡ reached self.now lane }
     {
         WeakDispatch::new(self.reached_serial(lane))
+    }
+
+    // The callsite with the identifier.
+    pub(crate) fn row(&self, identifier: u64) -> Option<&Row<C>>
+        ensures { option_map (λ row. row.now) result ≡ row_of identifier self.now.rows }
+    {
+        find_row(&self.rows, identifier)
     }
 
     // Whether some callsite has the identifier.

@@ -1,5 +1,6 @@
 //! Callsites by their identifiers, and what is known of them.
-ghost use Rattle.std.specs.Prelude.{◌≡◌};
+ghost use Rattle.std.specs.Prelude.{◌≡◌, if◌then◌else◌, Some, None};
+ghost use Rattle.tracing_core_fields.specs.PlainMetadata.{is_same_metadata};
 ghost use Rattle.std.specs.Option.{option_map};
 ghost use Rattle.tracing_core_fields.specs.Metadata.{plain_metadata};
 ghost use Rattle.tracing_core_hub.specs.Calls.{Asked};
@@ -74,6 +75,18 @@ impl<C: Callsite> Row<C> {
             identifier,
             level,
             interest: Interest::never(),
+        }
+    }
+
+    // The kept interest, where the metadata is this.
+    pub(crate) fn interest_where(&self, metadata: &Metadata<'_>) -> Option<Interest>
+        ensures { result ≡ (if is_same_metadata (C.metadata_of self.now.callsite) (plain_metadata metadata.now) then Some self.now.interest else None) }
+    {
+        let own = self.callsite.metadata();
+        if own == *metadata {
+            Some(self.interest)
+        } else {
+            None
         }
     }
 

@@ -1,6 +1,6 @@
 //! Taking subscribers and callsites, and asking all again.
 ghost use Rattle.std.specs.Prelude.{◌≡◌};
-ghost use Rattle.tracing_core_hub.specs.Commands.{Rebuilt, AddGives, RegisterGives};
+ghost use Rattle.tracing_core_hub.specs.Commands.{Rebuilt, AddGives, RegisterGives, RegisterOnceGives, kept_alike, row_of};
 
 use crate::callsite::Callsite;
 use crate::dispatch::{Dispatch, WeakDispatch};
@@ -19,6 +19,13 @@ impl<S: Subscriber, C: Callsite> Hub<S, C> {
     {
         ask_rows(&mut self.entries, &mut self.rows);
         self.greatest = ask_hints(&mut self.entries);
+    }
+
+    /// Asks again whoever may say something else than what is kept: here everyone.
+    pub fn refresh(&mut self)
+        ensures { Rebuilt ⟦<S as Subscriber>⟧ ⟦<C as Callsite>⟧ self.old self.new }
+    {
+        self.rebuild_interest_cache()
     }
 
     /// Takes a subscriber, tells it its handle, and rebuilds what is kept. It comes back where there is no
@@ -64,5 +71,28 @@ impl<S: Subscriber, C: Callsite> Hub<S, C> {
         let interest = row.interest;
         self.rows.push_reserved(row);
         Ok(interest)
+    }
+
+    // What is kept of the identifier of the callsite: the interest where the metadata is the same.
+    fn kept_alike(&self, callsite: &C) -> Option<Option<Interest>>
+        ensures { result ≡ kept_alike ⟦<C as Callsite>⟧ (C.metadata_of callsite.now) (row_of (C.metadata_of callsite.now).callsite self.now.rows) }
+    {
+        let metadata = callsite.metadata();
+        match self.row(metadata.callsite().0) {
+            None => None,
+            Some(row) => Some(row.interest_where(&metadata)),
+        }
+    }
+
+    /// Registers a callsite, where another one with the same metadata counts as this one: then nothing
+    /// changes, and the kept interest is answered. With other metadata its identifier is taken.
+    pub fn register_once(&mut self, callsite: C) -> Result<Interest, RegisterError<C>>
+        ensures { RegisterOnceGives ⟦<S as Subscriber>⟧ ⟦<C as Callsite>⟧ self.old callsite result self.new }
+    {
+        match self.kept_alike(&callsite) {
+            None => self.register(callsite),
+            Some(None) => Err(RegisterError::Taken(callsite)),
+            Some(Some(interest)) => Ok(interest),
+        }
     }
 }
