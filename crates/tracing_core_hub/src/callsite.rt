@@ -6,9 +6,8 @@ ghost use Rattle.tracing_core_hub.specs.Interests.{PlainInterest};
 
 mod default;
 
-pub use default::DefaultCallsite;
-
 use crate::interest::Interest;
+pub use default::DefaultCallsite;
 use tracing_core_fields::Metadata;
 
 /// Where spans or events are made: it knows its metadata, and keeps the interest that a hub tells it.

@@ -10,9 +10,9 @@ mod entries;
 mod gate;
 mod handles;
 mod lending;
-mod taking;
 mod parts;
 mod rows;
+mod taking;
 
 use crate::dispatch::WeakDispatch;
 pub(crate) use parts::{Row, Setting};

@@ -15,9 +15,9 @@ mod subscriber;
 pub use at::At;
 pub use callsite::{Callsite, DefaultCallsite};
 pub use current_span::CurrentSpan;
+pub use dispatch::{Dispatch, WeakDispatch};
 pub use guard::{DefaultGuard, WrongLane};
 pub use hub::Hub;
-pub use dispatch::{Dispatch, WeakDispatch};
 pub use interest::{Interest, interests_join_in_any_order};
 pub use refusal::{
     AddError, HandleError, RegisterError, RequestError, SetDefaultError, SetGlobalDefaultError,

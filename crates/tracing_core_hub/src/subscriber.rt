@@ -10,14 +10,13 @@ ghost use Rattle.tracing_core_hub.specs.Steady.{Agrees, IsRealCall, SameWord};
 mod boxed;
 mod none;
 
-pub use none::NoSubscriber;
-
 use crate::at::At;
 use crate::current_span::CurrentSpan;
 use crate::dispatch::WeakDispatch;
 use crate::interest::Interest;
 use crate::refusal::RequestError;
 use crate::requests::{Attributes, Event, Record};
+pub use none::NoSubscriber;
 use tracing_core_fields::{Id, LevelFilter, Metadata};
 
 /// What takes the requests: the making, entering and closing of spans, and events.
@@ -69,7 +68,11 @@ pub trait Subscriber: Drop {
         ensures left { moves self.old HintAsked result self.new };
 
     /// Makes a span, and answers its id, or `None` where the span is dropped.
-    fn new_span(&mut self, attributes: &Attributes<'_, '_>, at: At) -> Result<Option<Id>, RequestError>
+    fn new_span(
+        &mut self,
+        attributes: &Attributes<'_, '_>,
+        at: At,
+    ) -> Result<Option<Id>, RequestError>
         ensures { moves self.old (SpanMade (plain_attributes attributes.now) at) result self.new };
 
     /// Records more values of a span.

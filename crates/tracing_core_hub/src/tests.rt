@@ -34,28 +34,57 @@ fn two_subscribers_differ(rt: HostRuntime) -> Result<(), Fail> {
     let mut hub: Hub<Everything, Place> = Hub::new(alloc);
     let lane = hub.thread()?;
     assert_eq!(rt; hub.max_level(), LevelFilter::OFF);
-    assert_eq!(rt; hub.register(Place::new(3, Level::INFO)).ok(), Some(Interest::never()));
-    let first = hub.add(Everything::new(1, Interest::always())).ok().ok_or("a hub")?;
+    assert_eq!(rt;
+        hub.register(Place::new(3, Level::INFO)).ok(),
+        Some(Interest::never())
+    );
+    let first = hub
+        .add(Everything::new(1, Interest::always()))
+        .ok()
+        .ok_or("a hub")?;
     assert_eq!(rt; hub.interest(Identifier(3)), Some(Interest::always()));
     assert_eq!(rt; hub.gate(Identifier(3), at(lane)), Some(true));
-    let second = hub.add(Everything::new(2, Interest::never())).ok().ok_or("a hub")?;
+    let second = hub
+        .add(Everything::new(2, Interest::never()))
+        .ok()
+        .ok_or("a hub")?;
     assert_eq!(rt; hub.interest(Identifier(3)), Some(Interest::sometimes()));
     assert_eq!(rt; hub.max_level(), LevelFilter::TRACE);
-    assert_eq!(rt; hub.register(Place::new(4, Level::WARN)).ok(), Some(Interest::sometimes()));
-    assert!(rt; matches!(hub.register(Place::new(4, Level::WARN)), Err(RegisterError::Taken(_))));
-    assert_eq!(rt; hub.register_once(Place::new(4, Level::WARN)).ok(), Some(Interest::sometimes()));
+    assert_eq!(rt;
+        hub.register(Place::new(4, Level::WARN)).ok(),
+        Some(Interest::sometimes())
+    );
+    assert!(rt;
+        matches!(
+            hub.register(Place::new(4, Level::WARN)),
+            Err(RegisterError::Taken(_))
+        )
+    );
+    assert_eq!(rt;
+        hub.register_once(Place::new(4, Level::WARN)).ok(),
+        Some(Interest::sometimes())
+    );
     assert_eq!(rt; hub.gate(Identifier(9), at(lane)), None);
     assert_eq!(rt; hub.gate(Identifier(3), at(lane)), Some(false));
     assert!(rt; !hub.has_been_set());
     assert_eq!(rt; hub.set_global_default(&first), Ok(()));
-    assert_eq!(rt; hub.set_global_default(&second), Err(SetGlobalDefaultError::AlreadySet));
+    assert_eq!(rt;
+        hub.set_global_default(&second),
+        Err(SetGlobalDefaultError::AlreadySet)
+    );
     assert!(rt; hub.has_been_set());
     assert_eq!(rt; hub.gate(Identifier(3), at(lane)), Some(true));
     let weak = hub.downgrade(&second);
-    assert!(rt; hub.subscriber(&second).is_some_and(|subscriber| subscriber.name() == 2));
+    assert!(rt;
+        hub.subscriber(&second)
+            .is_some_and(|subscriber| subscriber.name() == 2)
+    );
     let third = hub.upgrade(&weak)?.ok_or("it lives")?;
     assert!(rt; hub.release(second).is_none());
-    assert!(rt; hub.release(third).is_some_and(|subscriber| subscriber.name() == 2));
+    assert!(rt;
+        hub.release(third)
+            .is_some_and(|subscriber| subscriber.name() == 2)
+    );
     assert!(rt; hub.upgrade(&weak)?.is_none());
     hub.rebuild_interest_cache();
     assert_eq!(rt; hub.interest(Identifier(3)), Some(Interest::always()));
@@ -69,8 +98,14 @@ fn guards_are_spent_in_any_order(rt: HostRuntime) -> Result<(), Fail> {
     let mut hub: Hub<Everything, Place> = Hub::new(alloc);
     let lane = hub.thread()?;
     let other = hub.thread()?;
-    let first = hub.add(Everything::new(1, Interest::always())).ok().ok_or("a hub")?;
-    let second = hub.add(Everything::new(2, Interest::never())).ok().ok_or("a hub")?;
+    let first = hub
+        .add(Everything::new(1, Interest::always()))
+        .ok()
+        .ok_or("a hub")?;
+    let second = hub
+        .add(Everything::new(2, Interest::never()))
+        .ok()
+        .ok_or("a hub")?;
     let outer = hub.set_default(lane, &first)?;
     let inner = hub.set_default(lane, &second)?;
     assert!(rt; hub.release(first).is_none());
@@ -86,7 +121,12 @@ fn guards_are_spent_in_any_order(rt: HostRuntime) -> Result<(), Fail> {
     let last = hub.end_thread(lane)?;
     assert!(rt; last.is_some_and(|subscriber| subscriber.name() == 1));
     assert!(rt; hub.end_thread(lane).is_err());
-    assert!(rt; matches!(hub.set_default(lane, &Dispatch::none()), Err(SetDefaultError::UnknownLane)));
+    assert!(rt;
+        matches!(
+            hub.set_default(lane, &Dispatch::none()),
+            Err(SetDefaultError::UnknownLane)
+        )
+    );
     Ok(())
 }
 
@@ -98,7 +138,10 @@ fn boxes_answer_what_is_in_them(rt: HostRuntime) -> Result<(), Fail> {
     let every: Box<dyn Subscriber> = Box::new(alloc, Everything::new(1, Interest::always()))?;
     let none: Box<dyn Subscriber> = Box::new(alloc, NoSubscriber::new())?;
     let first = hub.add(every).ok().ok_or("a hub")?;
-    assert_eq!(rt; hub.register(Place::new(3, Level::INFO)).ok(), Some(Interest::always()));
+    assert_eq!(rt;
+        hub.register(Place::new(3, Level::INFO)).ok(),
+        Some(Interest::always())
+    );
     let second = hub.add(none).ok().ok_or("a hub")?;
     hub.refresh();
     assert_eq!(rt; hub.interest(Identifier(3)), Some(Interest::sometimes()));
@@ -112,19 +155,22 @@ fn boxes_answer_what_is_in_them(rt: HostRuntime) -> Result<(), Fail> {
     Ok(())
 }
 
-#[test]
-fn callsites_keep_what_they_are_told(rt: HostRuntime) -> Result<(), Fail> {
-    let names = ["message"];
-    let metadata = Metadata::new(
+fn metadata_of(fields: FieldSet<'_>) -> Metadata<'_> {
+    Metadata::new(
         "made",
         "app",
         Level::INFO,
         None,
         Some(7),
         None,
-        FieldSet::new(&names, Identifier(5)),
+        fields,
         Kind::EVENT,
-    );
+    )
+}
+
+#[test]
+fn callsites_keep_what_they_are_told(rt: HostRuntime) -> Result<(), Fail> {
+    let metadata = metadata_of(FieldSet::new(&[], Identifier(5)));
     let mut site = DefaultCallsite::new(&metadata);
     assert!(rt; site.interest().is_never());
     site.set_interest(Interest::always());

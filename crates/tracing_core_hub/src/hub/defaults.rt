@@ -66,7 +66,11 @@ impl<S, C> Hub<S, C> {
 
     /// Sets the default of a lane, which holds a handle of its own. The guard remembers the default that
     /// the lane had. It takes no memory.
-    pub fn set_default(&mut self, lane: u64, dispatch: &Dispatch) -> Result<DefaultGuard, SetDefaultError>
+    pub fn set_default(
+        &mut self,
+        lane: u64,
+        dispatch: &Dispatch,
+    ) -> Result<DefaultGuard, SetDefaultError>
         ensures answer { result ≡ or_refused (default_refusal self.old lane dispatch.now) (guard_of self.old lane) }
         ensures left { self.new ≡ or_same (default_refusal self.old lane dispatch.now) self.old (locally self.old lane dispatch.now) }
     {

@@ -22,7 +22,10 @@ pub(crate) fn place_of<S>(entries: &[Entry<S>], serial: u64) -> Option<usize>
 }
 
 // Counts one handle more.
-pub(crate) fn take_handle<S>(entries: &mut [Entry<S>], serial: Option<u64>) -> Result<(), HandleError>
+pub(crate) fn take_handle<S>(
+    entries: &mut [Entry<S>],
+    serial: Option<u64>,
+) -> Result<(), HandleError>
     ensures answer { result ≡ or_refused (hold_refusal serial entries.old) tt }
     ensures entries { entries.new ≡ or_same (hold_refusal serial entries.old) entries.old (held serial entries.old) }
 {

@@ -50,7 +50,12 @@ impl<S: Subscriber> Entry<S> {
 }
 
 // Asks the subscriber of the number, where it lives.
-fn ask_one<S: Subscriber>(entries: &mut [Entry<S>], serial: Option<u64>, metadata: &Metadata<'_>, at: At) -> bool
+fn ask_one<S: Subscriber>(
+    entries: &mut [Entry<S>],
+    serial: Option<u64>,
+    metadata: &Metadata<'_>,
+    at: At,
+) -> bool
     ensures { AskGives ⟦<S as Subscriber>⟧ (plain_metadata metadata.now) at serial entries.old result entries.new }
 {
     let Some(serial) = serial else {
@@ -99,7 +104,13 @@ impl<C: Callsite> Row<C> {
     }
 
     // What is known, or else what the subscriber of the number says.
-    pub(crate) fn answer<S: Subscriber>(&self, entries: &mut [Entry<S>], serial: Option<u64>, greatest: LevelFilter, at: At) -> bool
+    pub(crate) fn answer<S: Subscriber>(
+        &self,
+        entries: &mut [Entry<S>],
+        serial: Option<u64>,
+        greatest: LevelFilter,
+        at: At,
+    ) -> bool
         ensures { AnswerGives ⟦<S as Subscriber>⟧ ⟦<C as Callsite>⟧ self.now at (known greatest self.now.level self.now.interest) serial entries.old result entries.new }
     {
         match known_answer(greatest, self.level, self.interest) {

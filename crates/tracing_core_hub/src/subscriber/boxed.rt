@@ -46,7 +46,11 @@ impl Subscriber for Box<dyn Subscriber> {
         (**self).max_level_hint()
     }
 
-    fn new_span(&mut self, attributes: &Attributes<'_, '_>, at: At) -> Result<Option<Id>, RequestError> {
+    fn new_span(
+        &mut self,
+        attributes: &Attributes<'_, '_>,
+        at: At,
+    ) -> Result<Option<Id>, RequestError> {
         (**self).new_span(attributes, at)
     }
 

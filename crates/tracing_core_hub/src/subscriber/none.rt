@@ -56,7 +56,11 @@ impl Subscriber for NoSubscriber {
         None
     }
 
-    fn new_span(&mut self, _attributes: &Attributes<'_, '_>, _at: At) -> Result<Option<Id>, RequestError> {
+    fn new_span(
+        &mut self,
+        _attributes: &Attributes<'_, '_>,
+        _at: At,
+    ) -> Result<Option<Id>, RequestError> {
         Ok(Id::from_u64(0xDEAD))
     }
 
@@ -64,7 +68,12 @@ impl Subscriber for NoSubscriber {
         Ok(())
     }
 
-    fn record_follows_from(&mut self, _span: &Id, _follows: &Id, _at: At) -> Result<(), RequestError> {
+    fn record_follows_from(
+        &mut self,
+        _span: &Id,
+        _follows: &Id,
+        _at: At,
+    ) -> Result<(), RequestError> {
         Ok(())
     }
 

@@ -10,8 +10,8 @@ loop-entry-init g c = record { done = refl; left = refl }
 pub loop-entry-preserved : goal.loop-entry-preserved
 loop-entry-preserved g c =
     let turn = each_next (Registers g.S.Subscriber (plain_metadata c.args.metadata.now)) None c.loop-entry.interest c.register-interest.result
-      c.args.entries.now c.loop-entry.entries c.loop-entry.entry-index c.entry-item.result c.register-interest.new.self
-      (omega arith) (omega arith) c.loop-entry.invariant.done c.loop-entry.invariant.left c.register-interest.ensures in
+    c.args.entries.now c.loop-entry.entries c.loop-entry.entry-index c.entry-item.result c.register-interest.new.self
+    (omega arith) (omega arith) c.loop-entry.invariant.done c.loop-entry.invariant.left c.register-interest.ensures in
     record { done = turn.0; left = turn.1 }
 
 pub returns : goal.returns
