@@ -3,3 +3,4 @@ pub mod Entries
 pub mod Loops
 pub mod Asks
 pub mod Tables
+pub mod Keeping

@@ -15,3 +15,4 @@ pub mod Currents
 pub mod DefaultCallsites
 pub mod Lent
 pub mod Everything
+pub mod Kept

@@ -1,6 +1,8 @@
 //! Taking subscribers and callsites, and asking all again.
-ghost use Rattle.std.specs.Prelude.{◌≡◌};
+ghost use Rattle.std.specs.Prelude.{◌≡◌, Some};
 ghost use Rattle.tracing_core_hub.specs.Commands.{Rebuilt, AddGives, RegisterGives, RegisterOnceGives, kept_alike, row_of};
+ghost use Rattle.tracing_core_hub.specs.Handles.{entry_of};
+ghost use Rattle.tracing_core_hub.specs.Kept.{Every, IsTrueRow, Kept, asked_anew};
 
 use crate::callsite::Callsite;
 use crate::dispatch::{Dispatch, WeakDispatch};
@@ -15,6 +17,15 @@ impl<S: Subscriber, C: Callsite> Hub<S, C> {
     /// Asks all subscribers of each callsite and for their hints, and keeps what they say: the common
     /// interest in each callsite, and the greatest level. Then no subscriber counts as lent.
     pub fn rebuild_interest_cache(&mut self)
+        ensures asked { Rebuilt ⟦<S as Subscriber>⟧ ⟦<C as Callsite>⟧ self.old self.new }
+        // Then what is kept is right of each subscriber that keeps its word.
+        ensures kept { (e : Entry S) → entry_of e.serial self.old.entries ≡ Some e → S.steady e.subscriber → Every (IsTrueRow ⟦<C as Callsite>⟧) self.old.rows →
+            ((z : S) × Kept ⟦<S as Subscriber>⟧ ⟦<C as Callsite>⟧ self.new (asked_anew z e)) }
+    {
+        self.ask_all_again()
+    }
+
+    fn ask_all_again(&mut self)
         ensures { Rebuilt ⟦<S as Subscriber>⟧ ⟦<C as Callsite>⟧ self.old self.new }
     {
         ask_rows(&mut self.entries, &mut self.rows);
@@ -23,7 +34,9 @@ impl<S: Subscriber, C: Callsite> Hub<S, C> {
 
     /// Asks again whoever may say something else than what is kept: here everyone.
     pub fn refresh(&mut self)
-        ensures { Rebuilt ⟦<S as Subscriber>⟧ ⟦<C as Callsite>⟧ self.old self.new }
+        ensures asked { Rebuilt ⟦<S as Subscriber>⟧ ⟦<C as Callsite>⟧ self.old self.new }
+        ensures kept { (e : Entry S) → entry_of e.serial self.old.entries ≡ Some e → S.steady e.subscriber → Every (IsTrueRow ⟦<C as Callsite>⟧) self.old.rows →
+            ((z : S) × Kept ⟦<S as Subscriber>⟧ ⟦<C as Callsite>⟧ self.new (asked_anew z e)) }
     {
         self.rebuild_interest_cache()
     }
@@ -49,7 +62,7 @@ impl<S: Subscriber, C: Callsite> Hub<S, C> {
             subscriber,
         });
         self.next = serial + 1;
-        self.rebuild_interest_cache();
+        self.ask_all_again();
         Ok(Dispatch::new(Some(serial)))
     }
 
