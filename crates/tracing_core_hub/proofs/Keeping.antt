@@ -141,7 +141,7 @@ module _ {S : Type 0} (g : Ghosts S) where
   hinted_one n before last (x ∷ xs) (y ∷ ys) e each there =
       hinted_head (is_of n x) n before each.0 last x y e xs ys refl each.1 each.2 there (λ h. hinted_one n each.0 last xs ys e each.2 h)
 
-  same_word : (x : S) → SameWord (g.says x) (g.says x) (g.hint x) (g.hint x)
+  pub same_word : (x : S) → SameWord (g.says x) (g.says x) (g.hint x) (g.hint x)
   same_word x = record { onward = λ m k s. s; back = λ m k s. s; same_hint = refl }
 
   both_words : (x y z : S) → SameWord (g.says x) (g.says y) (g.hint x) (g.hint y) → SameWord (g.says y) (g.says z) (g.hint y) (g.hint z) → SameWord (g.says x) (g.says z) (g.hint x) (g.hint z)

@@ -4,3 +4,4 @@ pub mod Loops
 pub mod Asks
 pub mod Tables
 pub mod Keeping
+pub mod Gates
