@@ -1,0 +1,57 @@
+-- Asking all subscribers, in order.
+use Rattle.std.specs.Prelude.{◌≡◌, ℕ, max, false, List, [], ◌∷◌, Option, Some, None}
+use Rattle.tracing_core_fields.specs.PlainMetadata.{PlainMetadata}
+use Rattle.tracing_core_hub.specs.Calls.{CallsiteRegistered, HintAsked}
+use Rattle.tracing_core_hub.specs.Interests.{PlainInterest, common}
+use Rattle.tracing_core_hub.specs.declared.hub.parts.Entry.{Entry}
+use Rattle.tracing_core_hub.specs.declared.hub.parts.Row.{Row}
+use Rattle.tracing_core_hub.specs.declared.interest.InterestInner.TheVariants.{Never}
+use Rattle.tracing_core_hub.specs.declared.subscriber.Subscriber.{Ghosts}
+use Rattle.tracing_core_hub.specs.declared.callsite.Callsite.{Ghosts as SiteGhosts}
+
+-- each element in turn becomes another, and what is gathered goes on from one to the next
+abbrev pub Each : {K A : Type 0} → (K → A → A → K → Type 0) → K → List A → List A → K → Type 0
+Each R k [] [] last = last ≡ k
+Each R k [] (y ∷ ys) last = ⊥
+Each R k (x ∷ xs) [] last = ⊥
+Each {K = K} R k (x ∷ xs) (y ∷ ys) last = (j : K) × R k x y j × Each R j xs ys last
+
+-- the common interest with those before, where there were any
+abbrev pub joined : Option PlainInterest → PlainInterest → Option PlainInterest
+joined None answer = Some answer
+joined (Some interest) answer = Some (common interest answer)
+
+-- never where nobody was asked
+abbrev pub settled : Option PlainInterest → PlainInterest
+settled None = Never
+settled (Some interest) = interest
+
+-- an absent hint counts as the most verbose level
+abbrev pub level_of : Option ℕ → ℕ
+level_of None = 5
+level_of (Some level) = level
+
+module _ {S : Type 0} (g : Ghosts S) where
+  -- the subscriber was asked of the callsite, and its answer joined those before
+  abbrev pub Registers : PlainMetadata → Option PlainInterest → Entry S → Entry S → Option PlainInterest → Type 0
+  Registers m before e f after =
+      (k : PlainInterest) × g.says e.subscriber m k × g.moves e.subscriber (CallsiteRegistered m) k f.subscriber
+      × (f ≡ record e { subscriber = f.subscriber }) × (after ≡ joined before k)
+
+  -- all were asked of the callsite, in order, and this is their common interest
+  abbrev pub AskedAll : PlainMetadata → List (Entry S) → List (Entry S) → PlainInterest → Type 0
+  AskedAll m es fs k = (o : Option PlainInterest) × Each (Registers m) None es fs o × (k ≡ settled o)
+
+  -- the subscriber was asked for its hint, and counts as not lent from then on
+  abbrev pub Hints : ℕ → Entry S → Entry S → ℕ → Type 0
+  Hints before e f after =
+      g.moves e.subscriber HintAsked (g.hint e.subscriber) f.subscriber
+      × (f ≡ record e { lent = false; subscriber = f.subscriber }) × (after ≡ max before (level_of (g.hint e.subscriber)))
+
+  module _ {C : Type 0} (h : SiteGhosts C) where
+    -- all were asked of the callsite of the row, which was told their common interest
+    abbrev pub RowAsked : List (Entry S) → Row C → Row C → List (Entry S) → Type 0
+    RowAsked es row later fs =
+        AskedAll (h.metadata_of row.callsite) es fs later.interest
+        × (h.metadata_of later.callsite ≡ h.metadata_of row.callsite) × (h.interest_of later.callsite ≡ later.interest)
+        × (later ≡ record row { callsite = later.callsite; interest = later.interest })

@@ -1,0 +1,120 @@
+-- What the commands of a hub leave and answer.
+use Rattle.std.specs.Prelude.{◌≡◌, ℕ, ◌+◌, ◌==◌, nat_le, Bool, true, false, if◌then◌else◌, List, [], ◌∷◌, ◌++◌, Option, Some, None, Result, Ok, Err, IsSome, slice_get}
+use Rattle.tracing_core_fields.specs.PlainMetadata.{PlainMetadata, is_same_metadata}
+use Rattle.tracing_core_hub.specs.Asking.{Each, RowAsked, Hints}
+use Rattle.tracing_core_hub.specs.Calls.{Asked, DispatchRegistered}
+use Rattle.tracing_core_hub.specs.Handles.{entry_of, changed, most}
+use Rattle.tracing_core_hub.specs.Interests.{PlainInterest}
+use Rattle.tracing_core_hub.specs.Table.{Table, chosen, own_setting, effective}
+use Rattle.tracing_core_hub.specs.declared.at.At.{At}
+use Rattle.tracing_core_hub.specs.declared.refusal.AddError.{AddError}
+use Rattle.tracing_core_hub.specs.declared.refusal.AddError.TheVariants as add
+use Rattle.tracing_core_hub.specs.declared.refusal.RegisterError.{RegisterError}
+use Rattle.tracing_core_hub.specs.declared.refusal.RegisterError.TheVariants as registering
+use Rattle.tracing_core_hub.specs.declared.hub.parts.Entry.{Entry}
+use Rattle.tracing_core_hub.specs.declared.hub.parts.Row.{Row}
+use Rattle.tracing_core_hub.specs.declared.interest.InterestInner.TheVariants.{Never, Sometimes, Always}
+use Rattle.tracing_core_hub.specs.declared.subscriber.Subscriber.{Ghosts}
+use Rattle.tracing_core_hub.specs.declared.callsite.Callsite.{Ghosts as SiteGhosts}
+
+abbrev pub is_at : {C : Type 0} → ℕ → Row C → Bool
+is_at identifier row = row.identifier == identifier
+
+-- the callsite with the identifier
+abbrev pub row_of : {C : Type 0} → ℕ → List (Row C) → Option (Row C)
+row_of identifier [] = None
+row_of identifier (row ∷ rows) = if is_at identifier row then Some row else row_of identifier rows
+
+-- the number of the subscriber that a lane reaches
+abbrev pub reached : {S C : Type 0} → Table S C → ℕ → Option ℕ
+reached t lane = chosen (effective (own_setting (slice_get t.lanes lane)) t.global)
+
+abbrev pub known_by : PlainInterest → Option Bool
+known_by Never = Some false
+known_by Sometimes = None
+known_by Always = Some true
+
+-- what is known without asking
+abbrev pub known : ℕ → ℕ → PlainInterest → Option Bool
+known greatest level interest = if nat_le level greatest then known_by interest else Some false
+
+-- a subscriber with its first handle
+abbrev pub living : {S : Type 0} → ℕ → S → Entry S
+living serial subscriber = record { serial = serial; handles = 1; lent = false; subscriber = subscriber }
+
+abbrev pub becomes : {S : Type 0} → S → Entry S → Entry S
+becomes subscriber e = record e { subscriber = subscriber }
+
+-- a callsite as it comes
+abbrev pub new_row : {C : Type 0} (h : SiteGhosts C) → C → Row C
+new_row h callsite = record { callsite = callsite; identifier = (h.metadata_of callsite).callsite; level = (h.metadata_of callsite).level; interest = Never }
+
+-- nothing where the identifier isn't known, and the kept interest where its metadata is the same
+abbrev pub kept_alike : {C : Type 0} → SiteGhosts C → PlainMetadata → Option (Row C) → Option (Option PlainInterest)
+kept_alike h metadata None = None
+kept_alike h metadata (Some row) = Some (if is_same_metadata (h.metadata_of row.callsite) metadata then Some row.interest else None)
+
+module _ {S : Type 0} (g : Ghosts S) where
+  -- the subscriber was asked, where there is one
+  abbrev pub AskGivesAt : PlainMetadata → At → ℕ → List (Entry S) → Option (Entry S) → Bool → List (Entry S) → Type 0
+  AskGivesAt m at serial es None answer fs = (answer ≡ false) × (fs ≡ es)
+  AskGivesAt m at serial es (Some e) answer fs =
+      (after : S) × g.answers e.subscriber m at answer × g.moves e.subscriber (Asked m at) answer after × (fs ≡ changed serial (becomes after) es)
+
+  abbrev pub AskGives : PlainMetadata → At → Option ℕ → List (Entry S) → Bool → List (Entry S) → Type 0
+  AskGives m at None es answer fs = (answer ≡ false) × (fs ≡ es)
+  AskGives m at (Some serial) es answer fs = AskGivesAt m at serial es (entry_of serial es) answer fs
+
+  module _ {C : Type 0} (h : SiteGhosts C) where
+    -- all were asked of each callsite, and then for their hints
+    pub record Rebuilt (t u : Table S C) : Type 0 where
+      pub asked : List (Entry S)
+      pub rows : Each (RowAsked g h) t.entries t.rows u.rows asked
+      pub hints : Each (Hints g) 0 asked u.entries u.greatest
+      pub rest : u ≡ record t { entries = u.entries; rows = u.rows; greatest = u.greatest }
+
+    abbrev pub AddGives : Table S C → S → Result (Option ℕ) (AddError S) → Table S C → Type 0
+    AddGives t s (Ok dispatch) u =
+        (dispatch ≡ Some t.next)
+        × ((z : S) × g.moves s (DispatchRegistered (Some t.next)) tt z × Rebuilt (record t { entries = t.entries ++ living t.next z ∷ []; next = t.next + 1 }) u)
+    AddGives t s (Err (add.NumbersSpent back)) u = (t.next ≡ most) × (back ≡ s) × (u ≡ t)
+    AddGives t s (Err (add.OutOfMemory back)) u = (back ≡ s) × (u ≡ t)
+
+    -- all were asked of a callsite that wasn't known, and it is kept
+    pub record Registered (t : Table S C) (callsite : C) (interest : PlainInterest) (u : Table S C) : Type 0 where
+      pub unknown : row_of (h.metadata_of callsite).callsite t.rows ≡ None
+      pub row : Row C
+      pub asked : RowAsked g h t.entries (new_row h callsite) row u.entries
+      pub told : interest ≡ row.interest
+      pub kept : u ≡ record t { entries = u.entries; rows = t.rows ++ row ∷ [] }
+
+    abbrev pub RegisterGives : Table S C → C → Result PlainInterest (RegisterError C) → Table S C → Type 0
+    RegisterGives t callsite (Ok interest) u = Registered t callsite interest u
+    RegisterGives t callsite (Err (registering.Taken back)) u = IsSome (row_of (h.metadata_of callsite).callsite t.rows) × (back ≡ callsite) × (u ≡ t)
+    RegisterGives t callsite (Err (registering.OutOfMemory back)) u =
+        (row_of (h.metadata_of callsite).callsite t.rows ≡ None) × (back ≡ callsite) × (u ≡ t)
+
+    -- registering where another callsite with the same metadata counts as this one
+    abbrev pub RegisterOnceGivesAt : Table S C → C → Option (Option PlainInterest) → Result PlainInterest (RegisterError C) → Table S C → Type 0
+    RegisterOnceGivesAt t callsite None result u = RegisterGives t callsite result u
+    RegisterOnceGivesAt t callsite (Some None) result u = (result ≡ Err (registering.Taken callsite)) × (u ≡ t)
+    RegisterOnceGivesAt t callsite (Some (Some interest)) result u = (result ≡ Ok interest) × (u ≡ t)
+
+    abbrev pub RegisterOnceGives : Table S C → C → Result PlainInterest (RegisterError C) → Table S C → Type 0
+    RegisterOnceGives t callsite result u =
+        RegisterOnceGivesAt t callsite (kept_alike h (h.metadata_of callsite) (row_of (h.metadata_of callsite).callsite t.rows)) result u
+
+    -- what is known is answered; else the subscriber of the number is asked
+    abbrev pub AnswerGives : Row C → At → Option Bool → Option ℕ → List (Entry S) → Bool → List (Entry S) → Type 0
+    AnswerGives row at (Some answer) serial es result fs = (result ≡ answer) × (fs ≡ es)
+    AnswerGives row at None serial es result fs = AskGives (h.metadata_of row.callsite) at serial es result fs
+
+    abbrev pub GateGivesAt : Table S C → Option (Row C) → At → Option Bool → Table S C → Type 0
+    GateGivesAt t None at result u = (result ≡ None) × (u ≡ t)
+    GateGivesAt t (Some row) at result u =
+        ((answer : Bool) × (result ≡ Some answer)
+        × AnswerGives row at (known t.greatest row.level row.interest) (reached t at.lane) t.entries answer u.entries)
+        × (u ≡ record t { entries = u.entries })
+
+    abbrev pub GateGives : Table S C → ℕ → At → Option Bool → Table S C → Type 0
+    GateGives t identifier at result u = GateGivesAt t (row_of identifier t.rows) at result u

@@ -1,0 +1,11 @@
+-- Callsites that keep what they are told.
+use Rattle.tracing_core_fields.specs.Metadata.{plain_metadata}
+use Rattle.tracing_core_fields.specs.PlainMetadata.{PlainMetadata}
+use Rattle.tracing_core_hub.specs.Interests.{PlainInterest}
+use Rattle.tracing_core_hub.specs.declared.callsite.default.DefaultCallsite.{DefaultCallsite}
+
+abbrev pub site_metadata : DefaultCallsite → PlainMetadata
+site_metadata site = plain_metadata site.metadata.now
+
+abbrev pub site_interest : DefaultCallsite → PlainInterest
+site_interest site = site.interest

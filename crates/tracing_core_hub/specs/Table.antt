@@ -1,0 +1,42 @@
+-- What a hub keeps, as plain data.
+use Rattle.std.specs.Prelude.{ℕ, List, [], Option, Some, None}
+use Rattle.tracing_core_hub.specs.declared.hub.parts.Entry.{Entry}
+use Rattle.tracing_core_hub.specs.declared.hub.parts.Row.{Row}
+use Rattle.tracing_core_hub.specs.declared.hub.parts.Setting.{Setting}
+use Rattle.tracing_core_hub.specs.declared.hub.parts.Setting.TheVariants.{Unset, Nothing, To}
+use Rattle.tracing_core_hub.specs.declared.hub.parts.Lane.{Lane}
+use Rattle.tracing_core_hub.specs.declared.hub.parts.Lane.TheVariants.{Ended, Running}
+
+pub record Table (S C : Type 0) : Type 0 where
+  -- the subscribers that some handle leads to, in order of their numbers
+  pub entries : List (Entry S)
+  -- the number of the next one
+  pub next : ℕ
+  -- the callsites, in order of registration
+  pub rows : List (Row C)
+  -- the lanes, by their numbers
+  pub lanes : List Lane
+  pub global : Setting
+  -- the rank of the greatest level that some subscriber enables
+  pub greatest : ℕ
+
+abbrev pub fresh : {S C : Type 0} → Table S C
+fresh = record { entries = []; next = 0; rows = []; lanes = []; global = Unset; greatest = 0 }
+
+-- the subscriber that a default leads to
+abbrev pub chosen : Setting → Option ℕ
+chosen Unset = None
+chosen Nothing = None
+chosen (To serial) = Some serial
+
+-- the default of a lane, where it has one of its own
+abbrev pub own_setting : Option Lane → Setting
+own_setting None = Unset
+own_setting (Some Ended) = Unset
+own_setting (Some (Running setting)) = setting
+
+-- the own default where one was set, else the global one
+abbrev pub effective : Setting → Setting → Setting
+effective Unset global = global
+effective Nothing global = Nothing
+effective (To serial) global = To serial

@@ -1,0 +1,61 @@
+//! A callsite that keeps what it is told.
+ghost use Rattle.std.specs.Prelude.{◌≡◌};
+ghost use Rattle.tracing_core_fields.specs.Metadata.{plain_metadata};
+ghost use Rattle.tracing_core_hub.specs.DefaultCallsites.{site_metadata, site_interest};
+ghost use Rattle.tracing_core_hub.specs.declared.interest.InterestInner.TheVariants.{Never};
+
+use crate::callsite::Callsite;
+use crate::interest::Interest;
+use tracing_core_fields::Metadata;
+
+/// A callsite that keeps its metadata, and the interest that it is told.
+/// [`Hub::register_once`](crate::Hub::register_once) registers it.
+#[derive(Debug, Drop)]
+pub struct DefaultCallsite<'a> {
+    metadata: &'a Metadata<'a>,
+    interest: Interest,
+}
+
+impl<'a> DefaultCallsite<'a> {
+    /// The callsite with this metadata, which is in nobody's interest until it is registered.
+    pub fn new(metadata: &'a Metadata<'a>) -> DefaultCallsite<'a>
+        ensures metadata { site_metadata result ≡ plain_metadata metadata.now }
+        ensures interest { site_interest result ≡ Never }
+    {
+        DefaultCallsite {
+            metadata,
+            interest: Interest::never(),
+        }
+    }
+
+    /// The interest that it was told last.
+    pub fn interest(&self) -> Interest
+        ensures { result ≡ site_interest self.now }
+    {
+        self.interest
+    }
+}
+
+impl Callsite for DefaultCallsite<'_> {
+    ghost metadata_of = { site_metadata };
+
+    ghost interest_of = { site_interest };
+
+    fn set_interest(&mut self, interest: Interest) {
+        self.interest = interest;
+    }
+
+    fn metadata(&self) -> Metadata<'_> {
+        let metadata = self.metadata;
+        Metadata::new(
+            metadata.name(),
+            metadata.target(),
+            *metadata.level(),
+            metadata.file(),
+            metadata.line(),
+            metadata.module_path(),
+            *metadata.fields(),
+            metadata.kind(),
+        )
+    }
+}

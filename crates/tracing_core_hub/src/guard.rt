@@ -1,0 +1,16 @@
+//! What remembers the default that a lane had before.
+use crate::hub::Setting;
+use thiserror::Error;
+
+/// Remembers the default that a lane had before another one was set. [`Hub::reset`](crate::Hub::reset)
+/// takes it; a guard that is let go otherwise leaves the lane as it is.
+#[derive(Debug, Drop)]
+pub struct DefaultGuard {
+    pub(crate) lane: u64,
+    pub(crate) before: Setting,
+}
+
+/// The guard is of another lane. It comes back.
+#[derive(Debug, Drop, Error)]
+#[error("the guard is of another lane")]
+pub struct WrongLane(pub DefaultGuard);

@@ -1,0 +1,77 @@
+//! Subscribers, callsites with what is kept of them, lanes and defaults.
+ghost use Rattle.std.specs.Prelude.{◌≡◌, ◌++◌, ◌∷◌, [], OnOk, OnErr, IfOk, length, slice_get};
+ghost use Rattle.tracing_core_hub.specs.Table.{Table, fresh, chosen, own_setting, effective};
+ghost use Rattle.tracing_core_hub.specs.declared.hub.parts.Lane.TheVariants.{Running};
+ghost use Rattle.tracing_core_hub.specs.declared.hub.parts.Setting.TheVariants.{Unset};
+
+mod asking;
+mod defaults;
+mod entries;
+mod gate;
+mod handles;
+mod lending;
+mod parts;
+mod rows;
+mod taking;
+
+use crate::dispatch::WeakDispatch;
+pub(crate) use parts::{Row, Setting};
+use parts::{Entry, Lane};
+use std::alloc::{AllocError, Global};
+use std::marker::Model;
+use tracing_core_fields::LevelFilter;
+
+/// Subscribers that handles lead to, callsites with their common interests, and the defaults of lanes.
+///
+/// A contract sees a hub as a `Table`.
+#[derive(Drop)]
+pub struct Hub<S, C> {
+    entries: Vec<Entry<S>>,
+    next: u64,
+    rows: Vec<Row<C>>,
+    lanes: Vec<Lane>,
+    global: Setting,
+    greatest: LevelFilter,
+}
+
+impl<S, C> Model for Hub<S, C> {
+    ghost use Rattle.tracing_core_hub.specs.Table.{Table};
+
+    ghost Value = { Table S C };
+
+    ghost view = { λ h. record { entries = h.entries.items; next = h.next; rows = h.rows.items; lanes = h.lanes.items; global = h.global; greatest = h.greatest } };
+}
+
+impl<S, C> Hub<S, C> {
+    /// A hub of nothing.
+    pub fn new(alloc: Global) -> Hub<S, C>
+        ensures { result ≡ fresh }
+    {
+        Hub {
+            entries: Vec::new(alloc),
+            next: 0,
+            rows: Vec::new(alloc),
+            lanes: Vec::new(alloc),
+            global: Setting::Unset,
+            greatest: LevelFilter::OFF,
+        }
+    }
+
+    /// The number of a new lane, which has no default of its own.
+    pub fn thread(&mut self) -> Result<u64, AllocError>
+        ensures number { IfOk result (λ lane. lane ≡ length self.old.lanes) }
+        ensures added { OnOk result (self.new ≡ record self.old { lanes = self.old.lanes ++ Running Unset ∷ [] }) }
+        ensures refused { OnErr result (self.new ≡ self.old) }
+    {
+        let lane = self.lanes.len() as u64;
+        self.lanes.push(Lane::Running(Setting::Unset))?;
+        Ok(lane)
+    }
+
+    /// The most verbose level that some subscriber enabled at the last rebuild.
+    pub fn max_level(&self) -> LevelFilter
+        ensures { result ≡ self.now.greatest }
+    {
+        self.greatest
+    }
+}

@@ -1,0 +1,122 @@
+//! Asking subscribers of callsites and for their hints.
+ghost use Rattle.std.specs.Prelude.{◌≡◌, None, max};
+ghost use Rattle.tracing_core_fields.specs.Metadata.{plain_metadata};
+ghost use Rattle.tracing_core_hub.specs.Asking.{Each, Registers, Hints, AskedAll, RowAsked, joined, settled, level_of};
+
+use crate::callsite::Callsite;
+use crate::hub::parts::{Entry, Row};
+use crate::interest::Interest;
+use crate::subscriber::Subscriber;
+use tracing_core_fields::{LevelFilter, Metadata};
+
+// The common interest with those before, where there were any.
+fn join(before: Option<Interest>, answer: Interest) -> Option<Interest>
+    ensures { result ≡ joined before answer }
+{
+    match before {
+        None => Some(answer),
+        Some(interest) => Some(interest.common(answer)),
+    }
+}
+
+// The interest that is kept: never where nobody was asked.
+fn settle(interest: Option<Interest>) -> Interest
+    ensures { result ≡ settled interest }
+{
+    match interest {
+        None => Interest::never(),
+        Some(interest) => interest,
+    }
+}
+
+impl<S: Subscriber> Entry<S> {
+    fn register(&mut self, metadata: &Metadata<'_>, before: Option<Interest>) -> Option<Interest>
+        ensures { Registers ⟦<S as Subscriber>⟧ (plain_metadata metadata.now) before self.old self.new result }
+    {
+        let answer = self.subscriber.register_callsite(metadata);
+        join(before, answer)
+    }
+}
+
+fn ask_each<S: Subscriber>(entries: &mut [Entry<S>], metadata: &Metadata<'_>) -> Option<Interest>
+    ensures { Each (Registers ⟦<S as Subscriber>⟧ (plain_metadata metadata.now)) None entries.old entries.new result }
+{
+    let mut interest = None;
+    for entry in entries.iter_mut() {
+        interest = entry.register(metadata, interest);
+    }
+    interest
+}
+
+// Asks all of a callsite, in order, and answers their common interest.
+pub(crate) fn ask_all<S: Subscriber>(entries: &mut [Entry<S>], metadata: &Metadata<'_>) -> Interest
+    ensures { AskedAll ⟦<S as Subscriber>⟧ (plain_metadata metadata.now) entries.old entries.new result }
+{
+    let interest = ask_each(entries, metadata);
+    settle(interest)
+}
+
+// The level that a hint lets through: an absent one counts as the most verbose.
+fn top_of(hint: Option<LevelFilter>) -> LevelFilter
+    ensures { result ≡ level_of hint }
+{
+    match hint {
+        None => LevelFilter::TRACE,
+        Some(level) => level,
+    }
+}
+
+// The more verbose of the two.
+fn higher(a: LevelFilter, b: LevelFilter) -> LevelFilter
+    ensures { result ≡ max a b }
+{
+    if a < b { b } else { a }
+}
+
+impl<S: Subscriber> Entry<S> {
+    fn ask_hint(&mut self, before: LevelFilter) -> LevelFilter
+        ensures { Hints ⟦<S as Subscriber>⟧ before self.old self.new result }
+    {
+        self.lent = false;
+        let hint = self.subscriber.max_level_hint();
+        higher(before, top_of(hint))
+    }
+}
+
+// Asks all for their hints, in order, and answers the greatest level. Then nobody counts as lent.
+pub(crate) fn ask_hints<S: Subscriber>(entries: &mut [Entry<S>]) -> LevelFilter
+    ensures { Each (Hints ⟦<S as Subscriber>⟧) 0 entries.old entries.new result }
+{
+    let mut greatest = LevelFilter::OFF;
+    for entry in entries.iter_mut() {
+        greatest = entry.ask_hint(greatest);
+    }
+    greatest
+}
+
+impl<C: Callsite> Row<C> {
+    // Asks all of the callsite, and tells it what they have in common.
+    pub(crate) fn ask<S: Subscriber>(&mut self, entries: &mut [Entry<S>])
+        ensures { RowAsked ⟦<S as Subscriber>⟧ ⟦<C as Callsite>⟧ entries.old self.old self.new entries.new }
+    {
+        let interest = self.interest_of_all(entries);
+        self.callsite.set_interest(interest);
+        self.interest = interest;
+    }
+
+    fn interest_of_all<S: Subscriber>(&self, entries: &mut [Entry<S>]) -> Interest
+        ensures { AskedAll ⟦<S as Subscriber>⟧ (C.metadata_of self.now.callsite) entries.old entries.new result }
+    {
+        let metadata = self.callsite.metadata();
+        ask_all(entries, &metadata)
+    }
+}
+
+// Asks all of each callsite, in order.
+pub(crate) fn ask_rows<S: Subscriber, C: Callsite>(entries: &mut [Entry<S>], rows: &mut [Row<C>])
+    ensures { Each (RowAsked ⟦<S as Subscriber>⟧ ⟦<C as Callsite>⟧) entries.old rows.old rows.new entries.new }
+{
+    for row in rows.iter_mut() {
+        row.ask(entries);
+    }
+}

@@ -1,0 +1,135 @@
+//! The defaults: the global one, and those of lanes.
+ghost use Rattle.std.specs.Prelude.{◌≡◌, ◌<◌, slice_get, length, IfSome};
+ghost use Rattle.tracing_core_hub.specs.Defaults.{was_set, setting_to, global_refusal, globally, default_refusal, guard_of, locally, end_gives, reset_gives, given_up};
+ghost use Rattle.tracing_core_hub.specs.Handles.{or_refused, or_same};
+ghost use Rattle.tracing_core_hub.specs.Table.{chosen};
+
+use crate::dispatch::Dispatch;
+use crate::guard::{DefaultGuard, WrongLane};
+use crate::hub::Hub;
+use crate::hub::entries::{give_back, take_handle};
+use crate::hub::parts::{Lane, Setting};
+use crate::refusal::{SetDefaultError, SetGlobalDefaultError, UnknownLane};
+
+impl Setting {
+    fn to(dispatch: &Dispatch) -> Setting
+        ensures { result ≡ setting_to dispatch.now }
+    {
+        match dispatch.serial() {
+            None => Setting::Nothing,
+            Some(serial) => Setting::To(serial),
+        }
+    }
+
+    fn is_set(self) -> bool
+        ensures { result ≡ was_set self }
+    {
+        !matches!(self, Setting::Unset)
+    }
+
+    fn serial(self) -> Option<u64>
+        ensures { result ≡ chosen self }
+    {
+        match self {
+            Setting::To(serial) => Some(serial),
+            Setting::Unset => None,
+            Setting::Nothing => None,
+        }
+    }
+}
+
+impl<S, C> Hub<S, C> {
+    /// Whether the global default was set.
+    pub fn has_been_set(&self) -> bool
+        ensures { result ≡ was_set self.now.global }
+    {
+        self.global.is_set()
+    }
+
+    /// Sets the default of the lanes that have none of their own, once. It holds a handle of its own. It
+    /// takes no memory.
+    pub fn set_global_default(&mut self, dispatch: &Dispatch) -> Result<(), SetGlobalDefaultError>
+        ensures answer { result ≡ or_refused (global_refusal self.old dispatch.now) tt }
+        ensures left { self.new ≡ or_same (global_refusal self.old dispatch.now) self.old (globally self.old dispatch.now) }
+    {
+        if self.global.is_set() {
+            return Err(SetGlobalDefaultError::AlreadySet);
+        }
+        match take_handle(&mut self.entries, dispatch.serial()) {
+            Ok(()) => {
+                self.global = Setting::to(dispatch);
+                Ok(())
+            }
+            Err(error) => Err(SetGlobalDefaultError::Handle(error)),
+        }
+    }
+
+    /// Sets the default of a lane, which holds a handle of its own. The guard remembers the default that
+    /// the lane had. It takes no memory.
+    pub fn set_default(
+        &mut self,
+        lane: u64,
+        dispatch: &Dispatch,
+    ) -> Result<DefaultGuard, SetDefaultError>
+        ensures answer { result ≡ or_refused (default_refusal self.old lane dispatch.now) (guard_of self.old lane) }
+        ensures left { self.new ≡ or_same (default_refusal self.old lane dispatch.now) self.old (locally self.old lane dispatch.now) }
+    {
+        let Some(Lane::Running(before)) = lane_at(&self.lanes, lane) else {
+            return Err(SetDefaultError::UnknownLane);
+        };
+        match take_handle(&mut self.entries, dispatch.serial()) {
+            Ok(()) => {
+                self.lanes[lane as usize] = Lane::Running(Setting::to(dispatch));
+                Ok(DefaultGuard { lane, before })
+            }
+            Err(error) => Err(SetDefaultError::Handle(error)),
+        }
+    }
+
+    /// Gives the lane the default that its guard remembers, and gives up the one that it has; a lane that
+    /// ended gives up what the guard remembers. The subscriber that this releases comes back. Guards may be
+    /// spent in any order. It takes no memory.
+    pub fn reset(&mut self, lane: u64, guard: DefaultGuard) -> Result<Option<S>, WrongLane>
+        ensures { (result, self.new) ≡ reset_gives self.old lane guard }
+    {
+        if guard.lane != lane {
+            return Err(WrongLane(guard));
+        }
+        match lane_at(&self.lanes, lane) {
+            None => Err(WrongLane(guard)),
+            Some(Lane::Ended) => Ok(self.give_up(lane, guard.before, Lane::Ended)),
+            Some(Lane::Running(present)) => {
+                Ok(self.give_up(lane, present, Lane::Running(guard.before)))
+            }
+        }
+    }
+
+    /// Ends a lane, which gives up its default. The subscriber that this releases comes back.
+    pub fn end_thread(&mut self, lane: u64) -> Result<Option<S>, UnknownLane>
+        ensures { (result, self.new) ≡ end_gives self.old lane }
+    {
+        let Some(Lane::Running(setting)) = lane_at(&self.lanes, lane) else {
+            return Err(UnknownLane(()));
+        };
+        Ok(self.give_up(lane, setting, Lane::Ended))
+    }
+
+    // Gives up one hold of a default, and gives the lane another value.
+    fn give_up(&mut self, lane: u64, setting: Setting, value: Lane) -> Option<S>
+        requires { lane < length self.old.lanes }
+        ensures { (result, self.new) ≡ given_up self.old lane setting value }
+    {
+        self.lanes[lane as usize] = value;
+        give_back(&mut self.entries, setting.serial())
+    }
+}
+
+fn lane_at(lanes: &[Lane], lane: u64) -> Option<Lane>
+    ensures value { result ≡ slice_get lanes.now lane }
+    ensures bound { IfSome result (λ _. lane < length lanes.now) }
+{
+    match lanes.get(lane as usize) {
+        None => None,
+        Some(value) => Some(*value),
+    }
+}

@@ -1,0 +1,104 @@
+//! Whether spans and events are wanted.
+ghost use Rattle.std.specs.Prelude.{◌≡◌, Some, slice_get};
+ghost use Rattle.std.specs.Option.{option_map, is_some};
+ghost use Rattle.tracing_core_hub.specs.Commands.{GateGives, becomes, reached, row_of};
+ghost use Rattle.tracing_core_hub.specs.Kept.{Kept, Oracle};
+ghost use Rattle.tracing_core_hub.specs.Table.{own_setting, effective, chosen};
+
+use crate::at::At;
+use crate::callsite::Callsite;
+use crate::dispatch::WeakDispatch;
+use crate::hub::Hub;
+use crate::hub::parts::{Entry, Lane, Row, Setting};
+use crate::hub::rows::find_row;
+use crate::interest::Interest;
+use crate::subscriber::Subscriber;
+use tracing_core_fields::Identifier;
+
+// The lane's own default.
+pub(crate) fn setting_of(lanes: &[Lane], lane: u64) -> Setting
+    ensures { result ≡ own_setting (slice_get lanes.now lane) }
+{
+    match lanes.get(lane as usize) {
+        None => Setting::Unset,
+        Some(Lane::Ended) => Setting::Unset,
+        Some(Lane::Running(setting)) => *setting,
+    }
+}
+
+// The number that the default in force leads to.
+fn serial_of(own: Setting, global: Setting) -> Option<u64>
+    ensures { result ≡ chosen (effective own global) }
+{
+    match (own, global) {
+        (Setting::To(serial), _) => Some(serial),
+        (Setting::Unset, Setting::To(serial)) => Some(serial),
+        (_, _) => None,
+    }
+}
+
+impl<S, C> Hub<S, C> {
+    // The number of the subscriber that the lane reaches.
+    fn reached_serial(&self, lane: u64) -> Option<u64>
+        ensures { result ≡ reached self.now lane }
+    {
+        serial_of(setting_of(&self.lanes, lane), self.global)
+    }
+
+    /// The subscriber that requests of the lane reach: that of its own default where one was set, else of
+    /// the global one.
+    pub fn reached(&self, lane: u64) -> WeakDispatch
+        ensures { result ≡ reached self.now lane }
+    {
+        WeakDispatch::new(self.reached_serial(lane))
+    }
+
+    // The callsite with the identifier.
+    pub(crate) fn row(&self, identifier: u64) -> Option<&Row<C>>
+        ensures { option_map (λ row. row.now) result ≡ row_of identifier self.now.rows }
+    {
+        find_row(&self.rows, identifier)
+    }
+
+    // Whether some callsite has the identifier.
+    pub(crate) fn knows(&self, identifier: u64) -> bool
+        ensures { result ≡ is_some (row_of identifier self.now.rows) }
+    {
+        find_row(&self.rows, identifier).is_some()
+    }
+
+    /// The common interest that is kept of the callsite with the identifier.
+    pub fn interest(&self, identifier: Identifier) -> Option<Interest>
+        ensures { result ≡ option_map (λ row. row.interest) (row_of identifier.0 self.now.rows) }
+    {
+        match find_row(&self.rows, identifier.0) {
+            None => None,
+            Some(row) => Some(row.interest),
+        }
+    }
+}
+
+impl<S: Subscriber, C: Callsite> Hub<S, C> {
+    /// Whether a span or an event of the callsite with the identifier, made there and then, is wanted, or
+    /// `None` where no callsite has it. The reached subscriber is asked where what is kept doesn't tell.
+    pub fn gate(&mut self, identifier: Identifier, at: At) -> Option<bool>
+        ensures answer { GateGives ⟦<S as Subscriber>⟧ ⟦<C as Callsite>⟧ self.old identifier.0 at result self.new }
+        // Where what is kept is right of the reached subscriber, this is what asking it would answer.
+        ensures asking { (o : Oracle ⟦<S as Subscriber>⟧) (row : Row C) (e : Entry S) → row_of identifier.0 self.old.rows ≡ Some row → reached self.old at.lane ≡ Some e.serial → Kept ⟦<S as Subscriber>⟧ ⟦<C as Callsite>⟧ self.old e →
+            result ≡ Some (o.passes e.subscriber (C.metadata_of row.callsite) at) }
+        // What is kept stays right of whomever it was right of.
+        ensures kept { (e : Entry S) → Kept ⟦<S as Subscriber>⟧ ⟦<C as Callsite>⟧ self.old e → ((z : S) × Kept ⟦<S as Subscriber>⟧ ⟦<C as Callsite>⟧ self.new (becomes z e)) }
+    {
+        self.look(identifier, at)
+    }
+
+    fn look(&mut self, identifier: Identifier, at: At) -> Option<bool>
+        ensures { GateGives ⟦<S as Subscriber>⟧ ⟦<C as Callsite>⟧ self.old identifier.0 at result self.new }
+    {
+        let serial = self.reached_serial(at.lane);
+        match find_row(&self.rows, identifier.0) {
+            None => None,
+            Some(row) => Some(row.answer(&mut self.entries, serial, self.greatest, at)),
+        }
+    }
+}

@@ -1,0 +1,48 @@
+//! Making further handles, and giving them back.
+ghost use Rattle.std.specs.Prelude.{◌≡◌};
+ghost use Rattle.tracing_core_hub.specs.Defaults.{holding, upgrade_answer};
+ghost use Rattle.tracing_core_hub.specs.Handles.{hold_refusal, given_back, or_refused, or_same};
+
+use crate::dispatch::{Dispatch, WeakDispatch};
+use crate::hub::Hub;
+use crate::hub::entries::{give_back, take_handle};
+use crate::refusal::{HandleError, TooManyHandles};
+
+impl<S, C> Hub<S, C> {
+    /// Another handle to the same subscriber. It takes no memory.
+    pub fn clone(&mut self, dispatch: &Dispatch) -> Result<Dispatch, HandleError>
+        ensures answer { result ≡ or_refused (hold_refusal dispatch.now self.old.entries) dispatch.now }
+        ensures left { self.new ≡ or_same (hold_refusal dispatch.now self.old.entries) self.old (holding self.old dispatch.now) }
+    {
+        take_handle(&mut self.entries, dispatch.serial())?;
+        Ok(Dispatch::new(dispatch.serial()))
+    }
+
+    /// A handle to the same subscriber that doesn't keep it in the hub.
+    pub fn downgrade(&self, dispatch: &Dispatch) -> WeakDispatch
+        ensures { result ≡ dispatch.now }
+    {
+        WeakDispatch::new(dispatch.serial())
+    }
+
+    /// A handle that keeps the subscriber, or `None` where it was released. It takes no memory.
+    pub fn upgrade(&mut self, dispatch: &WeakDispatch) -> Result<Option<Dispatch>, TooManyHandles>
+        ensures answer { result ≡ upgrade_answer dispatch.now (hold_refusal dispatch.now self.old.entries) }
+        ensures left { self.new ≡ or_same (hold_refusal dispatch.now self.old.entries) self.old (holding self.old dispatch.now) }
+    {
+        match take_handle(&mut self.entries, dispatch.serial()) {
+            Ok(()) => Ok(Some(Dispatch::new(dispatch.serial()))),
+            Err(HandleError::Unknown) => Ok(None),
+            Err(HandleError::TooMany) => Err(TooManyHandles(())),
+        }
+    }
+
+    /// Takes a handle back. The subscriber comes back with its last one; what is kept of callsites, and the
+    /// greatest level, stay as they are until the next rebuild.
+    pub fn release(&mut self, dispatch: Dispatch) -> Option<S>
+        ensures answer { result ≡ (given_back dispatch self.old.entries).0 }
+        ensures left { self.new ≡ record self.old { entries = (given_back dispatch self.old.entries).1 } }
+    {
+        give_back(&mut self.entries, dispatch.serial())
+    }
+}

@@ -1,0 +1,37 @@
+//! What a hub keeps.
+use crate::interest::Interest;
+use tracing_core_fields::Level;
+
+// A subscriber that some handle leads to.
+#[derive(Drop)]
+pub(crate) struct Entry<S> {
+    pub(crate) serial: u64,
+    pub(crate) handles: u64,
+    // whether it was lent for writing since it was last asked
+    pub(crate) lent: bool,
+    pub(crate) subscriber: S,
+}
+
+// A callsite, with what is kept of it.
+#[derive(Drop)]
+pub(crate) struct Row<C> {
+    pub(crate) callsite: C,
+    pub(crate) identifier: u64,
+    pub(crate) level: Level,
+    pub(crate) interest: Interest,
+}
+
+// A default: none was set, it is no subscriber, or it is the one of the number.
+#[derive(Clone, Copy, Debug)]
+pub(crate) enum Setting {
+    Unset,
+    Nothing,
+    To(u64),
+}
+
+// A lane, with its own default.
+#[derive(Clone, Copy, Debug)]
+pub(crate) enum Lane {
+    Ended,
+    Running(Setting),
+}

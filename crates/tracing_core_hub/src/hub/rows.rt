@@ -1,0 +1,121 @@
+//! Callsites by their identifiers, and what is known of them.
+ghost use Rattle.std.specs.Prelude.{◌≡◌, if◌then◌else◌, Some, None};
+ghost use Rattle.tracing_core_fields.specs.PlainMetadata.{is_same_metadata};
+ghost use Rattle.std.specs.Option.{option_map};
+ghost use Rattle.tracing_core_fields.specs.Metadata.{plain_metadata};
+ghost use Rattle.tracing_core_hub.specs.Calls.{Asked};
+ghost use Rattle.tracing_core_hub.specs.Commands.{row_of, known, AnswerGives, AskGives, new_row};
+
+use crate::at::At;
+use crate::callsite::Callsite;
+use crate::hub::entries::place_of;
+use crate::hub::parts::{Entry, Row};
+use crate::interest::Interest;
+use crate::subscriber::Subscriber;
+use tracing_core_fields::{Level, LevelFilter, Metadata};
+
+// The callsite with the identifier.
+pub(crate) fn find_row<C>(rows: &[Row<C>], identifier: u64) -> Option<&Row<C>>
+    ensures { option_map (λ row. row.now) result ≡ row_of identifier rows.now }
+{
+    for row in rows {
+        if row.identifier == identifier {
+            return Some(row);
+        }
+    }
+    None
+}
+
+// What is known without asking.
+fn known_answer(greatest: LevelFilter, level: Level, interest: Interest) -> Option<bool>
+    ensures { result ≡ known greatest level interest }
+{
+    if !greatest.passes(level) || interest.is_never() {
+        Some(false)
+    } else if interest.is_always() {
+        Some(true)
+    } else {
+        None
+    }
+}
+
+impl<S: Subscriber> Entry<S> {
+    fn ask(&mut self, metadata: &Metadata<'_>, at: At) -> bool
+        ensures answer { S.answers self.old.subscriber (plain_metadata metadata.now) at result }
+        ensures left { S.moves self.old.subscriber (Asked (plain_metadata metadata.now) at) result self.new.subscriber }
+        ensures rest { self.new ≡ record self.old { subscriber = self.new.subscriber } }
+    {
+        self.subscriber.enabled(metadata, at)
+    }
+}
+
+// Asks the subscriber of the number, where it lives.
+fn ask_one<S: Subscriber>(
+    entries: &mut [Entry<S>],
+    serial: Option<u64>,
+    metadata: &Metadata<'_>,
+    at: At,
+) -> bool
+    ensures { AskGives ⟦<S as Subscriber>⟧ (plain_metadata metadata.now) at serial entries.old result entries.new }
+{
+    let Some(serial) = serial else {
+        return false;
+    };
+    let Some(place) = place_of(entries, serial) else {
+        return false;
+    };
+    entries[place].ask(metadata, at)
+}
+
+impl<C: Callsite> Row<C> {
+    // The callsite as it comes.
+    pub(crate) fn new(callsite: C) -> Row<C>
+        ensures { result ≡ new_row ⟦<C as Callsite>⟧ callsite }
+    {
+        let metadata = callsite.metadata();
+        let identifier = metadata.callsite().0;
+        let level = *metadata.level();
+        Row {
+            callsite,
+            identifier,
+            level,
+            interest: Interest::never(),
+        }
+    }
+
+    // The kept interest, where the metadata is this.
+    pub(crate) fn interest_where(&self, metadata: &Metadata<'_>) -> Option<Interest>
+        ensures { result ≡ (if is_same_metadata (C.metadata_of self.now.callsite) (plain_metadata metadata.now) then Some self.now.interest else None) }
+    {
+        let own = self.callsite.metadata();
+        if own == *metadata {
+            Some(self.interest)
+        } else {
+            None
+        }
+    }
+
+    // Asks the subscriber of the number about the callsite.
+    fn ask_one<S: Subscriber>(&self, entries: &mut [Entry<S>], serial: Option<u64>, at: At) -> bool
+        ensures { AskGives ⟦<S as Subscriber>⟧ (C.metadata_of self.now.callsite) at serial entries.old result entries.new }
+    {
+        let metadata = self.callsite.metadata();
+        ask_one(entries, serial, &metadata, at)
+    }
+
+    // What is known, or else what the subscriber of the number says.
+    pub(crate) fn answer<S: Subscriber>(
+        &self,
+        entries: &mut [Entry<S>],
+        serial: Option<u64>,
+        greatest: LevelFilter,
+        at: At,
+    ) -> bool
+        ensures { AnswerGives ⟦<S as Subscriber>⟧ ⟦<C as Callsite>⟧ self.now at (known greatest self.now.level self.now.interest) serial entries.old result entries.new }
+    {
+        match known_answer(greatest, self.level, self.interest) {
+            Some(answer) => answer,
+            None => self.ask_one(entries, serial, at),
+        }
+    }
+}

@@ -1,0 +1,111 @@
+//! Taking subscribers and callsites, and asking all again.
+ghost use Rattle.std.specs.Prelude.{◌≡◌, Some};
+ghost use Rattle.tracing_core_hub.specs.Commands.{Rebuilt, AddGives, RegisterGives, RegisterOnceGives, kept_alike, row_of};
+ghost use Rattle.tracing_core_hub.specs.Handles.{entry_of};
+ghost use Rattle.tracing_core_hub.specs.Kept.{Every, IsTrueRow, Kept, asked_anew};
+
+use crate::callsite::Callsite;
+use crate::dispatch::{Dispatch, WeakDispatch};
+use crate::hub::Hub;
+use crate::hub::asking::{ask_hints, ask_rows};
+use crate::hub::parts::{Entry, Row};
+use crate::interest::Interest;
+use crate::refusal::{AddError, RegisterError};
+use crate::subscriber::Subscriber;
+
+impl<S: Subscriber, C: Callsite> Hub<S, C> {
+    /// Asks all subscribers of each callsite and for their hints, and keeps what they say: the common
+    /// interest in each callsite, and the greatest level. Then no subscriber counts as lent.
+    pub fn rebuild_interest_cache(&mut self)
+        ensures asked { Rebuilt ⟦<S as Subscriber>⟧ ⟦<C as Callsite>⟧ self.old self.new }
+        // Then what is kept is right of each subscriber that keeps its word.
+        ensures kept { (e : Entry S) → entry_of e.serial self.old.entries ≡ Some e → S.steady e.subscriber → Every (IsTrueRow ⟦<C as Callsite>⟧) self.old.rows →
+            ((z : S) × Kept ⟦<S as Subscriber>⟧ ⟦<C as Callsite>⟧ self.new (asked_anew z e)) }
+    {
+        self.ask_all_again()
+    }
+
+    fn ask_all_again(&mut self)
+        ensures { Rebuilt ⟦<S as Subscriber>⟧ ⟦<C as Callsite>⟧ self.old self.new }
+    {
+        ask_rows(&mut self.entries, &mut self.rows);
+        self.greatest = ask_hints(&mut self.entries);
+    }
+
+    /// Asks again whoever may say something else than what is kept: here everyone.
+    pub fn refresh(&mut self)
+        ensures asked { Rebuilt ⟦<S as Subscriber>⟧ ⟦<C as Callsite>⟧ self.old self.new }
+        ensures kept { (e : Entry S) → entry_of e.serial self.old.entries ≡ Some e → S.steady e.subscriber → Every (IsTrueRow ⟦<C as Callsite>⟧) self.old.rows →
+            ((z : S) × Kept ⟦<S as Subscriber>⟧ ⟦<C as Callsite>⟧ self.new (asked_anew z e)) }
+    {
+        self.rebuild_interest_cache()
+    }
+
+    /// Takes a subscriber, tells it its handle, and rebuilds what is kept. It comes back where there is no
+    /// memory for it, or no number is left; then it wasn't told anything.
+    pub fn add(&mut self, subscriber: S) -> Result<Dispatch, AddError<S>>
+        ensures { AddGives ⟦<S as Subscriber>⟧ ⟦<C as Callsite>⟧ self.old subscriber result self.new }
+    {
+        if self.next == u64::MAX {
+            return Err(AddError::NumbersSpent(subscriber));
+        }
+        if self.entries.reserve(1).is_err() {
+            return Err(AddError::OutOfMemory(subscriber));
+        }
+        let serial = self.next;
+        let mut subscriber = subscriber;
+        subscriber.on_register_dispatch(&WeakDispatch::new(Some(serial)));
+        self.entries.push_reserved(Entry {
+            serial,
+            handles: 1,
+            lent: false,
+            subscriber,
+        });
+        self.next = serial + 1;
+        self.ask_all_again();
+        Ok(Dispatch::new(Some(serial)))
+    }
+
+    /// Takes a callsite, asks all subscribers of it, and tells it their common interest, which is never
+    /// where there is none. It comes back where its identifier is known, or there is no memory for it.
+    pub fn register(&mut self, callsite: C) -> Result<Interest, RegisterError<C>>
+        ensures { RegisterGives ⟦<S as Subscriber>⟧ ⟦<C as Callsite>⟧ self.old callsite result self.new }
+    {
+        let mut row = Row::new(callsite);
+        if self.knows(row.identifier) {
+            let Row { callsite, .. } = row;
+            return Err(RegisterError::Taken(callsite));
+        }
+        if self.rows.reserve(1).is_err() {
+            let Row { callsite, .. } = row;
+            return Err(RegisterError::OutOfMemory(callsite));
+        }
+        row.ask(&mut self.entries);
+        let interest = row.interest;
+        self.rows.push_reserved(row);
+        Ok(interest)
+    }
+
+    // What is kept of the identifier of the callsite: the interest where the metadata is the same.
+    fn kept_alike(&self, callsite: &C) -> Option<Option<Interest>>
+        ensures { result ≡ kept_alike ⟦<C as Callsite>⟧ (C.metadata_of callsite.now) (row_of (C.metadata_of callsite.now).callsite self.now.rows) }
+    {
+        let metadata = callsite.metadata();
+        match self.row(metadata.callsite().0) {
+            None => None,
+            Some(row) => Some(row.interest_where(&metadata)),
+        }
+    }
+
+    /// Registers a callsite, where another one with the same metadata counts as this one: then nothing
+    /// changes, and the kept interest is answered. With other metadata its identifier is taken.
+    pub fn register_once(&mut self, callsite: C) -> Result<Interest, RegisterError<C>>
+        ensures { RegisterOnceGives ⟦<S as Subscriber>⟧ ⟦<C as Callsite>⟧ self.old callsite result self.new }
+    {
+        match self.kept_alike(&callsite) {
+            None => self.register(callsite),
+            Some(None) => Err(RegisterError::Taken(callsite)),
+            Some(Some(interest)) => Ok(interest),
+        }
+    }
+}

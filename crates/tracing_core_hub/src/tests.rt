@@ -1,0 +1,181 @@
+use super::*;
+use std::test::Fail;
+use tracing_core_fields::{FieldSet, Identifier, Kind, Level, LevelFilter, Metadata};
+
+mod everything;
+mod place;
+
+use everything::Everything;
+use place::Place;
+
+fn at(lane: u64) -> At {
+    At {
+        lane,
+        seconds: 0,
+        nanoseconds: 0,
+    }
+}
+
+#[test]
+fn interests_have_one_answer(rt: HostRuntime) {
+    let never = Interest::never();
+    let sometimes = Interest::sometimes();
+    let always = Interest::always();
+    assert!(rt; never.is_never() && !never.is_sometimes() && !never.is_always());
+    assert!(rt; !sometimes.is_never() && sometimes.is_sometimes() && !sometimes.is_always());
+    assert!(rt; !always.is_never() && !always.is_sometimes() && always.is_always());
+    assert_eq!(rt; never.common(always), sometimes);
+    assert_eq!(rt; always.common(always), always);
+}
+
+#[test]
+fn two_subscribers_differ(rt: HostRuntime) -> Result<(), Fail> {
+    let alloc = rt.alloc();
+    let mut hub: Hub<Everything, Place> = Hub::new(alloc);
+    let lane = hub.thread()?;
+    assert_eq!(rt; hub.max_level(), LevelFilter::OFF);
+    assert_eq!(rt;
+        hub.register(Place::new(3, Level::INFO)).ok(),
+        Some(Interest::never())
+    );
+    let first = hub
+        .add(Everything::new(1, Interest::always()))
+        .ok()
+        .ok_or("a hub")?;
+    assert_eq!(rt; hub.interest(Identifier(3)), Some(Interest::always()));
+    assert_eq!(rt; hub.gate(Identifier(3), at(lane)), Some(true));
+    let second = hub
+        .add(Everything::new(2, Interest::never()))
+        .ok()
+        .ok_or("a hub")?;
+    assert_eq!(rt; hub.interest(Identifier(3)), Some(Interest::sometimes()));
+    assert_eq!(rt; hub.max_level(), LevelFilter::TRACE);
+    assert_eq!(rt;
+        hub.register(Place::new(4, Level::WARN)).ok(),
+        Some(Interest::sometimes())
+    );
+    assert!(rt;
+        matches!(
+            hub.register(Place::new(4, Level::WARN)),
+            Err(RegisterError::Taken(_))
+        )
+    );
+    assert_eq!(rt;
+        hub.register_once(Place::new(4, Level::WARN)).ok(),
+        Some(Interest::sometimes())
+    );
+    assert_eq!(rt; hub.gate(Identifier(9), at(lane)), None);
+    assert_eq!(rt; hub.gate(Identifier(3), at(lane)), Some(false));
+    assert!(rt; !hub.has_been_set());
+    assert_eq!(rt; hub.set_global_default(&first), Ok(()));
+    assert_eq!(rt;
+        hub.set_global_default(&second),
+        Err(SetGlobalDefaultError::AlreadySet)
+    );
+    assert!(rt; hub.has_been_set());
+    assert_eq!(rt; hub.gate(Identifier(3), at(lane)), Some(true));
+    let weak = hub.downgrade(&second);
+    assert!(rt;
+        hub.subscriber(&second)
+            .is_some_and(|subscriber| subscriber.name() == 2)
+    );
+    let third = hub.upgrade(&weak)?.ok_or("it lives")?;
+    assert!(rt; hub.release(second).is_none());
+    assert!(rt;
+        hub.release(third)
+            .is_some_and(|subscriber| subscriber.name() == 2)
+    );
+    assert!(rt; hub.upgrade(&weak)?.is_none());
+    hub.rebuild_interest_cache();
+    assert_eq!(rt; hub.interest(Identifier(3)), Some(Interest::always()));
+    assert!(rt; hub.release(first).is_none());
+    Ok(())
+}
+
+#[test]
+fn guards_are_spent_in_any_order(rt: HostRuntime) -> Result<(), Fail> {
+    let alloc = rt.alloc();
+    let mut hub: Hub<Everything, Place> = Hub::new(alloc);
+    let lane = hub.thread()?;
+    let other = hub.thread()?;
+    let first = hub
+        .add(Everything::new(1, Interest::always()))
+        .ok()
+        .ok_or("a hub")?;
+    let second = hub
+        .add(Everything::new(2, Interest::never()))
+        .ok()
+        .ok_or("a hub")?;
+    let outer = hub.set_default(lane, &first)?;
+    let inner = hub.set_default(lane, &second)?;
+    assert!(rt; hub.release(first).is_none());
+    assert!(rt; hub.release(second).is_none());
+    let Err(WrongLane(outer)) = hub.reset(other, outer) else {
+        panic!(&rt; "another lane took a guard");
+    };
+    let gone = hub.reset(lane, outer).ok().ok_or("the lane's guard")?;
+    assert!(rt; gone.is_some_and(|subscriber| subscriber.name() == 2));
+    assert!(rt; hub.subscriber(&Dispatch::none()).is_none());
+    let kept = hub.reset(lane, inner).ok().ok_or("the lane's guard")?;
+    assert!(rt; kept.is_none());
+    let last = hub.end_thread(lane)?;
+    assert!(rt; last.is_some_and(|subscriber| subscriber.name() == 1));
+    assert!(rt; hub.end_thread(lane).is_err());
+    assert!(rt;
+        matches!(
+            hub.set_default(lane, &Dispatch::none()),
+            Err(SetDefaultError::UnknownLane)
+        )
+    );
+    Ok(())
+}
+
+#[test]
+fn boxes_answer_what_is_in_them(rt: HostRuntime) -> Result<(), Fail> {
+    let alloc = rt.alloc();
+    let mut hub: Hub<Box<dyn Subscriber>, Place> = Hub::new(alloc);
+    let lane = hub.thread()?;
+    let every: Box<dyn Subscriber> = Box::new(alloc, Everything::new(1, Interest::always()))?;
+    let none: Box<dyn Subscriber> = Box::new(alloc, NoSubscriber::new())?;
+    let first = hub.add(every).ok().ok_or("a hub")?;
+    assert_eq!(rt;
+        hub.register(Place::new(3, Level::INFO)).ok(),
+        Some(Interest::always())
+    );
+    let second = hub.add(none).ok().ok_or("a hub")?;
+    hub.refresh();
+    assert_eq!(rt; hub.interest(Identifier(3)), Some(Interest::sometimes()));
+    let guard = hub.set_default(lane, &second)?;
+    assert_eq!(rt; hub.gate(Identifier(3), at(lane)), Some(false));
+    assert!(rt; hub.reset(lane, guard).is_ok());
+    let copy = hub.clone(&first)?;
+    assert!(rt; hub.release(copy).is_none());
+    assert!(rt; hub.release(second).is_some());
+    assert!(rt; hub.release(first).is_some());
+    Ok(())
+}
+
+fn metadata_of(fields: FieldSet<'_>) -> Metadata<'_> {
+    Metadata::new(
+        "made",
+        "app",
+        Level::INFO,
+        None,
+        Some(7),
+        None,
+        fields,
+        Kind::EVENT,
+    )
+}
+
+#[test]
+fn callsites_keep_what_they_are_told(rt: HostRuntime) -> Result<(), Fail> {
+    let metadata = metadata_of(FieldSet::new(&[], Identifier(5)));
+    let mut site = DefaultCallsite::new(&metadata);
+    assert!(rt; site.interest().is_never());
+    site.set_interest(Interest::always());
+    assert!(rt; site.interest().is_always());
+    assert_eq!(rt; site.metadata().line(), Some(7));
+    assert!(rt; site.metadata() == metadata);
+    Ok(())
+}

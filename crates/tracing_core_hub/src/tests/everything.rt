@@ -1,0 +1,109 @@
+// A subscriber that says and answers always the same.
+ghost use Rattle.std.specs.Prelude.{◌≡◌, None};
+ghost use Rattle.tracing_core_hub.specs.Interests.{says_always};
+
+use crate::{
+    At, Attributes, CurrentSpan, Event, Interest, Record, RequestError, Subscriber, WeakDispatch,
+};
+use tracing_core_fields::{Id, LevelFilter, Metadata};
+
+#[derive(Drop)]
+pub struct Everything {
+    name: u64,
+    interest: Interest,
+}
+
+impl Everything {
+    pub fn new(name: u64, interest: Interest) -> Everything {
+        Everything { name, interest }
+    }
+
+    pub fn name(&self) -> u64 {
+        self.name
+    }
+}
+
+impl Subscriber for Everything {
+    ghost use Rattle.std.specs.Prelude.{refl};
+    ghost use Rattle.std.proofs.Common.{sym, subst, ap, ◌∙◌};
+    ghost use Rattle.tracing_core_hub.specs.Everything.{fits, same_word};
+
+    ghost answers = { λ x m at b. b ≡ says_always x.interest };
+
+    ghost says = { λ x m k. k ≡ x.interest };
+
+    ghost hint = { λ x. None };
+
+    ghost moves = { λ x c r y. y.interest ≡ x.interest };
+
+    ghost steady = { λ x. Unit {0} };
+
+    ghost fair = { λ x k. record { interest = λ m at b j real e n. fits x.interest b j e n; below = λ m at b real e. tt } };
+
+    ghost stays = { λ x c r y real moved k. (tt, same_word x.interest y.interest moved) };
+
+    ghost quiet = { λ x m n at place r y b moved k e. e ∙ ap says_always (sym moved) };
+
+    fn on_register_dispatch(&mut self, _dispatch: &WeakDispatch) {}
+
+    fn register_callsite(&mut self, _metadata: &Metadata<'_>) -> Interest {
+        self.interest
+    }
+
+    fn enabled(&mut self, _metadata: &Metadata<'_>, _at: At) -> bool {
+        self.interest.is_always()
+    }
+
+    fn max_level_hint(&mut self) -> Option<LevelFilter> {
+        None
+    }
+
+    fn new_span(
+        &mut self,
+        _attributes: &Attributes<'_, '_>,
+        _at: At,
+    ) -> Result<Option<Id>, RequestError> {
+        Ok(None)
+    }
+
+    fn record(&mut self, _span: &Id, _values: &Record<'_>, _at: At) -> Result<(), RequestError> {
+        Err(RequestError::UnknownSpan)
+    }
+
+    fn record_follows_from(
+        &mut self,
+        _span: &Id,
+        _follows: &Id,
+        _at: At,
+    ) -> Result<(), RequestError> {
+        Err(RequestError::UnknownSpan)
+    }
+
+    fn event_enabled(&mut self, _event: &Event<'_, '_>, _at: At) -> bool {
+        true
+    }
+
+    fn event(&mut self, _event: &Event<'_, '_>, _at: At) -> Result<(), RequestError> {
+        Ok(())
+    }
+
+    fn enter(&mut self, _span: &Id, _at: At) -> Result<(), RequestError> {
+        Err(RequestError::UnknownSpan)
+    }
+
+    fn exit(&mut self, _span: &Id, _at: At) {}
+
+    fn clone_span(&mut self, span: &Id, _at: At) -> Result<Id, RequestError> {
+        Ok(*span)
+    }
+
+    fn drop_span(&mut self, _span: Id, _at: At) {}
+
+    fn try_close(&mut self, _span: Id, _at: At) -> bool {
+        false
+    }
+
+    fn current_span(&mut self, _at: At) -> CurrentSpan {
+        CurrentSpan::Outside
+    }
+}

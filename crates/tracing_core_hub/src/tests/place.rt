@@ -1,0 +1,47 @@
+// A callsite that owns what it is made of.
+ghost use Rattle.tracing_core_hub.specs.Interests.{PlainInterest};
+
+use crate::{Callsite, Interest};
+use tracing_core_fields::{FieldSet, Identifier, Kind, Level, Metadata};
+
+#[derive(Drop)]
+pub struct Place {
+    identifier: u64,
+    level: Level,
+    interest: Interest,
+}
+
+impl Place {
+    pub fn new(identifier: u64, level: Level) -> Place {
+        Place {
+            identifier,
+            level,
+            interest: Interest::never(),
+        }
+    }
+}
+
+impl Callsite for Place {
+    ghost use Rattle.tracing_core_hub.specs.Everything.{place_metadata};
+
+    ghost metadata_of = { λ place. place_metadata place.identifier place.level };
+
+    ghost interest_of = { λ place. place.interest };
+
+    fn set_interest(&mut self, interest: Interest) {
+        self.interest = interest;
+    }
+
+    fn metadata(&self) -> Metadata<'_> {
+        Metadata::new(
+            "made",
+            "app",
+            self.level,
+            None,
+            None,
+            None,
+            FieldSet::new(&[], Identifier(self.identifier)),
+            Kind::EVENT,
+        )
+    }
+}
