@@ -128,6 +128,7 @@ fn debug_texts_print(rt: HostRuntime) -> Result<(), Fail> {
         (DebugText::Str("a \"b\""), "\"a \\\"b\\\"\""),
         (DebugText::Bytes(b""), "[]"),
         (DebugText::Bytes(b"\x00\x7f\xff"), "[00 7f ff]"),
+        (DebugText::Error(ErrorText::new("e", &["why"])), "e"),
     ] {
         assert_eq!(rt; format!(in alloc; "{text:?}")?.as_str(), want);
     }
@@ -196,6 +197,30 @@ fn only_own_present_values_are_visited(rt: HostRuntime) -> Result<(), Fail> {
         Err(Stop::Full)
     );
     assert_eq!(rt; visitor.text.as_str(), "1 count=2;");
+    Ok(())
+}
+
+#[test]
+fn owned_values_are_given_by_index(rt: HostRuntime) -> Result<(), Fail> {
+    let alloc = rt.alloc();
+    let set = FieldSet::new(&NAMES, Identifier(7));
+    let message = set.field("message").ok_or("message")?;
+    let count = set.field("count").ok_or("count")?;
+    let text = "hi".to_string(alloc)?;
+    let values = vec![in alloc;
+        FieldValue { field: 2, value: OwnedValue::I64(-1) },
+        FieldValue { field: 3, value: OwnedValue::U64(1) },
+        FieldValue { field: 1, value: OwnedValue::Empty },
+        FieldValue { field: 0, value: OwnedValue::Text(text) },
+        FieldValue { field: 2, value: OwnedValue::U64(5) },
+    ]?;
+    let given = set.value_set_indexed(&values);
+    assert_eq!(rt; (given.len(), given.is_empty()), (4, false));
+    assert!(rt; given.contains(&message) && !given.contains(&count));
+    let mut visitor = make_lines(alloc, 9);
+    assert_eq!(rt; given.record(&mut visitor), Ok(()));
+    assert_eq!(rt; visitor.text.as_str(), "2 count=-1;0 message=\"hi\";2 count=5;");
+    assert!(rt; set.value_set_indexed(&values[1..3]).is_empty());
     Ok(())
 }
 
