@@ -16,3 +16,4 @@ pub mod DefaultCallsites
 pub mod Lent
 pub mod Everything
 pub mod Kept
+pub mod Lending
