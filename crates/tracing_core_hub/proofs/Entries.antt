@@ -70,3 +70,10 @@ pub inside_none : {A : Type 0} (xs : List A) (i : ℕ) → i < length xs → sli
 inside_none [] i inside e = absurd (omega arith)
 inside_none (x ∷ xs) zero inside e = cc
 inside_none (x ∷ xs) (suc i) inside e = inside_none xs i (omega arith) e
+
+-- what is read at the place is the subscriber of the number
+pub place_is : {S : Type 0} (serial : ℕ) (es : List (Entry S)) (i : ℕ) → (i < length es) × ((e : Entry S) → is_of serial (get_or es i e) ≡ true) × ((k : ℕ) (e : Entry S) → 0 ≤ k → k < i → is_of serial (get_or es k e) ≡ false) → slice_get es i ≡ entry_of serial es
+place_is serial [] i found = absurd (let h = found.0 in omega arith)
+place_is serial (x ∷ xs) zero found = rw (found.1 x) refl
+place_is serial (x ∷ xs) (suc i) found =
+    rw (found.2 0 x (omega arith) (omega arith)) (place_is serial xs i (let h = found.0 in omega arith, found.1, λ k e a b. found.2 (suc k) e (omega arith) (omega arith)))

@@ -19,5 +19,6 @@ lent_to (Some serial) subscriber es = changed serial (given_as subscriber) es
 -- the place of the subscriber of the number, or one past the end where there is none
 abbrev pub IsPlaceOrEnd : {S : Type 0} → Option ℕ → List (Entry S) → ℕ → Type 0
 IsPlaceOrEnd {S = S} serial es place =
-    ((subscriber : S) → slice_get es place ≡ None → lent_to serial subscriber es ≡ es)
+    (slice_get es place ≡ living_of serial es)
+    × ((subscriber : S) → slice_get es place ≡ None → lent_to serial subscriber es ≡ es)
     × ((subscriber : S) (e : Entry S) → slice_get es place ≡ Some e → lent_to serial subscriber es ≡ slice_set es place (given_as subscriber e))

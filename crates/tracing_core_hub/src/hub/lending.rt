@@ -40,7 +40,8 @@ impl<S, C> Hub<S, C> {
     /// Lends the subscriber that the handle leads to for writing, and marks it as lent: what is kept of it
     /// counts for nothing until the next rebuild.
     pub fn subscriber_mut(&mut self, dispatch: &Dispatch) -> Option<&mut S>
-        ensures* { sem 𝓛 (LendsSubscriber S.row C.row self.entry dispatch.now result) }
+        ensures lent { option_map (λ subscriber. subscriber.now) result ≡ option_map (λ entry. entry.subscriber) (living_of dispatch.now self.old.entries) }
+        ensures* ends { sem 𝓛 (LendsSubscriber S.row C.row self.entry dispatch.now result) }
     {
         let place = place_or_end(&self.entries, dispatch.serial());
         match self.entries.get_mut(place) {
