@@ -17,3 +17,4 @@ pub mod Lent
 pub mod Everything
 pub mod Kept
 pub mod Lending
+pub mod Handing

@@ -3,7 +3,7 @@ ghost use Rattle.std.specs.Borrow.{sem};
 ghost use Rattle.std.specs.Option.{option_map};
 ghost use Rattle.std.specs.Prelude.{◌≡◌};
 ghost use Rattle.tracing_core_hub.specs.Handles.{entry_of};
-ghost use Rattle.tracing_core_hub.specs.Lent.{living_of, IsPlaceOrEnd};
+ghost use Rattle.tracing_core_hub.specs.Lent.{living_of, IsPlaceOrEnd, IsPlaceToLend};
 ghost use Rattle.tracing_core_hub.specs.Lending.{LendsSubscriber};
 
 use crate::dispatch::Dispatch;
@@ -43,7 +43,7 @@ impl<S, C> Hub<S, C> {
         ensures lent { option_map (λ subscriber. subscriber.now) result ≡ option_map (λ entry. entry.subscriber) (living_of dispatch.now self.old.entries) }
         ensures* ends { sem 𝓛 (LendsSubscriber S.row C.row self.entry dispatch.now result) }
     {
-        let place = place_or_end(&self.entries, dispatch.serial());
+        let place = place_to_lend(&self.entries, dispatch.serial());
         match self.entries.get_mut(place) {
             None => None,
             Some(entry) => {
@@ -55,7 +55,7 @@ impl<S, C> Hub<S, C> {
 }
 
 // The place of the subscriber of the number, or the end where there is none.
-fn place_or_end<S>(entries: &[Entry<S>], serial: Option<u64>) -> usize
+pub(crate) fn place_or_end<S>(entries: &[Entry<S>], serial: Option<u64>) -> usize
     ensures { IsPlaceOrEnd serial entries.now result }
 {
     let Some(serial) = serial else {
@@ -65,4 +65,12 @@ fn place_or_end<S>(entries: &[Entry<S>], serial: Option<u64>) -> usize
         None => entries.len(),
         Some(place) => place,
     }
+}
+
+// The same place, by what lending does there.
+fn place_to_lend<S>(entries: &[Entry<S>], serial: Option<u64>) -> usize
+    ensures { IsPlaceToLend serial entries.now result }
+{
+    let place = place_or_end(entries, serial);
+    place
 }
