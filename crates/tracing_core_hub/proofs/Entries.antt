@@ -2,7 +2,7 @@
 use Rattle.std.proofs.Common.{◌≡◌, ℕ, zero, suc, ◌<◌, ◌≤◌, true, false, List, ◌∷◌, [], length, get_or, set, Option, Some, None, refl, ap, arith}
 use Rattle.std.specs.List.{remove}
 use Rattle.tracing_core_hub.specs.declared.hub.parts.Entry.{Entry}
-use Rattle.std.specs.Prelude.{◌==◌, nat_le}
+use Rattle.std.specs.Prelude.{◌==◌, nat_le, slice_get}
 use Rattle.tracing_core_hub.specs.Handles.{is_of, entry_of, changed, without, hold_refusal, given_back, one_less, most}
 use Rattle.tracing_core_hub.specs.declared.refusal.HandleError.TheVariants.{Unknown, TooMany}
 
@@ -61,3 +61,19 @@ found_at serial xs es i d e h = rw (← e) (h.0, h.1 d, λ k lt. h.2 k d (omega 
 
 pub absent_at : {S : Type 0} (serial : ℕ) (xs es : List (Entry S)) → xs ≡ es → ((k : ℕ) (e : Entry S) → 0 ≤ k → k < length xs → is_of serial (get_or xs k e) ≡ false) → entry_of serial es ≡ None
 absent_at serial xs es e h = rw (← e) (entry_absent serial xs h)
+
+pub changed_absent : {S : Type 0} (serial : ℕ) (f : Entry S → Entry S) (es : List (Entry S)) → ((k : ℕ) (d : Entry S) → 0 ≤ k → k < length es → is_of serial (get_or es k d) ≡ false) → changed serial f es ≡ es
+changed_absent serial f [] none = refl
+changed_absent serial f (e ∷ es) none = rw (none 0 e (omega arith) (omega arith)) (ap (λ xs. e ∷ xs) (changed_absent serial f es (λ k d h1 h2. none (suc k) d (omega arith) (omega arith))))
+
+pub inside_none : {A : Type 0} (xs : List A) (i : ℕ) → i < length xs → slice_get xs i ≡ None → ⊥
+inside_none [] i inside e = absurd (omega arith)
+inside_none (x ∷ xs) zero inside e = cc
+inside_none (x ∷ xs) (suc i) inside e = inside_none xs i (omega arith) e
+
+-- what is read at the place is the subscriber of the number
+pub place_is : {S : Type 0} (serial : ℕ) (es : List (Entry S)) (i : ℕ) → (i < length es) × ((e : Entry S) → is_of serial (get_or es i e) ≡ true) × ((k : ℕ) (e : Entry S) → 0 ≤ k → k < i → is_of serial (get_or es k e) ≡ false) → slice_get es i ≡ entry_of serial es
+place_is serial [] i found = absurd (let h = found.0 in omega arith)
+place_is serial (x ∷ xs) zero found = rw (found.1 x) refl
+place_is serial (x ∷ xs) (suc i) found =
+    rw (found.2 0 x (omega arith) (omega arith)) (place_is serial xs i (let h = found.0 in omega arith, found.1, λ k e a b. found.2 (suc k) e (omega arith) (omega arith)))

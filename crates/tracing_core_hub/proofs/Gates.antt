@@ -1,5 +1,5 @@
 -- What is known without asking is what asking gives, and asking one leaves the word of all.
-use Rattle.std.proofs.Common.{◌≡◌, ℕ, ◌<◌, ◌≤◌, Bool, true, false, nat_le, List, [], ◌∷◌, Option, Some, None, refl, ap, sym, ◌∙◌, subst, arith}
+use Rattle.std.proofs.Common.{◌≡◌, ℕ, ◌≤◌, Bool, true, false, nat_le, List, [], ◌∷◌, Option, Some, None, refl, ap, sym, ◌∙◌, subst, arith}
 use Rattle.std.specs.Prelude.{if◌then◌else◌, ◌==◌}
 use Rattle.std.specs.Cmp.{unsigned_Decides}
 use Rattle.tracing_core_fields.specs.PlainMetadata.{PlainMetadata}
@@ -89,15 +89,17 @@ module _ {S C : Type 0} (g : Ghosts S) (h : SiteGhosts C) where
   kept_from : (t u : Table S C) (e : Entry S) → Kept g h t e → Stays e u.entries → u ≡ record t { entries = u.entries } → (z : S) × Kept g h u (becomes z e)
   kept_from t u e kept s left =
       let rows : t.rows ≡ u.rows = ap (λ (v : Table S C). v.rows) (sym left) in
-      let top : t.greatest ≡ u.greatest = ap (λ (v : Table S C). v.greatest) (sym left) in
-      (s.0, record {
-        stands = s.1;
-        unlent = kept.unlent;
-        steady = s.2;
-        rows = subst (Every (IsTrueRow h)) rows kept.rows;
-        right = right_onward g h e.subscriber s.0 u.rows s.3 (subst (Every (RowRight g h e.subscriber)) rows kept.right);
-        below = subst (λ o. level_of o ≤ u.greatest) (sym s.3.same_hint) (subst (λ k. level_of (g.hint e.subscriber) ≤ k) top kept.below);
-      })
+      let top : t.greatest ≡ u.greatest = ap (λ (v : Table S C). v.greatest) (sym left) in (
+        s.0,
+        record {
+          stands = s.1;
+          unlent = kept.unlent;
+          steady = s.2;
+          rows = subst (Every (IsTrueRow h)) rows kept.rows;
+          right = right_onward g h e.subscriber s.0 u.rows s.3 (subst (Every (RowRight g h e.subscriber)) rows kept.right);
+          below = subst (λ o. level_of o ≤ u.greatest) (sym s.3.same_hint) (subst (λ k. level_of (g.hint e.subscriber) ≤ k) top kept.below);
+        },
+      )
 
   gate_keeps_at : (t u : Table S C) (e : Entry S) (identifier : ℕ) (place : At) (o : Option (Row C)) (result : Option Bool) → row_of identifier t.rows ≡ o → GateGivesAt g h t o place result u → Kept g h t e → (z : S) × Kept g h u (becomes z e)
   gate_keeps_at t u e identifier place None result found given kept = (e.subscriber, subst (λ v. Kept g h v e) (sym given.1) kept)

@@ -1,16 +1,15 @@
 -- Asking keeps the word of a steady subscriber, and makes what is kept right of it.
-use Rattle.std.proofs.Common.{◌≡◌, ℕ, ◌<◌, ◌≤◌, Bool, true, false, nat_le, cond, max, List, [], ◌∷◌, Option, Some, None, refl, ap, sym, ◌∙◌, subst, arith, ◌⊎◌, inl, inr}
-use Rattle.std.specs.Prelude.{if◌then◌else◌, ◌==◌}
+use Rattle.std.proofs.Common.{◌≡◌, ℕ, ◌≤◌, Bool, true, false, max, List, [], ◌∷◌, Option, Some, None, refl, ap, sym, ◌∙◌, subst, arith, ◌⊎◌, inl, inr}
+use Rattle.std.specs.Prelude.{if◌then◌else◌}
 use Rattle.tracing_core_fields.specs.PlainMetadata.{PlainMetadata}
-use Rattle.tracing_core_hub.specs.Asking.{Each, Registers, Hints, RowAsked, AskedAll, joined, settled, level_of}
-use Rattle.tracing_core_hub.specs.Calls.{CallsiteRegistered, HintAsked, Asked}
-use Rattle.tracing_core_hub.specs.Commands.{Rebuilt, AskGives, AskGivesAt, AnswerGives, becomes, known, known_by, row_of, is_at}
-use Rattle.tracing_core_hub.specs.Handles.{entry_of, changed, is_of}
+use Rattle.tracing_core_hub.specs.Asking.{Each, Registers, Hints, RowAsked, joined, settled, level_of}
+use Rattle.tracing_core_hub.specs.Calls.{CallsiteRegistered, HintAsked}
+use Rattle.tracing_core_hub.specs.Commands.{Rebuilt, becomes, known, row_of, is_at}
+use Rattle.tracing_core_hub.specs.Handles.{entry_of, is_of}
 use Rattle.tracing_core_hub.specs.Interests.{PlainInterest, common}
-use Rattle.tracing_core_hub.specs.Kept.{Covers, Every, IsTrueRow, RowRight, Kept, Oracle, asked_anew}
-use Rattle.tracing_core_hub.specs.Steady.{IsReal, SameWord, InterestFits, HintFits}
+use Rattle.tracing_core_hub.specs.Kept.{Covers, Every, IsTrueRow, RowRight, Kept, asked_anew}
+use Rattle.tracing_core_hub.specs.Steady.{IsReal, SameWord}
 use Rattle.tracing_core_hub.specs.Table.{Table}
-use Rattle.tracing_core_hub.specs.declared.at.At.{At}
 use Rattle.tracing_core_hub.specs.declared.callsite.Callsite.{Ghosts as SiteGhosts}
 use Rattle.tracing_core_hub.specs.declared.hub.parts.Entry.{Entry}
 use Rattle.tracing_core_hub.specs.declared.hub.parts.Row.{Row}
@@ -93,9 +92,14 @@ module _ {S : Type 0} (g : Ghosts S) where
   asked_head true m n o mid last x y e xs ys is r each there later =
       let same : x ≡ e = cc in
       let here : is_of n y ≡ true = ap (is_of n) r.3 ∙ is in
-      let all = covers_joined m xs ys o r.0 last (subst (λ j. Each (Registers g m) j xs ys last) r.4 each) in
-      (y.subscriber, r.0, entry_head n y ys here ∙ ap (λ (f : Entry S). Some f) (r.3 ∙ ap (becomes y.subscriber) same),
-        subst (λ (d : Entry S). g.says d.subscriber m r.0) same r.1, subst (λ (d : Entry S). g.moves d.subscriber (CallsiteRegistered m) r.0 y.subscriber) same r.2, all)
+      let all = covers_joined m xs ys o r.0 last (subst (λ j. Each (Registers g m) j xs ys last) r.4 each) in (
+        y.subscriber,
+        r.0,
+        entry_head n y ys here ∙ ap (λ (f : Entry S). Some f) (r.3 ∙ ap (becomes y.subscriber) same),
+        subst (λ (d : Entry S). g.says d.subscriber m r.0) same r.1,
+        subst (λ (d : Entry S). g.moves d.subscriber (CallsiteRegistered m) r.0 y.subscriber) same r.2,
+        all,
+      )
   asked_head false m n o mid last x y e xs ys is r each there later =
       let w = later there in
       let away : is_of n y ≡ false = ap (is_of n) r.3 ∙ is in
@@ -127,9 +131,12 @@ module _ {S : Type 0} (g : Ghosts S) where
       let here : is_of n y ≡ true = ap (is_of n) r.1 ∙ is in
       let more : mid ≤ last = hints_grow mid last xs ys each in
       let top : mid ≡ max before (level_of (g.hint x.subscriber)) = r.2 in
-      let below : level_of (g.hint x.subscriber) ≤ last = omega arith in
-      (y.subscriber, entry_head n y ys here ∙ ap (λ (f : Entry S). Some f) (r.1 ∙ ap (asked_anew y.subscriber) same),
-        subst (λ (d : Entry S). g.moves d.subscriber HintAsked (g.hint d.subscriber) y.subscriber) same r.0, subst (λ (d : Entry S). level_of (g.hint d.subscriber) ≤ last) same below)
+      let below : level_of (g.hint x.subscriber) ≤ last = omega arith in (
+        y.subscriber,
+        entry_head n y ys here ∙ ap (λ (f : Entry S). Some f) (r.1 ∙ ap (asked_anew y.subscriber) same),
+        subst (λ (d : Entry S). g.moves d.subscriber HintAsked (g.hint d.subscriber) y.subscriber) same r.0,
+        subst (λ (d : Entry S). level_of (g.hint d.subscriber) ≤ last) same below,
+      )
   hinted_head false n before mid last x y e xs ys is r each there later =
       let w = later there in
       let away : is_of n y ≡ false = ap (is_of n) r.1 ∙ is in
@@ -164,22 +171,28 @@ module _ {S : Type 0} (g : Ghosts S) where
         let kept = g.stays e.subscriber (CallsiteRegistered m) a.1 a.0 known.0.1 a.4 steady in
         let rest = rows_all n each.0 fs rows laters (becomes a.0 e) each.2 known.1 a.2 kept.0 in
         let word = both_words e.subscriber a.0 rest.0 kept.1 rest.3 in
-        let level : later.level ≡ row.level = ap (λ (r : Row C). r.level) turn.3 in
-        (rest.0, rest.1, rest.2, word,
+        let level : later.level ≡ row.level = ap (λ (r : Row C). r.level) turn.3 in (
+          rest.0,
+          rest.1,
+          rest.2,
+          word,
           ((a.1, subst (λ x. g.says rest.0 x a.1) (sym turn.1) (word.onward m a.1 a.3), subst (λ k. Covers k a.1) (sym turn.0.2) a.5), rest.4),
-          ((level ∙ known.0.0 ∙ ap (λ (x : PlainMetadata). x.level) (sym turn.1), subst IsReal (sym turn.1) known.0.1), rest.5))
+          ((level ∙ known.0.0 ∙ ap (λ (x : PlainMetadata). x.level) (sym turn.1), subst IsReal (sym turn.1) known.0.1), rest.5),
+        )
 
     -- a rebuild makes what is kept right of whoever lives and keeps its word
     pub rebuilt_keeps : (t u : Table S C) (e : Entry S) → Rebuilt g h t u → entry_of e.serial t.entries ≡ Some e → g.steady e.subscriber → Every (IsTrueRow h) t.rows → (z : S) × Kept g h u (asked_anew z e)
     rebuilt_keeps t u e r there steady known =
         let a = rows_all e.serial t.entries r.asked t.rows u.rows e r.rows known there steady in
         let b = hinted_one e.serial 0 u.greatest r.asked u.entries (becomes a.0 e) r.hints a.1 in
-        let kept = g.stays a.0 HintAsked (g.hint a.0) b.0 tt b.2 a.2 in
-        (b.0, record {
-          stands = b.1;
-          unlent = refl;
-          steady = kept.0;
-          rows = a.5;
-          right = right_onward a.0 b.0 u.rows kept.1 a.4;
-          below = subst (λ o. level_of o ≤ u.greatest) (sym kept.1.same_hint) b.3;
-        })
+        let kept = g.stays a.0 HintAsked (g.hint a.0) b.0 tt b.2 a.2 in (
+          b.0,
+          record {
+            stands = b.1;
+            unlent = refl;
+            steady = kept.0;
+            rows = a.5;
+            right = right_onward a.0 b.0 u.rows kept.1 a.4;
+            below = subst (λ o. level_of o ≤ u.greatest) (sym kept.1.same_hint) b.3;
+          },
+        )

@@ -5,3 +5,4 @@ pub mod Asks
 pub mod Tables
 pub mod Keeping
 pub mod Gates
+pub mod Handed

@@ -1,5 +1,5 @@
 -- What a hub still knows of a subscriber that keeps its word.
-use Rattle.std.specs.Prelude.{◌≡◌, ◌≤◌, ℕ, Bool, false, List, [], ◌∷◌, Option, Some}
+use Rattle.std.specs.Prelude.{◌≡◌, ◌≤◌, Bool, false, List, [], ◌∷◌, Some}
 use Rattle.tracing_core_fields.specs.PlainMetadata.{PlainMetadata}
 use Rattle.tracing_core_hub.specs.Asking.{level_of}
 use Rattle.tracing_core_hub.specs.Handles.{entry_of}

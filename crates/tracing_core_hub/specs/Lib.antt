@@ -16,3 +16,5 @@ pub mod DefaultCallsites
 pub mod Lent
 pub mod Everything
 pub mod Kept
+pub mod Lending
+pub mod Handing

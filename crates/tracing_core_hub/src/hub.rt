@@ -8,6 +8,7 @@ mod asking;
 mod defaults;
 mod entries;
 mod gate;
+mod handing;
 mod handles;
 mod lending;
 mod parts;

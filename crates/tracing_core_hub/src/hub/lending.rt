@@ -1,12 +1,14 @@
 //! Lending subscribers.
-ghost use Rattle.std.specs.Borrow.{sem, Lends};
+ghost use Rattle.std.specs.Borrow.{sem};
 ghost use Rattle.std.specs.Option.{option_map};
-ghost use Rattle.std.specs.Prelude.{◌≡◌, true};
+ghost use Rattle.std.specs.Prelude.{◌≡◌};
 ghost use Rattle.tracing_core_hub.specs.Handles.{entry_of};
-ghost use Rattle.tracing_core_hub.specs.Lent.{living_of};
+ghost use Rattle.tracing_core_hub.specs.Lent.{living_of, IsPlaceOrEnd, IsPlaceToLend};
+ghost use Rattle.tracing_core_hub.specs.Lending.{LendsSubscriber};
 
 use crate::dispatch::Dispatch;
 use crate::hub::Hub;
+use crate::hub::entries::place_of;
 use crate::hub::parts::Entry;
 
 // The subscriber of the number.
@@ -34,4 +36,41 @@ impl<S, C> Hub<S, C> {
             Some(entry) => Some(&entry.subscriber),
         }
     }
+
+    /// Lends the subscriber that the handle leads to for writing, and marks it as lent: what is kept of it
+    /// counts for nothing until the next rebuild.
+    pub fn subscriber_mut(&mut self, dispatch: &Dispatch) -> Option<&mut S>
+        ensures lent { option_map (λ subscriber. subscriber.now) result ≡ option_map (λ entry. entry.subscriber) (living_of dispatch.now self.old.entries) }
+        ensures* ends { sem 𝓛 (LendsSubscriber S.row C.row self.entry dispatch.now result) }
+    {
+        let place = place_to_lend(&self.entries, dispatch.serial());
+        match self.entries.get_mut(place) {
+            None => None,
+            Some(entry) => {
+                entry.lent = true;
+                Some(&mut entry.subscriber)
+            }
+        }
+    }
+}
+
+// The place of the subscriber of the number, or the end where there is none.
+pub(crate) fn place_or_end<S>(entries: &[Entry<S>], serial: Option<u64>) -> usize
+    ensures { IsPlaceOrEnd serial entries.now result }
+{
+    let Some(serial) = serial else {
+        return entries.len();
+    };
+    match place_of(entries, serial) {
+        None => entries.len(),
+        Some(place) => place,
+    }
+}
+
+// The same place, by what lending does there.
+fn place_to_lend<S>(entries: &[Entry<S>], serial: Option<u64>) -> usize
+    ensures { IsPlaceToLend serial entries.now result }
+{
+    let place = place_or_end(entries, serial);
+    place
 }

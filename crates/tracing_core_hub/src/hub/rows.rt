@@ -50,7 +50,7 @@ impl<S: Subscriber> Entry<S> {
 }
 
 // Asks the subscriber of the number, where it lives.
-fn ask_one<S: Subscriber>(
+pub(crate) fn ask_one<S: Subscriber>(
     entries: &mut [Entry<S>],
     serial: Option<u64>,
     metadata: &Metadata<'_>,

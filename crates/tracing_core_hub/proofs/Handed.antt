@@ -1,0 +1,23 @@
+-- A call of the subscriber at the place of a handle.
+use Rattle.std.proofs.Common.{◌≡◌, ℕ, ◌<◌, ◌≤◌, List, length, get_or, set, Option, Some, None, refl, sym, ◌∙◌, subst}
+use Rattle.std.specs.Prelude.{slice_get}
+use Rattle.std.proofs.lemmas.Option.{slice_get_past, slice_get-get_or}
+use Rattle.tracing_core_hub.specs.Calls.{Call, ReplyTo}
+use Rattle.tracing_core_hub.specs.Commands.{becomes}
+use Rattle.tracing_core_hub.specs.Handing.{CallGives, CallGivesAt}
+use Rattle.tracing_core_hub.specs.Lent.{IsPlaceOrEnd, living_of}
+use Rattle.tracing_core_hub.specs.NoReplies.{no_reply}
+use Rattle.tracing_core_hub.specs.declared.hub.parts.Entry.{Entry}
+use Rattle.tracing_core_hub.specs.declared.subscriber.Subscriber.{Ghosts}
+
+module _ {S : Type 0} (g : Ghosts S) (c : Call) (dispatch : Option ℕ) (es : List (Entry S)) (i : ℕ) (found : IsPlaceOrEnd dispatch es i) where
+  pub to_nobody : length es ≤ i → CallGives g c dispatch es (no_reply c) es
+  to_nobody past =
+      let none : living_of dispatch es ≡ None = sym found.0 ∙ slice_get_past es i past in
+      subst (λ o. CallGivesAt g c dispatch es o (no_reply c) es) (sym none) (refl, refl)
+
+  pub to_somebody : i < length es → (d : Entry S) (reply : ReplyTo c) (z : S) → g.moves (get_or es i d).subscriber c reply z → CallGives g c dispatch es reply (set es i (becomes z (get_or es i d)))
+  to_somebody inside d reply z moved =
+      let e = get_or es i d in
+      let there : slice_get es i ≡ Some e = slice_get-get_or es i d inside in
+      subst (λ o. CallGivesAt g c dispatch es o reply (set es i (becomes z e))) (sym there ∙ found.0) (z, moved, sym (found.2 (becomes z) e there))
