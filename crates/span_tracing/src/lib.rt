@@ -19,7 +19,8 @@ mod trace;
 pub use output::{Fields, LineFormat, Output, OutputKey, OutputRefusal, Route, SinkSpec, Timer};
 pub use setup::StackRefusal;
 pub use span_tracing_machine::{
-    EnabledCall, EventCall, FieldValue, NewSpanCall, Parent, Refusal, Reply, SpanCall, SpanName, Step, Value,
+    EnabledCall, EventCall, FieldValue, NewSpanCall, Parent, Refusal, Reply, SpanCall, SpanName,
+    Step, Value,
 };
 pub use trace::Trace;
 pub use tracing_appender_rolling::{

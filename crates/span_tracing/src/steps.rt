@@ -94,12 +94,7 @@ impl TraceState {
 
     /// Adds a span, and its text. Where either finds no memory, neither is added.
     #[tactic(auto, using(crate::proofs::Lists::map_more))]
-    fn push_span(
-        &mut self,
-        span: SpanRecord,
-        name: String,
-        text: String,
-    ) -> Result<(), AllocError>
+    fn push_span(&mut self, span: SpanRecord, name: String, text: String) -> Result<(), AllocError>
         requires { (0 < span.id) × (span.id ≤ 18446744073709551615) }
         ensures skeleton { OnOk result (skeleton_of self.new ≡ record (skeleton_of self.old) { spans = self.old.spans.items ++ span ∷ []; next_id = span.id + 1 }) }
         ensures texts { OnOk result (texts_of self.new ≡ texts_of self.old ++ (record { id = span.id; name = string_bytes name; bytes = string_bytes text }) ∷ []) }

@@ -19,4 +19,4 @@ pub asked_mask : (s : Skeleton) (filter : Option ℕ) (number place : ℕ) (is_s
 unfolding known_place
 asked_mask s filter number place is_span known =
     ap (λ at. if s.is_global then mask_at filter (option_and_then (λ p. slice_get s.callsites p) at) else [])
-        (known_named s.callsites is_span (place_of s.callsites number) place known ∙ sym known)
+    (known_named s.callsites is_span (place_of s.callsites number) place known ∙ sym known)

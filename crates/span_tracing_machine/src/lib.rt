@@ -13,8 +13,8 @@ mod value;
 pub use call::{EnabledCall, EventCall, NewSpanCall, Parent, Reply, SpanCall, SpanName, Step};
 pub use fate::Fate;
 pub use laws::{
-    enabled_tells_made, line_is_whole, missed_changes_no_reply, none_missed, open_is_least, run_hands_offered,
-    runs_compose, starved_counts, stays_well_formed,
+    enabled_tells_made, line_is_whole, missed_changes_no_reply, none_missed, open_is_least,
+    run_hands_offered, runs_compose, starved_counts, stays_well_formed,
 };
 pub use record::SpanRecord;
 pub use refusal::Refusal;

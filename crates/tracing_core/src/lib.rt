@@ -7,8 +7,8 @@ pub use tracing_core_fields::{
     filters_read_their_names, levels_read_their_names, numbers_are_read_as_usize,
 };
 pub use tracing_core_hub::{
-    AddError, At, Attributes, Callsite, Current, CurrentSpan, DefaultCallsite, DefaultGuard, Dispatch,
-    Event, HandleError, Hub, Interest, NoSubscriber, Record, RegisterError, RequestError,
+    AddError, At, Attributes, Callsite, Current, CurrentSpan, DefaultCallsite, DefaultGuard,
+    Dispatch, Event, HandleError, Hub, Interest, NoSubscriber, Record, RegisterError, RequestError,
     SetDefaultError, SetGlobalDefaultError, Subscriber, TooManyHandles, UnknownLane, WeakDispatch,
     WrongLane, interests_join_in_any_order,
 };

@@ -50,7 +50,10 @@ fn enabled_tells_what_would_be_made(rt: HostRuntime) -> Result<(), Fail> {
         moment: OPENED,
         callsite: EVENT,
     })];
-    assert_eq!(rt; trace.run(&steps)?.as_slice(), [Reply::Enabled(true)].as_slice());
+    assert_eq!(rt;
+        trace.run(&steps)?.as_slice(),
+        [Reply::Enabled(true)].as_slice()
+    );
     has_file(&rt, &trace, TODAY, "")
 }
 

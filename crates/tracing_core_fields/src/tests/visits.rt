@@ -208,18 +208,36 @@ fn owned_values_are_given_by_index(rt: HostRuntime) -> Result<(), Fail> {
     let count = set.field("count").ok_or("count")?;
     let text = "hi".to_string(alloc)?;
     let values = vec![in alloc;
-        FieldValue { field: 2, value: OwnedValue::I64(-1) },
-        FieldValue { field: 3, value: OwnedValue::U64(1) },
-        FieldValue { field: 1, value: OwnedValue::Empty },
-        FieldValue { field: 0, value: OwnedValue::Text(text) },
-        FieldValue { field: 2, value: OwnedValue::U64(5) },
+        FieldValue {
+            field: 2,
+            value: OwnedValue::I64(-1)
+        },
+        FieldValue {
+            field: 3,
+            value: OwnedValue::U64(1)
+        },
+        FieldValue {
+            field: 1,
+            value: OwnedValue::Empty
+        },
+        FieldValue {
+            field: 0,
+            value: OwnedValue::Text(text)
+        },
+        FieldValue {
+            field: 2,
+            value: OwnedValue::U64(5)
+        },
     ]?;
     let given = set.value_set_indexed(&values);
     assert_eq!(rt; (given.len(), given.is_empty()), (4, false));
     assert!(rt; given.contains(&message) && !given.contains(&count));
     let mut visitor = make_lines(alloc, 9);
     assert_eq!(rt; given.record(&mut visitor), Ok(()));
-    assert_eq!(rt; visitor.text.as_str(), "2 count=-1;0 message=\"hi\";2 count=5;");
+    assert_eq!(rt;
+        visitor.text.as_str(),
+        "2 count=-1;0 message=\"hi\";2 count=5;"
+    );
     assert!(rt; set.value_set_indexed(&values[1..3]).is_empty());
     Ok(())
 }
