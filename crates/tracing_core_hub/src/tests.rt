@@ -1,6 +1,6 @@
 use super::*;
 use std::test::Fail;
-use tracing_core_fields::{FieldSet, Identifier, Kind, Level, LevelFilter, Metadata};
+use tracing_core_fields::{FieldSet, Id, Identifier, Kind, Level, LevelFilter, Metadata};
 
 mod everything;
 mod place;
@@ -177,5 +177,73 @@ fn callsites_keep_what_they_are_told(rt: HostRuntime) -> Result<(), Fail> {
     assert!(rt; site.interest().is_always());
     assert_eq!(rt; site.metadata().line(), Some(7));
     assert!(rt; site.metadata() == metadata);
+    Ok(())
+}
+
+#[test]
+fn requests_reach_the_handle(rt: HostRuntime) -> Result<(), Fail> {
+    let mut hub: Hub<Everything, Place> = Hub::new(rt.alloc());
+    let lane = hub.thread()?;
+    let fields = FieldSet::new(&[], Identifier(5));
+    let metadata = metadata_of(fields);
+    let first = hub
+        .add(Everything::new(1, Interest::always()))
+        .ok()
+        .ok_or("a hub")?;
+    let nobody = Dispatch::none();
+    let id = Id::from_u64(4).ok_or("an id")?;
+    assert!(rt; hub.enabled(&first, &metadata, at(lane)));
+    assert!(rt; !hub.enabled(&nobody, &metadata, at(lane)));
+    assert_eq!(rt;
+        hub.enter(&first, &id, at(lane)),
+        Err(RequestError::UnknownSpan)
+    );
+    assert_eq!(rt; hub.enter(&nobody, &id, at(lane)), Ok(()));
+    hub.exit(&first, &id, at(lane));
+    assert_eq!(rt;
+        hub.record_follows_from(&first, &id, &id, at(lane)),
+        Err(RequestError::UnknownSpan)
+    );
+    assert_eq!(rt; hub.clone_span(&first, &id, at(lane)), Ok(id));
+    assert!(rt; !hub.try_close(&first, id, at(lane)));
+    hub.drop_span(&first, id, at(lane));
+    assert!(rt; matches!(hub.current_span(&first, at(lane)), CurrentSpan::Outside));
+    assert!(rt; matches!(hub.current_span(&nobody, at(lane)), CurrentSpan::Unknown));
+    if let Some(subscriber) = hub.subscriber_mut(&first) {
+        subscriber.rename(7);
+    }
+    assert!(rt;
+        hub.subscriber(&first)
+            .is_some_and(|subscriber| subscriber.name() == 7)
+    );
+    Ok(())
+}
+
+#[test]
+fn events_and_spans_reach_the_handle(rt: HostRuntime) -> Result<(), Fail> {
+    let mut hub: Hub<Everything, Place> = Hub::new(rt.alloc());
+    let fields = FieldSet::new(&[], Identifier(5));
+    let metadata = metadata_of(fields);
+    let first = hub
+        .add(Everything::new(1, Interest::always()))
+        .ok()
+        .ok_or("a hub")?;
+    let nobody = Dispatch::none();
+    let id = Id::from_u64(4).ok_or("an id")?;
+    let values = fields.value_set_all(&[]);
+    let event = Event::new(&metadata, values);
+    assert!(rt; hub.event_enabled(&first, &event, at(0)));
+    assert_eq!(rt; hub.event(&first, &event, at(0)), Ok(()));
+    let record = Record::new(fields.value_set_all(&[]));
+    assert_eq!(rt;
+        hub.record(&first, &id, &record, at(0)),
+        Err(RequestError::UnknownSpan)
+    );
+    let attributes = Attributes::new(&metadata, fields.value_set_all(&[]));
+    assert_eq!(rt; hub.new_span(&first, &attributes, at(0)), Ok(None));
+    assert_eq!(rt;
+        hub.new_span(&nobody, &attributes, at(0)),
+        Ok(Id::from_u64(0xDEAD))
+    );
     Ok(())
 }

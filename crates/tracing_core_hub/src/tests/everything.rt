@@ -18,6 +18,10 @@ impl Everything {
         Everything { name, interest }
     }
 
+    pub fn rename(&mut self, name: u64) {
+        self.name = name;
+    }
+
     pub fn name(&self) -> u64 {
         self.name
     }
