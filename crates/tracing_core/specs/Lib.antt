@@ -39,3 +39,5 @@ pub use Rattle.tracing_core_hub.specs.DefaultCallsites
 pub use Rattle.tracing_core_hub.specs.Lent
 pub use Rattle.tracing_core_hub.specs.Everything
 pub use Rattle.tracing_core_hub.specs.Kept
+pub use Rattle.tracing_core_hub.specs.Lending
+pub use Rattle.tracing_core_hub.specs.Handing
