@@ -1,9 +1,8 @@
 -- The calls of a subscriber, with plain arguments, and what each answers.
-use Rattle.std.specs.Prelude.{ℕ, Bool, List, Option, Result}
+use Rattle.std.specs.Prelude.{ℕ, Bool, Option, Result}
 use Rattle.tracing_core_fields.specs.PlainMetadata.{PlainMetadata}
-use Rattle.tracing_core_fields.specs.PlainValue.{PlainValue}
 use Rattle.tracing_core_hub.specs.Interests.{PlainInterest}
-use Rattle.tracing_core_hub.specs.PlainRequests.{PlainAttributes, PlainEvent}
+use Rattle.tracing_core_hub.specs.PlainRequests.{PlainAttributes, PlainEvent, PlainValues}
 use Rattle.tracing_core_hub.specs.declared.at.At.{At}
 use Rattle.tracing_core_hub.specs.declared.refusal.RequestError.{RequestError}
 use Rattle.tracing_core_hub.specs.declared.current_span.CurrentSpan.{CurrentSpan}
@@ -15,7 +14,7 @@ pub data Call : Type 0 where
   Asked : PlainMetadata → At → Call
   HintAsked : Call
   SpanMade : PlainAttributes → At → Call
-  Recorded : ℕ → List (ℕ × PlainValue) → At → Call
+  Recorded : ℕ → PlainValues → At → Call
   FollowsRecorded : ℕ → ℕ → At → Call
   EventAsked : PlainEvent → At → Call
   Told : PlainEvent → At → Call

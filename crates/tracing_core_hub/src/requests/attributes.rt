@@ -1,11 +1,10 @@
 //! What is known of a span that is to be made.
 ghost use Rattle.std.specs.Prelude.{◌≡◌, ◌↔◌, IsTrue, []};
 ghost use Rattle.std.specs.Option.{option_copied};
-ghost use Rattle.tracing_core_fields.specs.FieldSet.{field_names, set_callsite};
 ghost use Rattle.tracing_core_fields.specs.Metadata.{plain_metadata};
-ghost use Rattle.tracing_core_fields.specs.ValueSet.{entries_of, fields_of_values, has_value};
+ghost use Rattle.tracing_core_fields.specs.ValueSet.{fields_of_values, has_value};
 ghost use Rattle.tracing_core_fields.specs.Visits.{Visits};
-ghost use Rattle.tracing_core_hub.specs.PlainRequests.{plain_attributes, explicit_parent};
+ghost use Rattle.tracing_core_hub.specs.PlainRequests.{plain_attributes, plain_values, explicit_parent};
 ghost use Rattle.tracing_core_hub.specs.Attributes.{attributes_metadata, attributes_values};
 
 use crate::requests::parent::Parent;
@@ -25,7 +24,7 @@ impl<'m, 'v> Attributes<'m, 'v> {
     pub fn new(metadata: &'m Metadata<'m>, values: ValueSet<'v>) -> Attributes<'m, 'v>
         ensures plain { plain_attributes result ≡ record {
           metadata = plain_metadata metadata.now;
-          entries = entries_of values.entry;
+          values = plain_values values.entry;
           parent = Parent.Current;
         } }
         ensures metadata { attributes_metadata result ≡ metadata.now }
@@ -42,7 +41,7 @@ impl<'m, 'v> Attributes<'m, 'v> {
     pub fn new_root(metadata: &'m Metadata<'m>, values: ValueSet<'v>) -> Attributes<'m, 'v>
         ensures plain { plain_attributes result ≡ record {
           metadata = plain_metadata metadata.now;
-          entries = entries_of values.entry;
+          values = plain_values values.entry;
           parent = Parent.Root;
         } }
         ensures metadata { attributes_metadata result ≡ metadata.now }
@@ -63,7 +62,7 @@ impl<'m, 'v> Attributes<'m, 'v> {
     ) -> Attributes<'m, 'v>
         ensures plain { plain_attributes result ≡ record {
           metadata = plain_metadata metadata.now;
-          entries = entries_of values.entry;
+          values = plain_values values.entry;
           parent = Parent.Explicit parent;
         } }
         ensures metadata { attributes_metadata result ≡ metadata.now }
@@ -87,7 +86,7 @@ impl<'m, 'v> Attributes<'m, 'v> {
     /// The values of the fields.
     pub fn values(&self) -> &ValueSet<'v>
         ensures values { result.now ≡ attributes_values self.now }
-        ensures entries { entries_of result.now ≡ (plain_attributes self.now).entries }
+        ensures plain { plain_values result.now ≡ (plain_attributes self.now).values }
     {
         &self.values
     }
@@ -115,8 +114,8 @@ impl<'m, 'v> Attributes<'m, 'v> {
 
     /// Hands the values to the visitor, in order, up to its first refusal, which is the answer.
     pub fn record<V: Visit>(&self, visitor: &mut V) -> Result<(), V::Error>
-        ensures { let fields = fields_of_values (attributes_values self.now) in
-            Visits V.takes (set_callsite fields) (field_names fields) (plain_attributes self.now).entries visitor.old result visitor.new }
+        ensures { let values = (plain_attributes self.now).values in
+            Visits V.takes values.callsite values.names values.entries visitor.old result visitor.new }
     {
         self.values.record(visitor)
     }
@@ -130,7 +129,7 @@ impl<'m, 'v> Attributes<'m, 'v> {
 
     /// Whether no field has a value.
     pub fn is_empty(&self) -> bool
-        ensures { IsTrue result ↔ ((plain_attributes self.now).entries ≡ []) }
+        ensures { IsTrue result ↔ ((plain_attributes self.now).values.entries ≡ []) }
     {
         self.values.is_empty()
     }

@@ -1,12 +1,12 @@
 //! What happened, at a moment.
 ghost use Rattle.std.specs.Prelude.{◌≡◌, ◌↔◌, IsTrue};
 ghost use Rattle.std.specs.Option.{option_copied};
-ghost use Rattle.tracing_core_fields.specs.FieldSet.{plain_fields, field_names, set_callsite};
+ghost use Rattle.tracing_core_fields.specs.FieldSet.{plain_fields};
 ghost use Rattle.tracing_core_fields.specs.Iter.{fields_left};
 ghost use Rattle.tracing_core_fields.specs.Metadata.{plain_metadata};
-ghost use Rattle.tracing_core_fields.specs.ValueSet.{entries_of, fields_of_values};
+ghost use Rattle.tracing_core_fields.specs.ValueSet.{fields_of_values};
 ghost use Rattle.tracing_core_fields.specs.Visits.{Visits};
-ghost use Rattle.tracing_core_hub.specs.PlainRequests.{plain_event, explicit_parent, child_or_root};
+ghost use Rattle.tracing_core_hub.specs.PlainRequests.{plain_event, plain_values, explicit_parent, child_or_root};
 ghost use Rattle.tracing_core_hub.specs.Events.{event_metadata, event_values};
 
 use crate::requests::parent::Parent;
@@ -25,7 +25,7 @@ impl<'m, 'v> Event<'m, 'v> {
     pub fn new(metadata: &'m Metadata<'m>, values: ValueSet<'v>) -> Event<'m, 'v>
         ensures plain { plain_event result ≡ record {
           metadata = plain_metadata metadata.now;
-          entries = entries_of values.entry;
+          values = plain_values values.entry;
           parent = Parent.Current;
         } }
         ensures metadata { event_metadata result ≡ metadata.now }
@@ -46,7 +46,7 @@ impl<'m, 'v> Event<'m, 'v> {
     ) -> Event<'m, 'v>
         ensures plain { plain_event result ≡ record {
           metadata = plain_metadata metadata.now;
-          entries = entries_of values.entry;
+          values = plain_values values.entry;
           parent = child_or_root parent;
         } }
         ensures metadata { event_metadata result ≡ metadata.now }
@@ -64,8 +64,8 @@ impl<'m, 'v> Event<'m, 'v> {
 
     /// Hands the values to the visitor, in order, up to its first refusal, which is the answer.
     pub fn record<V: Visit>(&self, visitor: &mut V) -> Result<(), V::Error>
-        ensures { let fields = fields_of_values (event_values self.now) in
-            Visits V.takes (set_callsite fields) (field_names fields) (plain_event self.now).entries visitor.old result visitor.new }
+        ensures { let values = (plain_event self.now).values in
+            Visits V.takes values.callsite values.names values.entries visitor.old result visitor.new }
     {
         self.values.record(visitor)
     }

@@ -1,9 +1,8 @@
 //! Values that are given to a span after it was made.
 ghost use Rattle.std.specs.Prelude.{◌≡◌, ◌↔◌, IsTrue, []};
-ghost use Rattle.tracing_core_fields.specs.FieldSet.{field_names, set_callsite};
-ghost use Rattle.tracing_core_fields.specs.ValueSet.{entries_of, entry_count, fields_of_values, has_value};
+ghost use Rattle.tracing_core_fields.specs.ValueSet.{entry_count, has_value};
 ghost use Rattle.tracing_core_fields.specs.Visits.{Visits};
-ghost use Rattle.tracing_core_hub.specs.PlainRequests.{plain_record};
+ghost use Rattle.tracing_core_hub.specs.PlainRequests.{plain_record, plain_values};
 ghost use Rattle.tracing_core_hub.specs.Records.{record_values};
 
 use tracing_core_fields::{Field, ValueSet, Visit};
@@ -17,7 +16,7 @@ pub struct Record<'v> {
 impl<'v> Record<'v> {
     /// The record of these values.
     pub fn new(values: ValueSet<'v>) -> Record<'v>
-        ensures plain { plain_record result ≡ entries_of values.entry }
+        ensures plain { plain_record result ≡ plain_values values.entry }
         ensures values { record_values result ≡ values.entry }
     {
         Record { values }
@@ -25,8 +24,8 @@ impl<'v> Record<'v> {
 
     /// Hands the values to the visitor, in order, up to its first refusal, which is the answer.
     pub fn record<V: Visit>(&self, visitor: &mut V) -> Result<(), V::Error>
-        ensures { let fields = fields_of_values (record_values self.now) in
-            Visits V.takes (set_callsite fields) (field_names fields) (plain_record self.now) visitor.old result visitor.new }
+        ensures { let values = plain_record self.now in
+            Visits V.takes values.callsite values.names values.entries visitor.old result visitor.new }
     {
         self.values.record(visitor)
     }
@@ -47,7 +46,7 @@ impl<'v> Record<'v> {
 
     /// Whether no field has a value.
     pub fn is_empty(&self) -> bool
-        ensures { IsTrue result ↔ (plain_record self.now ≡ []) }
+        ensures { IsTrue result ↔ ((plain_record self.now).entries ≡ []) }
     {
         self.values.is_empty()
     }
