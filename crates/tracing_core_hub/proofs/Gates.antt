@@ -8,7 +8,7 @@ use Rattle.tracing_core_hub.specs.Calls.{Asked}
 use Rattle.tracing_core_hub.specs.Commands.{AskGives, AskGivesAt, AnswerGives, GateGives, GateGivesAt, becomes, known, known_by, reached, row_of}
 use Rattle.tracing_core_hub.specs.Handles.{entry_of, changed, is_of}
 use Rattle.tracing_core_hub.specs.Interests.{PlainInterest}
-use Rattle.tracing_core_hub.specs.Kept.{Covers, Every, IsTrueRow, RowRight, Kept, Oracle}
+use Rattle.tracing_core_hub.specs.Kept.{Covers, Every, IsTrueRow, RowRight, Kept}
 use Rattle.tracing_core_hub.specs.Steady.{IsReal, SameWord, InterestFits, HintFits}
 use Rattle.tracing_core_hub.specs.Table.{Table}
 use Rattle.tracing_core_hub.specs.declared.at.At.{At}
@@ -111,31 +111,33 @@ module _ {S C : Type 0} (g : Ghosts S) (h : SiteGhosts C) where
   pub gate_keeps : (t u : Table S C) (e : Entry S) (identifier : ℕ) (place : At) (result : Option Bool) → GateGives g h t identifier place result u → Kept g h t e → (z : S) × Kept g h u (becomes z e)
   gate_keeps t u e identifier place result given kept = gate_keeps_at t u e identifier place (row_of identifier t.rows) result refl given kept
 
-  module _ (oracle : Oracle g) where
-    known_right : (t : Table S C) (e : Entry S) (row : Row C) (place : At) (b : Bool) → Kept g h t e → IsTrueRow h row → RowRight g h e.subscriber row → known t.greatest row.level row.interest ≡ Some b → oracle.passes e.subscriber (h.metadata_of row.callsite) place ≡ b
-    known_right t e row place b kept true_row right e_known =
-        let m = h.metadata_of row.callsite in
-        let p = oracle.passes e.subscriber m place in
-        let fair = g.fair e.subscriber kept.steady in
-        let given = oracle.answered e.subscriber m place true_row.1 in
-        answered (nat_le row.level t.greatest) row.interest right.0 p b
-        (λ above. refused (g.hint e.subscriber) t.greatest m.level p (fair.below m place p true_row.1 given) kept.below true_row.1.1 (subst (λ l. nat_le l t.greatest ≡ false) true_row.0 above))
-        right.2 (fair.interest m place p right.0 true_row.1 given right.1) e_known
+  -- asking the subscriber of the callsite may answer this
+  abbrev May : Entry S → Row C → At → Bool → Type 0
+  May e row place b = g.answers e.subscriber (h.metadata_of row.callsite) place b
 
-    asked_right : (t : Table S C) (e : Entry S) (m : PlainMetadata) (place : At) (answer : Bool) (fs : List (Entry S)) → entry_of e.serial t.entries ≡ Some e → AskGives g m place (Some e.serial) t.entries answer fs → answer ≡ oracle.passes e.subscriber m place
-    asked_right t e m place answer fs there given =
-        let asked : AskGivesAt g m place e.serial t.entries (Some e) answer fs = subst (λ o. AskGivesAt g m place e.serial t.entries o answer fs) there given in
-        oracle.right e.subscriber m place answer asked.1
+  known_right : (t : Table S C) (e : Entry S) (row : Row C) (place : At) (b p : Bool) → Kept g h t e → IsTrueRow h row → RowRight g h e.subscriber row → May e row place p → known t.greatest row.level row.interest ≡ Some b → p ≡ b
+  known_right t e row place b p kept true_row right given e_known =
+      let m = h.metadata_of row.callsite in
+      let fair = g.fair e.subscriber kept.steady in
+      answered (nat_le row.level t.greatest) row.interest right.0 p b
+      (λ above. refused (g.hint e.subscriber) t.greatest m.level p (fair.below m place p true_row.1 given) kept.below true_row.1.1 (subst (λ l. nat_le l t.greatest ≡ false) true_row.0 above))
+      right.2 (fair.interest m place p right.0 true_row.1 given right.1) e_known
 
-    answer_right : (t : Table S C) (e : Entry S) (row : Row C) (place : At) (k : Option Bool) (answer : Bool) (fs : List (Entry S)) → known t.greatest row.level row.interest ≡ k → Kept g h t e → IsTrueRow h row → RowRight g h e.subscriber row → AnswerGives g h row place k (Some e.serial) t.entries answer fs → answer ≡ oracle.passes e.subscriber (h.metadata_of row.callsite) place
-    answer_right t e row place (Some b) answer fs found kept true_row right given = given.0 ∙ sym (known_right t e row place b kept true_row right found)
-    answer_right t e row place None answer fs found kept true_row right given = asked_right t e (h.metadata_of row.callsite) place answer fs kept.stands given
+  asked_right : (t : Table S C) (e : Entry S) (m : PlainMetadata) (place : At) (answer : Bool) (fs : List (Entry S)) → entry_of e.serial t.entries ≡ Some e → AskGives g m place (Some e.serial) t.entries answer fs → g.answers e.subscriber m place answer
+  asked_right t e m place answer fs there given =
+      let asked : AskGivesAt g m place e.serial t.entries (Some e) answer fs = subst (λ o. AskGivesAt g m place e.serial t.entries o answer fs) there given in
+      asked.1
 
-    -- a gate answers what asking the reached subscriber would
-    pub gate_right : (t u : Table S C) (e : Entry S) (row : Row C) (identifier : ℕ) (place : At) (result : Option Bool) → GateGives g h t identifier place result u → row_of identifier t.rows ≡ Some row → reached t place.lane ≡ Some e.serial → Kept g h t e → result ≡ Some (oracle.passes e.subscriber (h.metadata_of row.callsite) place)
-    gate_right t u e row identifier place result given found reaches kept =
-        let at_row : GateGivesAt g h t (Some row) place result u = subst (λ o. GateGivesAt g h t o place result u) found given in
-        let k = known t.greatest row.level row.interest in
-        let answer = at_row.0.0 in
-        let one : AnswerGives g h row place k (Some e.serial) t.entries answer u.entries = subst (λ o. AnswerGives g h row place k o t.entries answer u.entries) reaches at_row.0.2 in
-        at_row.0.1 ∙ ap (λ (b : Bool). Some b) (answer_right t e row place k answer u.entries refl kept (row_every (IsTrueRow h) identifier t.rows row found kept.rows) (row_every (RowRight g h e.subscriber) identifier t.rows row found kept.right) one)
+  answer_right : (t : Table S C) (e : Entry S) (row : Row C) (place : At) (k : Option Bool) (answer p : Bool) (fs : List (Entry S)) → known t.greatest row.level row.interest ≡ k → Kept g h t e → IsTrueRow h row → RowRight g h e.subscriber row → May e row place p → AnswerGives g h row place k (Some e.serial) t.entries answer fs → May e row place answer
+  answer_right t e row place (Some b) answer p fs found kept true_row right may given = subst (May e row place) (known_right t e row place b p kept true_row right may found ∙ sym given.0) may
+  answer_right t e row place None answer p fs found kept true_row right may given = asked_right t e (h.metadata_of row.callsite) place answer fs kept.stands given
+
+  -- a gate answers what asking the reached subscriber may, where it may answer anything
+  pub gate_right : (t u : Table S C) (e : Entry S) (row : Row C) (identifier : ℕ) (place : At) (result : Option Bool) (p : Bool) → GateGives g h t identifier place result u → row_of identifier t.rows ≡ Some row → reached t place.lane ≡ Some e.serial → Kept g h t e → g.answers e.subscriber (h.metadata_of row.callsite) place p →
+      (answer : Bool) × (result ≡ Some answer) × g.answers e.subscriber (h.metadata_of row.callsite) place answer
+  gate_right t u e row identifier place result p given found reaches kept may =
+      let at_row : GateGivesAt g h t (Some row) place result u = subst (λ o. GateGivesAt g h t o place result u) found given in
+      let k = known t.greatest row.level row.interest in
+      let answer = at_row.0.0 in
+      let one : AnswerGives g h row place k (Some e.serial) t.entries answer u.entries = subst (λ o. AnswerGives g h row place k o t.entries answer u.entries) reaches at_row.0.2 in
+      (answer, at_row.0.1, answer_right t e row place k answer p u.entries refl kept (row_every (IsTrueRow h) identifier t.rows row found kept.rows) (row_every (RowRight g h e.subscriber) identifier t.rows row found kept.right) may one)

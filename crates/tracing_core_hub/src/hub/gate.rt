@@ -1,8 +1,8 @@
 //! Whether spans and events are wanted.
-ghost use Rattle.std.specs.Prelude.{◌≡◌, Some, slice_get};
+ghost use Rattle.std.specs.Prelude.{◌≡◌, Bool, Some, slice_get};
 ghost use Rattle.std.specs.Option.{option_map, is_some};
 ghost use Rattle.tracing_core_hub.specs.Commands.{GateGives, becomes, reached, row_of};
-ghost use Rattle.tracing_core_hub.specs.Kept.{Kept, Oracle};
+ghost use Rattle.tracing_core_hub.specs.Kept.{Kept};
 ghost use Rattle.tracing_core_hub.specs.Table.{own_setting, effective, chosen};
 
 use crate::at::At;
@@ -83,9 +83,9 @@ impl<S: Subscriber, C: Callsite> Hub<S, C> {
     /// `None` where no callsite has it. The reached subscriber is asked where what is kept doesn't tell.
     pub fn gate(&mut self, identifier: Identifier, at: At) -> Option<bool>
         ensures answer { GateGives ⟦<S as Subscriber>⟧ ⟦<C as Callsite>⟧ self.old identifier.0 at result self.new }
-        // Where what is kept is right of the reached subscriber, this is what asking it would answer.
-        ensures asking { (o : Oracle ⟦<S as Subscriber>⟧) (row : Row C) (e : Entry S) → row_of identifier.0 self.old.rows ≡ Some row → reached self.old at.lane ≡ Some e.serial → Kept ⟦<S as Subscriber>⟧ ⟦<C as Callsite>⟧ self.old e →
-            result ≡ Some (o.passes e.subscriber (C.metadata_of row.callsite) at) }
+        // Where what is kept is right of the reached subscriber, this is what asking it may answer.
+        ensures asking { (row : Row C) (e : Entry S) (b : Bool) → row_of identifier.0 self.old.rows ≡ Some row → reached self.old at.lane ≡ Some e.serial → Kept ⟦<S as Subscriber>⟧ ⟦<C as Callsite>⟧ self.old e → S.answers e.subscriber (C.metadata_of row.callsite) at b →
+            ((answer : Bool) × (result ≡ Some answer) × S.answers e.subscriber (C.metadata_of row.callsite) at answer) }
         // What is kept stays right of whomever it was right of.
         ensures kept { (e : Entry S) → Kept ⟦<S as Subscriber>⟧ ⟦<C as Callsite>⟧ self.old e → ((z : S) × Kept ⟦<S as Subscriber>⟧ ⟦<C as Callsite>⟧ self.new (becomes z e)) }
     {

@@ -46,7 +46,7 @@ impl Subscriber for Everything {
 
     ghost stays = { λ x c r y real moved k. (tt, same_word x.interest y.interest moved) };
 
-    ghost quiet = { λ x m n at place r y b moved k e. e ∙ ap says_always (sym moved) };
+    ghost quiet = { λ x m n at place r y b moved k. (λ e. e ∙ ap says_always (sym moved), λ e. e ∙ ap says_always moved) };
 
     fn on_register_dispatch(&mut self, _dispatch: &WeakDispatch) {}
 
