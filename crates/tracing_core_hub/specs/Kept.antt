@@ -21,9 +21,11 @@ abbrev pub Every : {A : Type 0} → (A → Type 0) → List A → Type 0
 Every P [] = Unit {0}
 Every P (x ∷ xs) = P x × Every P xs
 
--- the level that is kept is the callsite's, and one of the five
+-- the level and the identifier that are kept are the callsite's, and the level is one of the five
 abbrev pub IsTrueRow : {C : Type 0} → SiteGhosts C → Row C → Type 0
-IsTrueRow h row = (row.level ≡ (h.metadata_of row.callsite).level) × IsReal (h.metadata_of row.callsite)
+IsTrueRow h row =
+    (row.level ≡ (h.metadata_of row.callsite).level) × IsReal (h.metadata_of row.callsite)
+    × (row.identifier ≡ (h.metadata_of row.callsite).callsite)
 
 -- not lent any more, with another value of the subscriber
 abbrev pub asked_anew : {S : Type 0} → S → Entry S → Entry S

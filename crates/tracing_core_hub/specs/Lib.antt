@@ -16,5 +16,7 @@ pub mod DefaultCallsites
 pub mod Lent
 pub mod Everything
 pub mod Kept
+pub mod Sound
+pub mod Keeping
 pub mod Lending
 pub mod Handing

@@ -1,7 +1,8 @@
 //! Whether spans and events are wanted.
 ghost use Rattle.std.specs.Prelude.{◌≡◌, Bool, Some, slice_get};
 ghost use Rattle.std.specs.Option.{option_map, is_some};
-ghost use Rattle.tracing_core_hub.specs.Commands.{GateGives, becomes, reached, row_of};
+ghost use Rattle.tracing_core_hub.specs.Commands.{GateGives, reached, row_of};
+ghost use Rattle.tracing_core_hub.specs.Keeping.{Keeps};
 ghost use Rattle.tracing_core_hub.specs.Kept.{Kept};
 ghost use Rattle.tracing_core_hub.specs.Table.{own_setting, effective, chosen};
 
@@ -86,8 +87,7 @@ impl<S: Subscriber, C: Callsite> Hub<S, C> {
         // Where what is kept is right of the reached subscriber, this is what asking it may answer.
         ensures asking { (row : Row C) (e : Entry S) (b : Bool) → row_of identifier.0 self.old.rows ≡ Some row → reached self.old at.lane ≡ Some e.serial → Kept ⟦<S as Subscriber>⟧ ⟦<C as Callsite>⟧ self.old e → S.answers e.subscriber (C.metadata_of row.callsite) at b →
             ((answer : Bool) × (result ≡ Some answer) × S.answers e.subscriber (C.metadata_of row.callsite) at answer) }
-        // What is kept stays right of whomever it was right of.
-        ensures kept { (e : Entry S) → Kept ⟦<S as Subscriber>⟧ ⟦<C as Callsite>⟧ self.old e → ((z : S) × Kept ⟦<S as Subscriber>⟧ ⟦<C as Callsite>⟧ self.new (becomes z e)) }
+        ensures keeps { Keeps ⟦<S as Subscriber>⟧ ⟦<C as Callsite>⟧ self.old self.new }
     {
         self.look(identifier, at)
     }

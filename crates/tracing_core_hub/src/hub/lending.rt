@@ -3,13 +3,16 @@ ghost use Rattle.std.specs.Borrow.{sem};
 ghost use Rattle.std.specs.Option.{option_map};
 ghost use Rattle.std.specs.Prelude.{◌≡◌};
 ghost use Rattle.tracing_core_hub.specs.Handles.{entry_of};
-ghost use Rattle.tracing_core_hub.specs.Lent.{living_of, IsPlaceOrEnd, IsPlaceToLend};
+ghost use Rattle.tracing_core_hub.specs.Keeping.{KeepsOthers};
+ghost use Rattle.tracing_core_hub.specs.Lent.{living_of, lent_to, IsPlaceOrEnd, IsPlaceToLend};
 ghost use Rattle.tracing_core_hub.specs.Lending.{LendsSubscriber};
 
+use crate::callsite::Callsite;
 use crate::dispatch::Dispatch;
 use crate::hub::Hub;
 use crate::hub::entries::place_of;
 use crate::hub::parts::Entry;
+use crate::subscriber::Subscriber;
 
 // The subscriber of the number.
 fn find_entry<S>(entries: &[Entry<S>], serial: u64) -> Option<&Entry<S>>
@@ -37,9 +40,7 @@ impl<S, C> Hub<S, C> {
         }
     }
 
-    /// Lends the subscriber that the handle leads to for writing, and marks it as lent: what is kept of it
-    /// counts for nothing until the next rebuild.
-    pub fn subscriber_mut(&mut self, dispatch: &Dispatch) -> Option<&mut S>
+    fn lend(&mut self, dispatch: &Dispatch) -> Option<&mut S>
         ensures lent { option_map (λ subscriber. subscriber.now) result ≡ option_map (λ entry. entry.subscriber) (living_of dispatch.now self.old.entries) }
         ensures* ends { sem 𝓛 (LendsSubscriber S.row C.row self.entry dispatch.now result) }
     {
@@ -51,6 +52,19 @@ impl<S, C> Hub<S, C> {
                 Some(&mut entry.subscriber)
             }
         }
+    }
+}
+
+impl<S: Subscriber, C: Callsite> Hub<S, C> {
+    /// Lends the subscriber that the handle leads to for writing, and marks it as lent: what is kept of it
+    /// counts for nothing until the next rebuild.
+    pub fn subscriber_mut(&mut self, dispatch: &Dispatch) -> Option<&mut S>
+        ensures lent { option_map (λ subscriber. subscriber.now) result ≡ option_map (λ entry. entry.subscriber) (living_of dispatch.now self.old.entries) }
+        // What is kept stays right of the others, whatever the lent one becomes.
+        ensures others { (w : S) → KeepsOthers ⟦<S as Subscriber>⟧ ⟦<C as Callsite>⟧ self.old (record self.old { entries = lent_to dispatch.now w self.old.entries }) }
+        ensures* ends { sem 𝓛 (LendsSubscriber S.row C.row self.entry dispatch.now result) }
+    {
+        self.lend(dispatch)
     }
 }
 
