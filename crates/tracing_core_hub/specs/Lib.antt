@@ -14,7 +14,6 @@ pub mod Events
 pub mod Currents
 pub mod DefaultCallsites
 pub mod Lent
-pub mod Everything
 pub mod Kept
 pub mod Sound
 pub mod Keeping

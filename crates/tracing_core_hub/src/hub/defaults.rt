@@ -1,5 +1,5 @@
 //! The defaults: the global one, and those of lanes.
-ghost use Rattle.std.specs.Prelude.{◌≡◌, ◌<◌, slice_get, length, IfSome};
+ghost use Rattle.std.specs.Prelude.{◌≡◌, ◌<◌, length};
 ghost use Rattle.tracing_core_hub.specs.Defaults.{was_set, setting_to, global_refusal, globally, default_refusal, guard_of, locally, end_gives, reset_gives, given_up};
 ghost use Rattle.tracing_core_hub.specs.Handles.{or_refused, or_same};
 ghost use Rattle.tracing_core_hub.specs.Keeping.{Keeps, KeepsOthers};
@@ -10,7 +10,7 @@ use crate::dispatch::Dispatch;
 use crate::guard::{DefaultGuard, WrongLane};
 use crate::hub::Hub;
 use crate::hub::entries::{give_back, take_handle};
-use crate::hub::parts::{Lane, Setting};
+use crate::hub::parts::{Lane, Setting, lane_at};
 use crate::refusal::{SetDefaultError, SetGlobalDefaultError, UnknownLane};
 use crate::subscriber::Subscriber;
 
@@ -156,15 +156,5 @@ impl<S: Subscriber, C: Callsite> Hub<S, C> {
         ensures keeps { KeepsOthers ⟦<S as Subscriber>⟧ ⟦<C as Callsite>⟧ self.old self.new }
     {
         self.end_lane(lane)
-    }
-}
-
-fn lane_at(lanes: &[Lane], lane: u64) -> Option<Lane>
-    ensures value { result ≡ slice_get lanes.now lane }
-    ensures bound { IfSome result (λ _. lane < length lanes.now) }
-{
-    match lanes.get(lane as usize) {
-        None => None,
-        Some(value) => Some(*value),
     }
 }

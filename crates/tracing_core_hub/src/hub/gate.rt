@@ -10,7 +10,7 @@ use crate::at::At;
 use crate::callsite::Callsite;
 use crate::dispatch::WeakDispatch;
 use crate::hub::Hub;
-use crate::hub::parts::{Entry, Lane, Row, Setting};
+use crate::hub::parts::{Entry, Lane, Row, Setting, lane_at};
 use crate::hub::rows::find_row;
 use crate::interest::Interest;
 use crate::subscriber::Subscriber;
@@ -20,10 +20,10 @@ use tracing_core_fields::Identifier;
 pub(crate) fn setting_of(lanes: &[Lane], lane: u64) -> Setting
     ensures { result ≡ own_setting (slice_get lanes.now lane) }
 {
-    match lanes.get(lane as usize) {
+    match lane_at(lanes, lane) {
         None => Setting::Unset,
         Some(Lane::Ended) => Setting::Unset,
-        Some(Lane::Running(setting)) => *setting,
+        Some(Lane::Running(setting)) => setting,
     }
 }
 

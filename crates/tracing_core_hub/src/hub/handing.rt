@@ -122,11 +122,10 @@ fn exit_at<S: Subscriber>(entries: &mut [Entry<S>], serial: Option<u64>, span: &
     ensures { CallGives ⟦<S as Subscriber>⟧ (Exited span.now at) serial entries.old tt entries.new }
 {
     let place = place_or_end(entries, serial);
-    if place < entries.len() {
-        entries[place].subscriber.exit(span, at)
-    } else {
-        ()
+    if place >= entries.len() {
+        return;
     }
+    entries[place].subscriber.exit(span, at)
 }
 
 fn clone_span_at<S: Subscriber>(
@@ -149,11 +148,10 @@ fn drop_span_at<S: Subscriber>(entries: &mut [Entry<S>], serial: Option<u64>, sp
     ensures { CallGives ⟦<S as Subscriber>⟧ (Dropped span at) serial entries.old tt entries.new }
 {
     let place = place_or_end(entries, serial);
-    if place < entries.len() {
-        entries[place].subscriber.drop_span(span, at)
-    } else {
-        ()
+    if place >= entries.len() {
+        return;
     }
+    entries[place].subscriber.drop_span(span, at)
 }
 
 fn try_close_at<S: Subscriber>(

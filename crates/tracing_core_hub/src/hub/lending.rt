@@ -2,7 +2,6 @@
 ghost use Rattle.std.specs.Borrow.{sem};
 ghost use Rattle.std.specs.Option.{option_map};
 ghost use Rattle.std.specs.Prelude.{◌≡◌};
-ghost use Rattle.tracing_core_hub.specs.Handles.{entry_of};
 ghost use Rattle.tracing_core_hub.specs.Keeping.{KeepsOthers};
 ghost use Rattle.tracing_core_hub.specs.Lent.{living_of, lent_to, IsPlaceOrEnd, IsPlaceToLend};
 ghost use Rattle.tracing_core_hub.specs.Lending.{LendsSubscriber};
@@ -14,27 +13,13 @@ use crate::hub::entries::place_of;
 use crate::hub::parts::Entry;
 use crate::subscriber::Subscriber;
 
-// The subscriber of the number.
-fn find_entry<S>(entries: &[Entry<S>], serial: u64) -> Option<&Entry<S>>
-    ensures { option_map (λ entry. entry.now) result ≡ entry_of serial entries.now }
-{
-    for entry in entries {
-        if entry.serial == serial {
-            return Some(entry);
-        }
-    }
-    None
-}
-
 impl<S, C> Hub<S, C> {
     /// The subscriber that the handle leads to.
     pub fn subscriber(&self, dispatch: &Dispatch) -> Option<&S>
         ensures { option_map (λ subscriber. subscriber.now) result ≡ option_map (λ entry. entry.subscriber) (living_of dispatch.now self.now.entries) }
     {
-        let Some(serial) = dispatch.serial() else {
-            return None;
-        };
-        match find_entry(&self.entries, serial) {
+        let place = place_or_end(&self.entries, dispatch.serial());
+        match self.entries.get(place) {
             None => None,
             Some(entry) => Some(&entry.subscriber),
         }
@@ -81,10 +66,9 @@ pub(crate) fn place_or_end<S>(entries: &[Entry<S>], serial: Option<u64>) -> usiz
     }
 }
 
-// The same place, by what lending does there.
+// The same place, by what lending makes of it: a loan is proved where its clause names the change.
 fn place_to_lend<S>(entries: &[Entry<S>], serial: Option<u64>) -> usize
     ensures { IsPlaceToLend serial entries.now result }
 {
-    let place = place_or_end(entries, serial);
-    place
+    place_or_end(entries, serial)
 }
