@@ -76,6 +76,7 @@ impl<S: Subscriber, C: Callsite> Hub<S, C> {
 }
 
 impl<S, C> Hub<S, C> {
+    // A lane more.
     fn add_lane(&mut self) -> Result<u64, AllocError>
         ensures number { IfOk result (λ lane. lane ≡ length self.old.lanes) }
         ensures added { OnOk result (self.new ≡ record self.old { lanes = self.old.lanes ++ Running Unset ∷ [] }) }

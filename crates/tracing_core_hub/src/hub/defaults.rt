@@ -49,6 +49,7 @@ impl<S, C> Hub<S, C> {
         self.global.is_set()
     }
 
+    // Sets the global default, where none was set.
     fn set_global(&mut self, dispatch: &Dispatch) -> Result<(), SetGlobalDefaultError>
         ensures answer { result ≡ or_refused (global_refusal self.old dispatch.now) tt }
         ensures left { self.new ≡ or_same (global_refusal self.old dispatch.now) self.old (globally self.old dispatch.now) }
@@ -65,6 +66,7 @@ impl<S, C> Hub<S, C> {
         }
     }
 
+    // Sets the default of a lane that runs.
     fn set_own(&mut self, lane: u64, dispatch: &Dispatch) -> Result<DefaultGuard, SetDefaultError>
         ensures answer { result ≡ or_refused (default_refusal self.old lane dispatch.now) (guard_of self.old lane) }
         ensures left { self.new ≡ or_same (default_refusal self.old lane dispatch.now) self.old (locally self.old lane dispatch.now) }
@@ -81,6 +83,7 @@ impl<S, C> Hub<S, C> {
         }
     }
 
+    // Gives the lane what its guard remembers.
     fn restore(&mut self, lane: u64, guard: DefaultGuard) -> Result<Option<S>, WrongLane>
         ensures { (result, self.new) ≡ reset_gives self.old lane guard }
     {
@@ -96,6 +99,7 @@ impl<S, C> Hub<S, C> {
         }
     }
 
+    // Ends a lane that runs.
     fn end_lane(&mut self, lane: u64) -> Result<Option<S>, UnknownLane>
         ensures { (result, self.new) ≡ end_gives self.old lane }
     {

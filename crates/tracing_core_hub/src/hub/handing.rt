@@ -185,6 +185,7 @@ fn current_span_at<S: Subscriber>(
     }
 }
 
+// Each hands one call over, whatever the callsites are.
 impl<S: Subscriber, C> Hub<S, C> {
     pub(crate) fn hand_enabled(
         &mut self,

@@ -12,6 +12,7 @@ use crate::refusal::{HandleError, TooManyHandles};
 use crate::subscriber::Subscriber;
 
 impl<S, C> Hub<S, C> {
+    // One handle more.
     fn take_another(&mut self, dispatch: &Dispatch) -> Result<Dispatch, HandleError>
         ensures answer { result ≡ or_refused (hold_refusal dispatch.now self.old.entries) dispatch.now }
         ensures left { self.new ≡ or_same (hold_refusal dispatch.now self.old.entries) self.old (holding self.old dispatch.now) }
@@ -27,6 +28,7 @@ impl<S, C> Hub<S, C> {
         WeakDispatch::new(dispatch.serial())
     }
 
+    // One handle more, where the subscriber lives.
     fn revive(&mut self, dispatch: &WeakDispatch) -> Result<Option<Dispatch>, TooManyHandles>
         ensures answer { result ≡ upgrade_answer dispatch.now (hold_refusal dispatch.now self.old.entries) }
         ensures left { self.new ≡ or_same (hold_refusal dispatch.now self.old.entries) self.old (holding self.old dispatch.now) }
@@ -38,6 +40,7 @@ impl<S, C> Hub<S, C> {
         }
     }
 
+    // One handle less.
     fn let_go(&mut self, dispatch: Dispatch) -> Option<S>
         ensures answer { result ≡ (given_back dispatch self.old.entries).0 }
         ensures left { self.new ≡ record self.old { entries = (given_back dispatch self.old.entries).1 } }

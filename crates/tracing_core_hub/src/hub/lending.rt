@@ -25,6 +25,7 @@ impl<S, C> Hub<S, C> {
         }
     }
 
+    // Lends the subscriber, and marks it.
     fn lend(&mut self, dispatch: &Dispatch) -> Option<&mut S>
         ensures lent { option_map (λ subscriber. subscriber.now) result ≡ option_map (λ entry. entry.subscriber) (living_of dispatch.now self.old.entries) }
         ensures* ends { sem 𝓛 (LendsSubscriber S.row C.row self.entry dispatch.now result) }

@@ -30,6 +30,7 @@ impl<S: Subscriber, C: Callsite> Hub<S, C> {
         self.ask_all_again()
     }
 
+    // Asks all of everything.
     fn ask_all_again(&mut self)
         ensures { Rebuilt ⟦<S as Subscriber>⟧ ⟦<C as Callsite>⟧ self.old self.new }
     {
@@ -48,6 +49,7 @@ impl<S: Subscriber, C: Callsite> Hub<S, C> {
         self.rebuild_interest_cache()
     }
 
+    // Takes a subscriber, and asks all.
     fn take_in(&mut self, subscriber: S) -> Result<Dispatch, AddError<S>>
         ensures { AddGives ⟦<S as Subscriber>⟧ ⟦<C as Callsite>⟧ self.old subscriber result self.new }
     {
@@ -71,6 +73,7 @@ impl<S: Subscriber, C: Callsite> Hub<S, C> {
         Ok(Dispatch::new(Some(serial)))
     }
 
+    // Takes a callsite, and asks all of it.
     fn take_callsite(&mut self, callsite: C) -> Result<Interest, RegisterError<C>>
         ensures { RegisterGives ⟦<S as Subscriber>⟧ ⟦<C as Callsite>⟧ self.old callsite result self.new }
     {
@@ -100,6 +103,7 @@ impl<S: Subscriber, C: Callsite> Hub<S, C> {
         }
     }
 
+    // Takes a callsite, where none like it is known.
     fn take_callsite_once(&mut self, callsite: C) -> Result<Interest, RegisterError<C>>
         ensures { RegisterOnceGives ⟦<S as Subscriber>⟧ ⟦<C as Callsite>⟧ self.old callsite result self.new }
     {
