@@ -37,7 +37,8 @@ pub use Rattle.tracing_core_hub.specs.Events
 pub use Rattle.tracing_core_hub.specs.Currents
 pub use Rattle.tracing_core_hub.specs.DefaultCallsites
 pub use Rattle.tracing_core_hub.specs.Lent
-pub use Rattle.tracing_core_hub.specs.Everything
 pub use Rattle.tracing_core_hub.specs.Kept
+pub use Rattle.tracing_core_hub.specs.Sound
+pub use Rattle.tracing_core_hub.specs.Keeping
 pub use Rattle.tracing_core_hub.specs.Lending
 pub use Rattle.tracing_core_hub.specs.Handing

@@ -171,13 +171,14 @@ module _ {S : Type 0} (g : Ghosts S) where
         let kept = g.stays e.subscriber (CallsiteRegistered m) a.1 a.0 known.0.1 a.4 steady in
         let rest = rows_all n each.0 fs rows laters (becomes a.0 e) each.2 known.1 a.2 kept.0 in
         let word = both_words e.subscriber a.0 rest.0 kept.1 rest.3 in
-        let level : later.level ≡ row.level = ap (λ (r : Row C). r.level) turn.3 in (
+        let level : later.level ≡ row.level = ap (λ (r : Row C). r.level) turn.3 in
+        let number : later.identifier ≡ row.identifier = ap (λ (r : Row C). r.identifier) turn.3 in (
           rest.0,
           rest.1,
           rest.2,
           word,
           ((a.1, subst (λ x. g.says rest.0 x a.1) (sym turn.1) (word.onward m a.1 a.3), subst (λ k. Covers k a.1) (sym turn.0.2) a.5), rest.4),
-          ((level ∙ known.0.0 ∙ ap (λ (x : PlainMetadata). x.level) (sym turn.1), subst IsReal (sym turn.1) known.0.1), rest.5),
+          ((level ∙ known.0.0 ∙ ap (λ (x : PlainMetadata). x.level) (sym turn.1), subst IsReal (sym turn.1) known.0.1, number ∙ known.0.2 ∙ ap (λ (x : PlainMetadata). x.callsite) (sym turn.1)), rest.5),
         )
 
     -- a rebuild makes what is kept right of whoever lives and keeps its word

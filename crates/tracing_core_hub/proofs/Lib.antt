@@ -4,5 +4,8 @@ pub mod Loops
 pub mod Asks
 pub mod Tables
 pub mod Keeping
+pub mod Living
+pub mod Sounding
+pub mod Words
 pub mod Gates
 pub mod Handed

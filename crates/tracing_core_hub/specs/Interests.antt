@@ -34,7 +34,7 @@ common Always Sometimes = Sometimes
 common Always Always = Always
 
 -- order and repetition don't matter
-pub record CommonIsALattice : Type 0 where
+pub record CommonInterestLaw : Type 0 where
   pub associative : (a b c : PlainInterest) → common (common a b) c ≡ common a (common b c)
   pub commutative : (a b : PlainInterest) → common a b ≡ common b a
   pub idempotent : (a : PlainInterest) → common a a ≡ a

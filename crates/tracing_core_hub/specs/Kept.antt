@@ -1,12 +1,10 @@
 -- What a hub still knows of a subscriber that keeps its word.
-use Rattle.std.specs.Prelude.{◌≡◌, ◌≤◌, Bool, false, List, [], ◌∷◌, Some}
-use Rattle.tracing_core_fields.specs.PlainMetadata.{PlainMetadata}
+use Rattle.std.specs.Prelude.{◌≡◌, ◌≤◌, false, List, [], ◌∷◌, Some}
 use Rattle.tracing_core_hub.specs.Asking.{level_of}
 use Rattle.tracing_core_hub.specs.Handles.{entry_of}
 use Rattle.tracing_core_hub.specs.Interests.{PlainInterest}
 use Rattle.tracing_core_hub.specs.Steady.{IsReal}
 use Rattle.tracing_core_hub.specs.Table.{Table}
-use Rattle.tracing_core_hub.specs.declared.at.At.{At}
 use Rattle.tracing_core_hub.specs.declared.callsite.Callsite.{Ghosts as SiteGhosts}
 use Rattle.tracing_core_hub.specs.declared.hub.parts.Entry.{Entry}
 use Rattle.tracing_core_hub.specs.declared.hub.parts.Row.{Row}
@@ -23,21 +21,17 @@ abbrev pub Every : {A : Type 0} → (A → Type 0) → List A → Type 0
 Every P [] = Unit {0}
 Every P (x ∷ xs) = P x × Every P xs
 
--- the level that is kept is the callsite's, and one of the five
+-- the level and the identifier that are kept are the callsite's, and the level is one of the five
 abbrev pub IsTrueRow : {C : Type 0} → SiteGhosts C → Row C → Type 0
-IsTrueRow h row = (row.level ≡ (h.metadata_of row.callsite).level) × IsReal (h.metadata_of row.callsite)
+IsTrueRow h row =
+    (row.level ≡ (h.metadata_of row.callsite).level) × IsReal (h.metadata_of row.callsite)
+    × (row.identifier ≡ (h.metadata_of row.callsite).callsite)
 
 -- not lent any more, with another value of the subscriber
 abbrev pub asked_anew : {S : Type 0} → S → Entry S → Entry S
 asked_anew subscriber e = record e { lent = false; subscriber = subscriber }
 
 module _ {S : Type 0} (g : Ghosts S) where
-  -- the answers as a function, where they are one
-  pub record Oracle : Type 0 where
-    pub passes : S → PlainMetadata → At → Bool
-    pub right : (s : S) (m : PlainMetadata) (place : At) (b : Bool) → g.answers s m place b → b ≡ passes s m place
-    pub answered : (s : S) (m : PlainMetadata) (place : At) → IsReal m → g.answers s m place (passes s m place)
-
   module _ {C : Type 0} (h : SiteGhosts C) where
     -- what is kept of the callsite is right of the subscriber
     abbrev pub RowRight : S → Row C → Type 0

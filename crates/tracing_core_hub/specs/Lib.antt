@@ -14,7 +14,8 @@ pub mod Events
 pub mod Currents
 pub mod DefaultCallsites
 pub mod Lent
-pub mod Everything
 pub mod Kept
+pub mod Sound
+pub mod Keeping
 pub mod Lending
 pub mod Handing

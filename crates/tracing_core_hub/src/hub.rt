@@ -1,6 +1,8 @@
 //! Subscribers, callsites with what is kept of them, lanes and defaults.
-ghost use Rattle.std.specs.Prelude.{◌≡◌, ◌++◌, ◌∷◌, [], OnOk, OnErr, IfOk, length, slice_get};
-ghost use Rattle.tracing_core_hub.specs.Table.{Table, fresh, chosen, own_setting, effective};
+ghost use Rattle.std.specs.Prelude.{◌≡◌, ◌++◌, ◌∷◌, [], OnOk, OnErr, IfOk, length};
+ghost use Rattle.tracing_core_hub.specs.Keeping.{Keeps};
+ghost use Rattle.tracing_core_hub.specs.Sound.{IsSound};
+ghost use Rattle.tracing_core_hub.specs.Table.{fresh};
 ghost use Rattle.tracing_core_hub.specs.declared.hub.parts.Lane.TheVariants.{Running};
 ghost use Rattle.tracing_core_hub.specs.declared.hub.parts.Setting.TheVariants.{Unset};
 
@@ -12,12 +14,15 @@ mod handing;
 mod handles;
 mod lending;
 mod parts;
+mod ranks;
+mod requests;
 mod rows;
 mod taking;
 
-use crate::dispatch::WeakDispatch;
-pub(crate) use parts::{Row, Setting};
-use parts::{Entry, Lane};
+use crate::callsite::Callsite;
+use crate::subscriber::Subscriber;
+pub(crate) use parts::Setting;
+use parts::{Entry, Lane, Row};
 use std::alloc::{AllocError, Global};
 use std::marker::Model;
 use tracing_core_fields::LevelFilter;
@@ -43,10 +48,11 @@ impl<S, C> Model for Hub<S, C> {
     ghost view = { λ h. record { entries = h.entries.items; next = h.next; rows = h.rows.items; lanes = h.lanes.items; global = h.global; greatest = h.greatest } };
 }
 
-impl<S, C> Hub<S, C> {
+impl<S: Subscriber, C: Callsite> Hub<S, C> {
     /// A hub of nothing.
     pub fn new(alloc: Global) -> Hub<S, C>
-        ensures { result ≡ fresh }
+        ensures empty { result ≡ fresh }
+        ensures sound { IsSound ⟦<C as Callsite>⟧ result }
     {
         Hub {
             entries: Vec::new(alloc),
@@ -60,6 +66,18 @@ impl<S, C> Hub<S, C> {
 
     /// The number of a new lane, which has no default of its own.
     pub fn thread(&mut self) -> Result<u64, AllocError>
+        ensures number { IfOk result (λ lane. lane ≡ length self.old.lanes) }
+        ensures added { OnOk result (self.new ≡ record self.old { lanes = self.old.lanes ++ Running Unset ∷ [] }) }
+        ensures refused { OnErr result (self.new ≡ self.old) }
+        ensures keeps { Keeps ⟦<S as Subscriber>⟧ ⟦<C as Callsite>⟧ self.old self.new }
+    {
+        self.add_lane()
+    }
+}
+
+impl<S, C> Hub<S, C> {
+    // A lane more.
+    fn add_lane(&mut self) -> Result<u64, AllocError>
         ensures number { IfOk result (λ lane. lane ≡ length self.old.lanes) }
         ensures added { OnOk result (self.new ≡ record self.old { lanes = self.old.lanes ++ Running Unset ∷ [] }) }
         ensures refused { OnErr result (self.new ≡ self.old) }

@@ -1,6 +1,6 @@
 //! What subscribers say of a callsite before it makes anything.
 ghost use Rattle.std.specs.Prelude.{◌≡◌};
-ghost use Rattle.tracing_core_hub.specs.Interests.{says_never, says_sometimes, says_always, common, CommonIsALattice};
+ghost use Rattle.tracing_core_hub.specs.Interests.{says_never, says_sometimes, says_always, common, CommonInterestLaw};
 ghost use Rattle.tracing_core_hub.specs.declared.interest.InterestInner.TheVariants.{Never, Sometimes, Always};
 
 use std::marker::Model;
@@ -84,7 +84,7 @@ impl Interest {
 
 /// The common interest of many subscribers depends neither on their order nor on how often each is asked.
 pub fn interests_join_in_any_order()
-    ensures { CommonIsALattice }
+    ensures { CommonInterestLaw }
 {}
 
 impl PartialEq for Interest {

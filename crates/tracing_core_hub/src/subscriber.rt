@@ -1,5 +1,5 @@
 //! What takes the requests.
-ghost use Rattle.std.specs.Prelude.{◌≡◌, ℕ, Bool, Option};
+ghost use Rattle.std.specs.Prelude.{◌≡◌, ◌↔◌, ℕ, Bool, Option};
 ghost use Rattle.tracing_core_fields.specs.Metadata.{plain_metadata};
 ghost use Rattle.tracing_core_fields.specs.PlainMetadata.{PlainMetadata};
 ghost use Rattle.tracing_core_hub.specs.Calls.{Call, ReplyTo, DispatchRegistered, CallsiteRegistered, Asked, HintAsked, SpanMade, Recorded, FollowsRecorded, EventAsked, Told, Entered, Exited, Cloned, Dropped, CloseTried, CurrentAsked};
@@ -46,7 +46,7 @@ pub trait Subscriber: Drop {
 
     ghost stays: { (x : Self) (c : Call) (r : ReplyTo c) (y : Self) → IsRealCall c → moves x c r y → steady x → steady y × SameWord (says x) (says y) (hint x) (hint y) };
 
-    ghost quiet: { (x : Self) (m n : PlainMetadata) (at place : At) (r : Bool) (y : Self) (b : Bool) → moves x (Asked m at) r y → steady x → answers x n place b → answers y n place b };
+    ghost quiet: { (x : Self) (m n : PlainMetadata) (at place : At) (r : Bool) (y : Self) (b : Bool) → moves x (Asked m at) r y → steady x → (answers x n place b ↔ answers y n place b) };
 
     /// A hub took the subscriber, and gave out this handle.
     fn on_register_dispatch(&mut self, dispatch: &WeakDispatch)

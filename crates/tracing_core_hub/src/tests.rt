@@ -30,8 +30,7 @@ fn interests_have_one_answer(rt: HostRuntime) {
 
 #[test]
 fn two_subscribers_differ(rt: HostRuntime) -> Result<(), Fail> {
-    let alloc = rt.alloc();
-    let mut hub: Hub<Everything, Place> = Hub::new(alloc);
+    let mut hub: Hub<Everything, Place> = Hub::new(rt.alloc());
     let lane = hub.thread()?;
     assert_eq!(rt; hub.max_level(), LevelFilter::OFF);
     assert_eq!(rt;
@@ -50,9 +49,23 @@ fn two_subscribers_differ(rt: HostRuntime) -> Result<(), Fail> {
         .ok_or("a hub")?;
     assert_eq!(rt; hub.interest(Identifier(3)), Some(Interest::sometimes()));
     assert_eq!(rt; hub.max_level(), LevelFilter::TRACE);
+    assert!(rt; hub.release(second).is_some());
+    hub.rebuild_interest_cache();
+    assert_eq!(rt; hub.interest(Identifier(3)), Some(Interest::always()));
+    assert!(rt; hub.release(first).is_some());
+    hub.refresh();
+    assert_eq!(rt; hub.interest(Identifier(3)), Some(Interest::never()));
+    assert_eq!(rt; hub.max_level(), LevelFilter::OFF);
+    Ok(())
+}
+
+#[test]
+fn callsites_register_once(rt: HostRuntime) -> Result<(), Fail> {
+    let mut hub: Hub<Everything, Place> = Hub::new(rt.alloc());
+    let lane = hub.thread()?;
     assert_eq!(rt;
-        hub.register(Place::new(4, Level::WARN)).ok(),
-        Some(Interest::sometimes())
+        hub.register_once(Place::new(4, Level::WARN)).ok(),
+        Some(Interest::never())
     );
     assert!(rt;
         matches!(
@@ -62,9 +75,34 @@ fn two_subscribers_differ(rt: HostRuntime) -> Result<(), Fail> {
     );
     assert_eq!(rt;
         hub.register_once(Place::new(4, Level::WARN)).ok(),
-        Some(Interest::sometimes())
+        Some(Interest::never())
+    );
+    assert!(rt;
+        matches!(
+            hub.register_once(Place::new(4, Level::INFO)),
+            Err(RegisterError::Taken(_))
+        )
     );
     assert_eq!(rt; hub.gate(Identifier(9), at(lane)), None);
+    Ok(())
+}
+
+#[test]
+fn the_global_default_is_set_once(rt: HostRuntime) -> Result<(), Fail> {
+    let mut hub: Hub<Everything, Place> = Hub::new(rt.alloc());
+    let lane = hub.thread()?;
+    let first = hub
+        .add(Everything::new(1, Interest::always()))
+        .ok()
+        .ok_or("a hub")?;
+    let second = hub
+        .add(Everything::new(2, Interest::never()))
+        .ok()
+        .ok_or("a hub")?;
+    assert_eq!(rt;
+        hub.register(Place::new(3, Level::INFO)).ok(),
+        Some(Interest::sometimes())
+    );
     assert_eq!(rt; hub.gate(Identifier(3), at(lane)), Some(false));
     assert!(rt; !hub.has_been_set());
     assert_eq!(rt; hub.set_global_default(&first), Ok(()));
@@ -74,21 +112,28 @@ fn two_subscribers_differ(rt: HostRuntime) -> Result<(), Fail> {
     );
     assert!(rt; hub.has_been_set());
     assert_eq!(rt; hub.gate(Identifier(3), at(lane)), Some(true));
-    let weak = hub.downgrade(&second);
+    Ok(())
+}
+
+#[test]
+fn weak_handles_keep_nobody(rt: HostRuntime) -> Result<(), Fail> {
+    let mut hub: Hub<Everything, Place> = Hub::new(rt.alloc());
+    let first = hub
+        .add(Everything::new(2, Interest::never()))
+        .ok()
+        .ok_or("a hub")?;
+    let weak = hub.downgrade(&first);
     assert!(rt;
-        hub.subscriber(&second)
+        hub.subscriber(&first)
             .is_some_and(|subscriber| subscriber.name() == 2)
     );
-    let third = hub.upgrade(&weak)?.ok_or("it lives")?;
-    assert!(rt; hub.release(second).is_none());
+    let second = hub.upgrade(&weak)?.ok_or("it lives")?;
+    assert!(rt; hub.release(first).is_none());
     assert!(rt;
-        hub.release(third)
+        hub.release(second)
             .is_some_and(|subscriber| subscriber.name() == 2)
     );
     assert!(rt; hub.upgrade(&weak)?.is_none());
-    hub.rebuild_interest_cache();
-    assert_eq!(rt; hub.interest(Identifier(3)), Some(Interest::always()));
-    assert!(rt; hub.release(first).is_none());
     Ok(())
 }
 

@@ -1,15 +1,18 @@
 //! The defaults: the global one, and those of lanes.
-ghost use Rattle.std.specs.Prelude.{◌≡◌, ◌<◌, slice_get, length, IfSome};
+ghost use Rattle.std.specs.Prelude.{◌≡◌, ◌<◌, length};
 ghost use Rattle.tracing_core_hub.specs.Defaults.{was_set, setting_to, global_refusal, globally, default_refusal, guard_of, locally, end_gives, reset_gives, given_up};
 ghost use Rattle.tracing_core_hub.specs.Handles.{or_refused, or_same};
+ghost use Rattle.tracing_core_hub.specs.Keeping.{Keeps, KeepsOthers};
 ghost use Rattle.tracing_core_hub.specs.Table.{chosen};
 
+use crate::callsite::Callsite;
 use crate::dispatch::Dispatch;
 use crate::guard::{DefaultGuard, WrongLane};
 use crate::hub::Hub;
 use crate::hub::entries::{give_back, take_handle};
-use crate::hub::parts::{Lane, Setting};
+use crate::hub::parts::{Lane, Setting, lane_at};
 use crate::refusal::{SetDefaultError, SetGlobalDefaultError, UnknownLane};
+use crate::subscriber::Subscriber;
 
 impl Setting {
     fn to(dispatch: &Dispatch) -> Setting
@@ -46,9 +49,8 @@ impl<S, C> Hub<S, C> {
         self.global.is_set()
     }
 
-    /// Sets the default of the lanes that have none of their own, once. It holds a handle of its own. It
-    /// takes no memory.
-    pub fn set_global_default(&mut self, dispatch: &Dispatch) -> Result<(), SetGlobalDefaultError>
+    // Sets the global default, where none was set.
+    fn set_global(&mut self, dispatch: &Dispatch) -> Result<(), SetGlobalDefaultError>
         ensures answer { result ≡ or_refused (global_refusal self.old dispatch.now) tt }
         ensures left { self.new ≡ or_same (global_refusal self.old dispatch.now) self.old (globally self.old dispatch.now) }
     {
@@ -64,13 +66,8 @@ impl<S, C> Hub<S, C> {
         }
     }
 
-    /// Sets the default of a lane, which holds a handle of its own. The guard remembers the default that
-    /// the lane had. It takes no memory.
-    pub fn set_default(
-        &mut self,
-        lane: u64,
-        dispatch: &Dispatch,
-    ) -> Result<DefaultGuard, SetDefaultError>
+    // Sets the default of a lane that runs.
+    fn set_own(&mut self, lane: u64, dispatch: &Dispatch) -> Result<DefaultGuard, SetDefaultError>
         ensures answer { result ≡ or_refused (default_refusal self.old lane dispatch.now) (guard_of self.old lane) }
         ensures left { self.new ≡ or_same (default_refusal self.old lane dispatch.now) self.old (locally self.old lane dispatch.now) }
     {
@@ -86,10 +83,8 @@ impl<S, C> Hub<S, C> {
         }
     }
 
-    /// Gives the lane the default that its guard remembers, and gives up the one that it has; a lane that
-    /// ended gives up what the guard remembers. The subscriber that this releases comes back. Guards may be
-    /// spent in any order. It takes no memory.
-    pub fn reset(&mut self, lane: u64, guard: DefaultGuard) -> Result<Option<S>, WrongLane>
+    // Gives the lane what its guard remembers.
+    fn restore(&mut self, lane: u64, guard: DefaultGuard) -> Result<Option<S>, WrongLane>
         ensures { (result, self.new) ≡ reset_gives self.old lane guard }
     {
         if guard.lane != lane {
@@ -104,8 +99,8 @@ impl<S, C> Hub<S, C> {
         }
     }
 
-    /// Ends a lane, which gives up its default. The subscriber that this releases comes back.
-    pub fn end_thread(&mut self, lane: u64) -> Result<Option<S>, UnknownLane>
+    // Ends a lane that runs.
+    fn end_lane(&mut self, lane: u64) -> Result<Option<S>, UnknownLane>
         ensures { (result, self.new) ≡ end_gives self.old lane }
     {
         let Some(Lane::Running(setting)) = lane_at(&self.lanes, lane) else {
@@ -124,12 +119,46 @@ impl<S, C> Hub<S, C> {
     }
 }
 
-fn lane_at(lanes: &[Lane], lane: u64) -> Option<Lane>
-    ensures value { result ≡ slice_get lanes.now lane }
-    ensures bound { IfSome result (λ _. lane < length lanes.now) }
-{
-    match lanes.get(lane as usize) {
-        None => None,
-        Some(value) => Some(*value),
+impl<S: Subscriber, C: Callsite> Hub<S, C> {
+    /// Sets the default of the lanes that have none of their own, once. It holds a handle of its own. It
+    /// takes no memory.
+    pub fn set_global_default(&mut self, dispatch: &Dispatch) -> Result<(), SetGlobalDefaultError>
+        ensures answer { result ≡ or_refused (global_refusal self.old dispatch.now) tt }
+        ensures left { self.new ≡ or_same (global_refusal self.old dispatch.now) self.old (globally self.old dispatch.now) }
+        ensures keeps { Keeps ⟦<S as Subscriber>⟧ ⟦<C as Callsite>⟧ self.old self.new }
+    {
+        self.set_global(dispatch)
+    }
+
+    /// Sets the default of a lane, which holds a handle of its own. The guard remembers the default that
+    /// the lane had. It takes no memory.
+    pub fn set_default(
+        &mut self,
+        lane: u64,
+        dispatch: &Dispatch,
+    ) -> Result<DefaultGuard, SetDefaultError>
+        ensures answer { result ≡ or_refused (default_refusal self.old lane dispatch.now) (guard_of self.old lane) }
+        ensures left { self.new ≡ or_same (default_refusal self.old lane dispatch.now) self.old (locally self.old lane dispatch.now) }
+        ensures keeps { Keeps ⟦<S as Subscriber>⟧ ⟦<C as Callsite>⟧ self.old self.new }
+    {
+        self.set_own(lane, dispatch)
+    }
+
+    /// Gives the lane the default that its guard remembers, and gives up the one that it has; a lane that
+    /// ended gives up what the guard remembers. The subscriber that this releases comes back. Guards may be
+    /// spent in any order. It takes no memory.
+    pub fn reset(&mut self, lane: u64, guard: DefaultGuard) -> Result<Option<S>, WrongLane>
+        ensures gives { (result, self.new) ≡ reset_gives self.old lane guard }
+        ensures keeps { KeepsOthers ⟦<S as Subscriber>⟧ ⟦<C as Callsite>⟧ self.old self.new }
+    {
+        self.restore(lane, guard)
+    }
+
+    /// Ends a lane, which gives up its default. The subscriber that this releases comes back.
+    pub fn end_thread(&mut self, lane: u64) -> Result<Option<S>, UnknownLane>
+        ensures gives { (result, self.new) ≡ end_gives self.old lane }
+        ensures keeps { KeepsOthers ⟦<S as Subscriber>⟧ ⟦<C as Callsite>⟧ self.old self.new }
+    {
+        self.end_lane(lane)
     }
 }

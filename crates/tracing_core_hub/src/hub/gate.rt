@@ -1,15 +1,16 @@
 //! Whether spans and events are wanted.
-ghost use Rattle.std.specs.Prelude.{◌≡◌, Some, slice_get};
+ghost use Rattle.std.specs.Prelude.{◌≡◌, Bool, Some, slice_get};
 ghost use Rattle.std.specs.Option.{option_map, is_some};
-ghost use Rattle.tracing_core_hub.specs.Commands.{GateGives, becomes, reached, row_of};
-ghost use Rattle.tracing_core_hub.specs.Kept.{Kept, Oracle};
+ghost use Rattle.tracing_core_hub.specs.Commands.{GateGives, reached, row_of};
+ghost use Rattle.tracing_core_hub.specs.Keeping.{Keeps};
+ghost use Rattle.tracing_core_hub.specs.Kept.{Kept};
 ghost use Rattle.tracing_core_hub.specs.Table.{own_setting, effective, chosen};
 
 use crate::at::At;
 use crate::callsite::Callsite;
 use crate::dispatch::WeakDispatch;
 use crate::hub::Hub;
-use crate::hub::parts::{Entry, Lane, Row, Setting};
+use crate::hub::parts::{Entry, Lane, Row, Setting, lane_at};
 use crate::hub::rows::find_row;
 use crate::interest::Interest;
 use crate::subscriber::Subscriber;
@@ -19,10 +20,10 @@ use tracing_core_fields::Identifier;
 pub(crate) fn setting_of(lanes: &[Lane], lane: u64) -> Setting
     ensures { result ≡ own_setting (slice_get lanes.now lane) }
 {
-    match lanes.get(lane as usize) {
+    match lane_at(lanes, lane) {
         None => Setting::Unset,
         Some(Lane::Ended) => Setting::Unset,
-        Some(Lane::Running(setting)) => *setting,
+        Some(Lane::Running(setting)) => setting,
     }
 }
 
@@ -83,11 +84,10 @@ impl<S: Subscriber, C: Callsite> Hub<S, C> {
     /// `None` where no callsite has it. The reached subscriber is asked where what is kept doesn't tell.
     pub fn gate(&mut self, identifier: Identifier, at: At) -> Option<bool>
         ensures answer { GateGives ⟦<S as Subscriber>⟧ ⟦<C as Callsite>⟧ self.old identifier.0 at result self.new }
-        // Where what is kept is right of the reached subscriber, this is what asking it would answer.
-        ensures asking { (o : Oracle ⟦<S as Subscriber>⟧) (row : Row C) (e : Entry S) → row_of identifier.0 self.old.rows ≡ Some row → reached self.old at.lane ≡ Some e.serial → Kept ⟦<S as Subscriber>⟧ ⟦<C as Callsite>⟧ self.old e →
-            result ≡ Some (o.passes e.subscriber (C.metadata_of row.callsite) at) }
-        // What is kept stays right of whomever it was right of.
-        ensures kept { (e : Entry S) → Kept ⟦<S as Subscriber>⟧ ⟦<C as Callsite>⟧ self.old e → ((z : S) × Kept ⟦<S as Subscriber>⟧ ⟦<C as Callsite>⟧ self.new (becomes z e)) }
+        // Where what is kept is right of the reached subscriber, this is what asking it may answer.
+        ensures asking { (row : Row C) (e : Entry S) (b : Bool) → row_of identifier.0 self.old.rows ≡ Some row → reached self.old at.lane ≡ Some e.serial → Kept ⟦<S as Subscriber>⟧ ⟦<C as Callsite>⟧ self.old e → S.answers e.subscriber (C.metadata_of row.callsite) at b →
+            ((answer : Bool) × (result ≡ Some answer) × S.answers e.subscriber (C.metadata_of row.callsite) at answer) }
+        ensures keeps { Keeps ⟦<S as Subscriber>⟧ ⟦<C as Callsite>⟧ self.old self.new }
     {
         self.look(identifier, at)
     }

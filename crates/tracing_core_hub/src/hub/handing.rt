@@ -1,4 +1,4 @@
-//! Requests through the hub, to the subscriber of a handle.
+//! Handing requests over to the subscriber of a handle.
 ghost use Rattle.std.specs.Prelude.{◌≡◌};
 ghost use Rattle.tracing_core_fields.specs.Metadata.{plain_metadata};
 ghost use Rattle.tracing_core_hub.specs.Calls.{SpanMade, Recorded, FollowsRecorded, EventAsked, Told, Entered, Exited, Cloned, Dropped, CloseTried, CurrentAsked};
@@ -122,11 +122,10 @@ fn exit_at<S: Subscriber>(entries: &mut [Entry<S>], serial: Option<u64>, span: &
     ensures { CallGives ⟦<S as Subscriber>⟧ (Exited span.now at) serial entries.old tt entries.new }
 {
     let place = place_or_end(entries, serial);
-    if place < entries.len() {
-        entries[place].subscriber.exit(span, at)
-    } else {
-        ()
+    if place >= entries.len() {
+        return;
     }
+    entries[place].subscriber.exit(span, at)
 }
 
 fn clone_span_at<S: Subscriber>(
@@ -149,11 +148,10 @@ fn drop_span_at<S: Subscriber>(entries: &mut [Entry<S>], serial: Option<u64>, sp
     ensures { CallGives ⟦<S as Subscriber>⟧ (Dropped span at) serial entries.old tt entries.new }
 {
     let place = place_or_end(entries, serial);
-    if place < entries.len() {
-        entries[place].subscriber.drop_span(span, at)
-    } else {
-        ()
+    if place >= entries.len() {
+        return;
     }
+    entries[place].subscriber.drop_span(span, at)
 }
 
 fn try_close_at<S: Subscriber>(
@@ -187,17 +185,21 @@ fn current_span_at<S: Subscriber>(
     }
 }
 
+// Each hands one call over, whatever the callsites are.
 impl<S: Subscriber, C> Hub<S, C> {
-    /// Whether the subscriber of the handle wants a span or an event of the callsite.
-    pub fn enabled(&mut self, dispatch: &Dispatch, metadata: &Metadata<'_>, at: At) -> bool
+    pub(crate) fn hand_enabled(
+        &mut self,
+        dispatch: &Dispatch,
+        metadata: &Metadata<'_>,
+        at: At,
+    ) -> bool
         ensures asked { AskGives ⟦<S as Subscriber>⟧ (plain_metadata metadata.now) at dispatch.now self.old.entries result self.new.entries }
         ensures rest { self.new ≡ record self.old { entries = self.new.entries } }
     {
         ask_one(&mut self.entries, dispatch.serial(), metadata, at)
     }
 
-    /// Makes a span through the subscriber of the handle.
-    pub fn new_span(
+    pub(crate) fn hand_new_span(
         &mut self,
         dispatch: &Dispatch,
         attributes: &Attributes<'_, '_>,
@@ -208,8 +210,7 @@ impl<S: Subscriber, C> Hub<S, C> {
         new_span_at(&mut self.entries, dispatch.serial(), attributes, at)
     }
 
-    /// Records more values of a span.
-    pub fn record(
+    pub(crate) fn hand_record(
         &mut self,
         dispatch: &Dispatch,
         span: &Id,
@@ -221,8 +222,7 @@ impl<S: Subscriber, C> Hub<S, C> {
         record_at(&mut self.entries, dispatch.serial(), span, values, at)
     }
 
-    /// Records that a span follows from another one.
-    pub fn record_follows_from(
+    pub(crate) fn hand_record_follows_from(
         &mut self,
         dispatch: &Dispatch,
         span: &Id,
@@ -234,15 +234,18 @@ impl<S: Subscriber, C> Hub<S, C> {
         record_follows_from_at(&mut self.entries, dispatch.serial(), span, follows, at)
     }
 
-    /// Whether the subscriber of the handle wants the event, whose callsite is enabled.
-    pub fn event_enabled(&mut self, dispatch: &Dispatch, event: &Event<'_, '_>, at: At) -> bool
+    pub(crate) fn hand_event_enabled(
+        &mut self,
+        dispatch: &Dispatch,
+        event: &Event<'_, '_>,
+        at: At,
+    ) -> bool
         ensures { HubGives ⟦<S as Subscriber>⟧ (EventAsked (plain_event event.now) at) dispatch.now self.old result self.new }
     {
         event_enabled_at(&mut self.entries, dispatch.serial(), event, at)
     }
 
-    /// Hands an event to the subscriber of the handle.
-    pub fn event(
+    pub(crate) fn hand_event(
         &mut self,
         dispatch: &Dispatch,
         event: &Event<'_, '_>,
@@ -253,43 +256,47 @@ impl<S: Subscriber, C> Hub<S, C> {
         event_at(&mut self.entries, dispatch.serial(), event, at)
     }
 
-    /// The lane enters a span.
-    pub fn enter(&mut self, dispatch: &Dispatch, span: &Id, at: At) -> Result<(), RequestError>
+    pub(crate) fn hand_enter(
+        &mut self,
+        dispatch: &Dispatch,
+        span: &Id,
+        at: At,
+    ) -> Result<(), RequestError>
         ensures { HubGives ⟦<S as Subscriber>⟧ (Entered span.now at) dispatch.now self.old result self.new }
     {
         enter_at(&mut self.entries, dispatch.serial(), span, at)
     }
 
-    /// The lane leaves a span.
-    pub fn exit(&mut self, dispatch: &Dispatch, span: &Id, at: At)
+    pub(crate) fn hand_exit(&mut self, dispatch: &Dispatch, span: &Id, at: At)
         ensures { HubGives ⟦<S as Subscriber>⟧ (Exited span.now at) dispatch.now self.old tt self.new }
     {
         exit_at(&mut self.entries, dispatch.serial(), span, at)
     }
 
-    /// Counts one more handle of a span, and answers the id to use for it.
-    pub fn clone_span(&mut self, dispatch: &Dispatch, span: &Id, at: At) -> Result<Id, RequestError>
+    pub(crate) fn hand_clone_span(
+        &mut self,
+        dispatch: &Dispatch,
+        span: &Id,
+        at: At,
+    ) -> Result<Id, RequestError>
         ensures { HubGives ⟦<S as Subscriber>⟧ (Cloned span.now at) dispatch.now self.old result self.new }
     {
         clone_span_at(&mut self.entries, dispatch.serial(), span, at)
     }
 
-    /// Counts one handle of a span less.
-    pub fn drop_span(&mut self, dispatch: &Dispatch, span: Id, at: At)
+    pub(crate) fn hand_drop_span(&mut self, dispatch: &Dispatch, span: Id, at: At)
         ensures { HubGives ⟦<S as Subscriber>⟧ (Dropped span at) dispatch.now self.old tt self.new }
     {
         drop_span_at(&mut self.entries, dispatch.serial(), span, at)
     }
 
-    /// Counts one handle of a span less, and answers whether the span closed.
-    pub fn try_close(&mut self, dispatch: &Dispatch, span: Id, at: At) -> bool
+    pub(crate) fn hand_try_close(&mut self, dispatch: &Dispatch, span: Id, at: At) -> bool
         ensures { HubGives ⟦<S as Subscriber>⟧ (CloseTried span at) dispatch.now self.old result self.new }
     {
         try_close_at(&mut self.entries, dispatch.serial(), span, at)
     }
 
-    /// The span that the lane is in.
-    pub fn current_span(&mut self, dispatch: &Dispatch, at: At) -> CurrentSpan
+    pub(crate) fn hand_current_span(&mut self, dispatch: &Dispatch, at: At) -> CurrentSpan
         ensures { HubGives ⟦<S as Subscriber>⟧ (CurrentAsked at) dispatch.now self.old result self.new }
     {
         current_span_at(&mut self.entries, dispatch.serial(), at)

@@ -2,15 +2,18 @@
 ghost use Rattle.std.specs.Prelude.{◌≡◌};
 ghost use Rattle.tracing_core_hub.specs.Defaults.{holding, upgrade_answer};
 ghost use Rattle.tracing_core_hub.specs.Handles.{hold_refusal, given_back, or_refused, or_same};
+ghost use Rattle.tracing_core_hub.specs.Keeping.{Keeps, KeepsOthers};
 
+use crate::callsite::Callsite;
 use crate::dispatch::{Dispatch, WeakDispatch};
 use crate::hub::Hub;
 use crate::hub::entries::{give_back, take_handle};
 use crate::refusal::{HandleError, TooManyHandles};
+use crate::subscriber::Subscriber;
 
 impl<S, C> Hub<S, C> {
-    /// Another handle to the same subscriber. It takes no memory.
-    pub fn clone(&mut self, dispatch: &Dispatch) -> Result<Dispatch, HandleError>
+    // One handle more.
+    fn take_another(&mut self, dispatch: &Dispatch) -> Result<Dispatch, HandleError>
         ensures answer { result ≡ or_refused (hold_refusal dispatch.now self.old.entries) dispatch.now }
         ensures left { self.new ≡ or_same (hold_refusal dispatch.now self.old.entries) self.old (holding self.old dispatch.now) }
     {
@@ -25,8 +28,8 @@ impl<S, C> Hub<S, C> {
         WeakDispatch::new(dispatch.serial())
     }
 
-    /// A handle that keeps the subscriber, or `None` where it was released. It takes no memory.
-    pub fn upgrade(&mut self, dispatch: &WeakDispatch) -> Result<Option<Dispatch>, TooManyHandles>
+    // One handle more, where the subscriber lives.
+    fn revive(&mut self, dispatch: &WeakDispatch) -> Result<Option<Dispatch>, TooManyHandles>
         ensures answer { result ≡ upgrade_answer dispatch.now (hold_refusal dispatch.now self.old.entries) }
         ensures left { self.new ≡ or_same (hold_refusal dispatch.now self.old.entries) self.old (holding self.old dispatch.now) }
     {
@@ -37,12 +40,41 @@ impl<S, C> Hub<S, C> {
         }
     }
 
+    // One handle less.
+    fn let_go(&mut self, dispatch: Dispatch) -> Option<S>
+        ensures answer { result ≡ (given_back dispatch self.old.entries).0 }
+        ensures left { self.new ≡ record self.old { entries = (given_back dispatch self.old.entries).1 } }
+    {
+        give_back(&mut self.entries, dispatch.serial())
+    }
+}
+
+impl<S: Subscriber, C: Callsite> Hub<S, C> {
+    /// Another handle to the same subscriber. It takes no memory.
+    pub fn clone(&mut self, dispatch: &Dispatch) -> Result<Dispatch, HandleError>
+        ensures answer { result ≡ or_refused (hold_refusal dispatch.now self.old.entries) dispatch.now }
+        ensures left { self.new ≡ or_same (hold_refusal dispatch.now self.old.entries) self.old (holding self.old dispatch.now) }
+        ensures keeps { Keeps ⟦<S as Subscriber>⟧ ⟦<C as Callsite>⟧ self.old self.new }
+    {
+        self.take_another(dispatch)
+    }
+
+    /// A handle that keeps the subscriber, or `None` where it was released. It takes no memory.
+    pub fn upgrade(&mut self, dispatch: &WeakDispatch) -> Result<Option<Dispatch>, TooManyHandles>
+        ensures answer { result ≡ upgrade_answer dispatch.now (hold_refusal dispatch.now self.old.entries) }
+        ensures left { self.new ≡ or_same (hold_refusal dispatch.now self.old.entries) self.old (holding self.old dispatch.now) }
+        ensures keeps { Keeps ⟦<S as Subscriber>⟧ ⟦<C as Callsite>⟧ self.old self.new }
+    {
+        self.revive(dispatch)
+    }
+
     /// Takes a handle back. The subscriber comes back with its last one; what is kept of callsites, and the
     /// greatest level, stay as they are until the next rebuild.
     pub fn release(&mut self, dispatch: Dispatch) -> Option<S>
         ensures answer { result ≡ (given_back dispatch self.old.entries).0 }
         ensures left { self.new ≡ record self.old { entries = (given_back dispatch self.old.entries).1 } }
+        ensures keeps { KeepsOthers ⟦<S as Subscriber>⟧ ⟦<C as Callsite>⟧ self.old self.new }
     {
-        give_back(&mut self.entries, dispatch.serial())
+        self.let_go(dispatch)
     }
 }

@@ -2,44 +2,31 @@
 ghost use Rattle.std.specs.Borrow.{sem};
 ghost use Rattle.std.specs.Option.{option_map};
 ghost use Rattle.std.specs.Prelude.{◌≡◌};
-ghost use Rattle.tracing_core_hub.specs.Handles.{entry_of};
-ghost use Rattle.tracing_core_hub.specs.Lent.{living_of, IsPlaceOrEnd, IsPlaceToLend};
+ghost use Rattle.tracing_core_hub.specs.Keeping.{KeepsOthers};
+ghost use Rattle.tracing_core_hub.specs.Lent.{living_of, lent_to, IsPlaceOrEnd, IsPlaceToLend};
 ghost use Rattle.tracing_core_hub.specs.Lending.{LendsSubscriber};
 
+use crate::callsite::Callsite;
 use crate::dispatch::Dispatch;
 use crate::hub::Hub;
 use crate::hub::entries::place_of;
 use crate::hub::parts::Entry;
-
-// The subscriber of the number.
-fn find_entry<S>(entries: &[Entry<S>], serial: u64) -> Option<&Entry<S>>
-    ensures { option_map (λ entry. entry.now) result ≡ entry_of serial entries.now }
-{
-    for entry in entries {
-        if entry.serial == serial {
-            return Some(entry);
-        }
-    }
-    None
-}
+use crate::subscriber::Subscriber;
 
 impl<S, C> Hub<S, C> {
     /// The subscriber that the handle leads to.
     pub fn subscriber(&self, dispatch: &Dispatch) -> Option<&S>
         ensures { option_map (λ subscriber. subscriber.now) result ≡ option_map (λ entry. entry.subscriber) (living_of dispatch.now self.now.entries) }
     {
-        let Some(serial) = dispatch.serial() else {
-            return None;
-        };
-        match find_entry(&self.entries, serial) {
+        let place = place_or_end(&self.entries, dispatch.serial());
+        match self.entries.get(place) {
             None => None,
             Some(entry) => Some(&entry.subscriber),
         }
     }
 
-    /// Lends the subscriber that the handle leads to for writing, and marks it as lent: what is kept of it
-    /// counts for nothing until the next rebuild.
-    pub fn subscriber_mut(&mut self, dispatch: &Dispatch) -> Option<&mut S>
+    // Lends the subscriber, and marks it.
+    fn lend(&mut self, dispatch: &Dispatch) -> Option<&mut S>
         ensures lent { option_map (λ subscriber. subscriber.now) result ≡ option_map (λ entry. entry.subscriber) (living_of dispatch.now self.old.entries) }
         ensures* ends { sem 𝓛 (LendsSubscriber S.row C.row self.entry dispatch.now result) }
     {
@@ -51,6 +38,19 @@ impl<S, C> Hub<S, C> {
                 Some(&mut entry.subscriber)
             }
         }
+    }
+}
+
+impl<S: Subscriber, C: Callsite> Hub<S, C> {
+    /// Lends the subscriber that the handle leads to for writing, and marks it as lent: what is kept of it
+    /// counts for nothing until the next rebuild.
+    pub fn subscriber_mut(&mut self, dispatch: &Dispatch) -> Option<&mut S>
+        ensures lent { option_map (λ subscriber. subscriber.now) result ≡ option_map (λ entry. entry.subscriber) (living_of dispatch.now self.old.entries) }
+        // What is kept stays right of the others, whatever the lent one becomes.
+        ensures others { (w : S) → KeepsOthers ⟦<S as Subscriber>⟧ ⟦<C as Callsite>⟧ self.old (record self.old { entries = lent_to dispatch.now w self.old.entries }) }
+        ensures* ends { sem 𝓛 (LendsSubscriber S.row C.row self.entry dispatch.now result) }
+    {
+        self.lend(dispatch)
     }
 }
 
@@ -67,10 +67,9 @@ pub(crate) fn place_or_end<S>(entries: &[Entry<S>], serial: Option<u64>) -> usiz
     }
 }
 
-// The same place, by what lending does there.
+// The same place, by what lending makes of it: a loan is proved where its clause names the change.
 fn place_to_lend<S>(entries: &[Entry<S>], serial: Option<u64>) -> usize
     ensures { IsPlaceToLend serial entries.now result }
 {
-    let place = place_or_end(entries, serial);
-    place
+    place_or_end(entries, serial)
 }

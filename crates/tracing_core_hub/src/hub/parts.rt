@@ -1,4 +1,6 @@
 //! What a hub keeps.
+ghost use Rattle.std.specs.Prelude.{◌≡◌, ◌<◌, slice_get, length, IfSome};
+
 use crate::interest::Interest;
 use tracing_core_fields::Level;
 
@@ -34,4 +36,15 @@ pub(crate) enum Setting {
 pub(crate) enum Lane {
     Ended,
     Running(Setting),
+}
+
+// The lane of the number, running or ended.
+pub(crate) fn lane_at(lanes: &[Lane], lane: u64) -> Option<Lane>
+    ensures value { result ≡ slice_get lanes.now lane }
+    ensures bound { IfSome result (λ _. lane < length lanes.now) }
+{
+    match lanes.get(lane as usize) {
+        None => None,
+        Some(value) => Some(*value),
+    }
 }

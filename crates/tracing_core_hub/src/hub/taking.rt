@@ -1,14 +1,17 @@
 //! Taking subscribers and callsites, and asking all again.
-ghost use Rattle.std.specs.Prelude.{◌≡◌, Some};
+ghost use Rattle.std.specs.Prelude.{◌≡◌, Some, [], IfOk};
 ghost use Rattle.tracing_core_hub.specs.Commands.{Rebuilt, AddGives, RegisterGives, RegisterOnceGives, kept_alike, row_of};
 ghost use Rattle.tracing_core_hub.specs.Handles.{entry_of};
+ghost use Rattle.tracing_core_hub.specs.Keeping.{Keeps, IsOff};
 ghost use Rattle.tracing_core_hub.specs.Kept.{Every, IsTrueRow, Kept, asked_anew};
+ghost use Rattle.tracing_core_hub.specs.Sound.{IsSound};
 
 use crate::callsite::Callsite;
 use crate::dispatch::{Dispatch, WeakDispatch};
 use crate::hub::Hub;
 use crate::hub::asking::{ask_hints, ask_rows};
 use crate::hub::parts::{Entry, Row};
+use crate::hub::ranks::is_real_callsite;
 use crate::interest::Interest;
 use crate::refusal::{AddError, RegisterError};
 use crate::subscriber::Subscriber;
@@ -19,12 +22,15 @@ impl<S: Subscriber, C: Callsite> Hub<S, C> {
     pub fn rebuild_interest_cache(&mut self)
         ensures asked { Rebuilt ⟦<S as Subscriber>⟧ ⟦<C as Callsite>⟧ self.old self.new }
         // Then what is kept is right of each subscriber that keeps its word.
-        ensures kept { (e : Entry S) → entry_of e.serial self.old.entries ≡ Some e → S.steady e.subscriber → Every (IsTrueRow ⟦<C as Callsite>⟧) self.old.rows →
+        ensures right { (e : Entry S) → entry_of e.serial self.old.entries ≡ Some e → S.steady e.subscriber → Every (IsTrueRow ⟦<C as Callsite>⟧) self.old.rows →
             ((z : S) × Kept ⟦<S as Subscriber>⟧ ⟦<C as Callsite>⟧ self.new (asked_anew z e)) }
+        ensures keeps { Keeps ⟦<S as Subscriber>⟧ ⟦<C as Callsite>⟧ self.old self.new }
+        ensures nobody { self.old.entries ≡ [] → IsOff self.new }
     {
         self.ask_all_again()
     }
 
+    // Asks all of everything.
     fn ask_all_again(&mut self)
         ensures { Rebuilt ⟦<S as Subscriber>⟧ ⟦<C as Callsite>⟧ self.old self.new }
     {
@@ -35,15 +41,16 @@ impl<S: Subscriber, C: Callsite> Hub<S, C> {
     /// Asks again whoever may say something else than what is kept: here everyone.
     pub fn refresh(&mut self)
         ensures asked { Rebuilt ⟦<S as Subscriber>⟧ ⟦<C as Callsite>⟧ self.old self.new }
-        ensures kept { (e : Entry S) → entry_of e.serial self.old.entries ≡ Some e → S.steady e.subscriber → Every (IsTrueRow ⟦<C as Callsite>⟧) self.old.rows →
+        ensures right { (e : Entry S) → entry_of e.serial self.old.entries ≡ Some e → S.steady e.subscriber → Every (IsTrueRow ⟦<C as Callsite>⟧) self.old.rows →
             ((z : S) × Kept ⟦<S as Subscriber>⟧ ⟦<C as Callsite>⟧ self.new (asked_anew z e)) }
+        ensures keeps { Keeps ⟦<S as Subscriber>⟧ ⟦<C as Callsite>⟧ self.old self.new }
+        ensures nobody { self.old.entries ≡ [] → IsOff self.new }
     {
         self.rebuild_interest_cache()
     }
 
-    /// Takes a subscriber, tells it its handle, and rebuilds what is kept. It comes back where there is no
-    /// memory for it, or no number is left; then it wasn't told anything.
-    pub fn add(&mut self, subscriber: S) -> Result<Dispatch, AddError<S>>
+    // Takes a subscriber, and asks all.
+    fn take_in(&mut self, subscriber: S) -> Result<Dispatch, AddError<S>>
         ensures { AddGives ⟦<S as Subscriber>⟧ ⟦<C as Callsite>⟧ self.old subscriber result self.new }
     {
         if self.next == u64::MAX {
@@ -66,9 +73,8 @@ impl<S: Subscriber, C: Callsite> Hub<S, C> {
         Ok(Dispatch::new(Some(serial)))
     }
 
-    /// Takes a callsite, asks all subscribers of it, and tells it their common interest, which is never
-    /// where there is none. It comes back where its identifier is known, or there is no memory for it.
-    pub fn register(&mut self, callsite: C) -> Result<Interest, RegisterError<C>>
+    // Takes a callsite, and asks all of it.
+    fn take_callsite(&mut self, callsite: C) -> Result<Interest, RegisterError<C>>
         ensures { RegisterGives ⟦<S as Subscriber>⟧ ⟦<C as Callsite>⟧ self.old callsite result self.new }
     {
         let mut row = Row::new(callsite);
@@ -97,15 +103,46 @@ impl<S: Subscriber, C: Callsite> Hub<S, C> {
         }
     }
 
-    /// Registers a callsite, where another one with the same metadata counts as this one: then nothing
-    /// changes, and the kept interest is answered. With other metadata its identifier is taken.
-    pub fn register_once(&mut self, callsite: C) -> Result<Interest, RegisterError<C>>
+    // Takes a callsite, where none like it is known.
+    fn take_callsite_once(&mut self, callsite: C) -> Result<Interest, RegisterError<C>>
         ensures { RegisterOnceGives ⟦<S as Subscriber>⟧ ⟦<C as Callsite>⟧ self.old callsite result self.new }
     {
         match self.kept_alike(&callsite) {
-            None => self.register(callsite),
+            None => self.take_callsite(callsite),
             Some(None) => Err(RegisterError::Taken(callsite)),
             Some(Some(interest)) => Ok(interest),
         }
+    }
+
+    /// Takes a subscriber, tells it its handle, and rebuilds what is kept. It comes back where there is no
+    /// memory for it, or no number is left; then it wasn't told anything.
+    pub fn add(&mut self, subscriber: S) -> Result<Dispatch, AddError<S>>
+        ensures gives { AddGives ⟦<S as Subscriber>⟧ ⟦<C as Callsite>⟧ self.old subscriber result self.new }
+        // Then what is kept is right of the new one too, if it keeps its word.
+        ensures right { IfOk result (λ dispatch. IsSound ⟦<C as Callsite>⟧ self.old → S.steady subscriber →
+            ((e : Entry S) × (dispatch ≡ Some e.serial) × Kept ⟦<S as Subscriber>⟧ ⟦<C as Callsite>⟧ self.new e)) }
+        ensures keeps { Keeps ⟦<S as Subscriber>⟧ ⟦<C as Callsite>⟧ self.old self.new }
+    {
+        self.take_in(subscriber)
+    }
+
+    /// Takes a callsite, asks all subscribers of it, and tells it their common interest, which is never
+    /// where there is none. It comes back where its identifier is known, or there is no memory for it.
+    pub fn register(&mut self, callsite: C) -> Result<Interest, RegisterError<C>>
+        ensures gives { RegisterGives ⟦<S as Subscriber>⟧ ⟦<C as Callsite>⟧ self.old callsite result self.new }
+        ensures keeps { Keeps ⟦<S as Subscriber>⟧ ⟦<C as Callsite>⟧ self.old self.new }
+    {
+        is_real_callsite(&callsite);
+        self.take_callsite(callsite)
+    }
+
+    /// Registers a callsite, where another one with the same metadata counts as this one: then nothing
+    /// changes, and the kept interest is answered. With other metadata its identifier is taken.
+    pub fn register_once(&mut self, callsite: C) -> Result<Interest, RegisterError<C>>
+        ensures gives { RegisterOnceGives ⟦<S as Subscriber>⟧ ⟦<C as Callsite>⟧ self.old callsite result self.new }
+        ensures keeps { Keeps ⟦<S as Subscriber>⟧ ⟦<C as Callsite>⟧ self.old self.new }
+    {
+        is_real_callsite(&callsite);
+        self.take_callsite_once(callsite)
     }
 }

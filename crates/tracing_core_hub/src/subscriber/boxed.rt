@@ -10,7 +10,7 @@ use tracing_core_fields::{Id, LevelFilter, Metadata};
 
 /// The box answers what the subscriber in it does.
 impl Subscriber for Box<dyn Subscriber> {
-    ghost use Rattle.std.specs.Prelude.{◌≡◌};
+    ghost use Rattle.std.specs.Prelude.{◌≡◌, ◌↔◌};
     ghost use Rattle.std.proofs.Common.{subst, sym};
     ghost use Rattle.tracing_core_hub.specs.Steady.{SameWord};
 
@@ -28,7 +28,7 @@ impl Subscriber for Box<dyn Subscriber> {
 
     ghost stays = { λ b c r e real m k. subst (λ x. (Subscriber-box x).steady x.value × SameWord ((Subscriber-box b).says b.value) ((Subscriber-box x).says x.value) ((Subscriber-box b).hint b.value) ((Subscriber-box x).hint x.value)) (sym m.2) ((Subscriber-box b).stays b.value c r m.0 real m.1 k) };
 
-    ghost quiet = { λ b m n at place r e a moved k h. subst (λ x. (Subscriber-box x).answers x.value n place a) (sym moved.2) ((Subscriber-box b).quiet b.value m n at place r moved.0 a moved.1 k h) };
+    ghost quiet = { λ b m n at place r e a moved k. subst (λ x. (Subscriber-box b).answers b.value n place a ↔ (Subscriber-box x).answers x.value n place a) (sym moved.2) ((Subscriber-box b).quiet b.value m n at place r moved.0 a moved.1 k) };
 
     fn on_register_dispatch(&mut self, dispatch: &WeakDispatch) {
         (**self).on_register_dispatch(dispatch)

@@ -40,7 +40,7 @@ impl Subscriber for NoSubscriber {
 
     ghost stays = { λ x c r y real m k. (k, same_word) };
 
-    ghost quiet = { λ x m n at place r y b moved k e. e };
+    ghost quiet = { λ x m n at place r y b moved k. (λ e. e, λ e. e) };
 
     fn on_register_dispatch(&mut self, _dispatch: &WeakDispatch) {}
 

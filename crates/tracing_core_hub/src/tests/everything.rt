@@ -30,7 +30,8 @@ impl Everything {
 impl Subscriber for Everything {
     ghost use Rattle.std.specs.Prelude.{refl};
     ghost use Rattle.std.proofs.Common.{sym, subst, ap, ◌∙◌};
-    ghost use Rattle.tracing_core_hub.specs.Everything.{fits, same_word};
+    ghost use Rattle.tracing_core_hub.specs.Steady.{InterestFits};
+    ghost use Rattle.tracing_core_hub.specs.declared.interest.InterestInner.TheVariants.{Never, Sometimes, Always};
 
     ghost answers = { λ x m at b. b ≡ says_always x.interest };
 
@@ -42,11 +43,11 @@ impl Subscriber for Everything {
 
     ghost steady = { λ x. Unit {0} };
 
-    ghost fair = { λ x k. record { interest = λ m at b j real e n. fits x.interest b j e n; below = λ m at b real e. tt } };
+    ghost fair = { λ x k. record { interest = λ m at b j real e n. subst (λ i. InterestFits i b) (sym n) (subst (InterestFits x.interest) (sym e) (elim x.interest as (λ i. InterestFits i (says_always i)) [ Never ↦ refl | Sometimes ↦ tt | Always ↦ refl ])); below = λ m at b real e. tt } };
 
-    ghost stays = { λ x c r y real moved k. (tt, same_word x.interest y.interest moved) };
+    ghost stays = { λ x c r y real moved k. (tt, record { onward = λ m j n. n ∙ sym moved; back = λ m j n. n ∙ moved; same_hint = refl }) };
 
-    ghost quiet = { λ x m n at place r y b moved k e. e ∙ ap says_always (sym moved) };
+    ghost quiet = { λ x m n at place r y b moved k. (λ e. e ∙ ap says_always (sym moved), λ e. e ∙ ap says_always moved) };
 
     fn on_register_dispatch(&mut self, _dispatch: &WeakDispatch) {}
 

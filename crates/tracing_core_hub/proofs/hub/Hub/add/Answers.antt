@@ -1,19 +1,8 @@
-use Rattle.std.proofs.Common.{◌≡◌, ◌+◌, ap, ◌∙◌, subst, List, [], ◌∷◌, ◌++◌}
-use Rattle.tracing_core_hub.specs.Calls.{DispatchRegistered}
-use Rattle.tracing_core_hub.specs.Commands.{Rebuilt, living}
-use Rattle.tracing_core_hub.specs.declared.hub.parts.Entry.{Entry}
+use Rattle.tracing_core_hub.proofs.Words.{add_keeps, added_right}
 use Rattle.tracing_core_hub.proofs.hub.Hub.add.Goals as goal
 
-pub returns : goal.returns
-returns g c =
-    let i = c.self.inside in
-    let z = c.on_register_dispatch.new.self in
-    let pushed : c.push_reserved.new.self.items ≡ i.entries.items ++ living i.next z ∷ [] = c.push_reserved.ensures.items ∙ ap (λ (es : List (Entry g.row.S.Denot)). es ++ living i.next z ∷ []) c.reserve.ensures.items in
-    rw (← c.self.view_is) (
-      c.new-2.ensures,
-      (
-        z,
-        subst (λ d. g.S.Subscriber.moves c.args.subscriber (DispatchRegistered d) tt z) c.new.ensures c.on_register_dispatch.ensures,
-        subst (λ (es : List (Entry g.row.S.Denot)). Rebuilt g.S.Subscriber g.C.Callsite (record { entries = es; next = i.next + 1; rows = i.rows.items; lanes = i.lanes.items; global = i.global; greatest = i.greatest }) c.ask_all_again.new.self) pushed c.ask_all_again.ensures,
-      ),
-    )
+pub returns-clause-right : goal.returns-clause-right
+returns-clause-right g c = added_right g.S.Subscriber g.C.Callsite c.args.self.now _ c.args.subscriber c.take_in.result c.take_in.ensures
+
+pub returns-clause-keeps : goal.returns-clause-keeps
+returns-clause-keeps g c = add_keeps g.S.Subscriber g.C.Callsite c.args.self.now _ c.args.subscriber c.take_in.result c.take_in.ensures

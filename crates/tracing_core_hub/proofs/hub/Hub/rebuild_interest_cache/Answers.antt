@@ -1,6 +1,13 @@
 use Rattle.tracing_core_hub.proofs.Keeping.{rebuilt_keeps}
+use Rattle.tracing_core_hub.proofs.Words.{rebuild_keeps, rebuilt_off}
 use Rattle.tracing_core_hub.proofs.hub.Hub.rebuild_interest_cache.Goals as goal
 
-pub returns-clause-kept : goal.returns-clause-kept
-returns-clause-kept g c e there steady rows =
+pub returns-clause-right : goal.returns-clause-right
+returns-clause-right g c e there steady rows =
     rebuilt_keeps g.S.Subscriber g.C.Callsite c.args.self.now _ e c.ask_all_again.ensures there steady rows
+
+pub returns-clause-keeps : goal.returns-clause-keeps
+returns-clause-keeps g c = rebuild_keeps g.S.Subscriber g.C.Callsite c.args.self.now _ c.ask_all_again.ensures
+
+pub returns-clause-nobody : goal.returns-clause-nobody
+returns-clause-nobody g c none = rebuilt_off g.S.Subscriber g.C.Callsite c.args.self.now _ c.ask_all_again.ensures none

@@ -3,11 +3,11 @@ use Rattle.tracing_core_hub.specs.Calls.{Exited}
 use Rattle.tracing_core_hub.proofs.Handed.{to_nobody, to_somebody}
 use Rattle.tracing_core_hub.proofs.hub.handing.exit_at.Goals as goal
 
+pub returns : goal.returns
+returns g c =
+    to_somebody g.S.Subscriber (Exited c.args.span.now c.args.at) c.args.serial c.args.entries.now c.place_or_end-place.result c.place_or_end-place.ensures
+    (omega arith) c.index-entries-place.result tt c.exit.new.self c.exit.ensures
+
 pub returns-then-place-entries : goal.returns-then-place-entries
 returns-then-place-entries g c =
-    to_somebody g.S.Subscriber (Exited c.args.span.now c.args.at) c.args.serial c.args.entries.now c.place_or_end-place.result c.place_or_end-place.ensures
-    c.if-place-entries.true c.index-entries-place.result tt c.exit.new.self c.exit.ensures
-
-pub returns-else-place-entries : goal.returns-else-place-entries
-returns-else-place-entries g c =
     to_nobody g.S.Subscriber (Exited c.args.span.now c.args.at) c.args.serial c.args.entries.now c.place_or_end-place.result c.place_or_end-place.ensures (omega arith)

@@ -2,4 +2,4 @@ use Rattle.tracing_core_hub.specs.Lent.{given_as}
 use Rattle.tracing_core_hub.proofs.hub.lending.place_to_lend.Goals as goal
 
 pub returns : goal.returns
-returns g c = let found = c.place_or_end-place.ensures in (found.0, λ s. found.1 (given_as s), λ s. found.2 (given_as s))
+returns g c = let found = c.place_or_end.ensures in (found.0, λ s. found.1 (given_as s), λ s. found.2 (given_as s))

@@ -1,0 +1,124 @@
+-- What commands leave sound.
+use Rattle.std.proofs.Common.{◌≡◌, ℕ, ◌+◌, true, false, List, [], ◌∷◌, ◌++◌, Option, Some, None, refl, ap, sym, ◌∙◌, subst, arith}
+use Rattle.tracing_core_fields.specs.PlainMetadata.{PlainMetadata}
+use Rattle.tracing_core_hub.specs.Asking.{Each, Registers, Hints, RowAsked}
+use Rattle.tracing_core_hub.specs.Commands.{Rebuilt, Registered, living, new_row, row_of, is_at}
+use Rattle.tracing_core_hub.specs.Interests.{PlainInterest}
+use Rattle.tracing_core_hub.specs.Kept.{Every, IsTrueRow}
+use Rattle.tracing_core_hub.specs.Sound.{Ascends, AreDistinct, IsSound, serials, identifiers}
+use Rattle.tracing_core_hub.specs.Steady.{IsReal}
+use Rattle.tracing_core_hub.specs.Table.{Table}
+use Rattle.tracing_core_hub.specs.declared.callsite.Callsite.{Ghosts as SiteGhosts}
+use Rattle.tracing_core_hub.specs.declared.hub.parts.Entry.{Entry}
+use Rattle.tracing_core_hub.specs.declared.hub.parts.Row.{Row}
+use Rattle.tracing_core_hub.specs.declared.subscriber.Subscriber.{Ghosts}
+use Rattle.tracing_core_hub.proofs.Living.{by_bool, each_serials, ascends_append, serials_append}
+
+pub every_append : {A : Type 0} (P : A → Type 0) (xs : List A) (x : A) → Every P xs → P x → Every P (xs ++ x ∷ [])
+every_append P [] x all last = (last, tt)
+every_append P (y ∷ ys) x all last = (all.0, every_append P ys x all.1 last)
+
+distinct_append : (ns : List ℕ) (x : ℕ) → AreDistinct ns → Every (λ m. ¬ (m ≡ x)) ns → AreDistinct (ns ++ x ∷ [])
+distinct_append [] x apart new = (tt, tt)
+distinct_append (n ∷ ns) x apart new = (every_append (λ m. ¬ (m ≡ n)) ns x apart.0 (λ e. new.0 (sym e)), distinct_append ns x apart.1 new.1)
+
+module _ {C : Type 0} where
+  identifiers_append : (rows : List (Row C)) (row : Row C) → identifiers (rows ++ row ∷ []) ≡ identifiers rows ++ row.identifier ∷ []
+  identifiers_append [] row = refl
+  identifiers_append (r ∷ rows) row = ap (λ ns. r.identifier ∷ ns) (identifiers_append rows row)
+
+  row_head : (n : ℕ) (r : Row C) (rows : List (Row C)) → is_at n r ≡ true → row_of n (r ∷ rows) ≡ Some r
+  row_head n r rows e = rw e refl
+
+  row_tail : (n : ℕ) (r : Row C) (rows : List (Row C)) → is_at n r ≡ false → row_of n (r ∷ rows) ≡ row_of n rows
+  row_tail n r rows e = rw e refl
+
+  unknown_apart : (n : ℕ) (rows : List (Row C)) → row_of n rows ≡ None → Every (λ m. ¬ (m ≡ n)) (identifiers rows)
+  unknown_apart n [] none = tt
+  unknown_apart n (r ∷ rows) none =
+      by_bool (is_at n r)
+      (λ here. let first : Some r ≡ None = sym (row_head n r rows here) ∙ none in absurd (cc))
+      (λ away. (λ e. let here : is_at n r ≡ true = grind arith in absurd (cc), unknown_apart n rows (sym (row_tail n r rows away) ∙ none)))
+
+module _ {S C : Type 0} (h : SiteGhosts C) where
+  -- the same numbers, and the same callsites
+  pub sound_alike : (t u : Table S C) → serials u.entries ≡ serials t.entries → u.next ≡ t.next → u.rows ≡ t.rows → IsSound h t → IsSound h u
+  sound_alike t u numbers next rows sound =
+      record {
+        numbers = subst (λ n. Ascends 0 (serials u.entries) n) (sym next) (subst (λ ns. Ascends 0 ns t.next) (sym numbers) sound.numbers);
+        apart = subst (λ (rs : List (Row C)). AreDistinct (identifiers rs)) (sym rows) sound.apart;
+        sites = subst (Every (IsTrueRow h)) (sym rows) sound.sites;
+      }
+
+  module _ (g : Ghosts S) where
+    asked_serials : (m : PlainMetadata) (es fs : List (Entry S)) (k last : Option PlainInterest) → Each (Registers g m) k es fs last → serials fs ≡ serials es
+    asked_serials m es fs k last each = each_serials (Registers g m) (λ k j x y r. ap (λ (e : Entry S). e.serial) r.3) k last es fs each
+
+    hinted_serials : (es fs : List (Entry S)) (k last : ℕ) → Each (Hints g) k es fs last → serials fs ≡ serials es
+    hinted_serials es fs k last each = each_serials (Hints g) (λ k j x y r. ap (λ (e : Entry S). e.serial) r.1) k last es fs each
+
+    rows_serials : (es fs : List (Entry S)) (rows laters : List (Row C)) → Each (RowAsked g h) es rows laters fs → serials fs ≡ serials es
+    rows_serials es fs [] [] each = ap (λ (xs : List (Entry S)). serials xs) each
+    rows_serials es fs [] (later ∷ laters) each = absurd each
+    rows_serials es fs (row ∷ rows) [] each = absurd each
+    rows_serials es fs (row ∷ rows) (later ∷ laters) each =
+        rows_serials each.0 fs rows laters each.2 ∙ asked_serials (h.metadata_of row.callsite) es each.0 None each.1.0.0 each.1.0.1
+
+    rows_identifiers : (es fs : List (Entry S)) (rows laters : List (Row C)) → Each (RowAsked g h) es rows laters fs → identifiers laters ≡ identifiers rows
+    rows_identifiers es fs [] [] each = refl
+    rows_identifiers es fs [] (later ∷ laters) each = absurd each
+    rows_identifiers es fs (row ∷ rows) [] each = absurd each
+    rows_identifiers es fs (row ∷ rows) (later ∷ laters) each =
+        ap (λ n. n ∷ identifiers laters) (ap (λ (r : Row C). r.identifier) each.1.3) ∙ ap (λ ns. row.identifier ∷ ns) (rows_identifiers each.0 fs rows laters each.2)
+
+    -- what was true of a callsite is true of it once it was asked of
+    pub row_true : (es fs : List (Entry S)) (row later : Row C) → RowAsked g h es row later fs → IsTrueRow h row → IsTrueRow h later
+    row_true es fs row later turn known = (
+      ap (λ (r : Row C). r.level) turn.3 ∙ known.0 ∙ ap (λ (x : PlainMetadata). x.level) (sym turn.1),
+      subst IsReal (sym turn.1) known.1,
+      ap (λ (r : Row C). r.identifier) turn.3 ∙ known.2 ∙ ap (λ (x : PlainMetadata). x.callsite) (sym turn.1),
+    )
+
+    rows_true : (es fs : List (Entry S)) (rows laters : List (Row C)) → Each (RowAsked g h) es rows laters fs → Every (IsTrueRow h) rows → Every (IsTrueRow h) laters
+    rows_true es fs [] [] each known = tt
+    rows_true es fs [] (later ∷ laters) each known = absurd each
+    rows_true es fs (row ∷ rows) [] each known = absurd each
+    rows_true es fs (row ∷ rows) (later ∷ laters) each known = (row_true es each.0 row later each.1 known.0, rows_true each.0 fs rows laters each.2 known.1)
+
+    pub rebuilt_sound : (t u : Table S C) → Rebuilt g h t u → IsSound h t → IsSound h u
+    rebuilt_sound t u r sound =
+        let next : u.next ≡ t.next = ap (λ (v : Table S C). v.next) r.rest in
+        let numbers : serials u.entries ≡ serials t.entries = hinted_serials r.asked u.entries 0 u.greatest r.hints ∙ rows_serials t.entries r.asked t.rows u.rows r.rows in
+        record {
+          numbers = subst (λ n. Ascends 0 (serials u.entries) n) (sym next) (subst (λ ns. Ascends 0 ns t.next) (sym numbers) sound.numbers);
+          apart = subst AreDistinct (sym (rows_identifiers t.entries r.asked t.rows u.rows r.rows)) sound.apart;
+          sites = rows_true t.entries r.asked t.rows u.rows r.rows sound.sites;
+        }
+
+    -- with a new subscriber, which has the next number
+    pub added_sound : (t : Table S C) (z : S) → IsSound h t → IsSound h (record t { entries = t.entries ++ living t.next z ∷ []; next = t.next + 1 })
+    added_sound t z sound =
+        record {
+          numbers = subst (λ ns. Ascends 0 ns (t.next + 1)) (sym (serials_append t.entries (living t.next z))) (ascends_append 0 t.next (serials t.entries) sound.numbers);
+          apart = sound.apart;
+          sites = sound.sites;
+        }
+
+    -- a callsite as it comes is true, if its level is one of the five
+    pub new_row_true : (callsite : C) → IsReal (h.metadata_of callsite) → IsTrueRow h (new_row h callsite)
+    new_row_true callsite real = (refl, real, refl)
+
+    pub registered_sound : (t u : Table S C) (callsite : C) (interest : PlainInterest) → IsReal (h.metadata_of callsite) → Registered g h t callsite interest u → IsSound h t → IsSound h u
+    registered_sound t u callsite interest real r sound =
+        let rows : u.rows ≡ t.rows ++ r.row ∷ [] = ap (λ (v : Table S C). v.rows) r.kept in
+        let next : u.next ≡ t.next = ap (λ (v : Table S C). v.next) r.kept in
+        let numbers : serials u.entries ≡ serials t.entries = asked_serials (h.metadata_of callsite) t.entries u.entries None r.asked.0.0 r.asked.0.1 in
+        let number : r.row.identifier ≡ (h.metadata_of callsite).callsite = ap (λ (x : Row C). x.identifier) r.asked.3 in
+        let unknown : row_of r.row.identifier t.rows ≡ None = subst (λ n. row_of n t.rows ≡ None) (sym number) r.unknown in
+        record {
+          numbers = subst (λ n. Ascends 0 (serials u.entries) n) (sym next) (subst (λ ns. Ascends 0 ns t.next) (sym numbers) sound.numbers);
+          apart = subst (λ (rs : List (Row C)). AreDistinct (identifiers rs)) (sym rows) (
+              subst AreDistinct (sym (identifiers_append t.rows r.row)) (distinct_append (identifiers t.rows) r.row.identifier sound.apart (unknown_apart r.row.identifier t.rows unknown))
+              );
+          sites = subst (Every (IsTrueRow h)) (sym rows) (every_append (IsTrueRow h) t.rows r.row sound.sites (row_true t.entries u.entries (new_row h callsite) r.row r.asked (new_row_true callsite real)));
+        }

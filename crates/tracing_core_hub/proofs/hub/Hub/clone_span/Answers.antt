@@ -1,0 +1,7 @@
+use Rattle.tracing_core_hub.specs.Calls.{Cloned}
+use Rattle.tracing_core_hub.proofs.Words.{call_keeps}
+use Rattle.tracing_core_hub.proofs.hub.Hub.clone_span.Goals as goal
+
+pub returns-clause-keeps : goal.returns-clause-keeps
+returns-clause-keeps g c =
+    call_keeps g.S.Subscriber g.C.Callsite (Cloned c.args.span.now c.args.at) c.args.dispatch.now c.args.self.now _ c.hand_clone_span.result tt c.hand_clone_span.ensures

@@ -1,0 +1,29 @@
+-- What a command leaves of what a hub knows.
+use Rattle.std.specs.Prelude.{◌≡◌, false, Some}
+use Rattle.tracing_core_hub.specs.Handles.{entry_of}
+use Rattle.tracing_core_hub.specs.Kept.{Every, Kept}
+use Rattle.tracing_core_hub.specs.Sound.{IsSound}
+use Rattle.tracing_core_hub.specs.Table.{Table}
+use Rattle.tracing_core_hub.specs.declared.callsite.Callsite.{Ghosts as SiteGhosts}
+use Rattle.tracing_core_hub.specs.declared.hub.parts.Entry.{Entry}
+use Rattle.tracing_core_hub.specs.declared.hub.parts.Row.{Row}
+use Rattle.tracing_core_hub.specs.declared.interest.InterestInner.TheVariants.{Never}
+use Rattle.tracing_core_hub.specs.declared.subscriber.Subscriber.{Ghosts}
+
+abbrev pub IsNever : {C : Type 0} → Row C → Type 0
+IsNever row = row.interest ≡ Never
+
+-- no level is let through, and nobody is interested in any callsite
+abbrev pub IsOff : {S C : Type 0} → Table S C → Type 0
+IsOff t = (t.greatest ≡ 0) × Every IsNever t.rows
+
+module _ {S C : Type 0} (g : Ghosts S) (h : SiteGhosts C) where
+  -- the table stays sound, and what is kept stays right of everyone of whom it was right
+  pub record Keeps (t u : Table S C) : Type 0 where
+    pub sound : IsSound h t → IsSound h u
+    pub right_of : (e : Entry S) → Kept g h t e → (f : Entry S) × (f.serial ≡ e.serial) × Kept g h u f
+
+  -- the table stays sound, and what is kept stays right of those who live on and aren't lent
+  pub record KeepsOthers (t u : Table S C) : Type 0 where
+    pub sound : IsSound h t → IsSound h u
+    pub right_of : IsSound h t → (e f : Entry S) → Kept g h t e → entry_of e.serial u.entries ≡ Some f → f.lent ≡ false → Kept g h u f

@@ -1,0 +1,33 @@
+-- What is true of every hub.
+use Rattle.std.specs.Prelude.{◌≡◌, ◌≤◌, ◌+◌, ℕ, List, [], ◌∷◌, map}
+use Rattle.tracing_core_hub.specs.Kept.{Every, IsTrueRow}
+use Rattle.tracing_core_hub.specs.Table.{Table}
+use Rattle.tracing_core_hub.specs.declared.callsite.Callsite.{Ghosts as SiteGhosts}
+use Rattle.tracing_core_hub.specs.declared.hub.parts.Entry.{Entry}
+use Rattle.tracing_core_hub.specs.declared.hub.parts.Row.{Row}
+
+-- numbers that ascend from the least on, all of them below the end
+abbrev pub Ascends : ℕ → List ℕ → ℕ → Type 0
+Ascends least [] end = least ≤ end
+Ascends least (n ∷ ns) end = (least ≤ n) × Ascends (n + 1) ns end
+
+-- no number stands twice
+abbrev pub AreDistinct : List ℕ → Type 0
+AreDistinct [] = Unit {0}
+AreDistinct (n ∷ ns) = Every (λ m. ¬ (m ≡ n)) ns × AreDistinct ns
+
+-- the numbers of the subscribers
+abbrev pub serials : {S : Type 0} → List (Entry S) → List ℕ
+serials {S = S} es = map (λ (e : Entry S). e.serial) es
+
+-- the identifiers of the callsites
+abbrev pub identifiers : {C : Type 0} → List (Row C) → List ℕ
+identifiers {C = C} rows = map (λ (row : Row C). row.identifier) rows
+
+pub record IsSound {S C : Type 0} (h : SiteGhosts C) (t : Table S C) : Type 0 where
+  -- the numbers of subscribers differ, and are below the next one
+  pub numbers : Ascends 0 (serials t.entries) t.next
+  -- the identifiers of callsites differ
+  pub apart : AreDistinct (identifiers t.rows)
+  -- the identifier and the level that are kept are the callsite's
+  pub sites : Every (IsTrueRow h) t.rows
