@@ -6,3 +6,5 @@ pub mod Tables
 pub mod Keeping
 pub mod Gates
 pub mod Handed
+pub mod Books
+pub mod Runs

@@ -18,3 +18,5 @@ pub mod Everything
 pub mod Kept
 pub mod Lending
 pub mod Handing
+pub mod Copies
+pub mod Running

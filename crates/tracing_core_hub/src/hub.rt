@@ -12,14 +12,17 @@ mod handing;
 mod handles;
 mod lending;
 mod parts;
+mod reaching;
 mod rows;
+mod table;
 mod taking;
 
 use crate::dispatch::WeakDispatch;
-pub(crate) use parts::{Row, Setting};
-use parts::{Entry, Lane};
+use parts::{Entry, Row};
+pub use parts::{Lane, Setting};
 use std::alloc::{AllocError, Global};
 use std::marker::Model;
+pub use table::{HandleCount, HubTable, KeptInterest};
 use tracing_core_fields::LevelFilter;
 
 /// Subscribers that handles lead to, callsites with their common interests, and the defaults of lanes.

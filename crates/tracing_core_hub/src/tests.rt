@@ -4,6 +4,8 @@ use tracing_core_fields::{FieldSet, Id, Identifier, Kind, Level, LevelFilter, Me
 
 mod everything;
 mod place;
+mod reaching;
+mod running;
 
 use everything::Everything;
 use place::Place;

@@ -1,0 +1,51 @@
+//! Making an event and handing it over at once.
+ghost use Rattle.tracing_core_fields.specs.Metadata.{plain_metadata};
+ghost use Rattle.tracing_core_fields.specs.ValueSet.{entries_of};
+ghost use Rattle.tracing_core_hub.specs.Calls.{Told};
+ghost use Rattle.tracing_core_hub.specs.Commands.{reached};
+ghost use Rattle.tracing_core_hub.specs.Handing.{HubGives};
+ghost use Rattle.tracing_core_hub.specs.PlainRequests.{child_or_root};
+
+use crate::at::At;
+use crate::hub::Hub;
+use crate::refusal::RequestError;
+use crate::requests::event::Event;
+use crate::requests::parent::Parent;
+use crate::subscriber::Subscriber;
+use tracing_core_fields::{Id, Metadata, ValueSet};
+
+impl Event<'_, '_> {
+    /// Makes an event under the current span, and hands it to the subscriber that the lane reaches.
+    pub fn dispatch<S: Subscriber, C>(
+        hub: &mut Hub<S, C>,
+        metadata: &Metadata<'_>,
+        values: ValueSet<'_>,
+        at: At,
+    ) -> Result<(), RequestError>
+        ensures { HubGives ⟦<S as Subscriber>⟧ (Told (record {
+          metadata = plain_metadata metadata.now;
+          entries = entries_of values.entry;
+          parent = Parent.Current;
+        }) at) (reached hub.old at.lane) hub.old result hub.new }
+    {
+        hub.event_here(&Event::new(metadata, values), at)
+    }
+
+    /// Makes an event under this span, or under none, and hands it to the subscriber that the lane
+    /// reaches.
+    pub fn child_of<S: Subscriber, C>(
+        hub: &mut Hub<S, C>,
+        parent: Option<Id>,
+        metadata: &Metadata<'_>,
+        values: ValueSet<'_>,
+        at: At,
+    ) -> Result<(), RequestError>
+        ensures { HubGives ⟦<S as Subscriber>⟧ (Told (record {
+          metadata = plain_metadata metadata.now;
+          entries = entries_of values.entry;
+          parent = child_or_root parent;
+        }) at) (reached hub.old at.lane) hub.old result hub.new }
+    {
+        hub.event_here(&Event::new_child_of(parent, metadata, values), at)
+    }
+}
