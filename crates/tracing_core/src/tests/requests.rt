@@ -66,7 +66,10 @@ fn surface_current(rt: HostRuntime) -> Result<(), Fail> {
     let inside: Option<Id> = (&current).into();
     assert!(rt; current.is_known() && current.id() == Some(&id) && inside == Some(id));
     assert!(rt; current.metadata() == Some(&metadata) && Current::none().is_known());
-    assert!(rt; current.into_inner().is_some_and(|inner| inner.0 == id));
+    let Some((kept, of)) = current.into_inner() else {
+        panic!(&rt; "no current span");
+    };
+    assert_eq!(rt; (kept, of.name()), (id, "made"));
     assert!(rt; Id::from_u64(0).is_none() && id.into_u64() == 4);
     assert!(rt; Id::from_non_zero_u64(id.into_non_zero_u64()) == id);
     Ok(())
