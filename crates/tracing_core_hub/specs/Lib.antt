@@ -20,3 +20,4 @@ pub mod Lending
 pub mod Handing
 pub mod Copies
 pub mod Running
+pub mod Scopes

@@ -1,5 +1,5 @@
 -- What a hub replies to commands on handles, lanes and guards by number, and what they leave.
-use Rattle.std.specs.Prelude.{◌≡◌, ℕ, List, [], ◌∷◌, ◌++◌, Option, Some, None, Result, Ok, Err, length, slice_get, slice_set}
+use Rattle.std.specs.Prelude.{◌≡◌, ℕ, false, List, [], ◌∷◌, ◌++◌, Option, Some, None, Result, Ok, Err, length, slice_get, slice_set}
 use Rattle.std.specs.Option.{option_map}
 use Rattle.tracing_core_hub.specs.Commands.{AddGives, GateGives, RegisterGives, RegisterOnceGives, Rebuilt, reached, row_of}
 use Rattle.tracing_core_hub.specs.Defaults.{was_set, holding, letting_go, upgrade_answer, global_refusal, globally, default_refusal, locally, guard_of, end_gives, reset_gives}
@@ -75,7 +75,7 @@ module _ {S C : Type 0} where
 
   -- a new lane has the next number
   abbrev pub ThreadRuns : Table S C → CommandReply S C → Table S C → Type 0
-  ThreadRuns t (reply.Lane lane) u = (lane ≡ length t.lanes) × (u ≡ record t { lanes = t.lanes ++ Running Unset ∷ [] })
+  ThreadRuns t (reply.Lane lane) u = (lane ≡ length t.lanes) × (u ≡ record t { lanes = t.lanes ++ Running Unset ∷ []; entered = t.entered ++ false ∷ [] })
   ThreadRuns t (reply.Refused error.OutOfMemory) u = u ≡ t
   ThreadRuns t other u = ⊥
 

@@ -1,5 +1,5 @@
 //! Subscribers, callsites with what is kept of them, lanes and defaults.
-ghost use Rattle.std.specs.Prelude.{◌≡◌, ◌++◌, ◌∷◌, [], OnOk, OnErr, IfOk, length, slice_get};
+ghost use Rattle.std.specs.Prelude.{◌≡◌, ◌++◌, ◌∷◌, [], false, OnOk, OnErr, IfOk, length, slice_get};
 ghost use Rattle.tracing_core_hub.specs.Table.{Table, fresh, chosen, own_setting, effective};
 ghost use Rattle.tracing_core_hub.specs.declared.hub.parts.Lane.TheVariants.{Running};
 ghost use Rattle.tracing_core_hub.specs.declared.hub.parts.Setting.TheVariants.{Unset};
@@ -14,6 +14,7 @@ mod lending;
 mod parts;
 mod reaching;
 mod rows;
+mod scoped;
 mod table;
 mod taking;
 
@@ -34,6 +35,8 @@ pub struct Hub<S, C> {
     next: u64,
     rows: Vec<Row<C>>,
     lanes: Vec<Lane>,
+    // by lane, whether it is within a `get_default` or `get_current`
+    entered: Vec<bool>,
     global: Setting,
     greatest: LevelFilter,
 }
@@ -43,7 +46,7 @@ impl<S, C> Model for Hub<S, C> {
 
     ghost Value = { Table S C };
 
-    ghost view = { λ h. record { entries = h.entries.items; next = h.next; rows = h.rows.items; lanes = h.lanes.items; global = h.global; greatest = h.greatest } };
+    ghost view = { λ h. record { entries = h.entries.items; next = h.next; rows = h.rows.items; lanes = h.lanes.items; entered = h.entered.items; global = h.global; greatest = h.greatest } };
 }
 
 impl<S, C> Hub<S, C> {
@@ -56,6 +59,7 @@ impl<S, C> Hub<S, C> {
             next: 0,
             rows: Vec::new(alloc),
             lanes: Vec::new(alloc),
+            entered: Vec::new(alloc),
             global: Setting::Unset,
             greatest: LevelFilter::OFF,
         }
@@ -64,11 +68,13 @@ impl<S, C> Hub<S, C> {
     /// The number of a new lane, which has no default of its own.
     pub fn thread(&mut self) -> Result<u64, AllocError>
         ensures number { IfOk result (λ lane. lane ≡ length self.old.lanes) }
-        ensures added { OnOk result (self.new ≡ record self.old { lanes = self.old.lanes ++ Running Unset ∷ [] }) }
+        ensures added { OnOk result (self.new ≡ record self.old { lanes = self.old.lanes ++ Running Unset ∷ []; entered = self.old.entered ++ false ∷ [] }) }
         ensures refused { OnErr result (self.new ≡ self.old) }
     {
         let lane = self.lanes.len() as u64;
+        self.entered.reserve(1)?;
         self.lanes.push(Lane::Running(Setting::Unset))?;
+        self.entered.push_reserved(false);
         Ok(lane)
     }
 

@@ -6,6 +6,7 @@ mod everything;
 mod place;
 mod reaching;
 mod running;
+mod scoped;
 
 use everything::Everything;
 use place::Place;
