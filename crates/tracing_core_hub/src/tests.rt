@@ -5,6 +5,7 @@ use tracing_core_fields::{FieldSet, Id, Identifier, Kind, Level, LevelFilter, Me
 mod everything;
 mod place;
 mod reaching;
+mod registering;
 mod running;
 mod scoped;
 
