@@ -1,6 +1,8 @@
 //! The core of tracing: levels, metadata, fields, values, visits, span ids, and the hub of subscribers.
 #![tactic(auto)]
 
+mod macros;
+
 pub use tracing_core_fields::{
     AnyValue, DebugText, ErrorText, Field, FieldSet, FieldValue, Id, Identifier, Iter, Kind, Level,
     LevelFilter, Metadata, OwnedValue, ParseLevelError, ParseLevelFilterError, ValueSet, Visit,

@@ -126,6 +126,39 @@ fn surface_hub_lanes(rt: HostRuntime) -> Result<(), Fail> {
 }
 
 #[test]
+fn surface_hub_scopes(rt: HostRuntime) -> Result<(), Fail> {
+    let alloc = rt.alloc();
+    let mut hub: Hub<Box<NoSubscriber>, Place> = Hub::new(alloc);
+    let lane = hub.thread()?;
+    let boxed = Box::new(alloc, NoSubscriber::new())?;
+    let first = hub.add(boxed).ok().ok_or("memory")?;
+    let (found, reset) = hub.with_default(lane, &first, |hub| {
+        hub.get_default(lane, |hub, dispatch| {
+            let found = hub.subscriber(dispatch).is_some();
+            let again = hub.get_default(lane, |hub, inner| hub.subscriber(inner).is_some());
+            (found, again, hub.get_current(lane, |_, _| ()).is_some())
+        })
+    })?;
+    assert_eq!(rt; found, (true, false, false));
+    assert!(rt; reset.is_ok());
+    let outside = hub.get_current(lane, |hub, dispatch| hub.subscriber(dispatch).is_some());
+    assert_eq!(rt; outside, Some(false));
+    Ok(())
+}
+
+#[test]
+fn surface_callsites_register(rt: HostRuntime) {
+    let metadata = metadata_of(FieldSet::new(&[], Identifier(5)));
+    let mut site = DefaultCallsite::new(&metadata);
+    let mut hub: Hub<NoSubscriber, DefaultCallsite<'_>> = Hub::new(rt.alloc());
+    assert!(rt;
+        site.register(&mut hub)
+            .is_ok_and(|interest| interest.is_never())
+    );
+    assert!(rt; site.register(&mut hub).is_ok() && site.interest().is_never());
+}
+
+#[test]
 fn surface_callsites(rt: HostRuntime) {
     let metadata = metadata_of(FieldSet::new(&[], Identifier(5)));
     let mut site = DefaultCallsite::new(&metadata);

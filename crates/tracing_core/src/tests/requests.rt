@@ -2,6 +2,7 @@
 use crate::tests::lines::Counted;
 use crate::{
     AnyValue, Attributes, Current, Event, FieldSet, Id, Identifier, Kind, Level, Metadata, Record,
+    metadata,
 };
 use std::test::Fail;
 
@@ -18,6 +19,20 @@ fn metadata_of(fields: FieldSet<'_>) -> Metadata<'_> {
         fields,
         Kind::SPAN,
     )
+}
+
+#[test]
+fn surface_metadata_in_bodies(rt: HostRuntime) {
+    let metadata = metadata! {
+        name: "made",
+        target: "app",
+        level: Level::INFO,
+        fields: &NAMES,
+        callsite: Identifier(7),
+        kind: Kind::SPAN,
+    };
+    assert!(rt; metadata.name() == "made" && metadata.fields().len() == 2);
+    assert!(rt; metadata.is_span() && metadata.callsite() == Identifier(7));
 }
 
 #[test]
