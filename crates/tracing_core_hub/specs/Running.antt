@@ -53,7 +53,7 @@ named handles (Some number) = item_of handles number
 -- a guard that comes back stays under its number
 abbrev pub guards_after : {S : Type 0} → List (Option DefaultGuard) → ℕ → Result (Option S) WrongLane → List (Option DefaultGuard)
 guards_after guards number (Ok released) = slice_set guards number None
-guards_after guards number (Err wrong) = slice_set (slice_set guards number None) number (Some wrong.0)
+guards_after guards number (Err wrong) = guards
 
 module _ {S C : Type 0} where
   -- refused for want of memory with nothing changed, or else what the command gives
