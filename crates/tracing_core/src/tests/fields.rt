@@ -2,7 +2,8 @@
 use crate::tests::lines::Counted;
 use crate::{
     AnyValue, DebugText, Empty, ErrorText, FieldSet, Identifier, Interest, Kind, Level,
-    LevelFilter, Metadata, Value, debug, display,
+    LevelFilter, Metadata, Value, debug, display, filters_read_their_names,
+    interests_join_in_any_order, levels_read_their_names, numbers_are_read_as_usize,
 };
 use std::num::{NonZeroU8, Wrapping};
 use std::test::Fail;
@@ -106,4 +107,12 @@ fn surface_values(rt: HostRuntime) -> Result<(), Fail> {
     assert!(rt; never.is_never() && always.is_always() && never.common(always).is_sometimes());
     assert!(rt; never.common(always) == Interest::sometimes());
     Ok(())
+}
+
+#[test]
+fn surface_laws(_rt: HostRuntime) {
+    levels_read_their_names();
+    filters_read_their_names();
+    numbers_are_read_as_usize();
+    interests_join_in_any_order();
 }
