@@ -10,6 +10,10 @@ use Rattle.tracing_core_hub.specs.NoReplies.{no_reply}
 use Rattle.tracing_core_hub.specs.declared.hub.parts.Entry.{Entry}
 use Rattle.tracing_core_hub.specs.declared.subscriber.Subscriber.{Ghosts}
 
+-- past the end, the handle leads to nobody
+pub nobody_there : {S : Type 0} (dispatch : Option ℕ) (es : List (Entry S)) (i : ℕ) → IsPlaceOrEnd dispatch es i → length es ≤ i → living_of dispatch es ≡ None
+nobody_there dispatch es i found past = sym found.0 ∙ slice_get_past es i past
+
 module _ {S : Type 0} (g : Ghosts S) (c : Call) (dispatch : Option ℕ) (es : List (Entry S)) (i : ℕ) (found : IsPlaceOrEnd dispatch es i) where
   pub to_nobody : length es ≤ i → CallGives g c dispatch es (no_reply c) es
   to_nobody past =

@@ -9,3 +9,5 @@ pub mod Sounding
 pub mod Words
 pub mod Gates
 pub mod Handed
+pub mod Books
+pub mod Runs

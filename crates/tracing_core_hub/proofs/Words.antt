@@ -110,9 +110,9 @@ module _ {S C : Type 0} (g : Ghosts S) (h : SiteGhosts C) where
       or_same_keeps (default_refusal t lane dispatch) t (locally t lane dispatch) u left (held_keeps dispatch t (locally t lane dispatch) refl (record { next = refl; rows = refl; greatest = refl }))
 
   -- other lanes
-  pub lanes_keep : {A E : Type 0} (r : Result A E) (t u : Table S C) (lanes : List Lane) → OnOk r (u ≡ record t { lanes = lanes }) → OnErr r (u ≡ t) → Keeps g h t u
-  lanes_keep (Ok a) t u lanes ok err = subst (Keeps g h t) (sym ok) (same_keeps t (record t { lanes = lanes }) refl (record { next = refl; rows = refl; greatest = refl }))
-  lanes_keep (Err e) t u lanes ok err = subst (Keeps g h t) (sym err) (itself_keeps t)
+  pub lanes_keep : {A E : Type 0} (r : Result A E) (t u : Table S C) (lanes : List Lane) (entered : List Bool) → OnOk r (u ≡ record t { lanes = lanes; entered = entered }) → OnErr r (u ≡ t) → Keeps g h t u
+  lanes_keep (Ok a) t u lanes entered ok err = subst (Keeps g h t) (sym ok) (same_keeps t (record t { lanes = lanes; entered = entered }) refl (record { next = refl; rows = refl; greatest = refl }))
+  lanes_keep (Err e) t u lanes entered ok err = subst (Keeps g h t) (sym err) (itself_keeps t)
 
   same_entry : (es : List (Entry S)) (k : ℕ) (x f : Entry S) → entry_of k es ≡ Some x → entry_of k es ≡ Some f → x ≡ f
   same_entry es k x f a b = let one : Some x ≡ Some f = sym a ∙ b in cc

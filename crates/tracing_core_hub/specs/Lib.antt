@@ -19,3 +19,6 @@ pub mod Sound
 pub mod Keeping
 pub mod Lending
 pub mod Handing
+pub mod Copies
+pub mod Running
+pub mod Scopes

@@ -1,5 +1,5 @@
 -- What a hub keeps, as plain data.
-use Rattle.std.specs.Prelude.{ℕ, List, [], Option, Some, None}
+use Rattle.std.specs.Prelude.{ℕ, Bool, List, [], Option, Some, None}
 use Rattle.tracing_core_hub.specs.declared.hub.parts.Entry.{Entry}
 use Rattle.tracing_core_hub.specs.declared.hub.parts.Row.{Row}
 use Rattle.tracing_core_hub.specs.declared.hub.parts.Setting.{Setting}
@@ -16,12 +16,14 @@ pub record Table (S C : Type 0) : Type 0 where
   pub rows : List (Row C)
   -- the lanes, by their numbers
   pub lanes : List Lane
+  -- by lane, whether it is within a call that lends its subscriber
+  pub entered : List Bool
   pub global : Setting
   -- the rank of the greatest level that some subscriber enables
   pub greatest : ℕ
 
 abbrev pub fresh : {S C : Type 0} → Table S C
-fresh = record { entries = []; next = 0; rows = []; lanes = []; global = Unset; greatest = 0 }
+fresh = record { entries = []; next = 0; rows = []; lanes = []; entered = []; global = Unset; greatest = 0 }
 
 -- the subscriber that a default leads to
 abbrev pub chosen : Setting → Option ℕ

@@ -1,5 +1,5 @@
 //! Subscribers, callsites with what is kept of them, lanes and defaults.
-ghost use Rattle.std.specs.Prelude.{◌≡◌, ◌++◌, ◌∷◌, [], OnOk, OnErr, IfOk, length};
+ghost use Rattle.std.specs.Prelude.{◌≡◌, ◌++◌, ◌∷◌, [], false, OnOk, OnErr, IfOk, length};
 ghost use Rattle.tracing_core_hub.specs.Keeping.{Keeps};
 ghost use Rattle.tracing_core_hub.specs.Sound.{IsSound};
 ghost use Rattle.tracing_core_hub.specs.Table.{fresh};
@@ -15,16 +15,20 @@ mod handles;
 mod lending;
 mod parts;
 mod ranks;
+mod reaching;
 mod requests;
 mod rows;
+mod scoped;
+mod table;
 mod taking;
 
 use crate::callsite::Callsite;
 use crate::subscriber::Subscriber;
-pub(crate) use parts::Setting;
-use parts::{Entry, Lane, Row};
+use parts::{Entry, Row};
+pub use parts::{Lane, Setting};
 use std::alloc::{AllocError, Global};
 use std::marker::Model;
+pub use table::{HandleCount, HubTable, KeptInterest};
 use tracing_core_fields::LevelFilter;
 
 /// Subscribers that handles lead to, callsites with their common interests, and the defaults of lanes.
@@ -36,6 +40,8 @@ pub struct Hub<S, C> {
     next: u64,
     rows: Vec<Row<C>>,
     lanes: Vec<Lane>,
+    // by lane, whether it is within a `get_default` or `get_current`
+    entered: Vec<bool>,
     global: Setting,
     greatest: LevelFilter,
 }
@@ -45,7 +51,7 @@ impl<S, C> Model for Hub<S, C> {
 
     ghost Value = { Table S C };
 
-    ghost view = { λ h. record { entries = h.entries.items; next = h.next; rows = h.rows.items; lanes = h.lanes.items; global = h.global; greatest = h.greatest } };
+    ghost view = { λ h. record { entries = h.entries.items; next = h.next; rows = h.rows.items; lanes = h.lanes.items; entered = h.entered.items; global = h.global; greatest = h.greatest } };
 }
 
 impl<S: Subscriber, C: Callsite> Hub<S, C> {
@@ -59,6 +65,7 @@ impl<S: Subscriber, C: Callsite> Hub<S, C> {
             next: 0,
             rows: Vec::new(alloc),
             lanes: Vec::new(alloc),
+            entered: Vec::new(alloc),
             global: Setting::Unset,
             greatest: LevelFilter::OFF,
         }
@@ -67,7 +74,7 @@ impl<S: Subscriber, C: Callsite> Hub<S, C> {
     /// The number of a new lane, which has no default of its own.
     pub fn thread(&mut self) -> Result<u64, AllocError>
         ensures number { IfOk result (λ lane. lane ≡ length self.old.lanes) }
-        ensures added { OnOk result (self.new ≡ record self.old { lanes = self.old.lanes ++ Running Unset ∷ [] }) }
+        ensures added { OnOk result (self.new ≡ record self.old { lanes = self.old.lanes ++ Running Unset ∷ []; entered = self.old.entered ++ false ∷ [] }) }
         ensures refused { OnErr result (self.new ≡ self.old) }
         ensures keeps { Keeps ⟦<S as Subscriber>⟧ ⟦<C as Callsite>⟧ self.old self.new }
     {
@@ -79,11 +86,13 @@ impl<S, C> Hub<S, C> {
     // A lane more.
     fn add_lane(&mut self) -> Result<u64, AllocError>
         ensures number { IfOk result (λ lane. lane ≡ length self.old.lanes) }
-        ensures added { OnOk result (self.new ≡ record self.old { lanes = self.old.lanes ++ Running Unset ∷ [] }) }
+        ensures added { OnOk result (self.new ≡ record self.old { lanes = self.old.lanes ++ Running Unset ∷ []; entered = self.old.entered ++ false ∷ [] }) }
         ensures refused { OnErr result (self.new ≡ self.old) }
     {
         let lane = self.lanes.len() as u64;
+        self.entered.reserve(1)?;
         self.lanes.push(Lane::Running(Setting::Unset))?;
+        self.entered.push_reserved(false);
         Ok(lane)
     }
 

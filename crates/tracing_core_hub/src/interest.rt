@@ -6,7 +6,7 @@ ghost use Rattle.tracing_core_hub.specs.declared.interest.InterestInner.TheVaria
 use std::marker::Model;
 
 #[derive(Clone, Copy, Debug, PartialEq, Eq)]
-enum InterestInner {
+pub(crate) enum InterestInner {
     Never,
     Sometimes,
     Always,
@@ -28,6 +28,18 @@ impl Model for Interest {
 }
 
 impl Interest {
+    pub(crate) const fn of(inner: InterestInner) -> Interest
+        ensures { result ≡ inner }
+    {
+        Interest(inner)
+    }
+
+    pub(crate) const fn inner(self) -> InterestInner
+        ensures { result ≡ self }
+    {
+        self.0
+    }
+
     /// Nothing of the callsite is enabled.
     pub const fn never() -> Interest
         ensures { result ≡ Never }

@@ -2,6 +2,7 @@
 
 mod attributes;
 mod current;
+mod dispatching;
 mod event;
 mod parent;
 mod record;

@@ -8,6 +8,7 @@ ghost use Rattle.tracing_core_hub.specs.PlainRequests.{plain_attributes, plain_e
 ghost use Rattle.tracing_core_hub.specs.Steady.{Agrees, IsRealCall, SameWord};
 
 mod boxed;
+mod boxed_one;
 mod none;
 
 use crate::at::At;

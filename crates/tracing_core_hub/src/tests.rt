@@ -4,6 +4,10 @@ use tracing_core_fields::{FieldSet, Id, Identifier, Kind, Level, LevelFilter, Me
 
 mod everything;
 mod place;
+mod reaching;
+mod registering;
+mod running;
+mod scoped;
 
 use everything::Everything;
 use place::Place;

@@ -4,8 +4,10 @@ ghost use Rattle.tracing_core_fields.specs.Metadata.{plain_metadata};
 ghost use Rattle.tracing_core_hub.specs.DefaultCallsites.{site_metadata, site_interest};
 ghost use Rattle.tracing_core_hub.specs.declared.interest.InterestInner.TheVariants.{Never};
 
+mod registering;
+
 use crate::callsite::Callsite;
-use crate::interest::Interest;
+use crate::interest::{Interest, InterestInner};
 use tracing_core_fields::Metadata;
 
 /// A callsite that keeps its metadata, and the interest that it is told.
@@ -13,7 +15,8 @@ use tracing_core_fields::Metadata;
 #[derive(Debug, Drop)]
 pub struct DefaultCallsite<'a> {
     metadata: &'a Metadata<'a>,
-    interest: Interest,
+    // not an `Interest`: a value that holds a reference beside one can't be handed on
+    interest: InterestInner,
 }
 
 impl<'a> DefaultCallsite<'a> {
@@ -24,7 +27,7 @@ impl<'a> DefaultCallsite<'a> {
     {
         DefaultCallsite {
             metadata,
-            interest: Interest::never(),
+            interest: InterestInner::Never,
         }
     }
 
@@ -32,7 +35,7 @@ impl<'a> DefaultCallsite<'a> {
     pub fn interest(&self) -> Interest
         ensures { result ≡ site_interest self.now }
     {
-        self.interest
+        Interest::of(self.interest)
     }
 }
 
@@ -42,7 +45,7 @@ impl Callsite for DefaultCallsite<'_> {
     ghost interest_of = { site_interest };
 
     fn set_interest(&mut self, interest: Interest) {
-        self.interest = interest;
+        self.interest = interest.inner();
     }
 
     fn metadata(&self) -> Metadata<'_> {

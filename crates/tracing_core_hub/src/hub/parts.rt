@@ -23,18 +23,23 @@ pub(crate) struct Row<C> {
     pub(crate) interest: Interest,
 }
 
-// A default: none was set, it is no subscriber, or it is the one of the number.
+/// A default.
 #[derive(Clone, Copy, Debug)]
-pub(crate) enum Setting {
+pub enum Setting {
+    /// None was set.
     Unset,
+    /// It is no subscriber.
     Nothing,
+    /// It is the subscriber of the number.
     To(u64),
 }
 
-// A lane, with its own default.
+/// A lane.
 #[derive(Clone, Copy, Debug)]
-pub(crate) enum Lane {
+pub enum Lane {
+    /// It ended.
     Ended,
+    /// It runs, with its own default.
     Running(Setting),
 }
 

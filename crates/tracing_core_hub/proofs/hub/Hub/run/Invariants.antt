@@ -1,0 +1,12 @@
+use Rattle.std.proofs.Common.{◌≡◌, ◌+◌, ◌≤◌, length, vec_len, vec_capacity}
+use Rattle.std.specs.Vec.Iter.{into_iter_items, into_iter_len}
+use Rattle.tracing_core_hub.proofs.Runs.{Onward}
+use Rattle.tracing_core_hub.proofs.hub.Hub.run.Given as goal
+
+abbrev pub invariant-loop-command : goal.invariant-loop-command
+invariant-loop-command g l =
+    record {
+      room : vec_len l.replies + into_iter_len l.command-iterator ≤ vec_capacity l.replies;
+      count : into_iter_len l.command-iterator ≡ length (into_iter_items l.command-iterator);
+      onward : Onward g.S.Subscriber g.C.Callsite l.fn.self l.fn.book l.fn.commands.items l.self l.book (into_iter_items l.command-iterator) l.replies.items;
+    }

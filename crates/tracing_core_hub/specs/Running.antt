@@ -1,0 +1,203 @@
+-- What a hub replies to commands on handles, lanes and guards by number, and what they leave.
+use Rattle.std.specs.Prelude.{◌≡◌, ℕ, false, List, [], ◌∷◌, ◌++◌, Option, Some, None, Result, Ok, Err, length, slice_get, slice_set}
+use Rattle.std.specs.Option.{option_map}
+use Rattle.tracing_core_hub.specs.Commands.{AddGives, GateGives, RegisterGives, RegisterOnceGives, Rebuilt, reached, row_of}
+use Rattle.tracing_core_hub.specs.Defaults.{was_set, holding, letting_go, upgrade_answer, global_refusal, globally, default_refusal, locally, guard_of, end_gives, reset_gives}
+use Rattle.tracing_core_hub.specs.Handles.{given_back, hold_refusal, or_refused, or_same}
+use Rattle.tracing_core_hub.specs.Table.{Table}
+use Rattle.tracing_core_hub.specs.declared.at.At.{At}
+use Rattle.tracing_core_hub.specs.declared.callsite.Callsite.{Ghosts as SiteGhosts}
+use Rattle.tracing_core_hub.specs.declared.guard.DefaultGuard.{DefaultGuard}
+use Rattle.tracing_core_hub.specs.declared.guard.WrongLane.{WrongLane}
+use Rattle.tracing_core_hub.specs.declared.hub.parts.Lane.TheVariants.{Running}
+use Rattle.tracing_core_hub.specs.declared.hub.parts.Setting.TheVariants.{Unset}
+use Rattle.tracing_core_hub.specs.declared.refusal.HandleError.{HandleError}
+use Rattle.tracing_core_hub.specs.declared.refusal.SetDefaultError.{SetDefaultError}
+use Rattle.tracing_core_hub.specs.declared.refusal.SetGlobalDefaultError.{SetGlobalDefaultError}
+use Rattle.tracing_core_hub.specs.declared.refusal.TooManyHandles.{TooManyHandles}
+use Rattle.tracing_core_hub.specs.declared.refusal.UnknownLane.{UnknownLane}
+use Rattle.tracing_core_hub.specs.declared.run.command.Command.{Command}
+use Rattle.tracing_core_hub.specs.declared.run.command.Command.TheVariants as command
+use Rattle.tracing_core_hub.specs.declared.run.command.CommandError.TheVariants as error
+use Rattle.tracing_core_hub.specs.declared.run.command.CommandReply.{CommandReply}
+use Rattle.tracing_core_hub.specs.declared.run.command.CommandReply.TheVariants as reply
+use Rattle.tracing_core_hub.specs.declared.subscriber.Subscriber.{Ghosts}
+
+-- what each handle, each weak handle and each guard leads to, by number; what is spent leads nowhere
+pub record PlainBook : Type 0 where
+  pub handles : List (Option (Option ℕ))
+  pub weak : List (Option ℕ)
+  pub guards : List (Option DefaultGuard)
+
+abbrev pub empty_book : PlainBook
+empty_book = record { handles = []; weak = []; guards = [] }
+
+abbrev pub unspent : {A : Type 0} → Option (Option A) → Option A
+unspent None = None
+unspent (Some item) = item
+
+-- what has the number, where it isn't spent
+abbrev pub item_of : {A : Type 0} → List (Option A) → ℕ → Option A
+item_of items number = unspent (slice_get items number)
+
+-- what is left where the item with the number is spent, if there is one
+abbrev pub spent_by : {A : Type 0} → List (Option A) → ℕ → Option A → List (Option A)
+spent_by items number None = items
+spent_by items number (Some item) = slice_set items number None
+
+-- what a handle leads to, where no number is the handle to no subscriber
+abbrev pub named : List (Option (Option ℕ)) → Option ℕ → Option (Option ℕ)
+named handles None = Some None
+named handles (Some number) = item_of handles number
+
+-- a guard that comes back stays under its number
+abbrev pub guards_after : {S : Type 0} → List (Option DefaultGuard) → ℕ → Result (Option S) WrongLane → List (Option DefaultGuard)
+guards_after guards number (Ok released) = slice_set guards number None
+guards_after guards number (Err wrong) = guards
+
+module _ {S C : Type 0} where
+  -- refused for want of memory with nothing changed, or else what the command gives
+  abbrev pub OrNoRoom : CommandReply S C → Type 0 → Type 0 → Type 0
+  OrNoRoom (reply.Refused error.OutOfMemory) same gives = same
+  OrNoRoom other same gives = gives
+
+  abbrev pub end_reply : Result (Option S) UnknownLane → CommandReply S C
+  end_reply (Ok released) = reply.Released released
+  end_reply (Err unknown) = reply.Refused error.UnknownLane
+
+  abbrev pub global_reply : Result (Unit {0}) SetGlobalDefaultError → CommandReply S C
+  global_reply (Ok done) = reply.Done
+  global_reply (Err refusal) = reply.Refused (error.SetGlobalDefault refusal)
+
+  abbrev pub reset_reply : Result (Option S) WrongLane → CommandReply S C
+  reset_reply (Ok released) = reply.Released released
+  reset_reply (Err wrong) = reply.Refused error.WrongLane
+
+  -- a new lane has the next number
+  abbrev pub ThreadRuns : Table S C → CommandReply S C → Table S C → Type 0
+  ThreadRuns t (reply.Lane lane) u = (lane ≡ length t.lanes) × (u ≡ record t { lanes = t.lanes ++ Running Unset ∷ []; entered = t.entered ++ false ∷ [] })
+  ThreadRuns t (reply.Refused error.OutOfMemory) u = u ≡ t
+  ThreadRuns t other u = ⊥
+
+  abbrev pub global_gives : Table S C → Option (Option ℕ) → CommandReply S C × Table S C
+  global_gives t None = (reply.Refused error.UnknownHandle, t)
+  global_gives t (Some dispatch) =
+      (global_reply (or_refused (global_refusal t dispatch) tt), or_same (global_refusal t dispatch) t (globally t dispatch))
+
+  abbrev pub set_default_gives : Table S C → List (Option DefaultGuard) → ℕ → Option ℕ → Option SetDefaultError → (CommandReply S C × Table S C) × List (Option DefaultGuard)
+  set_default_gives t guards lane dispatch None = ((reply.Guard (length guards), locally t lane dispatch), guards ++ Some (guard_of t lane) ∷ [])
+  set_default_gives t guards lane dispatch (Some refusal) = ((reply.Refused (error.SetDefault refusal), t), guards)
+
+  -- a new guard has the next number
+  abbrev pub SetDefaultRuns : Table S C → List (Option DefaultGuard) → ℕ → Option (Option ℕ) → CommandReply S C → Table S C → List (Option DefaultGuard) → Type 0
+  SetDefaultRuns t guards lane None answer u left = (answer ≡ reply.Refused error.UnknownHandle) × (u ≡ t) × (left ≡ guards)
+  SetDefaultRuns t guards lane (Some dispatch) answer u left =
+      OrNoRoom answer ((u ≡ t) × (left ≡ guards)) (((answer, u), left) ≡ set_default_gives t guards lane dispatch (default_refusal t lane dispatch))
+
+  abbrev pub reset_runs_at : Table S C → List (Option DefaultGuard) → ℕ → ℕ → Option DefaultGuard → (CommandReply S C × Table S C) × List (Option DefaultGuard)
+  reset_runs_at t guards lane number None = ((reply.Refused error.UnknownGuard, t), guards)
+  reset_runs_at t guards lane number (Some guard) =
+      ((reset_reply (reset_gives t lane guard).0, (reset_gives t lane guard).1), guards_after guards number (reset_gives t lane guard).0)
+
+  abbrev pub reset_runs : Table S C → List (Option DefaultGuard) → ℕ → ℕ → (CommandReply S C × Table S C) × List (Option DefaultGuard)
+  reset_runs t guards lane number = reset_runs_at t guards lane number (item_of guards number)
+
+  abbrev pub clone_gives : Table S C → List (Option (Option ℕ)) → Option ℕ → Option HandleError → (CommandReply S C × Table S C) × List (Option (Option ℕ))
+  clone_gives t handles dispatch None = ((reply.Handle (length handles), holding t dispatch), handles ++ Some dispatch ∷ [])
+  clone_gives t handles dispatch (Some refusal) = ((reply.Refused (error.Handle refusal), t), handles)
+
+  abbrev pub CloneRunsAt : Table S C → List (Option (Option ℕ)) → Option (Option ℕ) → CommandReply S C → Table S C → List (Option (Option ℕ)) → Type 0
+  CloneRunsAt t handles None answer u left = (answer ≡ reply.Refused error.UnknownHandle) × (u ≡ t) × (left ≡ handles)
+  CloneRunsAt t handles (Some dispatch) answer u left =
+      OrNoRoom answer ((u ≡ t) × (left ≡ handles)) (((answer, u), left) ≡ clone_gives t handles dispatch (hold_refusal dispatch t.entries))
+
+  -- a further handle has the next number
+  abbrev pub CloneRuns : Table S C → List (Option (Option ℕ)) → ℕ → CommandReply S C → Table S C → List (Option (Option ℕ)) → Type 0
+  CloneRuns t handles number answer u left = CloneRunsAt t handles (item_of handles number) answer u left
+
+  abbrev pub DowngradeRunsAt : List (Option ℕ) → Option (Option ℕ) → CommandReply S C → List (Option ℕ) → Type 0
+  DowngradeRunsAt weak None answer left = (answer ≡ reply.Refused error.UnknownHandle) × (left ≡ weak)
+  DowngradeRunsAt weak (Some dispatch) answer left =
+      OrNoRoom answer (left ≡ weak) ((answer ≡ reply.Weak (length weak)) × (left ≡ weak ++ dispatch ∷ []))
+
+  -- a weak handle has the next number of these
+  abbrev pub DowngradeRuns : List (Option (Option ℕ)) → List (Option ℕ) → ℕ → CommandReply S C → List (Option ℕ) → Type 0
+  DowngradeRuns handles weak number answer left = DowngradeRunsAt weak (item_of handles number) answer left
+
+  abbrev pub upgrade_gives : List (Option (Option ℕ)) → Table S C → Result (Option (Option ℕ)) TooManyHandles → (CommandReply S C × Table S C) × List (Option (Option ℕ))
+  upgrade_gives handles holds (Ok (Some dispatch)) = ((reply.Handle (length handles), holds), handles ++ Some dispatch ∷ [])
+  upgrade_gives handles holds (Ok None) = ((reply.Gone, holds), handles)
+  upgrade_gives handles holds (Err refusal) = ((reply.Refused error.TooManyHandles, holds), handles)
+
+  abbrev pub UpgradeRunsAt : Table S C → List (Option (Option ℕ)) → Option (Option ℕ) → CommandReply S C → Table S C → List (Option (Option ℕ)) → Type 0
+  UpgradeRunsAt t handles None answer u left = (answer ≡ reply.Refused error.UnknownWeakHandle) × (u ≡ t) × (left ≡ handles)
+  UpgradeRunsAt t handles (Some dispatch) answer u left =
+      let refusal = hold_refusal dispatch t.entries in
+      OrNoRoom answer ((u ≡ t) × (left ≡ handles)) (((answer, u), left) ≡ upgrade_gives handles (or_same refusal t (holding t dispatch)) (upgrade_answer dispatch refusal))
+
+  -- a weak handle becomes a handle where its subscriber lives
+  abbrev pub UpgradeRuns : Table S C → List (Option ℕ) → List (Option (Option ℕ)) → ℕ → CommandReply S C → Table S C → List (Option (Option ℕ)) → Type 0
+  UpgradeRuns t weak handles number answer u left = UpgradeRunsAt t handles (slice_get weak number) answer u left
+
+  abbrev pub release_gives_at : Table S C → List (Option (Option ℕ)) → ℕ → Option (Option ℕ) → (CommandReply S C × Table S C) × List (Option (Option ℕ))
+  release_gives_at t handles number None = ((reply.Refused error.UnknownHandle, t), handles)
+  release_gives_at t handles number (Some dispatch) = ((reply.Released (given_back dispatch t.entries).0, letting_go t dispatch), slice_set handles number None)
+
+  -- a handle is spent
+  abbrev pub release_gives : Table S C → List (Option (Option ℕ)) → ℕ → (CommandReply S C × Table S C) × List (Option (Option ℕ))
+  release_gives t handles number = release_gives_at t handles number (item_of handles number)
+
+module _ {S : Type 0} (g : Ghosts S) {C : Type 0} (h : SiteGhosts C) where
+  -- a subscriber that was taken has a first handle with the next number
+  abbrev pub AddRuns : Table S C → List (Option (Option ℕ)) → S → CommandReply S C → Table S C → List (Option (Option ℕ)) → Type 0
+  AddRuns t handles s (reply.Handle number) u left = (number ≡ length handles) × AddGives g h t s (Ok (Some t.next)) u × (left ≡ handles ++ Some (Some t.next) ∷ [])
+  AddRuns t handles s (reply.Refused (error.Add refusal)) u left = AddGives g h t s (Err refusal) u × (left ≡ handles)
+  AddRuns t handles s other u left = ⊥
+
+  abbrev pub RegisterRuns : Table S C → C → CommandReply S C → Table S C → Type 0
+  RegisterRuns t callsite (reply.Registered interest) u = RegisterGives g h t callsite (Ok interest) u
+  RegisterRuns t callsite (reply.Refused (error.Register refusal)) u = RegisterGives g h t callsite (Err refusal) u
+  RegisterRuns t callsite other u = ⊥
+
+  abbrev pub RegisterOnceRuns : Table S C → C → CommandReply S C → Table S C → Type 0
+  RegisterOnceRuns t callsite (reply.Registered interest) u = RegisterOnceGives g h t callsite (Ok interest) u
+  RegisterOnceRuns t callsite (reply.Refused (error.Register refusal)) u = RegisterOnceGives g h t callsite (Err refusal) u
+  RegisterOnceRuns t callsite other u = ⊥
+
+  abbrev pub GateRuns : Table S C → ℕ → At → CommandReply S C → Table S C → Type 0
+  GateRuns t identifier at (reply.Wanted wanted) u = GateGives g h t identifier at wanted u
+  GateRuns t identifier at other u = ⊥
+
+  -- what the hub replies to a command, and what it and the book are then
+  abbrev pub CommandGives : Table S C → PlainBook → Command S C → CommandReply S C → Table S C → PlainBook → Type 0
+  CommandGives t b command.Thread answer u c = ThreadRuns t answer u × (c ≡ b)
+  CommandGives t b (command.EndThread lane) answer u c = (answer ≡ end_reply (end_gives t lane).0) × (u ≡ (end_gives t lane).1) × (c ≡ b)
+  CommandGives t b (command.Add subscriber) answer u c = AddRuns t b.handles subscriber answer u c.handles × (c ≡ record b { handles = c.handles })
+  CommandGives t b (command.Register callsite) answer u c = RegisterRuns t callsite answer u × (c ≡ b)
+  CommandGives t b (command.RegisterOnce callsite) answer u c = RegisterOnceRuns t callsite answer u × (c ≡ b)
+  CommandGives t b command.RebuildInterestCache answer u c = (answer ≡ reply.Done) × Rebuilt g h t u × (c ≡ b)
+  CommandGives t b command.Refresh answer u c = (answer ≡ reply.Done) × Rebuilt g h t u × (c ≡ b)
+  CommandGives t b command.MaxLevel answer u c = (answer ≡ reply.Level t.greatest) × (u ≡ t) × (c ≡ b)
+  CommandGives t b (command.SetGlobalDefault handle) answer u c = ((answer, u) ≡ global_gives t (named b.handles handle)) × (c ≡ b)
+  CommandGives t b command.HasBeenSet answer u c = (answer ≡ reply.Set (was_set t.global)) × (u ≡ t) × (c ≡ b)
+  CommandGives t b (command.SetDefault lane handle) answer u c =
+      SetDefaultRuns t b.guards lane (named b.handles handle) answer u c.guards × (c ≡ record b { guards = c.guards })
+  CommandGives t b (command.Reset lane guard) answer u c =
+      (((answer, u), c.guards) ≡ reset_runs t b.guards lane guard) × (c ≡ record b { guards = c.guards })
+  CommandGives t b (command.CloneHandle handle) answer u c = CloneRuns t b.handles handle answer u c.handles × (c ≡ record b { handles = c.handles })
+  CommandGives t b (command.Downgrade handle) answer u c = DowngradeRuns b.handles b.weak handle answer c.weak × (u ≡ t) × (c ≡ record b { weak = c.weak })
+  CommandGives t b (command.Upgrade weak) answer u c = UpgradeRuns t b.weak b.handles weak answer u c.handles × (c ≡ record b { handles = c.handles })
+  CommandGives t b (command.Release handle) answer u c =
+      (((answer, u), c.handles) ≡ release_gives t b.handles handle) × (c ≡ record b { handles = c.handles })
+  CommandGives t b (command.Gate identifier at) answer u c = GateRuns t identifier.0 at answer u × (c ≡ b)
+  CommandGives t b (command.Interest identifier) answer u c =
+      (answer ≡ reply.Kept (option_map (λ row. row.interest) (row_of identifier.0 t.rows))) × (u ≡ t) × (c ≡ b)
+  CommandGives t b (command.Reached lane) answer u c = (answer ≡ reply.Reached (reached t lane)) × (u ≡ t) × (c ≡ b)
+
+  -- the commands one after the other, with a reply each
+  abbrev pub CommandsGive : Table S C → PlainBook → List (Command S C) → List (CommandReply S C) → Table S C → PlainBook → Type 0
+  CommandsGive t b [] [] u c = (u ≡ t) × (c ≡ b)
+  CommandsGive t b [] (answer ∷ answers) u c = ⊥
+  CommandsGive t b (x ∷ xs) [] u c = ⊥
+  CommandsGive t b (x ∷ xs) (answer ∷ answers) u c =
+      (v : Table S C) × (d : PlainBook) × CommandGives t b x answer v d × CommandsGive v d xs answers u c

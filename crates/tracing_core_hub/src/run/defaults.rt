@@ -1,0 +1,103 @@
+//! Commands on lanes and defaults.
+ghost use Rattle.std.specs.Prelude.{◌≡◌};
+ghost use Rattle.tracing_core_hub.specs.Defaults.{end_gives};
+ghost use Rattle.tracing_core_hub.specs.Running.{SetDefaultRuns, ThreadRuns, end_reply, global_gives, global_reply, reset_runs, named};
+
+use crate::callsite::Callsite;
+use crate::dispatch::Dispatch;
+use crate::guard::{DefaultGuard, WrongLane};
+use crate::hub::Hub;
+use crate::refusal::{SetGlobalDefaultError, UnknownLane};
+use crate::run::book::{find_named, keep, put_back, spend};
+use crate::run::command::{CommandError, CommandReply};
+use crate::subscriber::Subscriber;
+
+fn end_reply<S, C>(answer: Result<Option<S>, UnknownLane>) -> CommandReply<S, C>
+    ensures { result ≡ end_reply answer }
+{
+    match answer {
+        Ok(released) => CommandReply::Released(released),
+        Err(_) => CommandReply::Refused(CommandError::UnknownLane),
+    }
+}
+
+fn global_reply<S, C>(answer: Result<(), SetGlobalDefaultError>) -> CommandReply<S, C>
+    ensures { result ≡ global_reply answer }
+{
+    match answer {
+        Ok(()) => CommandReply::Done,
+        Err(error) => CommandReply::Refused(CommandError::SetGlobalDefault(error)),
+    }
+}
+
+impl<S: Subscriber, C: Callsite> Hub<S, C> {
+    pub(crate) fn run_thread(&mut self) -> CommandReply<S, C>
+        ensures { ThreadRuns self.old result self.new }
+    {
+        match self.thread() {
+            Ok(lane) => CommandReply::Lane(lane),
+            Err(_) => CommandReply::Refused(CommandError::OutOfMemory),
+        }
+    }
+
+    pub(crate) fn run_end_thread(&mut self, lane: u64) -> CommandReply<S, C>
+        ensures reply { result ≡ end_reply (end_gives self.old lane).0 }
+        ensures left { self.new ≡ (end_gives self.old lane).1 }
+    {
+        end_reply(self.end_thread(lane))
+    }
+
+    pub(crate) fn run_set_global_default(
+        &mut self,
+        handles: &[Option<Dispatch>],
+        number: Option<u64>,
+    ) -> CommandReply<S, C>
+        ensures { (result, self.new) ≡ global_gives self.old (named handles.now number) }
+    {
+        match find_named(handles, number) {
+            None => CommandReply::Refused(CommandError::UnknownHandle),
+            Some(dispatch) => global_reply(self.set_global_default(&dispatch)),
+        }
+    }
+
+    pub(crate) fn run_set_default(
+        &mut self,
+        handles: &[Option<Dispatch>],
+        guards: &mut Vec<Option<DefaultGuard>>,
+        lane: u64,
+        number: Option<u64>,
+    ) -> CommandReply<S, C>
+        ensures { SetDefaultRuns self.old guards.old.items lane (named handles.now number) result self.new guards.new.items }
+    {
+        let Some(dispatch) = find_named(handles, number) else {
+            return CommandReply::Refused(CommandError::UnknownHandle);
+        };
+        if guards.reserve(1).is_err() {
+            return CommandReply::Refused(CommandError::OutOfMemory);
+        }
+        match self.set_default(lane, &dispatch) {
+            Ok(guard) => CommandReply::Guard(keep(guards, Some(guard))),
+            Err(error) => CommandReply::Refused(CommandError::SetDefault(error)),
+        }
+    }
+
+    pub(crate) fn run_reset(
+        &mut self,
+        guards: &mut [Option<DefaultGuard>],
+        lane: u64,
+        number: u64,
+    ) -> CommandReply<S, C>
+        ensures { ((result, self.new), guards.new) ≡ reset_runs self.old guards.old lane number }
+    {
+        let Some(guard) = spend(guards, number) else {
+            return CommandReply::Refused(CommandError::UnknownGuard);
+        };
+        match self.reset(lane, guard) {
+            Ok(released) => CommandReply::Released(released),
+            Err(WrongLane(guard)) => {
+                put_back(guards, number, guard);
+                CommandReply::Refused(CommandError::WrongLane)
+            }
+        }
+    }
+}

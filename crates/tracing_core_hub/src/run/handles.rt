@@ -1,0 +1,99 @@
+//! Commands on handles.
+ghost use Rattle.std.specs.Prelude.{◌≡◌};
+ghost use Rattle.tracing_core_hub.specs.Running.{AddRuns, CloneRuns, DowngradeRuns, UpgradeRuns, release_gives};
+
+use crate::callsite::Callsite;
+use crate::dispatch::{Dispatch, WeakDispatch};
+use crate::hub::Hub;
+use crate::refusal::AddError;
+use crate::run::book::{find_handle, keep, spend};
+use crate::run::command::{CommandError, CommandReply};
+use crate::subscriber::Subscriber;
+
+impl<S: Subscriber, C: Callsite> Hub<S, C> {
+    pub(crate) fn run_add(
+        &mut self,
+        handles: &mut Vec<Option<Dispatch>>,
+        subscriber: S,
+    ) -> CommandReply<S, C>
+        ensures { AddRuns ⟦<S as Subscriber>⟧ ⟦<C as Callsite>⟧ self.old handles.old.items subscriber result self.new handles.new.items }
+    {
+        if handles.reserve(1).is_err() {
+            return CommandReply::Refused(CommandError::Add(AddError::OutOfMemory(subscriber)));
+        }
+        match self.add(subscriber) {
+            Ok(dispatch) => CommandReply::Handle(keep(handles, Some(dispatch))),
+            Err(error) => CommandReply::Refused(CommandError::Add(error)),
+        }
+    }
+
+    pub(crate) fn run_clone(
+        &mut self,
+        handles: &mut Vec<Option<Dispatch>>,
+        number: u64,
+    ) -> CommandReply<S, C>
+        ensures { CloneRuns self.old handles.old.items number result self.new handles.new.items }
+    {
+        let Some(dispatch) = find_handle(handles, number) else {
+            return CommandReply::Refused(CommandError::UnknownHandle);
+        };
+        if handles.reserve(1).is_err() {
+            return CommandReply::Refused(CommandError::OutOfMemory);
+        }
+        match self.clone(&dispatch) {
+            Ok(copy) => CommandReply::Handle(keep(handles, Some(copy))),
+            Err(error) => CommandReply::Refused(CommandError::Handle(error)),
+        }
+    }
+
+    pub(crate) fn run_downgrade(
+        &self,
+        handles: &[Option<Dispatch>],
+        weak: &mut Vec<WeakDispatch>,
+        number: u64,
+    ) -> CommandReply<S, C>
+        ensures { DowngradeRuns handles.now weak.old.items number result weak.new.items }
+    {
+        let Some(dispatch) = find_handle(handles, number) else {
+            return CommandReply::Refused(CommandError::UnknownHandle);
+        };
+        if weak.reserve(1).is_err() {
+            return CommandReply::Refused(CommandError::OutOfMemory);
+        }
+        CommandReply::Weak(keep(weak, self.downgrade(&dispatch)))
+    }
+
+    pub(crate) fn run_upgrade(
+        &mut self,
+        weak: &[WeakDispatch],
+        handles: &mut Vec<Option<Dispatch>>,
+        number: u64,
+    ) -> CommandReply<S, C>
+        ensures { UpgradeRuns self.old weak.now handles.old.items number result self.new handles.new.items }
+    {
+        let Some(dispatch) = weak.get(number as usize) else {
+            return CommandReply::Refused(CommandError::UnknownWeakHandle);
+        };
+        if handles.reserve(1).is_err() {
+            return CommandReply::Refused(CommandError::OutOfMemory);
+        }
+        match self.upgrade(dispatch) {
+            Ok(Some(handle)) => CommandReply::Handle(keep(handles, Some(handle))),
+            Ok(None) => CommandReply::Gone,
+            Err(_) => CommandReply::Refused(CommandError::TooManyHandles),
+        }
+    }
+
+    pub(crate) fn run_release(
+        &mut self,
+        handles: &mut [Option<Dispatch>],
+        number: u64,
+    ) -> CommandReply<S, C>
+        ensures { ((result, self.new), handles.new) ≡ release_gives self.old handles.old number }
+    {
+        match spend(handles, number) {
+            None => CommandReply::Refused(CommandError::UnknownHandle),
+            Some(dispatch) => CommandReply::Released(self.release(dispatch)),
+        }
+    }
+}

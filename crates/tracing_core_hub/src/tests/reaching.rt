@@ -1,0 +1,93 @@
+// A hub's table, and requests of lanes.
+use crate::tests::everything::Everything;
+use crate::tests::metadata_of;
+use crate::tests::place::Place;
+use crate::*;
+use std::test::Fail;
+use tracing_core_fields::{FieldSet, Id, Identifier, Level, LevelFilter};
+
+fn moment(lane: u64) -> At {
+    At {
+        lane,
+        seconds: 0,
+        nanoseconds: 0,
+    }
+}
+
+#[test]
+fn the_table_is_a_copy(rt: HostRuntime) -> Result<(), Fail> {
+    let mut hub: Hub<Everything, Place> = Hub::new(rt.alloc());
+    let lane = hub.thread()?;
+    let other = hub.thread()?;
+    let first = hub
+        .add(Everything::new(1, Interest::always()))
+        .ok()
+        .ok_or("a hub")?;
+    assert!(rt; hub.register(Place::new(3, Level::INFO)).is_ok());
+    assert!(rt; hub.set_default(lane, &first).is_ok());
+    let copy = hub.table()?;
+    assert_eq!(rt; copy.handles.len(), 1);
+    assert!(rt;
+        copy.handles
+            .get(0)
+            .is_some_and(|count| count.serial == 0 && count.handles == 2)
+    );
+    assert!(rt; matches!(copy.global, Setting::Unset));
+    assert!(rt;
+        matches!(
+            copy.lanes.get(lane as usize),
+            Some(Lane::Running(Setting::To(0)))
+        )
+    );
+    assert!(rt;
+        matches!(
+            copy.lanes.get(other as usize),
+            Some(Lane::Running(Setting::Unset))
+        )
+    );
+    assert!(rt;
+        copy.callsites.get(0).is_some_and(|kept| kept.identifier == Identifier(3)
+            && kept.interest.is_always())
+    );
+    assert_eq!(rt; copy.greatest, LevelFilter::TRACE);
+    Ok(())
+}
+
+#[test]
+fn requests_of_a_lane_reach_its_default(rt: HostRuntime) -> Result<(), Fail> {
+    let mut hub: Hub<Everything, Place> = Hub::new(rt.alloc());
+    let lane = hub.thread()?;
+    let fields = FieldSet::new(&[], Identifier(5));
+    let metadata = metadata_of(fields);
+    let first = hub
+        .add(Everything::new(1, Interest::always()))
+        .ok()
+        .ok_or("a hub")?;
+    let nobody = Dispatch::none();
+    assert!(rt; hub.register_callsite(&first, &metadata).is_always());
+    assert!(rt; hub.register_callsite(&nobody, &metadata).is_never());
+    assert!(rt; !hub.enabled_here(&metadata, moment(lane)));
+    assert!(rt; matches!(hub.current_span_here(moment(lane)), CurrentSpan::Unknown));
+    assert!(rt; hub.set_default(lane, &first).is_ok());
+    assert!(rt; hub.enabled_here(&metadata, moment(lane)));
+    assert!(rt; matches!(hub.current_span_here(moment(lane)), CurrentSpan::Outside));
+    let event = Event::new(&metadata, fields.value_set_all(&[]));
+    assert_eq!(rt; hub.event_here(&event, moment(lane)), Ok(()));
+    let attributes = Attributes::new(&metadata, fields.value_set_all(&[]));
+    assert_eq!(rt; hub.new_span_here(&attributes, moment(lane)), Ok(None));
+    assert_eq!(rt;
+        Event::dispatch(&mut hub, &metadata, fields.value_set_all(&[]), moment(lane)),
+        Ok(())
+    );
+    assert_eq!(rt;
+        Event::child_of(
+            &mut hub,
+            Id::from_u64(2),
+            &metadata,
+            fields.value_set_all(&[]),
+            moment(lane)
+        ),
+        Ok(())
+    );
+    Ok(())
+}

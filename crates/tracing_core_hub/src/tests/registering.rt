@@ -1,0 +1,38 @@
+// Callsites that are lent their metadata, and boxes of one kind of subscriber.
+use crate::tests::everything::Everything;
+use crate::tests::metadata_of;
+use crate::tests::place::Place;
+use crate::*;
+use std::test::Fail;
+use tracing_core_fields::{FieldSet, Identifier, Level};
+
+#[test]
+fn a_callsite_is_registered_once(rt: HostRuntime) -> Result<(), Fail> {
+    let metadata = metadata_of(FieldSet::new(&[], Identifier(5)));
+    let mut site = DefaultCallsite::new(&metadata);
+    let mut hub: Hub<Everything, DefaultCallsite<'_>> = Hub::new(rt.alloc());
+    assert!(rt;
+        site.register(&mut hub)
+            .is_ok_and(|interest| interest.is_never())
+    );
+    assert!(rt; hub.add(Everything::new(1, Interest::always())).is_ok());
+    assert!(rt;
+        site.register(&mut hub)
+            .is_ok_and(|interest| interest.is_always())
+    );
+    assert!(rt; site.interest().is_always());
+    Ok(())
+}
+
+#[test]
+fn a_box_of_one_kind_answers_what_is_in_it(rt: HostRuntime) -> Result<(), Fail> {
+    let alloc = rt.alloc();
+    let mut hub: Hub<Box<Everything>, Place> = Hub::new(alloc);
+    let boxed = Box::new(alloc, Everything::new(1, Interest::always()))?;
+    assert!(rt; hub.add(boxed).is_ok());
+    assert_eq!(rt;
+        hub.register(Place::new(3, Level::INFO)).ok(),
+        Some(Interest::always())
+    );
+    Ok(())
+}

@@ -1,0 +1,174 @@
+// Commands by number.
+use crate::tests::everything::Everything;
+use crate::tests::place::Place;
+use crate::*;
+use std::alloc::{AllocError, Global};
+use std::test::Fail;
+use tracing_core_fields::{Identifier, Level, LevelFilter};
+
+type Told = CommandReply<Everything, Place>;
+
+fn moment(lane: u64) -> At {
+    At {
+        lane,
+        seconds: 0,
+        nanoseconds: 0,
+    }
+}
+
+fn setting_up(alloc: Global) -> Result<Vec<Command<Everything, Place>>, AllocError> {
+    let mut commands = Vec::new(alloc);
+    commands.push(Command::Thread)?;
+    commands.push(Command::Register(Place::new(3, Level::INFO)))?;
+    commands.push(Command::Add(Everything::new(1, Interest::always())))?;
+    commands.push(Command::RegisterOnce(Place::new(3, Level::INFO)))?;
+    commands.push(Command::Register(Place::new(3, Level::INFO)))?;
+    commands.push(Command::SetDefault(0, Some(0)))?;
+    commands.push(Command::SetDefault(0, Some(9)))?;
+    commands.push(Command::Reached(0))?;
+    commands.push(Command::Gate(Identifier(3), moment(0)))?;
+    commands.push(Command::MaxLevel)?;
+    Ok(commands)
+}
+
+#[test]
+fn commands_set_up_a_hub(rt: HostRuntime) -> Result<(), Fail> {
+    let mut hub = Hub::new(rt.alloc());
+    let mut book = Book::new(rt.alloc());
+    let replies = hub
+        .run(&mut book, setting_up(rt.alloc())?)
+        .ok()
+        .ok_or("memory")?;
+    assert_eq!(rt; replies.len(), 10);
+    assert!(rt; matches!(replies.get(0), Some(Told::Lane(0))));
+    assert!(rt; matches!(replies.get(1), Some(Told::Registered(interest)) if interest.is_never()));
+    assert!(rt; matches!(replies.get(2), Some(Told::Handle(0))));
+    assert!(rt; matches!(replies.get(3), Some(Told::Registered(interest)) if interest.is_always()));
+    assert!(rt;
+        matches!(
+            replies.get(4),
+            Some(Told::Refused(CommandError::Register(RegisterError::Taken(_))))
+        )
+    );
+    assert!(rt; matches!(replies.get(5), Some(Told::Guard(0))));
+    assert!(rt;
+        matches!(
+            replies.get(6),
+            Some(Told::Refused(CommandError::UnknownHandle))
+        )
+    );
+    assert!(rt; matches!(replies.get(7), Some(Told::Reached(Some(0)))));
+    assert!(rt; matches!(replies.get(8), Some(Told::Wanted(Some(true)))));
+    assert!(rt; matches!(replies.get(9), Some(Told::Level(level)) if *level == LevelFilter::TRACE));
+    assert!(rt; book.handle(0).is_some());
+    assert!(rt; book.handle(1).is_none());
+    Ok(())
+}
+
+fn giving_up(alloc: Global) -> Result<Vec<Command<Everything, Place>>, AllocError> {
+    let mut commands = Vec::new(alloc);
+    commands.push(Command::Thread)?;
+    commands.push(Command::Add(Everything::new(1, Interest::always())))?;
+    commands.push(Command::CloneHandle(0))?;
+    commands.push(Command::Downgrade(1))?;
+    commands.push(Command::Release(1))?;
+    commands.push(Command::Release(1))?;
+    commands.push(Command::SetDefault(0, Some(0)))?;
+    commands.push(Command::Release(0))?;
+    commands.push(Command::Upgrade(0))?;
+    commands.push(Command::Release(2))?;
+    commands.push(Command::Reset(1, 0))?;
+    commands.push(Command::Reset(0, 0))?;
+    commands.push(Command::Reset(0, 0))?;
+    commands.push(Command::Upgrade(0))?;
+    Ok(commands)
+}
+
+#[test]
+fn commands_give_up_what_they_made(rt: HostRuntime) -> Result<(), Fail> {
+    let mut hub = Hub::new(rt.alloc());
+    let mut book = Book::new(rt.alloc());
+    let replies = hub
+        .run(&mut book, giving_up(rt.alloc())?)
+        .ok()
+        .ok_or("memory")?;
+    assert!(rt; matches!(replies.get(2), Some(Told::Handle(1))));
+    assert!(rt; matches!(replies.get(3), Some(Told::Weak(0))));
+    assert!(rt; matches!(replies.get(4), Some(Told::Released(None))));
+    assert!(rt;
+        matches!(
+            replies.get(5),
+            Some(Told::Refused(CommandError::UnknownHandle))
+        )
+    );
+    assert!(rt; matches!(replies.get(6), Some(Told::Guard(0))));
+    assert!(rt; matches!(replies.get(7), Some(Told::Released(None))));
+    assert!(rt; matches!(replies.get(8), Some(Told::Handle(2))));
+    assert!(rt; matches!(replies.get(9), Some(Told::Released(None))));
+    assert!(rt;
+        matches!(
+            replies.get(10),
+            Some(Told::Refused(CommandError::WrongLane))
+        )
+    );
+    assert!(rt;
+        matches!(
+            replies.get(11),
+            Some(Told::Released(Some(subscriber))) if subscriber.name() == 1
+        )
+    );
+    assert!(rt;
+        matches!(
+            replies.get(12),
+            Some(Told::Refused(CommandError::UnknownGuard))
+        )
+    );
+    assert!(rt; matches!(replies.get(13), Some(Told::Gone)));
+    Ok(())
+}
+
+fn the_rest(alloc: Global) -> Result<Vec<Command<Everything, Place>>, AllocError> {
+    let mut commands = Vec::new(alloc);
+    commands.push(Command::HasBeenSet)?;
+    commands.push(Command::SetGlobalDefault(None))?;
+    commands.push(Command::SetGlobalDefault(None))?;
+    commands.push(Command::HasBeenSet)?;
+    commands.push(Command::RebuildInterestCache)?;
+    commands.push(Command::Refresh)?;
+    commands.push(Command::Interest(Identifier(3)))?;
+    commands.push(Command::Thread)?;
+    commands.push(Command::EndThread(0))?;
+    commands.push(Command::EndThread(0))?;
+    Ok(commands)
+}
+
+#[test]
+fn commands_tell_what_is_kept(rt: HostRuntime) -> Result<(), Fail> {
+    let mut hub = Hub::new(rt.alloc());
+    let mut book = Book::new(rt.alloc());
+    let replies = hub
+        .run(&mut book, the_rest(rt.alloc())?)
+        .ok()
+        .ok_or("memory")?;
+    assert!(rt; matches!(replies.get(0), Some(Told::Set(false))));
+    assert!(rt; matches!(replies.get(1), Some(Told::Done)));
+    assert!(rt;
+        matches!(
+            replies.get(2),
+            Some(Told::Refused(CommandError::SetGlobalDefault(SetGlobalDefaultError::AlreadySet)))
+        )
+    );
+    assert!(rt; matches!(replies.get(3), Some(Told::Set(true))));
+    assert!(rt; matches!(replies.get(4), Some(Told::Done)));
+    assert!(rt; matches!(replies.get(5), Some(Told::Done)));
+    assert!(rt; matches!(replies.get(6), Some(Told::Kept(None))));
+    assert!(rt; matches!(replies.get(7), Some(Told::Lane(0))));
+    assert!(rt; matches!(replies.get(8), Some(Told::Released(None))));
+    assert!(rt;
+        matches!(
+            replies.get(9),
+            Some(Told::Refused(CommandError::UnknownLane))
+        )
+    );
+    Ok(())
+}
