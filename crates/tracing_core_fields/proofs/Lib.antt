@@ -4,3 +4,4 @@ mod TextLemmas
 mod VisitLemmas
 mod BytesLemmas
 mod NamesLemmas
+pub mod OwnedLemmas
