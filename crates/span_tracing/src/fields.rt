@@ -2,48 +2,10 @@
 
 ghost use Rattle.std.specs.Prelude.{◌≡◌, ◌++◌, OnOk, string_bytes, map, ℕ, List, [], is_some, is_none, unwrap_or, option_and_then, slice_get, IfOk, ◌&&◌};
 ghost use Rattle.tracing_core.specs.OwnedValues.{plain_owned, owned_entries};
-ghost use Rattle.span_tracing_machine.specs.FieldTexts.{debug_char, quoted, sanitized_char, sanitized, is_control, is_message, plain_name, label, text_value, value_piece, given_piece, further, fields_text};
+ghost use Rattle.span_tracing_machine.specs.FieldTexts.{sanitized_char, sanitized, is_message, plain_name, label, text_value, value_piece, given_piece, further, fields_text};
 
 use std::alloc::AllocError;
-use tracing_core::{FieldValue, OwnedValue};
-
-fn is_control(c: char) -> bool
-    ensures { result ≡ is_control c }
-{
-    let code = c as u32;
-    code < 32 || (127 <= code && code <= 159)
-}
-
-#[tactic(auto, unfolding(span_tracing_machine::specs::FieldTexts::debug_char))]
-fn push_debug_char(out: &mut String, c: char) -> Result<(), AllocError>
-    ensures { OnOk result (string_bytes out.new ≡ string_bytes out.old ++ debug_char c) }
-{
-    match c {
-        '"' => out.push_str("\\\""),
-        '\\' => out.push_str("\\\\"),
-        '\n' => out.push_str("\\n"),
-        '\r' => out.push_str("\\r"),
-        '\t' => out.push_str("\\t"),
-        '\0' => out.push_str("\\0"),
-        other if is_control(other) => {
-            let code = other as u32;
-            write!(out, "\\u{{{code:x}}}")
-        }
-        other => out.push(other),
-    }
-}
-
-/// Appends a text between quotes.
-#[tactic(auto, unfolding(span_tracing_machine::specs::FieldTexts::quoted))]
-pub(crate) fn push_quoted(out: &mut String, text: &str) -> Result<(), AllocError>
-    ensures { OnOk result (string_bytes out.new ≡ string_bytes out.old ++ quoted text.now) }
-{
-    out.push('"')?;
-    for c in text.chars() {
-        push_debug_char(out, c)?;
-    }
-    out.push('"')
-}
+use tracing_core::{DebugText, FieldValue, OwnedValue};
 
 #[tactic(auto, unfolding(span_tracing_machine::specs::FieldTexts::sanitized_char))]
 fn push_sanitized_char(out: &mut String, c: char) -> Result<(), AllocError>
@@ -105,7 +67,7 @@ fn push_text_value(out: &mut String, name: &str, text: &str) -> Result<(), Alloc
     if is_message(name) {
         push_sanitized(out, text)
     } else {
-        push_quoted(out, text)
+        write!(out, "{:?}", DebugText::Str(text))
     }
 }
 

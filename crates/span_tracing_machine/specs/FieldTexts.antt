@@ -1,31 +1,12 @@
 -- The texts of fields, by their pieces.
-use Rattle.std.specs.Prelude.{ℕ, List, [], ◌++◌, Bool, true, false, ◌||◌, ◌&&◌, ◌==◌, nat_eq, nat_lt, nat_le, if◌then◌else◌, Option, Some, None, option_and_then, codes, encode_utf8, slice_get, drop}
+use Rattle.std.specs.Prelude.{ℕ, List, [], ◌++◌, Bool, true, false, ◌&&◌, ◌==◌, nat_eq, nat_le, if◌then◌else◌, Option, Some, None, option_and_then, codes, encode_utf8, slice_get, drop}
 use Rattle.std.specs.List.{flat_map, filter_map, join_by, starts_with}
 use Rattle.std.specs.Fmt.{signed_decimal, decimal, digits}
 use Rattle.std.specs.Option.{option_map}
 use Rattle.std.specs.Str.{chars, bytes_eq}
-use Rattle.tracing_core.specs.PlainDebug.{PlainDebug, Written, Unwritable, OfSigned, OfUnsigned, OfTruth, OfText, OfBytes, OfError}
+use Rattle.tracing_core.specs.PlainDebug.{PlainDebug, Written, Unwritable, OfSigned, OfUnsigned, OfWideSigned, OfWideUnsigned, OfTruth, OfText, OfBytes, OfError}
+use Rattle.tracing_core.specs.Quoted.{quoted}
 use Rattle.tracing_core.specs.PlainValue.{PlainValue, debug_of}
-
--- controls of ASCII, DEL and the controls from U+0080 on
-abbrev pub is_control : ℕ → Bool
-is_control c = nat_lt c 32 || (nat_le 127 c && nat_le c 159)
-
--- how a character stands between quotes
-unfoldable pub debug_char : ℕ → List ℕ
-debug_char c =
-    if c == 34 then codes "\\\""
-    else (if c == 92 then codes "\\\\"
-    else (if c == 10 then codes "\\n"
-    else (if c == 13 then codes "\\r"
-    else (if c == 9 then codes "\\t"
-    else (if c == 0 then codes "\\0"
-    else (if is_control c then codes "\\u{" ++ (digits 16 false c ++ codes "}")
-    else encode_utf8 c))))))
-
--- a text between quotes
-unfoldable pub quoted : List ℕ → List ℕ
-quoted bytes = codes "\"" ++ flat_map debug_char (chars bytes) ++ codes "\""
 
 abbrev pub is_message : List ℕ → Bool
 is_message name = bytes_eq name (codes "message")
@@ -61,6 +42,8 @@ text_value name bytes = if is_message name then sanitized bytes else quoted byte
 abbrev pub debug_piece : List ℕ → PlainDebug → Option (List ℕ)
 debug_piece name (OfSigned z) = Some (signed_decimal z)
 debug_piece name (OfUnsigned n) = Some (decimal n)
+debug_piece name (OfWideSigned z) = Some (signed_decimal z)
+debug_piece name (OfWideUnsigned n) = Some (decimal n)
 debug_piece name (OfText bytes) = Some (text_value name bytes)
 debug_piece name (Written plain alternate) = None
 debug_piece name Unwritable = None

@@ -12,6 +12,7 @@ pub mod Field
 pub mod Iter
 pub mod PlainMetadata
 pub mod Metadata
+pub mod Quoted
 pub mod PlainDebug
 pub mod DebugText
 pub mod ErrorText

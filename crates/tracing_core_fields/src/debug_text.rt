@@ -6,6 +6,7 @@ ghost use Rattle.tracing_core_fields.specs.DebugText.{plain_debug};
 ghost use Rattle.tracing_core_fields.specs.PlainDebug.{Unwritable, plain_output, alternate_output, bytes_text, hex_pair};
 
 use crate::error_text::ErrorText;
+use crate::quoted::write_quoted;
 use std::fmt;
 
 /// Stands for a value that has Rust's `Debug`: it writes a plain or an alternate text, or fails.
@@ -98,7 +99,7 @@ impl fmt::Debug for DebugText<'_> {
             DebugText::I128(n) => fmt::Debug::fmt(n, f),
             DebugText::U128(n) => fmt::Debug::fmt(n, f),
             DebugText::Bool(b) => fmt::Debug::fmt(b, f),
-            DebugText::Str(text) => fmt::Debug::fmt(text, f),
+            DebugText::Str(text) => write_quoted(text, f),
             DebugText::Bytes(bytes) => write_bytes(bytes, f),
             DebugText::Error(error) => f.write_str(error.text()),
         }

@@ -126,6 +126,10 @@ fn debug_texts_print(rt: HostRuntime) -> Result<(), Fail> {
         (DebugText::U128(1 << 100), "1267650600228229401496703205376"),
         (DebugText::Bool(true), "true"),
         (DebugText::Str("a \"b\""), "\"a \\\"b\\\"\""),
+        (
+            DebugText::Str("\\ \n\r\t\0 \u{1b}\u{7f}\u{9f} é 😀"),
+            "\"\\\\ \\n\\r\\t\\0 \\u{1b}\\u{7f}\\u{9f} é 😀\"",
+        ),
         (DebugText::Bytes(b""), "[]"),
         (DebugText::Bytes(b"\x00\x7f\xff"), "[00 7f ff]"),
         (DebugText::Error(ErrorText::new("e", &["why"])), "e"),

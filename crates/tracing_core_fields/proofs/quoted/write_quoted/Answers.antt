@@ -1,0 +1,18 @@
+use Rattle.std.proofs.Common.{◌≡◌, ◌∷◌, ◌++◌, [], sym, ap, ◌∙◌}
+use Rattle.std.specs.List.{flat_map}
+use Rattle.std.specs.Str.{chars}
+use Rattle.std.proofs.lemmas.Iterator.{YieldsList-from_chars}
+use Rattle.std.proofs.lemmas.Iterator.Consumers.{YieldsList-end}
+use Rattle.std.proofs.lemmas.Grind.{put_two}
+use Rattle.std.proofs.lemmas.List.{map-id}
+use Rattle.tracing_core_fields.specs.Quoted.{quoted, quoted_char}
+use Rattle.tracing_core_fields.proofs.quoted.write_quoted.Goals as goal
+
+pub returns : goal.returns
+unfolding quoted
+returns g c = λ plain ok.
+    let t = YieldsList-end (YieldsList-from_chars c.args.text.now c.utf8.text cc) c.loop-c.yielded _ c.loop-c.yielded_by _ _ c.in-None.is c.next.ensures.steps in
+    let e : c.loop-c.yielded ≡ chars c.args.text.now = sym (map-id c.loop-c.yielded) ∙ t.0 in
+    let before = c.loop-c.invariant plain in
+    let last = c.write_str-2.ensures.writes before.plain ok in
+    put_two _ _ _ _ _ _ _ before last (ap (λ cs. 34 ∷ (flat_map quoted_char cs ++ (34 ∷ []))) e)
