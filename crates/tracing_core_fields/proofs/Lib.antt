@@ -5,3 +5,5 @@ mod VisitLemmas
 mod BytesLemmas
 mod NamesLemmas
 pub mod OwnedLemmas
+mod StyledLemmas
+mod OptionLemmas

@@ -14,6 +14,7 @@ pub mod PlainMetadata
 pub mod Metadata
 pub mod Quoted
 pub mod PlainDebug
+pub mod Options
 pub mod DebugText
 pub mod ErrorText
 pub mod PlainValue

@@ -38,9 +38,3 @@ plain_output (OfTruth b) = Some (if b then codes "true" else codes "false")
 plain_output (OfText text) = Some (quoted text)
 plain_output (OfBytes bytes) = Some (bytes_text bytes)
 plain_output (OfError text sources) = Some text
-
--- what `{:#?}` writes, where the contracts of std say it
-abbrev pub alternate_output : PlainDebug → Option (List ℕ)
-alternate_output (Written plain alternate) = Some alternate
-alternate_output (OfError text sources) = Some text
-alternate_output _ = None

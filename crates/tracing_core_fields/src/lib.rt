@@ -5,6 +5,7 @@ mod callsite;
 mod debug_text;
 mod error_text;
 mod field;
+mod hex;
 mod kind;
 mod level;
 mod level_filter;

@@ -135,8 +135,20 @@ fn debug_texts_print(rt: HostRuntime) -> Result<(), Fail> {
         (DebugText::Error(ErrorText::new("e", &["why"])), "e"),
     ] {
         assert_eq!(rt; format!(in alloc; "{text:?}")?.as_str(), want);
+        assert_eq!(rt; format!(in alloc; "{text:#?}")?.as_str(), want);
     }
     assert!(rt; format!(in alloc; "{:?}", DebugText::Failing).is_err());
+    assert_eq!(rt;
+        format!(in alloc;
+            "{:>4?}|{:+?}|{:6?}|{:6?}",
+            DebugText::U64(7),
+            DebugText::I64(7),
+            DebugText::Bool(true),
+            DebugText::Str("a")
+        )?
+        .as_str(),
+        "   7|+7|true  |\"a\""
+    );
     Ok(())
 }
 
