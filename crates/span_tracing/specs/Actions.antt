@@ -1,12 +1,13 @@
 -- Steps without where their values lie in memory.
-use Rattle.span_tracing_machine.specs.PlainData.{plain_values, PlainStep, GlobalStep, EventStep, EnabledStep, SpanStep, EnterStep, ExitStep, CloseStep}
+use Rattle.span_tracing_machine.specs.PlainData.{PlainStep, GlobalStep, EventStep, EnabledStep, SpanStep, EnterStep, ExitStep, CloseStep}
 use Rattle.span_tracing_machine.specs.PlainData as plain
+use Rattle.tracing_core.specs.OwnedValues.{owned_entries}
 use Rattle.span_tracing.specs.declared.action.Request.{Request}
 use Rattle.span_tracing.specs.declared.action.Action.{Action}
 use Rattle.span_tracing.specs.declared.action.Action.TheVariants as actions
 
 abbrev pub plain_request : Request → plain.Request
-plain_request r = record { lane = r.lane; moment = r.moment; callsite = r.callsite; parent = r.parent; values = plain_values r.values.now }
+plain_request r = record { lane = r.lane; moment = r.moment; callsite = r.callsite; parent = r.parent; values = owned_entries r.values.now }
 
 abbrev pub plain_action : Action → PlainStep
 plain_action (actions.SetGlobalDefault handle) = GlobalStep handle

@@ -4,8 +4,9 @@ ghost use Rattle.std.specs.Prelude.{◌≡◌};
 ghost use Rattle.span_tracing_machine.specs.PlainData.{plain_step};
 ghost use Rattle.span_tracing.specs.Actions.{plain_action};
 
-use span_tracing_machine::{EnabledCall, FieldValue, Parent, SpanCall, Step};
+use span_tracing_machine::{EnabledCall, Parent, SpanCall, Step};
 use tracing_appender_rolling::Moment;
+use tracing_core::FieldValue;
 
 /// An event or a new span on a lane.
 #[derive(Clone, Copy, Debug)]

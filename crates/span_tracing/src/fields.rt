@@ -1,50 +1,11 @@
 //! Field texts: `name=value`, one space between two fields.
 
-ghost use Rattle.std.specs.Prelude.{◌≡◌, ◌++◌, ◌↔◌, OnOk, IsTrue, string_bytes, map, ℕ, List, [], is_some, is_none, unwrap_or, IfOk, ◌&&◌};
-ghost use Rattle.std.specs.Fmt.{signed_decimal};
-ghost use Rattle.span_tracing_machine.specs.PlainData.{plain_value, plain_given, plain_values};
-ghost use Rattle.span_tracing_machine.specs.FieldTexts.{debug_char, quoted, sanitized_char, sanitized, is_control, is_message, plain_name, label, text_value, value_piece, given_piece, further, fields_text};
+ghost use Rattle.std.specs.Prelude.{◌≡◌, ◌++◌, OnOk, string_bytes, map, ℕ, List, [], is_some, is_none, unwrap_or, option_and_then, slice_get, IfOk, ◌&&◌};
+ghost use Rattle.tracing_core.specs.OwnedValues.{plain_owned, owned_entries};
+ghost use Rattle.span_tracing_machine.specs.FieldTexts.{sanitized_char, sanitized, is_message, plain_name, label, text_value, value_piece, given_piece, further, fields_text};
 
-use span_tracing_machine::{FieldValue, Value};
 use std::alloc::AllocError;
-
-fn is_control(c: char) -> bool
-    ensures { result ≡ is_control c }
-{
-    let code = c as u32;
-    code < 32 || (127 <= code && code <= 159)
-}
-
-#[tactic(auto, unfolding(span_tracing_machine::specs::FieldTexts::debug_char))]
-fn push_debug_char(out: &mut String, c: char) -> Result<(), AllocError>
-    ensures { OnOk result (string_bytes out.new ≡ string_bytes out.old ++ debug_char c) }
-{
-    match c {
-        '"' => out.push_str("\\\""),
-        '\\' => out.push_str("\\\\"),
-        '\n' => out.push_str("\\n"),
-        '\r' => out.push_str("\\r"),
-        '\t' => out.push_str("\\t"),
-        '\0' => out.push_str("\\0"),
-        other if is_control(other) => {
-            let code = other as u32;
-            write!(out, "\\u{{{code:x}}}")
-        }
-        other => out.push(other),
-    }
-}
-
-/// Appends a text between quotes.
-#[tactic(auto, unfolding(span_tracing_machine::specs::FieldTexts::quoted))]
-pub(crate) fn push_quoted(out: &mut String, text: &str) -> Result<(), AllocError>
-    ensures { OnOk result (string_bytes out.new ≡ string_bytes out.old ++ quoted text.now) }
-{
-    out.push('"')?;
-    for c in text.chars() {
-        push_debug_char(out, c)?;
-    }
-    out.push('"')
-}
+use tracing_core::{DebugText, FieldValue, OwnedValue};
 
 #[tactic(auto, unfolding(span_tracing_machine::specs::FieldTexts::sanitized_char))]
 fn push_sanitized_char(out: &mut String, c: char) -> Result<(), AllocError>
@@ -106,27 +67,27 @@ fn push_text_value(out: &mut String, name: &str, text: &str) -> Result<(), Alloc
     if is_message(name) {
         push_sanitized(out, text)
     } else {
-        push_quoted(out, text)
+        write!(out, "{:?}", DebugText::Str(text))
     }
 }
 
 /// Appends a field's piece, and says whether it has one.
 #[tactic(auto, unfolding(span_tracing_machine::specs::FieldTexts::value_piece))]
-fn push_value(out: &mut String, name: &str, value: &Value) -> Result<(), AllocError>
+fn push_value(out: &mut String, name: &str, value: &OwnedValue) -> Result<(), AllocError>
     ensures { OnOk result
-        (string_bytes out.new ≡ string_bytes out.old ++ unwrap_or (value_piece name.now (plain_value value.now)) []) }
+        (string_bytes out.new ≡ string_bytes out.old ++ unwrap_or (option_and_then (value_piece name.now) (plain_owned value.now)) []) }
 {
     match value {
-        Value::Empty => Ok(()),
-        Value::U64(number) => {
+        OwnedValue::Empty => Ok(()),
+        OwnedValue::U64(number) => {
             push_label(out, name)?;
             write!(out, "{number}")
         }
-        Value::I64(number) => {
+        OwnedValue::I64(number) => {
             push_label(out, name)?;
             write!(out, "{number}")
         }
-        Value::Text(text) => {
+        OwnedValue::Text(text) => {
             push_label(out, name)?;
             push_text_value(out, name, text.as_str())
         }
@@ -135,10 +96,10 @@ fn push_value(out: &mut String, name: &str, value: &Value) -> Result<(), AllocEr
 
 /// Whether a value is shown.
 #[tactic(auto, unfolding(span_tracing_machine::specs::FieldTexts::value_piece))]
-fn is_shown(value: &Value) -> bool
-    ensures { (name : List ℕ) → result ≡ is_some (value_piece name (plain_value value.now)) }
+fn is_shown(value: &OwnedValue) -> bool
+    ensures { (name : List ℕ) → result ≡ is_some (option_and_then (value_piece name) (plain_owned value.now)) }
 {
-    !matches!(value, Value::Empty)
+    !matches!(value, OwnedValue::Empty)
 }
 
 /// Appends one more field, after a space unless it is the first one; answers whether there is none yet.
@@ -149,7 +110,8 @@ fn push_given(
     is_first: bool,
 ) -> Result<bool, AllocError>
     ensures { IfOk result (λ is_still_first.
-        let piece = given_piece (map string_bytes names.now) (plain_given given.now) in
+        let piece = option_and_then (λ name. option_and_then (value_piece name) (plain_owned given.now.value))
+        (slice_get (map string_bytes names.now) given.now.field) in
         (string_bytes out.new ≡ string_bytes out.old ++ further is_first piece)
         × (is_still_first ≡ (is_first && is_none piece))) }
 {
@@ -174,7 +136,7 @@ pub(crate) fn push_fields(
     values: &[FieldValue],
 ) -> Result<(), AllocError>
     ensures { OnOk result
-        (string_bytes out.new ≡ string_bytes out.old ++ fields_text (map string_bytes names.now) (plain_values values.now)) }
+        (string_bytes out.new ≡ string_bytes out.old ++ fields_text (map string_bytes names.now) (owned_entries values.now)) }
 {
     let mut is_first = true;
     for given in values {

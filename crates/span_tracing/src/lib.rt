@@ -19,14 +19,14 @@ mod trace;
 pub use output::{Fields, LineFormat, Output, OutputKey, OutputRefusal, Route, SinkSpec, Timer};
 pub use setup::StackRefusal;
 pub use span_tracing_machine::{
-    EnabledCall, EventCall, FieldValue, NewSpanCall, Parent, Refusal, Reply, SpanCall, SpanName,
-    Step, Value,
+    EnabledCall, EventCall, NewSpanCall, Parent, Refusal, Reply, SpanCall, SpanName, Step,
 };
 pub use trace::Trace;
 pub use tracing_appender_rolling::{
     Builder, FileEntry, FileNumber, Folder, FolderError, FolderFault, MemoryFolder, Moment,
     Rotation,
 };
+pub use tracing_core::{FieldValue, OwnedValue};
 
 #[cfg(test)]
 mod tests;

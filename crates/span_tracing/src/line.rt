@@ -3,13 +3,13 @@
 ghost use Rattle.std.specs.Prelude.{◌≡◌, ◌++◌, ◌∷◌, [], OnOk, string_bytes, map};
 ghost use Rattle.std.specs.Option.{option_copied};
 ghost use Rattle.std.specs.List.{flat_map};
-ghost use Rattle.span_tracing_machine.specs.PlainData.{plain_values};
+ghost use Rattle.tracing_core.specs.OwnedValues.{owned_entries};
 ghost use Rattle.span_tracing_machine.specs.Lines.{time_piece, shown_piece, scope_piece, full_line};
 ghost use Rattle.span_tracing.specs.Shown.{shown_of};
 
 use crate::fields::push_fields;
-use span_tracing_machine::FieldValue;
 use std::alloc::AllocError;
+use tracing_core::FieldValue;
 
 /// A span of an event's scope, by its name and its stored text.
 #[derive(Clone, Copy, Drop)]
@@ -64,7 +64,7 @@ pub(crate) fn push_full_line(
 ) -> Result<(), AllocError>
     ensures { OnOk result (string_bytes out.new ≡ string_bytes out.old
         ++ full_line (option_copied time.entry) (map shown_of scope.now) target.now
-        (map string_bytes names.now) (plain_values values.now)) }
+        (map string_bytes names.now) (owned_entries values.now)) }
 {
     push_time(out, time)?;
     push_scope(out, scope)?;

@@ -4,7 +4,8 @@ ghost use Rattle.std.specs.Prelude.{◌≡◌, ◌≢◌, [], ◌∷◌, OnErr, 
 ghost use Rattle.tracing_appender_rolling.specs.Moments.{is_moment};
 ghost use Rattle.tracing_appender_rolling.specs.Sinks.{PlainSink};
 ghost use Rattle.tracing_appender_rolling.specs.Appenders.{AgreesSink};
-ghost use Rattle.span_tracing_machine.specs.PlainData.{plain_step, plain_steps, plain_values, GlobalStep, EventStep, EnabledStep, SpanStep, EnterStep, ExitStep, CloseStep};
+ghost use Rattle.tracing_core.specs.OwnedValues.{owned_entries};
+ghost use Rattle.span_tracing_machine.specs.PlainData.{plain_step, plain_steps, GlobalStep, EventStep, EnabledStep, SpanStep, EnterStep, ExitStep, CloseStep};
 ghost use Rattle.span_tracing_machine.specs.Machine.{refusal_of, reply_of, or_same};
 ghost use Rattle.span_tracing_machine.specs.Missed.{handed_by, handed_lines};
 ghost use Rattle.span_tracing_machine.specs.State.{handed_at, event_line, offer_of};
@@ -14,12 +15,10 @@ ghost use Rattle.span_tracing.specs.Stored.{Acted, Stepped, TakesLines, WantsRoo
 
 use crate::action::{Action, Request, action_of};
 use crate::trace::Trace;
-use span_tracing_machine::{
-    EnabledCall, Fate, FieldValue, Parent, Refusal, Reply, SpanCall, SpanName, Step,
-};
+use span_tracing_machine::{EnabledCall, Fate, Parent, Refusal, Reply, SpanCall, SpanName, Step};
 use std::alloc::AllocError;
 use tracing_appender_rolling::{Folder, FolderError, Moment, RollingFileAppender};
-use tracing_core::Identifier;
+use tracing_core::{FieldValue, Identifier};
 
 /// A step's reply, and what became of its text or line.
 #[derive(Clone, Copy, Debug)]
@@ -217,7 +216,7 @@ impl<D: Folder> Trace<D> {
         parent: Parent,
         values: &[FieldValue],
     ) -> Reply
-        ensures follows { FollowsStep D.contents self.old self.new result (EventStep (record { lane = lane; moment = moment; callsite = callsite.0; parent = parent; values = plain_values values.now })) }
+        ensures follows { FollowsStep D.contents self.old self.new result (EventStep (record { lane = lane; moment = moment; callsite = callsite.0; parent = parent; values = owned_entries values.now })) }
         ensures refused { (refusal : Refusal) → result ≡ Reply.Refused refusal → value_of self.new ≡ value_of self.old }
     {
         self.act(&Action::Event(Request {
@@ -253,8 +252,8 @@ impl<D: Folder> Trace<D> {
         values: &[FieldValue],
     ) -> Reply
         ensures follows { result ≢ Reply.Refused Refusal.OutOfMemory → FollowsStep D.contents self.old self.new result
-            (SpanStep (record { lane = lane; moment = moment; callsite = callsite.0; parent = parent; values = plain_values values.now })) }
-        ensures memory { let step = SpanStep (record { lane = lane; moment = moment; callsite = callsite.0; parent = parent; values = plain_values values.now }) in
+            (SpanStep (record { lane = lane; moment = moment; callsite = callsite.0; parent = parent; values = owned_entries values.now })) }
+        ensures memory { let step = SpanStep (record { lane = lane; moment = moment; callsite = callsite.0; parent = parent; values = owned_entries values.now }) in
             result ≡ Reply.Refused Refusal.OutOfMemory → WantsRoom (skeleton_of self.old.state) step (mask_in self.old.state step) }
         ensures refused { (refusal : Refusal) → result ≡ Reply.Refused refusal → value_of self.new ≡ value_of self.old }
     {

@@ -5,7 +5,8 @@ ghost use Rattle.std.specs.Option.{option_map, option_copied};
 ghost use Rattle.tracing_core.specs.Metadata.{plain_metadata};
 ghost use Rattle.span_tracing_machine.specs.Spans.{without_last};
 ghost use Rattle.span_tracing_machine.specs.FieldTexts.{fields_text};
-ghost use Rattle.span_tracing_machine.specs.PlainData.{plain_values, GlobalStep, EnabledStep, SpanStep, EnterStep, ExitStep, CloseStep};
+ghost use Rattle.tracing_core.specs.OwnedValues.{owned_entries};
+ghost use Rattle.span_tracing_machine.specs.PlainData.{GlobalStep, EnabledStep, SpanStep, EnterStep, ExitStep, CloseStep};
 ghost use Rattle.span_tracing_machine.specs.Machine.{answered, made_at, swept, ids_refusal, lane_at, one_less};
 ghost use Rattle.span_tracing_machine.specs.Missed.{given_by, starved_by};
 ghost use Rattle.span_tracing_machine.specs.State.{fields_of, callsite_named};
@@ -66,7 +67,7 @@ impl TraceState {
     fn span_text(&self, span: &Request<'_>, place: usize) -> Result<String, AllocError>
         requires { place < length self.now.callsites.items }
         ensures { IfOk result (λ text. string_bytes text
-            ≡ fields_text (fields_of (slice_get (skeleton_of self.now).callsites place)) (plain_values span.now.values.now)) }
+            ≡ fields_text (fields_of (slice_get (skeleton_of self.now).callsites place)) (owned_entries span.now.values.now)) }
     {
         let callsite = &self.callsites[place];
         let mut text = String::new(self.alloc);
@@ -78,7 +79,7 @@ impl TraceState {
     #[tactic(auto, unfolding(span_tracing_machine::specs::FieldTexts::fields_text))]
     fn text_or_missed(&self, span: &Request<'_>, place: usize) -> MadeText
         requires { place < length self.now.callsites.items }
-        ensures { string_bytes result.text ≡ fields_text (fields_of (slice_get (skeleton_of self.now).callsites place)) (given_by result.fate (plain_values span.now.values.now)) }
+        ensures { string_bytes result.text ≡ fields_text (fields_of (slice_get (skeleton_of self.now).callsites place)) (given_by result.fate (owned_entries span.now.values.now)) }
     {
         match self.span_text(span, place) {
             Ok(text) => MadeText {

@@ -9,8 +9,8 @@ ghost use Rattle.std.specs.Prelude.{◌≡◌, IfOk, vec_len};
 
 use crate::{
     Builder, FieldValue, Fields, FileNumber, Folder, FolderError, FolderFault, LineFormat,
-    MemoryFolder, Moment, Output, OutputKey, Refusal, Reply, Rotation, Route, SinkSpec, SpanName,
-    Timer, Trace, Value,
+    MemoryFolder, Moment, Output, OutputKey, OwnedValue, Refusal, Reply, Rotation, Route, SinkSpec,
+    SpanName, Timer, Trace,
 };
 use std::alloc::{AllocError, Global};
 use std::process::Abort;
@@ -219,14 +219,14 @@ fn set_trace(
 fn text_field(alloc: Global, field: usize, text: &str) -> Result<FieldValue, AllocError> {
     Ok(FieldValue {
         field,
-        value: Value::Text(String::from_str(alloc, text)?),
+        value: OwnedValue::Text(String::from_str(alloc, text)?),
     })
 }
 
 fn number_field(field: usize, number: u64) -> FieldValue {
     FieldValue {
         field,
-        value: Value::U64(number),
+        value: OwnedValue::U64(number),
     }
 }
 

@@ -1,29 +1,12 @@
 -- The texts of fields, by their pieces.
-use Rattle.std.specs.Prelude.{ℕ, List, [], ◌++◌, Bool, true, false, ◌||◌, ◌&&◌, ◌==◌, nat_eq, nat_lt, nat_le, if◌then◌else◌, Option, Some, None, option_and_then, codes, encode_utf8, slice_get, drop}
+use Rattle.std.specs.Prelude.{ℕ, List, [], ◌++◌, Bool, true, false, ◌&&◌, ◌==◌, nat_eq, nat_le, if◌then◌else◌, Option, Some, None, option_and_then, codes, encode_utf8, slice_get, drop}
 use Rattle.std.specs.List.{flat_map, filter_map, join_by, starts_with}
-use Rattle.std.specs.Fmt.{signed_decimal, digits}
+use Rattle.std.specs.Fmt.{signed_decimal, decimal, digits}
+use Rattle.std.specs.Option.{option_map}
 use Rattle.std.specs.Str.{chars, bytes_eq}
-use Rattle.span_tracing_machine.specs.PlainData.{PlainValue, Number, Text, Absent, Given}
-
--- controls of ASCII, DEL and the controls from U+0080 on
-abbrev pub is_control : ℕ → Bool
-is_control c = nat_lt c 32 || (nat_le 127 c && nat_le c 159)
-
--- how a character stands between quotes
-unfoldable pub debug_char : ℕ → List ℕ
-debug_char c =
-    if c == 34 then codes "\\\""
-    else (if c == 92 then codes "\\\\"
-    else (if c == 10 then codes "\\n"
-    else (if c == 13 then codes "\\r"
-    else (if c == 9 then codes "\\t"
-    else (if c == 0 then codes "\\0"
-    else (if is_control c then codes "\\u{" ++ (digits 16 false c ++ codes "}")
-    else encode_utf8 c))))))
-
--- a text between quotes
-unfoldable pub quoted : List ℕ → List ℕ
-quoted bytes = codes "\"" ++ flat_map debug_char (chars bytes) ++ codes "\""
+use Rattle.tracing_core.specs.PlainDebug.{PlainDebug, Written, Unwritable, OfSigned, OfUnsigned, OfWideSigned, OfWideUnsigned, OfTruth, OfText, OfBytes, OfError}
+use Rattle.tracing_core.specs.Quoted.{quoted}
+use Rattle.tracing_core.specs.PlainValue.{PlainValue, debug_of}
 
 abbrev pub is_message : List ℕ → Bool
 is_message name = bytes_eq name (codes "message")
@@ -55,15 +38,26 @@ sanitized bytes = flat_map sanitized_char (chars bytes)
 abbrev pub text_value : List ℕ → List ℕ → List ℕ
 text_value name bytes = if is_message name then sanitized bytes else quoted bytes
 
+-- what stands for a debug text in a field; no step brings those yet that have none here
+abbrev pub debug_piece : List ℕ → PlainDebug → Option (List ℕ)
+debug_piece name (OfSigned z) = Some (signed_decimal z)
+debug_piece name (OfUnsigned n) = Some (decimal n)
+debug_piece name (OfWideSigned z) = Some (signed_decimal z)
+debug_piece name (OfWideUnsigned n) = Some (decimal n)
+debug_piece name (OfText bytes) = Some (text_value name bytes)
+debug_piece name (Written plain alternate) = None
+debug_piece name Unwritable = None
+debug_piece name (OfTruth b) = None
+debug_piece name (OfBytes bytes) = None
+debug_piece name (OfError text sources) = None
+
 -- a field's piece of a line, if it has one
 unfoldable pub value_piece : List ℕ → PlainValue → Option (List ℕ)
-value_piece name Absent = None
-value_piece name (Number z) = Some (label name ++ signed_decimal z)
-value_piece name (Text bytes) = Some (label name ++ text_value name bytes)
+value_piece name value = option_map (λ text. label name ++ text) (debug_piece name (debug_of value))
 
 -- a field that the callsite lacks has none
-abbrev pub given_piece : List (List ℕ) → Given → Option (List ℕ)
-given_piece names given = option_and_then (λ name. value_piece name given.value) (slice_get names given.field)
+abbrev pub given_piece : List (List ℕ) → ℕ × PlainValue → Option (List ℕ)
+given_piece names entry = option_and_then (λ name. value_piece name entry.1) (slice_get names entry.0)
 
 -- what one more field adds: nothing, or a space before its piece unless it is the first
 abbrev pub further : Bool → Option (List ℕ) → List ℕ
@@ -72,5 +66,5 @@ further true (Some piece) = piece
 further false (Some piece) = codes " " ++ piece
 
 -- the text of a list of values, with one space between two pieces
-unfoldable pub fields_text : List (List ℕ) → List Given → List ℕ
+unfoldable pub fields_text : List (List ℕ) → List (ℕ × PlainValue) → List ℕ
 fields_text names list = join_by (λ piece. piece) (codes " ") (filter_map (given_piece names) list)

@@ -1,7 +1,7 @@
 -- A line of the full format, by its pieces.
 use Rattle.std.specs.Prelude.{ℕ, List, [], ◌∷◌, ◌++◌, Option, Some, None, codes}
 use Rattle.std.specs.List.{flat_map}
-use Rattle.span_tracing_machine.specs.PlainData.{Given}
+use Rattle.tracing_core.specs.PlainValue.{PlainValue}
 use Rattle.span_tracing_machine.specs.FieldTexts.{fields_text}
 
 -- a span of a scope: its name and its stored text
@@ -33,6 +33,6 @@ abbrev pub line_end : List ℕ
 line_end = 10 ∷ []
 
 -- time, scope, target, the event's fields, newline
-unfoldable pub full_line : Option (List ℕ) → List Shown → List ℕ → List (List ℕ) → List Given → List ℕ
+unfoldable pub full_line : Option (List ℕ) → List Shown → List ℕ → List (List ℕ) → List (ℕ × PlainValue) → List ℕ
 full_line time scope target names list =
     time_piece time ++ scope_piece scope ++ target ++ codes ": " ++ fields_text names list ++ line_end

@@ -1,9 +1,10 @@
 -- What a step needs memory for beside its own room, what became of it, and the count of what found none.
 use Rattle.std.specs.Prelude.{ℕ, zero, suc, ◌+◌, List, [], ◌∷◌, Bool, true, false, if◌then◌else◌, nat_lt, Option, Some, None}
+use Rattle.tracing_core.specs.PlainValue.{PlainValue}
 use Rattle.tracing_appender_rolling.specs.Sinks.{Handed}
 pub use Rattle.span_tracing_machine.specs.declared.fate.Fate.{Fate}
 pub use Rattle.span_tracing_machine.specs.declared.fate.Fate.TheVariants.{Whole, Missed, Unwritten}
-use Rattle.span_tracing_machine.specs.PlainData.{PlainStep, GlobalStep, EventStep, EnabledStep, SpanStep, EnterStep, ExitStep, CloseStep, Given}
+use Rattle.span_tracing_machine.specs.PlainData.{PlainStep, GlobalStep, EventStep, EnabledStep, SpanStep, EnterStep, ExitStep, CloseStep}
 use Rattle.span_tracing_machine.specs.Skeleton.{Skeleton, Mask}
 use Rattle.span_tracing_machine.specs.Machine.{refusal_of, made_at, or_same}
 
@@ -41,7 +42,7 @@ first_fate [] = Whole
 first_fate (fate ∷ fates) = fate
 
 -- a text that found no memory counts as a value list that was not given
-abbrev pub given_by : Fate → List Given → List Given
+abbrev pub given_by : Fate → List (ℕ × PlainValue) → List (ℕ × PlainValue)
 given_by Whole values = values
 given_by Missed values = []
 given_by Unwritten values = []

@@ -1,9 +1,8 @@
--- Values and calls as plain data: numbers and lists, without where they lie in memory.
-use Rattle.std.specs.Prelude.{ℕ, ℤ, pos, List, map, string_bytes}
+-- Calls as plain data: numbers and lists, without where they lie in memory.
+use Rattle.std.specs.Prelude.{ℕ, List, map}
+use Rattle.tracing_core.specs.OwnedValues.{owned_entries}
+use Rattle.tracing_core.specs.PlainValue.{PlainValue}
 use Rattle.tracing_appender_rolling.specs.declared.moment.Moment.{Moment}
-use Rattle.span_tracing_machine.specs.declared.value.Value.{Value}
-use Rattle.span_tracing_machine.specs.declared.value.Value.TheVariants as values
-use Rattle.span_tracing_machine.specs.declared.value.FieldValue.{FieldValue}
 use Rattle.span_tracing_machine.specs.declared.call.Parent.{Parent}
 use Rattle.span_tracing_machine.specs.declared.call.SpanCall.{SpanCall}
 use Rattle.span_tracing_machine.specs.declared.call.EventCall.{EventCall}
@@ -12,36 +11,13 @@ use Rattle.span_tracing_machine.specs.declared.call.NewSpanCall.{NewSpanCall}
 use Rattle.span_tracing_machine.specs.declared.call.Step.{Step}
 use Rattle.span_tracing_machine.specs.declared.call.Step.TheVariants as steps
 
--- a value: a whole number, the bytes of a text, or nothing
-pub data PlainValue : Type 0 where
-  Number : ℤ → PlainValue
-  Text : List ℕ → PlainValue
-  Absent : PlainValue
-
-abbrev pub plain_value : Value → PlainValue
-plain_value (values.I64 z) = Number z
-plain_value (values.U64 n) = Number (pos n)
-plain_value (values.Text s) = Text (string_bytes s)
-plain_value values.Empty = Absent
-
--- a field's index with its value
-pub record Given : Type 0 where
-  pub field : ℕ
-  pub value : PlainValue
-
-abbrev pub plain_given : FieldValue → Given
-plain_given f = record { field = f.field; value = plain_value f.value }
-
-abbrev pub plain_values : List FieldValue → List Given
-plain_values fs = map plain_given fs
-
--- a request on metadata: lane, moment, callsite, parent, values
+-- a request on metadata: lane, moment, callsite, parent, and the indices of fields with their values
 pub record Request : Type 0 where
   pub lane : ℕ
   pub moment : Moment
   pub callsite : ℕ
   pub parent : Parent
-  pub values : List Given
+  pub values : List (ℕ × PlainValue)
 
 -- a step
 pub data PlainStep : Type 0 where
@@ -54,10 +30,10 @@ pub data PlainStep : Type 0 where
   CloseStep : SpanCall → PlainStep
 
 abbrev pub event_request : EventCall → Request
-event_request e = record { lane = e.lane; moment = e.moment; callsite = e.callsite.0; parent = e.parent; values = plain_values e.values.items }
+event_request e = record { lane = e.lane; moment = e.moment; callsite = e.callsite.0; parent = e.parent; values = owned_entries e.values.items }
 
 abbrev pub span_request : NewSpanCall → Request
-span_request n = record { lane = n.lane; moment = n.moment; callsite = n.callsite.0; parent = n.parent; values = plain_values n.values.items }
+span_request n = record { lane = n.lane; moment = n.moment; callsite = n.callsite.0; parent = n.parent; values = owned_entries n.values.items }
 
 abbrev pub plain_step : Step → PlainStep
 plain_step (steps.SetGlobalDefault handle) = GlobalStep handle

@@ -5,11 +5,12 @@ use Rattle.std.specs.Str.{bytes_eq}
 use Rattle.tracing_appender_rolling.specs.declared.moment.Moment.{Moment}
 use Rattle.tracing_appender_rolling.specs.Sinks.{file_text}
 use Rattle.tracing_core.specs.PlainKind.{PlainKind}
+use Rattle.tracing_core.specs.PlainValue.{Unsigned, Text}
 use Rattle.span_tracing_machine.specs.declared.call.Parent.TheVariants.{Contextual}
 use Rattle.span_tracing_machine.specs.declared.call.Reply.TheVariants.{Done, Enabled, Span, Closed, Refused}
 use Rattle.span_tracing_machine.specs.declared.refusal.Refusal.TheVariants.{UnknownCallsite, UnknownSpan, BadMoment}
 use Rattle.span_tracing_machine.specs.declared.call.SpanCall.{SpanCall}
-use Rattle.span_tracing_machine.specs.PlainData.{Number, Text, PlainStep, GlobalStep, EventStep, EnabledStep, SpanStep, EnterStep, ExitStep, CloseStep}
+use Rattle.span_tracing_machine.specs.PlainData.{PlainStep, GlobalStep, EventStep, EnabledStep, SpanStep, EnterStep, ExitStep, CloseStep}
 use Rattle.span_tracing_machine.specs.Lines.{line_end}
 use Rattle.span_tracing_machine.specs.Skeleton.{PlainCallsite}
 use Rattle.span_tracing_machine.specs.Missed.{Missed, Unwritten}
@@ -55,13 +56,13 @@ abbrev pub file_in : Plain → List ℕ → Option (Option (List ℕ))
 file_in p name = option_map (λ (o : PlainOutput). file_text o.sink name) p.output
 
 abbrev pub new_outer : PlainStep
-new_outer = SpanStep (record { lane = 0; moment = at_ten; callsite = 1; parent = Contextual; values = (record { field = 0; value = Number (pos 42) }) ∷ [] })
+new_outer = SpanStep (record { lane = 0; moment = at_ten; callsite = 1; parent = Contextual; values = (0, Unsigned 42) ∷ [] })
 
 abbrev pub on_one : SpanCall
 on_one = record { lane = 0; moment = at_ten; span = Some (record { stack = 0; id = 1 }) }
 
 abbrev pub hi_at : Moment → PlainStep
-hi_at moment = EventStep (record { lane = 0; moment = moment; callsite = 2; parent = Contextual; values = (record { field = 0; value = Text (codes "hi") }) ∷ (record { field = 1; value = Number (pos 3) }) ∷ [] })
+hi_at moment = EventStep (record { lane = 0; moment = moment; callsite = 2; parent = Contextual; values = (0, Text (codes "hi")) ∷ (1, Unsigned 3) ∷ [] })
 
 -- the global default is set, a span is made and entered, an event happens in it
 abbrev pub stored_run : List PlainStep
@@ -75,7 +76,7 @@ StoredRunFile = file_in (plain_run base stored_run []) the_name ≡ Some (Some (
 
 -- an event of the message m alone
 abbrev pub m_event : PlainStep
-m_event = EventStep (record { lane = 0; moment = at_ten; callsite = 2; parent = Contextual; values = (record { field = 0; value = Text (codes "m") }) ∷ [] })
+m_event = EventStep (record { lane = 0; moment = at_ten; callsite = 2; parent = Contextual; values = (0, Text (codes "m")) ∷ [] })
 
 -- the same start over a folder whose file held a line when it was opened
 abbrev pub base_with_old : Plain
@@ -146,7 +147,7 @@ abbrev pub inner : PlainCallsite
 inner = app_callsite 5 (record { is_event = false; is_span = true; is_hint = false }) (codes "inner") (codes "y" ∷ [])
 
 abbrev pub new_inner : PlainStep
-new_inner = SpanStep (record { lane = 0; moment = at_ten; callsite = 5; parent = Contextual; values = (record { field = 0; value = Text (codes "a") }) ∷ [] })
+new_inner = SpanStep (record { lane = 0; moment = at_ten; callsite = 5; parent = Contextual; values = (0, Text (codes "a")) ∷ [] })
 
 abbrev pub on_two : SpanCall
 on_two = record { lane = 0; moment = at_ten; span = Some (record { stack = 0; id = 2 }) }

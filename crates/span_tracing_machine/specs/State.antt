@@ -2,6 +2,7 @@
 use Rattle.std.specs.Prelude.{ℕ, ◌+◌, List, [], ◌∷◌, ◌++◌, map, reverse, Bool, true, false, ◌==◌, nat_le, if◌then◌else◌, Option, Some, None, option_and_then, slice_get, filter, not, is_some}
 use Rattle.std.specs.Option.{option_map}
 use Rattle.tracing_core.specs.PlainMetadata.{is_same_metadata}
+use Rattle.tracing_core.specs.PlainValue.{PlainValue}
 use Rattle.tracing_appender_rolling.specs.declared.moment.Moment.{Moment}
 use Rattle.tracing_appender_rolling.specs.Sinks.{Handed, PlainSink}
 use Rattle.span_tracing_machine.specs.declared.record.SpanRecord.{SpanRecord}
@@ -9,7 +10,7 @@ use Rattle.span_tracing_machine.specs.declared.call.SpanName.{SpanName}
 use Rattle.span_tracing_machine.specs.declared.call.Reply.{Reply}
 use Rattle.span_tracing_machine.specs.declared.refusal.Refusal.{Refusal}
 use Rattle.span_tracing_machine.specs.declared.refusal.Refusal.TheVariants.{Taken}
-use Rattle.span_tracing_machine.specs.PlainData.{Given, Request, PlainStep, GlobalStep, EventStep, EnabledStep, SpanStep, EnterStep, ExitStep, CloseStep}
+use Rattle.span_tracing_machine.specs.PlainData.{Request, PlainStep, GlobalStep, EventStep, EnabledStep, SpanStep, EnterStep, ExitStep, CloseStep}
 use Rattle.span_tracing_machine.specs.FieldTexts.{fields_text}
 use Rattle.span_tracing_machine.specs.Lines.{Shown, full_line}
 use Rattle.span_tracing_machine.specs.Spans.{line_of, is_open}
@@ -22,7 +23,7 @@ pub record ValueList : Type 0 where
   pub id : ℕ
   pub name : List ℕ
   pub names : List (List ℕ)
-  pub values : List Given
+  pub values : List (ℕ × PlainValue)
 
 -- a span's name and text, by its id
 pub record PlainText : Type 0 where

@@ -1,9 +1,8 @@
 //! The steps of a trace and its replies.
 
 use crate::refusal::Refusal;
-use crate::value::FieldValue;
 use tracing_appender_rolling::Moment;
-use tracing_core::{Id, Identifier};
+use tracing_core::{FieldValue, Id, Identifier};
 
 /// A span, by its stack's number and its id in that stack.
 #[derive(Clone, Copy, Debug, PartialEq, Eq)]

@@ -8,7 +8,6 @@ mod laws;
 mod record;
 mod refusal;
 mod rows;
-mod value;
 
 pub use call::{EnabledCall, EventCall, NewSpanCall, Parent, Reply, SpanCall, SpanName, Step};
 pub use fate::Fate;
@@ -22,4 +21,3 @@ pub use rows::{
     row_bytes_at_opening, row_empty, row_enabled, row_missed, row_nested_spans, row_span_cycle,
     row_stored_run, row_too_early,
 };
-pub use value::{FieldValue, Value};

@@ -12,7 +12,9 @@ pub use Rattle.tracing_core_fields.specs.Field
 pub use Rattle.tracing_core_fields.specs.Iter
 pub use Rattle.tracing_core_fields.specs.PlainMetadata
 pub use Rattle.tracing_core_fields.specs.Metadata
+pub use Rattle.tracing_core_fields.specs.Quoted
 pub use Rattle.tracing_core_fields.specs.PlainDebug
+pub use Rattle.tracing_core_fields.specs.Options
 pub use Rattle.tracing_core_fields.specs.DebugText
 pub use Rattle.tracing_core_fields.specs.ErrorText
 pub use Rattle.tracing_core_fields.specs.PlainValue

@@ -6,7 +6,7 @@ mod macros;
 pub use tracing_core_fields::{
     AnyValue, DebugText, ErrorText, Field, FieldSet, FieldValue, Id, Identifier, Iter, Kind, Level,
     LevelFilter, Metadata, OwnedValue, ParseLevelError, ParseLevelFilterError, ValueSet, Visit,
-    filters_read_their_names, levels_read_their_names, numbers_are_read_as_usize,
+    constant_kinds, filters_read_their_names, levels_read_their_names, numbers_are_read_as_usize,
 };
 pub use tracing_core_hub::{
     AddError, At, Attributes, Book, Callsite, Command, CommandError, CommandReply, Current,

@@ -4,3 +4,6 @@ mod TextLemmas
 mod VisitLemmas
 mod BytesLemmas
 mod NamesLemmas
+pub mod OwnedLemmas
+mod StyledLemmas
+mod OptionLemmas

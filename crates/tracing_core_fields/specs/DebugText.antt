@@ -1,6 +1,6 @@
 -- What a debug text is, with no borrowed parts.
 use Rattle.tracing_core_fields.specs.ErrorText.{error_text, source_texts}
-use Rattle.tracing_core_fields.specs.PlainDebug.{PlainDebug, Written, Unwritable, OfSigned, OfUnsigned, OfTruth, OfText, OfBytes, OfError}
+use Rattle.tracing_core_fields.specs.PlainDebug.{PlainDebug, Written, Unwritable, OfSigned, OfUnsigned, OfWideSigned, OfWideUnsigned, OfTruth, OfText, OfBytes, OfError}
 use Rattle.tracing_core_fields.specs.declared.debug_text.DebugText.{DebugText}
 use Rattle.tracing_core_fields.specs.declared.debug_text.DebugText.TheVariants as text
 
@@ -9,8 +9,8 @@ plain_debug (text.Texts plain alternate) = Written plain.now alternate.now
 plain_debug text.Failing = Unwritable
 plain_debug (text.I64 n) = OfSigned n
 plain_debug (text.U64 n) = OfUnsigned n
-plain_debug (text.I128 n) = OfSigned n
-plain_debug (text.U128 n) = OfUnsigned n
+plain_debug (text.I128 n) = OfWideSigned n
+plain_debug (text.U128 n) = OfWideUnsigned n
 plain_debug (text.Bool b) = OfTruth b
 plain_debug (text.Str s) = OfText s.now
 plain_debug (text.Bytes bytes) = OfBytes bytes.now

@@ -12,7 +12,9 @@ pub mod Field
 pub mod Iter
 pub mod PlainMetadata
 pub mod Metadata
+pub mod Quoted
 pub mod PlainDebug
+pub mod Options
 pub mod DebugText
 pub mod ErrorText
 pub mod PlainValue

@@ -14,13 +14,21 @@ plain_owned (owned.U64 n) = Some (Unsigned n)
 plain_owned (owned.Text text) = Some (Text (string_bytes text))
 plain_owned owned.Empty = None
 
+-- the index and the value, where the value is present
+abbrev pub owned_entry : FieldValue → Option (ℕ × PlainValue)
+owned_entry given = option_map (λ value. (given.field, value)) (plain_owned given.value)
+
+-- the entries whose values are present, at any index
+abbrev pub owned_entries : List FieldValue → List (ℕ × PlainValue)
+owned_entries values = filter_map owned_entry values
+
 -- whether a set of so many fields has one at the index
 abbrev pub is_indexed : ℕ → FieldValue → Bool
 is_indexed count given = nat_lt given.field count
 
 -- the index and the value, where the set has such a field and the value is present
 abbrev pub indexed_entry : ℕ → FieldValue → Option (ℕ × PlainValue)
-indexed_entry count given = if is_indexed count given then option_map (λ value. (given.field, value)) (plain_owned given.value) else None
+indexed_entry count given = if is_indexed count given then owned_entry given else None
 
 -- the entries of values that are given by their fields' indices
 abbrev pub indexed_entries : ℕ → List FieldValue → List (ℕ × PlainValue)

@@ -2,7 +2,7 @@
 use Rattle.std.specs.Prelude.{ℕ, ℤ, Bool, List, Option, Some, None, option_and_then}
 use Rattle.tracing_core_fields.specs.DebugText.{plain_debug}
 use Rattle.tracing_core_fields.specs.ErrorText.{error_text, source_texts}
-use Rattle.tracing_core_fields.specs.PlainDebug.{PlainDebug, OfSigned, OfUnsigned, OfTruth, OfText, OfBytes, OfError}
+use Rattle.tracing_core_fields.specs.PlainDebug.{PlainDebug, OfSigned, OfUnsigned, OfWideSigned, OfWideUnsigned, OfTruth, OfText, OfBytes, OfError}
 use Rattle.tracing_core_fields.specs.declared.value_set.AnyValue.{AnyValue}
 use Rattle.tracing_core_fields.specs.declared.value_set.AnyValue.TheVariants as any
 
@@ -40,8 +40,8 @@ present_value value = option_and_then plain_value value
 abbrev pub debug_of : PlainValue → PlainDebug
 debug_of (Signed n) = OfSigned n
 debug_of (Unsigned n) = OfUnsigned n
-debug_of (WideSigned n) = OfSigned n
-debug_of (WideUnsigned n) = OfUnsigned n
+debug_of (WideSigned n) = OfWideSigned n
+debug_of (WideUnsigned n) = OfWideUnsigned n
 debug_of (Truth b) = OfTruth b
 debug_of (Text text) = OfText text
 debug_of (Bytes bytes) = OfBytes bytes

@@ -1,5 +1,5 @@
 //! What a callsite makes.
-ghost use Rattle.std.specs.Prelude.{◌≡◌, ◌↔◌, IsTrue, true};
+ghost use Rattle.std.specs.Prelude.{◌≡◌, ◌↔◌, IsTrue, true, false};
 
 use std::marker::Model;
 
@@ -76,6 +76,15 @@ impl Kind {
             hint: true,
         }
     }
+}
+
+/// `EVENT`, `SPAN` and `HINT`: the first makes events alone, the second spans alone, and the third nothing.
+pub fn constant_kinds() -> (Kind, Kind, Kind)
+    ensures event { result.0 ≡ record { is_event = true; is_span = false; is_hint = false } }
+    ensures span { result.1 ≡ record { is_event = false; is_span = true; is_hint = false } }
+    ensures hint { result.2 ≡ record { is_event = false; is_span = false; is_hint = true } }
+{
+    (Kind::EVENT, Kind::SPAN, Kind::HINT)
 }
 
 impl PartialEq for Kind {

@@ -114,6 +114,7 @@ fn kinds_have_their_marks(rt: HostRuntime) {
             (event, span, hint)
         );
     }
+    assert!(rt; constant_kinds() == (Kind::EVENT, Kind::SPAN, Kind::HINT));
     assert!(rt; Kind::EVENT != Kind::EVENT.hint());
 }
 

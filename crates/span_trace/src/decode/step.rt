@@ -5,7 +5,7 @@ use crate::decode::setup::{CallsiteLine, Setup};
 use crate::fault::LineFault;
 use serde_json::Value as Json;
 use span_tracing::{
-    EnabledCall, EventCall, FieldValue, NewSpanCall, Parent, SpanCall, SpanName, Step, Value,
+    EnabledCall, EventCall, FieldValue, NewSpanCall, OwnedValue, Parent, SpanCall, SpanName, Step,
 };
 use std::alloc::Global;
 use tracing_core::{Id, Identifier};
@@ -143,13 +143,13 @@ fn field_named(callsite: Option<&CallsiteLine>, name: &str) -> Option<usize> {
     callsite?.field_index(name)
 }
 
-fn value_of(alloc: Global, value: &Json) -> Result<Value, LineFault> {
+fn value_of(alloc: Global, value: &Json) -> Result<OwnedValue, LineFault> {
     match value {
-        Json::Null => Ok(Value::Empty),
-        Json::String(_) => Ok(Value::Text(owned_text(alloc, value)?)),
+        Json::Null => Ok(OwnedValue::Empty),
+        Json::String(_) => Ok(OwnedValue::Text(owned_text(alloc, value)?)),
         Json::Number(number) => match (number.as_u64(), number.as_i64()) {
-            (Some(whole), _) => Ok(Value::U64(whole)),
-            (None, Some(whole)) => Ok(Value::I64(whole)),
+            (Some(whole), _) => Ok(OwnedValue::U64(whole)),
+            (None, Some(whole)) => Ok(OwnedValue::I64(whole)),
             (None, None) => Err(LineFault::NotReadable),
         },
         Json::Bool(_) | Json::Array(_) | Json::Object(_) => Err(LineFault::NotReadable),

@@ -43,12 +43,12 @@ fn fields_without_text_are_passed_over(rt: HostRuntime) -> Result<(), Fail> {
     let alloc = rt.alloc();
     let empty = FieldValue {
         field: 0,
-        value: Value::Empty,
+        value: OwnedValue::Empty,
     };
     let foreign = number_field(2, 5);
     let negative = FieldValue {
         field: 1,
-        value: Value::I64(-9_223_372_036_854_775_808),
+        value: OwnedValue::I64(-9_223_372_036_854_775_808),
     };
     let greatest = number_field(1, 18_446_744_073_709_551_615);
     let of_span = [empty, negative];

@@ -126,13 +126,29 @@ fn debug_texts_print(rt: HostRuntime) -> Result<(), Fail> {
         (DebugText::U128(1 << 100), "1267650600228229401496703205376"),
         (DebugText::Bool(true), "true"),
         (DebugText::Str("a \"b\""), "\"a \\\"b\\\"\""),
+        (
+            DebugText::Str("\\ \n\r\t\0 \u{1b}\u{7f}\u{9f} é 😀"),
+            "\"\\\\ \\n\\r\\t\\0 \\u{1b}\\u{7f}\\u{9f} é 😀\"",
+        ),
         (DebugText::Bytes(b""), "[]"),
         (DebugText::Bytes(b"\x00\x7f\xff"), "[00 7f ff]"),
         (DebugText::Error(ErrorText::new("e", &["why"])), "e"),
     ] {
         assert_eq!(rt; format!(in alloc; "{text:?}")?.as_str(), want);
+        assert_eq!(rt; format!(in alloc; "{text:#?}")?.as_str(), want);
     }
     assert!(rt; format!(in alloc; "{:?}", DebugText::Failing).is_err());
+    assert_eq!(rt;
+        format!(in alloc;
+            "{:>4?}|{:+?}|{:6?}|{:6?}",
+            DebugText::U64(7),
+            DebugText::I64(7),
+            DebugText::Bool(true),
+            DebugText::Str("a")
+        )?
+        .as_str(),
+        "   7|+7|true  |\"a\""
+    );
     Ok(())
 }
 
