@@ -10,7 +10,7 @@ use tracing_core_fields::{Id, LevelFilter, Metadata};
 
 /// The box answers what the subscriber in it does.
 impl<S: Subscriber> Subscriber for Box<S> {
-    ghost use Rattle.std.specs.Prelude.{◌≡◌};
+    ghost use Rattle.std.specs.Prelude.{◌≡◌, ◌↔◌};
     ghost use Rattle.std.proofs.Common.{subst, sym};
     ghost use Rattle.tracing_core_hub.specs.Steady.{SameWord};
 
@@ -28,7 +28,7 @@ impl<S: Subscriber> Subscriber for Box<S> {
 
     ghost stays = { λ b c r e real m k. subst (λ x. S.steady x.value × SameWord (S.says b.value) (S.says x.value) (S.hint b.value) (S.hint x.value)) (sym m.2) (S.stays b.value c r m.0 real m.1 k) };
 
-    ghost quiet = { λ b m n at place r e a moved k h. subst (λ x. S.answers x.value n place a) (sym moved.2) (S.quiet b.value m n at place r moved.0 a moved.1 k h) };
+    ghost quiet = { λ b m n at place r e a moved k. subst (λ x. S.answers b.value n place a ↔ S.answers x.value n place a) (sym moved.2) (S.quiet b.value m n at place r moved.0 a moved.1 k) };
 
     fn on_register_dispatch(&mut self, dispatch: &WeakDispatch) {
         (**self).on_register_dispatch(dispatch)
