@@ -17,9 +17,19 @@ impl Place {
 }
 
 impl Callsite for Place {
-    ghost use Rattle.tracing_core_hub.specs.Everything.{place_metadata};
+    ghost use Rattle.std.specs.Prelude.{true, false, [], None, codes};
 
-    ghost metadata_of = { λ place. place_metadata place.identifier 3 };
+    ghost metadata_of = { λ place. record {
+      name = codes "made";
+      target = codes "app";
+      level = 3;
+      module_path = None;
+      file = None;
+      line = None;
+      field_names = [];
+      callsite = place.identifier;
+      kind = record { is_event = true; is_span = false; is_hint = false };
+    } };
 
     ghost interest_of = { λ place. place.interest };
 
