@@ -12,9 +12,8 @@ use Rattle.span_tracing_machine.specs.Skeleton.{Skeleton, Mask}
 use Rattle.span_tracing_machine.specs.Machine.{refusal_of, reply_of, acted, after, or_same, made_at}
 use Rattle.span_tracing_machine.specs.Missed.{handed_lines, starved_by, count_missed, wants_of}
 use Rattle.span_tracing_machine.specs.State.{Plain, PlainOutput, ValueList, text_of, step_mask, mask_of, filter_of, time_of, with_values, lists_acted, offer_of, plain_offer, more_handed, plain_acted, plain_after, plain_reply}
-use Rattle.span_tracing.specs.declared.state.TraceState.{TraceState}
 use Rattle.span_tracing.specs.declared.trace.Trace.{Trace}
-use Rattle.span_tracing.specs.Skeletons.{plain_setting, skeleton_of, setting_of, texts_of, filter_in, time_in}
+use Rattle.span_tracing.specs.Skeletons.{StateValue, plain_setting, skeleton_of, setting_of, texts_of, filter_in, time_in}
 use Rattle.span_tracing.specs.Stored.{mask_in, with_text, texts_acted, Stepped, AgreesOption, more_lines, TakesLines}
 use Rattle.span_tracing.specs.Agreement.{setting_in, Agrees, AgreesFiles, FollowsStep}
 use Rattle.span_tracing.proofs.Texts.{lists_left_plain}
@@ -48,16 +47,16 @@ setting_more None lines = refl
 setting_more (Some o) lines = refl
 
 -- the mask is that of the plain state
-pub mask_same : (t : TraceState) (p : Plain) (step : PlainStep) → Agrees t p → mask_in t step ≡ mask_of p step
+pub mask_same : (t : StateValue) (p : Plain) (step : PlainStep) → Agrees t p → mask_in t step ≡ mask_of p step
 mask_same t p step a =
     ap (λ k. step_mask k (filter_in (setting_of t)) step) a.skeleton
     ∙ ap (λ f. step_mask p.skeleton f step) (ap filter_in a.setting ∙ filter_same p.output)
 
-refusal_same : (t : TraceState) (p : Plain) (step : PlainStep) → Agrees t p → refusal_of (skeleton_of t) step (mask_in t step) ≡ refusal_of p.skeleton step (mask_of p step)
+refusal_same : (t : StateValue) (p : Plain) (step : PlainStep) → Agrees t p → refusal_of (skeleton_of t) step (mask_in t step) ≡ refusal_of p.skeleton step (mask_of p step)
 refusal_same t p step a = ap (λ k. refusal_of k step (mask_in t step)) a.skeleton ∙ ap (refusal_of p.skeleton step) (mask_same t p step a)
 
 -- and so is the line that is offered
-offer_same : (t : TraceState) (p : Plain) (step : PlainStep) → Agrees t p → offer_of (skeleton_of t) (texts_of t) (time_in (setting_of t)) step (mask_in t step) ≡ plain_offer p step
+offer_same : (t : StateValue) (p : Plain) (step : PlainStep) → Agrees t p → offer_of (skeleton_of t) (texts_of t) (time_in (setting_of t)) step (mask_in t step) ≡ plain_offer p step
 offer_same t p step a =
     ap (λ k. offer_of k (texts_of t) (time_in (setting_of t)) step (mask_in t step)) a.skeleton
     ∙ ap (λ x. offer_of p.skeleton x (time_in (setting_of t)) step (mask_in t step)) a.texts
@@ -68,7 +67,7 @@ after_refused : (k : Skeleton) (step : PlainStep) (mask : Mask) (r : Refusal) �
 unfolding after
 after_refused k step mask r e = rw e
 
-agree_cases : (old new : TraceState) (step : PlainStep) (p : Plain) (fate : Fate) → Stepped old new step fate → Agrees old p → (r : Option Refusal) → refusal_of p.skeleton step (mask_of p step) ≡ r → Agrees new (or_same r p (plain_acted p step (fate ∷ [])))
+agree_cases : (old new : StateValue) (step : PlainStep) (p : Plain) (fate : Fate) → Stepped old new step fate → Agrees old p → (r : Option Refusal) → refusal_of p.skeleton step (mask_of p step) ≡ r → Agrees new (or_same r p (plain_acted p step (fate ∷ [])))
 agree_cases old new step p fate s a (Some r) e =
     let known = refusal_same old p step a ∙ e in
     record {
@@ -89,7 +88,7 @@ agree_cases old new step p fate s a None e =
           ∙ texts_kept p.skeleton p.value_lists step (mask_of p step) fate;
     }
 
-pub agree_step : (old new : TraceState) (step : PlainStep) (p : Plain) (fate : Fate) → Stepped old new step fate → Agrees old p → Agrees new (plain_after p step (fate ∷ []))
+pub agree_step : (old new : StateValue) (step : PlainStep) (p : Plain) (fate : Fate) → Stepped old new step fate → Agrees old p → Agrees new (plain_after p step (fate ∷ []))
 unfolding plain_after
 agree_step old new step p fate s a = agree_cases old new step p fate s a (refusal_of p.skeleton step (mask_of p step)) refl
 
@@ -109,7 +108,7 @@ files_cases contents old new step p fate None takes files =
     subst (AgreesOption contents new.sink) (sym (sink_more p.output (handed_lines (fate ∷ []) (plain_offer p step)))) (takes (option_map (λ (o : PlainOutput). o.sink) p.output) files)
 
 -- the lines that a step hands over
-abbrev pub step_lines : TraceState → PlainStep → Fate → List Handed
+abbrev pub step_lines : StateValue → PlainStep → Fate → List Handed
 step_lines t step fate = or_same (refusal_of (skeleton_of t) step (mask_in t step)) [] (handed_lines (fate ∷ []) (offer_of (skeleton_of t) (texts_of t) (time_in (setting_of t)) step (mask_in t step)))
 
 pub files_step : {D : Type 0} (contents : D → Option Contents) (old new : Trace D) (step : PlainStep) (p : Plain) (fate : Fate) → TakesLines contents old.sink new.sink (step_lines old.state step fate) → Agrees old.state p → AgreesFiles contents old p → AgreesFiles contents new (plain_after p step (fate ∷ []))

@@ -1,4 +1,6 @@
 -- Steps without where their values lie in memory.
+use Rattle.std.specs.Prelude.{ℕ, Option, Some, None}
+use Rattle.span_tracing_machine.specs.declared.call.SpanName.{SpanName}
 use Rattle.span_tracing_machine.specs.PlainData.{PlainStep, GlobalStep, EventStep, EnabledStep, SpanStep, EnterStep, ExitStep, CloseStep}
 use Rattle.span_tracing_machine.specs.PlainData as plain
 use Rattle.tracing_core.specs.OwnedValues.{owned_entries}
@@ -17,3 +19,8 @@ plain_action (actions.NewSpan r) = SpanStep (plain_request r)
 plain_action (actions.Enter call) = EnterStep call
 plain_action (actions.Exit call) = ExitStep call
 plain_action (actions.TryClose call) = CloseStep call
+
+-- the name of a span of the one stack
+abbrev pub named_as : Option ℕ → Option SpanName
+named_as None = None
+named_as (Some id) = Some (record { stack = 0; id = id })

@@ -13,15 +13,14 @@ use Rattle.span_tracing_machine.specs.Skeleton.{Skeleton}
 use Rattle.span_tracing_machine.specs.Machine.{after}
 use Rattle.span_tracing_machine.specs.State.{Plain, PlainOutput, text_of, plain_reply, plain_after, plain_run, replies_of, missed_by, missed_in, step_mask, filter_of}
 use Rattle.span_tracing.specs.declared.trace.Trace.{Trace}
-use Rattle.span_tracing.specs.declared.state.TraceState.{TraceState}
-use Rattle.span_tracing.specs.Skeletons.{StateValue, state_value, skeleton_of, threads_of, setting_of, texts_of, PlainSetting}
+use Rattle.span_tracing.specs.Skeletons.{StateValue, skeleton_of, threads_of, setting_of, texts_of, PlainSetting}
 use Rattle.span_tracing.specs.Stored.{AgreesOption, WantsRoom}
 
 abbrev pub setting_in : Option PlainOutput → Option PlainSetting
 setting_in output = option_map (λ (o : PlainOutput). record { filter = o.filter; time = o.time }) output
 
 -- the trace keeps the skeleton, the output's setting, and the text of each open span's value list
-pub record Agrees (t : TraceState) (p : Plain) : Type 0 where
+pub record Agrees (t : StateValue) (p : Plain) : Type 0 where
   pub skeleton : skeleton_of t ≡ p.skeleton
   pub setting : setting_of t ≡ setting_in p.output
   pub texts : texts_of t ≡ map text_of p.value_lists
@@ -31,8 +30,8 @@ abbrev pub AgreesFiles : {D : Type 0} → (D → Option Contents) → Trace D �
 AgreesFiles contents t p = AgreesOption contents t.sink (option_map (λ (o : PlainOutput). o.sink) p.output)
 
 -- the lanes' threads and the output's setting stay
-abbrev pub KeepsSetup : TraceState → TraceState → Type 0
-KeepsSetup old new = (threads_of new ≡ threads_of old) × (new.setting ≡ old.setting)
+abbrev pub KeepsSetup : StateValue → StateValue → Type 0
+KeepsSetup old new = (threads_of new ≡ threads_of old) × (new.output ≡ old.output)
 
 -- with these fates of the step's texts and lines, from each plain state that the old trace agrees with: the reply is
 -- the plain machine's, the new trace agrees with the state after, and those that found no memory are counted; and
@@ -85,7 +84,7 @@ pub record TraceValue (D : Type 0) : Type 0 where
   pub sink : Option (RollingFileAppender D)
 
 abbrev pub value_of : {D : Type 0} → Trace D → TraceValue D
-value_of t = record { state = state_value t.state; sink = t.sink }
+value_of t = record { state = t.state; sink = t.sink }
 
 -- a run: a reply for each step; a step that was refused for want of memory did nothing, and the others are a run of the plain machine
 pub record RunsSteps {D : Type 0} (contents : D → Option Contents) (old new : Trace D) (replies : List Reply) (steps : List PlainStep) : Type 0 where

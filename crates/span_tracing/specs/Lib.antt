@@ -1,8 +1,9 @@
-pub mod Lanes
-pub mod Shown
 pub mod Actions
 pub mod Skeletons
+pub mod Sound
+pub mod Telling
 pub mod Stored
+pub mod Left
 pub mod Agreement
 pub mod Routes
 pub mod Outputs

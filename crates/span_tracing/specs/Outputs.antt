@@ -1,5 +1,5 @@
 -- Outputs without where they lie in memory, and what a stack of them is.
-use Rattle.std.specs.Prelude.{◌≡◌, ℕ, List, [], ◌∷◌, Option, Some, not}
+use Rattle.std.specs.Prelude.{◌≡◌, ℕ, List, [], ◌∷◌, Option, Some, not, true}
 use Rattle.tracing_appender_rolling.specs.declared.moment.Moment.{Moment}
 use Rattle.tracing_appender_rolling.specs.Moments.{is_moment}
 use Rattle.tracing_appender_rolling.specs.Names.{is_bad_name, FileNames}
@@ -13,13 +13,14 @@ use Rattle.span_tracing_machine.specs.declared.refusal.Refusal.TheVariants.{BadM
 use Rattle.span_tracing_machine.specs.declared.refusal.Refusal.TheVariants as refusals
 use Rattle.span_tracing_machine.specs.Machine.{first, when}
 use Rattle.span_tracing_machine.specs.State.{PlainOutput}
-use Rattle.span_tracing.specs.declared.output.LineFormat.{LineFormat}
-use Rattle.span_tracing.specs.declared.output.OutputKey.{OutputKey}
+use Rattle.span_tracing_stack.specs.declared.format.LineFormat.{LineFormat}
+use Rattle.span_tracing_stack.specs.declared.setting.OutputKey.{OutputKey}
+use Rattle.span_tracing_stack.specs.declared.setting.Setting.{Setting}
+use Rattle.span_tracing_stack.specs.Stacks.{plain_time}
+use Rattle.span_tracing.specs.Skeletons.{StateValue}
 use Rattle.span_tracing.specs.declared.output.SinkSpec.{SinkSpec}
 use Rattle.span_tracing.specs.declared.output.SinkSpec.TheVariants.{Direct}
 use Rattle.span_tracing.specs.declared.output.Output.{Output}
-use Rattle.span_tracing.specs.declared.state.Setting.{Setting}
-use Rattle.span_tracing.specs.Skeletons.{plain_time}
 
 -- the output has these parts, and the one sink
 pub record MadeOf {D : Type 0} (filter : ℕ) (format : LineFormat) (sinks : List (SinkSpec D)) (key : OutputKey) (output : Output D) : Type 0 where
@@ -74,3 +75,7 @@ pub record IsOpeningRefusal {D : Type 0} (contents : D → Option Contents) (out
 abbrev pub HandsOutputsBack : {D : Type 0} → (D → Option Contents) → List (Output D) → Refusal → List (Output D) → Type 0
 HandsOutputsBack {D} contents outputs refusal back =
     (output : Output D) → outputs ≡ output ∷ [] → (again : Output D) × (back ≡ again ∷ []) × IsOpeningRefusal contents output refusal again
+
+-- a trace's state with the stack of an output
+abbrev pub with_output : StateValue → Setting → StateValue
+with_output v setting = record v { skeleton = record (v.skeleton) { has_stack = true }; output = Some setting }

@@ -1,16 +1,18 @@
 -- What a trace's state is without where it lies in memory.
-use Rattle.std.specs.Prelude.{ℕ, List, map, Option, Some, None, is_some, string_bytes}
+use Rattle.std.specs.Prelude.{ℕ, List, [], length, map, Bool, false, Option, Some, None, is_some, string_bytes}
 use Rattle.std.specs.Option.{option_map}
+use Rattle.tracing_core.specs.Defaults.{was_set}
+use Rattle.tracing_core.specs.Entry.{Entry}
+use Rattle.tracing_core.specs.Lent.{living_of}
 use Rattle.span_tracing_machine.specs.Skeleton.{Skeleton, PlainCallsite}
 use Rattle.span_tracing_machine.specs.State.{PlainText}
+use Rattle.span_tracing_machine.specs.declared.record.SpanRecord.{SpanRecord}
+use Rattle.span_tracing_stack.specs.Lanes.{padded}
+use Rattle.span_tracing_stack.specs.Stacks.{StackValue, PlainTold, Quiet, plain_time}
+use Rattle.span_tracing_stack.specs.declared.setting.Setting.{Setting}
 use Rattle.span_tracing.specs.declared.callsite.Callsite.{Callsite}
-use Rattle.span_tracing.specs.declared.lane.Lane.{Lane}
-use Rattle.span_tracing.specs.declared.output.Timer.{Timer}
-use Rattle.span_tracing.specs.declared.output.Timer.TheVariants.{FixedText, Absent}
-use Rattle.span_tracing.specs.declared.state.Setting.{Setting}
-use Rattle.span_tracing.specs.declared.state.SpanText.{SpanText}
-use Rattle.span_tracing.specs.declared.state.TraceState.{TraceState}
-use Rattle.span_tracing.specs.Lanes.{plain_lanes}
+use Rattle.span_tracing.specs.declared.parts.Thread.{Thread}
+use Rattle.span_tracing.specs.declared.parts.TraceParts.{TraceParts}
 
 abbrev pub plain_callsite : Callsite → PlainCallsite
 plain_callsite c = record {
@@ -28,35 +30,41 @@ plain_callsite c = record {
   };
 }
 
--- the number of the next id: past the greatest one where all are given
-abbrev pub next_number : Option ℕ → ℕ
-next_number None = 18446744073709551616
-next_number (Some id) = id
-
-abbrev pub skeleton_of : TraceState → Skeleton
-skeleton_of t = record {
-  callsites = map plain_callsite t.callsites.items;
-  lanes = plain_lanes t.lanes.items;
-  spans = t.spans.items;
-  next_id = next_number t.next_id;
-  has_stack = is_some t.setting;
-  is_global = t.is_global;
-}
-
 -- a filter and a time text
 pub record PlainSetting : Type 0 where
   pub filter : ℕ
   pub time : Option (List ℕ)
 
-abbrev pub plain_time : Timer → Option (List ℕ)
-plain_time (FixedText text) = Some (string_bytes text)
-plain_time Absent = None
-
 abbrev pub plain_setting : Setting → PlainSetting
 plain_setting s = record { filter = s.filter; time = plain_time s.format.timer }
 
-abbrev pub setting_of : TraceState → Option PlainSetting
-setting_of t = option_map plain_setting t.setting
+-- a lane's name and thread
+pub record PlainThread : Type 0 where
+  pub name : Option (List ℕ)
+  pub number : ℕ
+
+abbrev pub plain_thread : Thread → PlainThread
+plain_thread thread = record { name = option_map string_bytes thread.name; number = thread.thread_id }
+
+-- the state as a value: without capacities, and without what a subscriber or a hub only remembers
+pub record StateValue : Type 0 where
+  pub skeleton : Skeleton
+  pub threads : List PlainThread
+  pub output : Option Setting
+  pub texts : List PlainText
+  pub starved : ℕ
+
+abbrev pub skeleton_of : StateValue → Skeleton
+skeleton_of v = v.skeleton
+
+abbrev pub threads_of : StateValue → List PlainThread
+threads_of v = v.threads
+
+abbrev pub texts_of : StateValue → List PlainText
+texts_of v = v.texts
+
+abbrev pub setting_of : StateValue → Option PlainSetting
+setting_of v = option_map plain_setting v.output
 
 abbrev pub filter_in : Option PlainSetting → Option ℕ
 filter_in setting = option_map (λ (s : PlainSetting). s.filter) setting
@@ -65,30 +73,67 @@ abbrev pub time_in : Option PlainSetting → Option (List ℕ)
 time_in None = None
 time_in (Some s) = s.time
 
-abbrev pub plain_text : SpanText → PlainText
-plain_text t = record { id = t.id; name = string_bytes t.name; bytes = string_bytes t.text }
+-- the stack that a handle leads to
+abbrev pub stack_of : Option (Option ℕ) → List (Entry StackValue) → Option StackValue
+stack_of None entries = None
+stack_of (Some dispatch) entries = option_map (λ (e : Entry StackValue). e.subscriber) (living_of dispatch entries)
 
-abbrev pub texts_of : TraceState → List PlainText
-texts_of t = map plain_text t.texts.items
+abbrev pub stack_in : TraceParts → Option StackValue
+stack_in p = stack_of p.handle p.hub.entries
 
--- a lane's name and thread
-pub record PlainThread : Type 0 where
-  pub name : Option (List ℕ)
-  pub number : ℕ
+-- what a stack keeps, and where there is none what a new one would
+abbrev pub lanes_in : Option StackValue → List (List ℕ)
+lanes_in None = []
+lanes_in (Some x) = x.lanes
 
-abbrev pub plain_thread : Lane → PlainThread
-plain_thread lane = record { name = option_map string_bytes lane.name; number = lane.thread_id }
+abbrev pub spans_in : Option StackValue → List SpanRecord
+spans_in None = []
+spans_in (Some x) = x.spans
 
-abbrev pub threads_of : TraceState → List PlainThread
-threads_of t = map plain_thread t.lanes.items
+abbrev pub next_in : Option StackValue → ℕ
+next_in None = 1
+next_in (Some x) = x.next_id
 
--- the state as a value: without capacities
-pub record StateValue : Type 0 where
-  pub skeleton : Skeleton
-  pub threads : List PlainThread
-  pub output : Option Setting
-  pub texts : List PlainText
-  pub starved : ℕ
+abbrev pub texts_in : Option StackValue → List PlainText
+texts_in None = []
+texts_in (Some x) = x.texts
 
-abbrev pub state_value : TraceState → StateValue
-state_value t = record { skeleton = skeleton_of t; threads = threads_of t; output = t.setting; texts = texts_of t; starved = t.starved }
+abbrev pub told_in : Option StackValue → PlainTold
+told_in None = Quiet
+told_in (Some x) = x.told
+
+-- callsites and lanes of a trace over a stack; a lane that was never entered has no entries
+abbrev pub skeleton_with : List PlainCallsite → ℕ → Bool → Option StackValue → Skeleton
+skeleton_with callsites lanes is_global stack =
+    record {
+      callsites = callsites;
+      lanes = padded lanes (lanes_in stack);
+      spans = spans_in stack;
+      next_id = next_in stack;
+      has_stack = is_some stack;
+      is_global = is_global;
+    }
+
+abbrev pub value_with : List PlainCallsite → List PlainThread → Bool → ℕ → Option StackValue → StateValue
+value_with callsites threads is_global starved stack =
+    record {
+      skeleton = skeleton_with callsites (length threads) is_global stack;
+      threads = threads;
+      output = option_map (λ (x : StackValue). x.setting) stack;
+      texts = texts_in stack;
+      starved = starved;
+    }
+
+abbrev pub value_in : TraceParts → StateValue
+value_in p = value_with (map plain_callsite p.callsites.items) (map plain_thread p.threads.items) (was_set p.hub.global) p.starved (stack_in p)
+
+-- the state of a new trace
+abbrev pub new_state : StateValue
+new_state =
+    record {
+      skeleton = record { callsites = []; lanes = []; spans = []; next_id = 1; has_stack = false; is_global = false };
+      threads = [];
+      output = None;
+      texts = [];
+      starved = 0;
+    }

@@ -15,11 +15,10 @@ use Rattle.span_tracing_machine.specs.Skeleton.{Skeleton, Mask}
 use Rattle.span_tracing_machine.specs.Machine.{refusal_of, acted, after, or_same, made_at}
 use Rattle.span_tracing_machine.specs.Missed.{TextOf, given_by, wanted, wants_of, starved_by, count_missed}
 use Rattle.span_tracing_machine.specs.State.{PlainText, name_of, fields_of, step_mask}
-use Rattle.span_tracing.specs.declared.state.TraceState.{TraceState}
-use Rattle.span_tracing.specs.Skeletons.{skeleton_of, threads_of, setting_of, texts_of, filter_in}
+use Rattle.span_tracing.specs.Skeletons.{StateValue, skeleton_of, threads_of, setting_of, texts_of, filter_in}
 
 -- the mask of a step
-abbrev pub mask_in : TraceState → PlainStep → Mask
+abbrev pub mask_in : StateValue → PlainStep → Mask
 mask_in t step = step_mask (skeleton_of t) (filter_in (setting_of t)) step
 
 -- the texts of open spans, with that of a new one
@@ -45,17 +44,17 @@ texts_acted s texts (ExitStep call) mask fate = texts_left call.span (acted s (E
 texts_acted s texts (CloseStep call) mask fate = texts_left call.span (acted s (CloseStep call) mask).spans texts
 
 -- a step that is not refused, whose one text or line met this fate
-pub record Acted (old new : TraceState) (step : PlainStep) (fate : Fate) : Type 0 where
+pub record Acted (old new : StateValue) (step : PlainStep) (fate : Fate) : Type 0 where
   pub skeleton : skeleton_of new ≡ acted (skeleton_of old) step (mask_in old step)
-  pub setting : new.setting ≡ old.setting
+  pub setting : new.output ≡ old.output
   pub threads : threads_of new ≡ threads_of old
   pub texts : texts_of new ≡ texts_acted (skeleton_of old) (texts_of old) step (mask_in old step) fate
   pub starved : new.starved ≡ starved_by old.starved (count_missed (fate ∷ []) (wanted (skeleton_of old) step (mask_in old step)))
 
 -- any step
-pub record Stepped (old new : TraceState) (step : PlainStep) (fate : Fate) : Type 0 where
+pub record Stepped (old new : StateValue) (step : PlainStep) (fate : Fate) : Type 0 where
   pub skeleton : skeleton_of new ≡ after (skeleton_of old) step (mask_in old step)
-  pub setting : new.setting ≡ old.setting
+  pub setting : new.output ≡ old.output
   pub threads : threads_of new ≡ threads_of old
   pub texts : texts_of new ≡ or_same (refusal_of (skeleton_of old) step (mask_in old step)) (texts_of old) (texts_acted (skeleton_of old) (texts_of old) step (mask_in old step) fate)
   pub starved : new.starved ≡ starved_by old.starved (count_missed (fate ∷ []) (wants_of (skeleton_of old) step (mask_in old step)))

@@ -9,7 +9,7 @@ ghost use Rattle.tracing_core.specs.Metadata.{plain_metadata};
 ghost use Rattle.tracing_core.specs.PlainMetadata.{is_same_label, is_same_place, is_same_shape, is_same_metadata};
 
 use std::alloc::{AllocError, Global};
-use tracing_core::{FieldSet, Kind, Level, Metadata};
+use tracing_core::{FieldSet, Identifier, Kind, Level, Metadata};
 
 /// A registered callsite: its identifier, and a copy of its metadata.
 #[derive(Debug, Drop)]
@@ -47,6 +47,15 @@ fn owned_names(alloc: Global, fields: &FieldSet<'_>) -> Result<Vec<String>, Allo
     Ok(names)
 }
 
+fn lent(text: &Option<String>) -> Option<&str>
+    ensures { option_copied result ≡ option_map string_bytes text.now }
+{
+    match text {
+        None => None,
+        Some(known) => Some(known.as_str()),
+    }
+}
+
 fn is_same_text(copy: &Option<String>, text: Option<&str>) -> bool
     ensures { result ≡ option_eq bytes_eq (option_map string_bytes copy.now) (option_copied text.entry) }
 {
@@ -59,6 +68,7 @@ fn is_same_text(copy: &Option<String>, text: Option<&str>) -> bool
 
 impl Callsite {
     ghost use Rattle.span_tracing.specs.Skeletons.{plain_callsite};
+    ghost use Rattle.span_tracing.specs.Telling.{own_metadata};
 
     /// A copy of the metadata under an identifier.
     pub(crate) fn new(
@@ -80,6 +90,22 @@ impl Callsite {
             fields: owned_names(alloc, metadata.fields())?,
             fields_callsite: metadata.callsite().0,
         })
+    }
+
+    /// The metadata, with the callsite's own fields.
+    pub(crate) fn metadata(&self) -> Metadata<'_>
+        ensures { plain_metadata result ≡ own_metadata self.now }
+    {
+        Metadata::new(
+            self.name.as_str(),
+            self.target.as_str(),
+            self.level,
+            lent(&self.file),
+            self.line,
+            lent(&self.module_path),
+            FieldSet::of_strings(self.fields.as_slice(), Identifier(self.number)),
+            self.kind,
+        )
     }
 
     fn has_label_of(&self, metadata: &Metadata<'_>) -> bool

@@ -2,18 +2,18 @@
 
 ghost use Rattle.std.specs.Prelude.{◌≡◌, map, Bool, true, false, IfSome, IfNone, ◌<◌, ◌≤◌, length, option_and_then, slice_get};
 ghost use Rattle.std.specs.Option.{option_map, option_copied};
-ghost use Rattle.span_tracing_machine.specs.Machine.{place_of, is_kind, known_place, knows_stack, parent_refusal, request_refusal, enabled_refusal, span_refusal, call_refusal, handle_refusal, ids_refusal, refusal_of, made_at, is_made};
+ghost use Rattle.span_tracing_machine.specs.Machine.{place_of, is_kind, known_place, knows_stack, lane_refusal, parent_refusal, request_refusal, enabled_refusal, span_refusal, call_refusal, handle_refusal, ids_refusal, refusal_of, made_at, is_made};
 ghost use Rattle.span_tracing_machine.specs.State.{mask_at, mask_for, mask_asked};
 ghost use Rattle.span_tracing.specs.Actions.{plain_action};
-ghost use Rattle.span_tracing.specs.Skeletons.{plain_callsite, plain_setting, skeleton_of, setting_of, filter_in, next_number};
+ghost use Rattle.span_tracing.specs.Skeletons.{plain_callsite, skeleton_of, setting_of, filter_in, value_in};
 ghost use Rattle.span_tracing.specs.Stored.{mask_in};
 
 use crate::action::Action;
 use crate::callsite::Callsite;
-use crate::state::{Setting, TraceState};
-use crate::store::{handles_of, is_open};
+use crate::parts::TraceParts;
 use span_tracing_machine::{EnabledCall, Parent, Refusal, SpanCall, SpanName};
 use tracing_appender_rolling::Moment;
+use tracing_core::LevelFilter;
 
 /// The place of the callsite with an identifier.
 pub(crate) fn place_of(callsites: &[Callsite], number: u64) -> Option<usize>
@@ -61,24 +61,26 @@ pub(crate) fn known_place(callsites: &[Callsite], number: u64, is_span: bool) ->
     }
 }
 
-fn is_passed(setting: &Option<Setting>, callsite: Option<&Callsite>) -> bool
-    ensures { result ≡ is_made (mask_at (filter_in (option_map plain_setting setting.now)) (option_map plain_callsite (option_copied callsite.entry))) }
+fn is_passed(filter: Option<LevelFilter>, callsite: Option<&Callsite>) -> bool
+    ensures { result ≡ is_made (mask_at filter (option_map plain_callsite (option_copied callsite.entry))) }
 {
-    match (setting, callsite) {
-        (Some(output), Some(known)) => output.filter.passes(known.level),
+    match (filter, callsite) {
+        (Some(filter), Some(known)) => filter.passes(known.level),
         _ => false,
     }
 }
 
-impl TraceState {
+impl TraceParts {
+    ghost use Rattle.span_tracing.specs.Sound.{IsSound};
+
     fn knows_stack(&self, stack: usize) -> bool
-        ensures { result ≡ knows_stack (skeleton_of self.now) stack }
+        ensures { result ≡ knows_stack (skeleton_of (value_in self.now)) stack }
     {
-        self.setting.is_some() && stack == 0
+        self.stack().is_some() && stack == 0
     }
 
     fn parent_refusal(&self, parent: Parent) -> Option<Refusal>
-        ensures { result ≡ parent_refusal (skeleton_of self.now) parent }
+        ensures { result ≡ parent_refusal (skeleton_of (value_in self.now)) parent }
     {
         match parent {
             Parent::Contextual => None,
@@ -87,15 +89,26 @@ impl TraceState {
                 if !self.knows_stack(name.stack) {
                     return Some(Refusal::UnknownStack);
                 }
-                if !self.is_global {
+                if !self.hub.has_been_set() {
                     return Some(Refusal::ForeignParent);
                 }
-                if !is_open(self.spans.as_slice(), name.id.into_u64()) {
+                if !self.is_open(name.id) {
                     return Some(Refusal::UnknownSpan);
                 }
                 None
             }
         }
+    }
+
+    #[tactic(auto, using(crate::proofs::Padded::lanes_count))]
+    fn lane_refusal(&self, lane: usize) -> Option<Refusal>
+        requires { IsSound self.now }
+        ensures { result ≡ lane_refusal (skeleton_of (value_in self.now)) lane }
+    {
+        if self.threads.len() <= lane {
+            return Some(Refusal::UnknownLane);
+        }
+        None
     }
 
     fn request_refusal(
@@ -106,10 +119,11 @@ impl TraceState {
         is_span: bool,
         parent: Parent,
     ) -> Option<Refusal>
-        ensures { result ≡ request_refusal (skeleton_of self.now) lane moment number is_span parent }
+        requires { IsSound self.now }
+        ensures { result ≡ request_refusal (skeleton_of (value_in self.now)) lane moment number is_span parent }
     {
-        if self.lanes.len() <= lane {
-            return Some(Refusal::UnknownLane);
+        if let Some(refusal) = self.lane_refusal(lane) {
+            return Some(refusal);
         }
         if !moment.is_in_range() {
             return Some(Refusal::BadMoment);
@@ -121,10 +135,11 @@ impl TraceState {
     }
 
     fn enabled_refusal(&self, call: &EnabledCall) -> Option<Refusal>
-        ensures { result ≡ enabled_refusal (skeleton_of self.now) call.now }
+        requires { IsSound self.now }
+        ensures { result ≡ enabled_refusal (skeleton_of (value_in self.now)) call.now }
     {
-        if self.lanes.len() <= call.lane {
-            return Some(Refusal::UnknownLane);
+        if let Some(refusal) = self.lane_refusal(call.lane) {
+            return Some(refusal);
         }
         if !call.moment.is_in_range() {
             return Some(Refusal::BadMoment);
@@ -136,7 +151,7 @@ impl TraceState {
     }
 
     fn span_refusal(&self, span: Option<SpanName>) -> Option<Refusal>
-        ensures { result ≡ span_refusal (skeleton_of self.now) span }
+        ensures { result ≡ span_refusal (skeleton_of (value_in self.now)) span }
     {
         match span {
             None => None,
@@ -144,7 +159,7 @@ impl TraceState {
                 if !self.knows_stack(name.stack) {
                     return Some(Refusal::UnknownStack);
                 }
-                if !is_open(self.spans.as_slice(), name.id.into_u64()) {
+                if !self.is_open(name.id) {
                     return Some(Refusal::UnknownSpan);
                 }
                 None
@@ -153,10 +168,11 @@ impl TraceState {
     }
 
     fn call_refusal(&self, call: SpanCall) -> Option<Refusal>
-        ensures { result ≡ call_refusal (skeleton_of self.now) call }
+        requires { IsSound self.now }
+        ensures { result ≡ call_refusal (skeleton_of (value_in self.now)) call }
     {
-        if self.lanes.len() <= call.lane {
-            return Some(Refusal::UnknownLane);
+        if let Some(refusal) = self.lane_refusal(call.lane) {
+            return Some(refusal);
         }
         if !call.moment.is_in_range() {
             return Some(Refusal::BadMoment);
@@ -165,12 +181,12 @@ impl TraceState {
     }
 
     fn handle_refusal(&self, span: Option<SpanName>) -> Option<Refusal>
-        ensures { result ≡ handle_refusal (skeleton_of self.now) span }
+        ensures { result ≡ handle_refusal (skeleton_of (value_in self.now)) span }
     {
         match span {
             None => None,
             Some(name) => {
-                if handles_of(self.spans.as_slice(), name.id.into_u64()) == 0 {
+                if self.handles_of(name.id) == 0 {
                     return Some(Refusal::UnknownSpan);
                 }
                 None
@@ -182,15 +198,16 @@ impl TraceState {
     #[tactic(auto, using(crate::proofs::Lists::slice_get_map), unfolding(span_tracing_machine::specs::Machine::made_at))]
     pub(crate) fn made_at(&self, number: u64, is_span: bool) -> Option<usize>
         ensures within { IfSome result (λ place. place < length self.now.callsites.items) }
-        ensures value { result ≡ made_at (skeleton_of self.now) number is_span (mask_for (skeleton_of self.now) (filter_in (setting_of self.now)) number is_span) }
+        ensures passed { IfSome result (λ place. is_made (mask_at (filter_in (setting_of (value_in self.now))) (slice_get (map plain_callsite self.now.callsites.items) place)) ≡ true) }
+        ensures value { result ≡ made_at (skeleton_of (value_in self.now)) number is_span (mask_for (skeleton_of (value_in self.now)) (filter_in (setting_of (value_in self.now))) number is_span) }
     {
-        if !self.is_global {
+        if !self.hub.has_been_set() {
             return None;
         }
         match known_place(self.callsites.as_slice(), number, is_span) {
             None => None,
             Some(place) => {
-                if is_passed(&self.setting, self.callsites.get(place)) {
+                if is_passed(self.filter(), self.callsites.get(place)) {
                     Some(place)
                 } else {
                     None
@@ -202,19 +219,19 @@ impl TraceState {
     /// Whether a request at a callsite of any kind would be made.
     #[tactic(auto, using(crate::proofs::Lists::slice_get_map))]
     pub(crate) fn is_enabled(&self, number: u64) -> bool
-        ensures { result ≡ is_made (mask_asked (skeleton_of self.now) (filter_in (setting_of self.now)) number) }
+        ensures { result ≡ is_made (mask_asked (skeleton_of (value_in self.now)) (filter_in (setting_of (value_in self.now))) number) }
     {
-        if !self.is_global {
+        if !self.hub.has_been_set() {
             return false;
         }
         match place_of(self.callsites.as_slice(), number) {
             None => false,
-            Some(place) => is_passed(&self.setting, self.callsites.get(place)),
+            Some(place) => is_passed(self.filter(), self.callsites.get(place)),
         }
     }
 
     fn ids_refusal(&self, number: u64) -> Option<Refusal>
-        ensures { result ≡ ids_refusal (skeleton_of self.now) (made_at (skeleton_of self.now) number true (mask_for (skeleton_of self.now) (filter_in (setting_of self.now)) number true)) }
+        ensures { result ≡ ids_refusal (skeleton_of (value_in self.now)) (made_at (skeleton_of (value_in self.now)) number true (mask_for (skeleton_of (value_in self.now)) (filter_in (setting_of (value_in self.now))) number true)) }
     {
         self.made_at(number, true)?;
         match self.coming_id() {
@@ -223,28 +240,18 @@ impl TraceState {
         }
     }
 
-    /// The next span's id, where one is left.
-    pub(crate) fn coming_id(&self) -> Option<u64>
-        ensures some { IfSome result (λ id. (id ≡ next_number self.now.next_id) × (0 < id) × (id ≤ 18446744073709551615)) }
-        ensures none { IfNone result (next_number self.now.next_id ≡ 18446744073709551616) }
-    {
-        match self.next_id {
-            None => None,
-            Some(id) => Some(id.into_u64()),
-        }
-    }
-
     /// The first refusal that a step meets.
     #[tactic(auto, unfolding(span_tracing_machine::specs::Machine::refusal_of, span_tracing_machine::specs::State::step_mask))]
     pub(crate) fn refusal(&self, action: &Action<'_>) -> Option<Refusal>
-        ensures { result ≡ refusal_of (skeleton_of self.now) (plain_action action.now) (mask_in self.now (plain_action action.now)) }
+        requires { IsSound self.now }
+        ensures { result ≡ refusal_of (skeleton_of (value_in self.now)) (plain_action action.now) (mask_in (value_in self.now) (plain_action action.now)) }
     {
         match action {
             Action::SetGlobalDefault(handle) => {
                 if !self.knows_stack(*handle) {
                     return Some(Refusal::UnknownStack);
                 }
-                if self.is_global {
+                if self.hub.has_been_set() {
                     return Some(Refusal::GlobalSet);
                 }
                 None

@@ -4,23 +4,26 @@
 mod action;
 mod callsite;
 mod checks;
-mod fields;
-mod lane;
-mod line;
+mod entries;
+mod hand;
 mod output;
+mod parts;
+mod requests;
 mod run;
-mod scope;
 mod setup;
+mod sink;
+mod site;
+mod stacks;
 mod state;
 mod steps;
-mod store;
 mod trace;
 
-pub use output::{Fields, LineFormat, Output, OutputKey, OutputRefusal, Route, SinkSpec, Timer};
+pub use output::{Output, OutputRefusal, Route, SinkSpec};
 pub use setup::StackRefusal;
 pub use span_tracing_machine::{
     EnabledCall, EventCall, NewSpanCall, Parent, Refusal, Reply, SpanCall, SpanName, Step,
 };
+pub use span_tracing_stack::{Fields, LineFormat, OutputKey, Timer};
 pub use trace::Trace;
 pub use tracing_appender_rolling::{
     Builder, FileEntry, FileNumber, Folder, FolderError, FolderFault, MemoryFolder, Moment,

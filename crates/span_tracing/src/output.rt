@@ -4,6 +4,7 @@ ghost use Rattle.std.specs.Prelude.{◌≡◌, ◌≤◌, [], ◌∷◌, true, f
 ghost use Rattle.span_tracing.specs.Routes.{is_bad_route};
 
 use span_tracing_machine::Refusal;
+use span_tracing_stack::{LineFormat, OutputKey};
 use std::alloc::Global;
 use tracing_appender_rolling::Builder;
 use tracing_core::LevelFilter;
@@ -11,48 +12,12 @@ use tracing_core::LevelFilter;
 /// Bytes for which an output makes room before its first line.
 const LINE_CAPACITY: usize = 256;
 
-/// What stands at the start of a line.
-#[derive(Debug, Drop)]
-pub enum Timer {
-    /// This text.
-    FixedText(String),
-    /// No time, and no space after it.
-    Absent,
-}
-
-/// How the fields of events and spans are written.
-#[derive(Clone, Copy, Debug, PartialEq, Eq)]
-pub enum Fields {
-    /// `name=value`, with one space between two fields.
-    Default,
-}
-
-/// How an output writes its lines.
-#[derive(Debug, Drop)]
-pub struct LineFormat {
-    pub(crate) timer: Timer,
-    pub(crate) fields: Fields,
-}
-
-impl LineFormat {
-    /// Time, spans from the root with their fields, target, the event's fields.
-    pub fn full(timer: Timer, fields: Fields) -> LineFormat
-        ensures { (result.timer ≡ timer) × (result.fields ≡ fields) }
-    {
-        LineFormat { timer, fields }
-    }
-}
-
 /// To which sinks of its output a line goes.
 #[derive(Clone, Copy, Debug, PartialEq, Eq)]
 pub enum Route {
     /// The sink at this place, from 0.
     Sink(usize),
 }
-
-/// The name of an output's slots.
-#[derive(Clone, Copy, Debug, PartialEq, Eq)]
-pub struct OutputKey(pub u32);
 
 /// Where lines go, over a folder `D`.
 #[derive(Drop)]

@@ -10,14 +10,14 @@ ghost use Rattle.span_tracing_machine.specs.Machine.{refusal_of, reply_of, or_sa
 ghost use Rattle.span_tracing_machine.specs.Missed.{handed_by, handed_lines};
 ghost use Rattle.span_tracing_machine.specs.State.{handed_at, event_line, offer_of};
 ghost use Rattle.span_tracing.specs.Actions.{plain_action, plain_request};
-ghost use Rattle.span_tracing.specs.Skeletons.{skeleton_of, setting_of, texts_of, time_in, state_value};
+ghost use Rattle.span_tracing.specs.Skeletons.{skeleton_of, setting_of, texts_of, time_in};
 ghost use Rattle.span_tracing.specs.Stored.{Acted, Stepped, TakesLines, WantsRoom, mask_in, more_lines};
 
 use crate::action::{Action, Request, action_of};
 use crate::trace::Trace;
 use span_tracing_machine::{EnabledCall, Fate, Parent, Refusal, Reply, SpanCall, SpanName, Step};
 use std::alloc::AllocError;
-use tracing_appender_rolling::{Folder, FolderError, Moment, RollingFileAppender};
+use tracing_appender_rolling::{Folder, Moment};
 use tracing_core::{FieldValue, Identifier};
 
 /// A step's reply, and what became of its text or line.
@@ -37,70 +37,10 @@ fn whole(reply: Reply) -> StepDone
     }
 }
 
-/// Writes a line at a moment. A fault of the folder is counted by the sink.
-fn write_line<D: Folder>(sink: &mut RollingFileAppender<D>, line: &[u8], moment: Moment) -> Fate
-    requires { is_moment moment ≡ true }
-    ensures { (s : PlainSink) → AgreesSink D.contents sink.old s →
-        AgreesSink D.contents sink.new (more_lines (handed_by result (handed_at moment line.now)) s) }
-{
-    if sink.look(moment).is_err() {
-        return Fate::Missed;
-    }
-    match sink.push(line) {
-        Ok(()) => Fate::Whole,
-        Err(FolderError::OutOfMemory) => Fate::Unwritten,
-        Err(FolderError::Fault(_)) => Fate::Whole,
-    }
-}
-
-fn write_if_open<D: Folder>(
-    sink: &mut Option<RollingFileAppender<D>>,
-    line: &[u8],
-    moment: Moment,
-) -> Fate
-    requires { is_moment moment ≡ true }
-    ensures { TakesLines D.contents sink.old sink.new (handed_by result (handed_at moment line.now)) }
-{
-    match sink {
-        None => Fate::Whole,
-        Some(open) => write_line(open, line, moment),
-    }
-}
-
 impl<D: Folder> Trace<D> {
     ghost use Rattle.span_tracing_machine.specs.declared.call.EnabledCall.{EnabledCall};
     ghost use Rattle.span_tracing.specs.Agreement.{FollowsStep, RunsSteps, steps_done, value_of};
     ghost use Rattle.span_tracing.specs.Headline.{HoldsOffered, NothingStarved};
-
-    /// Hands an event's line over.
-    fn offer_line(&mut self, event: &Request<'_>, place: usize) -> Fate
-        requires place { place < length self.old.state.callsites.items }
-        requires moment { is_moment event.now.moment ≡ true }
-        ensures kept { self.new.state ≡ self.old.state }
-        ensures takes { TakesLines D.contents self.old.sink self.new.sink (handed_by result (handed_at event.now.moment
-            (event_line (skeleton_of self.old.state) (texts_of self.old.state) (time_in (setting_of self.old.state)) (plain_request event.now) place))) }
-    {
-        if self.state.event_line(&mut self.line, event, place).is_err() {
-            return Fate::Missed;
-        }
-        write_if_open(&mut self.sink, self.line.as_bytes(), event.moment)
-    }
-
-    /// An event that is not refused.
-    #[tactic(auto, unfolding(span_tracing_machine::specs::Machine::acted, span_tracing_machine::specs::Missed::wanted, crate::specs::Stored::texts_acted, span_tracing_machine::specs::State::step_mask, span_tracing_machine::specs::State::offer_of))]
-    fn event_once(&mut self, event: &Request<'_>) -> Fate
-        requires { is_moment event.now.moment ≡ true }
-        ensures acted { Acted self.old.state self.new.state (EventStep (plain_request event.now)) result }
-        ensures takes { TakesLines D.contents self.old.sink self.new.sink (handed_lines (result ∷ []) (offer_of (skeleton_of self.old.state) (texts_of self.old.state)
-            (time_in (setting_of self.old.state)) (EventStep (plain_request event.now)) (mask_in self.old.state (EventStep (plain_request event.now))))) }
-    {
-        let Some(place) = self.state.made_at(event.callsite, false) else {
-            return Fate::Whole;
-        };
-        let fate = self.offer_line(event, place);
-        self.state.count(fate);
-        fate
-    }
 
     /// A step, with its reply.
     #[tactic(auto, unfolding(span_tracing_machine::specs::Machine::answered, span_tracing_machine::specs::Machine::after, span_tracing_machine::specs::Machine::reply_of, span_tracing_machine::specs::Missed::wants_of, span_tracing_machine::specs::State::offer_of))]
@@ -126,7 +66,7 @@ impl<D: Folder> Trace<D> {
                 whole(Reply::Done)
             }
             Action::Event(event) => StepDone {
-                fate: self.event_once(event),
+                fate: self.state.event(event, &mut self.sink),
                 reply: Reply::Done,
             },
             Action::Enabled(call) => whole(Reply::Enabled(self.state.enabled(call))),
@@ -192,7 +132,7 @@ impl<D: Folder> Trace<D> {
         ensures run { IfOk result (λ replies. RunsSteps D.contents self.old self.new replies.items (plain_steps steps.now)) }
         ensures err { OnErr result (self.new ≡ self.old) }
     {
-        let mut replies = Vec::with_capacity(self.state.alloc, steps.len())?;
+        let mut replies = Vec::with_capacity(self.state.alloc(), steps.len())?;
         for step in steps {
             replies.push_reserved(self.step(step));
         }

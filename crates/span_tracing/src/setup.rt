@@ -1,6 +1,6 @@
 //! Setup calls, which are no steps.
 
-ghost use Rattle.std.specs.Prelude.{◌≡◌, ◌≢◌, ◌≤◌, ◌<◌, ◌⊎◌, ◌↔◌, ◌++◌, ◌∷◌, [], ℕ, List, map, true, false, is_some, IsTrue, IsSome, IsErr, Option, Some, None, Ok, Err, OnOk, OnErr, IfOk, IfErr, IfSome, option_and_then, vec_len, string_bytes};
+ghost use Rattle.std.specs.Prelude.{◌≡◌, ◌≢◌, ◌≤◌, ◌<◌, ◌⊎◌, ◌↔◌, ◌++◌, ◌∷◌, [], ℕ, List, map, true, false, is_some, IsTrue, IsSome, IsErr, Option, Some, None, Ok, Err, OnOk, OnErr, IfOk, IfErr, IfSome, option_and_then, vec_len, string_bytes, length};
 ghost use Rattle.std.specs.Option.{option_map, option_copied};
 ghost use Rattle.tracing_core.specs.Metadata.{plain_metadata};
 ghost use Rattle.tracing_appender_rolling.specs.Moments.{is_moment};
@@ -8,17 +8,17 @@ ghost use Rattle.tracing_appender_rolling.specs.Contents.{Contents, bytes_at};
 ghost use Rattle.tracing_appender_rolling.specs.Appenders.{MayOpen};
 ghost use Rattle.tracing_appender_rolling.specs.Sinks.{file_text};
 ghost use Rattle.span_tracing_machine.specs.State.{Plain, PlainOutput, new_plain, with_lane, with_stack, register_refusal, registered};
-ghost use Rattle.span_tracing.specs.Skeletons.{skeleton_of, threads_of, state_value};
+ghost use Rattle.span_tracing.specs.Skeletons.{skeleton_of, threads_of};
 ghost use Rattle.span_tracing.specs.Stored.{AgreesOption};
-ghost use Rattle.span_tracing.specs.Outputs.{outputs_refusal, refusal_by};
+ghost use Rattle.span_tracing.specs.Outputs.{outputs_refusal, with_output};
 
 use crate::output::Output;
-use crate::state::{Setting, TraceState};
-use crate::steps::first_id;
+use crate::stacks::OutputBack;
+use crate::state::TraceState;
 use crate::trace::Trace;
 use span_tracing_machine::Refusal;
 use std::alloc::{AllocError, Global};
-use tracing_appender_rolling::{Folder, FolderError, Moment, RollingFileAppender};
+use tracing_appender_rolling::{Folder, Moment};
 use tracing_core::{Identifier, Metadata};
 
 /// Why a stack could not be added, with its outputs. Their folders are as the calls made until then left them.
@@ -26,22 +26,6 @@ use tracing_core::{Identifier, Metadata};
 pub struct StackRefusal<D> {
     pub refusal: Refusal,
     pub outputs: Vec<Output<D>>,
-}
-
-/// An output whose file could not be opened.
-#[derive(Drop)]
-struct OutputBack<D> {
-    refusal: Refusal,
-    output: Output<D>,
-}
-
-fn refusal_of(error: FolderError) -> Refusal
-    ensures { result ≡ refusal_by error }
-{
-    match error {
-        FolderError::OutOfMemory => Refusal::OutOfMemory,
-        FolderError::Fault(_) => Refusal::FolderRefused,
-    }
 }
 
 fn outputs_refusal<D>(outputs: &[Output<D>]) -> Option<Refusal>
@@ -71,27 +55,16 @@ impl<D: Folder> Trace<D> {
         ensures starved { result.state.starved ≡ 0 }
     {
         Trace {
-            state: TraceState {
-                alloc,
-                callsites: Vec::new(alloc),
-                lanes: Vec::new(alloc),
-                spans: Vec::new(alloc),
-                next_id: first_id(),
-                setting: None,
-                is_global: false,
-                texts: Vec::new(alloc),
-                starved: 0,
-            },
+            state: TraceState::new(alloc),
             sink: None,
-            line: String::new(alloc),
         }
     }
 
     /// Whether the trace has a stack.
     pub fn has_stack(&self) -> bool
-        ensures { result ≡ is_some self.now.state.setting }
+        ensures { result ≡ is_some self.now.state.output }
     {
-        self.state.setting.is_some()
+        self.state.has_stack()
     }
 
     /// Registers a callsite under an identifier. Equal metadata may be registered again.
@@ -132,7 +105,7 @@ impl<D: Folder> Trace<D> {
     ///
     /// Want of memory, which leaves the trace as it was.
     pub fn thread(&mut self, name: Option<&str>, thread_id: u64) -> Result<usize, AllocError>
-        ensures number { IfOk result (λ lane. lane ≡ vec_len self.old.state.lanes) }
+        ensures number { IfOk result (λ lane. lane ≡ length (skeleton_of self.old.state).lanes) }
         ensures ok { OnOk result ((p : Plain) → Agrees self.old.state p → Agrees self.new.state (with_lane p)) }
         ensures thread { OnOk result (threads_of self.new.state ≡ threads_of self.old.state ++ (record { name = option_copied name.entry; number = thread_id }) ∷ []) }
         ensures sink { self.new.sink ≡ self.old.sink }
@@ -141,7 +114,7 @@ impl<D: Folder> Trace<D> {
     {
         let name = match name {
             None => None,
-            Some(text) => Some(String::from_str(self.state.alloc, text)?),
+            Some(text) => Some(String::from_str(self.state.alloc(), text)?),
         };
         self.state.add_lane(name, thread_id)
     }
@@ -157,13 +130,13 @@ impl<D: Folder> Trace<D> {
         mut outputs: Vec<Output<D>>,
         moment: Moment,
     ) -> Result<usize, StackRefusal<D>>
-        requires no_stack { is_some self.old.state.setting ≡ false }
+        requires no_stack { is_some self.old.state.output ≡ false }
         requires one { vec_len outputs ≤ 1 }
         ensures refused { (refusal : Refusal) → stack_refusal outputs.items moment ≡ Some refusal → result ≡ Err (record { refusal = refusal; outputs = outputs }) }
         ensures handle { IfOk result (λ handle. handle ≡ 0) }
         ensures moment { OnOk result (is_moment moment ≡ true) }
         ensures starved { self.new.state.starved ≡ self.old.state.starved }
-        ensures kept { OnOk result ((output : Output D) → outputs.items ≡ output ∷ [] → self.new.state.setting ≡ Some (setting_of output)) }
+        ensures kept { OnOk result ((output : Output D) → outputs.items ≡ output ∷ [] → self.new.state.output ≡ Some (setting_of output)) }
         ensures ok { OnOk result ((output : Output D) → outputs.items ≡ output ∷ [] → (p : Plain) → Agrees self.old.state p →
             Agrees self.new.state (with_stack p (plain_output D.contents output moment))) }
         ensures files { OnOk result ((output : Output D) → outputs.items ≡ output ∷ [] → MayOpen (D.contents output.folder) (output_names output) → (p : Plain) →
@@ -200,44 +173,17 @@ impl<D: Folder> Trace<D> {
 
     /// Opens an output's file, and takes the output.
     fn open(&mut self, output: Output<D>, moment: Moment) -> Result<(), OutputBack<D>>
-        requires { is_moment moment ≡ true }
-        ensures ok { OnOk result (state_value self.new.state ≡ record (state_value self.old.state) { skeleton = record (skeleton_of self.old.state) { has_stack = true }; output = Some (setting_of output) }) }
+        requires none { is_some self.old.state.output ≡ false }
+        requires moment { is_moment moment ≡ true }
+        ensures ok { OnOk result (self.new.state ≡ with_output self.old.state (setting_of output)) }
         ensures files { OnOk result (MayOpen (D.contents output.folder) (output_names output) →
             AgreesOption D.contents self.new.sink (Some (plain_output D.contents output moment).sink)) }
         ensures err { OnErr result (self.new ≡ self.old) }
         ensures back { IfErr result (λ back. IsOpeningRefusal D.contents output back.refusal back.output) }
     {
-        let Output {
-            key,
-            filter,
-            format,
-            builder,
-            folder,
-            line,
-        } = output;
-        match RollingFileAppender::build(self.state.alloc, builder, folder, moment) {
-            Ok(sink) => {
-                self.sink = Some(sink);
-                self.line = line;
-                self.state.setting = Some(Setting {
-                    key,
-                    filter,
-                    format,
-                });
-                Ok(())
-            }
-            Err(refused) => Err(OutputBack {
-                refusal: refusal_of(refused.error),
-                output: Output {
-                    key,
-                    filter,
-                    format,
-                    builder: refused.builder,
-                    folder: refused.folder,
-                    line,
-                },
-            }),
-        }
+        let sink = self.state.open(output, moment)?;
+        self.sink = Some(sink);
+        Ok(())
     }
 
     /// The folder of a sink: sinks are numbered from 0.

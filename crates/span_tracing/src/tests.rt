@@ -259,7 +259,7 @@ fn has_file(
     name: &str,
     text: &str,
 ) -> Result<(), Fail> {
-    if trace.state.starved > 0 {
+    if trace.state.parts.starved > 0 {
         return Err("want of memory".into());
     }
     let folder = trace.folder(0).ok_or("no folder")?;

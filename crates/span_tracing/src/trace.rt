@@ -8,6 +8,4 @@ use tracing_appender_rolling::RollingFileAppender;
 pub struct Trace<D> {
     pub(crate) state: TraceState,
     pub(crate) sink: Option<RollingFileAppender<D>>,
-    /// The line that is being written; its room is used again.
-    pub(crate) line: String,
 }

@@ -23,7 +23,7 @@ pub second_none : (a b : Option Refusal) → first a b ≡ None → b ≡ None
 second_none None b none = none
 second_none (Some refusal) b none = cc
 
-none_when : (b : Bool) (r : Refusal) → when (not b) r ≡ None → b ≡ true
+pub none_when : (b : Bool) (r : Refusal) → when (not b) r ≡ None → b ≡ true
 none_when true r h = refl
 none_when false r h = absurd (cc)
 

@@ -47,3 +47,16 @@ pub use Rattle.tracing_core_hub.specs.Handing
 pub use Rattle.tracing_core_hub.specs.Copies
 pub use Rattle.tracing_core_hub.specs.Running
 pub use Rattle.tracing_core_hub.specs.Scopes
+pub use Rattle.tracing_core_fields.specs.declared.owned_value.OwnedValue
+pub use Rattle.tracing_core_fields.specs.declared.owned_value.FieldValue
+pub use Rattle.tracing_core_hub.specs.declared.at.At
+pub use Rattle.tracing_core_hub.specs.declared.interest.InterestInner
+pub use Rattle.tracing_core_hub.specs.declared.requests.parent.Parent
+pub use Rattle.tracing_core_hub.specs.declared.current_span.CurrentSpan
+pub use Rattle.tracing_core_hub.specs.declared.refusal.RequestError
+pub use Rattle.tracing_core_hub.specs.declared.hub.parts.Entry
+pub use Rattle.tracing_core_hub.specs.declared.hub.parts.Row
+pub use Rattle.tracing_core_hub.specs.declared.hub.parts.Setting
+pub use Rattle.tracing_core_hub.specs.declared.hub.parts.Lane
+pub use Rattle.tracing_core_hub.specs.declared.subscriber.Subscriber
+pub use Rattle.tracing_core_hub.specs.declared.callsite.Callsite

@@ -175,24 +175,6 @@ fn calls_on_spans_are_refused_in_order(rt: HostRuntime) -> Result<(), Fail> {
     Ok(())
 }
 
-#[test]
-fn the_last_id_is_given_once(rt: HostRuntime) -> Result<(), Fail> {
-    let alloc = rt.alloc();
-    let mut trace = set_trace(&rt, alloc, LevelFilter::INFO, Timer::Absent)?;
-    trace.state.next_id = Id::from_u64(u64::MAX);
-    let last = made(trace.new_span(0, OPENED, OUTER, Parent::Root, &[]))?;
-    assert_eq!(rt; last, span_name(0, u64::MAX)?);
-    let reply = trace.event(0, OPENED, EVENT, Parent::Explicit(last), &[]);
-    assert_eq!(rt; reply, Reply::Done);
-    let spent = Reply::Refused(Refusal::IdsSpent);
-    let reply = trace.new_span(0, OPENED, OUTER, Parent::Root, &[]);
-    assert_eq!(rt; reply, spent);
-    assert_eq!(rt; trace.try_close(0, OPENED, Some(last)), Reply::Closed(true));
-    let reply = trace.new_span(0, OPENED, OUTER, Parent::Root, &[]);
-    assert_eq!(rt; reply, spent);
-    has_file(&rt, &trace, TODAY, "outer: app: \n")
-}
-
 // A span is made, entered and left, and given up twice; an event happens in it.
 fn steps_of_a_span(alloc: Global) -> Result<Vec<Step>, Fail> {
     let call = SpanCall {
@@ -263,7 +245,7 @@ fn faults_of_a_folder_change_no_reply(rt: HostRuntime) -> Result<(), Fail> {
     for (moment, failures) in [(OPENED, 0), (OPENED, 1), (NEXT_DAY, 3), (NEXT_DAY, 4)] {
         let reply = trace.event(0, moment, EVENT, Parent::Root, &[]);
         assert_eq!(rt; reply, Reply::Done);
-        if trace.state.starved > 0 {
+        if trace.state.parts.starved > 0 {
             return Err("want of memory".into());
         }
         let folder = trace.folder(0).ok_or("no folder")?;

@@ -15,7 +15,7 @@ fn say(
     parent: Parent,
     text: &str,
 ) -> Result<(), Fail> {
-    let message = text_field(trace.state.alloc, 0, text)?;
+    let message = text_field(trace.state.alloc(), 0, text)?;
     let reply = trace.event(0, moment, EVENT, parent, &[message]);
     assert_eq!(rt; reply, Reply::Done);
     Ok(())

@@ -20,8 +20,10 @@ fn outputs_are_made_or_refused(rt: HostRuntime) -> Result<(), Fail> {
         Err(refused) => refused,
     };
     assert_eq!(rt; refused.refusal, Refusal::BadRoute);
-    assert_eq!(rt; refused.format.fields, Fields::Default);
-    assert!(rt; matches!(&refused.format.timer, Timer::FixedText(_)));
+    assert_eq!(rt;
+        format!(in alloc; "{:?}", refused.format)?.as_str(),
+        "LineFormat { timer: FixedText(\"fake time\"), fields: Default }"
+    );
     assert_eq!(rt; refused.sinks.len(), 1);
     let none: Vec<SinkSpec<MemoryFolder>> = Vec::new(alloc);
     match Output::new(
@@ -132,7 +134,7 @@ fn callsites_are_registered(rt: HostRuntime) -> Result<(), Fail> {
     );
     trace.register(EVENT, &first)?;
     assert_eq!(rt; trace.register(EVENT, &first), Ok(()));
-    assert_eq!(rt; trace.state.callsites.len(), 1);
+    assert_eq!(rt; trace.state.parts.callsites.len(), 1);
     let file = Some("main.rs");
     let path = Some("app::main");
     let line = Some(4);
@@ -157,7 +159,7 @@ fn callsites_are_registered(rt: HostRuntime) -> Result<(), Fail> {
         );
     }
     trace.register(DETAIL, &first)?;
-    assert_eq!(rt; trace.state.callsites.len(), 2);
+    assert_eq!(rt; trace.state.parts.callsites.len(), 2);
     Ok(())
 }
 

@@ -1,11 +1,12 @@
 use Rattle.std.proofs.Common.{sym, ◌∙◌, ap, ◌≡◌, Some}
 use Rattle.span_tracing_machine.specs.declared.refusal.Refusal.TheVariants.{OutOfMemory}
-use Rattle.span_tracing_machine.specs.PlainData.{EventStep}
-use Rattle.span_tracing_machine.specs.Machine.{refusal_of}
-use Rattle.span_tracing.specs.Actions.{plain_action, plain_request}
+use Rattle.span_tracing_machine.specs.Machine.{refusal_of, call_refusal}
+use Rattle.span_tracing_machine.specs.PlainData.{GlobalStep}
+use Rattle.span_tracing.specs.Actions.{plain_action}
 use Rattle.span_tracing.specs.Skeletons.{skeleton_of}
 use Rattle.span_tracing.specs.Stored.{mask_in}
-use Rattle.span_tracing_machine.proofs.Refusing.{second_none, moment_fits, never_memory}
+use Rattle.span_tracing_machine.proofs.Refusing.{first_none, never_memory}
+use Rattle.span_tracing.proofs.Unrefused.{global_first, global_there}
 use Rattle.span_tracing.proofs.trace.Trace.step_once.Goals as goal
 
 pub returns-in-Some-clause-memory : goal.returns-in-Some-clause-memory
@@ -15,12 +16,30 @@ returns-in-Some-clause-memory g c = λ h.
     let same : c.in-Some.refusal ≡ OutOfMemory = cc in
     absurd (never_memory (skeleton_of t) step (mask_in t step) (sym c.refusal.ensures ∙ c.in-Some.is ∙ ap (λ r. Some r) same))
 
-pub event_once-requires : goal.event_once-requires
-event_once-requires g c =
-    let t = c.args.self.now.state in
-    let r = plain_request c.in-Event.event in
-    moment_fits (skeleton_of t) r (mask_in t (EventStep r)) (sym (rw (c.in_default.is, c.in-Event.is) at c.refusal.ensures))
+pub event-requires : goal.event-requires
+event-requires g c = sym (rw (c.in_default.is, c.in-Event.is) at c.refusal.ensures)
 
 pub new_span-requires : goal.new_span-requires
+new_span-requires g c = sym (rw (c.in_default.is, c.in-NewSpan.is) at c.refusal.ensures)
+
+pub enter-requires : goal.enter-requires
 unfolding refusal_of
-new_span-requires g c = second_none _ _ (sym (rw (c.in_default.is, c.in-NewSpan.is) at c.refusal.ensures))
+enter-requires g c = sym (rw (c.in_default.is, c.in-Enter.is) at c.refusal.ensures)
+
+pub exit-requires : goal.exit-requires
+unfolding refusal_of
+exit-requires g c = sym (rw (c.in_default.is, c.in-Exit.is) at c.refusal.ensures)
+
+pub try_close-requires : goal.try_close-requires
+unfolding refusal_of
+try_close-requires g c = first_none (call_refusal (skeleton_of c.args.self.now.state) c.in-TryClose.call) _ (sym (rw (c.in_default.is, c.in-TryClose.is) at c.refusal.ensures))
+
+pub set_global-requires-clause-there : goal.set_global-requires-clause-there
+set_global-requires-clause-there g c =
+    let t = c.args.self.now.state in
+    global_there (skeleton_of t) c.in-SetGlobalDefault.field-0 (mask_in t (GlobalStep c.in-SetGlobalDefault.field-0)) (sym (rw (c.in_default.is, c.in-SetGlobalDefault.is) at c.refusal.ensures))
+
+pub set_global-requires-clause-first : goal.set_global-requires-clause-first
+set_global-requires-clause-first g c =
+    let t = c.args.self.now.state in
+    global_first (skeleton_of t) c.in-SetGlobalDefault.field-0 (mask_in t (GlobalStep c.in-SetGlobalDefault.field-0)) (sym (rw (c.in_default.is, c.in-SetGlobalDefault.is) at c.refusal.ensures))

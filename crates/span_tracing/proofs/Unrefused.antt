@@ -1,0 +1,67 @@
+-- What it means for a request that it isn't refused.
+use Rattle.std.proofs.Common.{◌≡◌, ℕ, ◌<◌, ◌≤◌, ◌==◌, ◌&&◌, Bool, true, false, not, List, length, Option, Some, None, refl, ap, arith}
+use Rattle.std.specs.Prelude.{nat_le, nat_lt}
+use Rattle.std.specs.Option.{option_map}
+use Rattle.std.proofs.lemmas.Bool.Decides.{nat_tests}
+use Rattle.span_tracing_machine.specs.PlainData.{Request, GlobalStep, EventStep, SpanStep}
+use Rattle.span_tracing_machine.specs.declared.call.SpanCall.{SpanCall}
+use Rattle.span_tracing_machine.specs.declared.refusal.Refusal.TheVariants.{UnknownLane, IdsSpent, GlobalSet, UnknownStack}
+use Rattle.span_tracing_machine.specs.Machine.{when, knows_stack, refusal_of, parent_refusal, request_refusal, made_at, call_refusal, callsite_refusal, known_place, lane_refusal, moment_refusal}
+use Rattle.span_tracing_machine.specs.Skeleton.{Skeleton, Mask}
+use Rattle.span_tracing_machine.specs.State.{PlainText, event_line, handed_at, offer_of}
+use Rattle.span_tracing_machine.proofs.Refusing.{first_none, none_when, second_none}
+use Rattle.span_tracing.specs.Skeletons.{skeleton_of, value_in}
+use Rattle.span_tracing.specs.Sound.{IsSound}
+use Rattle.span_tracing.specs.declared.parts.TraceParts.{TraceParts}
+use Rattle.span_tracing.proofs.Padded.{lanes_count}
+
+pub event_parent : (s : Skeleton) (e : Request) (mask : Mask) → refusal_of s (EventStep e) mask ≡ None → parent_refusal s e.parent ≡ None
+unfolding refusal_of
+event_parent s e mask h = second_none (callsite_refusal (known_place s.callsites e.callsite false)) _ (second_none (moment_refusal e.moment) _ (second_none (lane_refusal s e.lane) _ h))
+
+pub span_parent : (s : Skeleton) (n : Request) (mask : Mask) → refusal_of s (SpanStep n) mask ≡ None → parent_refusal s n.parent ≡ None
+unfolding refusal_of
+span_parent s n mask h = second_none (callsite_refusal (known_place s.callsites n.callsite true)) _ (second_none (moment_refusal n.moment) _ (second_none (lane_refusal s n.lane) _ (first_none (request_refusal s n.lane n.moment n.callsite true n.parent) _ h)))
+
+not_past : (n : ℕ) → when (nat_lt 18446744073709551615 n) IdsSpent ≡ None → n ≤ 18446744073709551615
+not_past n h = by_test (nat_lt 18446744073709551615 n) refl h
+  where
+    by_test : (b : Bool) → nat_lt 18446744073709551615 n ≡ b → when b IdsSpent ≡ None → n ≤ 18446744073709551615
+    by_test true e h = absurd (cc)
+    by_test false e h = grind (arith, nat_tests)
+
+pub span_id : (s : Skeleton) (n : Request) (mask : Mask) (place : ℕ) → refusal_of s (SpanStep n) mask ≡ None → made_at s n.callsite true mask ≡ Some place → s.next_id ≤ 18446744073709551615
+unfolding refusal_of
+span_id s n mask place h at = not_past s.next_id (rw at at (second_none (request_refusal s n.lane n.moment n.callsite true n.parent) _ h))
+
+not_beyond : (count lane : ℕ) → when (nat_le count lane) UnknownLane ≡ None → lane < count
+not_beyond count lane h = by_test (nat_le count lane) refl h
+  where
+    by_test : (b : Bool) → nat_le count lane ≡ b → when b UnknownLane ≡ None → lane < count
+    by_test true e h = absurd (cc)
+    by_test false e h = grind (arith, nat_tests)
+
+pub call_lane : (p : TraceParts) (call : SpanCall) → IsSound p → call_refusal (skeleton_of (value_in p)) call ≡ None → call.lane < length p.threads.items
+call_lane p call sound h = let inside = not_beyond (length (skeleton_of (value_in p)).lanes) call.lane (first_none (lane_refusal (skeleton_of (value_in p)) call.lane) _ h) in let same = lanes_count p sound in omega (arith, inside, same)
+
+-- the line that an event offers where it is made
+pub offered : (s : Skeleton) (texts : List PlainText) (time : Option (List ℕ)) (e : Request) (mask : Mask) (place : ℕ) → made_at s e.callsite false mask ≡ Some place → offer_of s texts time (EventStep e) mask ≡ Some (handed_at e.moment (event_line s texts time e place))
+unfolding offer_of
+offered s texts time e mask place at = ap (option_map (λ n. handed_at e.moment (event_line s texts time e n))) at
+
+and_first : (a b : Bool) → (a && b) ≡ true → a ≡ true
+and_first true b h = refl
+and_first false b h = absurd (cc)
+
+not_set : (b : Bool) → when b GlobalSet ≡ None → b ≡ false
+not_set true h = absurd (cc)
+not_set false h = refl
+
+-- a global default that is not refused has its stack, and is the first
+pub global_there : (s : Skeleton) (handle : ℕ) (mask : Mask) → refusal_of s (GlobalStep handle) mask ≡ None → s.has_stack ≡ true
+unfolding refusal_of
+global_there s handle mask h = and_first s.has_stack (handle == 0) (none_when (knows_stack s handle) UnknownStack (first_none (when (not (knows_stack s handle)) UnknownStack) _ h))
+
+pub global_first : (s : Skeleton) (handle : ℕ) (mask : Mask) → refusal_of s (GlobalStep handle) mask ≡ None → s.is_global ≡ false
+unfolding refusal_of
+global_first s handle mask h = not_set s.is_global (second_none (when (not (knows_stack s handle)) UnknownStack) _ h)

@@ -1,0 +1,64 @@
+-- What requests that are made leave of a trace's state.
+use Rattle.std.specs.Prelude.{◌≡◌, Result, Ok, Err, ℕ, List, ◌∷◌, [], ◌++◌, Option, Some, slice_get}
+use Rattle.std.specs.List.{filter}
+use Rattle.span_tracing_machine.specs.declared.fate.Fate.{Fate}
+use Rattle.span_tracing_machine.specs.PlainData.{Request}
+use Rattle.span_tracing_machine.specs.Machine.{parent_id, with_span, changed_lane, swept, without_handle}
+use Rattle.span_tracing_machine.specs.Spans.{without_last}
+use Rattle.span_tracing_machine.specs.State.{event_line}
+use Rattle.span_tracing_stack.specs.Stacks.{line_told, text_told}
+use Rattle.span_tracing.specs.declared.parts.TraceParts.{TraceParts}
+use Rattle.span_tracing.specs.Skeletons.{StateValue, value_in, stack_in, told_in, setting_of, time_in}
+use Rattle.span_tracing.specs.Sound.{IsSound}
+use Rattle.span_tracing.specs.Stored.{with_text, open_texts}
+
+-- with a span at the callsite of a place
+abbrev pub with_made : StateValue → Request → ℕ → Fate → StateValue
+with_made v n place fate =
+    record v {
+      skeleton = with_span v.skeleton (parent_id v.skeleton.lanes n.lane n.parent) (Some place);
+      texts = with_text v.texts v.skeleton n fate (Some place);
+    }
+
+-- with one more entry on a lane
+abbrev pub with_entry : StateValue → ℕ → ℕ → StateValue
+with_entry v lane id = record v { skeleton = changed_lane v.skeleton lane (λ ids. ids ++ id ∷ []) }
+
+-- without the last entry of a span on a lane, and the spans that close then
+abbrev pub without_entry : StateValue → ℕ → ℕ → StateValue
+without_entry v lane id =
+    let s = swept (changed_lane v.skeleton lane (without_last id)) in
+    record v { skeleton = s; texts = open_texts s.spans v.texts }
+
+-- with one handle of a span less, and without the spans that close then
+abbrev pub without_one : StateValue → ℕ → StateValue
+without_one v id =
+    let s = without_handle v.skeleton id in
+    record v { skeleton = s; texts = open_texts s.spans v.texts }
+
+-- the global default set
+abbrev pub globally : StateValue → StateValue
+globally v = record v { skeleton = record (v.skeleton) { is_global = Rattle.std.specs.Prelude.true } }
+
+-- the stack was told of the event: it has its line, or missed it
+pub record TellsEvent (old new : TraceParts) (e : Request) (place : ℕ) : Type 0 where
+  pub kept : value_in new ≡ value_in old
+  pub sound : IsSound new
+  pub fate : Fate
+  pub told : told_in (stack_in new) ≡ line_told fate (event_line (value_in old).skeleton (value_in old).texts (time_in (setting_of (value_in old))) e place)
+
+-- the stack made the span, with its text or without it
+pub record MakesSpan (old new : TraceParts) (n : Request) (place : ℕ) (id : Option ℕ) : Type 0 where
+  pub sound : IsSound new
+  pub named : id ≡ Some (value_in old).skeleton.next_id
+  pub fate : Fate
+  pub told : told_in (stack_in new) ≡ text_told fate
+  pub made : value_in new ≡ with_made (value_in old) n place fate
+
+-- there was no memory
+abbrev pub LeavesParts : TraceParts → TraceParts → Type 0
+LeavesParts old new = IsSound new × (value_in new ≡ value_in old)
+
+abbrev pub SpanHanded : {E : Type 0} → TraceParts → TraceParts → Request → ℕ → Result (Option ℕ) E → Type 0
+SpanHanded old new n place (Ok id) = MakesSpan old new n place id
+SpanHanded old new n place (Err error) = LeavesParts old new

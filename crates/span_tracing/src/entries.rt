@@ -1,0 +1,76 @@
+//! Callsites, lanes and the stack: what setup calls add.
+
+ghost use Rattle.std.specs.Prelude.{◌≡◌, ◌++◌, ◌∷◌, [], OnErr, OnOk, IfOk, None, Some, length, map, string_bytes, true};
+ghost use Rattle.std.specs.Option.{option_copied, option_map};
+ghost use Rattle.tracing_core.specs.Metadata.{plain_metadata};
+ghost use Rattle.span_tracing_machine.specs.State.{callsite_named};
+ghost use Rattle.span_tracing.specs.Skeletons.{plain_callsite, skeleton_of, threads_of, value_in};
+
+use crate::callsite::Callsite;
+use crate::checks::place_of;
+use crate::parts::{Thread, TraceParts};
+use crate::site::Site;
+use std::alloc::AllocError;
+use tracing_core::{Interest, Metadata};
+
+impl TraceParts {
+    ghost use Rattle.span_tracing.specs.Sound.{IsSound};
+
+    /// The callsite with an identifier.
+    #[tactic(auto, using(crate::proofs::Lists::slice_get_map))]
+    pub(crate) fn callsite(&self, number: u64) -> Option<&Callsite>
+        ensures { option_map plain_callsite (option_copied result) ≡ callsite_named (skeleton_of (value_in self.now)).callsites number }
+    {
+        self.callsites
+            .get(place_of(self.callsites.as_slice(), number)?)
+    }
+
+    /// Adds a callsite, to the hub too.
+    pub(crate) fn add_callsite(
+        &mut self,
+        number: u64,
+        metadata: &Metadata<'_>,
+    ) -> Result<(), AllocError>
+        requires { IsSound self.old }
+        ensures sound { IsSound self.new }
+        ensures ok { OnOk result (value_in self.new ≡ record (value_in self.old) { skeleton = record (skeleton_of (value_in self.old)) { callsites = (skeleton_of (value_in self.old)).callsites ++ (record { number = number; metadata = plain_metadata metadata.now }) ∷ [] } }) }
+        ensures err { OnErr result (value_in self.new ≡ value_in self.old) }
+    {
+        let callsite = Callsite::new(self.alloc, number, metadata)?;
+        let site = Site {
+            callsite: Callsite::new(self.alloc, number, metadata)?,
+            interest: Interest::never(),
+        };
+        self.callsites.reserve(1)?;
+        match self.hub.register(site) {
+            Ok(_) => {
+                self.callsites.push_reserved(callsite);
+                Ok(())
+            }
+            // The hub knows no identifier that the trace doesn't.
+            Err(_) => Err(AllocError),
+        }
+    }
+
+    /// Adds a lane.
+    #[tactic(auto, using(crate::proofs::Lists::map_more))]
+    pub(crate) fn add_lane(
+        &mut self,
+        name: Option<String>,
+        thread_id: u64,
+    ) -> Result<usize, AllocError>
+        requires { IsSound self.old }
+        ensures sound { IsSound self.new }
+        ensures number { IfOk result (λ lane. lane ≡ length (skeleton_of (value_in self.old)).lanes) }
+        ensures ok { OnOk result (value_in self.new ≡ record (value_in self.old) {
+          skeleton = record (skeleton_of (value_in self.old)) { lanes = (skeleton_of (value_in self.old)).lanes ++ [] ∷ [] };
+          threads = threads_of (value_in self.old) ++ (record { name = option_map string_bytes name; number = thread_id }) ∷ [];
+        }) }
+        ensures err { OnErr result (value_in self.new ≡ value_in self.old) }
+    {
+        self.threads.reserve(1)?;
+        let lane = self.hub.thread()?;
+        self.threads.push_reserved(Thread { name, thread_id });
+        Ok(lane as usize)
+    }
+}

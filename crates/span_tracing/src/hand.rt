@@ -1,0 +1,72 @@
+//! Requests that the hub hands to the stack.
+
+ghost use Rattle.std.specs.Prelude.{◌≡◌};
+ghost use Rattle.tracing_core.specs.Calls.{SpanMade, Told};
+ghost use Rattle.tracing_core.specs.Handing.{HubGives};
+ghost use Rattle.tracing_core.specs.PlainRequests.{plain_attributes, plain_event};
+ghost use Rattle.span_tracing.specs.Telling.{attributes_of, event_of, place_at};
+
+use crate::action::Request;
+use crate::callsite::Callsite;
+use crate::site::Site;
+use span_tracing_machine::Parent;
+use span_tracing_stack::Stack;
+use tracing_appender_rolling::Moment;
+use tracing_core::{
+    At, Attributes, Dispatch, Event, Hub, Id, Metadata, RequestError, Subscriber, ValueSet,
+};
+
+/// Where and when.
+pub(crate) fn at_of(lane: usize, moment: Moment) -> At
+    ensures { result ≡ place_at lane moment }
+{
+    At {
+        lane: lane as u64,
+        seconds: moment.seconds,
+        nanoseconds: moment.nanoseconds,
+    }
+}
+
+/// Hands an event at the callsite to the stack.
+pub(crate) fn hand_event(
+    hub: &mut Hub<Stack, Site>,
+    handle: &Dispatch,
+    callsite: &Callsite,
+    event: &Request<'_>,
+) -> Result<(), RequestError>
+    ensures { HubGives ⟦<Stack as Subscriber>⟧ (Told (event_of callsite.now event.now) (place_at event.now.lane event.now.moment)) handle.now hub.old result hub.new }
+{
+    let metadata = callsite.metadata();
+    let values = metadata.fields().value_set_indexed(event.values);
+    let at = at_of(event.lane, event.moment);
+    match event.parent {
+        Parent::Contextual => hub.event(handle, &Event::new(&metadata, values), at),
+        Parent::Root => hub.event(handle, &Event::new_child_of(None, &metadata, values), at),
+        Parent::Explicit(name) => {
+            let named = Event::new_child_of(Some(name.id), &metadata, values);
+            hub.event(handle, &named, at)
+        }
+    }
+}
+
+/// Hands a new span at the callsite to the stack.
+pub(crate) fn hand_span(
+    hub: &mut Hub<Stack, Site>,
+    handle: &Dispatch,
+    callsite: &Callsite,
+    span: &Request<'_>,
+) -> Result<Option<Id>, RequestError>
+    ensures { HubGives ⟦<Stack as Subscriber>⟧ (SpanMade (attributes_of callsite.now span.now) (place_at span.now.lane span.now.moment)) handle.now hub.old result hub.new }
+{
+    let metadata = callsite.metadata();
+    let values = metadata.fields().value_set_indexed(span.values);
+    let at = at_of(span.lane, span.moment);
+    match span.parent {
+        Parent::Contextual => hub.new_span(handle, &Attributes::new(&metadata, values), at),
+        Parent::Root => hub.new_span(handle, &Attributes::new_root(&metadata, values), at),
+        Parent::Explicit(name) => {
+            let named = Attributes::child_of(name.id, &metadata, values);
+            hub.new_span(handle, &named, at)
+        }
+    }
+}

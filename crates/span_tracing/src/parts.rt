@@ -1,0 +1,108 @@
+//! All that a trace keeps beside its sink.
+
+ghost use Rattle.std.specs.Prelude.{◌≡◌, ◌<◌, ◌≤◌, IfNone, IfSome};
+ghost use Rattle.std.specs.Option.{option_copied, option_map};
+ghost use Rattle.span_tracing_machine.specs.Spans.{handles_of, is_open};
+ghost use Rattle.span_tracing_stack.specs.Stacks.{StackValue, line_said, is_starved};
+ghost use Rattle.span_tracing.specs.Skeletons.{spans_in, next_in, told_in};
+
+use crate::callsite::Callsite;
+use crate::site::Site;
+use span_tracing_stack::Stack;
+use std::alloc::Global;
+use tracing_core::{Dispatch, Hub, Id, LevelFilter};
+
+/// A lane's name and thread.
+#[derive(Debug, Drop)]
+pub(crate) struct Thread {
+    pub(crate) name: Option<String>,
+    pub(crate) thread_id: u64,
+}
+
+/// Callsites, the lanes' threads, and the hub with the one stack.
+#[derive(Drop)]
+pub(crate) struct TraceParts {
+    pub(crate) alloc: Global,
+    pub(crate) callsites: Vec<Callsite>,
+    pub(crate) threads: Vec<Thread>,
+    pub(crate) hub: Hub<Stack, Site>,
+    /// The stack's handle, where there is a stack.
+    pub(crate) handle: Option<Dispatch>,
+    /// How many texts and lines found no memory; it stops at the greatest number.
+    pub(crate) starved: usize,
+}
+
+impl TraceParts {
+    ghost use Rattle.span_tracing.specs.Skeletons.{stack_in};
+
+    /// The stack, where there is one.
+    pub(crate) fn stack(&self) -> Option<&Stack>
+        ensures { option_copied result ≡ stack_in self.now }
+    {
+        match &self.handle {
+            None => None,
+            Some(handle) => self.hub.subscriber(handle),
+        }
+    }
+
+    /// The most verbose level that the stack passes.
+    pub(crate) fn filter(&self) -> Option<LevelFilter>
+        ensures { result ≡ option_map (λ (x : StackValue). x.setting.filter) (stack_in self.now) }
+    {
+        match self.stack() {
+            None => None,
+            Some(stack) => Some(stack.filter()),
+        }
+    }
+
+    /// Whether the span is open.
+    pub(crate) fn is_open(&self, id: Id) -> bool
+        ensures { result ≡ is_open (spans_in (stack_in self.now)) id }
+    {
+        match self.stack() {
+            None => false,
+            Some(stack) => stack.is_open(id),
+        }
+    }
+
+    /// How many handles the span has, and 0 where it is not open.
+    pub(crate) fn handles_of(&self, id: Id) -> usize
+        ensures { result ≡ handles_of (spans_in (stack_in self.now)) id }
+    {
+        match self.stack() {
+            None => 0,
+            Some(stack) => stack.handles_of(id),
+        }
+    }
+
+    /// The next span's id, where one is left.
+    pub(crate) fn coming_id(&self) -> Option<u64>
+        ensures some { IfSome result (λ id. (id ≡ next_in (stack_in self.now)) × (id ≤ 18446744073709551615)) }
+        ensures none { IfNone result (next_in (stack_in self.now) ≡ 18446744073709551616) }
+    {
+        match self.stack() {
+            None => Some(1),
+            Some(stack) => stack.next_id(),
+        }
+    }
+
+    /// The line of the stack's last request, where it has one.
+    pub(crate) fn line(&self) -> Option<&str>
+        ensures { option_copied result ≡ line_said (told_in (stack_in self.now)) }
+    {
+        match self.stack() {
+            None => None,
+            Some(stack) => stack.line(),
+        }
+    }
+
+    /// Whether the stack's last request missed a text or a line.
+    pub(crate) fn is_starved(&self) -> bool
+        ensures { result ≡ is_starved (told_in (stack_in self.now)) }
+    {
+        match self.stack() {
+            None => false,
+            Some(stack) => stack.is_starved(),
+        }
+    }
+}

@@ -1,0 +1,165 @@
+//! Taking the stack into the hub, with its open file.
+
+ghost use Rattle.std.specs.Prelude.{◌≡◌, [], OnErr, OnOk, IfErr, IfOk, None, Some, true};
+ghost use Rattle.std.specs.Option.{option_map};
+ghost use Rattle.tracing_appender_rolling.specs.Appenders.{AgreesSink, HandsBack, MayOpen, fresh_sink};
+ghost use Rattle.tracing_appender_rolling.specs.Builders.{builder_names};
+ghost use Rattle.tracing_appender_rolling.specs.Contents.{Contents};
+ghost use Rattle.tracing_appender_rolling.specs.Moments.{is_moment};
+ghost use Rattle.span_tracing_stack.specs.Stacks.{StackValue};
+ghost use Rattle.span_tracing.specs.Skeletons.{stack_in, value_in};
+ghost use Rattle.span_tracing.specs.Sound.{OwnsOne};
+ghost use Rattle.span_tracing.specs.Outputs.{refusal_by, setting_of, with_output};
+
+use crate::output::Output;
+use crate::parts::TraceParts;
+use span_tracing_machine::Refusal;
+use span_tracing_stack::{Setting, Stack};
+use tracing_appender_rolling::{Builder, Folder, FolderError, Moment, RollingFileAppender};
+use tracing_core::AddError;
+
+/// An output whose file could not be opened.
+#[derive(Drop)]
+pub(crate) struct OutputBack<D> {
+    pub(crate) refusal: Refusal,
+    pub(crate) output: Output<D>,
+}
+
+fn refusal_of(error: FolderError) -> Refusal
+    ensures { result ≡ refusal_by error }
+{
+    match error {
+        FolderError::OutOfMemory => Refusal::OutOfMemory,
+        FolderError::Fault(_) => Refusal::FolderRefused,
+    }
+}
+
+// An output of a stack that was not kept.
+fn output_of<D>(stack: Stack, builder: Builder, folder: D) -> Output<D>
+    ensures setting { setting_of result ≡ stack.setting }
+    ensures builder { result.builder ≡ builder }
+    ensures folder { result.folder ≡ folder }
+{
+    let (setting, line) = stack.into_parts();
+    let Setting {
+        key,
+        filter,
+        format,
+    } = setting;
+    Output {
+        key,
+        filter,
+        format,
+        builder,
+        folder,
+        line,
+    }
+}
+
+impl TraceParts {
+    ghost use Rattle.span_tracing_stack.specs.Stacks.{new_stack};
+    ghost use Rattle.span_tracing.specs.Outputs.{IsOpeningRefusal, output_names, plain_output};
+    ghost use Rattle.span_tracing.specs.Sound.{IsSound, HasFirst};
+    ghost use Rattle.span_tracing.specs.Stored.{AgreesOption};
+
+    /// Takes a stack that nothing was told yet, or hands it back.
+    fn add_stack(&mut self, stack: Stack) -> Result<(), Stack>
+        requires sound { IsSound self.old }
+        requires none { self.old.handle ≡ None }
+        requires fresh { stack ≡ new_stack stack.setting }
+        ensures ok { OnOk result (HasFirst self.old self.new stack) }
+        ensures back { IfErr result (λ back. back ≡ stack) }
+        ensures err { OnErr result (self.new ≡ self.old) }
+    {
+        match self.hub.add(stack) {
+            Ok(handle) => {
+                self.handle = Some(handle);
+                Ok(())
+            }
+            Err(AddError::OutOfMemory(stack)) => Err(stack),
+            Err(AddError::NumbersSpent(stack)) => Err(stack),
+        }
+    }
+
+    /// Gives the stack up again, to which only its one handle leads.
+    fn take_stack(&mut self) -> Option<Stack>
+        requires { OwnsOne self.old.handle self.old.hub.entries }
+        ensures stack { result ≡ stack_in self.old }
+        ensures left { self.new ≡ record self.old { handle = None; hub = record (self.old.hub) { entries = [] } } }
+    {
+        let handle = std::mem::replace(&mut self.handle, None);
+        match handle {
+            None => None,
+            Some(handle) => self.hub.release(handle),
+        }
+    }
+
+    /// Takes the stack of an output, and opens the output's file.
+    pub(crate) fn open<D: Folder>(
+        &mut self,
+        output: Output<D>,
+        moment: Moment,
+    ) -> Result<RollingFileAppender<D>, OutputBack<D>>
+        requires sound { IsSound self.old }
+        requires none { self.old.handle ≡ None }
+        requires moment { is_moment moment ≡ true }
+        ensures sound { IsSound self.new }
+        ensures ok { OnOk result (value_in self.new ≡ with_output (value_in self.old) (setting_of output)) }
+        ensures files { IfOk result (λ sink. MayOpen (D.contents output.folder) (output_names output) →
+            AgreesOption D.contents (Some sink) (Some (plain_output D.contents output moment).sink)) }
+        ensures err { OnErr result (value_in self.new ≡ value_in self.old) }
+        ensures back { IfErr result (λ back. IsOpeningRefusal D.contents output back.refusal back.output) }
+    {
+        let Output {
+            key,
+            filter,
+            format,
+            builder,
+            folder,
+            line,
+        } = output;
+        let setting = Setting {
+            key,
+            filter,
+            format,
+        };
+        match self.add_stack(Stack::new(self.alloc, setting, line)) {
+            Ok(()) => self.build(builder, folder, moment),
+            Err(stack) => Err(OutputBack {
+                refusal: Refusal::OutOfMemory,
+                output: output_of(stack, builder, folder),
+            }),
+        }
+    }
+
+    // Opens the file of the stack that was just taken, or gives the stack up again.
+    fn build<D: Folder>(
+        &mut self,
+        builder: Builder,
+        folder: D,
+        moment: Moment,
+    ) -> Result<RollingFileAppender<D>, OutputBack<D>>
+        requires owns { OwnsOne self.old.handle self.old.hub.entries }
+        requires moment { is_moment moment ≡ true }
+        ensures ok { OnOk result (self.new ≡ self.old) }
+        ensures files { IfOk result (λ sink. MayOpen (D.contents folder) (builder_names builder) →
+            AgreesSink D.contents sink (fresh_sink (builder_names builder) moment (D.contents folder))) }
+        ensures err { OnErr result (self.new ≡ record self.old { handle = None; hub = record (self.old.hub) { entries = [] } }) }
+        ensures setting { IfErr result (λ back. option_map (λ (x : StackValue). x.setting) (stack_in self.old) ≡ Some (setting_of back.output)) }
+        ensures told { IfErr result (λ back. (error : FolderError) × (back.refusal ≡ refusal_by error)) }
+        ensures names { IfErr result (λ back. output_names back.output ≡ builder_names builder) }
+        ensures known { (c : Contents) → D.contents folder ≡ Some c → MayOpen (Some c) (builder_names builder) →
+            IfErr result (λ back. (back.refusal ≡ Refusal.OutOfMemory) × HandsBack c (builder_names builder) (D.contents back.output.folder)) }
+    {
+        match RollingFileAppender::build(self.alloc, builder, folder, moment) {
+            Ok(sink) => Ok(sink),
+            Err(refused) => match self.take_stack() {
+                Some(stack) => Err(OutputBack {
+                    refusal: refusal_of(refused.error),
+                    output: output_of(stack, refused.builder, refused.folder),
+                }),
+                None => unreachable!(),
+            },
+        }
+    }
+}

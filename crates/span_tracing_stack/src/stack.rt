@@ -1,0 +1,113 @@
+//! A stack.
+
+ghost use Rattle.std.specs.Prelude.{◌≡◌, ◌<◌, ◌≤◌, IfNone, IfSome, string_bytes};
+ghost use Rattle.std.specs.Option.{option_copied};
+ghost use Rattle.span_tracing_machine.specs.Spans.{is_open, handles_of};
+ghost use Rattle.span_tracing_stack.specs.Stacks.{new_stack, line_said, is_starved};
+
+use crate::setting::Setting;
+use crate::state::StackState;
+use crate::store::{handles_of, is_open};
+use crate::told::Told;
+use std::alloc::Global;
+use std::marker::Model;
+use tracing_core::{Id, LevelFilter};
+
+/// Keeps open spans and lane stacks, and writes the lines of the events that its filter passes.
+///
+/// A contract sees a stack as a `StackValue`.
+#[derive(Debug, Drop)]
+pub struct Stack {
+    pub(crate) state: StackState,
+    pub(crate) told: Told,
+    // The last line; its room is used again.
+    pub(crate) line: String,
+}
+
+impl Model for Stack {
+    ghost use Rattle.std.specs.Prelude.{string_bytes};
+    ghost use Rattle.span_tracing_stack.specs.Stacks.{StackValue, plain_state, plain_told};
+
+    ghost Value = { StackValue };
+
+    ghost view = { λ s. plain_state s.state (plain_told s.told (string_bytes s.line)) };
+}
+
+impl Stack {
+    /// A stack with no span and no entry, which writes its lines into the room of a text.
+    pub fn new(alloc: Global, setting: Setting, line: String) -> Stack
+        ensures { result ≡ new_stack setting }
+    {
+        Stack {
+            state: StackState {
+                alloc,
+                setting,
+                lanes: Vec::new(alloc),
+                spans: Vec::new(alloc),
+                next_id: Id::from_u64(1),
+                texts: Vec::new(alloc),
+            },
+            told: Told::Nothing,
+            line,
+        }
+    }
+
+    /// The setting, and the text whose room was used.
+    pub fn into_parts(self) -> (Setting, String)
+        ensures { result.0 ≡ self.setting }
+    {
+        let Stack { state, line, .. } = self;
+        let StackState { setting, .. } = state;
+        (setting, line)
+    }
+
+    /// The most verbose level that passes.
+    pub fn filter(&self) -> LevelFilter
+        ensures { result ≡ self.now.setting.filter }
+    {
+        self.state.setting.filter
+    }
+
+    /// Whether the span is open.
+    pub fn is_open(&self, id: Id) -> bool
+        ensures { result ≡ is_open self.now.spans id }
+    {
+        is_open(self.state.spans.as_slice(), id.into_u64())
+    }
+
+    /// How many handles the span has, and 0 where it is not open.
+    pub fn handles_of(&self, id: Id) -> usize
+        ensures { result ≡ handles_of self.now.spans id }
+    {
+        handles_of(self.state.spans.as_slice(), id.into_u64())
+    }
+
+    /// The next span's id, where one is left.
+    pub fn next_id(&self) -> Option<u64>
+        ensures some { IfSome result (λ id. (id ≡ self.now.next_id) × (id ≤ 18446744073709551615)) }
+        ensures none { IfNone result (self.now.next_id ≡ 18446744073709551616) }
+    {
+        match self.state.next_id {
+            None => None,
+            Some(id) => Some(id.into_u64()),
+        }
+    }
+
+    /// The line of the last request, where it was an event that passed and whose line found memory.
+    pub fn line(&self) -> Option<&str>
+        ensures { option_copied result ≡ line_said self.now.told }
+    {
+        match self.told {
+            Told::Nothing => None,
+            Told::Missed => None,
+            Told::Line => Some(self.line.as_str()),
+        }
+    }
+
+    /// Whether the last request wanted a text or a line that found no memory.
+    pub fn is_starved(&self) -> bool
+        ensures { result ≡ is_starved self.now.told }
+    {
+        matches!(self.told, Told::Missed)
+    }
+}

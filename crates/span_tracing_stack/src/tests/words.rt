@@ -1,0 +1,68 @@
+//! What a stack says of itself.
+
+use super::*;
+
+#[test]
+fn a_stack_says_what_it_passes(rt: HostRuntime) -> Result<(), Fail> {
+    let (mut hub, handle) = hub_of(rt.alloc())?;
+    let lane = hub.thread()?;
+    assert_eq!(rt; hub.max_level(), LevelFilter::INFO);
+    assert_eq!(rt;
+        hub.register(Place::new(3, Level::INFO)).ok(),
+        Some(Interest::always())
+    );
+    assert_eq!(rt;
+        hub.register(Place::new(4, Level::DEBUG)).ok(),
+        Some(Interest::never())
+    );
+    assert_eq!(rt; hub.set_global_default(&handle), Ok(()));
+    assert_eq!(rt; hub.gate(Identifier(3), at(lane)), Some(true));
+    assert_eq!(rt; hub.gate(Identifier(4), at(lane)), Some(false));
+    let fields = FieldSet::new(&NAMES, Identifier(1));
+    let passed = metadata_of("told", Level::WARN, fields, Kind::EVENT);
+    let dropped = metadata_of("told", Level::TRACE, fields, Kind::EVENT);
+    assert!(rt; hub.enabled(&handle, &passed, at(lane)));
+    assert!(rt; !hub.enabled(&handle, &dropped, at(lane)));
+    let event = Event::new(&passed, fields.value_set_all(&[]));
+    assert!(rt; hub.event_enabled(&handle, &event, at(lane)));
+    Ok(())
+}
+
+#[test]
+fn later_values_are_not_kept(rt: HostRuntime) -> Result<(), Fail> {
+    let (mut hub, handle) = hub_of(rt.alloc())?;
+    let span = make(&mut hub, &handle, 0, "span", 1)?;
+    hub.enter(&handle, &span, at(0))?;
+    tell(&mut hub, &handle, 0, Level::INFO)?;
+    let fields = FieldSet::new(&NAMES, Identifier(2));
+    let values = [None, Some(AnyValue::U64(8))];
+    let record = Record::new(fields.value_set_all(&values));
+    assert_eq!(rt; hub.record(&handle, &span, &record, at(0)), Ok(()));
+    assert_eq!(rt;
+        hub.record_follows_from(&handle, &span, &span, at(0)),
+        Ok(())
+    );
+    assert_eq!(rt;
+        line_in(&hub, &handle),
+        Some("now span{n=1}: app: hello n=3\n")
+    );
+    tell(&mut hub, &handle, 0, Level::INFO)?;
+    assert_eq!(rt;
+        line_in(&hub, &handle),
+        Some("now span{n=1}: app: hello n=3\n")
+    );
+    Ok(())
+}
+
+#[test]
+fn a_stack_gives_its_parts_back(rt: HostRuntime) -> Result<(), Fail> {
+    let (mut hub, handle) = hub_of(rt.alloc())?;
+    tell(&mut hub, &handle, 0, Level::INFO)?;
+    let stack = hub.release(handle).ok_or("the stack")?;
+    assert_eq!(rt; stack.filter(), LevelFilter::INFO);
+    let (setting, _line) = stack.into_parts();
+    assert_eq!(rt; setting.key, OutputKey(7));
+    assert_eq!(rt; setting.filter, LevelFilter::INFO);
+    assert!(rt; matches!(setting.format.timer, Timer::FixedText(_)));
+    Ok(())
+}

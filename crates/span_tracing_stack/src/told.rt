@@ -1,0 +1,12 @@
+//! What the last request of a stack came to.
+
+/// What the last request of a stack came to.
+#[derive(Clone, Copy, Debug)]
+pub(crate) enum Told {
+    /// No line, and no text that is missing.
+    Nothing,
+    /// A text or a line that found no memory.
+    Missed,
+    /// A line.
+    Line,
+}
