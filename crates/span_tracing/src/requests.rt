@@ -36,6 +36,7 @@ impl TraceParts {
         let Some(handle) = &self.handle else {
             return;
         };
+        // The refusals were looked for, so nothing stands in its way.
         let _told = hand_event(&mut self.hub, handle, &self.callsites[place], event);
     }
 
@@ -149,6 +150,7 @@ impl TraceParts {
         let Some(handle) = &self.handle else {
             return;
         };
+        // It is the stack's own handle, and the first default.
         let _set = self.hub.set_global_default(handle);
     }
 }
