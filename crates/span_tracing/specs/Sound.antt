@@ -7,7 +7,7 @@ use Rattle.span_tracing_stack.specs.Stacks.{StackValue}
 use Rattle.span_tracing.specs.declared.parts.TraceParts.{TraceParts}
 use Rattle.span_tracing.specs.Skeletons.{lanes_in, stack_in}
 
--- the hub has the stack alone, which one handle leads to and, once it is the global default, that one too
+-- the hub has the stack alone, which one handle leads to until a global default is set
 abbrev pub HasOnly : Option (Option ℕ) → Setting → List (Entry StackValue) → Type 0
 HasOnly None global entries = (entries ≡ []) × (global ≡ Unset)
 HasOnly (Some dispatch) global entries = (e : Entry StackValue) × (entries ≡ e ∷ []) × (dispatch ≡ Some e.serial) × (global ≡ Unset → e.handles ≡ 1)
