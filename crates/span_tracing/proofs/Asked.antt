@@ -1,12 +1,13 @@
 -- Asking the stack leaves it as it was.
-use Rattle.std.proofs.Common.{◌≡◌, ◌≤◌, ℕ, ◌+◌, suc, Bool, List, [], ◌∷◌, ◌++◌, length, map, false, Option, Some, None, Ok, Vec, refl, sym, ap, ◌∙◌, subst}
+use Rattle.std.proofs.Common.{◌≡◌, ◌≤◌, ℕ, ◌+◌, suc, Bool, List, [], ◌∷◌, ◌++◌, length, map, false, Option, Some, None, Ok, Vec, refl, sym, ap, ◌∙◌, subst, inl, inr}
 use Rattle.std.specs.Global.{Global}
-use Rattle.tracing_core.specs.Asking.{Each, Registers, Hints, RowAsked}
+use Rattle.tracing_core.specs.Asking.{Each, Registers, RowAsked}
 use Rattle.tracing_core.specs.Calls.{Call, ReplyTo, CallsiteRegistered, HintAsked, DispatchRegistered}
-use Rattle.tracing_core.specs.Commands.{AddGives, Rebuilt, Registered, living, new_row}
+use Rattle.tracing_core.specs.Commands.{AddGives, Registered, living, new_row}
 use Rattle.tracing_core.specs.Defaults.{was_set}
 use Rattle.tracing_core.specs.Interests.{PlainInterest}
 use Rattle.tracing_core.specs.PlainMetadata.{PlainMetadata}
+use Rattle.tracing_core.specs.Refreshing.{Joins, RowRefreshed, Raises, Refreshed}
 use Rattle.tracing_core.specs.Entry.{Entry}
 use Rattle.tracing_core.specs.Row.{Row}
 use Rattle.tracing_core.specs.Lane.{Lane}
@@ -55,21 +56,34 @@ module _ (g : Ghosts StackValue) (means : (x : StackValue) (c : Call) (r : Reply
   pub registered_same : (h : SiteGhosts Site) (t u : Table StackValue Site) (site : Site) (k : PlainInterest) → Registered g h t site k u → u.entries ≡ t.entries
   registered_same h t u site k w = row_same h t.entries u.entries (new_row h site) w.row w.asked
 
-  rows_same : (h : SiteGhosts Site) (es fs : List (Entry StackValue)) (rows later : List (Row Site)) → Each (RowAsked g h) es rows later fs → fs ≡ es
-  rows_same h es fs [] [] w = w
-  rows_same h es fs [] (r ∷ rs) w = absurd w
-  rows_same h es fs (r ∷ rs) [] w = absurd w
-  rows_same h es fs (r ∷ rs) (s ∷ ss) (j, asked, rest) = rows_same h j fs rs ss rest ∙ row_same h es j r s asked
+  module _ (h : SiteGhosts Site) (v : Table StackValue Site) where
+    answers_same : (row : Row Site) (es fs : List (Entry StackValue)) (before after : Option PlainInterest) → Each (Joins g h v row) before es fs after → fs ≡ es
+    answers_same row [] [] before after w = refl
+    answers_same row [] (f ∷ fs) before after w = absurd w
+    answers_same row (e ∷ es) [] before after w = absurd w
+    answers_same row (e ∷ es) (f ∷ fs) before after (j, (k, inl (says, moved, is), joined), rest) =
+        ap (λ (x : Entry StackValue). x ∷ fs) (is ∙ ap (λ (s : StackValue). record e { subscriber = s }) (register_same e.subscriber (h.metadata_of row.callsite) k f.subscriber (means e.subscriber (CallsiteRegistered (h.metadata_of row.callsite)) k f.subscriber moved)))
+        ∙ ap (λ (xs : List (Entry StackValue)). e ∷ xs) (answers_same row es fs j after rest)
+    answers_same row (e ∷ es) (f ∷ fs) before after (j, (k, inr kept, joined), rest) =
+        ap (λ (x : Entry StackValue). x ∷ fs) kept.1 ∙ ap (λ (xs : List (Entry StackValue)). e ∷ xs) (answers_same row es fs j after rest)
 
-  hints_one : (e : Entry StackValue) (fs : List (Entry StackValue)) (before after : ℕ) → Each (Hints g) before (e ∷ []) fs after → fs ≡ (record e { lent = false }) ∷ []
-  hints_one e [] before after w = absurd w
-  hints_one e (f ∷ []) before after (j, (moved, is, level), rest) =
-      ap (λ (x : Entry StackValue). x ∷ []) (is ∙ ap (λ (s : StackValue). record e { lent = false; subscriber = s }) (hint_same e.subscriber _ f.subscriber (means e.subscriber HintAsked _ f.subscriber moved)))
-  hints_one e (f ∷ (d ∷ ds)) before after (j, hint, rest) = absurd rest
+    rows_same : (es fs : List (Entry StackValue)) (rows later : List (Row Site)) → Each (RowRefreshed g h v) es rows later fs → fs ≡ es
+    rows_same es fs [] [] w = w
+    rows_same es fs [] (r ∷ rs) w = absurd w
+    rows_same es fs (r ∷ rs) [] w = absurd w
+    rows_same es fs (r ∷ rs) (s ∷ ss) (j, refreshed, rest) = rows_same j fs rs ss rest ∙ answers_same r es j None refreshed.0.0 refreshed.0.1
 
-  -- the stack after a rebuild that it alone was asked in
-  pub rebuilt_one : (h : SiteGhosts Site) (t u : Table StackValue Site) (e : Entry StackValue) → t.entries ≡ e ∷ [] → Rebuilt g h t u → u.entries ≡ (record e { lent = false }) ∷ []
-  rebuilt_one h t u e one w = hints_one e u.entries 0 u.greatest (subst (λ es. Each (Hints g) 0 es u.entries u.greatest) (rows_same h t.entries w.asked t.rows u.rows w.rows ∙ one) w.hints)
+    hints_one : (e : Entry StackValue) (fs : List (Entry StackValue)) (before after : ℕ) → Each (Raises g h v) before (e ∷ []) fs after → fs ≡ (record e { lent = false }) ∷ []
+    hints_one e [] before after w = absurd w
+    hints_one e (f ∷ []) before after (j, (top, inl (told, moved, is), level), rest) =
+        ap (λ (x : Entry StackValue). x ∷ []) (is ∙ ap (λ (s : StackValue). record e { lent = false; subscriber = s }) (hint_same e.subscriber _ f.subscriber (means e.subscriber HintAsked _ f.subscriber moved)))
+    hints_one e (f ∷ []) before after (j, (top, inr kept, level), rest) =
+        ap (λ (x : Entry StackValue). x ∷ []) (kept.1 ∙ ap (λ b. record e { lent = b }) kept.0)
+    hints_one e (f ∷ (d ∷ ds)) before after (j, hint, rest) = absurd rest
+
+    -- the stack after a refresh, where there is no other
+    pub refreshed_one : (u : Table StackValue Site) (e : Entry StackValue) → v.entries ≡ e ∷ [] → Refreshed g h v u → u.entries ≡ (record e { lent = false }) ∷ []
+    refreshed_one u e one w = hints_one e u.entries 0 u.greatest (subst (λ es. Each (Raises g h v) 0 es u.entries u.greatest) (rows_same v.entries w.asked v.rows u.rows w.rows ∙ one) w.hints)
 
 length_more : {A : Type 0} (xs : List A) (x : A) → length (xs ++ x ∷ []) ≡ suc (length xs)
 length_more [] x = refl
@@ -110,11 +124,11 @@ sound_more p callsites u rows sound same rest = record {
 pub first_stack : (g : Ghosts StackValue) → ((x : StackValue) (c : Call) (r : ReplyTo c) (y : StackValue) → g.moves x c r y → StackMoves x c r y) → (h : SiteGhosts Site) (p : TraceParts) (u : Table StackValue Site) (s : StackValue) (d : Option ℕ) → IsSound p → p.handle ≡ None → AddGives g h p.hub s (Ok d) u → HasFirst p (record p { handle = Some d; hub = u }) s
 first_stack g means h p u s d sound none gives =
     let z = gives.1.0 in
-    let rebuilt = gives.1.2 in
+    let asked = gives.1.2 in
     let e = living p.hub.next z in
     let before = subst (λ o. HasOnly o p.hub.global p.hub.entries) none sound.only in
     let one : p.hub.entries ++ e ∷ [] ≡ e ∷ [] = ap (λ (es : List (Entry StackValue)). es ++ e ∷ []) before.0 in
-    let left = rebuilt_one g means h (record (p.hub) { entries = p.hub.entries ++ e ∷ []; next = p.hub.next + 1 }) u e one rebuilt in
+    let left = refreshed_one g means h (record (p.hub) { entries = p.hub.entries ++ e ∷ []; next = p.hub.next + 1 }) u e one asked in
     let last : Entry StackValue = record e { lent = false } in
     record {
       owns = (last, left, gives.0, refl);
@@ -123,6 +137,6 @@ first_stack g means h p u s d sound none gives =
           ∙ ap (λ (o : Option (Entry StackValue)). option_map (λ (x : Entry StackValue). x.subscriber) o) (found last)
           ∙ ap (λ (x : StackValue). Some x) (dispatch_same s (Some p.hub.next) z (means s (DispatchRegistered (Some p.hub.next)) tt z gives.1.1));
       rest = refl;
-      global = ap (λ (t : Table StackValue Site). t.global) rebuilt.rest;
-      lanes = ap (λ (t : Table StackValue Site). t.lanes) rebuilt.rest;
+      global = ap (λ (t : Table StackValue Site). t.global) asked.rest;
+      lanes = ap (λ (t : Table StackValue Site). t.lanes) asked.rest;
     }

@@ -40,6 +40,7 @@ pub use Rattle.tracing_core_hub.specs.Currents
 pub use Rattle.tracing_core_hub.specs.DefaultCallsites
 pub use Rattle.tracing_core_hub.specs.Lent
 pub use Rattle.tracing_core_hub.specs.Kept
+pub use Rattle.tracing_core_hub.specs.Refreshing
 pub use Rattle.tracing_core_hub.specs.Sound
 pub use Rattle.tracing_core_hub.specs.Keeping
 pub use Rattle.tracing_core_hub.specs.Lending

@@ -16,12 +16,12 @@ use Rattle.tracing_core_hub.specs.declared.hub.parts.Row.{Row}
 use Rattle.tracing_core_hub.specs.declared.interest.InterestInner.TheVariants.{Never, Sometimes, Always}
 use Rattle.tracing_core_hub.specs.declared.subscriber.Subscriber.{Ghosts}
 
-covers_self : (j : PlainInterest) → Covers j j
+pub covers_self : (j : PlainInterest) → Covers j j
 covers_self Never = refl
 covers_self Sometimes = tt
 covers_self Always = refl
 
-covers_left : (f j k : PlainInterest) → Covers f (common j k) → Covers f j
+pub covers_left : (f j k : PlainInterest) → Covers f (common j k) → Covers f j
 covers_left Never Never k h = refl
 covers_left Never Sometimes k h = absurd (cc)
 covers_left Never Always Never h = absurd (cc)
@@ -45,7 +45,7 @@ common_swap Always Never = refl
 common_swap Always Sometimes = refl
 common_swap Always Always = refl
 
-covers_right : (f j k : PlainInterest) → Covers f (common j k) → Covers f k
+pub covers_right : (f j k : PlainInterest) → Covers f (common j k) → Covers f k
 covers_right f j k h = covers_left f k j (subst (Covers f) (common_swap j k) h)
 
 pub every_map : {A : Type 0} (P Q : A → Type 0) (xs : List A) → ((x : A) → P x → Q x) → Every P xs → Every Q xs
@@ -151,7 +151,7 @@ module _ {S : Type 0} (g : Ghosts S) where
   pub same_word : (x : S) → SameWord (g.says x) (g.says x) (g.hint x) (g.hint x)
   same_word x = record { onward = λ m k s. s; back = λ m k s. s; same_hint = refl }
 
-  both_words : (x y z : S) → SameWord (g.says x) (g.says y) (g.hint x) (g.hint y) → SameWord (g.says y) (g.says z) (g.hint y) (g.hint z) → SameWord (g.says x) (g.says z) (g.hint x) (g.hint z)
+  pub both_words : (x y z : S) → SameWord (g.says x) (g.says y) (g.hint x) (g.hint y) → SameWord (g.says y) (g.says z) (g.hint y) (g.hint z) → SameWord (g.says x) (g.says z) (g.hint x) (g.hint z)
   both_words x y z a b = record { onward = λ m k s. b.onward m k (a.onward m k s); back = λ m k s. a.back m k (b.back m k s); same_hint = b.same_hint ∙ a.same_hint }
 
   module _ {C : Type 0} (h : SiteGhosts C) where

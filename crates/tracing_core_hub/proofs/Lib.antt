@@ -6,6 +6,7 @@ pub mod Tables
 pub mod Keeping
 pub mod Living
 pub mod Sounding
+pub mod Refreshing
 pub mod Words
 pub mod Gates
 pub mod Handed

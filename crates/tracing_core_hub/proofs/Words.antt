@@ -1,5 +1,5 @@
 -- What commands leave of the word of all.
-use Rattle.std.proofs.Common.{◌≡◌, ℕ, ◌+◌, ◌≤◌, Bool, true, false, nat_le, List, [], ◌∷◌, ◌++◌, Option, Some, None, Result, Ok, Err, refl, ap, sym, ◌∙◌, subst}
+use Rattle.std.proofs.Common.{◌≡◌, ℕ, ◌+◌, ◌≤◌, Bool, true, false, nat_le, List, [], ◌∷◌, ◌++◌, Option, Some, None, Result, Ok, Err, refl, ap, sym, ◌∙◌, subst, inl, inr}
 use Rattle.std.specs.Prelude.{if◌then◌else◌, ◌==◌, slice_get, OnOk, OnErr, IfOk}
 use Rattle.std.specs.Cmp.{unsigned_Decides}
 use Rattle.tracing_core_fields.specs.PlainMetadata.{PlainMetadata}
@@ -13,6 +13,7 @@ use Rattle.tracing_core_hub.specs.Interests.{PlainInterest}
 use Rattle.tracing_core_hub.specs.Keeping.{Keeps, KeepsOthers, IsNever, IsOff}
 use Rattle.tracing_core_hub.specs.Kept.{Covers, Every, IsTrueRow, RowRight, Kept, asked_anew}
 use Rattle.tracing_core_hub.specs.Lent.{lent_to, given_as}
+use Rattle.tracing_core_hub.specs.Refreshing.{Refreshed}
 use Rattle.tracing_core_hub.specs.Sound.{Ascends, IsSound, serials}
 use Rattle.tracing_core_hub.specs.Steady.{IsReal, IsRealCall, SameWord}
 use Rattle.tracing_core_hub.specs.Table.{Table, chosen}
@@ -33,6 +34,7 @@ use Rattle.tracing_core_hub.specs.declared.hub.parts.Setting.{Setting}
 use Rattle.tracing_core_hub.specs.declared.subscriber.Subscriber.{Ghosts}
 use Rattle.tracing_core_hub.proofs.Keeping.{asked_one, right_onward, row_every, same_word, rebuilt_keeps}
 use Rattle.tracing_core_hub.proofs.Living.{by_bool, if_either, changed_own, changed_other, without_own, without_other, serials_changed, ascends_without, absent_above, entry_appended, entry_last}
+use Rattle.tracing_core_hub.proofs.Refreshing.{refreshed_sound, refreshed_right}
 use Rattle.tracing_core_hub.proofs.Sounding.{every_append, sound_alike, rebuilt_sound, added_sound, registered_sound, row_true, new_row_true}
 
 -- the rest of the table is as it was
@@ -301,8 +303,28 @@ module _ {S C : Type 0} (g : Ghosts S) (h : SiteGhosts C) where
         right_of = λ e kept. let a = rebuilt_keeps g h t u e r kept.stands kept.steady kept.rows in (asked_anew a.0 e, refl, a.1);
       }
 
+  -- asking again whoever was lent, and maybe others
+  pub refresh_keeps : (t u : Table S C) → Refreshed g h t u → Keeps g h t u
+  refresh_keeps t u r =
+      record {
+        sound = refreshed_sound g h t u r;
+        right_of = λ e kept. let a = refreshed_right g h t u e r (inr kept) kept.stands kept.steady kept.rows in (asked_anew a.0 e, refl, a.1);
+      }
+
   with_new : Table S C → S → Table S C
   with_new t z = record t { entries = t.entries ++ living t.next z ∷ []; next = t.next + 1 }
+
+  kept_with_new : (t : Table S C) (z : S) (e : Entry S) → Kept g h t e → Kept g h (with_new t z) e
+  unfolding with_new
+  kept_with_new t z e kept =
+      record {
+        stands = entry_appended e.serial t.entries (living t.next z ∷ []) e kept.stands;
+        unlent = kept.unlent;
+        steady = kept.steady;
+        rows = kept.rows;
+        right = kept.right;
+        below = kept.below;
+      }
 
   -- a subscriber more
   pub add_keeps : (t u : Table S C) (s : S) (r : Result (Option ℕ) (AddError S)) → AddGives g h t s r u → Keeps g h t u
@@ -310,15 +332,16 @@ module _ {S C : Type 0} (g : Ghosts S) (h : SiteGhosts C) where
   add_keeps t u s (Ok dispatch) given =
       let z = given.1.0 in
       let v : Table S C = with_new t z in
-      let rebuilt : Rebuilt g h v u = given.1.2 in
+      let asked : Refreshed g h v u = given.1.2 in
       record {
-        sound = λ sound. rebuilt_sound h g v u rebuilt (added_sound h g t z sound);
+        sound = λ sound. refreshed_sound g h v u asked (added_sound h g t z sound);
         right_of = λ e kept.
-            let a = rebuilt_keeps g h v u e rebuilt (entry_appended e.serial t.entries (living t.next z ∷ []) e kept.stands) kept.steady kept.rows in
+            let still : Kept g h v e = kept_with_new t z e kept in
+            let a = refreshed_right g h v u e asked (inr still) still.stands kept.steady kept.rows in
             (asked_anew a.0 e, refl, a.1);
       }
   add_keeps t u s (Err (add.NumbersSpent back)) given = subst (Keeps g h t) (sym given.2) (itself_keeps t)
-  add_keeps t u s (Err (add.OutOfMemory back)) given = subst (Keeps g h t) (sym given.1) (itself_keeps t)
+  add_keeps t u s (Err (add.OutOfMemory back)) given = subst (Keeps g h t) (sym given.2) (itself_keeps t)
 
   -- and what is kept is right of it, if it keeps its word
   pub added_kept : (t u : Table S C) (s : S) (dispatch : Option ℕ) → AddGives g h t s (Ok dispatch) u → IsSound h t → g.steady s → (f : Entry S) × (dispatch ≡ Some f.serial) × Kept g h u f
@@ -326,11 +349,11 @@ module _ {S C : Type 0} (g : Ghosts S) (h : SiteGhosts C) where
   added_kept t u s dispatch given sound steady =
       let z = given.1.0 in
       let v : Table S C = with_new t z in
-      let rebuilt : Rebuilt g h v u = given.1.2 in
+      let asked : Refreshed g h v u = given.1.2 in
       let later = g.stays s (DispatchRegistered (Some t.next)) tt z tt given.1.1 steady in
       let is : is_of t.next (living t.next z) ≡ true = (unsigned_Decides t.next t.next).1 refl in
       let there : entry_of t.next v.entries ≡ Some (living t.next z) = entry_last t.next t.entries (living t.next z) (absent_above 0 t.next t.entries sound.numbers) is in
-      let a = rebuilt_keeps g h v u (living t.next z) rebuilt there later.0 sound.sites in
+      let a = refreshed_right g h v u (living t.next z) asked (inl refl) there later.0 sound.sites in
       (asked_anew a.0 (living t.next z), given.0, a.1)
 
   pub added_right : (t u : Table S C) (s : S) (r : Result (Option ℕ) (AddError S)) → AddGives g h t s r u → IfOk r (λ dispatch. IsSound h t → g.steady s → (f : Entry S) × (dispatch ≡ Some f.serial) × Kept g h u f)

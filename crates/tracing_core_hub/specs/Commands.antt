@@ -5,6 +5,7 @@ use Rattle.tracing_core_hub.specs.Asking.{Each, RowAsked, Hints}
 use Rattle.tracing_core_hub.specs.Calls.{Asked, DispatchRegistered}
 use Rattle.tracing_core_hub.specs.Handles.{entry_of, changed, most}
 use Rattle.tracing_core_hub.specs.Interests.{PlainInterest}
+use Rattle.tracing_core_hub.specs.Refreshing.{Refreshed}
 use Rattle.tracing_core_hub.specs.Table.{Table, chosen, own_setting, effective}
 use Rattle.tracing_core_hub.specs.declared.at.At.{At}
 use Rattle.tracing_core_hub.specs.declared.refusal.AddError.{AddError}
@@ -38,9 +39,9 @@ known_by Always = Some true
 abbrev pub known : ℕ → ℕ → PlainInterest → Option Bool
 known greatest level interest = if nat_le level greatest then known_by interest else Some false
 
--- a subscriber with its first handle
+-- a subscriber with its first handle, which counts as lent until it is asked
 abbrev pub living : {S : Type 0} → ℕ → S → Entry S
-living serial subscriber = record { serial = serial; handles = 1; lent = false; subscriber = subscriber }
+living serial subscriber = record { serial = serial; handles = 1; lent = true; subscriber = subscriber }
 
 abbrev pub becomes : {S : Type 0} → S → Entry S → Entry S
 becomes subscriber e = record e { subscriber = subscriber }
@@ -76,9 +77,9 @@ module _ {S : Type 0} (g : Ghosts S) where
     abbrev pub AddGives : Table S C → S → Result (Option ℕ) (AddError S) → Table S C → Type 0
     AddGives t s (Ok dispatch) u =
         (dispatch ≡ Some t.next)
-        × ((z : S) × g.moves s (DispatchRegistered (Some t.next)) tt z × Rebuilt (record t { entries = t.entries ++ living t.next z ∷ []; next = t.next + 1 }) u)
+        × ((z : S) × g.moves s (DispatchRegistered (Some t.next)) tt z × Refreshed g h (record t { entries = t.entries ++ living t.next z ∷ []; next = t.next + 1 }) u)
     AddGives t s (Err (add.NumbersSpent back)) u = (t.next ≡ most) × (back ≡ s) × (u ≡ t)
-    AddGives t s (Err (add.OutOfMemory back)) u = (back ≡ s) × (u ≡ t)
+    AddGives t s (Err (add.OutOfMemory back)) u = ¬ (t.next ≡ most) × (back ≡ s) × (u ≡ t)
 
     -- all were asked of a callsite that wasn't known, and it is kept
     pub record Registered (t : Table S C) (callsite : C) (interest : PlainInterest) (u : Table S C) : Type 0 where

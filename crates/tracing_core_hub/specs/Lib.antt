@@ -15,6 +15,7 @@ pub mod Currents
 pub mod DefaultCallsites
 pub mod Lent
 pub mod Kept
+pub mod Refreshing
 pub mod Sound
 pub mod Keeping
 pub mod Lending

@@ -2,8 +2,9 @@
 use Rattle.std.specs.Prelude.{◌≡◌, ℕ, false, List, [], ◌∷◌, ◌++◌, Option, Some, None, Result, Ok, Err, length, slice_get, slice_set}
 use Rattle.std.specs.Option.{option_map}
 use Rattle.tracing_core_hub.specs.Commands.{AddGives, GateGives, RegisterGives, RegisterOnceGives, Rebuilt, reached, row_of}
-use Rattle.tracing_core_hub.specs.Defaults.{was_set, holding, letting_go, upgrade_answer, global_refusal, globally, default_refusal, locally, guard_of, end_gives, reset_gives}
+use Rattle.tracing_core_hub.specs.Defaults.{was_set, holding, letting_go, global_refusal, globally, default_refusal, locally, guard_of, end_gives, reset_gives}
 use Rattle.tracing_core_hub.specs.Handles.{given_back, hold_refusal, or_refused, or_same}
+use Rattle.tracing_core_hub.specs.Refreshing.{Refreshed}
 use Rattle.tracing_core_hub.specs.Table.{Table}
 use Rattle.tracing_core_hub.specs.declared.at.At.{At}
 use Rattle.tracing_core_hub.specs.declared.callsite.Callsite.{Ghosts as SiteGhosts}
@@ -12,9 +13,9 @@ use Rattle.tracing_core_hub.specs.declared.guard.WrongLane.{WrongLane}
 use Rattle.tracing_core_hub.specs.declared.hub.parts.Lane.TheVariants.{Running}
 use Rattle.tracing_core_hub.specs.declared.hub.parts.Setting.TheVariants.{Unset}
 use Rattle.tracing_core_hub.specs.declared.refusal.HandleError.{HandleError}
+use Rattle.tracing_core_hub.specs.declared.refusal.HandleError.TheVariants.{Unknown, TooMany}
 use Rattle.tracing_core_hub.specs.declared.refusal.SetDefaultError.{SetDefaultError}
 use Rattle.tracing_core_hub.specs.declared.refusal.SetGlobalDefaultError.{SetGlobalDefaultError}
-use Rattle.tracing_core_hub.specs.declared.refusal.TooManyHandles.{TooManyHandles}
 use Rattle.tracing_core_hub.specs.declared.refusal.UnknownLane.{UnknownLane}
 use Rattle.tracing_core_hub.specs.declared.run.command.Command.{Command}
 use Rattle.tracing_core_hub.specs.declared.run.command.Command.TheVariants as command
@@ -56,7 +57,7 @@ guards_after guards number (Ok released) = slice_set guards number None
 guards_after guards number (Err wrong) = guards
 
 module _ {S C : Type 0} where
-  -- refused for want of memory with nothing changed, or else what the command gives
+  -- refused for want of memory with nothing changed, or else what the command gives: asked where nothing else refuses
   abbrev pub OrNoRoom : CommandReply S C → Type 0 → Type 0 → Type 0
   OrNoRoom (reply.Refused error.OutOfMemory) same gives = same
   OrNoRoom other same gives = gives
@@ -84,15 +85,20 @@ module _ {S C : Type 0} where
   global_gives t (Some dispatch) =
       (global_reply (or_refused (global_refusal t dispatch) tt), or_same (global_refusal t dispatch) t (globally t dispatch))
 
-  abbrev pub set_default_gives : Table S C → List (Option DefaultGuard) → ℕ → Option ℕ → Option SetDefaultError → (CommandReply S C × Table S C) × List (Option DefaultGuard)
-  set_default_gives t guards lane dispatch None = ((reply.Guard (length guards), locally t lane dispatch), guards ++ Some (guard_of t lane) ∷ [])
-  set_default_gives t guards lane dispatch (Some refusal) = ((reply.Refused (error.SetDefault refusal), t), guards)
-
   -- a new guard has the next number
+  abbrev pub set_default_gives : Table S C → List (Option DefaultGuard) → ℕ → Option ℕ → (CommandReply S C × Table S C) × List (Option DefaultGuard)
+  set_default_gives t guards lane dispatch = ((reply.Guard (length guards), locally t lane dispatch), guards ++ Some (guard_of t lane) ∷ [])
+
+  abbrev pub SetDefaultRunsAt : Table S C → List (Option DefaultGuard) → ℕ → Option ℕ → Option SetDefaultError → CommandReply S C → Table S C → List (Option DefaultGuard) → Type 0
+  SetDefaultRunsAt t guards lane dispatch (Some refusal) answer u left = (answer ≡ reply.Refused (error.SetDefault refusal)) × (u ≡ t) × (left ≡ guards)
+  SetDefaultRunsAt t guards lane dispatch None answer u left =
+      OrNoRoom answer ((u ≡ t) × (left ≡ guards)) (((answer, u), left) ≡ set_default_gives t guards lane dispatch)
+
+  -- a default is set where nothing refuses it
   abbrev pub SetDefaultRuns : Table S C → List (Option DefaultGuard) → ℕ → Option (Option ℕ) → CommandReply S C → Table S C → List (Option DefaultGuard) → Type 0
   SetDefaultRuns t guards lane None answer u left = (answer ≡ reply.Refused error.UnknownHandle) × (u ≡ t) × (left ≡ guards)
   SetDefaultRuns t guards lane (Some dispatch) answer u left =
-      OrNoRoom answer ((u ≡ t) × (left ≡ guards)) (((answer, u), left) ≡ set_default_gives t guards lane dispatch (default_refusal t lane dispatch))
+      SetDefaultRunsAt t guards lane dispatch (default_refusal t lane dispatch) answer u left
 
   abbrev pub reset_runs_at : Table S C → List (Option DefaultGuard) → ℕ → ℕ → Option DefaultGuard → (CommandReply S C × Table S C) × List (Option DefaultGuard)
   reset_runs_at t guards lane number None = ((reply.Refused error.UnknownGuard, t), guards)
@@ -102,16 +108,23 @@ module _ {S C : Type 0} where
   abbrev pub reset_runs : Table S C → List (Option DefaultGuard) → ℕ → ℕ → (CommandReply S C × Table S C) × List (Option DefaultGuard)
   reset_runs t guards lane number = reset_runs_at t guards lane number (item_of guards number)
 
-  abbrev pub clone_gives : Table S C → List (Option (Option ℕ)) → Option ℕ → Option HandleError → (CommandReply S C × Table S C) × List (Option (Option ℕ))
-  clone_gives t handles dispatch None = ((reply.Handle (length handles), holding t dispatch), handles ++ Some dispatch ∷ [])
-  clone_gives t handles dispatch (Some refusal) = ((reply.Refused (error.Handle refusal), t), handles)
+  -- a further handle has the next number
+  abbrev pub hold_gives : Table S C → List (Option (Option ℕ)) → Option ℕ → (CommandReply S C × Table S C) × List (Option (Option ℕ))
+  hold_gives t handles dispatch = ((reply.Handle (length handles), holding t dispatch), handles ++ Some dispatch ∷ [])
+
+  -- a further handle, where nothing refuses it
+  abbrev pub HoldRuns : Table S C → List (Option (Option ℕ)) → Option ℕ → (HandleError → CommandReply S C) → Option HandleError → CommandReply S C → Table S C → List (Option (Option ℕ)) → Type 0
+  HoldRuns t handles dispatch told (Some refusal) answer u left = (answer ≡ told refusal) × (u ≡ t) × (left ≡ handles)
+  HoldRuns t handles dispatch told None answer u left = OrNoRoom answer ((u ≡ t) × (left ≡ handles)) (((answer, u), left) ≡ hold_gives t handles dispatch)
+
+  abbrev pub clone_refused : HandleError → CommandReply S C
+  clone_refused refusal = reply.Refused (error.Handle refusal)
 
   abbrev pub CloneRunsAt : Table S C → List (Option (Option ℕ)) → Option (Option ℕ) → CommandReply S C → Table S C → List (Option (Option ℕ)) → Type 0
   CloneRunsAt t handles None answer u left = (answer ≡ reply.Refused error.UnknownHandle) × (u ≡ t) × (left ≡ handles)
-  CloneRunsAt t handles (Some dispatch) answer u left =
-      OrNoRoom answer ((u ≡ t) × (left ≡ handles)) (((answer, u), left) ≡ clone_gives t handles dispatch (hold_refusal dispatch t.entries))
+  CloneRunsAt t handles (Some dispatch) answer u left = HoldRuns t handles dispatch clone_refused (hold_refusal dispatch t.entries) answer u left
 
-  -- a further handle has the next number
+  -- a handle becomes two
   abbrev pub CloneRuns : Table S C → List (Option (Option ℕ)) → ℕ → CommandReply S C → Table S C → List (Option (Option ℕ)) → Type 0
   CloneRuns t handles number answer u left = CloneRunsAt t handles (item_of handles number) answer u left
 
@@ -124,16 +137,14 @@ module _ {S C : Type 0} where
   abbrev pub DowngradeRuns : List (Option (Option ℕ)) → List (Option ℕ) → ℕ → CommandReply S C → List (Option ℕ) → Type 0
   DowngradeRuns handles weak number answer left = DowngradeRunsAt weak (item_of handles number) answer left
 
-  abbrev pub upgrade_gives : List (Option (Option ℕ)) → Table S C → Result (Option (Option ℕ)) TooManyHandles → (CommandReply S C × Table S C) × List (Option (Option ℕ))
-  upgrade_gives handles holds (Ok (Some dispatch)) = ((reply.Handle (length handles), holds), handles ++ Some dispatch ∷ [])
-  upgrade_gives handles holds (Ok None) = ((reply.Gone, holds), handles)
-  upgrade_gives handles holds (Err refusal) = ((reply.Refused error.TooManyHandles, holds), handles)
+  -- the subscriber of a weak handle may have been released
+  abbrev pub upgrade_refused : HandleError → CommandReply S C
+  upgrade_refused Unknown = reply.Gone
+  upgrade_refused TooMany = reply.Refused error.TooManyHandles
 
   abbrev pub UpgradeRunsAt : Table S C → List (Option (Option ℕ)) → Option (Option ℕ) → CommandReply S C → Table S C → List (Option (Option ℕ)) → Type 0
   UpgradeRunsAt t handles None answer u left = (answer ≡ reply.Refused error.UnknownWeakHandle) × (u ≡ t) × (left ≡ handles)
-  UpgradeRunsAt t handles (Some dispatch) answer u left =
-      let refusal = hold_refusal dispatch t.entries in
-      OrNoRoom answer ((u ≡ t) × (left ≡ handles)) (((answer, u), left) ≡ upgrade_gives handles (or_same refusal t (holding t dispatch)) (upgrade_answer dispatch refusal))
+  UpgradeRunsAt t handles (Some dispatch) answer u left = HoldRuns t handles dispatch upgrade_refused (hold_refusal dispatch t.entries) answer u left
 
   -- a weak handle becomes a handle where its subscriber lives
   abbrev pub UpgradeRuns : Table S C → List (Option ℕ) → List (Option (Option ℕ)) → ℕ → CommandReply S C → Table S C → List (Option (Option ℕ)) → Type 0
@@ -176,7 +187,7 @@ module _ {S : Type 0} (g : Ghosts S) {C : Type 0} (h : SiteGhosts C) where
   CommandGives t b (command.Register callsite) answer u c = RegisterRuns t callsite answer u × (c ≡ b)
   CommandGives t b (command.RegisterOnce callsite) answer u c = RegisterOnceRuns t callsite answer u × (c ≡ b)
   CommandGives t b command.RebuildInterestCache answer u c = (answer ≡ reply.Done) × Rebuilt g h t u × (c ≡ b)
-  CommandGives t b command.Refresh answer u c = (answer ≡ reply.Done) × Rebuilt g h t u × (c ≡ b)
+  CommandGives t b command.Refresh answer u c = (answer ≡ reply.Done) × Refreshed g h t u × (c ≡ b)
   CommandGives t b command.MaxLevel answer u c = (answer ≡ reply.Level t.greatest) × (u ≡ t) × (c ≡ b)
   CommandGives t b (command.SetGlobalDefault handle) answer u c = ((answer, u) ≡ global_gives t (named b.handles handle)) × (c ≡ b)
   CommandGives t b command.HasBeenSet answer u c = (answer ≡ reply.Set (was_set t.global)) × (u ≡ t) × (c ≡ b)

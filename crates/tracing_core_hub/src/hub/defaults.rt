@@ -10,6 +10,7 @@ use crate::dispatch::Dispatch;
 use crate::guard::{DefaultGuard, WrongLane};
 use crate::hub::Hub;
 use crate::hub::entries::{give_back, take_handle};
+use crate::hub::lending::hold_refusal;
 use crate::hub::parts::{Lane, Setting, lane_at};
 use crate::refusal::{SetDefaultError, SetGlobalDefaultError, UnknownLane};
 use crate::subscriber::Subscriber;
@@ -63,6 +64,19 @@ impl<S, C> Hub<S, C> {
                 Ok(())
             }
             Err(error) => Err(SetGlobalDefaultError::Handle(error)),
+        }
+    }
+
+    // Why the default of a lane isn't set to the subscriber of the handle.
+    pub(crate) fn default_refusal(&self, lane: u64, dispatch: &Dispatch) -> Option<SetDefaultError>
+        ensures { result ≡ default_refusal self.now lane dispatch.now }
+    {
+        let Some(Lane::Running(_)) = lane_at(&self.lanes, lane) else {
+            return Some(SetDefaultError::UnknownLane);
+        };
+        match hold_refusal(&self.entries, dispatch.serial()) {
+            None => None,
+            Some(error) => Some(SetDefaultError::Handle(error)),
         }
     }
 

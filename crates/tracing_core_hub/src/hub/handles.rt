@@ -8,10 +8,18 @@ use crate::callsite::Callsite;
 use crate::dispatch::{Dispatch, WeakDispatch};
 use crate::hub::Hub;
 use crate::hub::entries::{give_back, take_handle};
+use crate::hub::lending::hold_refusal;
 use crate::refusal::{HandleError, TooManyHandles};
 use crate::subscriber::Subscriber;
 
 impl<S, C> Hub<S, C> {
+    // Why there can't be a further handle to the subscriber of the number.
+    pub(crate) fn further_refusal(&self, serial: Option<u64>) -> Option<HandleError>
+        ensures { result ≡ hold_refusal serial self.now.entries }
+    {
+        hold_refusal(&self.entries, serial)
+    }
+
     // One handle more.
     fn take_another(&mut self, dispatch: &Dispatch) -> Result<Dispatch, HandleError>
         ensures answer { result ≡ or_refused (hold_refusal dispatch.now self.old.entries) dispatch.now }

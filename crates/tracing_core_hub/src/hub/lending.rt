@@ -2,6 +2,7 @@
 ghost use Rattle.std.specs.Borrow.{sem};
 ghost use Rattle.std.specs.Option.{option_map};
 ghost use Rattle.std.specs.Prelude.{◌≡◌};
+ghost use Rattle.tracing_core_hub.specs.Handles.{hold_refusal};
 ghost use Rattle.tracing_core_hub.specs.Keeping.{KeepsOthers};
 ghost use Rattle.tracing_core_hub.specs.Lent.{living_of, lent_to, IsPlaceOrEnd, IsPlaceToLend};
 ghost use Rattle.tracing_core_hub.specs.Lending.{LendsSubscriber};
@@ -11,6 +12,7 @@ use crate::dispatch::Dispatch;
 use crate::hub::Hub;
 use crate::hub::entries::place_of;
 use crate::hub::parts::Entry;
+use crate::refusal::HandleError;
 use crate::subscriber::Subscriber;
 
 impl<S, C> Hub<S, C> {
@@ -64,6 +66,20 @@ pub(crate) fn place_or_end<S>(entries: &[Entry<S>], serial: Option<u64>) -> usiz
     match place_of(entries, serial) {
         None => entries.len(),
         Some(place) => place,
+    }
+}
+
+// Why there can't be one more handle to the subscriber of the number.
+pub(crate) fn hold_refusal<S>(entries: &[Entry<S>], serial: Option<u64>) -> Option<HandleError>
+    ensures { result ≡ hold_refusal serial entries.now }
+{
+    if serial.is_none() {
+        return None;
+    }
+    match entries.get(place_or_end(entries, serial)) {
+        None => Some(HandleError::Unknown),
+        Some(entry) if entry.handles == u64::MAX => Some(HandleError::TooMany),
+        Some(_) => None,
     }
 }
 

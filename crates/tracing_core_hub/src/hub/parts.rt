@@ -9,7 +9,7 @@ use tracing_core_fields::Level;
 pub(crate) struct Entry<S> {
     pub(crate) serial: u64,
     pub(crate) handles: u64,
-    // whether it was lent for writing since it was last asked
+    // whether it was lent for writing since it was last asked, or was never asked
     pub(crate) lent: bool,
     pub(crate) subscriber: S,
 }

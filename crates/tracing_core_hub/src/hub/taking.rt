@@ -1,9 +1,10 @@
 //! Taking subscribers and callsites, and asking all again.
-ghost use Rattle.std.specs.Prelude.{◌≡◌, Some, [], IfOk};
+ghost use Rattle.std.specs.Prelude.{◌≡◌, ◌==◌, Some, [], true, IfOk};
 ghost use Rattle.tracing_core_hub.specs.Commands.{Rebuilt, AddGives, RegisterGives, RegisterOnceGives, kept_alike, row_of};
-ghost use Rattle.tracing_core_hub.specs.Handles.{entry_of};
+ghost use Rattle.tracing_core_hub.specs.Handles.{entry_of, most};
 ghost use Rattle.tracing_core_hub.specs.Keeping.{Keeps, IsOff};
 ghost use Rattle.tracing_core_hub.specs.Kept.{Every, IsTrueRow, Kept, asked_anew};
+ghost use Rattle.tracing_core_hub.specs.Refreshing.{Refreshed};
 ghost use Rattle.tracing_core_hub.specs.Sound.{IsSound};
 
 use crate::callsite::Callsite;
@@ -38,18 +39,34 @@ impl<S: Subscriber, C: Callsite> Hub<S, C> {
         self.greatest = ask_hints(&mut self.entries);
     }
 
-    /// Asks again whoever may say something else than what is kept: here everyone.
+    /// Asks again whoever was lent since it was last asked, and maybe others, and forms what is kept anew: of
+    /// whom it doesn't ask, it takes the kept answers. Then no subscriber counts as lent.
     pub fn refresh(&mut self)
-        ensures asked { Rebuilt ⟦<S as Subscriber>⟧ ⟦<C as Callsite>⟧ self.old self.new }
-        ensures right { (e : Entry S) → entry_of e.serial self.old.entries ≡ Some e → S.steady e.subscriber → Every (IsTrueRow ⟦<C as Callsite>⟧) self.old.rows →
+        ensures asked { Refreshed ⟦<S as Subscriber>⟧ ⟦<C as Callsite>⟧ self.old self.new }
+        // Then what is kept is right of each that was lent and keeps its word.
+        ensures right { (e : Entry S) → entry_of e.serial self.old.entries ≡ Some e → e.lent ≡ true → S.steady e.subscriber → Every (IsTrueRow ⟦<C as Callsite>⟧) self.old.rows →
             ((z : S) × Kept ⟦<S as Subscriber>⟧ ⟦<C as Callsite>⟧ self.new (asked_anew z e)) }
         ensures keeps { Keeps ⟦<S as Subscriber>⟧ ⟦<C as Callsite>⟧ self.old self.new }
         ensures nobody { self.old.entries ≡ [] → IsOff self.new }
     {
-        self.rebuild_interest_cache()
+        self.ask_again()
     }
 
-    // Takes a subscriber, and asks all.
+    // Asks again: here everyone, since no answers are kept but the common ones.
+    fn ask_again(&mut self)
+        ensures { Refreshed ⟦<S as Subscriber>⟧ ⟦<C as Callsite>⟧ self.old self.new }
+    {
+        self.ask_all_again();
+    }
+
+    // Whether every number was given.
+    pub(crate) fn numbers_are_spent(&self) -> bool
+        ensures { result ≡ (self.now.next == most) }
+    {
+        self.next == u64::MAX
+    }
+
+    // Takes a subscriber, and asks again.
     fn take_in(&mut self, subscriber: S) -> Result<Dispatch, AddError<S>>
         ensures { AddGives ⟦<S as Subscriber>⟧ ⟦<C as Callsite>⟧ self.old subscriber result self.new }
     {
@@ -65,11 +82,11 @@ impl<S: Subscriber, C: Callsite> Hub<S, C> {
         self.entries.push_reserved(Entry {
             serial,
             handles: 1,
-            lent: false,
+            lent: true,
             subscriber,
         });
         self.next = serial + 1;
-        self.ask_all_again();
+        self.ask_again();
         Ok(Dispatch::new(Some(serial)))
     }
 
@@ -114,8 +131,8 @@ impl<S: Subscriber, C: Callsite> Hub<S, C> {
         }
     }
 
-    /// Takes a subscriber, tells it its handle, and rebuilds what is kept. It comes back where there is no
-    /// memory for it, or no number is left; then it wasn't told anything.
+    /// Takes a subscriber, tells it its handle, and asks it, and others as [`Hub::refresh`] does. It comes back
+    /// where no number is left, or else there is no memory for it; then it wasn't told anything.
     pub fn add(&mut self, subscriber: S) -> Result<Dispatch, AddError<S>>
         ensures gives { AddGives ⟦<S as Subscriber>⟧ ⟦<C as Callsite>⟧ self.old subscriber result self.new }
         // Then what is kept is right of the new one too, if it keeps its word.

@@ -72,6 +72,9 @@ impl<S: Subscriber, C: Callsite> Hub<S, C> {
         let Some(dispatch) = find_named(handles, number) else {
             return CommandReply::Refused(CommandError::UnknownHandle);
         };
+        if let Some(error) = self.default_refusal(lane, &dispatch) {
+            return CommandReply::Refused(CommandError::SetDefault(error));
+        }
         if guards.reserve(1).is_err() {
             return CommandReply::Refused(CommandError::OutOfMemory);
         }

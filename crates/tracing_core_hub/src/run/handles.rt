@@ -1,14 +1,24 @@
 //! Commands on handles.
 ghost use Rattle.std.specs.Prelude.{◌≡◌};
-ghost use Rattle.tracing_core_hub.specs.Running.{AddRuns, CloneRuns, DowngradeRuns, UpgradeRuns, release_gives};
+ghost use Rattle.tracing_core_hub.specs.Running.{AddRuns, CloneRuns, DowngradeRuns, UpgradeRuns, release_gives, upgrade_refused};
 
 use crate::callsite::Callsite;
 use crate::dispatch::{Dispatch, WeakDispatch};
 use crate::hub::Hub;
-use crate::refusal::AddError;
+use crate::refusal::{AddError, HandleError};
 use crate::run::book::{find_handle, keep, spend};
 use crate::run::command::{CommandError, CommandReply};
 use crate::subscriber::Subscriber;
+
+// What is replied where a weak handle doesn't become a handle.
+fn upgrade_refused<S, C>(error: HandleError) -> CommandReply<S, C>
+    ensures { result ≡ upgrade_refused error }
+{
+    match error {
+        HandleError::Unknown => CommandReply::Gone,
+        HandleError::TooMany => CommandReply::Refused(CommandError::TooManyHandles),
+    }
+}
 
 impl<S: Subscriber, C: Callsite> Hub<S, C> {
     pub(crate) fn run_add(
@@ -18,6 +28,9 @@ impl<S: Subscriber, C: Callsite> Hub<S, C> {
     ) -> CommandReply<S, C>
         ensures { AddRuns ⟦<S as Subscriber>⟧ ⟦<C as Callsite>⟧ self.old handles.old.items subscriber result self.new handles.new.items }
     {
+        if self.numbers_are_spent() {
+            return CommandReply::Refused(CommandError::Add(AddError::NumbersSpent(subscriber)));
+        }
         if handles.reserve(1).is_err() {
             return CommandReply::Refused(CommandError::Add(AddError::OutOfMemory(subscriber)));
         }
@@ -37,6 +50,9 @@ impl<S: Subscriber, C: Callsite> Hub<S, C> {
         let Some(dispatch) = find_handle(handles, number) else {
             return CommandReply::Refused(CommandError::UnknownHandle);
         };
+        if let Some(error) = self.further_refusal(dispatch.serial()) {
+            return CommandReply::Refused(CommandError::Handle(error));
+        }
         if handles.reserve(1).is_err() {
             return CommandReply::Refused(CommandError::OutOfMemory);
         }
@@ -74,6 +90,9 @@ impl<S: Subscriber, C: Callsite> Hub<S, C> {
         let Some(dispatch) = weak.get(number as usize) else {
             return CommandReply::Refused(CommandError::UnknownWeakHandle);
         };
+        if let Some(error) = self.further_refusal(dispatch.serial()) {
+            return upgrade_refused(error);
+        }
         if handles.reserve(1).is_err() {
             return CommandReply::Refused(CommandError::OutOfMemory);
         }

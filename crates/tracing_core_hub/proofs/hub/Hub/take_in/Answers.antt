@@ -1,6 +1,7 @@
 use Rattle.std.proofs.Common.{◌≡◌, ◌+◌, ap, ◌∙◌, subst, List, [], ◌∷◌, ◌++◌}
 use Rattle.tracing_core_hub.specs.Calls.{DispatchRegistered}
-use Rattle.tracing_core_hub.specs.Commands.{Rebuilt, living}
+use Rattle.tracing_core_hub.specs.Commands.{living}
+use Rattle.tracing_core_hub.specs.Refreshing.{Refreshed}
 use Rattle.tracing_core_hub.specs.declared.hub.parts.Entry.{Entry}
 use Rattle.tracing_core_hub.proofs.hub.Hub.take_in.Goals as goal
 
@@ -14,6 +15,6 @@ returns g c =
       (
         z,
         subst (λ d. g.S.Subscriber.moves c.args.subscriber (DispatchRegistered d) tt z) c.new.ensures c.on_register_dispatch.ensures,
-        subst (λ (es : List (Entry g.row.S.Denot)). Rebuilt g.S.Subscriber g.C.Callsite (record { entries = es; next = i.next + 1; rows = i.rows.items; lanes = i.lanes.items; entered = i.entered.items; global = i.global; greatest = i.greatest }) c.ask_all_again.new.self) pushed c.ask_all_again.ensures,
+        subst (λ (es : List (Entry g.row.S.Denot)). Refreshed g.S.Subscriber g.C.Callsite (record { entries = es; next = i.next + 1; rows = i.rows.items; lanes = i.lanes.items; entered = i.entered.items; global = i.global; greatest = i.greatest }) c.ask_again.new.self) pushed c.ask_again.ensures,
       ),
     )

@@ -1,0 +1,62 @@
+-- Asking again whoever was never asked or was lent since, and maybe others.
+use Rattle.std.specs.Prelude.{◌≡◌, ◌≤◌, ◌⊎◌, ℕ, max, false, List, Option, None}
+use Rattle.tracing_core_hub.specs.Asking.{Each, joined, settled, level_of}
+use Rattle.tracing_core_hub.specs.Calls.{CallsiteRegistered, HintAsked}
+use Rattle.tracing_core_hub.specs.Interests.{PlainInterest}
+use Rattle.tracing_core_hub.specs.Kept.{Covers, Kept}
+use Rattle.tracing_core_hub.specs.Table.{Table}
+use Rattle.tracing_core_hub.specs.declared.callsite.Callsite.{Ghosts as SiteGhosts}
+use Rattle.tracing_core_hub.specs.declared.hub.parts.Entry.{Entry}
+use Rattle.tracing_core_hub.specs.declared.hub.parts.Row.{Row}
+use Rattle.tracing_core_hub.specs.declared.subscriber.Subscriber.{Ghosts}
+
+module _ {S C : Type 0} (g : Ghosts S) (h : SiteGhosts C) (t : Table S C) where
+  -- this is true of the subscriber of the number, if what the table keeps is right of it
+  abbrev pub WhereRight : ℕ → (S → Type 0) → Type 0
+  WhereRight serial P = (x : Entry S) → x.serial ≡ serial → Kept g h t x → P x.subscriber
+
+  -- it was asked of the callsite, and answered this
+  abbrev pub Answers : Row C → Entry S → PlainInterest → Entry S → Type 0
+  Answers row e k f =
+      let m = h.metadata_of row.callsite in
+      g.says e.subscriber m k × g.moves e.subscriber (CallsiteRegistered m) k f.subscriber × (f ≡ record e { subscriber = f.subscriber })
+
+  -- it was asked before and not lent since, and this is its kept answer, which what is kept of the callsite covers
+  abbrev pub Answered : Row C → Entry S → PlainInterest → Entry S → Type 0
+  Answered row e k f =
+      (e.lent ≡ false) × (f ≡ e) × Covers row.interest k
+      × WhereRight e.serial (λ subscriber. g.says subscriber (h.metadata_of row.callsite) k)
+
+  -- its answer, of now or before, joined those of the others
+  abbrev pub Joins : Row C → Option PlainInterest → Entry S → Entry S → Option PlainInterest → Type 0
+  Joins row before e f after = (k : PlainInterest) × (Answers row e k f ⊎ Answered row e k f) × (after ≡ joined before k)
+
+  -- the callsite was told the common interest of all answers
+  abbrev pub RowRefreshed : List (Entry S) → Row C → Row C → List (Entry S) → Type 0
+  RowRefreshed es row later fs =
+      ((o : Option PlainInterest) × Each (Joins row) None es fs o × (later.interest ≡ settled o))
+      × (h.metadata_of later.callsite ≡ h.metadata_of row.callsite) × (h.interest_of later.callsite ≡ later.interest)
+      × (later ≡ record row { callsite = later.callsite; interest = later.interest })
+
+  -- it was asked for its hint, and gave this
+  abbrev pub Tells : Entry S → Option ℕ → Entry S → Type 0
+  Tells e top f =
+      (top ≡ g.hint e.subscriber) × g.moves e.subscriber HintAsked (g.hint e.subscriber) f.subscriber
+      × (f ≡ record e { lent = false; subscriber = f.subscriber })
+
+  -- it was asked before and not lent since, and this is its kept hint, which the greatest level covers
+  abbrev pub Told : Entry S → Option ℕ → Entry S → Type 0
+  Told e top f =
+      (e.lent ≡ false) × (f ≡ e) × (level_of top ≤ t.greatest) × WhereRight e.serial (λ subscriber. top ≡ g.hint subscriber)
+
+  -- the greatest level grew to its hint, of now or before
+  abbrev pub Raises : ℕ → Entry S → Entry S → ℕ → Type 0
+  Raises before e f after = (top : Option ℕ) × (Tells e top f ⊎ Told e top f) × (after ≡ max before (level_of top))
+
+  -- each subscriber was asked of each callsite and for its hint, or it was asked before and not lent since:
+  -- then its kept answers count
+  pub record Refreshed (u : Table S C) : Type 0 where
+    pub asked : List (Entry S)
+    pub rows : Each RowRefreshed t.entries t.rows u.rows asked
+    pub hints : Each Raises 0 asked u.entries u.greatest
+    pub rest : u ≡ record t { entries = u.entries; rows = u.rows; greatest = u.greatest }
