@@ -5,6 +5,7 @@ pub mod Asks
 pub mod Tables
 pub mod Keeping
 pub mod Living
+pub mod Later
 pub mod Sounding
 pub mod Refreshing
 pub mod Words

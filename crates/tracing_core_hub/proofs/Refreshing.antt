@@ -97,12 +97,15 @@ module _ {S C : Type 0} (g : Ghosts S) (h : SiteGhosts C) (t : Table S C) where
         rows_true each.0 fs rows laters each.2 known.1,
       )
 
+  -- nobody came or went
+  pub refreshed_serials : (u : Table S C) → Refreshed g h t u → serials u.entries ≡ serials t.entries
+  refreshed_serials u r = hints_serials r.asked u.entries 0 u.greatest r.hints ∙ rows_serials t.entries r.asked t.rows u.rows r.rows
+
   pub refreshed_sound : (u : Table S C) → Refreshed g h t u → IsSound h t → IsSound h u
   refreshed_sound u r sound =
       let next : u.next ≡ t.next = ap (λ (v : Table S C). v.next) r.rest in
-      let numbers : serials u.entries ≡ serials t.entries = hints_serials r.asked u.entries 0 u.greatest r.hints ∙ rows_serials t.entries r.asked t.rows u.rows r.rows in
       record {
-        numbers = subst (λ n. Ascends 0 (serials u.entries) n) (sym next) (subst (λ ns. Ascends 0 ns t.next) (sym numbers) sound.numbers);
+        numbers = subst (λ n. Ascends 0 (serials u.entries) n) (sym next) (subst (λ ns. Ascends 0 ns t.next) (sym (refreshed_serials u r)) sound.numbers);
         apart = subst AreDistinct (sym (rows_identifiers t.entries r.asked t.rows u.rows r.rows)) sound.apart;
         sites = rows_true t.entries r.asked t.rows u.rows r.rows sound.sites;
       }

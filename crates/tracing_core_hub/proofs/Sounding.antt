@@ -1,8 +1,8 @@
 -- What commands leave sound.
 use Rattle.std.proofs.Common.{◌≡◌, ℕ, ◌+◌, true, false, List, [], ◌∷◌, ◌++◌, Option, Some, None, refl, ap, sym, ◌∙◌, subst, arith}
 use Rattle.tracing_core_fields.specs.PlainMetadata.{PlainMetadata}
-use Rattle.tracing_core_hub.specs.Asking.{Each, Registers, Hints, RowAsked}
-use Rattle.tracing_core_hub.specs.Commands.{Rebuilt, Registered, living, new_row, row_of, is_at}
+use Rattle.tracing_core_hub.specs.Asking.{Each, Registers, RowAsked}
+use Rattle.tracing_core_hub.specs.Commands.{Registered, living, new_row, row_of, is_at}
 use Rattle.tracing_core_hub.specs.Interests.{PlainInterest}
 use Rattle.tracing_core_hub.specs.Kept.{Every, IsTrueRow}
 use Rattle.tracing_core_hub.specs.Sound.{Ascends, AreDistinct, IsSound, serials, identifiers}
@@ -51,25 +51,8 @@ module _ {S C : Type 0} (h : SiteGhosts C) where
       }
 
   module _ (g : Ghosts S) where
-    asked_serials : (m : PlainMetadata) (es fs : List (Entry S)) (k last : Option PlainInterest) → Each (Registers g m) k es fs last → serials fs ≡ serials es
+    pub asked_serials : (m : PlainMetadata) (es fs : List (Entry S)) (k last : Option PlainInterest) → Each (Registers g m) k es fs last → serials fs ≡ serials es
     asked_serials m es fs k last each = each_serials (Registers g m) (λ k j x y r. ap (λ (e : Entry S). e.serial) r.3) k last es fs each
-
-    hinted_serials : (es fs : List (Entry S)) (k last : ℕ) → Each (Hints g) k es fs last → serials fs ≡ serials es
-    hinted_serials es fs k last each = each_serials (Hints g) (λ k j x y r. ap (λ (e : Entry S). e.serial) r.1) k last es fs each
-
-    rows_serials : (es fs : List (Entry S)) (rows laters : List (Row C)) → Each (RowAsked g h) es rows laters fs → serials fs ≡ serials es
-    rows_serials es fs [] [] each = ap (λ (xs : List (Entry S)). serials xs) each
-    rows_serials es fs [] (later ∷ laters) each = absurd each
-    rows_serials es fs (row ∷ rows) [] each = absurd each
-    rows_serials es fs (row ∷ rows) (later ∷ laters) each =
-        rows_serials each.0 fs rows laters each.2 ∙ asked_serials (h.metadata_of row.callsite) es each.0 None each.1.0.0 each.1.0.1
-
-    rows_identifiers : (es fs : List (Entry S)) (rows laters : List (Row C)) → Each (RowAsked g h) es rows laters fs → identifiers laters ≡ identifiers rows
-    rows_identifiers es fs [] [] each = refl
-    rows_identifiers es fs [] (later ∷ laters) each = absurd each
-    rows_identifiers es fs (row ∷ rows) [] each = absurd each
-    rows_identifiers es fs (row ∷ rows) (later ∷ laters) each =
-        ap (λ n. n ∷ identifiers laters) (ap (λ (r : Row C). r.identifier) each.1.3) ∙ ap (λ ns. row.identifier ∷ ns) (rows_identifiers each.0 fs rows laters each.2)
 
     -- what was true of a callsite is true of it once it was asked of
     pub row_true : (es fs : List (Entry S)) (row later : Row C) → RowAsked g h es row later fs → IsTrueRow h row → IsTrueRow h later
@@ -78,22 +61,6 @@ module _ {S C : Type 0} (h : SiteGhosts C) where
       subst IsReal (sym turn.1) known.1,
       ap (λ (r : Row C). r.identifier) turn.3 ∙ known.2 ∙ ap (λ (x : PlainMetadata). x.callsite) (sym turn.1),
     )
-
-    rows_true : (es fs : List (Entry S)) (rows laters : List (Row C)) → Each (RowAsked g h) es rows laters fs → Every (IsTrueRow h) rows → Every (IsTrueRow h) laters
-    rows_true es fs [] [] each known = tt
-    rows_true es fs [] (later ∷ laters) each known = absurd each
-    rows_true es fs (row ∷ rows) [] each known = absurd each
-    rows_true es fs (row ∷ rows) (later ∷ laters) each known = (row_true es each.0 row later each.1 known.0, rows_true each.0 fs rows laters each.2 known.1)
-
-    pub rebuilt_sound : (t u : Table S C) → Rebuilt g h t u → IsSound h t → IsSound h u
-    rebuilt_sound t u r sound =
-        let next : u.next ≡ t.next = ap (λ (v : Table S C). v.next) r.rest in
-        let numbers : serials u.entries ≡ serials t.entries = hinted_serials r.asked u.entries 0 u.greatest r.hints ∙ rows_serials t.entries r.asked t.rows u.rows r.rows in
-        record {
-          numbers = subst (λ n. Ascends 0 (serials u.entries) n) (sym next) (subst (λ ns. Ascends 0 ns t.next) (sym numbers) sound.numbers);
-          apart = subst AreDistinct (sym (rows_identifiers t.entries r.asked t.rows u.rows r.rows)) sound.apart;
-          sites = rows_true t.entries r.asked t.rows u.rows r.rows sound.sites;
-        }
 
     -- with a new subscriber, which has the next number
     pub added_sound : (t : Table S C) (z : S) → IsSound h t → IsSound h (record t { entries = t.entries ++ living t.next z ∷ []; next = t.next + 1 })

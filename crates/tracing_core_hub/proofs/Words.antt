@@ -1,16 +1,16 @@
 -- What commands leave of the word of all.
-use Rattle.std.proofs.Common.{◌≡◌, ℕ, ◌+◌, ◌≤◌, Bool, true, false, nat_le, List, [], ◌∷◌, ◌++◌, Option, Some, None, Result, Ok, Err, refl, ap, sym, ◌∙◌, subst, inl, inr}
+use Rattle.std.proofs.Common.{◌≡◌, ℕ, ◌+◌, ◌<◌, ◌≤◌, Bool, true, false, nat_le, List, [], ◌∷◌, ◌++◌, Option, Some, None, Result, Ok, Err, refl, ap, sym, ◌∙◌, subst, arith, ◌⊎◌, inl, inr}
 use Rattle.std.specs.Prelude.{if◌then◌else◌, ◌==◌, slice_get, OnOk, OnErr, IfOk}
 use Rattle.std.specs.Cmp.{unsigned_Decides}
 use Rattle.tracing_core_fields.specs.PlainMetadata.{PlainMetadata}
-use Rattle.tracing_core_hub.specs.Asking.{Each, Registers, Hints, RowAsked, level_of, settled}
+use Rattle.tracing_core_hub.specs.Asking.{level_of}
 use Rattle.tracing_core_hub.specs.Calls.{Call, ReplyTo, Asked, CallsiteRegistered, DispatchRegistered}
 use Rattle.tracing_core_hub.specs.Commands.{AskGives, AskGivesAt, AnswerGives, GateGives, GateGivesAt, AddGives, Rebuilt, Registered, RegisterGives, RegisterOnceGives, RegisterOnceGivesAt, becomes, kept_alike, known, living, new_row, reached, row_of}
 use Rattle.tracing_core_hub.specs.Defaults.{holding, letting_go, globally, global_refusal, locally, default_refusal, given_up, end_gives, end_gives_at, reset_gives, reset_gives_at, running}
 use Rattle.tracing_core_hub.specs.Handing.{CallGives, CallGivesAt, HubGives}
 use Rattle.tracing_core_hub.specs.Handles.{entry_of, changed, without, is_of, held, given_back, given_back_at, hold_refusal, one_more, one_less, or_same}
 use Rattle.tracing_core_hub.specs.Interests.{PlainInterest}
-use Rattle.tracing_core_hub.specs.Keeping.{Keeps, KeepsOthers, IsNever, IsOff}
+use Rattle.tracing_core_hub.specs.Keeping.{Keeps, KeepsLiving, KeepsOthers, KeepsBy, StaysRight, IsLater}
 use Rattle.tracing_core_hub.specs.Kept.{Covers, Every, IsTrueRow, RowRight, Kept, asked_anew}
 use Rattle.tracing_core_hub.specs.Lent.{lent_to, given_as}
 use Rattle.tracing_core_hub.specs.Refreshing.{Refreshed}
@@ -34,8 +34,9 @@ use Rattle.tracing_core_hub.specs.declared.hub.parts.Setting.{Setting}
 use Rattle.tracing_core_hub.specs.declared.subscriber.Subscriber.{Ghosts}
 use Rattle.tracing_core_hub.proofs.Keeping.{asked_one, right_onward, row_every, same_word, rebuilt_keeps}
 use Rattle.tracing_core_hub.proofs.Living.{by_bool, if_either, changed_own, changed_other, without_own, without_other, serials_changed, ascends_without, absent_above, entry_appended, entry_last}
-use Rattle.tracing_core_hub.proofs.Refreshing.{refreshed_sound, refreshed_right}
-use Rattle.tracing_core_hub.proofs.Sounding.{every_append, sound_alike, rebuilt_sound, added_sound, registered_sound, row_true, new_row_true}
+use Rattle.tracing_core_hub.proofs.Later.{below_next, later_added, later_alike, later_then, later_without}
+use Rattle.tracing_core_hub.proofs.Refreshing.{rebuilt_refreshed, refreshed_serials, refreshed_sound, refreshed_right}
+use Rattle.tracing_core_hub.proofs.Sounding.{every_append, sound_alike, added_sound, asked_serials, registered_sound, row_true, new_row_true}
 
 -- the rest of the table is as it was
 pub record Alike {S C : Type 0} (t u : Table S C) : Type 0 where
@@ -65,6 +66,7 @@ module _ {S C : Type 0} (g : Ghosts S) (h : SiteGhosts C) where
   same_keeps t u same alike =
       record {
         sound = sound_alike h t u (ap (λ (es : List (Entry S)). serials es) same) alike.next alike.rows;
+        later = λ sound. later_alike t u (ap (λ (es : List (Entry S)). serials es) same) alike.next;
         right_of = λ e kept. (e, refl, kept_moved t u e e kept (subst (λ es. entry_of e.serial es ≡ Some e) (sym same) kept.stands) kept.unlent kept.steady (same_word g e.subscriber) alike);
       }
 
@@ -76,6 +78,7 @@ module _ {S C : Type 0} (g : Ghosts S) (h : SiteGhosts C) where
   counted_keeps n change same lent kept_value t u left alike =
       record {
         sound = sound_alike h t u (ap (λ (es : List (Entry S)). serials es) left ∙ serials_changed n change same t.entries) alike.next alike.rows;
+        later = λ sound. later_alike t u (ap (λ (es : List (Entry S)). serials es) left ∙ serials_changed n change same t.entries) alike.next;
         right_of =
             λ e kept. by_bool (e.serial == n)
             (λ here.
@@ -119,6 +122,11 @@ module _ {S C : Type 0} (g : Ghosts S) (h : SiteGhosts C) where
   same_entry : (es : List (Entry S)) (k : ℕ) (x f : Entry S) → entry_of k es ≡ Some x → entry_of k es ≡ Some f → x ≡ f
   same_entry es k x f a b = let one : Some x ≡ Some f = sym a ∙ b in cc
 
+  -- everyone includes those who live on
+  pub living_from : (t u : Table S C) → Keeps g h t u → KeepsLiving g h t u
+  living_from t u keeps = record { sound = keeps.sound; later = keeps.later; right_of = λ sound e kept. inr (keeps.right_of e kept) }
+
+  -- and these include those who aren't lent
   others_from : (t u : Table S C) → Keeps g h t u → KeepsOthers g h t u
   others_from t u keeps =
       record {
@@ -129,7 +137,7 @@ module _ {S C : Type 0} (g : Ghosts S) (h : SiteGhosts C) where
             subst (Kept g h u) same a.2;
       }
 
-  gone_keeps : (n : ℕ) (t u : Table S C) → u.entries ≡ without n t.entries → Alike t u → KeepsOthers g h t u
+  gone_keeps : (n : ℕ) (t u : Table S C) → u.entries ≡ without n t.entries → Alike t u → KeepsLiving g h t u
   gone_keeps n t u left alike =
       record {
         sound = λ sound. record {
@@ -137,60 +145,60 @@ module _ {S C : Type 0} (g : Ghosts S) (h : SiteGhosts C) where
           apart = (sound_alike h t (record t { rows = u.rows }) refl refl alike.rows sound).apart;
           sites = (sound_alike h t (record t { rows = u.rows }) refl refl alike.rows sound).sites;
         };
-        right_of = λ sound e f kept there unlent.
+        later = λ sound. later_without n t u left alike.next;
+        right_of = λ sound e kept.
             by_bool (e.serial == n)
             (λ here.
             let number : e.serial ≡ n = (unsigned_Decides e.serial n).0 here in
             let gone : entry_of n u.entries ≡ None = subst (λ es. entry_of n es ≡ None) (sym left) (without_own n 0 t.next t.entries sound.numbers) in
-            let found : entry_of n u.entries ≡ Some f = subst (λ k. entry_of k u.entries ≡ Some f) number there in
-            absurd (cc))
+            inl (subst (λ k. entry_of k u.entries ≡ None) (sym number) gone))
             (λ apart.
             let lives : entry_of e.serial u.entries ≡ Some e = subst (λ es. entry_of e.serial es ≡ Some e) (sym left) (without_other e.serial n t.entries apart ∙ kept.stands) in
-            subst (Kept g h u) (same_entry u.entries e.serial e f lives there) (kept_moved t u e e kept lives kept.unlent kept.steady (same_word g e.subscriber) alike));
+            inr (e, refl, kept_moved t u e e kept lives kept.unlent kept.steady (same_word g e.subscriber) alike));
       }
 
-  given_back_by : (b : Bool) (n : ℕ) (released : Option S) (t u : Table S C) → u.entries ≡ (if◌then◌else◌ {A = Option S × List (Entry S)} b (released, without n t.entries) (None, changed n one_less t.entries)).1 → Alike t u → KeepsOthers g h t u
+  given_back_by : (b : Bool) (n : ℕ) (released : Option S) (t u : Table S C) → u.entries ≡ (if◌then◌else◌ {A = Option S × List (Entry S)} b (released, without n t.entries) (None, changed n one_less t.entries)).1 → Alike t u → KeepsLiving g h t u
   given_back_by true n released t u left alike = gone_keeps n t u left alike
-  given_back_by false n released t u left alike = others_from t u (counted_keeps n one_less (λ x. refl) (λ x. refl) (λ x. refl) t u left alike)
+  given_back_by false n released t u left alike = living_from t u (counted_keeps n one_less (λ x. refl) (λ x. refl) (λ x. refl) t u left alike)
 
-  given_back_keeps_at : (n : ℕ) (o : Option (Entry S)) (t u : Table S C) → u.entries ≡ (given_back_at n t.entries o).1 → Alike t u → KeepsOthers g h t u
-  given_back_keeps_at n None t u left alike = others_from t u (same_keeps t u left alike)
+  given_back_keeps_at : (n : ℕ) (o : Option (Entry S)) (t u : Table S C) → u.entries ≡ (given_back_at n t.entries o).1 → Alike t u → KeepsLiving g h t u
+  given_back_keeps_at n None t u left alike = living_from t u (same_keeps t u left alike)
   given_back_keeps_at n (Some e) t u left alike = given_back_by (nat_le e.handles 1) n (Some e.subscriber) t u left alike
 
   -- a handle that is given back
-  pub given_back_keeps : (dispatch : Option ℕ) (t u : Table S C) → u.entries ≡ (given_back dispatch t.entries).1 → Alike t u → KeepsOthers g h t u
-  given_back_keeps None t u left alike = others_from t u (same_keeps t u left alike)
+  pub given_back_keeps : (dispatch : Option ℕ) (t u : Table S C) → u.entries ≡ (given_back dispatch t.entries).1 → Alike t u → KeepsLiving g h t u
+  given_back_keeps None t u left alike = living_from t u (same_keeps t u left alike)
   given_back_keeps (Some n) t u left alike = given_back_keeps_at n (entry_of n t.entries) t u left alike
 
   -- a handle that comes back
-  pub release_keeps : (t u : Table S C) (dispatch : Option ℕ) → u ≡ record t { entries = (given_back dispatch t.entries).1 } → KeepsOthers g h t u
-  release_keeps t u dispatch left = subst (KeepsOthers g h t) (sym left) (given_back_keeps dispatch t (letting_go t dispatch) refl (record { next = refl; rows = refl; greatest = refl }))
+  pub release_keeps : (t u : Table S C) (dispatch : Option ℕ) → u ≡ record t { entries = (given_back dispatch t.entries).1 } → KeepsLiving g h t u
+  release_keeps t u dispatch left = subst (KeepsLiving g h t) (sym left) (given_back_keeps dispatch t (letting_go t dispatch) refl (record { next = refl; rows = refl; greatest = refl }))
 
-  given_up_keeps : (t : Table S C) (lane : ℕ) (setting : Setting) (value : Lane) → KeepsOthers g h t (given_up t lane setting value).1
+  given_up_keeps : (t : Table S C) (lane : ℕ) (setting : Setting) (value : Lane) → KeepsLiving g h t (given_up t lane setting value).1
   given_up_keeps t lane setting value = given_back_keeps (chosen setting) t (given_up t lane setting value).1 refl (record { next = refl; rows = refl; greatest = refl })
 
-  itself_others : (t : Table S C) → KeepsOthers g h t t
-  itself_others t = others_from t t (itself_keeps t)
+  pub itself_living : (t : Table S C) → KeepsLiving g h t t
+  itself_living t = living_from t t (itself_keeps t)
 
-  end_keeps_at : (t : Table S C) (lane : ℕ) (o : Option Setting) → KeepsOthers g h t (end_gives_at t lane o).1
-  end_keeps_at t lane None = itself_others t
+  end_keeps_at : (t : Table S C) (lane : ℕ) (o : Option Setting) → KeepsLiving g h t (end_gives_at t lane o).1
+  end_keeps_at t lane None = itself_living t
   end_keeps_at t lane (Some setting) = given_up_keeps t lane setting Ended
 
   -- the end of a lane
-  pub end_keeps : (t u : Table S C) (lane : ℕ) (r : Result (Option S) UnknownLane) → ◌≡◌ {A = Result (Option S) UnknownLane × Table S C} (r, u) (end_gives t lane) → KeepsOthers g h t u
-  end_keeps t u lane r left = subst (λ (p : Result (Option S) UnknownLane × Table S C). KeepsOthers g h t p.1) (sym left) (end_keeps_at t lane (running (slice_get t.lanes lane)))
+  pub end_keeps : (t u : Table S C) (lane : ℕ) (r : Result (Option S) UnknownLane) → ◌≡◌ {A = Result (Option S) UnknownLane × Table S C} (r, u) (end_gives t lane) → KeepsLiving g h t u
+  end_keeps t u lane r left = subst (λ (p : Result (Option S) UnknownLane × Table S C). KeepsLiving g h t p.1) (sym left) (end_keeps_at t lane (running (slice_get t.lanes lane)))
 
-  reset_keeps_at : (t : Table S C) (lane : ℕ) (guard : DefaultGuard) (o : Option Lane) → KeepsOthers g h t (reset_gives_at t lane guard o).1
-  reset_keeps_at t lane guard None = itself_others t
+  reset_keeps_at : (t : Table S C) (lane : ℕ) (guard : DefaultGuard) (o : Option Lane) → KeepsLiving g h t (reset_gives_at t lane guard o).1
+  reset_keeps_at t lane guard None = itself_living t
   reset_keeps_at t lane guard (Some Ended) = given_up_keeps t lane guard.before Ended
   reset_keeps_at t lane guard (Some (Running present)) = given_up_keeps t lane present (Running guard.before)
 
   -- a guard that is spent
-  pub reset_keeps : (t u : Table S C) (lane : ℕ) (guard : DefaultGuard) (r : Result (Option S) WrongLane) → ◌≡◌ {A = Result (Option S) WrongLane × Table S C} (r, u) (reset_gives t lane guard) → KeepsOthers g h t u
+  pub reset_keeps : (t u : Table S C) (lane : ℕ) (guard : DefaultGuard) (r : Result (Option S) WrongLane) → ◌≡◌ {A = Result (Option S) WrongLane × Table S C} (r, u) (reset_gives t lane guard) → KeepsLiving g h t u
   reset_keeps t u lane guard r left =
-      subst (λ (p : Result (Option S) WrongLane × Table S C). KeepsOthers g h t p.1) (sym left) (
-      if_either (λ (p : Result (Option S) WrongLane × Table S C). KeepsOthers g h t p.1) (guard.lane == lane) (reset_gives_at t lane guard (slice_get t.lanes lane)) (Err (record { 0 = guard }), t)
-      (λ own. reset_keeps_at t lane guard (slice_get t.lanes lane)) (λ other. itself_others t)
+      subst (λ (p : Result (Option S) WrongLane × Table S C). KeepsLiving g h t p.1) (sym left) (
+      if_either (λ (p : Result (Option S) WrongLane × Table S C). KeepsLiving g h t p.1) (guard.lane == lane) (reset_gives_at t lane guard (slice_get t.lanes lane)) (Err (record { 0 = guard }), t)
+      (λ own. reset_keeps_at t lane guard (slice_get t.lanes lane)) (λ other. itself_living t)
       )
 
   lent_keeps_at : (n : ℕ) (w : S) (t : Table S C) → KeepsOthers g h t (record t { entries = changed n (given_as w) t.entries })
@@ -215,13 +223,14 @@ module _ {S C : Type 0} (g : Ghosts S) (h : SiteGhosts C) where
 
   -- lending
   pub lent_keeps : (t : Table S C) (dispatch : Option ℕ) (w : S) → KeepsOthers g h t (record t { entries = lent_to dispatch w t.entries })
-  lent_keeps t None w = itself_others t
+  lent_keeps t None w = others_from t t (itself_keeps t)
   lent_keeps t (Some n) w = lent_keeps_at n w t
 
   moved_keeps_by : (n : ℕ) (x : Entry S) (c : Call) (r : ReplyTo c) (after : S) (t u : Table S C) → IsRealCall c → entry_of n t.entries ≡ Some x → g.moves x.subscriber c r after → u.entries ≡ changed n (becomes after) t.entries → Alike t u → Keeps g h t u
   moved_keeps_by n x c r after t u real there moved left alike =
       record {
         sound = sound_alike h t u (ap (λ (es : List (Entry S)). serials es) left ∙ serials_changed n (becomes after) (λ y. refl) t.entries) alike.next alike.rows;
+        later = λ sound. later_alike t u (ap (λ (es : List (Entry S)). serials es) left ∙ serials_changed n (becomes after) (λ y. refl) t.entries) alike.next;
         right_of = λ e kept.
             by_bool (e.serial == n)
             (λ here.
@@ -292,15 +301,8 @@ module _ {S C : Type 0} (g : Ghosts S) (h : SiteGhosts C) where
   gate_keeps t u identifier place result given =
       record {
         sound = λ sound. let m = gate_moves t u identifier place result given sound.sites in (moved_keeps t u m.0 m.1).sound sound;
+        later = λ sound. let m = gate_moves t u identifier place result given sound.sites in (moved_keeps t u m.0 m.1).later sound;
         right_of = λ e kept. let m = gate_moves t u identifier place result given kept.rows in (moved_keeps t u m.0 m.1).right_of e kept;
-      }
-
-  -- asking all again
-  pub rebuild_keeps : (t u : Table S C) → Rebuilt g h t u → Keeps g h t u
-  rebuild_keeps t u r =
-      record {
-        sound = rebuilt_sound h g t u r;
-        right_of = λ e kept. let a = rebuilt_keeps g h t u e r kept.stands kept.steady kept.rows in (asked_anew a.0 e, refl, a.1);
       }
 
   -- asking again whoever was lent, and maybe others
@@ -308,8 +310,13 @@ module _ {S C : Type 0} (g : Ghosts S) (h : SiteGhosts C) where
   refresh_keeps t u r =
       record {
         sound = refreshed_sound g h t u r;
+        later = λ sound. later_alike t u (refreshed_serials g h t u r) (ap (λ (v : Table S C). v.next) r.rest);
         right_of = λ e kept. let a = refreshed_right g h t u e r (inr kept) kept.stands kept.steady kept.rows in (asked_anew a.0 e, refl, a.1);
       }
+
+  -- asking all again
+  pub rebuild_keeps : (t u : Table S C) → Rebuilt g h t u → Keeps g h t u
+  rebuild_keeps t u r = refresh_keeps t u (rebuilt_refreshed g h t u r)
 
   with_new : Table S C → S → Table S C
   with_new t z = record t { entries = t.entries ++ living t.next z ∷ []; next = t.next + 1 }
@@ -335,6 +342,7 @@ module _ {S C : Type 0} (g : Ghosts S) (h : SiteGhosts C) where
       let asked : Refreshed g h v u = given.1.2 in
       record {
         sound = λ sound. refreshed_sound g h v u asked (added_sound h g t z sound);
+        later = λ sound. later_added t u (living t.next z) refl (refreshed_serials g h v u asked) (ap (λ (w : Table S C). w.next) asked.rest);
         right_of = λ e kept.
             let still : Kept g h v e = kept_with_new t z e kept in
             let a = refreshed_right g h v u e asked (inr still) still.stands kept.steady kept.rows in
@@ -386,6 +394,7 @@ module _ {S C : Type 0} (g : Ghosts S) (h : SiteGhosts C) where
   register_keeps t u callsite (Ok interest) real given =
       record {
         sound = registered_sound h g t u callsite interest real given;
+        later = λ sound. later_alike t u (asked_serials h g (h.metadata_of callsite) t.entries u.entries None given.asked.0.0 given.asked.0.1) (ap (λ (v : Table S C). v.next) given.kept);
         right_of = λ e kept. let a = registered_kept t u callsite interest e real given kept in (becomes a.0 e, refl, a.1);
       }
   register_keeps t u callsite (Err (registering.Taken back)) real given = subst (Keeps g h t) (sym given.2) (itself_keeps t)
@@ -400,26 +409,40 @@ module _ {S C : Type 0} (g : Ghosts S) (h : SiteGhosts C) where
   register_once_keeps t u callsite r real given =
       register_once_keeps_at t u callsite (kept_alike h (h.metadata_of callsite) (row_of (h.metadata_of callsite).callsite t.rows)) r real given
 
-  asked_nobody : (m : PlainMetadata) (fs : List (Entry S)) (last : Option PlainInterest) → Each (Registers g m) None [] fs last → (fs ≡ []) × (last ≡ None)
-  asked_nobody m [] last each = (refl, each)
-  asked_nobody m (f ∷ fs) last each = absurd each
+  -- one command after another
+  pub keeps_then : (t v u : Table S C) → Keeps g h t v → Keeps g h v u → Keeps g h t u
+  keeps_then t v u a b =
+      record {
+        sound = λ sound. b.sound (a.sound sound);
+        later = λ sound. later_then t v u (a.later sound) (b.later (a.sound sound));
+        right_of = λ e kept. let x = a.right_of e kept in let y = b.right_of x.0 x.2 in (y.0, y.1 ∙ x.1, y.2);
+      }
 
-  rows_off : (es fs : List (Entry S)) (rows laters : List (Row C)) → es ≡ [] → Each (RowAsked g h) es rows laters fs → (fs ≡ []) × Every IsNever laters
-  rows_off es fs [] [] none each = (each ∙ none, tt)
-  rows_off es fs [] (later ∷ laters) none each = absurd each
-  rows_off es fs (row ∷ rows) [] none each = absurd each
-  rows_off es fs (row ∷ rows) (later ∷ laters) none each =
-      let m = h.metadata_of row.callsite in
-      let nobody = asked_nobody m each.0 each.1.0.0 (subst (λ xs. Each (Registers g m) None xs each.0 each.1.0.0) none each.1.0.1) in
-      let rest = rows_off each.0 fs rows laters nobody.0 each.2 in
-      (rest.0, (each.1.0.2 ∙ ap settled nobody.1, rest.1))
+  lives_on : (u : Table S C) (e f : Entry S) → f.serial ≡ e.serial → (entry_of f.serial u.entries ≡ None) ⊎ StaysRight g h u f → (entry_of e.serial u.entries ≡ None) ⊎ StaysRight g h u e
+  lives_on u e f same (inl gone) = inl (subst (λ n. entry_of n u.entries ≡ None) same gone)
+  lives_on u e f same (inr right) = inr (right.0, right.1 ∙ same, right.2)
 
-  hints_off : (fs : List (Entry S)) (last : ℕ) → Each (Hints g) 0 [] fs last → last ≡ 0
-  hints_off [] last each = each
-  hints_off (f ∷ fs) last each = absurd each
+  goes_on : (t v u : Table S C) (e : Entry S) → IsSound h t → KeepsLiving g h t v → KeepsLiving g h v u → Kept g h t e → (entry_of e.serial v.entries ≡ None) ⊎ StaysRight g h v e → (entry_of e.serial u.entries ≡ None) ⊎ StaysRight g h u e
+  goes_on t v u e sound a b kept (inl gone) =
+      let below : e.serial < t.next = below_next e.serial 0 t.next t.entries e sound.numbers kept.stands in
+      let onward : t.next ≤ v.next = (a.later sound).next in
+      inl ((b.later (a.sound sound)).gone e.serial (omega arith) gone)
+  goes_on t v u e sound a b kept (inr right) = lives_on u e right.0 right.1 (b.right_of (a.sound sound) right.0 right.2)
 
-  -- where there is nobody, all is off
-  pub rebuilt_off : (t u : Table S C) → Rebuilt g h t u → t.entries ≡ [] → IsOff u
-  rebuilt_off t u r none =
-      let rows = rows_off t.entries r.asked t.rows u.rows none r.rows in
-      (hints_off u.entries u.greatest (subst (λ es. Each (Hints g) 0 es u.entries u.greatest) rows.0 r.hints), rows.1)
+  pub living_then : (t v u : Table S C) → KeepsLiving g h t v → KeepsLiving g h v u → KeepsLiving g h t u
+  living_then t v u a b =
+      record {
+        sound = λ sound. b.sound (a.sound sound);
+        later = λ sound. later_then t v u (a.later sound) (b.later (a.sound sound));
+        right_of = λ sound e kept. goes_on t v u e sound a b kept (a.right_of sound e kept);
+      }
+
+  -- whatever may be given up
+  pub living_by : (b : Bool) (t u : Table S C) → KeepsBy g h b t u → KeepsLiving g h t u
+  living_by true t u keeps = keeps
+  living_by false t u keeps = living_from t u keeps
+
+  -- where nothing is given up
+  pub keeps_by : (b : Bool) (t u : Table S C) → b ≡ false → KeepsBy g h b t u → Keeps g h t u
+  keeps_by true t u none keeps = absurd (cc)
+  keeps_by false t u none keeps = keeps

@@ -1,5 +1,5 @@
 -- What a command leaves of what a hub knows.
-use Rattle.std.specs.Prelude.{◌≡◌, false, Some}
+use Rattle.std.specs.Prelude.{◌≡◌, ◌<◌, ◌≤◌, ◌⊎◌, ℕ, Bool, true, false, Some, None}
 use Rattle.tracing_core_hub.specs.Handles.{entry_of}
 use Rattle.tracing_core_hub.specs.Kept.{Every, Kept}
 use Rattle.tracing_core_hub.specs.Sound.{IsSound}
@@ -17,13 +17,34 @@ IsNever row = row.interest ≡ Never
 abbrev pub IsOff : {S C : Type 0} → Table S C → Type 0
 IsOff t = (t.greatest ≡ 0) × Every IsNever t.rows
 
+-- no number comes back: who is gone stays gone
+pub record IsLater {S C : Type 0} (t u : Table S C) : Type 0 where
+  pub next : t.next ≤ u.next
+  pub gone : (n : ℕ) → n < t.next → entry_of n t.entries ≡ None → entry_of n u.entries ≡ None
+
 module _ {S C : Type 0} (g : Ghosts S) (h : SiteGhosts C) where
+  -- what is kept is right of the subscriber with the number of this one
+  abbrev pub StaysRight : Table S C → Entry S → Type 0
+  StaysRight u e = (f : Entry S) × (f.serial ≡ e.serial) × Kept g h u f
+
   -- the table stays sound, and what is kept stays right of everyone of whom it was right
   pub record Keeps (t u : Table S C) : Type 0 where
     pub sound : IsSound h t → IsSound h u
-    pub right_of : (e : Entry S) → Kept g h t e → (f : Entry S) × (f.serial ≡ e.serial) × Kept g h u f
+    pub later : IsSound h t → IsLater t u
+    pub right_of : (e : Entry S) → Kept g h t e → StaysRight u e
+
+  -- the table stays sound, and what is kept stays right of those who live on
+  pub record KeepsLiving (t u : Table S C) : Type 0 where
+    pub sound : IsSound h t → IsSound h u
+    pub later : IsSound h t → IsLater t u
+    pub right_of : IsSound h t → (e : Entry S) → Kept g h t e → (entry_of e.serial u.entries ≡ None) ⊎ StaysRight u e
 
   -- the table stays sound, and what is kept stays right of those who live on and aren't lent
   pub record KeepsOthers (t u : Table S C) : Type 0 where
     pub sound : IsSound h t → IsSound h u
     pub right_of : IsSound h t → (e f : Entry S) → Kept g h t e → entry_of e.serial u.entries ≡ Some f → f.lent ≡ false → Kept g h u f
+
+  -- by whether something may be given up
+  abbrev pub KeepsBy : Bool → Table S C → Table S C → Type 0
+  KeepsBy true t u = KeepsLiving t u
+  KeepsBy false t u = Keeps t u

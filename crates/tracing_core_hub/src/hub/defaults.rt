@@ -2,7 +2,7 @@
 ghost use Rattle.std.specs.Prelude.{◌≡◌, ◌<◌, length};
 ghost use Rattle.tracing_core_hub.specs.Defaults.{was_set, setting_to, global_refusal, globally, default_refusal, guard_of, locally, end_gives, reset_gives, given_up};
 ghost use Rattle.tracing_core_hub.specs.Handles.{or_refused, or_same};
-ghost use Rattle.tracing_core_hub.specs.Keeping.{Keeps, KeepsOthers};
+ghost use Rattle.tracing_core_hub.specs.Keeping.{Keeps, KeepsLiving};
 ghost use Rattle.tracing_core_hub.specs.Table.{chosen};
 
 use crate::callsite::Callsite;
@@ -163,7 +163,7 @@ impl<S: Subscriber, C: Callsite> Hub<S, C> {
     /// spent in any order. It takes no memory.
     pub fn reset(&mut self, lane: u64, guard: DefaultGuard) -> Result<Option<S>, WrongLane>
         ensures gives { (result, self.new) ≡ reset_gives self.old lane guard }
-        ensures keeps { KeepsOthers ⟦<S as Subscriber>⟧ ⟦<C as Callsite>⟧ self.old self.new }
+        ensures keeps { KeepsLiving ⟦<S as Subscriber>⟧ ⟦<C as Callsite>⟧ self.old self.new }
     {
         self.restore(lane, guard)
     }
@@ -171,7 +171,7 @@ impl<S: Subscriber, C: Callsite> Hub<S, C> {
     /// Ends a lane, which gives up its default. The subscriber that this releases comes back.
     pub fn end_thread(&mut self, lane: u64) -> Result<Option<S>, UnknownLane>
         ensures gives { (result, self.new) ≡ end_gives self.old lane }
-        ensures keeps { KeepsOthers ⟦<S as Subscriber>⟧ ⟦<C as Callsite>⟧ self.old self.new }
+        ensures keeps { KeepsLiving ⟦<S as Subscriber>⟧ ⟦<C as Callsite>⟧ self.old self.new }
     {
         self.end_lane(lane)
     }

@@ -2,7 +2,7 @@
 ghost use Rattle.std.specs.Prelude.{◌≡◌};
 ghost use Rattle.tracing_core_hub.specs.Defaults.{holding, upgrade_answer};
 ghost use Rattle.tracing_core_hub.specs.Handles.{hold_refusal, given_back, or_refused, or_same};
-ghost use Rattle.tracing_core_hub.specs.Keeping.{Keeps, KeepsOthers};
+ghost use Rattle.tracing_core_hub.specs.Keeping.{Keeps, KeepsLiving};
 
 use crate::callsite::Callsite;
 use crate::dispatch::{Dispatch, WeakDispatch};
@@ -81,7 +81,7 @@ impl<S: Subscriber, C: Callsite> Hub<S, C> {
     pub fn release(&mut self, dispatch: Dispatch) -> Option<S>
         ensures answer { result ≡ (given_back dispatch self.old.entries).0 }
         ensures left { self.new ≡ record self.old { entries = (given_back dispatch self.old.entries).1 } }
-        ensures keeps { KeepsOthers ⟦<S as Subscriber>⟧ ⟦<C as Callsite>⟧ self.old self.new }
+        ensures keeps { KeepsLiving ⟦<S as Subscriber>⟧ ⟦<C as Callsite>⟧ self.old self.new }
     {
         self.let_go(dispatch)
     }

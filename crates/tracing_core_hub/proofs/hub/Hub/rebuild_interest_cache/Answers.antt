@@ -1,5 +1,6 @@
 use Rattle.tracing_core_hub.proofs.Keeping.{rebuilt_keeps}
-use Rattle.tracing_core_hub.proofs.Words.{rebuild_keeps, rebuilt_off}
+use Rattle.tracing_core_hub.proofs.Refreshing.{rebuilt_refreshed, refreshed_off}
+use Rattle.tracing_core_hub.proofs.Words.{rebuild_keeps}
 use Rattle.tracing_core_hub.proofs.hub.Hub.rebuild_interest_cache.Goals as goal
 
 pub returns-clause-right : goal.returns-clause-right
@@ -10,4 +11,5 @@ pub returns-clause-keeps : goal.returns-clause-keeps
 returns-clause-keeps g c = rebuild_keeps g.S.Subscriber g.C.Callsite c.args.self.now _ c.ask_all_again.ensures
 
 pub returns-clause-nobody : goal.returns-clause-nobody
-returns-clause-nobody g c none = rebuilt_off g.S.Subscriber g.C.Callsite c.args.self.now _ c.ask_all_again.ensures none
+returns-clause-nobody g c none = 
+    refreshed_off g.S.Subscriber g.C.Callsite c.args.self.now _ (rebuilt_refreshed g.S.Subscriber g.C.Callsite c.args.self.now _ c.ask_all_again.ensures) none
