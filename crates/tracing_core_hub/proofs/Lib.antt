@@ -13,3 +13,4 @@ pub mod Gates
 pub mod Handed
 pub mod Books
 pub mod Runs
+pub mod Scoping

@@ -1,9 +1,10 @@
 -- What a hub replies to commands on handles, lanes and guards by number, and what they leave.
-use Rattle.std.specs.Prelude.{◌≡◌, ℕ, false, List, [], ◌∷◌, ◌++◌, Option, Some, None, Result, Ok, Err, length, slice_get, slice_set}
+use Rattle.std.specs.Prelude.{◌≡◌, ℕ, Bool, true, false, List, [], ◌∷◌, ◌++◌, Option, Some, None, Result, Ok, Err, length, slice_get, slice_set}
 use Rattle.std.specs.Option.{option_map}
 use Rattle.tracing_core_hub.specs.Commands.{AddGives, GateGives, RegisterGives, RegisterOnceGives, Rebuilt, reached, row_of}
 use Rattle.tracing_core_hub.specs.Defaults.{was_set, holding, letting_go, global_refusal, globally, default_refusal, locally, guard_of, end_gives, reset_gives}
 use Rattle.tracing_core_hub.specs.Handles.{given_back, hold_refusal, or_refused, or_same}
+use Rattle.tracing_core_hub.specs.Keeping.{KeepsBy}
 use Rattle.tracing_core_hub.specs.Refreshing.{Refreshed}
 use Rattle.tracing_core_hub.specs.Table.{Table}
 use Rattle.tracing_core_hub.specs.declared.at.At.{At}
@@ -158,6 +159,16 @@ module _ {S C : Type 0} where
   abbrev pub release_gives : Table S C → List (Option (Option ℕ)) → ℕ → (CommandReply S C × Table S C) × List (Option (Option ℕ))
   release_gives t handles number = release_gives_at t handles number (item_of handles number)
 
+-- whether a command may give up a handle or a default, so that a subscriber may be released
+abbrev pub gives_up : {S C : Type 0} → Command S C → Bool
+gives_up (command.EndThread lane) = true
+gives_up (command.Reset lane guard) = true
+gives_up (command.Release handle) = true
+gives_up other = false
+
+abbrev pub GivesNothingUp : {S C : Type 0} → Command S C → Type 0
+GivesNothingUp x = gives_up x ≡ false
+
 module _ {S : Type 0} (g : Ghosts S) {C : Type 0} (h : SiteGhosts C) where
   -- a subscriber that was taken has a first handle with the next number
   abbrev pub AddRuns : Table S C → List (Option (Option ℕ)) → S → CommandReply S C → Table S C → List (Option (Option ℕ)) → Type 0
@@ -204,6 +215,10 @@ module _ {S : Type 0} (g : Ghosts S) {C : Type 0} (h : SiteGhosts C) where
   CommandGives t b (command.Interest identifier) answer u c =
       (answer ≡ reply.Kept (option_map (λ row. row.interest) (row_of identifier.0 t.rows))) × (u ≡ t) × (c ≡ b)
   CommandGives t b (command.Reached lane) answer u c = (answer ≡ reply.Reached (reached t lane)) × (u ≡ t) × (c ≡ b)
+
+  -- what a command leaves of what the hub knows
+  abbrev pub CommandKeeps : Command S C → Table S C → Table S C → Type 0
+  CommandKeeps x t u = KeepsBy g h (gives_up x) t u
 
   -- the commands one after the other, with a reply each
   abbrev pub CommandsGive : Table S C → PlainBook → List (Command S C) → List (CommandReply S C) → Table S C → PlainBook → Type 0

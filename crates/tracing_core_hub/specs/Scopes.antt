@@ -33,6 +33,10 @@ module _ {S C F T : Type 0} (g : Once F (MutBor (Table S C) × (Bor (Option ℕ)
     pub met : g.post f (shown, (lent, tt)) (answer, (left, tt))
     pub leaves : left.now ≡ u
 
+  -- a call of f leaves the hub so, whatever the hub and the handle
+  abbrev pub CallsLeave : (Table S C → Table S C → Type 0) → Type 0
+  CallsLeave R = (t u : Table S C) (dispatch : Option ℕ) (answer : T) → CalledWith t dispatch answer u → R t u
+
   -- f was called with a handle to the subscriber that the lane reaches, and the lane was marked meanwhile
   abbrev pub CalledInside : Table S C → ℕ → T → Table S C → Type 0
   CalledInside t lane answer u = (left : Table S C) × CalledWith (marked t lane true) (reached t lane) answer left × (u ≡ marked left lane false)
@@ -52,6 +56,10 @@ module _ {S C F T : Type 0} (g : Once F (MutBor (Table S C) × (Bor (Option ℕ)
   -- inside such a call, f isn't called
   abbrev pub CurrentGives : Table S C → ℕ → Option T → Table S C → Type 0
   CurrentGives t lane answer u = CurrentGivesAt t lane (is_outside t lane) answer u
+
+-- a call of f leaves the hub so, whatever the hub
+abbrev pub BodyLeaves : {S C F T : Type 0} → Once F (MutBor (Table S C) × Unit {0}) (T × (MutBor (Table S C) × Unit {0})) → F → (Table S C → Table S C → Type 0) → Type 0
+BodyLeaves {S} {C} {F} {T} g f R = (t u : Table S C) (answer : T) → FnOnceReturnsAtMut g f t answer u → R t u
 
 -- the default was set, f was called, and the lane was reset
 abbrev pub WithDefaultGives : {S C F T : Type 0} → Once F (MutBor (Table S C) × Unit {0}) (T × (MutBor (Table S C) × Unit {0})) → F → Table S C → ℕ → Option ℕ → Result (T × Result (Option S) WrongLane) SetDefaultError → Table S C → Type 0

@@ -1,6 +1,7 @@
 //! Calls within a lane's default.
 ghost use Rattle.std.specs.Prelude.{◌≡◌, slice_set};
-ghost use Rattle.tracing_core_hub.specs.Scopes.{CurrentGives, DefaultGives, WithDefaultGives, is_outside, marked};
+ghost use Rattle.tracing_core_hub.specs.Keeping.{Keeps, KeepsLiving};
+ghost use Rattle.tracing_core_hub.specs.Scopes.{BodyLeaves, CallsLeave, CurrentGives, DefaultGives, WithDefaultGives, is_outside, marked};
 
 use crate::callsite::Callsite;
 use crate::dispatch::Dispatch;
@@ -38,14 +39,7 @@ impl<S, C> Hub<S, C> {
         set_mark(&mut self.entered, lane, entered);
     }
 
-    /// Hands the hub and a handle to the subscriber that the lane reaches to `f`, and answers what `f`
-    /// does. The handle isn't counted. Within `f` the lane's subscriber isn't reached again: a further call
-    /// for the lane gets the handle to no subscriber, as does one for a lane that was never given.
-    pub fn get_default<T, F: FnOnce(&mut Hub<S, C>, &Dispatch) -> T>(
-        &mut self,
-        lane: u64,
-        f: F,
-    ) -> T
+    fn lend_default<T, F: FnOnce(&mut Hub<S, C>, &Dispatch) -> T>(&mut self, lane: u64, f: F) -> T
         requires { F.IsAlwaysCallable f }
         ensures { DefaultGives F.FnOnce f self.old lane result self.new }
     {
@@ -59,9 +53,7 @@ impl<S, C> Hub<S, C> {
         answer
     }
 
-    /// The same as [`Hub::get_default`], but where the lane's subscriber isn't reached again, `f` isn't
-    /// called, and the answer is `None`.
-    pub fn get_current<T, F: FnOnce(&mut Hub<S, C>, &Dispatch) -> T>(
+    fn lend_current<T, F: FnOnce(&mut Hub<S, C>, &Dispatch) -> T>(
         &mut self,
         lane: u64,
         f: F,
@@ -81,10 +73,38 @@ impl<S, C> Hub<S, C> {
 }
 
 impl<S: Subscriber, C: Callsite> Hub<S, C> {
-    /// Sets the default of a lane, as [`Hub::set_default`] does, hands the hub to `body`, and resets the
-    /// lane, as [`Hub::reset`] does. It answers what `body` and the reset do. Where the default isn't set,
-    /// `body` isn't called, and nothing changes.
-    pub fn with_default<T, F: FnOnce(&mut Hub<S, C>) -> T>(
+    /// Hands the hub and a handle to the subscriber that the lane reaches to `f`, and answers what `f`
+    /// does. The handle isn't counted. Within `f` the lane's subscriber isn't reached again: a further call
+    /// for the lane gets the handle to no subscriber, as does one for a lane that was never given.
+    pub fn get_default<T, F: FnOnce(&mut Hub<S, C>, &Dispatch) -> T>(
+        &mut self,
+        lane: u64,
+        f: F,
+    ) -> T
+        requires { F.IsAlwaysCallable f }
+        ensures gives { DefaultGives F.FnOnce f self.old lane result self.new }
+        ensures keeps { CallsLeave F.FnOnce f (Keeps ⟦<S as Subscriber>⟧ ⟦<C as Callsite>⟧) → Keeps ⟦<S as Subscriber>⟧ ⟦<C as Callsite>⟧ self.old self.new }
+        ensures living { CallsLeave F.FnOnce f (KeepsLiving ⟦<S as Subscriber>⟧ ⟦<C as Callsite>⟧) → KeepsLiving ⟦<S as Subscriber>⟧ ⟦<C as Callsite>⟧ self.old self.new }
+    {
+        self.lend_default(lane, f)
+    }
+
+    /// The same as [`Hub::get_default`], but where the lane's subscriber isn't reached again, `f` isn't
+    /// called, and the answer is `None`.
+    pub fn get_current<T, F: FnOnce(&mut Hub<S, C>, &Dispatch) -> T>(
+        &mut self,
+        lane: u64,
+        f: F,
+    ) -> Option<T>
+        requires { F.IsAlwaysCallable f }
+        ensures gives { CurrentGives F.FnOnce f self.old lane result self.new }
+        ensures keeps { CallsLeave F.FnOnce f (Keeps ⟦<S as Subscriber>⟧ ⟦<C as Callsite>⟧) → Keeps ⟦<S as Subscriber>⟧ ⟦<C as Callsite>⟧ self.old self.new }
+        ensures living { CallsLeave F.FnOnce f (KeepsLiving ⟦<S as Subscriber>⟧ ⟦<C as Callsite>⟧) → KeepsLiving ⟦<S as Subscriber>⟧ ⟦<C as Callsite>⟧ self.old self.new }
+    {
+        self.lend_current(lane, f)
+    }
+
+    fn give_default<T, F: FnOnce(&mut Hub<S, C>) -> T>(
         &mut self,
         lane: u64,
         dispatch: &Dispatch,
@@ -101,5 +121,21 @@ impl<S: Subscriber, C: Callsite> Hub<S, C> {
             }
             Err(error) => Err(error),
         }
+    }
+
+    /// Sets the default of a lane, as [`Hub::set_default`] does, hands the hub to `body`, and resets the
+    /// lane, as [`Hub::reset`] does. It answers what `body` and the reset do. Where the default isn't set,
+    /// `body` isn't called, and nothing changes.
+    pub fn with_default<T, F: FnOnce(&mut Hub<S, C>) -> T>(
+        &mut self,
+        lane: u64,
+        dispatch: &Dispatch,
+        body: F,
+    ) -> Result<(T, Result<Option<S>, WrongLane>), SetDefaultError>
+        requires { F.IsAlwaysCallable body }
+        ensures gives { WithDefaultGives F.FnOnce body self.old lane dispatch.now result self.new }
+        ensures living { BodyLeaves F.FnOnce body (KeepsLiving ⟦<S as Subscriber>⟧ ⟦<C as Callsite>⟧) → KeepsLiving ⟦<S as Subscriber>⟧ ⟦<C as Callsite>⟧ self.old self.new }
+    {
+        self.give_default(lane, dispatch, body)
     }
 }

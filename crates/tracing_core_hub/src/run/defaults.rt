@@ -1,6 +1,7 @@
 //! Commands on lanes and defaults.
 ghost use Rattle.std.specs.Prelude.{◌≡◌};
 ghost use Rattle.tracing_core_hub.specs.Defaults.{end_gives};
+ghost use Rattle.tracing_core_hub.specs.Keeping.{Keeps, KeepsLiving};
 ghost use Rattle.tracing_core_hub.specs.Running.{SetDefaultRuns, ThreadRuns, end_reply, global_gives, global_reply, reset_runs, named};
 
 use crate::callsite::Callsite;
@@ -32,7 +33,8 @@ fn global_reply<S, C>(answer: Result<(), SetGlobalDefaultError>) -> CommandReply
 
 impl<S: Subscriber, C: Callsite> Hub<S, C> {
     pub(crate) fn run_thread(&mut self) -> CommandReply<S, C>
-        ensures { ThreadRuns self.old result self.new }
+        ensures gives { ThreadRuns self.old result self.new }
+        ensures keeps { Keeps ⟦<S as Subscriber>⟧ ⟦<C as Callsite>⟧ self.old self.new }
     {
         match self.thread() {
             Ok(lane) => CommandReply::Lane(lane),
@@ -43,16 +45,19 @@ impl<S: Subscriber, C: Callsite> Hub<S, C> {
     pub(crate) fn run_end_thread(&mut self, lane: u64) -> CommandReply<S, C>
         ensures reply { result ≡ end_reply (end_gives self.old lane).0 }
         ensures left { self.new ≡ (end_gives self.old lane).1 }
+        ensures keeps { KeepsLiving ⟦<S as Subscriber>⟧ ⟦<C as Callsite>⟧ self.old self.new }
     {
         end_reply(self.end_thread(lane))
     }
 
+    #[tactic(auto, using(crate::proofs::Words::itself_keeps))]
     pub(crate) fn run_set_global_default(
         &mut self,
         handles: &[Option<Dispatch>],
         number: Option<u64>,
     ) -> CommandReply<S, C>
-        ensures { (result, self.new) ≡ global_gives self.old (named handles.now number) }
+        ensures gives { (result, self.new) ≡ global_gives self.old (named handles.now number) }
+        ensures keeps { Keeps ⟦<S as Subscriber>⟧ ⟦<C as Callsite>⟧ self.old self.new }
     {
         match find_named(handles, number) {
             None => CommandReply::Refused(CommandError::UnknownHandle),
@@ -60,6 +65,7 @@ impl<S: Subscriber, C: Callsite> Hub<S, C> {
         }
     }
 
+    #[tactic(auto, using(crate::proofs::Words::itself_keeps))]
     pub(crate) fn run_set_default(
         &mut self,
         handles: &[Option<Dispatch>],
@@ -67,7 +73,8 @@ impl<S: Subscriber, C: Callsite> Hub<S, C> {
         lane: u64,
         number: Option<u64>,
     ) -> CommandReply<S, C>
-        ensures { SetDefaultRuns self.old guards.old.items lane (named handles.now number) result self.new guards.new.items }
+        ensures gives { SetDefaultRuns self.old guards.old.items lane (named handles.now number) result self.new guards.new.items }
+        ensures keeps { Keeps ⟦<S as Subscriber>⟧ ⟦<C as Callsite>⟧ self.old self.new }
     {
         let Some(dispatch) = find_named(handles, number) else {
             return CommandReply::Refused(CommandError::UnknownHandle);
@@ -84,13 +91,15 @@ impl<S: Subscriber, C: Callsite> Hub<S, C> {
         }
     }
 
+    #[tactic(auto, using(crate::proofs::Words::itself_living))]
     pub(crate) fn run_reset(
         &mut self,
         guards: &mut [Option<DefaultGuard>],
         lane: u64,
         number: u64,
     ) -> CommandReply<S, C>
-        ensures { ((result, self.new), guards.new) ≡ reset_runs self.old guards.old lane number }
+        ensures gives { ((result, self.new), guards.new) ≡ reset_runs self.old guards.old lane number }
+        ensures keeps { KeepsLiving ⟦<S as Subscriber>⟧ ⟦<C as Callsite>⟧ self.old self.new }
     {
         let Some(guard) = spend(guards, number) else {
             return CommandReply::Refused(CommandError::UnknownGuard);

@@ -1,5 +1,6 @@
 //! Commands on handles.
 ghost use Rattle.std.specs.Prelude.{◌≡◌};
+ghost use Rattle.tracing_core_hub.specs.Keeping.{Keeps, KeepsLiving};
 ghost use Rattle.tracing_core_hub.specs.Running.{AddRuns, CloneRuns, DowngradeRuns, UpgradeRuns, release_gives, upgrade_refused};
 
 use crate::callsite::Callsite;
@@ -21,12 +22,14 @@ fn upgrade_refused<S, C>(error: HandleError) -> CommandReply<S, C>
 }
 
 impl<S: Subscriber, C: Callsite> Hub<S, C> {
+    #[tactic(auto, using(crate::proofs::Words::itself_keeps))]
     pub(crate) fn run_add(
         &mut self,
         handles: &mut Vec<Option<Dispatch>>,
         subscriber: S,
     ) -> CommandReply<S, C>
-        ensures { AddRuns ⟦<S as Subscriber>⟧ ⟦<C as Callsite>⟧ self.old handles.old.items subscriber result self.new handles.new.items }
+        ensures gives { AddRuns ⟦<S as Subscriber>⟧ ⟦<C as Callsite>⟧ self.old handles.old.items subscriber result self.new handles.new.items }
+        ensures keeps { Keeps ⟦<S as Subscriber>⟧ ⟦<C as Callsite>⟧ self.old self.new }
     {
         if self.numbers_are_spent() {
             return CommandReply::Refused(CommandError::Add(AddError::NumbersSpent(subscriber)));
@@ -40,12 +43,14 @@ impl<S: Subscriber, C: Callsite> Hub<S, C> {
         }
     }
 
+    #[tactic(auto, using(crate::proofs::Words::itself_keeps))]
     pub(crate) fn run_clone(
         &mut self,
         handles: &mut Vec<Option<Dispatch>>,
         number: u64,
     ) -> CommandReply<S, C>
-        ensures { CloneRuns self.old handles.old.items number result self.new handles.new.items }
+        ensures gives { CloneRuns self.old handles.old.items number result self.new handles.new.items }
+        ensures keeps { Keeps ⟦<S as Subscriber>⟧ ⟦<C as Callsite>⟧ self.old self.new }
     {
         let Some(dispatch) = find_handle(handles, number) else {
             return CommandReply::Refused(CommandError::UnknownHandle);
@@ -79,13 +84,15 @@ impl<S: Subscriber, C: Callsite> Hub<S, C> {
         CommandReply::Weak(keep(weak, self.downgrade(&dispatch)))
     }
 
+    #[tactic(auto, using(crate::proofs::Words::itself_keeps))]
     pub(crate) fn run_upgrade(
         &mut self,
         weak: &[WeakDispatch],
         handles: &mut Vec<Option<Dispatch>>,
         number: u64,
     ) -> CommandReply<S, C>
-        ensures { UpgradeRuns self.old weak.now handles.old.items number result self.new handles.new.items }
+        ensures gives { UpgradeRuns self.old weak.now handles.old.items number result self.new handles.new.items }
+        ensures keeps { Keeps ⟦<S as Subscriber>⟧ ⟦<C as Callsite>⟧ self.old self.new }
     {
         let Some(dispatch) = weak.get(number as usize) else {
             return CommandReply::Refused(CommandError::UnknownWeakHandle);
@@ -103,12 +110,14 @@ impl<S: Subscriber, C: Callsite> Hub<S, C> {
         }
     }
 
+    #[tactic(auto, using(crate::proofs::Words::itself_living))]
     pub(crate) fn run_release(
         &mut self,
         handles: &mut [Option<Dispatch>],
         number: u64,
     ) -> CommandReply<S, C>
-        ensures { ((result, self.new), handles.new) ≡ release_gives self.old handles.old number }
+        ensures gives { ((result, self.new), handles.new) ≡ release_gives self.old handles.old number }
+        ensures keeps { KeepsLiving ⟦<S as Subscriber>⟧ ⟦<C as Callsite>⟧ self.old self.new }
     {
         match spend(handles, number) {
             None => CommandReply::Refused(CommandError::UnknownHandle),

@@ -1,6 +1,8 @@
 //! Carrying out commands.
 ghost use Rattle.std.specs.Prelude.{◌≡◌, IfErr, IfOk, OnErr};
-ghost use Rattle.tracing_core_hub.specs.Running.{CommandGives, CommandsGive, GateRuns, RegisterOnceRuns, RegisterRuns};
+ghost use Rattle.tracing_core_hub.specs.Keeping.{Keeps, KeepsLiving};
+ghost use Rattle.tracing_core_hub.specs.Kept.{Every};
+ghost use Rattle.tracing_core_hub.specs.Running.{CommandGives, CommandKeeps, CommandsGive, GateRuns, GivesNothingUp, RegisterOnceRuns, RegisterRuns};
 
 use crate::at::At;
 use crate::callsite::Callsite;
@@ -12,7 +14,8 @@ use tracing_core_fields::Identifier;
 
 impl<S: Subscriber, C: Callsite> Hub<S, C> {
     fn run_register(&mut self, callsite: C) -> CommandReply<S, C>
-        ensures { RegisterRuns ⟦<S as Subscriber>⟧ ⟦<C as Callsite>⟧ self.old callsite result self.new }
+        ensures gives { RegisterRuns ⟦<S as Subscriber>⟧ ⟦<C as Callsite>⟧ self.old callsite result self.new }
+        ensures keeps { Keeps ⟦<S as Subscriber>⟧ ⟦<C as Callsite>⟧ self.old self.new }
     {
         match self.register(callsite) {
             Ok(interest) => CommandReply::Registered(interest),
@@ -21,7 +24,8 @@ impl<S: Subscriber, C: Callsite> Hub<S, C> {
     }
 
     fn run_register_once(&mut self, callsite: C) -> CommandReply<S, C>
-        ensures { RegisterOnceRuns ⟦<S as Subscriber>⟧ ⟦<C as Callsite>⟧ self.old callsite result self.new }
+        ensures gives { RegisterOnceRuns ⟦<S as Subscriber>⟧ ⟦<C as Callsite>⟧ self.old callsite result self.new }
+        ensures keeps { Keeps ⟦<S as Subscriber>⟧ ⟦<C as Callsite>⟧ self.old self.new }
     {
         match self.register_once(callsite) {
             Ok(interest) => CommandReply::Registered(interest),
@@ -30,14 +34,17 @@ impl<S: Subscriber, C: Callsite> Hub<S, C> {
     }
 
     fn run_gate(&mut self, identifier: Identifier, at: At) -> CommandReply<S, C>
-        ensures { GateRuns ⟦<S as Subscriber>⟧ ⟦<C as Callsite>⟧ self.old identifier.0 at result self.new }
+        ensures gives { GateRuns ⟦<S as Subscriber>⟧ ⟦<C as Callsite>⟧ self.old identifier.0 at result self.new }
+        ensures keeps { Keeps ⟦<S as Subscriber>⟧ ⟦<C as Callsite>⟧ self.old self.new }
     {
         CommandReply::Wanted(self.gate(identifier, at))
     }
 
     /// Carries out one command, and replies to it.
+    #[tactic(auto, using(crate::proofs::Words::itself_keeps))]
     pub fn carry_out(&mut self, book: &mut Book, command: Command<S, C>) -> CommandReply<S, C>
-        ensures { CommandGives ⟦<S as Subscriber>⟧ ⟦<C as Callsite>⟧ self.old book.old command result self.new book.new }
+        ensures gives { CommandGives ⟦<S as Subscriber>⟧ ⟦<C as Callsite>⟧ self.old book.old command result self.new book.new }
+        ensures keeps { CommandKeeps ⟦<S as Subscriber>⟧ ⟦<C as Callsite>⟧ command self.old self.new }
     {
         match command {
             Command::Thread => self.run_thread(),
@@ -85,6 +92,9 @@ impl<S: Subscriber, C: Callsite> Hub<S, C> {
         ensures back { IfErr result (λ room. room.0.items ≡ commands.items) }
         ensures hub { OnErr result (self.new ≡ self.old) }
         ensures book { OnErr result (book.new ≡ book.old) }
+        ensures keeps { KeepsLiving ⟦<S as Subscriber>⟧ ⟦<C as Callsite>⟧ self.old self.new }
+        // Where nothing is given up, what is kept stays right of everyone.
+        ensures all { Every GivesNothingUp commands.items → Keeps ⟦<S as Subscriber>⟧ ⟦<C as Callsite>⟧ self.old self.new }
     {
         let Ok(mut replies) = Vec::with_capacity(*commands.allocator(), commands.len()) else {
             return Err(NoRoom(commands));

@@ -11,5 +11,5 @@ pub returns-clause-keeps : goal.returns-clause-keeps
 returns-clause-keeps g c = rebuild_keeps g.S.Subscriber g.C.Callsite c.args.self.now _ c.ask_all_again.ensures
 
 pub returns-clause-nobody : goal.returns-clause-nobody
-returns-clause-nobody g c none = 
+returns-clause-nobody g c none =
     refreshed_off g.S.Subscriber g.C.Callsite c.args.self.now _ (rebuilt_refreshed g.S.Subscriber g.C.Callsite c.args.self.now _ c.ask_all_again.ensures) none

@@ -1,6 +1,9 @@
-use Rattle.std.proofs.Common.{◌≡◌, ◌∷◌, ◌∙◌, ap, sym, length, arith}
+use Rattle.std.proofs.Common.{◌≡◌, ◌∷◌, ◌∙◌, ap, sym, subst, length, arith}
 use Rattle.std.specs.Vec.Iter.{into_iter_items}
+use Rattle.tracing_core_hub.specs.Kept.{Every}
+use Rattle.tracing_core_hub.specs.Running.{GivesNothingUp, gives_up}
 use Rattle.tracing_core_hub.proofs.Runs.{begins, goes_on, ends}
+use Rattle.tracing_core_hub.proofs.Words.{itself_keeps, itself_living, keeps_by, keeps_then, living_by, living_then}
 use Rattle.tracing_core_hub.proofs.hub.Hub.run.Goals as goal
 
 pub loop-command-init : goal.loop-command-init
@@ -12,6 +15,8 @@ loop-command-init g c =
     record {
       room = omega arith;
       count = search;
+      keeps = itself_living g.S.Subscriber g.C.Callsite c.args.self.now;
+      all = λ none. (subst (Every GivesNothingUp) (sym c.into_iter-command-iterator.ensures.into_iter_gives.0) none, itself_keeps g.S.Subscriber g.C.Callsite c.args.self.now);
       onward = begins g.S.Subscriber g.C.Callsite c.args.self.now c.args.book.now c.args.commands.items _ _
           c.into_iter-command-iterator.ensures.into_iter_gives.0 c.in-Ok.ensures.items;
     }
@@ -29,9 +34,19 @@ loop-command-preserved g c =
     record {
       room = omega arith;
       count = omega arith;
+      keeps =
+          living_then g.S.Subscriber g.C.Callsite c.args.self.now at.self c.carry_out.new.self at.invariant.keeps
+          (living_by g.S.Subscriber g.C.Callsite (gives_up c.in-Some.command) at.self c.carry_out.new.self c.carry_out.ensures.keeps);
+      all = λ none.
+          let before = at.invariant.all none in
+          let each : Every GivesNothingUp (c.in-Some.command ∷ into_iter_items c.next.new.self) = subst (Every GivesNothingUp) steps before.0 in (
+            each.1,
+            keeps_then g.S.Subscriber g.C.Callsite c.args.self.now at.self c.carry_out.new.self before.1
+                (keeps_by g.S.Subscriber g.C.Callsite (gives_up c.in-Some.command) at.self c.carry_out.new.self each.0 c.carry_out.ensures.keeps),
+          );
       onward = goes_on g.S.Subscriber g.C.Callsite c.args.self.now c.args.book.now c.args.commands.items at.self c.carry_out.new.self at.book c.carry_out.new.book
           (into_iter_items at.command-iterator) (into_iter_items c.next.new.self) c.in-Some.command c.carry_out.result at.replies.items c.push_reserved.new.self.items
-          steps c.push_reserved.ensures.items c.carry_out.ensures at.invariant.onward;
+          steps c.push_reserved.ensures.items c.carry_out.ensures.gives at.invariant.onward;
     }
 
 pub returns-clause-ran : goal.returns-clause-ran
@@ -39,3 +54,9 @@ returns-clause-ran g c =
     let at = c.loop-command in
     ends g.S.Subscriber g.C.Callsite c.args.self.now c.args.book.now c.args.commands.items at.self at.book
     (into_iter_items at.command-iterator) at.replies.items (sym at.invariant.count ∙ c.in-None.ensures.steps.0) at.invariant.onward
+
+pub returns-in_default-clause-keeps : goal.returns-in_default-clause-keeps
+returns-in_default-clause-keeps g c = itself_living g.S.Subscriber g.C.Callsite c.args.self.now
+
+pub returns-clause-all : goal.returns-clause-all
+returns-clause-all g c none = (c.loop-command.invariant.all none).1

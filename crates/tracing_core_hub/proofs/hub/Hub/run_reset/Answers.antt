@@ -3,8 +3,8 @@ use Rattle.tracing_core_hub.specs.Running.{item_of}
 use Rattle.tracing_core_hub.proofs.Books.{back_again, same_guard}
 use Rattle.tracing_core_hub.proofs.hub.Hub.run_reset.Goals as goal
 
-pub returns-in-Err : goal.returns-in-Err
-returns-in-Err g c =
+pub returns-in-Err-clause-gives : goal.returns-in-Err-clause-gives
+returns-in-Err-clause-gives g c =
     let items = c.args.guards.now in
     let number = c.args.number in
     let guard = c.in-Some.guard in
