@@ -1,9 +1,9 @@
 -- What calls within a lane's default leave of what a hub knows.
-use Rattle.std.proofs.Common.{◌≡◌, ℕ, Bool, true, false, Option, Some, None, Result, Ok, Err, refl, ap, sym, ◌∙◌, subst}
+use Rattle.std.proofs.Common.{ℕ, Bool, true, false, Option, None, Result, Ok, Err, refl, ap, sym, subst}
 use Rattle.std.specs.Borrow.{Bor, MutBor}
-use Rattle.std.specs.Fn.{Once, FnOnceReturnsAtMut}
+use Rattle.std.specs.Fn.{Once}
 use Rattle.tracing_core_hub.specs.Commands.{reached}
-use Rattle.tracing_core_hub.specs.Defaults.{default_refusal, guard_of, locally, reset_gives}
+use Rattle.tracing_core_hub.specs.Defaults.{guard_of, locally}
 use Rattle.tracing_core_hub.specs.Handles.{or_same}
 use Rattle.tracing_core_hub.specs.Keeping.{Keeps, KeepsLiving}
 use Rattle.tracing_core_hub.specs.Scopes.{BodyLeaves, CallsLeave, CalledInside, CurrentGives, CurrentGivesAt, DefaultGives, DefaultGivesAt, WithDefaultGives, is_outside, marked}
@@ -12,7 +12,7 @@ use Rattle.tracing_core_hub.specs.declared.callsite.Callsite.{Ghosts as SiteGhos
 use Rattle.tracing_core_hub.specs.declared.guard.WrongLane.{WrongLane}
 use Rattle.tracing_core_hub.specs.declared.refusal.SetDefaultError.{SetDefaultError}
 use Rattle.tracing_core_hub.specs.declared.subscriber.Subscriber.{Ghosts}
-use Rattle.tracing_core_hub.proofs.Words.{default_keeps, itself_keeps, itself_living, keeps_then, living_from, living_then, reset_keeps, same_keeps}
+use Rattle.tracing_core_hub.proofs.Words.{default_keeps, itself_living, living_from, living_then, reset_keeps, same_keeps}
 
 -- what holds of marks, of nothing done, and of one step after another, holds of a call if it holds of f
 module _ {S C F T : Type 0} (g : Once F (MutBor (Table S C) × (Bor (Option ℕ) × Unit {0})) (T × (MutBor (Table S C) × Unit {0}))) (f : F) (R : Table S C → Table S C → Type 0) (marks : (t : Table S C) (lane : ℕ) (mark : Bool) → R t (marked t lane mark)) (still : (t : Table S C) → R t t) (then : (t v u : Table S C) → R t v → R v u → R t u) (leaves : CallsLeave g f R) where

@@ -10,7 +10,7 @@ use Rattle.tracing_core_hub.specs.Defaults.{holding, letting_go, globally, globa
 use Rattle.tracing_core_hub.specs.Handing.{CallGives, CallGivesAt, HubGives}
 use Rattle.tracing_core_hub.specs.Handles.{entry_of, changed, without, is_of, held, given_back, given_back_at, hold_refusal, one_more, one_less, or_same}
 use Rattle.tracing_core_hub.specs.Interests.{PlainInterest}
-use Rattle.tracing_core_hub.specs.Keeping.{Keeps, KeepsLiving, KeepsOthers, KeepsBy, StaysRight, IsLater}
+use Rattle.tracing_core_hub.specs.Keeping.{Keeps, KeepsLiving, KeepsOthers, KeepsBy, StaysRight}
 use Rattle.tracing_core_hub.specs.Kept.{Covers, Every, IsTrueRow, RowRight, Kept, asked_anew}
 use Rattle.tracing_core_hub.specs.Lent.{lent_to, given_as}
 use Rattle.tracing_core_hub.specs.Refreshing.{Refreshed}
@@ -32,7 +32,7 @@ use Rattle.tracing_core_hub.specs.declared.hub.parts.Lane.{Lane}
 use Rattle.tracing_core_hub.specs.declared.hub.parts.Lane.TheVariants.{Ended, Running}
 use Rattle.tracing_core_hub.specs.declared.hub.parts.Setting.{Setting}
 use Rattle.tracing_core_hub.specs.declared.subscriber.Subscriber.{Ghosts}
-use Rattle.tracing_core_hub.proofs.Keeping.{asked_one, right_onward, row_every, same_word, rebuilt_keeps}
+use Rattle.tracing_core_hub.proofs.Keeping.{asked_one, right_onward, row_every, same_word}
 use Rattle.tracing_core_hub.proofs.Living.{by_bool, if_either, changed_own, changed_other, without_own, without_other, serials_changed, ascends_without, absent_above, entry_appended, entry_last}
 use Rattle.tracing_core_hub.proofs.Later.{below_next, later_added, later_alike, later_then, later_without}
 use Rattle.tracing_core_hub.proofs.Refreshing.{rebuilt_refreshed, refreshed_serials, refreshed_sound, refreshed_right}
