@@ -39,6 +39,7 @@ impl<S, C> Hub<S, C> {
         set_mark(&mut self.entered, lane, entered);
     }
 
+    // Calls f with the hub and a handle to the subscriber that the lane reaches, or to none.
     fn lend_default<T, F: FnOnce(&mut Hub<S, C>, &Dispatch) -> T>(&mut self, lane: u64, f: F) -> T
         requires { F.IsAlwaysCallable f }
         ensures { DefaultGives F.FnOnce f self.old lane result self.new }
@@ -53,6 +54,7 @@ impl<S, C> Hub<S, C> {
         answer
     }
 
+    // Calls f so where the lane's subscriber isn't lent already, and not otherwise.
     fn lend_current<T, F: FnOnce(&mut Hub<S, C>, &Dispatch) -> T>(
         &mut self,
         lane: u64,
@@ -83,6 +85,7 @@ impl<S: Subscriber, C: Callsite> Hub<S, C> {
     ) -> T
         requires { F.IsAlwaysCallable f }
         ensures gives { DefaultGives F.FnOnce f self.old lane result self.new }
+        // What each call of f leaves of what is kept, this does.
         ensures keeps { CallsLeave F.FnOnce f (Keeps ⟦<S as Subscriber>⟧ ⟦<C as Callsite>⟧) → Keeps ⟦<S as Subscriber>⟧ ⟦<C as Callsite>⟧ self.old self.new }
         ensures living { CallsLeave F.FnOnce f (KeepsLiving ⟦<S as Subscriber>⟧ ⟦<C as Callsite>⟧) → KeepsLiving ⟦<S as Subscriber>⟧ ⟦<C as Callsite>⟧ self.old self.new }
     {
@@ -98,12 +101,14 @@ impl<S: Subscriber, C: Callsite> Hub<S, C> {
     ) -> Option<T>
         requires { F.IsAlwaysCallable f }
         ensures gives { CurrentGives F.FnOnce f self.old lane result self.new }
+        // What each call of f leaves of what is kept, this does.
         ensures keeps { CallsLeave F.FnOnce f (Keeps ⟦<S as Subscriber>⟧ ⟦<C as Callsite>⟧) → Keeps ⟦<S as Subscriber>⟧ ⟦<C as Callsite>⟧ self.old self.new }
         ensures living { CallsLeave F.FnOnce f (KeepsLiving ⟦<S as Subscriber>⟧ ⟦<C as Callsite>⟧) → KeepsLiving ⟦<S as Subscriber>⟧ ⟦<C as Callsite>⟧ self.old self.new }
     {
         self.lend_current(lane, f)
     }
 
+    // Sets the default, calls the body, and resets the lane.
     fn give_default<T, F: FnOnce(&mut Hub<S, C>) -> T>(
         &mut self,
         lane: u64,
@@ -134,6 +139,7 @@ impl<S: Subscriber, C: Callsite> Hub<S, C> {
     ) -> Result<(T, Result<Option<S>, WrongLane>), SetDefaultError>
         requires { F.IsAlwaysCallable body }
         ensures gives { WithDefaultGives F.FnOnce body self.old lane dispatch.now result self.new }
+        // The reset may release a subscriber: then what is kept stays right of those who live on.
         ensures living { BodyLeaves F.FnOnce body (KeepsLiving ⟦<S as Subscriber>⟧ ⟦<C as Callsite>⟧) → KeepsLiving ⟦<S as Subscriber>⟧ ⟦<C as Callsite>⟧ self.old self.new }
     {
         self.give_default(lane, dispatch, body)

@@ -44,6 +44,7 @@ impl<S: Subscriber, C: Callsite> Hub<S, C> {
     #[tactic(auto, using(crate::proofs::Words::itself_keeps))]
     pub fn carry_out(&mut self, book: &mut Book, command: Command<S, C>) -> CommandReply<S, C>
         ensures gives { CommandGives ⟦<S as Subscriber>⟧ ⟦<C as Callsite>⟧ self.old book.old command result self.new book.new }
+        // What is kept stays right of everyone, or, where something may be given up, of those who live on.
         ensures keeps { CommandKeeps ⟦<S as Subscriber>⟧ ⟦<C as Callsite>⟧ command self.old self.new }
     {
         match command {
