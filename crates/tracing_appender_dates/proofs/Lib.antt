@@ -1,0 +1,10 @@
+pub mod Range
+pub mod Days
+pub mod Texts
+pub mod Counted
+pub mod Years
+pub mod Digits
+pub mod Reading
+pub mod Stamping
+pub mod Naming
+pub mod Strips

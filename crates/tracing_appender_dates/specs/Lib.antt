@@ -1,0 +1,6 @@
+pub mod Days
+pub mod Calendar
+pub mod Periods
+pub mod Stamps
+pub mod Names
+pub mod Rows

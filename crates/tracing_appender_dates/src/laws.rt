@@ -1,0 +1,33 @@
+//! Laws over the definitions, and worked dates and names.
+
+ghost use Rattle.tracing_appender_dates.specs.Calendar.{DatesCountDays};
+ghost use Rattle.tracing_appender_dates.specs.Names.{PeriodsDiffer};
+ghost use Rattle.tracing_appender_dates.specs.Rows.{DayRow, FirstRow, LastRow, MinuteRow, HourRow, WeekRow, NewYearWeekRow, FirstWeekRow, WholeRow, DateAloneRow};
+
+/// The date texts of days are those that counting day by day gives.
+pub fn dates_count_days()
+    ensures { DatesCountDays }
+{}
+
+/// Different periods of one kind have different names.
+pub fn periods_differ()
+    ensures { PeriodsDiffer }
+{}
+
+/// Worked dates: 2025-02-17, and the first and the last day of moments.
+pub fn worked_dates()
+    ensures day { DayRow }
+    ensures first { FirstRow }
+    ensures last { LastRow }
+{}
+
+/// Worked names at 2025-02-17T10:01:00Z, the name of the week of 2025-01-01, and that of the first week of moments.
+pub fn worked_names()
+    ensures minute { MinuteRow }
+    ensures hour { HourRow }
+    ensures week { WeekRow }
+    ensures new_year { NewYearWeekRow }
+    ensures first_week { FirstWeekRow }
+    ensures whole { WholeRow }
+    ensures alone { DateAloneRow }
+{}

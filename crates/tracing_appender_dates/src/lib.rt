@@ -1,0 +1,17 @@
+//! Periods of time, dates, and the names of log files.
+#![tactic(auto)]
+
+mod date;
+mod laws;
+mod name;
+mod period;
+mod read;
+
+pub use date::{date_text, stamp_text};
+pub use laws::{dates_count_days, periods_differ, worked_dates, worked_names};
+pub use name::name_text;
+pub use period::PeriodKind;
+pub use read::{read_name, read_stamp};
+
+#[cfg(test)]
+mod tests;
