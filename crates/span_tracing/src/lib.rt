@@ -26,7 +26,7 @@ pub use span_tracing_machine::{
 pub use span_tracing_stack::{Fields, LineFormat, OutputKey, Timer};
 pub use trace::Trace;
 pub use tracing_appender_rolling::{
-    Builder, FileEntry, FileNumber, Folder, FolderError, FolderFault, MemoryFolder, Moment,
+    Builder, Entry, FileEntry, FileNumber, Folder, FolderError, FolderFault, MemoryFolder, Moment,
     Rotation,
 };
 pub use tracing_core::{FieldValue, OwnedValue};

@@ -8,7 +8,7 @@ mod texts;
 ghost use Rattle.std.specs.Prelude.{◌≡◌, IfOk, vec_len};
 
 use crate::{
-    Builder, FieldValue, Fields, FileNumber, Folder, FolderError, FolderFault, LineFormat,
+    Builder, Entry, FieldValue, Fields, FileNumber, Folder, FolderError, FolderFault, LineFormat,
     MemoryFolder, Moment, Output, OutputKey, OwnedValue, Refusal, Reply, Rotation, Route, SinkSpec,
     SpanName, Timer, Trace,
 };
@@ -94,6 +94,26 @@ impl Folder for FailingFolder {
         }
         self.writes -= 1;
         Ok(bytes.len())
+    }
+
+    fn create_dirs(&mut self) -> Result<(), FolderError> {
+        Ok(())
+    }
+
+    fn flush(&mut self, _file: FileNumber) -> Result<(), FolderError> {
+        Ok(())
+    }
+
+    fn list(&mut self) -> Result<Vec<Entry>, FolderError> {
+        Err(FolderError::OutOfMemory)
+    }
+
+    fn remove(&mut self, _name: &str) -> Result<(), FolderError> {
+        Ok(())
+    }
+
+    fn link(&mut self, _name: &str, _target: &str) -> Result<(), FolderError> {
+        Ok(())
     }
 
     fn failures(&self) -> u64 {

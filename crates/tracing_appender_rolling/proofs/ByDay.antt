@@ -10,7 +10,7 @@ use Rattle.tracing_appender_rolling.specs.Moments.{is_moment, is_day, is_earlier
 use Rattle.tracing_appender_rolling.specs.Names.{FileNames, file_name}
 use Rattle.tracing_appender_rolling.specs.Sinks.{Handed, Placed, placed, lies_in, is_on, file_text, FilesByDay}
 use Rattle.tracing_appender_rolling.proofs.DayFacts.{moment_day}
-use Rattle.tracing_appender_rolling.proofs.Years.{names_apart}
+use Rattle.tracing_appender_rolling.proofs.Apart.{names_apart}
 
 same_bool : (a b : Bool) → (a ≡ true → b ≡ true) → (b ≡ true → a ≡ true) → a ≡ b
 same_bool true b f g = sym (f refl)

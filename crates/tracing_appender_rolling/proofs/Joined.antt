@@ -1,7 +1,7 @@
 -- A name's parts.
 use Rattle.std.proofs.Common.{◌≡◌, ℕ, ℤ, List, [], ◌∷◌, ◌++◌, refl, sym, ap, ◌∙◌, append_assoc, Option, Some, None}
 use Rattle.std.proofs.lemmas.List.{append-nil}
-use Rattle.tracing_appender_rolling.specs.Calendar.{date_text}
+use Rattle.tracing_appender_dates.specs.Calendar.{date_text}
 use Rattle.tracing_appender_rolling.specs.Names.{FileNames, before_date, after_date, name_around, file_name}
 
 around_is : (prefix suffix : Option (List ℕ)) (date : List ℕ) → name_around prefix date suffix ≡ before_date prefix ++ (date ++ after_date suffix)

@@ -1,13 +1,11 @@
-pub mod Days
-pub mod Texts
-pub mod Counted
-pub mod Years
 pub mod DayFacts
+pub mod Apart
 pub mod Content
 pub mod Files
 pub mod Openings
 pub mod ByDay
 pub mod Named
+pub mod Wrapped
 pub mod Listing
 pub mod Puts
 pub mod Joined

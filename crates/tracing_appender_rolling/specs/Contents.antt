@@ -1,10 +1,10 @@
 -- What a folder has: names stand for files with bytes, and a file outlives its name.
-use Rattle.std.specs.Prelude.{◌≡◌, ℕ, zero, suc, ◌+◌, ◌-◌, ◌^◌, min, Bool, true, false, ◌&&◌, if◌then◌else◌, List, [], ◌∷◌, ◌++◌, length, take, Option, Some, None, Result, Ok, Err}
-use Rattle.std.specs.List.{position_from, list_any}
+use Rattle.std.specs.Prelude.{◌≡◌, ℕ, zero, suc, ◌+◌, ◌-◌, ◌^◌, min, Bool, true, false, ◌&&◌, if◌then◌else◌, List, [], ◌∷◌, ◌++◌, length, take, map, is_some, slice_set, Option, Some, None, Result, Ok, Err}
+use Rattle.std.specs.List.{position_from, filter}
 use Rattle.std.specs.Str.{bytes_eq}
 use Rattle.tracing_appender_rolling.specs.declared.moment.Moment.{Moment}
 use Rattle.tracing_appender_rolling.specs.declared.fault.FolderFault.{FolderFault}
-use Rattle.tracing_appender_rolling.specs.declared.fault.FolderFault.TheVariants.{Refused}
+use Rattle.tracing_appender_rolling.specs.declared.fault.FolderFault.TheVariants.{Refused, NotFound}
 use Rattle.tracing_appender_rolling.specs.declared.fault.FolderError.{FolderError}
 use Rattle.tracing_appender_rolling.specs.declared.fault.FolderError.TheVariants.{Fault, OutOfMemory}
 use Rattle.tracing_appender_rolling.specs.declared.fault.FileNumber.{FileNumber}
@@ -43,8 +43,12 @@ has_name name file = file.stands && bytes_eq file.name name
 abbrev pub file_named : List ℕ → List Kept → Option ℕ
 file_named name files = position_from (has_name name) 0 files
 
+-- the link under a name
+abbrev pub link_place : List ℕ → List (List ℕ × List ℕ) → Option ℕ
+link_place name links = position_from (λ l. bytes_eq l.0 name) 0 links
+
 abbrev pub link_named : List ℕ → List (List ℕ × List ℕ) → Bool
-link_named name links = list_any (λ l. bytes_eq l.0 name) links
+link_named name links = is_some (link_place name links)
 
 -- the bytes of the file that the name stands for
 abbrev pub bytes_at : List Kept → List ℕ → Option (List ℕ)
@@ -56,6 +60,12 @@ abbrev pub appended : List Kept → ℕ → List ℕ → List Kept
 appended [] place bytes = []
 appended (file ∷ files) zero bytes = record file { bytes = file.bytes ++ bytes } ∷ files
 appended (file ∷ files) (suc place) bytes = file ∷ appended files place bytes
+
+-- the file at a place without its name
+abbrev pub unnamed : List Kept → ℕ → List Kept
+unnamed [] place = []
+unnamed (file ∷ files) zero = record file { stands = false } ∷ files
+unnamed (file ∷ files) (suc place) = file ∷ unnamed files place
 
 -- a new file of no bytes
 abbrev pub fresh : List ℕ → Kept
@@ -102,7 +112,53 @@ write_plain file bytes c = (Ok (length bytes), record (called c) { files = appen
 abbrev pub written : Contents → FileNumber → List ℕ → Answer ℕ
 written c file bytes = unless_refused c (write_plain file (take (taken (c.coming 0) (length bytes)) bytes) c)
 
--- a close changes nothing here
+-- a name stands for its file no more; the file can still be written
+abbrev pub remove_at : Contents → Option ℕ → Answer (Unit {0})
+remove_at c None = refusal NotFound c
+remove_at c (Some place) = (Ok tt, record (called c) { files = unnamed c.files place })
+
+abbrev pub remove_plain : List ℕ → Contents → Answer (Unit {0})
+remove_plain name c = remove_at c (file_named name c.files)
+
+abbrev pub removed : Contents → List ℕ → Answer (Unit {0})
+removed c name = unless_refused c (remove_plain name c)
+
+-- what a listing tells of a name
+pub record Listed : Type 0 where
+  pub name : List ℕ
+  pub plain : Bool
+  pub created : Option Moment
+
+abbrev pub listed_file : Kept → Listed
+listed_file f = record { name = f.name; plain = true; created = f.created }
+
+abbrev pub listed_link : List ℕ × List ℕ → Listed
+listed_link l = record { name = l.0; plain = false; created = None }
+
+-- the files that stand, and the links
+abbrev pub listing : Contents → List Listed
+listing c = map listed_file (filter (λ f. f.stands) c.files) ++ map listed_link c.links
+
+abbrev pub list_plain : Contents → Answer (List Listed)
+list_plain c = (Ok (listing c), called c)
+
+abbrev pub names_listed : Contents → Answer (List Listed)
+names_listed c = unless_refused c (list_plain c)
+
+-- a link under a name, in place of one of that name; a file under it refuses
+abbrev pub links_with : List (List ℕ × List ℕ) → Option ℕ → List ℕ × List ℕ → List (List ℕ × List ℕ)
+links_with links None new = links ++ new ∷ []
+links_with links (Some place) new = slice_set links place new
+
+abbrev pub link_plain : List ℕ → List ℕ → Contents → Answer (Unit {0})
+link_plain name target c =
+    if is_some (file_named name c.files) then refusal Refused c
+    else (Ok tt, record (called c) { links = links_with c.links (link_place name c.links) (name, target) })
+
+abbrev pub linked : Contents → List ℕ → List ℕ → Answer (Unit {0})
+linked c name target = unless_refused c (link_plain name target c)
+
+-- a close, a flush and the making of directories change nothing here
 abbrev pub nothing_plain : Contents → Answer (Unit {0})
 nothing_plain c = (Ok tt, called c)
 

@@ -1,12 +1,14 @@
 pub mod Moments
-pub mod Calendar
+pub use Rattle.tracing_appender_dates.specs.Calendar
 pub mod Names
 pub mod Builders
 pub mod Contents
 pub mod Memory
 pub mod Entries
+pub mod Listings
+pub mod Faulty
 pub mod Sinks
-pub mod Rows
+pub use Rattle.tracing_appender_dates.specs.Rows
 pub mod Faults
 pub mod Writes
 pub mod Looks

@@ -4,7 +4,7 @@ use Rattle.std.specs.List.{list_any}
 use Rattle.std.specs.Option.{option_map}
 use Rattle.std.specs.Global.{Global}
 use Rattle.tracing_appender_rolling.specs.Moments.{is_day}
-use Rattle.tracing_appender_rolling.specs.Calendar.{date_text}
+use Rattle.tracing_appender_dates.specs.Calendar.{date_text}
 
 -- what stands before and after the date
 pub record FileNames : Type 0 where

@@ -3,6 +3,7 @@
 ghost use Rattle.std.specs.Prelude.{◌≡◌};
 ghost use Rattle.tracing_appender_rolling.specs.declared.fault.FolderError.TheVariants.{OutOfMemory};
 
+use crate::moment::Moment;
 use std::alloc::{AllocError, AllocFailed};
 use thiserror::Error;
 
@@ -48,4 +49,14 @@ impl<T: Drop> From<AllocFailed<T>> for FolderError {
 #[derive(Clone, Copy, Debug, PartialEq, Eq)]
 pub struct FileNumber {
     pub index: usize,
+}
+
+/// A name in a folder.
+#[derive(Debug, Drop)]
+pub struct Entry {
+    pub name: String,
+    /// Whether it stands for a plain file.
+    pub plain: bool,
+    /// When the file was made, where that is known.
+    pub created: Option<Moment>,
 }

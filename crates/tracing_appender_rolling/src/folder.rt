@@ -1,9 +1,10 @@
 //! The folder as its user sees it.
 
 ghost use Rattle.std.specs.Prelude.{◌≡◌, ◌≤◌, ℕ, Option, IfOk, length};
-ghost use Rattle.tracing_appender_rolling.specs.Contents.{Contents, Gives, opened, written, nothing, failures_after};
+ghost use Rattle.tracing_appender_rolling.specs.Contents.{Contents, Gives, opened, written, removed, linked, nothing, names_listed, failures_after};
+ghost use Rattle.tracing_appender_rolling.specs.Listings.{listed_all};
 
-use crate::fault::{FileNumber, FolderError};
+use crate::fault::{Entry, FileNumber, FolderError};
 
 /// Names that stand for files with bytes. An opened file can be written after its name was removed; a call that answers an error changed nothing.
 pub trait Folder: Drop {
@@ -27,6 +28,31 @@ pub trait Folder: Drop {
     fn write(&mut self, file: FileNumber, bytes: &[u8]) -> Result<usize, FolderError>
         ensures bound { IfOk result (λ n. n ≤ length bytes.now) }
         ensures gives { Gives (λ c. written c file bytes.now) (contents self.old) result (contents self.new) }
+        ensures failures { failed self.new ≡ failures_after (failed self.old) result };
+
+    /// Makes the folder's directories, where they aren't there.
+    fn create_dirs(&mut self) -> Result<(), FolderError>
+        ensures gives { Gives nothing (contents self.old) result (contents self.new) }
+        ensures failures { failed self.new ≡ failures_after (failed self.old) result };
+
+    /// Flushes an opened file.
+    fn flush(&mut self, file: FileNumber) -> Result<(), FolderError>
+        ensures gives { Gives nothing (contents self.old) result (contents self.new) }
+        ensures failures { failed self.new ≡ failures_after (failed self.old) result };
+
+    /// The names, those of links too.
+    fn list(&mut self) -> Result<Vec<Entry>, FolderError>
+        ensures gives { Gives names_listed (contents self.old) (listed_all result) (contents self.new) }
+        ensures failures { failed self.new ≡ failures_after (failed self.old) (listed_all result) };
+
+    /// Removes the name of a file. An opened file can still be written.
+    fn remove(&mut self, name: &str) -> Result<(), FolderError>
+        ensures gives { Gives (λ c. removed c name.now) (contents self.old) result (contents self.new) }
+        ensures failures { failed self.new ≡ failures_after (failed self.old) result };
+
+    /// Makes a link to a name, in place of a link that stood there. A file that stands there refuses.
+    fn link(&mut self, name: &str, target: &str) -> Result<(), FolderError>
+        ensures gives { Gives (λ c. linked c name.now target.now) (contents self.old) result (contents self.new) }
         ensures failures { failed self.new ≡ failures_after (failed self.old) result };
 
     /// How many faults the folder has told so far; the count stops at the greatest number.

@@ -4,8 +4,10 @@
 mod appender;
 mod builder;
 mod date;
+mod disk;
 mod entries;
 mod fault;
+mod faulty;
 mod folder;
 mod laws;
 mod memory;
@@ -14,12 +16,15 @@ mod name;
 
 pub use appender::{BuildRefusal, Faults, RollingFileAppender};
 pub use builder::{Builder, Rotation};
-pub use date::{date_text, day_of};
-pub use fault::{FileNumber, FolderError, FolderFault};
+pub use date::day_of;
+pub use disk::DiskFolder;
+pub use fault::{Entry, FileNumber, FolderError, FolderFault};
+pub use faulty::FaultyFolder;
 pub use folder::Folder;
-pub use laws::{dates_count_days, files_by_day, names_differ, worked_dates};
+pub use laws::{files_by_day, names_differ};
 pub use memory::{FileEntry, MemoryFolder};
-pub use moment::Moment;
+pub use moment::{BadMoment, Moment};
+pub use tracing_appender_dates::{date_text, dates_count_days, worked_dates};
 
 #[cfg(test)]
 mod tests;

@@ -1,11 +1,11 @@
 //! A folder in memory.
 
-ghost use Rattle.std.specs.Prelude.{◌≡◌, ℕ, List, Some, true, OnOk, OnErr, IfOk, if◌then◌else◌};
+ghost use Rattle.std.specs.Prelude.{◌≡◌, ◌+◌, ◌-◌, ◌^◌, ℕ, List, Some, None, true, map, min, OnOk, OnErr, IfOk, IfSome, IfNone, if◌then◌else◌};
 ghost use Rattle.std.specs.Str.{bytes_eq};
-ghost use Rattle.tracing_appender_rolling.specs.Contents.{file_named, bytes_at};
+ghost use Rattle.tracing_appender_rolling.specs.Contents.{file_named, bytes_at, link_place, listing};
 
 use crate::entries::add_entry;
-use crate::fault::{FileNumber, FolderError};
+use crate::fault::{Entry, FileNumber, FolderError, FolderFault};
 use crate::folder::Folder;
 use crate::moment::Moment;
 use std::alloc::{AllocError, Global};
@@ -26,16 +26,26 @@ pub struct FileEntry<'a> {
     pub bytes: &'a [u8],
 }
 
-/// A folder whose files lie in memory. It refuses nothing but for want of memory.
+/// A link to a name.
+#[derive(Debug, Drop)]
+pub struct MemoryLink {
+    name: String,
+    target: String,
+}
+
+/// A folder whose files lie in memory. It refuses to open a link, to remove what isn't there, and to put a link in a file's place.
 #[derive(Debug, Drop)]
 pub struct MemoryFolder {
-    alloc: Global,
+    pub(crate) alloc: Global,
     files: Vec<MemoryFile>,
+    links: Vec<MemoryLink>,
+    failures: u64,
 }
 
 impl MemoryFolder {
-    ghost use Rattle.tracing_appender_rolling.specs.Memory.{memory_contents, nothing_there, put_at};
+    ghost use Rattle.tracing_appender_rolling.specs.Memory.{memory_contents, nothing_there, put_at, target_at};
     ghost use Rattle.tracing_appender_rolling.specs.Entries.{FilesListed};
+    ghost use Rattle.tracing_appender_rolling.specs.Listings.{listed_of};
 
     /// A folder with no files.
     pub fn new(alloc: Global) -> MemoryFolder
@@ -44,6 +54,8 @@ impl MemoryFolder {
         MemoryFolder {
             alloc,
             files: Vec::new(alloc),
+            links: Vec::new(alloc),
+            failures: 0,
         }
     }
 
@@ -98,6 +110,64 @@ impl MemoryFolder {
         Ok(entries)
     }
 
+    /// The name that a link leads to.
+    pub fn link_target(&self, name: &str) -> Option<&str>
+        ensures some { IfSome result (λ target. target_at (memory_contents self.now).links name.now ≡ Some target.now) }
+        ensures none { IfNone result (target_at (memory_contents self.now).links name.now ≡ None) }
+    {
+        for link in &self.links {
+            if link.name.as_str() == name {
+                return Some(link.target.as_str());
+            }
+        }
+        None
+    }
+
+    /// The names of files that stand, and of links.
+    fn entries(&self) -> Result<Vec<Entry>, AllocError>
+        ensures { IfOk result (λ all. map listed_of all.items ≡ listing (memory_contents self.now)) }
+    {
+        let mut all = Vec::new(self.alloc);
+        for file in &self.files {
+            if file.stands {
+                all.push(Entry {
+                    name: file.name.clone()?,
+                    plain: true,
+                    created: file.created,
+                })?;
+            }
+        }
+        for link in &self.links {
+            all.push(Entry {
+                name: link.name.clone()?,
+                plain: false,
+                created: None,
+            })?;
+        }
+        Ok(all)
+    }
+
+    /// Counts a fault.
+    fn refuse(&mut self, fault: FolderFault) -> FolderError
+        ensures result { result ≡ FolderError.Fault fault }
+        ensures same { memory_contents self.new ≡ memory_contents self.old }
+        ensures count { self.new.failures ≡ min (self.old.failures + 1) (2 ^ 64 - 1) }
+    {
+        self.failures = self.failures.saturating_add(1);
+        FolderError::Fault(fault)
+    }
+
+    fn place_of_link(&self, name: &str) -> Option<usize>
+        ensures { result ≡ link_place name.now (memory_contents self.now).links }
+    {
+        for (place, link) in self.links.iter().enumerate() {
+            if link.name.as_str() == name {
+                return Some(place);
+            }
+        }
+        None
+    }
+
     fn place_of(&self, name: &str) -> Option<usize>
         ensures { result ≡ file_named name.now (memory_contents self.now).files }
     {
@@ -116,9 +186,12 @@ impl Folder for MemoryFolder {
 
     ghost contents = { λ m. Some (memory_contents m) };
 
-    ghost failed = { λ _. 0 };
+    ghost failed = { λ m. m.failures };
 
     fn open_append(&mut self, name: &str) -> Result<FileNumber, FolderError> {
+        if self.place_of_link(name).is_some() {
+            return Err(self.refuse(FolderFault::Refused));
+        }
         if let Some(index) = self.place_of(name) {
             return Ok(FileNumber { index });
         }
@@ -143,7 +216,44 @@ impl Folder for MemoryFolder {
         Ok(bytes.len())
     }
 
+    fn create_dirs(&mut self) -> Result<(), FolderError> {
+        Ok(())
+    }
+
+    fn flush(&mut self, _file: FileNumber) -> Result<(), FolderError> {
+        Ok(())
+    }
+
+    fn list(&mut self) -> Result<Vec<Entry>, FolderError> {
+        Ok(self.entries()?)
+    }
+
+    fn remove(&mut self, name: &str) -> Result<(), FolderError> {
+        match self.place_of(name) {
+            Some(place) => {
+                self.files[place].stands = false;
+                Ok(())
+            }
+            None => Err(self.refuse(FolderFault::NotFound)),
+        }
+    }
+
+    fn link(&mut self, name: &str, target: &str) -> Result<(), FolderError> {
+        if self.place_of(name).is_some() {
+            return Err(self.refuse(FolderFault::Refused));
+        }
+        let link = MemoryLink {
+            name: String::from_str(self.alloc, name)?,
+            target: String::from_str(self.alloc, target)?,
+        };
+        match self.place_of_link(name) {
+            Some(place) => self.links[place] = link,
+            None => self.links.push(link)?,
+        }
+        Ok(())
+    }
+
     fn failures(&self) -> u64 {
-        0
+        self.failures
     }
 }

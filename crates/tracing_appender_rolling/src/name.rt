@@ -5,8 +5,8 @@ ghost use Rattle.std.specs.Option.{option_map};
 ghost use Rattle.tracing_appender_rolling.specs.Moments.{is_day};
 ghost use Rattle.tracing_appender_rolling.specs.Names.{file_name, names_of, name_around};
 
-use crate::date::date_text;
 use std::alloc::{AllocError, Global};
+use tracing_appender_dates::date_text;
 
 /// The name of a day's file.
 pub(crate) fn file_name(

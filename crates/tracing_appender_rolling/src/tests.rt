@@ -3,8 +3,10 @@
 ghost use Rattle.std.specs.Prelude.{◌≡◌, true};
 ghost use Rattle.tracing_appender_rolling.specs.Moments.{is_moment};
 
+mod folders;
+
 use crate::{
-    Builder, FileNumber, Folder, FolderError, FolderFault, MemoryFolder, Moment,
+    Builder, Entry, FileNumber, Folder, FolderError, FolderFault, MemoryFolder, Moment,
     RollingFileAppender, Rotation, date_text, day_of,
 };
 use std::alloc::{AllocError, Global};
@@ -70,6 +72,26 @@ impl Folder for SlowFolder {
             }
             None => Ok(0),
         }
+    }
+
+    fn create_dirs(&mut self) -> Result<(), FolderError> {
+        Ok(())
+    }
+
+    fn flush(&mut self, _file: FileNumber) -> Result<(), FolderError> {
+        Ok(())
+    }
+
+    fn list(&mut self) -> Result<Vec<Entry>, FolderError> {
+        Err(FolderError::OutOfMemory)
+    }
+
+    fn remove(&mut self, _name: &str) -> Result<(), FolderError> {
+        Ok(())
+    }
+
+    fn link(&mut self, _name: &str, _target: &str) -> Result<(), FolderError> {
+        Ok(())
     }
 
     fn failures(&self) -> u64 {

@@ -1,7 +1,7 @@
 use Rattle.std.proofs.Common.{◌∙◌, ap, w64}
 use Rattle.std.proofs.lemmas.Int.{to_z-of_z}
 use Rattle.tracing_appender_rolling.specs.Names.{names_of}
-use Rattle.tracing_appender_rolling.specs.Calendar.{date_text}
+use Rattle.tracing_appender_dates.specs.Calendar.{date_text}
 use Rattle.tracing_appender_rolling.proofs.Joined.{name_is}
 use Rattle.tracing_appender_rolling.proofs.name.file_name.Goals as goal
 
