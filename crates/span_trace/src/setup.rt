@@ -128,7 +128,10 @@ impl Stage {
             FieldSet::new(names.as_slice(), identifier),
             line.kind,
         );
-        self.trace.register(identifier, &metadata)
+        match self.trace.register(identifier, &metadata) {
+            Ok(_) => Ok(()),
+            Err(refusal) => Err(refusal),
+        }
     }
 
     fn add_lane(&mut self, line: &LaneLine) -> Result<(), Refusal> {

@@ -24,7 +24,7 @@ pub record OneCall (dispatch : Option ℕ) (global : hub.Setting) (es fs : List 
   pub moved : StackMoves before c reply after
   pub only : HasOnly (Some dispatch) global fs
 
-same_number : (n : ℕ) → (n == n) ≡ true
+pub same_number : (n : ℕ) → (n == n) ≡ true
 same_number n = grind (arith, nat_tests)
 
 pub found : (e : Entry StackValue) → entry_of e.serial (e ∷ []) ≡ Some e
@@ -50,5 +50,5 @@ one_call g means c dispatch global es fs reply has gives =
       stood = ap (λ (o : Option (Entry StackValue)). option_map (λ (x : Entry StackValue). x.subscriber) o) living;
       stands = ap (λ (o : Option (Entry StackValue)). option_map (λ (x : Entry StackValue). x.subscriber) o) lives;
       moved = means e.subscriber c reply given.0 given.1;
-      only = (later, left, is, has.3);
+      only = (later, left, is, has.3, has.4);
     }

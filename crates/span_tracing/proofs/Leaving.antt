@@ -21,14 +21,14 @@ use Rattle.span_tracing_machine.specs.Skeleton.{PlainCallsite}
 use Rattle.span_tracing_machine.specs.Spans.{is_open, open_of, without_last}
 use Rattle.span_tracing_machine.specs.State.{mask_at, event_line, name_of, fields_of}
 use Rattle.span_tracing_stack.specs.Lanes.{padded, pushed, removed}
-use Rattle.span_tracing_stack.specs.Moves.{Gives, StackMoves, SpanGives, EventGives, EntryGives, TellsLine, quiet}
-use Rattle.span_tracing_stack.specs.Stacks.{StackValue, Quiet, passes, knows_parent, line_told, with_span, with_exit, with_less}
+use Rattle.span_tracing_stack.specs.Moves.{Gives, StackMoves, SpanGives, EventGives, EntryGives, quiet}
+use Rattle.span_tracing_stack.specs.Stacks.{StackValue, Quiet, passes, knows_parent, line_told, span_text, with_span, with_exit, with_less}
 use Rattle.span_tracing.specs.Actions.{plain_request}
 use Rattle.span_tracing.specs.Left.{TellsEvent, MakesSpan, LeavesParts, with_made, with_entry, without_entry, without_one}
 use Rattle.span_tracing.specs.Skeletons.{StateValue, PlainThread, plain_callsite, plain_thread, stack_in, stack_of, skeleton_of, setting_of, filter_in, skeleton_with, value_with, value_in, spans_in, lanes_in, told_in}
 use Rattle.span_tracing.specs.Stored.{open_texts}
 use Rattle.span_tracing.specs.Sound.{IsSound}
-use Rattle.span_tracing.specs.Telling.{own_metadata, parent_of, event_of, attributes_of, place_at}
+use Rattle.span_tracing.specs.Telling.{own_metadata, parent_of, values_of, event_of, attributes_of, place_at}
 use Rattle.span_tracing.specs.declared.action.Request.{Request}
 use Rattle.span_tracing.specs.declared.callsite.Callsite.{Callsite}
 use Rattle.span_tracing.specs.declared.parts.TraceParts.{TraceParts}
@@ -36,7 +36,7 @@ use Rattle.span_tracing.specs.declared.site.Site.{Site}
 use Rattle.span_tracing.proofs.Handed.{OneCall, one_call}
 use Rattle.span_tracing.proofs.Padded.{open_padded, pushed_padded, pushed_length, removed_padded, set_length, length_map}
 use Rattle.span_tracing.proofs.Parting.{start_same, line_same, parent_known, event_told, with_stack, has_only, stack_before, stack_after, value_before, value_after, sound_after, fits_before}
-use Rattle.span_tracing.proofs.Values.{given_same, indexed_named}
+use Rattle.span_tracing.proofs.Values.{given_same}
 use Rattle.span_tracing.proofs.Lists.{slice_get_map}
 
 or_false : (b : Bool) → (Rattle.std.proofs.Common.◌||◌ b false) ≡ b
@@ -52,9 +52,12 @@ pub passed_is : (x : StackValue) (c : Callsite) (at : Option PlainCallsite) → 
 passed_is x c at is = ap (λ (o : Option PlainCallsite). is_made (mask_at (Some x.setting.filter) o)) is ∙ or_false (passes x (own_metadata c))
 
 -- a new span in a trace's state
-made_same : (x : StackValue) (c : Callsite) (r : Request) (sites : List PlainCallsite) (threads : List PlainThread) (is_global : Bool) (starved place : ℕ) (fate : Fate) (text : List ℕ) → text ≡ fields_text (map string_bytes c.fields.items) (given_by fate (plain_request r).values) → slice_get sites place ≡ Some (plain_callsite c) →
-    value_with sites threads is_global starved (Some (with_span x (attributes_of c r) r.lane text fate)) ≡ with_made (value_with sites threads is_global starved (Some x)) (plain_request r) place fate
-made_same x c r sites threads is_global starved place fate text same at =
+made_same : (x : StackValue) (c : Callsite) (r : Request) (sites : List PlainCallsite) (threads : List PlainThread) (is_global : Bool) (starved place : ℕ) (fate : Fate) → slice_get sites place ≡ Some (plain_callsite c) →
+    value_with sites threads is_global starved (Some (with_span x (attributes_of c r) r.lane fate)) ≡ with_made (value_with sites threads is_global starved (Some x)) (plain_request r) place fate
+made_same x c r sites threads is_global starved place fate at =
+    let names = map string_bytes c.fields.items in
+    let text = span_text (values_of c r) fate in
+    let same : text ≡ fields_text names (given_by fate (plain_request r).values) = given_same names r.values.now fate in
     let old = value_with sites threads is_global starved (Some x) in
     let shape = λ (start : Option ℕ) (name bytes : List ℕ). record old {
       skeleton = record (old.skeleton) { spans = x.spans ++ (record { id = x.next_id; parent = start; handles = 1 }) ∷ []; next_id = x.next_id + 1 };
@@ -103,24 +106,24 @@ module _ (g : Ghosts StackValue) (means : (x : StackValue) (c : Call) (r : Reply
       let line = told.1.1 in
       record {
         kept = value_after p u dispatch handle sound rest y one.stands ∙ ap (λ (v : StackValue). over rest (Some v)) told.2 ∙ sym old;
-        sound = sound_after p u dispatch handle sound rest y one.stands one.only (subst (λ (v : StackValue). length v.lanes ≤ length p.threads.items) (sym told.2) (fits_before p u dispatch handle sound rest x one.stood));
+        sound = sound_after p u dispatch handle sound rest x y one.stood one.stands one.moved.setting one.only (subst (λ (v : StackValue). length v.lanes ≤ length p.threads.items) (sym told.2) (fits_before p u dispatch handle sound rest x one.stood));
         fate = told.1.0;
         told =
-            ap told_in (stack_after p u dispatch handle sound rest y one.stands) ∙ ap (λ (v : StackValue). v.told) told.2 ∙ line.2
-            ∙ ap (line_told told.1.0) (line.1 (indexed_named (length (map string_bytes c.fields.items)) r.values.now) ∙ line_same x c r cs count (was_set p.hub.global) place at
+            ap told_in (stack_after p u dispatch handle sound rest y one.stands) ∙ ap (λ (v : StackValue). v.told) told.2 ∙ line
+            ∙ ap (line_told told.1.0) (line_same x c r cs count (was_set p.hub.global) place at
             ∙ ap (λ (v : StateValue). event_line v.skeleton v.texts (Rattle.span_tracing.specs.Skeletons.time_in (setting_of v)) (plain_request r) place) (sym old));
       }
 
   -- a new span
-  span_given : (x y : StackValue) (a : Rattle.tracing_core.specs.PlainRequests.PlainAttributes) (lane : ℕ) (id : Option ℕ) → SpanGives x a lane (Ok id) y → passes x a.metadata ≡ true → (id ≡ Some x.next_id) × ((fate : Fate) × Rattle.span_tracing_stack.specs.Moves.MakesSpan x a lane fate y)
-  span_given x y a lane None g p = absurd (let e : true ≡ false = sym p ∙ g.0 in cc)
-  span_given x y a lane (Some id) g p = (ap (λ n. Some n) g.2, g.4)
+  span_given : (x y : StackValue) (a : Rattle.tracing_core.specs.PlainRequests.PlainAttributes) (lane : ℕ) (id : Option ℕ) → SpanGives x a lane (Ok id) y → passes x a.metadata ≡ true → (id ≡ Some x.next_id) × ((fate : Fate) × (y ≡ with_span x a lane fate))
+  span_given x y a lane None g p = absurd (let e : true ≡ false = sym p ∙ g.1 in cc)
+  span_given x y a lane (Some id) g p = (ap (λ n. Some n) g.3, g.4)
 
   span_refused : (x y : StackValue) (a : Rattle.tracing_core.specs.PlainRequests.PlainAttributes) (lane : ℕ) (error : RequestError) → SpanGives x a lane (Err error) y → knows_parent x a.parent ≡ true → x.next_id ≤ 18446744073709551615 → y ≡ quiet x
-  span_refused x y a lane OutOfMemory g k n = g.1
+  span_refused x y a lane OutOfMemory g k n = g.3
   span_refused x y a lane UnknownSpan g k n = absurd g
   span_refused x y a lane UnknownParent g k n = absurd (let e : false ≡ true = sym g.0 ∙ k in cc)
-  span_refused x y a lane IdsSpent g k n = g.1
+  span_refused x y a lane IdsSpent g k n = g.3
   span_refused x y a lane TooManyHandles g k n = absurd g
 
   pub makes : (c : Callsite) (r : Request) (place : ℕ) (id : Option ℕ) → HubGives g (SpanMade (attributes_of c r) (place_at r.lane r.moment)) dispatch p.hub (Ok id) u → slice_get cs place ≡ Some (plain_callsite c) → parent_refusal (skeleton_of (value_in p)) r.parent ≡ None → is_made (mask_at (filter_in (setting_of (value_in p))) (slice_get cs place)) ≡ true → MakesSpan p new (plain_request r) place id
@@ -133,19 +136,15 @@ module _ (g : Ghosts StackValue) (means : (x : StackValue) (c : Call) (r : Reply
       let old = value_before p u dispatch handle sound rest x one.stood in
       let given = span_given x y (attributes_of c r) r.lane id one.moved.gives (passing rest x c place old at made) in
       let fate = given.1.0 in
-      let text = given.1.1.0 in
-      let left = given.1.1.2 in
-      let names = map string_bytes c.fields.items in
-      let same : text ≡ Rattle.span_tracing_machine.specs.FieldTexts.fields_text names (Rattle.span_tracing_machine.specs.Missed.given_by fate (plain_request r).values) =
-      given.1.1.1 (indexed_named (length names) r.values.now) ∙ given_same names r.values.now fate in
+      let left = given.1.1 in
       record {
-        sound = sound_after p u dispatch handle sound rest y one.stands one.only (subst (λ (v : StackValue). length v.lanes ≤ length p.threads.items) (sym left) (fits_before p u dispatch handle sound rest x one.stood));
+        sound = sound_after p u dispatch handle sound rest x y one.stood one.stands one.moved.setting one.only (subst (λ (v : StackValue). length v.lanes ≤ length p.threads.items) (sym left) (fits_before p u dispatch handle sound rest x one.stood));
         named = given.0 ∙ ap (λ (v : StateValue). Some v.skeleton.next_id) (sym old);
         fate = fate;
         told = ap told_in (stack_after p u dispatch handle sound rest y one.stands) ∙ ap (λ (v : StackValue). v.told) left;
         made =
             value_after p u dispatch handle sound rest y one.stands ∙ ap (λ (v : StackValue). over rest (Some v)) left
-            ∙ made_same x c r cs (map plain_thread p.threads.items) (was_set p.hub.global) p.starved place fate text same at
+            ∙ made_same x c r cs (map plain_thread p.threads.items) (was_set p.hub.global) p.starved place fate at
             ∙ ap (λ (v : StateValue). with_made v (plain_request r) place fate) (sym old);
       }
 
@@ -159,7 +158,7 @@ module _ (g : Ghosts StackValue) (means : (x : StackValue) (c : Call) (r : Reply
       let y = one.after in
       let old = value_before p u dispatch handle sound rest x one.stood in
       let same = span_refused x y (attributes_of c r) r.lane error one.moved.gives (known rest x r old parent) (subst (λ (v : StateValue). v.skeleton.next_id ≤ 18446744073709551615) old left) in (
-        sound_after p u dispatch handle sound rest y one.stands one.only (subst (λ (v : StackValue). length v.lanes ≤ length p.threads.items) (sym same) (fits_before p u dispatch handle sound rest x one.stood)),
+        sound_after p u dispatch handle sound rest x y one.stood one.stands one.moved.setting one.only (subst (λ (v : StackValue). length v.lanes ≤ length p.threads.items) (sym same) (fits_before p u dispatch handle sound rest x one.stood)),
         value_after p u dispatch handle sound rest y one.stands ∙ ap (λ (v : StackValue). over rest (Some v)) same ∙ sym old,
       )
 
@@ -176,7 +175,7 @@ module _ (g : Ghosts StackValue) (means : (x : StackValue) (c : Call) (r : Reply
       let left : y ≡ record x { lanes = pushed lane id x.lanes; told = Quiet } = one.moved.gives.1 ∙ ap (λ (n : ℕ). record x { lanes = pushed n id x.lanes; told = Quiet }) is in
       let same = length_map plain_thread p.threads.items in
       let before = over rest (Some x) in (
-        sound_after p u dispatch handle sound rest y one.stands one.only (subst (λ (v : StackValue). length v.lanes ≤ length p.threads.items) (sym left) (pushed_length (length p.threads.items) x.lanes lane id inside fits)),
+        sound_after p u dispatch handle sound rest x y one.stood one.stands one.moved.setting one.only (subst (λ (v : StackValue). length v.lanes ≤ length p.threads.items) (sym left) (pushed_length (length p.threads.items) x.lanes lane id inside fits)),
         value_after p u dispatch handle sound rest y one.stands ∙ ap (λ (v : StackValue). over rest (Some v)) left
             ∙ ap (λ (ls : List (List ℕ)). record before { skeleton = record (before.skeleton) { lanes = ls } }) (pushed_padded count x.lanes lane id (rw same inside))
             ∙ ap (λ (v : StateValue). with_entry v lane id) (sym old),
@@ -200,7 +199,7 @@ module _ (g : Ghosts StackValue) (means : (x : StackValue) (c : Call) (r : Reply
       let x = one.before in
       let y = one.after in
       let same = entry_refused x y id at.lane error one.moved.gives (there_before rest x id one.stood there) in (
-        sound_after p u dispatch handle sound rest y one.stands one.only (subst (λ (v : StackValue). length v.lanes ≤ length p.threads.items) (sym same) (fits_before p u dispatch handle sound rest x one.stood)),
+        sound_after p u dispatch handle sound rest x y one.stood one.stands one.moved.setting one.only (subst (λ (v : StackValue). length v.lanes ≤ length p.threads.items) (sym same) (fits_before p u dispatch handle sound rest x one.stood)),
         value_after p u dispatch handle sound rest y one.stands ∙ ap (λ (v : StackValue). over rest (Some v)) same ∙ sym (value_before p u dispatch handle sound rest x one.stood),
       )
 
@@ -218,7 +217,7 @@ module _ (g : Ghosts StackValue) (means : (x : StackValue) (c : Call) (r : Reply
       let gone = removed lane id x.lanes in
       let before = over rest (Some x) in
       let shape = λ (ls : List (List ℕ)) (ss : List SpanRecord). record before { skeleton = record (before.skeleton) { lanes = ls; spans = ss }; texts = open_texts ss x.texts } in (
-        sound_after p u dispatch handle sound rest y one.stands one.only (subst (λ (v : StackValue). length v.lanes ≤ length p.threads.items) (sym left) (rw (set_length x.lanes lane (without_last id (lane_at x.lanes lane))) fits)),
+        sound_after p u dispatch handle sound rest x y one.stood one.stands one.moved.setting one.only (subst (λ (v : StackValue). length v.lanes ≤ length p.threads.items) (sym left) (rw (set_length x.lanes lane (without_last id (lane_at x.lanes lane))) fits)),
         value_after p u dispatch handle sound rest y one.stands ∙ ap (λ (v : StackValue). over rest (Some v)) left
             ∙ ap (λ (ss : List SpanRecord). shape (padded count gone) ss) (sym (open_padded count gone x.spans))
             ∙ ap (λ (ls : List (List ℕ)). shape ls (open_of ls x.spans)) (removed_padded count x.lanes lane id)
@@ -239,7 +238,7 @@ module _ (g : Ghosts StackValue) (means : (x : StackValue) (c : Call) (r : Reply
       let less = one_less x.spans id in
       let shape = λ (ss : List SpanRecord). record before { skeleton = record (before.skeleton) { spans = ss }; texts = open_texts ss x.texts } in
       let ended : over rest (Some y) ≡ without_one before id = ap (λ (v : StackValue). over rest (Some v)) left ∙ ap shape (sym (open_padded count x.lanes less)) in (
-        sound_after p u dispatch handle sound rest y one.stands one.only (subst (λ (v : StackValue). length v.lanes ≤ length p.threads.items) (sym left) (fits_before p u dispatch handle sound rest x one.stood)),
+        sound_after p u dispatch handle sound rest x y one.stood one.stands one.moved.setting one.only (subst (λ (v : StackValue). length v.lanes ≤ length p.threads.items) (sym left) (fits_before p u dispatch handle sound rest x one.stood)),
         value_after p u dispatch handle sound rest y one.stands ∙ ended ∙ ap (λ (v : StateValue). without_one v id) (sym old),
         one.moved.gives.0 ∙ ap (λ (b : Bool). b && not (is_open y.spans id)) (there_before rest x id one.stood there)
             ∙ ap (λ (v : StateValue). not (is_open v.skeleton.spans id)) (ended ∙ ap (λ (v : StateValue). without_one v id) (sym old)),

@@ -1,12 +1,15 @@
+pub mod Anew
 pub mod Lists
 pub mod FieldNames
 pub mod Padded
 pub mod Handed
 pub mod Values
+pub mod Keeping
 pub mod Parting
 pub mod Leaving
 pub mod Unrefused
 pub mod Asked
+pub mod Gates
 pub mod Opening
 pub mod Agreeing
 pub mod Runs

@@ -21,14 +21,16 @@ use Rattle.span_tracing_machine.proofs.Refusing.{second_none, none_when}
 use Rattle.span_tracing_stack.specs.Lanes.{padded}
 use Rattle.span_tracing_stack.specs.Moves.{EventGives, TellsLine}
 use Rattle.span_tracing_stack.specs.Stacks.{StackValue, PlainTold, passes, knows_parent, under, line_in, plain_time}
+use Rattle.span_tracing_stack.specs.declared.setting.Setting.{Setting}
 use Rattle.span_tracing.specs.Actions.{plain_request}
-use Rattle.span_tracing.specs.Skeletons.{plain_callsite, plain_thread, stack_of, stack_in, skeleton_with, value_with, value_in, told_in}
-use Rattle.span_tracing.specs.Sound.{IsSound, HasOnly}
+use Rattle.span_tracing.specs.Skeletons.{plain_callsite, plain_thread, filter_here, stack_of, stack_in, skeleton_with, value_with, value_in, told_in}
+use Rattle.span_tracing.specs.Sound.{IsSound, HasOnly, KeepsCallsites}
 use Rattle.span_tracing.specs.Telling.{own_metadata, parent_of, values_of, event_of}
 use Rattle.span_tracing.specs.declared.action.Request.{Request}
 use Rattle.span_tracing.specs.declared.callsite.Callsite.{Callsite}
 use Rattle.span_tracing.specs.declared.parts.TraceParts.{TraceParts}
 use Rattle.span_tracing.specs.declared.site.Site.{Site}
+use Rattle.span_tracing.proofs.Keeping.{hub_alike, kept_alike, same_serials}
 use Rattle.span_tracing.proofs.Padded.{lane_at_padded}
 use Rattle.span_tracing.proofs.Values.{fields_same}
 
@@ -92,12 +94,19 @@ module _ (p : TraceParts) (u : Table StackValue Site) (dispatch : Option ℕ) (h
       ap (λ o. value_with (map plain_callsite p.callsites.items) (map plain_thread p.threads.items) (was_set u.global) p.starved o) (stack_after y stands)
       ∙ ap (λ (t : Table StackValue Site). value_with (map plain_callsite p.callsites.items) (map plain_thread p.threads.items) (was_set t.global) p.starved (Some y)) rest
 
-  pub sound_after : (y : StackValue) → stack_of (Some dispatch) u.entries ≡ Some y → HasOnly (Some dispatch) p.hub.global u.entries → length y.lanes ≤ length p.threads.items → IsSound later
-  sound_after y stands only fits = record {
-    only = subst (λ h. HasOnly h u.global u.entries) (sym handle) (subst (λ (t : Table StackValue Site). HasOnly (Some dispatch) t.global u.entries) (sym rest) only);
-    lanes = ap (λ (t : Table StackValue Site). length t.lanes) rest ∙ sound.lanes;
-    fits = subst (λ (o : Option StackValue). length (Rattle.span_tracing.specs.Skeletons.lanes_in o) ≤ length p.threads.items) (sym (stack_after y stands)) fits;
-  }
+  -- the stack that took the call passes what it passed
+  pub sound_after : (x y : StackValue) → stack_of (Some dispatch) p.hub.entries ≡ Some x → stack_of (Some dispatch) u.entries ≡ Some y → y.setting ≡ x.setting → HasOnly (Some dispatch) p.hub.global u.entries → length y.lanes ≤ length p.threads.items → IsSound later
+  sound_after x y stood stands same only fits =
+      let filter = ap filter_here (stack_after y stands) ∙ ap (λ (s : Setting). Some s.filter) same ∙ sym (ap filter_here (stack_before x stood)) in
+      record {
+        only = subst (λ h. HasOnly h u.global u.entries) (sym handle) (subst (λ (t : Table StackValue Site). HasOnly (Some dispatch) t.global u.entries) (sym rest) only);
+        lanes = ap (λ (t : Table StackValue Site). length t.lanes) rest ∙ sound.lanes;
+        fits = subst (λ (o : Option StackValue). length (Rattle.span_tracing.specs.Skeletons.lanes_in o) ≤ length p.threads.items) (sym (stack_after y stands)) fits;
+        hub = hub_alike p.hub u rest (same_serials dispatch p.hub.global p.hub.global p.hub.entries u.entries has_only only) sound.hub;
+        kept =
+            subst (λ o. KeepsCallsites o p.callsites.items u) (sym filter)
+            (kept_alike (filter_here (stack_in p)) p.callsites.items p.hub u (ap (λ (t : Table StackValue Site). t.rows) rest) (ap (λ (t : Table StackValue Site). t.greatest) rest) sound.kept);
+      }
 
   pub fits_before : (x : StackValue) → stack_of (Some dispatch) p.hub.entries ≡ Some x → length x.lanes ≤ length p.threads.items
   fits_before x stood = subst (λ (o : Option StackValue). length (Rattle.span_tracing.specs.Skeletons.lanes_in o) ≤ length p.threads.items) (stack_before x stood) sound.fits

@@ -1,7 +1,7 @@
 -- Values by their fields' indices, as the hub passes them on and as the plain machine has them.
-use Rattle.std.proofs.Common.{◌≡◌, ℕ, ◌<◌, ◌≤◌, Bool, true, false, List, [], ◌∷◌, length, Option, Some, None, refl, ap, arith}
+use Rattle.std.proofs.Common.{◌≡◌, ℕ, ◌≤◌, Bool, true, false, List, [], ◌∷◌, length, Option, Some, None, refl, ap, arith}
 use Rattle.std.specs.Prelude.{if◌then◌else◌, nat_lt, codes}
-use Rattle.std.specs.List.{filter_map, cons_option, join_by, AllByRecursion}
+use Rattle.std.specs.List.{filter_map, cons_option, join_by}
 use Rattle.std.specs.Option.{option_map}
 use Rattle.std.proofs.lemmas.Bool.Decides.{nat_tests}
 use Rattle.std.proofs.lemmas.Option.{slice_get_past}
@@ -35,14 +35,3 @@ pub given_same : (names : List (List ℕ)) (values : List FieldValue) (fate : Fa
 given_same names values Whole = fields_same names values
 given_same names values Missed = refl
 given_same names values Unwritten = refl
-
-one_named : (count index : ℕ) (value : Option PlainValue) (b : Bool) → nat_lt index count ≡ b → (rest : List (ℕ × PlainValue)) → AllByRecursion (λ (entry : ℕ × PlainValue). entry.0 < count) rest → AllByRecursion (λ (entry : ℕ × PlainValue). entry.0 < count) (cons_option (if b then option_map (λ v. (index, v)) value else None) rest)
-one_named count index None true is rest w = w
-one_named count index None false is rest w = w
-one_named count index (Some v) true is rest w = (grind (arith, nat_tests), w)
-one_named count index (Some v) false is rest w = w
-
--- each index that is passed on is a field's
-pub indexed_named : (count : ℕ) (values : List FieldValue) → AllByRecursion (λ (entry : ℕ × PlainValue). entry.0 < count) (indexed_entries count values)
-indexed_named count [] = tt
-indexed_named count (given ∷ values) = one_named count given.field (plain_owned given.value) (is_indexed count given) refl (indexed_entries count values) (indexed_named count values)

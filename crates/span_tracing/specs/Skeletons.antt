@@ -1,8 +1,10 @@
 -- What a trace's state is without where it lies in memory.
-use Rattle.std.specs.Prelude.{ℕ, List, [], length, map, Bool, false, Option, Some, None, is_some, string_bytes}
+use Rattle.std.specs.Prelude.{ℕ, nat_le, if◌then◌else◌, List, [], length, map, Bool, false, Option, Some, None, is_some, string_bytes}
 use Rattle.std.specs.Option.{option_map}
 use Rattle.tracing_core.specs.Defaults.{was_set}
 use Rattle.tracing_core.specs.Entry.{Entry}
+use Rattle.tracing_core.specs.Interests.{PlainInterest}
+use Rattle.tracing_core.specs.InterestInner.TheVariants.{Never, Always}
 use Rattle.tracing_core.specs.Lent.{living_of}
 use Rattle.span_tracing_machine.specs.Skeleton.{Skeleton, PlainCallsite}
 use Rattle.span_tracing_machine.specs.State.{PlainText}
@@ -80,6 +82,19 @@ stack_of (Some dispatch) entries = option_map (λ (e : Entry StackValue). e.subs
 
 abbrev pub stack_in : TraceParts → Option StackValue
 stack_in p = stack_of p.handle p.hub.entries
+
+-- the most verbose level that a stack passes
+abbrev pub filter_here : Option StackValue → Option ℕ
+filter_here stack = option_map (λ (x : StackValue). x.setting.filter) stack
+
+-- the interest in a callsite of a level: always where the filter passes it, else never; never where there is no stack
+abbrev pub interest_by : Option ℕ → ℕ → PlainInterest
+interest_by None level = Never
+interest_by (Some filter) level = if nat_le level filter then Always else Never
+
+-- the interest in a callsite of a level, by the stack's filter
+abbrev pub interest_in : StateValue → ℕ → PlainInterest
+interest_in v level = interest_by (filter_in (setting_of v)) level
 
 -- what a stack keeps, and where there is none what a new one would
 abbrev pub lanes_in : Option StackValue → List (List ℕ)

@@ -3,17 +3,18 @@
 ghost use Rattle.std.specs.Prelude.{◌≡◌, map, Bool, true, false, IfSome, IfNone, ◌<◌, ◌≤◌, length, option_and_then, slice_get};
 ghost use Rattle.std.specs.Option.{option_map, option_copied};
 ghost use Rattle.span_tracing_machine.specs.Machine.{place_of, is_kind, known_place, knows_stack, lane_refusal, parent_refusal, request_refusal, enabled_refusal, span_refusal, call_refusal, handle_refusal, ids_refusal, refusal_of, made_at, is_made};
-ghost use Rattle.span_tracing_machine.specs.State.{mask_at, mask_for, mask_asked};
+ghost use Rattle.span_tracing_machine.specs.State.{callsite_named, mask_at, mask_for, mask_asked};
 ghost use Rattle.span_tracing.specs.Actions.{plain_action};
 ghost use Rattle.span_tracing.specs.Skeletons.{plain_callsite, skeleton_of, setting_of, filter_in, value_in};
 ghost use Rattle.span_tracing.specs.Stored.{mask_in};
 
-use crate::action::Action;
+use crate::action::{Action, Request};
 use crate::callsite::Callsite;
+use crate::hand::at_of;
 use crate::parts::TraceParts;
 use span_tracing_machine::{EnabledCall, Parent, Refusal, SpanCall, SpanName};
 use tracing_appender_rolling::Moment;
-use tracing_core::LevelFilter;
+use tracing_core::Identifier;
 
 /// The place of the callsite with an identifier.
 pub(crate) fn place_of(callsites: &[Callsite], number: u64) -> Option<usize>
@@ -58,15 +59,6 @@ pub(crate) fn known_place(callsites: &[Callsite], number: u64, is_span: bool) ->
                 None
             }
         }
-    }
-}
-
-fn is_passed(filter: Option<LevelFilter>, callsite: Option<&Callsite>) -> bool
-    ensures { result ≡ is_made (mask_at filter (option_map plain_callsite (option_copied callsite.entry))) }
-{
-    match (filter, callsite) {
-        (Some(filter), Some(known)) => filter.passes(known.level),
-        _ => false,
     }
 }
 
@@ -194,12 +186,30 @@ impl TraceParts {
         }
     }
 
+    /// Whether the hub lets requests at a callsite through.
+    fn is_let_through(&mut self, lane: usize, moment: Moment, number: u64) -> bool
+        requires { IsSound self.old }
+        ensures answer { result ≡ is_made (mask_at (filter_in (setting_of (value_in self.old))) (callsite_named (map plain_callsite self.old.callsites.items) number)) }
+        ensures kept { self.new ≡ self.old }
+    {
+        let answer = self.hub.gate(Identifier(number), at_of(lane, moment));
+        answer.unwrap_or(false)
+    }
+
     /// Where a request is made, the place of its callsite.
     #[tactic(auto, using(crate::proofs::Lists::slice_get_map), unfolding(span_tracing_machine::specs::Machine::made_at))]
-    pub(crate) fn made_at(&self, number: u64, is_span: bool) -> Option<usize>
-        ensures within { IfSome result (λ place. place < length self.now.callsites.items) }
-        ensures passed { IfSome result (λ place. is_made (mask_at (filter_in (setting_of (value_in self.now))) (slice_get (map plain_callsite self.now.callsites.items) place)) ≡ true) }
-        ensures value { result ≡ made_at (skeleton_of (value_in self.now)) number is_span (mask_for (skeleton_of (value_in self.now)) (filter_in (setting_of (value_in self.now))) number is_span) }
+    pub(crate) fn made_at(
+        &mut self,
+        lane: usize,
+        moment: Moment,
+        number: u64,
+        is_span: bool,
+    ) -> Option<usize>
+        requires { IsSound self.old }
+        ensures within { IfSome result (λ place. place < length self.old.callsites.items) }
+        ensures passed { IfSome result (λ place. is_made (mask_at (filter_in (setting_of (value_in self.old))) (slice_get (map plain_callsite self.old.callsites.items) place)) ≡ true) }
+        ensures value { result ≡ made_at (skeleton_of (value_in self.old)) number is_span (mask_for (skeleton_of (value_in self.old)) (filter_in (setting_of (value_in self.old))) number is_span) }
+        ensures kept { self.new ≡ self.old }
     {
         if !self.hub.has_been_set() {
             return None;
@@ -207,7 +217,7 @@ impl TraceParts {
         match known_place(self.callsites.as_slice(), number, is_span) {
             None => None,
             Some(place) => {
-                if is_passed(self.filter(), self.callsites.get(place)) {
+                if self.is_let_through(lane, moment, number) {
                     Some(place)
                 } else {
                     None
@@ -217,23 +227,23 @@ impl TraceParts {
     }
 
     /// Whether a request at a callsite of any kind would be made.
-    #[tactic(auto, using(crate::proofs::Lists::slice_get_map))]
-    pub(crate) fn is_enabled(&self, number: u64) -> bool
-        ensures { result ≡ is_made (mask_asked (skeleton_of (value_in self.now)) (filter_in (setting_of (value_in self.now))) number) }
+    pub(crate) fn is_enabled(&mut self, call: &EnabledCall) -> bool
+        requires { IsSound self.old }
+        ensures answer { result ≡ is_made (mask_asked (skeleton_of (value_in self.old)) (filter_in (setting_of (value_in self.old))) call.now.callsite.0) }
+        ensures kept { self.new ≡ self.old }
     {
         if !self.hub.has_been_set() {
             return false;
         }
-        match place_of(self.callsites.as_slice(), number) {
-            None => false,
-            Some(place) => is_passed(self.filter(), self.callsites.get(place)),
-        }
+        self.is_let_through(call.lane, call.moment, call.callsite.0)
     }
 
-    fn ids_refusal(&self, number: u64) -> Option<Refusal>
-        ensures { result ≡ ids_refusal (skeleton_of (value_in self.now)) (made_at (skeleton_of (value_in self.now)) number true (mask_for (skeleton_of (value_in self.now)) (filter_in (setting_of (value_in self.now))) number true)) }
+    fn ids_refusal(&mut self, span: &Request<'_>) -> Option<Refusal>
+        requires { IsSound self.old }
+        ensures value { result ≡ ids_refusal (skeleton_of (value_in self.old)) (made_at (skeleton_of (value_in self.old)) span.now.callsite true (mask_for (skeleton_of (value_in self.old)) (filter_in (setting_of (value_in self.old))) span.now.callsite true)) }
+        ensures kept { self.new ≡ self.old }
     {
-        self.made_at(number, true)?;
+        self.made_at(span.lane, span.moment, span.callsite, true)?;
         match self.coming_id() {
             None => Some(Refusal::IdsSpent),
             Some(_) => None,
@@ -242,9 +252,10 @@ impl TraceParts {
 
     /// The first refusal that a step meets.
     #[tactic(auto, unfolding(span_tracing_machine::specs::Machine::refusal_of, span_tracing_machine::specs::State::step_mask))]
-    pub(crate) fn refusal(&self, action: &Action<'_>) -> Option<Refusal>
-        requires { IsSound self.now }
-        ensures { result ≡ refusal_of (skeleton_of (value_in self.now)) (plain_action action.now) (mask_in (value_in self.now) (plain_action action.now)) }
+    pub(crate) fn refusal(&mut self, action: &Action<'_>) -> Option<Refusal>
+        requires { IsSound self.old }
+        ensures value { result ≡ refusal_of (skeleton_of (value_in self.old)) (plain_action action.now) (mask_in (value_in self.old) (plain_action action.now)) }
+        ensures kept { self.new ≡ self.old }
     {
         match action {
             Action::SetGlobalDefault(handle) => {
@@ -275,7 +286,7 @@ impl TraceParts {
                 if refusal.is_some() {
                     return refusal;
                 }
-                self.ids_refusal(span.callsite)
+                self.ids_refusal(span)
             }
             Action::Enter(call) => self.call_refusal(*call),
             Action::Exit(call) => self.call_refusal(*call),

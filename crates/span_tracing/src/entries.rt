@@ -4,14 +4,15 @@ ghost use Rattle.std.specs.Prelude.{◌≡◌, ◌++◌, ◌∷◌, [], OnErr, O
 ghost use Rattle.std.specs.Option.{option_copied, option_map};
 ghost use Rattle.tracing_core.specs.Metadata.{plain_metadata};
 ghost use Rattle.span_tracing_machine.specs.State.{callsite_named};
-ghost use Rattle.span_tracing.specs.Skeletons.{plain_callsite, skeleton_of, threads_of, value_in};
+ghost use Rattle.span_tracing_machine.specs.Skeleton.{PlainCallsite};
+ghost use Rattle.span_tracing.specs.Skeletons.{interest_in, plain_callsite, skeleton_of, threads_of, value_in};
 
 use crate::callsite::Callsite;
 use crate::checks::place_of;
 use crate::parts::{Thread, TraceParts};
 use crate::site::Site;
 use std::alloc::AllocError;
-use tracing_core::{Interest, Metadata};
+use tracing_core::{Identifier, Interest, Metadata};
 
 impl TraceParts {
     ghost use Rattle.span_tracing.specs.Sound.{IsSound};
@@ -25,27 +26,37 @@ impl TraceParts {
             .get(place_of(self.callsites.as_slice(), number)?)
     }
 
-    /// Adds a callsite, to the hub too.
+    /// The interest that is kept of the callsite with an identifier.
+    pub(crate) fn interest(&self, number: u64) -> Option<Interest>
+        requires { IsSound self.now }
+        ensures { result ≡ option_map (λ (c : PlainCallsite). interest_in (value_in self.now) c.metadata.level) (callsite_named (skeleton_of (value_in self.now)).callsites number) }
+    {
+        self.hub.interest(Identifier(number))
+    }
+
+    /// Adds a callsite, to the hub too, and answers the stack's interest in it.
     pub(crate) fn add_callsite(
         &mut self,
         number: u64,
         metadata: &Metadata<'_>,
-    ) -> Result<(), AllocError>
+    ) -> Result<Interest, AllocError>
         requires { IsSound self.old }
         ensures sound { IsSound self.new }
+        ensures interest { IfOk result (λ interest. interest ≡ interest_in (value_in self.old) (plain_metadata metadata.now).level) }
         ensures ok { OnOk result (value_in self.new ≡ record (value_in self.old) { skeleton = record (skeleton_of (value_in self.old)) { callsites = (skeleton_of (value_in self.old)).callsites ++ (record { number = number; metadata = plain_metadata metadata.now }) ∷ [] } }) }
         ensures err { OnErr result (value_in self.new ≡ value_in self.old) }
     {
         let callsite = Callsite::new(self.alloc, number, metadata)?;
+        let copy = Callsite::new(self.alloc, number, metadata)?;
         let site = Site {
-            callsite: Callsite::new(self.alloc, number, metadata)?,
+            callsite: copy,
             interest: Interest::never(),
         };
         self.callsites.reserve(1)?;
         match self.hub.register(site) {
-            Ok(_) => {
+            Ok(interest) => {
                 self.callsites.push_reserved(callsite);
-                Ok(())
+                Ok(interest)
             }
             // The hub knows no identifier that the trace doesn't.
             Err(_) => Err(AllocError),

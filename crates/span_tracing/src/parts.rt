@@ -1,16 +1,16 @@
 //! All that a trace keeps beside its sink.
 
 ghost use Rattle.std.specs.Prelude.{◌≡◌, ◌<◌, ◌≤◌, IfNone, IfSome};
-ghost use Rattle.std.specs.Option.{option_copied, option_map};
+ghost use Rattle.std.specs.Option.{option_copied};
 ghost use Rattle.span_tracing_machine.specs.Spans.{handles_of, is_open};
-ghost use Rattle.span_tracing_stack.specs.Stacks.{StackValue, line_said, is_starved};
+ghost use Rattle.span_tracing_stack.specs.Stacks.{line_said, is_starved};
 ghost use Rattle.span_tracing.specs.Skeletons.{spans_in, next_in, told_in};
 
 use crate::callsite::Callsite;
 use crate::site::Site;
 use span_tracing_stack::Stack;
 use std::alloc::Global;
-use tracing_core::{Dispatch, Hub, Id, LevelFilter};
+use tracing_core::{Dispatch, Hub, Id};
 
 /// A lane's name and thread.
 #[derive(Debug, Drop)]
@@ -42,16 +42,6 @@ impl TraceParts {
         match &self.handle {
             None => None,
             Some(handle) => self.hub.subscriber(handle),
-        }
-    }
-
-    /// The most verbose level that the stack passes.
-    pub(crate) fn filter(&self) -> Option<LevelFilter>
-        ensures { result ≡ option_map (λ (x : StackValue). x.setting.filter) (stack_in self.now) }
-    {
-        match self.stack() {
-            None => None,
-            Some(stack) => Some(stack.filter()),
         }
     }
 

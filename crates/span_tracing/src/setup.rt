@@ -8,7 +8,7 @@ ghost use Rattle.tracing_appender_rolling.specs.Contents.{Contents, bytes_at};
 ghost use Rattle.tracing_appender_rolling.specs.Appenders.{MayOpen};
 ghost use Rattle.tracing_appender_rolling.specs.Sinks.{file_text};
 ghost use Rattle.span_tracing_machine.specs.State.{Plain, PlainOutput, new_plain, with_lane, with_stack, register_refusal, registered};
-ghost use Rattle.span_tracing.specs.Skeletons.{skeleton_of, threads_of};
+ghost use Rattle.span_tracing.specs.Skeletons.{interest_in, skeleton_of, threads_of};
 ghost use Rattle.span_tracing.specs.Stored.{AgreesOption};
 ghost use Rattle.span_tracing.specs.Outputs.{outputs_refusal, with_output};
 
@@ -19,7 +19,7 @@ use crate::trace::Trace;
 use span_tracing_machine::Refusal;
 use std::alloc::{AllocError, Global};
 use tracing_appender_rolling::{Folder, Moment};
-use tracing_core::{Identifier, Metadata};
+use tracing_core::{Identifier, Interest, Metadata};
 
 /// Why a stack could not be added, with its outputs. Their folders are as the calls made until then left them.
 #[derive(Drop)]
@@ -67,7 +67,9 @@ impl<D: Folder> Trace<D> {
         self.state.has_stack()
     }
 
-    /// Registers a callsite under an identifier. Equal metadata may be registered again.
+    /// Registers a callsite under an identifier, and answers the interest in it that the hub keeps: always where the
+    /// stack's filter passes its level, else never, and never where there is no stack. Equal metadata may be registered
+    /// again, which answers the interest and changes nothing.
     ///
     /// # Errors
     ///
@@ -76,10 +78,11 @@ impl<D: Folder> Trace<D> {
         &mut self,
         identifier: Identifier,
         metadata: &Metadata<'_>,
-    ) -> Result<(), Refusal>
+    ) -> Result<Interest, Refusal>
         ensures refused { (refusal : Refusal) → register_refusal (skeleton_of self.old.state) (record { number = identifier.0; metadata = plain_metadata metadata.now }) ≡ Some refusal → result ≡ Err refusal }
         ensures accepted { register_refusal (skeleton_of self.old.state) (record { number = identifier.0; metadata = plain_metadata metadata.now }) ≡ None → IfErr result (λ refusal. refusal ≡ Refusal.OutOfMemory) }
         ensures ok { OnOk result ((p : Plain) → Agrees self.old.state p → Agrees self.new.state (registered p (record { number = identifier.0; metadata = plain_metadata metadata.now }))) }
+        ensures interest { IfOk result (λ interest. interest ≡ interest_in self.new.state (plain_metadata metadata.now).level) }
         ensures files { self.new.sink ≡ self.old.sink }
         ensures starved { self.new.state.starved ≡ self.old.state.starved }
         ensures err { OnErr result (value_of self.new ≡ value_of self.old) }
@@ -87,13 +90,16 @@ impl<D: Folder> Trace<D> {
         match self.state.callsite(identifier.0) {
             Some(known) => {
                 if known.is_same(metadata) {
-                    Ok(())
+                    match self.state.interest(identifier.0) {
+                        Some(interest) => Ok(interest),
+                        None => unreachable!(),
+                    }
                 } else {
                     Err(Refusal::Taken)
                 }
             }
             None => match self.state.add_callsite(identifier.0, metadata) {
-                Ok(()) => Ok(()),
+                Ok(interest) => Ok(interest),
                 Err(_) => Err(Refusal::OutOfMemory),
             },
         }

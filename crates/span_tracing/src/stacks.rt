@@ -1,11 +1,12 @@
 //! Taking the stack into the hub, with its open file.
 
-ghost use Rattle.std.specs.Prelude.{◌≡◌, [], OnErr, OnOk, IfErr, IfOk, None, Some, true};
+ghost use Rattle.std.specs.Prelude.{◌≡◌, OnErr, OnOk, IfErr, IfOk, None, Some, true};
 ghost use Rattle.std.specs.Option.{option_map};
 ghost use Rattle.tracing_appender_rolling.specs.Appenders.{AgreesSink, HandsBack, MayOpen, fresh_sink};
 ghost use Rattle.tracing_appender_rolling.specs.Builders.{builder_names};
 ghost use Rattle.tracing_appender_rolling.specs.Contents.{Contents};
 ghost use Rattle.tracing_appender_rolling.specs.Moments.{is_moment};
+ghost use Rattle.tracing_core.specs.Setting.TheVariants.{Unset};
 ghost use Rattle.span_tracing_stack.specs.Stacks.{StackValue};
 ghost use Rattle.span_tracing.specs.Skeletons.{stack_in, value_in};
 ghost use Rattle.span_tracing.specs.Sound.{OwnsOne};
@@ -81,17 +82,19 @@ impl TraceParts {
         }
     }
 
-    /// Gives the stack up again, to which only its one handle leads.
+    /// Gives the stack up again, to which only its one handle leads. Then nobody is interested in any callsite.
     fn take_stack(&mut self) -> Option<Stack>
-        requires { OwnsOne self.old.handle self.old.hub.entries }
+        requires sound { IsSound self.old }
+        requires owns { OwnsOne self.old.handle self.old.hub.entries }
+        requires unset { self.old.hub.global ≡ Unset }
         ensures stack { result ≡ stack_in self.old }
-        ensures left { self.new ≡ record self.old { handle = None; hub = record (self.old.hub) { entries = [] } } }
+        ensures sound { IsSound self.new }
+        ensures left { self.new ≡ record self.old { handle = None; hub = self.new.hub } }
     {
-        let handle = std::mem::replace(&mut self.handle, None);
-        match handle {
-            None => None,
-            Some(handle) => self.hub.release(handle),
-        }
+        let handle = std::mem::replace(&mut self.handle, None)?;
+        let stack = self.hub.release(handle);
+        self.hub.rebuild_interest_cache();
+        stack
     }
 
     /// Takes the stack of an output, and opens the output's file.
@@ -139,12 +142,15 @@ impl TraceParts {
         folder: D,
         moment: Moment,
     ) -> Result<RollingFileAppender<D>, OutputBack<D>>
+        requires sound { IsSound self.old }
         requires owns { OwnsOne self.old.handle self.old.hub.entries }
+        requires unset { self.old.hub.global ≡ Unset }
         requires moment { is_moment moment ≡ true }
+        ensures sound { IsSound self.new }
         ensures ok { OnOk result (self.new ≡ self.old) }
         ensures files { IfOk result (λ sink. MayOpen (D.contents folder) (builder_names builder) →
             AgreesSink D.contents sink (fresh_sink (builder_names builder) moment (D.contents folder))) }
-        ensures err { OnErr result (self.new ≡ record self.old { handle = None; hub = record (self.old.hub) { entries = [] } }) }
+        ensures err { OnErr result (self.new ≡ record self.old { handle = None; hub = self.new.hub }) }
         ensures setting { IfErr result (λ back. option_map (λ (x : StackValue). x.setting) (stack_in self.old) ≡ Some (setting_of back.output)) }
         ensures told { IfErr result (λ back. (error : FolderError) × (back.refusal ≡ refusal_by error)) }
         ensures names { IfErr result (λ back. output_names back.output ≡ builder_names builder) }

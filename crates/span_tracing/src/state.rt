@@ -8,10 +8,11 @@ ghost use Rattle.tracing_core.specs.Metadata.{plain_metadata};
 ghost use Rattle.span_tracing_machine.specs.Machine.{answered, call_refusal, made_at, refusal_of};
 ghost use Rattle.span_tracing_machine.specs.Missed.{handed_lines};
 ghost use Rattle.span_tracing_machine.specs.PlainData.{GlobalStep, EventStep, EnabledStep, SpanStep, EnterStep, ExitStep, CloseStep};
+ghost use Rattle.span_tracing_machine.specs.Skeleton.{PlainCallsite};
 ghost use Rattle.span_tracing_machine.specs.State.{callsite_named, offer_of};
 ghost use Rattle.span_tracing.specs.Actions.{plain_action, plain_request};
 ghost use Rattle.span_tracing.specs.Outputs.{setting_of as output_setting, with_output};
-ghost use Rattle.span_tracing.specs.Skeletons.{plain_callsite, setting_of, skeleton_of, texts_of, threads_of, time_in};
+ghost use Rattle.span_tracing.specs.Skeletons.{interest_in, plain_callsite, setting_of, skeleton_of, texts_of, threads_of, time_in};
 ghost use Rattle.span_tracing.specs.Stored.{Acted, TakesLines, mask_in};
 
 use crate::action::{Action, Request};
@@ -24,7 +25,7 @@ use span_tracing_machine::{EnabledCall, Fate, Refusal, Reply, SpanCall};
 use std::alloc::{AllocError, Global};
 use std::marker::Model;
 use tracing_appender_rolling::{Folder, Moment, RollingFileAppender};
-use tracing_core::{Hub, Metadata};
+use tracing_core::{Hub, Interest, Metadata};
 
 /// Callsites, lanes, and the one stack of a trace. A contract sees it as a `StateValue`.
 #[derive(Drop)]
@@ -77,8 +78,9 @@ impl TraceState {
     }
 
     /// The first refusal that a step meets.
-    pub(crate) fn refusal(&self, action: &Action<'_>) -> Option<Refusal>
-        ensures { result ≡ refusal_of (skeleton_of self.now) (plain_action action.now) (mask_in self.now (plain_action action.now)) }
+    pub(crate) fn refusal(&mut self, action: &Action<'_>) -> Option<Refusal>
+        ensures value { result ≡ refusal_of (skeleton_of self.old) (plain_action action.now) (mask_in self.old (plain_action action.now)) }
+        ensures kept { self.new ≡ self.old }
     {
         self.parts.refusal(action)
     }
@@ -90,12 +92,20 @@ impl TraceState {
         self.parts.callsite(number)
     }
 
-    /// Adds a callsite.
+    /// The interest that is kept of the callsite with an identifier.
+    pub(crate) fn interest(&self, number: u64) -> Option<Interest>
+        ensures { result ≡ option_map (λ (c : PlainCallsite). interest_in self.now c.metadata.level) (callsite_named (skeleton_of self.now).callsites number) }
+    {
+        self.parts.interest(number)
+    }
+
+    /// Adds a callsite, and answers the stack's interest in it.
     pub(crate) fn add_callsite(
         &mut self,
         number: u64,
         metadata: &Metadata<'_>,
-    ) -> Result<(), AllocError>
+    ) -> Result<Interest, AllocError>
+        ensures interest { IfOk result (λ interest. interest ≡ interest_in self.old (plain_metadata metadata.now).level) }
         ensures ok { OnOk result (self.new ≡ record self.old { skeleton = record (skeleton_of self.old) { callsites = (skeleton_of self.old).callsites ++ (record { number = number; metadata = plain_metadata metadata.now }) ∷ [] } }) }
         ensures err { OnErr result (self.new ≡ self.old) }
     {
@@ -160,9 +170,10 @@ impl TraceState {
     }
 
     /// A question that is not refused; answers whether a request would be made.
-    pub(crate) fn enabled(&self, call: &EnabledCall) -> bool
-        ensures answer { Reply.Enabled result ≡ answered (skeleton_of self.now) (EnabledStep call.now) (mask_in self.now (EnabledStep call.now)) }
-        ensures acted { Acted self.now self.now (EnabledStep call.now) Fate.Whole }
+    pub(crate) fn enabled(&mut self, call: &EnabledCall) -> bool
+        ensures answer { Reply.Enabled result ≡ answered (skeleton_of self.old) (EnabledStep call.now) (mask_in self.old (EnabledStep call.now)) }
+        ensures acted { Acted self.old self.old (EnabledStep call.now) Fate.Whole }
+        ensures kept { self.new ≡ self.old }
     {
         self.parts.enabled(call)
     }

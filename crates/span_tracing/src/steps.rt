@@ -63,7 +63,7 @@ impl TraceParts {
         ensures takes { TakesLines D.contents sink.old sink.new (handed_lines (result ∷ []) (offer_of (skeleton_of (value_in self.old)) (texts_of (value_in self.old))
             (time_in (setting_of (value_in self.old))) (EventStep (plain_request event.now)) (mask_in (value_in self.old) (EventStep (plain_request event.now))))) }
     {
-        let Some(place) = self.made_at(event.callsite, false) else {
+        let Some(place) = self.made_at(event.lane, event.moment, event.callsite, false) else {
             return Fate::Whole;
         };
         self.tell(event, place);
@@ -74,11 +74,13 @@ impl TraceParts {
 
     /// A question; answers whether a request would be made.
     #[tactic(auto, unfolding(span_tracing_machine::specs::Machine::acted, span_tracing_machine::specs::Machine::answered, span_tracing_machine::specs::Missed::wanted, crate::specs::Stored::texts_acted, span_tracing_machine::specs::State::step_mask, span_tracing_machine::specs::State::offer_of))]
-    pub(crate) fn enabled(&self, call: &EnabledCall) -> bool
-        ensures answer { Reply.Enabled result ≡ answered (skeleton_of (value_in self.now)) (EnabledStep call.now) (mask_in (value_in self.now) (EnabledStep call.now)) }
-        ensures acted { Acted (value_in self.now) (value_in self.now) (EnabledStep call.now) Fate.Whole }
+    pub(crate) fn enabled(&mut self, call: &EnabledCall) -> bool
+        requires { IsSound self.old }
+        ensures answer { Reply.Enabled result ≡ answered (skeleton_of (value_in self.old)) (EnabledStep call.now) (mask_in (value_in self.old) (EnabledStep call.now)) }
+        ensures acted { Acted (value_in self.old) (value_in self.old) (EnabledStep call.now) Fate.Whole }
+        ensures kept { self.new ≡ self.old }
     {
-        self.is_enabled(call.callsite.0)
+        self.is_enabled(call)
     }
 
     // The name of the span that was made.
@@ -102,7 +104,7 @@ impl TraceParts {
         ensures made { OnErr result (IsSome (made_at (skeleton_of (value_in self.old)) span.now.callsite true (mask_in (value_in self.old) (SpanStep (plain_request span.now))))) }
         ensures err { OnErr result (value_in self.new ≡ value_in self.old) }
     {
-        let Some(place) = self.made_at(span.callsite, true) else {
+        let Some(place) = self.made_at(span.lane, span.moment, span.callsite, true) else {
             return Ok(MadeSpan {
                 name: None,
                 fate: Fate::Whole,

@@ -15,7 +15,7 @@ use crate::{
 use std::alloc::{AllocError, Global};
 use std::process::Abort;
 use std::test::Fail;
-use tracing_core::{FieldSet, Id, Identifier, Kind, Level, LevelFilter, Metadata};
+use tracing_core::{FieldSet, Id, Identifier, Interest, Kind, Level, LevelFilter, Metadata};
 
 /// 2025-02-17T10:01:00Z.
 const OPENED: Moment = Moment {
@@ -50,6 +50,9 @@ const EVENT: Identifier = Identifier(3);
 
 /// The same at level DEBUG.
 const DETAIL: Identifier = Identifier(4);
+
+/// Neither spans nor events.
+const HINT: Identifier = Identifier(5);
 
 const OUTER_FIELDS: [&str; 1] = ["x"];
 
@@ -183,23 +186,20 @@ fn metadata<'a>(
     Metadata::new(name, "app", level, None, None, None, fields, kind)
 }
 
-fn register_all<D: Folder>(trace: &mut Trace<D>) -> Result<(), Refusal> {
-    trace.register(
-        OUTER,
-        &metadata("outer", Level::INFO, &OUTER_FIELDS, OUTER, Kind::SPAN),
-    )?;
-    trace.register(
-        INNER,
-        &metadata("inner", Level::INFO, &INNER_FIELDS, INNER, Kind::SPAN),
-    )?;
-    trace.register(
-        EVENT,
-        &metadata("event", Level::INFO, &EVENT_FIELDS, EVENT, Kind::EVENT),
-    )?;
-    trace.register(
-        DETAIL,
-        &metadata("detail", Level::DEBUG, &EVENT_FIELDS, DETAIL, Kind::EVENT),
-    )
+/// Registers all callsites, or asks for the interests in them again.
+fn register_all<D: Folder>(trace: &mut Trace<D>) -> Result<[Interest; 5], Refusal> {
+    let outer = metadata("outer", Level::INFO, &OUTER_FIELDS, OUTER, Kind::SPAN);
+    let inner = metadata("inner", Level::INFO, &INNER_FIELDS, INNER, Kind::SPAN);
+    let event = metadata("event", Level::INFO, &EVENT_FIELDS, EVENT, Kind::EVENT);
+    let detail = metadata("detail", Level::DEBUG, &EVENT_FIELDS, DETAIL, Kind::EVENT);
+    let hint = metadata("hint", Level::INFO, &[], HINT, Kind::HINT);
+    Ok([
+        trace.register(OUTER, &outer)?,
+        trace.register(INNER, &inner)?,
+        trace.register(EVENT, &event)?,
+        trace.register(DETAIL, &detail)?,
+        trace.register(HINT, &hint)?,
+    ])
 }
 
 /// A trace with all callsites, two lanes, and a stack over the folder that no lane reaches yet.
@@ -211,7 +211,7 @@ fn trace_over<D: Folder>(
     timer: Timer,
 ) -> Result<Trace<D>, Fail> {
     let mut trace = Trace::new(alloc);
-    register_all(&mut trace)?;
+    assert_eq!(rt; register_all(&mut trace)?, [Interest::never(); 5]);
     assert_eq!(rt; trace.thread(None, 1)?, 0);
     assert_eq!(rt; trace.thread(Some("second"), 2)?, 1);
     assert!(rt; !trace.has_stack());

@@ -8,9 +8,9 @@ use Rattle.tracing_core.specs.PlainKind.{PlainKind}
 use Rattle.tracing_core.specs.PlainValue.{Unsigned, Text}
 use Rattle.span_tracing_machine.specs.declared.call.Parent.TheVariants.{Contextual}
 use Rattle.span_tracing_machine.specs.declared.call.Reply.TheVariants.{Done, Enabled, Span, Closed, Refused}
-use Rattle.span_tracing_machine.specs.declared.refusal.Refusal.TheVariants.{UnknownCallsite, UnknownSpan, BadMoment}
+use Rattle.span_tracing_machine.specs.declared.refusal.Refusal.TheVariants.{UnknownCallsite, UnknownSpan, BadMoment, UnknownLane}
 use Rattle.span_tracing_machine.specs.declared.call.SpanCall.{SpanCall}
-use Rattle.span_tracing_machine.specs.PlainData.{PlainStep, GlobalStep, EventStep, EnabledStep, SpanStep, EnterStep, ExitStep, CloseStep}
+use Rattle.span_tracing_machine.specs.PlainData.{Request, PlainStep, GlobalStep, EventStep, EnabledStep, SpanStep, EnterStep, ExitStep, CloseStep}
 use Rattle.span_tracing_machine.specs.Lines.{line_end}
 use Rattle.span_tracing_machine.specs.Skeleton.{PlainCallsite}
 use Rattle.span_tracing_machine.specs.Missed.{Missed, Unwritten}
@@ -137,6 +137,25 @@ asked number = EnabledStep (record { lane = 0; moment = at_ten; callsite = recor
 abbrev pub EnabledReplies : Type 0
 EnabledReplies = replies_of with_quiet (asked 2 ∷ GlobalStep 0 ∷ asked 1 ∷ asked 2 ∷ asked 3 ∷ asked 4 ∷ [])
     ≡ (Enabled false ∷ Done ∷ Enabled true ∷ Enabled true ∷ Enabled false ∷ Refused UnknownCallsite ∷ [])
+
+abbrev pub asked_on : ℕ → Moment → ℕ → PlainStep
+asked_on lane moment number = EnabledStep (record { lane = lane; moment = moment; callsite = record { 0 = number } })
+
+-- a lane that was never given, a moment that is none and a callsite that isn't registered: the lane is told first, then the moment
+abbrev pub EnabledRefusals : Type 0
+EnabledRefusals = replies_of base (GlobalStep 0 ∷ asked_on 1 too_early 4 ∷ asked_on 1 at_ten 2 ∷ asked_on 0 too_early 4 ∷ asked_on 0 too_early 2 ∷ asked_on 0 at_ten 4 ∷ [])
+    ≡ (Done ∷ Refused UnknownLane ∷ Refused UnknownLane ∷ Refused BadMoment ∷ Refused BadMoment ∷ Refused UnknownCallsite ∷ [])
+
+-- an INFO callsite that is neither an event's nor a span's: it may be asked about, and neither is made there
+abbrev pub hint : PlainCallsite
+hint = app_callsite 6 (record { is_event = false; is_span = false; is_hint = true }) (codes "hint") []
+
+abbrev pub at_hint : Request
+at_hint = record { lane = 0; moment = at_ten; callsite = 6; parent = Contextual; values = [] }
+
+abbrev pub HintReplies : Type 0
+HintReplies = replies_of (with_callsite base hint) (asked 6 ∷ GlobalStep 0 ∷ asked 6 ∷ EventStep at_hint ∷ SpanStep at_hint ∷ [])
+    ≡ (Enabled false ∷ Done ∷ Enabled true ∷ Refused UnknownCallsite ∷ Refused UnknownCallsite ∷ [])
 
 -- asking leaves no mark: the run after it is the run without it
 abbrev pub EnabledLeaves : Type 0

@@ -18,6 +18,6 @@ pub use laws::{
 pub use record::SpanRecord;
 pub use refusal::Refusal;
 pub use rows::{
-    row_bytes_at_opening, row_empty, row_enabled, row_missed, row_nested_spans, row_span_cycle,
-    row_stored_run, row_too_early,
+    row_bytes_at_opening, row_empty, row_enabled, row_hint, row_missed, row_nested_spans,
+    row_refused_questions, row_span_cycle, row_stored_run, row_too_early,
 };

@@ -1,6 +1,6 @@
 //! Worked rows: what the plain machine gives for a few runs, found by computing.
 
-ghost use Rattle.span_tracing_machine.specs.Rows.{StoredRunReplies, StoredRunFile, BytesAtOpening, EmptyReplies, EmptyFile, TooEarlyReplies, TooEarlyFile, MissedText, MissedLine, UnwrittenLine, CycleReplies, CycleLeft, EnabledReplies, EnabledLeaves, NestedFile, NestedLeft};
+ghost use Rattle.span_tracing_machine.specs.Rows.{StoredRunReplies, StoredRunFile, BytesAtOpening, EmptyReplies, EmptyFile, TooEarlyReplies, TooEarlyFile, MissedText, MissedLine, UnwrittenLine, CycleReplies, CycleLeft, EnabledReplies, EnabledRefusals, EnabledLeaves, HintReplies, NestedFile, NestedLeft};
 
 /// A span, an event in it, and the file's one line.
 pub fn row_stored_run()
@@ -42,6 +42,16 @@ pub fn row_span_cycle()
 pub fn row_enabled()
     ensures replies { EnabledReplies }
     ensures left { EnabledLeaves }
+{}
+
+/// A question is refused by its lane, then its moment, then its callsite.
+pub fn row_refused_questions()
+    ensures { EnabledRefusals }
+{}
+
+/// A callsite of neither kind may be asked about; no event and no span is made there.
+pub fn row_hint()
+    ensures { HintReplies }
 {}
 
 /// A span inside a span: both stand in an event's line from the root, and the outer one closes with the inner one.

@@ -13,8 +13,8 @@ use Rattle.tracing_core.specs.RequestError.TheVariants.{OutOfMemory, UnknownSpan
 use Rattle.span_tracing_machine.specs.declared.fate.Fate.{Fate}
 use Rattle.span_tracing_machine.specs.Machine.{lane_at}
 use Rattle.span_tracing_machine.specs.Spans.{current, is_open}
-use Rattle.span_tracing_stack.specs.Moves.{Gives, StackMoves, EntryGives, CloneGives, MakesSpan, TellsLine, inside, quiet}
-use Rattle.span_tracing_stack.specs.Stacks.{StackValue, PlainTold, passes, own_interest, knows_parent, is_contextual, with_exit, with_less}
+use Rattle.span_tracing_stack.specs.Moves.{Gives, StackMoves, EntryGives, CloneGives, TellsLine, greatest, inside, quiet}
+use Rattle.span_tracing_stack.specs.Stacks.{StackValue, PlainTold, passes, own_interest, knows_parent, is_contextual, with_exit, with_less, with_span}
 
 pub dispatched : (x : StackValue) (dispatch : Option ℕ) → StackMoves x (DispatchRegistered dispatch) tt x
 unfolding Gives
@@ -34,11 +34,11 @@ hinted x hint e = record { gives = (ap (λ n. Some n) e, refl); setting = refl }
 
 pub recorded : (x : StackValue) (id : ℕ) (values : PlainValues) (at : At) → StackMoves x (Recorded id values at) (Ok tt) x
 unfolding Gives
-recorded x id values at = record { gives = refl; setting = refl }
+recorded x id values at = record { gives = (refl, refl); setting = refl }
 
 pub followed : (x : StackValue) (id follows : ℕ) (at : At) → StackMoves x (FollowsRecorded id follows at) (Ok tt) x
 unfolding Gives
-followed x id follows at = record { gives = refl; setting = refl }
+followed x id follows at = record { gives = (refl, refl); setting = refl }
 
 pub wanted : (x : StackValue) (e : PlainEvent) (at : At) → StackMoves x (EventAsked e at) true x
 unfolding Gives
@@ -52,21 +52,21 @@ pub unknown_parent : (x : StackValue) (a : PlainAttributes) (at : At) → knows_
 unfolding Gives
 unknown_parent x a at e = record { gives = (e, refl); setting = refl }
 
-pub dropped : (x : StackValue) (a : PlainAttributes) (at : At) → passes x a.metadata ≡ false → StackMoves x (SpanMade a at) (Ok None) (quiet x)
+pub dropped : (x : StackValue) (a : PlainAttributes) (at : At) → knows_parent x a.parent ≡ true → passes x a.metadata ≡ false → StackMoves x (SpanMade a at) (Ok None) (quiet x)
 unfolding Gives
-dropped x a at e = record { gives = (e, refl); setting = refl }
+dropped x a at k p = record { gives = (k, p, refl); setting = refl }
 
-pub spent : (x : StackValue) (a : PlainAttributes) (at : At) → 18446744073709551615 < x.next_id → StackMoves x (SpanMade a at) (Err IdsSpent) (quiet x)
+pub spent : (x : StackValue) (a : PlainAttributes) (at : At) → knows_parent x a.parent ≡ true → passes x a.metadata ≡ true → greatest < x.next_id → StackMoves x (SpanMade a at) (Err IdsSpent) (quiet x)
 unfolding Gives
-spent x a at e = record { gives = (e, refl); setting = refl }
+spent x a at k p h = record { gives = (k, p, h, refl); setting = refl }
 
-pub no_room : (x y : StackValue) (a : PlainAttributes) (at : At) → passes x a.metadata ≡ true → y ≡ quiet x → StackMoves x (SpanMade a at) (Err OutOfMemory) y
+pub no_room : (x y : StackValue) (a : PlainAttributes) (at : At) → knows_parent x a.parent ≡ true → passes x a.metadata ≡ true → x.next_id ≤ greatest → y ≡ quiet x → StackMoves x (SpanMade a at) (Err OutOfMemory) y
 unfolding Gives
-no_room x y a at e same = record { gives = (e, same); setting = ap (λ (v : StackValue). v.setting) same }
+no_room x y a at k p h same = record { gives = (k, p, h, same); setting = ap (λ (v : StackValue). v.setting) same }
 
-pub made : (x y : StackValue) (a : PlainAttributes) (at : At) (id : ℕ) (fate : Fate) → passes x a.metadata ≡ true → knows_parent x a.parent ≡ true → id ≡ x.next_id → x.next_id ≤ 18446744073709551615 → MakesSpan x a at.lane fate y → StackMoves x (SpanMade a at) (Ok (Some id)) y
+pub made : (x y : StackValue) (a : PlainAttributes) (at : At) (id : ℕ) (fate : Fate) → knows_parent x a.parent ≡ true → passes x a.metadata ≡ true → x.next_id ≤ greatest → id ≡ x.next_id → y ≡ with_span x a at.lane fate → StackMoves x (SpanMade a at) (Ok (Some id)) y
 unfolding Gives
-made x y a at id fate p k e h t = record { gives = (p, k, e, h, (fate, t)); setting = ap (λ (v : StackValue). v.setting) t.2 }
+made x y a at id fate k p h e t = record { gives = (k, p, h, e, (fate, t)); setting = ap (λ (v : StackValue). v.setting) t }
 
 pub event_unknown : (x : StackValue) (e : PlainEvent) (at : At) → knows_parent x e.parent ≡ false → StackMoves x (Told e at) (Err UnknownParent) (quiet x)
 unfolding Gives
@@ -98,7 +98,7 @@ clone_setting x y id (Err OutOfMemory) g = absurd g
 clone_setting x y id (Err UnknownSpan) g = ap (λ (v : StackValue). v.setting) g.1
 clone_setting x y id (Err UnknownParent) g = absurd g
 clone_setting x y id (Err IdsSpent) g = absurd g
-clone_setting x y id (Err TooManyHandles) g = ap (λ (v : StackValue). v.setting) g.1
+clone_setting x y id (Err TooManyHandles) g = ap (λ (v : StackValue). v.setting) g.2
 
 pub cloned : (x y : StackValue) (id : ℕ) (at : At) (r : Result ℕ RequestError) → CloneGives x id r y → StackMoves x (Cloned id at) r y
 unfolding Gives

@@ -1,7 +1,7 @@
 -- Facts on lists under the names that attributes take.
 use Rattle.std.proofs.Common.{◌≡◌, ℕ, List, [], ◌∷◌, ◌++◌, map, set, get_or, length, ◌<◌, zero, suc, refl, ap, sym, arith, ◌-◌, ◌+◌, ◌==◌, true, take, drop, ◌∙◌}
 use Rattle.span_tracing_machine.specs.Machine.{one_less}
-use Rattle.span_tracing_machine.specs.Spans.{is_open}
+use Rattle.span_tracing_machine.specs.Spans.{handles_of, is_open}
 use Rattle.span_tracing_stack.specs.Stacks.{one_more}
 use Rattle.span_tracing_machine.specs.declared.record.SpanRecord.{SpanRecord}
 use Rattle.std.proofs.lemmas.Bool.Decides.{nat_tests}
@@ -62,3 +62,12 @@ open_at (x ∷ xs) zero id s h e k =
     let t : (x.id == id) ≡ true = grind (arith, nat_tests) in
     rw t refl
 open_at (x ∷ xs) (suc n) id s h e k = open_at xs n id s (omega arith) e k
+
+-- and has the handles of its record
+pub handles_at : (ss : List SpanRecord) (n id : ℕ) (s : SpanRecord) → n < length ss → s ≡ get_or ss n s → s.id ≡ id → handles_of (drop n ss) id ≡ s.handles
+handles_at [] n id s h e k = absurd (omega arith)
+handles_at (x ∷ xs) zero id s h e k =
+    let same : x.id ≡ id = ap (λ (y : SpanRecord). y.id) (sym e) ∙ k in
+    let t : (x.id == id) ≡ true = grind (arith, nat_tests) in
+    rw t (ap (λ (y : SpanRecord). y.handles) (sym e))
+handles_at (x ∷ xs) (suc n) id s h e k = handles_at xs n id s (omega arith) e k

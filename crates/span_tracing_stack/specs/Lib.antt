@@ -3,4 +3,5 @@ pub mod Shown
 pub mod Stacks
 pub mod Moves
 pub mod Steadiness
+pub mod Counted
 pub mod Written

@@ -1,5 +1,5 @@
 -- What a call of a stack may answer and leave.
-use Rattle.std.specs.Prelude.{◌≡◌, ◌<◌, ◌≤◌, ℕ, zero, suc, List, Bool, true, false, ◌&&◌, not, Option, Some, None, Result, Ok, Err}
+use Rattle.std.specs.Prelude.{◌≡◌, ◌<◌, ◌≤◌, ℕ, zero, suc, Bool, true, false, ◌&&◌, not, Option, Some, None, Result, Ok, Err}
 use Rattle.tracing_core.specs.Calls.{Call, ReplyTo, DispatchRegistered, CallsiteRegistered, Asked, HintAsked, SpanMade, Recorded, FollowsRecorded, EventAsked, Told, Entered, Exited, Cloned, Dropped, CloseTried, CurrentAsked}
 use Rattle.tracing_core.specs.PlainRequests.{PlainAttributes, PlainEvent}
 use Rattle.tracing_core.specs.RequestError.{RequestError}
@@ -8,32 +8,34 @@ use Rattle.tracing_core.specs.CurrentSpan.{CurrentSpan}
 use Rattle.tracing_core.specs.CurrentSpan.TheVariants.{Outside, Inside}
 use Rattle.span_tracing_machine.specs.Machine.{lane_at}
 use Rattle.span_tracing_machine.specs.declared.fate.Fate.{Fate}
-use Rattle.span_tracing_machine.specs.Spans.{current, is_open}
+use Rattle.span_tracing_machine.specs.Spans.{current, handles_of, is_open}
 use Rattle.span_tracing_stack.specs.Lanes.{pushed}
-use Rattle.span_tracing_stack.specs.Stacks.{StackValue, PlainTold, Quiet, passes, own_interest, knows_parent, AreNamed, span_text, line_in, line_told, with_span, with_exit, with_less, one_more}
+use Rattle.span_tracing_stack.specs.Stacks.{StackValue, PlainTold, Quiet, passes, own_interest, knows_parent, line_in, line_told, with_span, with_exit, with_less, one_more}
 
 -- a refusal leaves the stack but for what it last told
 abbrev pub quiet : StackValue → StackValue
 quiet x = record x { told = Quiet }
 
--- the span is made, with its text
-abbrev pub MakesSpan : StackValue → PlainAttributes → ℕ → Fate → StackValue → Type 0
-MakesSpan x a lane fate y = (text : List ℕ) × (AreNamed a.values → text ≡ span_text a.values fate) × (y ≡ with_span x a lane text fate)
+-- the greatest id, and the greatest count of a span's handles
+abbrev pub greatest : ℕ
+greatest = 18446744073709551615
 
 -- the line is told, or that it found no memory
 abbrev pub TellsLine : StackValue → PlainEvent → ℕ → PlainTold → Type 0
-TellsLine x e lane told = (fate : Fate) × ((line : List ℕ) × (AreNamed e.values → line ≡ line_in x e lane) × (told ≡ line_told fate line))
+TellsLine x e lane told = (fate : Fate) × (told ≡ line_told fate (line_in x e lane))
 
--- a span is made where the filter passes it, its parent is open and an id is left
+-- a span is made where its parent is open, the filter passes it and an id is left; the first of these that isn't so is told
 abbrev pub SpanGives : StackValue → PlainAttributes → ℕ → Result (Option ℕ) RequestError → StackValue → Type 0
-SpanGives x a lane (Ok None) y = (passes x a.metadata ≡ false) × (y ≡ quiet x)
+SpanGives x a lane (Ok None) y = (knows_parent x a.parent ≡ true) × (passes x a.metadata ≡ false) × (y ≡ quiet x)
 SpanGives x a lane (Ok (Some id)) y =
-    (passes x a.metadata ≡ true) × (knows_parent x a.parent ≡ true) × (id ≡ x.next_id) × (x.next_id ≤ 18446744073709551615)
-    × ((fate : Fate) × MakesSpan x a lane fate y)
-SpanGives x a lane (Err OutOfMemory) y = (passes x a.metadata ≡ true) × (y ≡ quiet x)
+    (knows_parent x a.parent ≡ true) × (passes x a.metadata ≡ true) × (x.next_id ≤ greatest) × (id ≡ x.next_id)
+    × ((fate : Fate) × (y ≡ with_span x a lane fate))
+SpanGives x a lane (Err OutOfMemory) y =
+    (knows_parent x a.parent ≡ true) × (passes x a.metadata ≡ true) × (x.next_id ≤ greatest) × (y ≡ quiet x)
 SpanGives x a lane (Err UnknownSpan) y = ⊥
 SpanGives x a lane (Err UnknownParent) y = (knows_parent x a.parent ≡ false) × (y ≡ quiet x)
-SpanGives x a lane (Err IdsSpent) y = (18446744073709551615 < x.next_id) × (y ≡ quiet x)
+SpanGives x a lane (Err IdsSpent) y =
+    (knows_parent x a.parent ≡ true) × (passes x a.metadata ≡ true) × (greatest < x.next_id) × (y ≡ quiet x)
 SpanGives x a lane (Err TooManyHandles) y = ⊥
 
 -- an event that the filter passes has its line, or misses it alone
@@ -66,7 +68,7 @@ CloneGives x id (Err OutOfMemory) y = ⊥
 CloneGives x id (Err UnknownSpan) y = (is_open x.spans id ≡ false) × (y ≡ quiet x)
 CloneGives x id (Err UnknownParent) y = ⊥
 CloneGives x id (Err IdsSpent) y = ⊥
-CloneGives x id (Err TooManyHandles) y = (is_open x.spans id ≡ true) × (y ≡ quiet x)
+CloneGives x id (Err TooManyHandles) y = (is_open x.spans id ≡ true) × (handles_of x.spans id ≡ greatest) × (y ≡ quiet x)
 
 abbrev pub inside : Option ℕ → CurrentSpan
 inside None = Outside
@@ -80,8 +82,8 @@ Gives x (CallsiteRegistered m) r y = (r ≡ own_interest x m) × (y ≡ x)
 Gives x (Asked m at) r y = (r ≡ passes x m) × (y ≡ x)
 Gives x HintAsked r y = (r ≡ Some x.setting.filter) × (y ≡ x)
 Gives x (SpanMade a at) r y = SpanGives x a at.lane r y
-Gives x (Recorded span values at) r y = y ≡ x
-Gives x (FollowsRecorded span follows at) r y = y ≡ x
+Gives x (Recorded span values at) r y = (r ≡ Ok tt) × (y ≡ x)
+Gives x (FollowsRecorded span follows at) r y = (r ≡ Ok tt) × (y ≡ x)
 Gives x (EventAsked e at) r y = (r ≡ true) × (y ≡ x)
 Gives x (Told e at) r y = EventGives x e at.lane r y
 Gives x (Entered id at) r y = EntryGives x id at.lane r y

@@ -1,9 +1,8 @@
 -- A stack as a value: what it keeps without where it lies in memory, and what its last request came to.
-use Rattle.std.specs.Prelude.{ℕ, ◌+◌, ◌==◌, ◌<◌, length, nat_le, List, [], ◌∷◌, ◌++◌, Bool, true, false, if◌then◌else◌, map, Option, Some, None, string_bytes}
-use Rattle.std.specs.List.{filter, AllByRecursion}
+use Rattle.std.specs.Prelude.{ℕ, ◌+◌, ◌==◌, nat_le, List, [], ◌∷◌, ◌++◌, Bool, true, false, if◌then◌else◌, map, Option, Some, None, string_bytes}
+use Rattle.std.specs.List.{filter}
 use Rattle.tracing_core.specs.PlainMetadata.{PlainMetadata}
 use Rattle.tracing_core.specs.PlainRequests.{PlainAttributes, PlainEvent, PlainValues, explicit_parent}
-use Rattle.tracing_core.specs.PlainValue.{PlainValue}
 use Rattle.tracing_core.specs.Interests.{PlainInterest}
 use Rattle.tracing_core.specs.InterestInner.TheVariants.{Never, Always}
 use Rattle.tracing_core.specs.Parent.{Parent}
@@ -105,11 +104,7 @@ is_known spans (Some id) = is_open spans id
 abbrev pub knows_parent : StackValue → Parent → Bool
 knows_parent x parent = is_known x.spans (explicit_parent parent)
 
--- each value is of a field that has its name among these
-abbrev pub AreNamed : PlainValues → Type 0
-AreNamed values = AllByRecursion (λ (entry : ℕ × PlainValue). entry.0 < length values.names) values.entries
-
--- the text of a new span, where it found memory or not
+-- the text of a new span, where it found memory or not; a value past the names of its set is passed over
 abbrev pub span_text : PlainValues → Fate → List ℕ
 span_text values fate = fields_text values.names (given_by fate values.entries)
 
@@ -130,13 +125,13 @@ text_told Whole = Quiet
 text_told Missed = Starved
 text_told Unwritten = Starved
 
--- with a new span of this text
-abbrev pub with_span : StackValue → PlainAttributes → ℕ → List ℕ → Fate → StackValue
-with_span x a lane text fate =
+-- with a new span, whose text met this fate
+abbrev pub with_span : StackValue → PlainAttributes → ℕ → Fate → StackValue
+with_span x a lane fate =
     record x {
       spans = x.spans ++ (record { id = x.next_id; parent = under x lane a.parent; handles = 1 }) ∷ [];
       next_id = x.next_id + 1;
-      texts = x.texts ++ (record { id = x.next_id; name = a.metadata.name; bytes = text }) ∷ [];
+      texts = x.texts ++ (record { id = x.next_id; name = a.metadata.name; bytes = span_text a.values fate }) ∷ [];
       told = text_told fate;
     }
 

@@ -1,13 +1,15 @@
 //! Field texts: `name=value`, one space between two fields.
 
-ghost use Rattle.std.specs.Prelude.{◌≡◌, ◌++◌, OnOk, string_bytes, ℕ, List, [], is_some, unwrap_or, IfOk};
+ghost use Rattle.std.specs.Prelude.{◌≡◌, ◌++◌, OnOk, string_bytes, ℕ, List, [], is_some, length, nat_lt, not, unwrap_or, IfOk};
 ghost use Rattle.tracing_core.specs.DebugText.{plain_debug};
+ghost use Rattle.tracing_core.specs.Iter.{fields_left};
+ghost use Rattle.tracing_core.specs.PlainField.{fields_named};
 ghost use Rattle.tracing_core.specs.PlainRequests.{plain_attributes, plain_event};
 ghost use Rattle.span_tracing_machine.specs.FieldTexts.{sanitized_char, sanitized, is_message, plain_name, label, text_value, debug_piece, fields_text};
-ghost use Rattle.span_tracing_stack.specs.Stacks.{AreNamed};
+ghost use Rattle.span_tracing_stack.specs.Counted.{count_to};
 
 use std::alloc::{AllocError, Global};
-use tracing_core::{Attributes, DebugText, Event, Field, Visit};
+use tracing_core::{Attributes, DebugText, Event, Field, Iter, Visit};
 
 #[tactic(auto, unfolding(span_tracing_machine::specs::FieldTexts::sanitized_char))]
 fn push_sanitized_char(out: &mut String, c: char) -> Result<(), AllocError>
@@ -101,11 +103,23 @@ fn is_shown(value: &DebugText<'_>) -> bool
     )
 }
 
+// Whether a place is past the last one.
+fn is_past(place: usize, last: Option<usize>) -> bool
+    ensures { result ≡ not (nat_lt place (count_to last)) }
+{
+    match last {
+        None => true,
+        Some(last) => last < place,
+    }
+}
+
 /// Writes the values of fields after one another.
 #[derive(Drop)]
 pub(crate) struct FieldsWriter {
     out: String,
     is_first: bool,
+    // The place of the last field of the values' set, where it has any: a field past it is passed over.
+    last: Option<usize>,
 }
 
 impl Visit for FieldsWriter {
@@ -113,13 +127,13 @@ impl Visit for FieldsWriter {
 
     type Error = AllocError;
 
-    ghost takes = { λ before field value answer after. Writes before field.name value answer after };
+    ghost takes = { λ before field value answer after. Writes before field value answer after };
 
-    ghost forwards = { λ before field value answer after taken. by_debug before field.name value answer after taken };
+    ghost forwards = { λ before field value answer after taken. by_debug before field value answer after taken };
 
     #[tactic(auto, unfolding(span_tracing_machine::specs::FieldTexts::value_piece))]
     fn record_debug(&mut self, field: &Field<'_>, value: &DebugText<'_>) -> Result<(), AllocError> {
-        if !is_shown(value) {
+        if is_past(field.index(), self.last) || !is_shown(value) {
             return Ok(());
         }
         if !self.is_first {
@@ -131,32 +145,45 @@ impl Visit for FieldsWriter {
     }
 }
 
-/// Appends the text of the fields of an event.
+// The place of the last field of a set, where it has any.
+fn last_of(fields: Iter<'_>) -> Option<usize>
+    ensures { (callsite : ℕ) (names : List (List ℕ)) → fields_left fields.entry ≡ fields_named callsite 0 names → count_to result ≡ length names }
+{
+    let mut last = None;
+    for field in fields {
+        last = Some(field.index());
+    }
+    last
+}
+
+/// Appends the text of the fields of an event. A value past the names of its set is passed over.
 pub(crate) fn push_event(
     alloc: Global,
     out: &mut String,
     event: &Event<'_, '_>,
 ) -> Result<(), AllocError>
     ensures { let values = (plain_event event.now).values in
-        OnOk result (AreNamed values → string_bytes out.new ≡ string_bytes out.old ++ fields_text values.names values.entries) }
+        OnOk result (string_bytes out.new ≡ string_bytes out.old ++ fields_text values.names values.entries) }
 {
     let mut writer = FieldsWriter {
         out: std::mem::replace(out, String::new(alloc)),
         is_first: true,
+        last: last_of(event.fields()),
     };
     let written = event.record(&mut writer);
     *out = writer.out;
     written
 }
 
-/// The text of the fields of a new span.
+/// The text of the fields of a new span. A value past the names of its set is passed over.
 pub(crate) fn text_of(alloc: Global, attributes: &Attributes<'_, '_>) -> Result<String, AllocError>
     ensures { let values = (plain_attributes attributes.now).values in
-        IfOk result (λ text. AreNamed values → string_bytes text ≡ fields_text values.names values.entries) }
+        IfOk result (λ text. string_bytes text ≡ fields_text values.names values.entries) }
 {
     let mut writer = FieldsWriter {
         out: String::new(alloc),
         is_first: true,
+        last: last_of(attributes.fields().iter()),
     };
     attributes.record(&mut writer)?;
     Ok(writer.out)

@@ -10,9 +10,9 @@ ghost use Rattle.span_tracing_machine.specs.Machine.{lane_at};
 ghost use Rattle.span_tracing_machine.specs.Spans.{current, is_open};
 ghost use Rattle.span_tracing_machine.specs.State.{shown_span, scope_ids};
 ghost use Rattle.span_tracing_stack.specs.Lanes.{plain_lanes};
-ghost use Rattle.span_tracing_stack.specs.Moves.{EntryGives, CloneGives, MakesSpan, TellsLine, inside};
+ghost use Rattle.span_tracing_stack.specs.Moves.{EntryGives, CloneGives, TellsLine, greatest, inside};
 ghost use Rattle.span_tracing_stack.specs.Shown.{shown_of};
-ghost use Rattle.span_tracing_stack.specs.Stacks.{PlainTold, Quiet, AreNamed, is_known, start_of, next_number, plain_state, plain_text, plain_time, plain_told, under, span_text, swept_with, text_told, with_exit, with_less, with_span};
+ghost use Rattle.span_tracing_stack.specs.Stacks.{PlainTold, Quiet, is_known, start_of, next_number, plain_state, plain_text, plain_time, plain_told, under, span_text, swept_with, text_told, with_exit, with_less, with_span};
 
 use crate::fields::{push_event, text_of};
 use crate::lanes::{drop_entry, lane_at, push_entry};
@@ -139,7 +139,7 @@ impl StackState {
         event: &Event<'_, '_>,
         start: Option<u64>,
     ) -> Result<(), AllocError>
-        ensures { let e = plain_event event.now in OnOk result (AreNamed e.values → string_bytes line.new
+        ensures { let e = plain_event event.now in OnOk result (string_bytes line.new
             ≡ full_line (plain_time self.now.setting.format.timer) (map (shown_span (map plain_text self.now.texts.items)) (scope_ids self.now.spans.items start))
             e.metadata.target e.values.names e.values.entries) }
     {
@@ -159,7 +159,7 @@ impl StackState {
     /// The text of a new span, which is empty where it finds no memory.
     #[tactic(auto, unfolding(span_tracing_machine::specs::FieldTexts::fields_text))]
     fn text_or_missed(&self, attributes: &Attributes<'_, '_>) -> MadeText
-        ensures { let values = (plain_attributes attributes.now).values in AreNamed values → string_bytes result.text ≡ span_text values result.fate }
+        ensures { let values = (plain_attributes attributes.now).values in string_bytes result.text ≡ span_text values result.fate }
     {
         match text_of(self.alloc, attributes) {
             Ok(text) => MadeText {
@@ -219,9 +219,9 @@ impl StackState {
         lane: u64,
     ) -> Result<Fate, AllocError>
         requires { self.old.next_id ≡ Some id }
-        ensures ok { IfOk result (λ fate. MakesSpan (plain_state self.old Quiet) (plain_attributes attributes.now) lane fate (plain_state self.new (text_told fate))) }
+        ensures ok { IfOk result (λ fate. plain_state self.new (text_told fate) ≡ with_span (plain_state self.old Quiet) (plain_attributes attributes.now) lane fate) }
         ensures err { OnErr result (plain_state self.new Quiet ≡ plain_state self.old Quiet) }
-        ensures fits { id ≤ 18446744073709551615 }
+        ensures fits { id ≤ greatest }
     {
         let number = id.into_u64();
         let name = String::from_str(self.alloc, attributes.metadata().name())?;

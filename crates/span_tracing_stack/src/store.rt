@@ -165,7 +165,7 @@ pub(crate) fn take_one(spans: &mut Vec<SpanRecord>, id: u64) -> Result<(), Reque
     ensures ok { OnOk result ((is_open spans.old.items id ≡ true) × (spans.new.items ≡ one_more spans.old.items id)) }
     ensures err { OnErr result (spans.new.items ≡ spans.old.items) }
     ensures unknown { result ≡ Err RequestError.UnknownSpan → is_open spans.old.items id ≡ false }
-    ensures many { result ≡ Err RequestError.TooManyHandles → is_open spans.old.items id ≡ true }
+    ensures many { result ≡ Err RequestError.TooManyHandles → (is_open spans.old.items id ≡ true) × (handles_of spans.old.items id ≡ 18446744073709551615) }
     ensures told { IfErr result (λ error. (error ≡ RequestError.UnknownSpan) ⊎ (error ≡ RequestError.TooManyHandles)) }
 {
     for place in 0..spans.len() {

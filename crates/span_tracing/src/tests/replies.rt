@@ -45,6 +45,7 @@ fn enabled_tells_what_would_be_made(rt: HostRuntime) -> Result<(), Fail> {
     assert_eq!(rt; trace.enabled(0, OPENED, EVENT), Reply::Enabled(true));
     assert_eq!(rt; trace.enabled(1, OPENED, OUTER), Reply::Enabled(true));
     assert_eq!(rt; trace.enabled(1, OPENED, DETAIL), Reply::Enabled(false));
+    assert_eq!(rt; trace.enabled(1, OPENED, HINT), Reply::Enabled(true));
     let steps = [Step::Enabled(EnabledCall {
         lane: 0,
         moment: OPENED,
@@ -78,46 +79,37 @@ fn requests_are_refused_in_order(rt: HostRuntime) -> Result<(), Fail> {
     let timer = fixed_time(alloc)?;
     let mut trace = trace_over(&rt, alloc, folder, LevelFilter::INFO, timer)?;
     let unknown = Identifier(9);
-    let foreign = Parent::Explicit(span_name(1, 1)?);
-    let closed = Parent::Explicit(span_name(0, 1)?);
+    let parent = Parent::Explicit(span_name(1, 1)?);
     let long_second = Moment {
         seconds: OPENED.seconds,
         nanoseconds: 1_000_000_000,
     };
-    for (lane, moment, event_at, span_at, parent, refusal) in [
-        (
-            2,
-            TOO_EARLY,
-            unknown,
-            unknown,
-            foreign,
-            Refusal::UnknownLane,
-        ),
-        (1, TOO_EARLY, unknown, unknown, foreign, Refusal::BadMoment),
-        (
-            1,
-            long_second,
-            EVENT,
-            OUTER,
-            Parent::Root,
-            Refusal::BadMoment,
-        ),
-        (
-            1,
-            OPENED,
-            unknown,
-            unknown,
-            foreign,
-            Refusal::UnknownCallsite,
-        ),
-        (1, OPENED, OUTER, EVENT, foreign, Refusal::UnknownCallsite),
-        (1, OPENED, EVENT, OUTER, foreign, Refusal::UnknownStack),
-        (1, OPENED, EVENT, OUTER, closed, Refusal::ForeignParent),
+    for (lane, moment, event_at, span_at, refusal) in [
+        (2, TOO_EARLY, unknown, unknown, Refusal::UnknownLane),
+        (1, TOO_EARLY, unknown, unknown, Refusal::BadMoment),
+        (1, long_second, EVENT, OUTER, Refusal::BadMoment),
+        (1, OPENED, unknown, unknown, Refusal::UnknownCallsite),
+        (1, OPENED, OUTER, EVENT, Refusal::UnknownCallsite),
+        (1, OPENED, HINT, HINT, Refusal::UnknownCallsite),
+        (1, OPENED, EVENT, OUTER, Refusal::UnknownStack),
     ] {
         let refused = Reply::Refused(refusal);
         assert_eq!(rt; trace.event(lane, moment, event_at, parent, &[]), refused);
         assert_eq!(rt; trace.new_span(lane, moment, span_at, parent, &[]), refused);
     }
+    has_file(&rt, &trace, TODAY, "")
+}
+
+#[test]
+fn parents_of_a_stack_that_is_not_reached_are_foreign(rt: HostRuntime) -> Result<(), Fail> {
+    let alloc = rt.alloc();
+    let folder = MemoryFolder::new(alloc);
+    let timer = fixed_time(alloc)?;
+    let mut trace = trace_over(&rt, alloc, folder, LevelFilter::INFO, timer)?;
+    let closed = Parent::Explicit(span_name(0, 1)?);
+    let foreign = Reply::Refused(Refusal::ForeignParent);
+    assert_eq!(rt; trace.event(1, OPENED, EVENT, closed, &[]), foreign);
+    assert_eq!(rt; trace.new_span(1, OPENED, OUTER, closed, &[]), foreign);
     has_file(&rt, &trace, TODAY, "")
 }
 

@@ -133,7 +133,7 @@ fn callsites_are_registered(rt: HostRuntime) -> Result<(), Fail> {
         Kind::EVENT,
     );
     trace.register(EVENT, &first)?;
-    assert_eq!(rt; trace.register(EVENT, &first), Ok(()));
+    assert_eq!(rt; trace.register(EVENT, &first), Ok(Interest::never()));
     assert_eq!(rt; trace.state.parts.callsites.len(), 1);
     let file = Some("main.rs");
     let path = Some("app::main");
@@ -160,6 +160,55 @@ fn callsites_are_registered(rt: HostRuntime) -> Result<(), Fail> {
     }
     trace.register(DETAIL, &first)?;
     assert_eq!(rt; trace.state.parts.callsites.len(), 2);
+    Ok(())
+}
+
+/// Registers an event of the level.
+fn register_event(
+    trace: &mut Trace<MemoryFolder>,
+    identifier: Identifier,
+    level: Level,
+) -> Result<Interest, Refusal> {
+    let fields = FieldSet::new(&EVENT_FIELDS, identifier);
+    let kind = Kind::EVENT;
+    let metadata = Metadata::new("late", "app", level, None, None, None, fields, kind);
+    trace.register(identifier, &metadata)
+}
+
+#[test]
+fn interests_go_by_the_filter(rt: HostRuntime) -> Result<(), Fail> {
+    let alloc = rt.alloc();
+    let folder = MemoryFolder::new(alloc);
+    let timer = fixed_time(alloc)?;
+    let mut trace = trace_over(&rt, alloc, folder, LevelFilter::INFO, timer)?;
+    let always = Interest::always();
+    let never = Interest::never();
+    let known = register_all(&mut trace)?;
+    assert_eq!(rt; known, [always, always, always, never, always]);
+    let loud = register_event(&mut trace, Identifier(6), Level::ERROR)?;
+    assert_eq!(rt; loud, always);
+    let faint = register_event(&mut trace, Identifier(7), Level::TRACE)?;
+    assert_eq!(rt; faint, never);
+    Ok(())
+}
+
+#[test]
+fn a_stack_that_was_not_kept_has_no_interest(rt: HostRuntime) -> Result<(), Fail> {
+    let alloc = rt.alloc();
+    let mut trace = Trace::new(alloc);
+    register_all(&mut trace)?;
+    let folder = FailingFolder {
+        openings: 0,
+        writes: 0,
+        failures: 0,
+    };
+    let timer = fixed_time(alloc)?;
+    let outputs = outputs_over(alloc, folder, "app", LevelFilter::INFO, timer)?;
+    let (refusal, _outputs) = refused_stack(&rt, &mut trace, outputs, OPENED)?;
+    if refusal == Refusal::OutOfMemory {
+        return Err("want of memory".into());
+    }
+    assert_eq!(rt; register_all(&mut trace)?, [Interest::never(); 5]);
     Ok(())
 }
 

@@ -113,3 +113,24 @@ fn values_are_written_by_their_kinds(rt: HostRuntime) -> Result<(), Fail> {
     );
     Ok(())
 }
+
+#[test]
+fn values_past_the_names_are_passed_over(rt: HostRuntime) -> Result<(), Fail> {
+    let (mut hub, handle) = hub_of(rt.alloc())?;
+    let fields = FieldSet::new(&NAMES, Identifier(1));
+    let more = FieldSet::new(&ALL_NAMES, Identifier(1));
+    let past = more.field("below").ok_or("a field")?;
+    let number = more.field("n").ok_or("a field")?;
+    let values = [
+        (past, Some(AnyValue::I64(-5))),
+        (number, Some(AnyValue::U64(3))),
+    ];
+    let metadata = metadata_of("told", Level::INFO, fields, Kind::SPAN);
+    let span = Attributes::new(&metadata, fields.value_set(&values));
+    let span = hub.new_span(&handle, &span, at(0))?.ok_or("a span")?;
+    hub.enter(&handle, &span, at(0))?;
+    let event = Event::new(&metadata, fields.value_set(&values));
+    hub.event(&handle, &event, at(0))?;
+    assert_eq!(rt; line_in(&hub, &handle), Some("now told{n=3}: app: n=3\n"));
+    Ok(())
+}

@@ -1,6 +1,10 @@
 use Rattle.std.proofs.Common.{refl}
+use Rattle.tracing_core.specs.FieldSet.{field_names, set_callsite}
+use Rattle.tracing_core.specs.ValueSet.{fields_of_values}
 use Rattle.span_tracing_stack.proofs.Writing.{visited_from}
 use Rattle.span_tracing_stack.proofs.fields.push_event.Goals as goal
 
 pub returns : goal.returns
-returns c = visited_from c.record-written.result c.args.out.now c.replace.ensures.value refl c.record-written.ensures
+returns c =
+    let fields = fields_of_values c.args.event.now.values in
+    visited_from c.record-written.result c.args.out.now c.replace.ensures.value refl (c.last_of.ensures (set_callsite fields) (field_names fields) c.fields.ensures) c.record-written.ensures

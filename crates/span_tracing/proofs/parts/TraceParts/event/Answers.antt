@@ -14,7 +14,7 @@ pub tell-requires-clause-parent : goal.tell-requires-clause-parent
 tell-requires-clause-parent g c =
     let v = value_in c.args.self.now in
     let e = plain_request c.args.event.now in
-    event_parent (skeleton_of v) e (mask_in v (EventStep e)) c.requires.unrefused
+    rw (c.made_at.ensures.kept) (event_parent (skeleton_of v) e (mask_in v (EventStep e)) c.requires.unrefused)
 
 pub write_told-fate-requires : goal.write_told-fate-requires
 write_told-fate-requires g c =
@@ -31,4 +31,4 @@ returns-clause-takes g c =
     let line = event_line (skeleton_of v) v.texts time e c.in-Some.place in
     subst (λ (o : Option Handed). TakesLines g.D.Folder.contents c.args.sink.now c.write_told-fate.new.sink (handed_lines (c.write_told-fate.result ∷ []) o))
     (sym (offered (skeleton_of v) v.texts time e (mask_in v (EventStep e)) c.in-Some.place (sym c.made_at.ensures.value ∙ c.in-Some.is)))
-    (c.write_told-fate.ensures c.tell.ensures.fate line c.tell.ensures.told)
+    (c.write_told-fate.ensures c.tell.ensures.fate line (rw (c.made_at.ensures.kept) at c.tell.ensures.told))

@@ -11,11 +11,11 @@ pub make_span-requires-clause-parent : goal.make_span-requires-clause-parent
 make_span-requires-clause-parent c =
     let v = value_in c.args.self.now in
     let n = plain_request c.args.span.now in
-    span_parent (skeleton_of v) n (mask_in v (SpanStep n)) c.requires.unrefused
+    rw (c.made_at.ensures.kept) (span_parent (skeleton_of v) n (mask_in v (SpanStep n)) c.requires.unrefused)
 
 pub make_span-requires-clause-left : goal.make_span-requires-clause-left
 unfolding step_mask
 make_span-requires-clause-left c =
     let v = value_in c.args.self.now in
     let n = plain_request c.args.span.now in
-    span_id (skeleton_of v) n (mask_in v (SpanStep n)) c.in-Some.place c.requires.unrefused (sym c.made_at.ensures.value ∙ c.in-Some.is)
+    rw (c.made_at.ensures.kept) (span_id (skeleton_of v) n (mask_in v (SpanStep n)) c.in-Some.place c.requires.unrefused (sym c.made_at.ensures.value ∙ c.in-Some.is))

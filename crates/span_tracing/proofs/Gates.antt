@@ -1,0 +1,158 @@
+-- What the hub lets through, and what it answers of a callsite.
+use Rattle.std.proofs.Common.{◌≡◌, ℕ, ◌+◌, ◌==◌, Bool, true, false, ◌||◌, List, [], ◌∷◌, ◌++◌, length, map, Option, Some, None, refl, sym, ap, ◌∙◌, subst, arith, append_assoc}
+use Rattle.std.specs.Prelude.{nat_le, if◌then◌else◌, unwrap_or, option_and_then, slice_get}
+use Rattle.std.specs.List.{position_from}
+use Rattle.std.specs.Option.{option_map}
+use Rattle.tracing_core.specs.At.{At}
+use Rattle.tracing_core.specs.Commands.{AnswerGives, GateGives, GateGivesAt, is_at, known, known_by, reached, row_of}
+use Rattle.tracing_core.specs.Interests.{PlainInterest}
+use Rattle.tracing_core.specs.InterestInner.TheVariants.{Never, Always}
+use Rattle.tracing_core.specs.Kept.{Every, IsTrueRow}
+use Rattle.tracing_core.specs.PlainMetadata.{PlainMetadata}
+use Rattle.tracing_core.specs.Row.{Row}
+use Rattle.tracing_core.specs.Entry.{Entry}
+use Rattle.tracing_core.specs.Sound.{identifiers}
+use Rattle.tracing_core.specs.Subscriber.{Ghosts}
+use Rattle.tracing_core.specs.Table.{Table}
+use Rattle.span_tracing_machine.specs.Machine.{is_made, known_place, made_at, place_of}
+use Rattle.span_tracing_machine.specs.Skeleton.{PlainCallsite, Skeleton}
+use Rattle.span_tracing_machine.specs.State.{callsite_named, mask_at, mask_for}
+use Rattle.span_tracing_stack.specs.Stacks.{StackValue}
+use Rattle.span_tracing.specs.Skeletons.{filter_here, filter_in, interest_by, plain_callsite, plain_setting, stack_in}
+use Rattle.span_tracing.specs.Sound.{IsSound}
+use Rattle.span_tracing.specs.Telling.{own_metadata}
+use Rattle.span_tracing.specs.contracts.site.SiteCallsite.TheImpl.{ghosts}
+use Rattle.span_tracing.specs.declared.callsite.Callsite.{Callsite}
+use Rattle.span_tracing.specs.declared.parts.TraceParts.{TraceParts}
+use Rattle.span_tracing.specs.declared.site.Site.{Site}
+
+-- the filter that a value shows is the stack's
+pub filter_same : (stack : Option StackValue) → filter_here stack ≡ filter_in (option_map plain_setting (option_map (λ (x : StackValue). x.setting) stack))
+filter_same None = refl
+filter_same (Some x) = refl
+
+-- the first one of a number
+abbrev pub first_of : List PlainCallsite → ℕ → Option PlainCallsite
+first_of [] number = None
+first_of (c ∷ cs) number = if c.number == number then Some c else first_of cs number
+
+get_past : (before : List PlainCallsite) (c : PlainCallsite) (cs : List PlainCallsite) → slice_get (before ++ c ∷ cs) (length before) ≡ Some c
+get_past [] c cs = refl
+get_past (b ∷ bs) c cs = get_past bs c cs
+
+length_past : (before : List PlainCallsite) (c : PlainCallsite) → length (before ++ c ∷ []) ≡ length before + 1
+length_past [] c = refl
+length_past (b ∷ bs) c = let e = length_past bs c in omega (arith, e)
+
+found_from : (before cs : List PlainCallsite) (number : ℕ) → option_and_then (λ place. slice_get (before ++ cs) place) (position_from (λ (c : PlainCallsite). c.number == number) (length before) cs) ≡ first_of cs number
+found_from before [] number = refl
+found_from before (c ∷ cs) number = by_test (found_from (before ++ c ∷ []) cs number) (c.number == number) refl
+  where
+    at : ℕ → Option PlainCallsite
+    at place = slice_get (before ++ c ∷ cs) place
+
+    by_test : option_and_then (λ place. slice_get ((before ++ c ∷ []) ++ cs) place) (position_from (λ (c : PlainCallsite). c.number == number) (length (before ++ c ∷ [])) cs) ≡ first_of cs number →
+        (b : Bool) → (c.number == number) ≡ b → option_and_then at (position_from (λ (c : PlainCallsite). c.number == number) (length before) (c ∷ cs)) ≡ first_of (c ∷ cs) number
+    by_test more true e = rw e (get_past before c cs)
+    by_test more false e = rw e (rw (length_past before c, append_assoc) at more)
+
+-- a callsite by its identifier is the first one of that number
+pub named_first : (cs : List PlainCallsite) (number : ℕ) → callsite_named cs number ≡ first_of cs number
+named_first cs number = found_from [] cs number
+
+-- what is kept of a callsite that is known, and nothing of one that isn't
+abbrev pub RowFits : Option ℕ → Option PlainCallsite → Option (Row Site) → Type 0
+RowFits filter None None = Unit {0}
+RowFits filter None (Some row) = ⊥
+RowFits filter (Some c) None = ⊥
+RowFits filter (Some c) (Some row) = (row.interest ≡ interest_by filter c.metadata.level) × (row.level ≡ c.metadata.level)
+
+rows_fit : (filter : Option ℕ) (cs : List Callsite) (rows : List (Row Site)) (number : ℕ) → identifiers rows ≡ map (λ (c : Callsite). c.number) cs → map (λ (row : Row Site). own_metadata row.callsite.callsite) rows ≡ map own_metadata cs → map (λ (row : Row Site). row.interest) rows ≡ map (λ (c : Callsite). interest_by filter c.level) cs → Every (IsTrueRow ghosts) rows → RowFits filter (first_of (map plain_callsite cs) number) (row_of number rows)
+rows_fit filter [] [] number n m k all = tt
+rows_fit filter [] (row ∷ rows) number n m k all = absurd (cc)
+rows_fit filter (c ∷ cs) [] number n m k all = absurd (cc)
+rows_fit filter (c ∷ cs) (row ∷ rows) number n m k all =
+    let same : row.identifier ≡ c.number = cc in
+    let metadata : own_metadata row.callsite.callsite ≡ own_metadata c = cc in
+    let interest : row.interest ≡ interest_by filter c.level = cc in
+    let level : row.level ≡ c.level = all.0.0 ∙ ap (λ (x : PlainMetadata). x.level) metadata in
+    let rest = rows_fit filter cs rows number (cc) (cc) (cc) all.1 in
+    by_test same interest level rest (c.number == number) refl
+  where
+    by_test : row.identifier ≡ c.number → row.interest ≡ interest_by filter c.level → row.level ≡ c.level → RowFits filter (first_of (map plain_callsite cs) number) (row_of number rows) → (b : Bool) → (c.number == number) ≡ b → RowFits filter (first_of (map plain_callsite (c ∷ cs)) number) (row_of number (row ∷ rows))
+    by_test same interest level rest true e =
+        let here : is_at number row ≡ true = ap (λ n. n == number) same ∙ e in
+        rw (e, here) (interest, level)
+    by_test same interest level rest false e =
+        let away : is_at number row ≡ false = ap (λ n. n == number) same ∙ e in
+        rw (e, away) rest
+
+pub row_fits : (p : TraceParts) (number : ℕ) → IsSound p → RowFits (filter_here (stack_in p)) (callsite_named (map plain_callsite p.callsites.items) number) (row_of number p.hub.rows)
+row_fits p number sound =
+    subst (λ o. RowFits (filter_here (stack_in p)) o (row_of number p.hub.rows)) (sym (named_first (map plain_callsite p.callsites.items) number))
+    (rows_fit (filter_here (stack_in p)) p.callsites.items p.hub.rows number sound.kept.numbers sound.kept.metadata sound.kept.interests sound.hub.sites)
+
+-- the interest that is kept of a callsite
+interest_fits : (filter : Option ℕ) (c : Option PlainCallsite) (row : Option (Row Site)) → RowFits filter c row → option_map (λ (r : Row Site). r.interest) row ≡ option_map (λ (c : PlainCallsite). interest_by filter c.metadata.level) c
+interest_fits filter None None fits = refl
+interest_fits filter None (Some row) fits = absurd fits
+interest_fits filter (Some c) None fits = absurd fits
+interest_fits filter (Some c) (Some row) fits = ap (λ (k : PlainInterest). Some k) fits.0
+
+pub kept_interest : (p : TraceParts) (number : ℕ) → IsSound p → option_map (λ (r : Row Site). r.interest) (row_of number p.hub.rows) ≡ option_map (λ (c : PlainCallsite). interest_by (filter_here (stack_in p)) c.metadata.level) (callsite_named (map plain_callsite p.callsites.items) number)
+kept_interest p number sound = interest_fits (filter_here (stack_in p)) (callsite_named (map plain_callsite p.callsites.items) number) (row_of number p.hub.rows) (row_fits p number sound)
+
+either_false : (b : Bool) → (if b then Some false else Some false) ≡ Some false
+either_false true = refl
+either_false false = refl
+
+either_known : (b : Bool) → (if b then known_by (if b then Always else Never) else Some false) ≡ Some (b || false)
+either_known true = refl
+either_known false = refl
+
+-- what is kept tells what the mask says
+known_fits : (filter : Option ℕ) (c : PlainCallsite) → known (unwrap_or filter 0) c.metadata.level (interest_by filter c.metadata.level) ≡ Some (is_made (mask_at filter (Some c)))
+known_fits None c = either_false (nat_le c.metadata.level 0)
+known_fits (Some top) c = either_known (nat_le c.metadata.level top)
+
+none_passes : (filter : Option ℕ) → is_made (mask_at filter None) ≡ false
+none_passes None = refl
+none_passes (Some top) = refl
+
+module _ (g : Ghosts StackValue) where
+  gate_fits : (filter : Option ℕ) (t u : Table StackValue Site) (at : At) (c : Option PlainCallsite) (row : Option (Row Site)) (result : Option Bool) → RowFits filter c row → t.greatest ≡ unwrap_or filter 0 → GateGivesAt g ghosts t row at result u → (u ≡ t) × (unwrap_or result false ≡ is_made (mask_at filter c))
+  gate_fits filter t u at None None result fits top gives = (gives.1, ap (λ (o : Option Bool). unwrap_or o false) gives.0 ∙ sym (none_passes filter))
+  gate_fits filter t u at None (Some row) result fits top gives = absurd fits
+  gate_fits filter t u at (Some c) None result fits top gives = absurd fits
+  gate_fits filter t u at (Some c) (Some row) result fits top gives =
+      let answer = gives.0.0 in
+      let told : known t.greatest row.level row.interest ≡ Some (is_made (mask_at filter (Some c))) =
+      ap (λ n. known n row.level row.interest) top ∙ ap (λ n. known (unwrap_or filter 0) n row.interest) fits.1
+      ∙ ap (λ k. known (unwrap_or filter 0) c.metadata.level k) fits.0 ∙ known_fits filter c in
+      let given = subst (λ o. AnswerGives g ghosts row at o (reached t at.lane) t.entries answer u.entries) told gives.0.2 in (
+        gives.1 ∙ ap (λ (es : List (Entry StackValue)). record t { entries = es }) given.1,
+        ap (λ (o : Option Bool). unwrap_or o false) gives.0.1 ∙ given.0,
+      )
+
+  -- the gate changes nothing and tells what the mask says
+  pub gate_tells : (p : TraceParts) (u : Table StackValue Site) (number : ℕ) (at : At) (result : Option Bool) → IsSound p → GateGives g ghosts p.hub number at result u → (u ≡ p.hub) × (unwrap_or result false ≡ is_made (mask_at (filter_here (stack_in p)) (callsite_named (map plain_callsite p.callsites.items) number)))
+  gate_tells p u number at result sound gives =
+      gate_fits (filter_here (stack_in p)) p.hub u at (callsite_named (map plain_callsite p.callsites.items) number) (row_of number p.hub.rows) result (row_fits p number sound) sound.kept.greatest gives
+
+-- a callsite of its kind is the callsite of its identifier
+pub place_known : (cs : List PlainCallsite) (number place : ℕ) (is_span : Bool) → known_place cs number is_span ≡ Some place → callsite_named cs number ≡ slice_get cs place
+unfolding known_place
+place_known cs number place is_span known = by_place (place_of cs number) refl known
+  where
+    by_place : (o : Option ℕ) → place_of cs number ≡ o → option_and_then (λ n. if Rattle.span_tracing_machine.specs.Machine.is_kind (slice_get cs n) is_span then Some n else None) o ≡ Some place → callsite_named cs number ≡ slice_get cs place
+    by_place None e k = absurd (cc)
+    by_place (Some n) e k = by_kind n e (Rattle.span_tracing_machine.specs.Machine.is_kind (slice_get cs n) is_span) k
+      where
+        by_kind : (n : ℕ) → place_of cs number ≡ Some n → (b : Bool) → (if b then Some n else None) ≡ Some place → callsite_named cs number ≡ slice_get cs place
+        by_kind n e true k = let same : n ≡ place = cc in ap (option_and_then (λ m. slice_get cs m)) e ∙ ap (λ m. slice_get cs m) same
+        by_kind n e false k = absurd (cc)
+
+-- where a request is made: at a known place that the filter passes
+pub made_there : (s : Skeleton) (filter : Option ℕ) (number place : ℕ) (is_span : Bool) (b : Bool) → s.is_global ≡ true → known_place s.callsites number is_span ≡ Some place → is_made (mask_at filter (slice_get s.callsites place)) ≡ b → (if b then Some place else None) ≡ made_at s number is_span (mask_for s filter number is_span)
+unfolding made_at
+made_there s filter number place is_span b global known e = rw (global, known, e) refl
