@@ -2,7 +2,7 @@
 use crate::tests::lines::Counted;
 use crate::{
     AnyValue, DebugText, Empty, ErrorText, FieldSet, Identifier, Interest, Kind, Level,
-    LevelFilter, Metadata, Value, debug, display, filters_read_their_names,
+    LevelFilter, Metadata, Value, Visit, debug, display, filters_read_their_names,
     interests_join_in_any_order, levels_read_their_names, numbers_are_read_as_usize,
 };
 use std::num::{NonZeroU8, Wrapping};
@@ -77,6 +77,32 @@ fn surface_fields(rt: HostRuntime) -> Result<(), Fail> {
     assert!(rt; values.contains(&count) && values.field_set() == &fields);
     let all = [Some(AnyValue::Empty), Some(AnyValue::Bool(true))];
     assert!(rt; fields.value_set_all(&all).record(&mut counted) == Err(1));
+    Ok(())
+}
+
+#[test]
+fn surface_visits(rt: HostRuntime) -> Result<(), Fail> {
+    let fields = FieldSet::new(&NAMES, Identifier(7));
+    let field = fields.field("count").ok_or("count")?;
+    let mut counted = Counted { seen: 0, limit: 9 };
+    let numbers = [
+        counted.record_i64(&field, -1),
+        counted.record_u64(&field, 1),
+        counted.record_i128(&field, -1),
+        counted.record_u128(&field, 1),
+    ];
+    assert!(rt; numbers.iter().all(|answer| answer.is_ok()) && counted.seen == 4);
+    assert!(rt;
+        counted.record_bool(&field, true).is_ok() && counted.record_str(&field, "a").is_ok()
+    );
+    assert!(rt; counted.record_bytes(&field, b"ab").is_ok());
+    assert!(rt;
+        counted
+            .record_error(&field, &ErrorText::new("e", &["source"]))
+            .is_ok()
+    );
+    assert!(rt; counted.record_debug(&field, &DebugText::U64(1)).is_ok() && counted.seen == 9);
+    assert!(rt; counted.record_str(&field, "one too many") == Err(9));
     Ok(())
 }
 
