@@ -1,0 +1,15 @@
+pub mod FieldNames
+pub mod Lists
+pub mod Lines
+pub mod Entries
+pub mod Padding
+pub mod Placing
+pub mod Closing
+pub mod Mapped
+pub mod Handles
+pub mod Forgetting
+pub mod Making
+pub mod Slotting
+pub mod Seeing
+pub mod Walking
+pub mod Keeping

@@ -1,0 +1,18 @@
+use Rattle.std.proofs.Common.{◌≡◌, List, Err, refl, ap, sym, ◌∙◌, subst}
+use Rattle.span_registry_layers_store.specs.Keeping.{ReplaceRefused}
+use Rattle.span_registry_layers_store.specs.Places.{IsPlace, kin_of}
+use Rattle.span_registry_layers_store.specs.Slots.{ReplaceGives, plain_slot}
+use Rattle.span_registry_layers_store.specs.Spans.{is_open}
+use Rattle.span_registry_layers_store.proofs.Keeping.{not_there, there}
+use Rattle.span_registry_layers_store.proofs.parts.RegistryParts.replace_slot.Goals as goal
+
+pub returns-in_default : goal.returns-in_default
+returns-in_default c =
+    not_there c.args.self.now c.args.id (λ ps a qs. ReplaceGives ps c.args.key.0 c.args.tag (plain_slot c.args.slot) a qs) (ReplaceRefused (plain_slot c.args.slot)) (Err c.args.slot)
+    (ap (λ xs. is_open kin_of xs c.args.id) (sym c.as_slice.ensures.value) ∙ c.in_default.ensures) refl
+
+pub returns : goal.returns
+returns c =
+    let p : IsPlace c.args.self.now.spans.items c.args.id c.in-Some.place = subst (λ xs. IsPlace xs c.args.id c.in-Some.place) c.as_slice.ensures.value c.in-Some.ensures in
+    there c.args.self.now c.args.id (λ ps a qs. ReplaceGives ps c.args.key.0 c.args.tag (plain_slot c.args.slot) a qs) (ReplaceRefused (plain_slot c.args.slot)) c.replace.result
+    c.in-Some.place c.index_mut.result.now c.replace.new.self p c.index_mut.ensures.value c.replace.ensures

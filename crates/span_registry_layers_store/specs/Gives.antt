@@ -1,0 +1,92 @@
+-- What the calls of a registry answer and leave.
+use Rattle.std.specs.Prelude.{◌≡◌, ◌<◌, ◌≤◌, ◌+◌, ℕ, ◌==◌, nat_lt, List, [], ◌∷◌, Bool, true, false, not, if◌then◌else◌, Option, Some, None, Result, Ok, Err}
+use Rattle.tracing_core.specs.Handles.{or_refused, or_same}
+use Rattle.tracing_core.specs.Parent.{Parent}
+use Rattle.tracing_core.specs.PlainMetadata.{PlainMetadata}
+use Rattle.tracing_core.specs.PlainRequests.{explicit_parent}
+use Rattle.tracing_core.specs.RequestError.{RequestError}
+use Rattle.tracing_core.specs.RequestError.TheVariants.{OutOfMemory, UnknownSpan, UnknownParent, IdsSpent, TooManyHandles}
+use Rattle.span_registry_layers_store.specs.declared.filter_map.FilterId.{FilterId}
+use Rattle.span_registry_layers_store.specs.declared.filter_map.TooManyFilters.{TooManyFilters}
+use Rattle.span_registry_layers_store.specs.Registries.{PlainSpan, RegistryValue, closing_in, kin_in, knows, swept, under, with_entry, with_handle, with_span, without_handle}
+use Rattle.span_registry_layers_store.specs.Spans.{handles_of, is_open}
+
+-- the greatest id, and the greatest number of handles
+abbrev pub most : ℕ
+most = 18446744073709551615
+
+abbrev pub when : {E : Type 0} → Bool → E → Option E
+when true refusal = Some refusal
+when false refusal = None
+
+-- the first refusal of two
+abbrev pub first : {E : Type 0} → Option E → Option E → Option E
+first None later = later
+first (Some refusal) later = Some refusal
+
+-- a new span's parent, where one is named, is open, and an id is left
+abbrev pub span_refusal : RegistryValue → Parent → Option RequestError
+span_refusal x parent = first (when (not (knows x (explicit_parent parent))) UnknownParent) (when (nat_lt most x.next_id) IdsSpent)
+
+-- what is refused changes nothing; what isn't may find no memory, and then changes nothing either
+abbrev pub GivesUnless : {A : Type 0} → Option RequestError → RegistryValue → A → RegistryValue → Result A RequestError → RegistryValue → Type 0
+GivesUnless (Some refusal) x answer left r y = (r ≡ Err refusal) × (y ≡ x)
+GivesUnless None x answer left (Ok given) y = (given ≡ answer) × (y ≡ left)
+GivesUnless None x answer left (Err e) y = (e ≡ OutOfMemory) × (y ≡ x)
+
+-- a new span has the next id, and one handle
+abbrev pub SpanGives : RegistryValue → PlainMetadata → Parent → ℕ → List Bool → Result ℕ RequestError → RegistryValue → Type 0
+SpanGives x metadata parent lane passed r y =
+    GivesUnless (span_refusal x parent) x x.next_id (with_span x metadata (under x lane parent) passed) r y
+
+abbrev pub open_refusal : RegistryValue → ℕ → Option RequestError
+open_refusal x id = when (not (is_open kin_in x.spans id)) UnknownSpan
+
+-- an open span is entered
+abbrev pub EntryGives : RegistryValue → ℕ → ℕ → Result (Unit {0}) RequestError → RegistryValue → Type 0
+EntryGives x lane id r y = GivesUnless (open_refusal x id) x tt (with_entry x lane id) r y
+
+abbrev pub follow_refusal : RegistryValue → ℕ → ℕ → Option RequestError
+follow_refusal x id follows = first (open_refusal x id) (open_refusal x follows)
+
+-- filters are numbered in order, and there are at most 64
+abbrev pub FilterGives : RegistryValue → Result FilterId TooManyFilters → RegistryValue → Type 0
+FilterGives x (Ok filter) y = (filter.index ≡ x.filters) × (x.filters < 64) × (y ≡ record x { filters = x.filters + 1 })
+FilterGives x (Err refusal) y = (64 ≤ x.filters) × (y ≡ x)
+
+-- an open span has at most so many handles
+abbrev pub clone_refusal : RegistryValue → ℕ → Option RequestError
+clone_refusal x id = first (open_refusal x id) (when (handles_of kin_in x.spans id == most) TooManyHandles)
+
+abbrev pub clone_gives : RegistryValue → ℕ → Result ℕ RequestError × RegistryValue
+clone_gives x id = (or_refused (clone_refusal x id) id, or_same (clone_refusal x id) x (with_handle x id))
+
+-- a handle is given up where there is one
+abbrev pub close_refusal : RegistryValue → ℕ → Option RequestError
+close_refusal x id = when (handles_of kin_in x.spans id == 0) UnknownSpan
+
+abbrev pub give_up_gives : RegistryValue → ℕ → Result (Unit {0}) RequestError × RegistryValue
+give_up_gives x id = (or_refused (close_refusal x id) tt, or_same (close_refusal x id) x (without_handle x id))
+
+-- whether the span is not open any more
+abbrev pub is_closed : RegistryValue → ℕ → Bool
+is_closed x id = not (is_open kin_in x.spans id)
+
+abbrev pub close_gives : RegistryValue → ℕ → Result Bool RequestError × RegistryValue
+close_gives x id = (or_refused (close_refusal x id) (is_closed (swept (without_handle x id)) id), or_same (close_refusal x id) x (swept (without_handle x id)))
+
+-- nothing closes
+abbrev pub IsSettled : RegistryValue → Type 0
+IsSettled x = (closing_in x ≡ []) × (swept x ≡ x)
+
+-- the span of the id closes next
+abbrev pub IsNext : RegistryValue → ℕ → Type 0
+IsNext x id = (s : PlainSpan) × (later : List PlainSpan) × (s.kin.id ≡ id) × (closing_in x ≡ s ∷ later)
+
+-- the span of the id closed, and then the others close that did before
+abbrev pub ClosesNext : RegistryValue → ℕ → RegistryValue → Type 0
+ClosesNext x id y = (s : PlainSpan) × (s.kin.id ≡ id) × (closing_in x ≡ s ∷ closing_in y) × (swept y ≡ swept x) × (y ≡ record x { spans = y.spans })
+
+abbrev pub ForgetGives : RegistryValue → Option ℕ → RegistryValue → Type 0
+ForgetGives x None y = IsSettled x × (y ≡ x)
+ForgetGives x (Some id) y = ClosesNext x id y

@@ -1,0 +1,11 @@
+pub mod Spans
+pub mod Lanes
+pub mod Verdicts
+pub mod OwnedMetadatas
+pub mod Places
+pub mod Registries
+pub mod Gives
+pub mod Slots
+pub mod Keeping
+pub mod Views
+pub mod References

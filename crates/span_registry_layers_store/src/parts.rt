@@ -1,0 +1,433 @@
+//! What a registry keeps.
+
+ghost use Rattle.std.specs.Prelude.{◌≡◌, ◌<◌, ◌≤◌, ◌+◌, IfOk, IfSome, MatchOption, None, OnErr, OnOk, Some, get_or, length, reverse, slice_get, take};
+ghost use Rattle.std.specs.Arc.{arc_value};
+ghost use Rattle.std.specs.Option.{option_map};
+ghost use Rattle.tracing_core.specs.Handles.{or_refused};
+ghost use Rattle.tracing_core.specs.Metadata.{plain_metadata};
+ghost use Rattle.tracing_core.specs.PlainRequests.{explicit_parent, plain_attributes};
+ghost use Rattle.span_registry_layers_store.specs.Gives.{EntryGives, FilterGives, ForgetGives, IsNext, IsSettled, SpanGives, clone_gives, close_gives, follow_refusal, give_up_gives, open_refusal};
+ghost use Rattle.span_registry_layers_store.specs.Keeping.{InsertsSlot, RemovesSlot, ReplacesSlot};
+ghost use Rattle.span_registry_layers_store.specs.Lanes.{lane_at};
+ghost use Rattle.span_registry_layers_store.specs.OwnedMetadatas.{owned_plain};
+ghost use Rattle.span_registry_layers_store.specs.Registries.{current_on, kin_in, knows, next_number, plain_registry, plain_span, swept, under, with_span, without_entry};
+ghost use Rattle.span_registry_layers_store.specs.Slots.{plain_slot};
+ghost use Rattle.span_registry_layers_store.specs.Spans.{found, handles_of, is_open, parent_of};
+ghost use Rattle.span_registry_layers_store.specs.Views.{IsFoundAt, current_under, entry_seen, latest_seen, mask_of, seen, sees};
+
+use crate::filter_map::{FilterId, FilterMap, TooManyFilters};
+use crate::lanes::{drop_entry, lane_at, push_entry};
+use crate::metadata::OwnedMetadata;
+use crate::plain::{closing, current, handles_of, is_member, is_open, parent_of, place_of};
+use crate::record::SpanRecord;
+use crate::slot::{InsertError, OutputKey, Slot, Tag};
+use crate::slots::Slots;
+use crate::span::Span;
+use std::alloc::{AllocError, Global};
+use std::sync::Arc;
+use tracing_core::{Attributes, Id, Metadata, RequestError};
+
+/// Open spans, lane stacks, and the metadata of callsites that spans were made at.
+#[derive(Debug, Drop)]
+pub(crate) struct RegistryParts {
+    pub(crate) alloc: Global,
+    pub(crate) lanes: Vec<Vec<Id>>,
+    pub(crate) spans: Vec<Span>,
+    /// The next span's id; none where all are given.
+    pub(crate) next_id: Option<Id>,
+    pub(crate) callsites: Vec<Arc<OwnedMetadata>>,
+    pub(crate) filters: u8,
+}
+
+/// The place of the copy of the metadata, where it is known.
+fn place_of_known(callsites: &[Arc<OwnedMetadata>], metadata: &Metadata<'_>) -> Option<usize>
+    ensures { IfSome result (λ place. IfSome (slice_get callsites.now place) (λ copy. owned_plain (arc_value copy) ≡ plain_metadata metadata.now)) }
+{
+    for place in 0..callsites.len() {
+        if callsites[place].is_same(metadata) {
+            return Some(place);
+        }
+    }
+    None
+}
+
+/// The id after an id, where there is one.
+fn id_after(id: u64) -> Option<Id>
+    requires { (0 < id) × (id ≤ 18446744073709551615) }
+    ensures { next_number result ≡ id + 1 }
+{
+    if id == u64::MAX {
+        return None;
+    }
+    Id::from_u64(id + 1)
+}
+
+/// Whether the filter, where there is one, passed the span.
+fn is_seen(span: &Span, filter: Option<FilterId>) -> bool
+    ensures { result ≡ sees (mask_of filter) (plain_span span.now) }
+{
+    match filter {
+        None => true,
+        Some(filter) => span.passed.passes(filter),
+    }
+}
+
+impl RegistryParts {
+    /// The copy of the metadata that spans share.
+    fn owned(&mut self, metadata: &Metadata<'_>) -> Result<Arc<OwnedMetadata>, AllocError>
+        ensures copy { IfOk result (λ copy. owned_plain (arc_value copy) ≡ plain_metadata metadata.now) }
+        ensures rest { self.new ≡ record self.old { callsites = self.new.callsites } }
+    {
+        if let Some(place) = place_of_known(self.callsites.as_slice(), metadata)
+            && let Some(copy) = self.callsites.get(place)
+        {
+            return Arc::clone(copy);
+        }
+        let copy = Arc::new(self.alloc, OwnedMetadata::new(self.alloc, metadata)?)?;
+        self.callsites.push(Arc::clone(&copy)?)?;
+        Ok(copy)
+    }
+
+    /// The entries of a lane, the earliest first.
+    pub(crate) fn lane(&self, lane: u64) -> &[Id]
+        ensures { result.now ≡ lane_at (plain_registry self.now).lanes lane }
+    {
+        lane_at(self.lanes.as_slice(), lane)
+    }
+
+    /// The span that a lane is in.
+    pub(crate) fn current_on(&self, lane: u64) -> Option<Id>
+        ensures { result ≡ current_on (plain_registry self.now) lane }
+    {
+        current(lane_at(self.lanes.as_slice(), lane))
+    }
+
+    /// Whether a span is open.
+    #[tactic(auto, using(crate::proofs::Mapped::open_mapped))]
+    pub(crate) fn is_open(&self, id: Id) -> bool
+        ensures { result ≡ is_open kin_in (plain_registry self.now).spans id }
+    {
+        is_open(self.spans.as_slice(), id)
+    }
+
+    /// How many handles a span has, and 0 where it is not open.
+    #[tactic(auto, using(crate::proofs::Mapped::handles_mapped))]
+    pub(crate) fn handles_of(&self, id: Id) -> usize
+        ensures { result ≡ handles_of kin_in (plain_registry self.now).spans id }
+    {
+        handles_of(self.spans.as_slice(), id)
+    }
+
+    fn place_of(&self, id: Id) -> Option<usize>
+        ensures { MatchOption result (found kin_in (plain_registry self.now).spans id ≡ None) (λ place. IsFoundAt self.now.spans.items id place) }
+    {
+        place_of(self.spans.as_slice(), id)
+    }
+
+    /// The span of an id, where it is open and the filter passed it.
+    pub(crate) fn find(&self, id: Id, filter: Option<FilterId>) -> Option<&Span>
+        ensures { option_map (λ s. plain_span s.now) result ≡ seen (plain_registry self.now) (mask_of filter) id }
+    {
+        match self.place_of(id) {
+            None => None,
+            Some(place) => {
+                let span = &self.spans[place];
+                if is_seen(span, filter) {
+                    Some(span)
+                } else {
+                    None
+                }
+            }
+        }
+    }
+
+    // The span of the entry at the place, where it is seen and no earlier entry has its id.
+    fn entry_seen(&self, lane: &[Id], place: usize, filter: Option<FilterId>) -> Option<&Span>
+        requires { place < length lane.now }
+        ensures { option_map (λ s. plain_span s.now) result ≡ entry_seen (plain_registry self.now) (mask_of filter) (take place lane.now) (get_or lane.now place 0) }
+    {
+        let id = lane[place];
+        if is_member(&lane[..place], id) {
+            return None;
+        }
+        self.find(id, filter)
+    }
+
+    // The span of the last such entry.
+    fn latest_seen(&self, lane: &[Id], filter: Option<FilterId>) -> Option<&Span>
+        ensures { option_map (λ s. plain_span s.now) result ≡ latest_seen (plain_registry self.now) (mask_of filter) (reverse lane.now) }
+    {
+        let mut rest = lane.len();
+        while rest > 0 {
+            rest -= 1;
+            if let Some(span) = self.entry_seen(lane, rest, filter) {
+                return Some(span);
+            }
+        }
+        None
+    }
+
+    /// The span that a lane is in, as the filter sees it.
+    pub(crate) fn current_under(&self, lane: u64, filter: Option<FilterId>) -> Option<&Span>
+        ensures { option_map (λ s. plain_span s.now) result ≡ current_under (plain_registry self.now) (mask_of filter) lane }
+    {
+        self.latest_seen(self.lane(lane), filter)
+    }
+
+    /// The parent of a span, where it is open and has one.
+    #[tactic(auto, using(crate::proofs::Mapped::parent_mapped))]
+    pub(crate) fn above(&self, id: Id) -> Option<Id>
+        ensures { result ≡ parent_of kin_in (plain_registry self.now).spans id }
+    {
+        parent_of(self.spans.as_slice(), id)
+    }
+
+    // Whether the parent is open, where one is named.
+    fn knows_parent(&self, attributes: &Attributes<'_, '_>) -> bool
+        ensures { result ≡ knows (plain_registry self.now) (explicit_parent (plain_attributes attributes.now).parent) }
+    {
+        match attributes.parent() {
+            None => true,
+            Some(id) => self.is_open(*id),
+        }
+    }
+
+    // The span that a new one stands under.
+    fn parent_of(&self, attributes: &Attributes<'_, '_>, lane: u64) -> Option<Id>
+        ensures { result ≡ under (plain_registry self.now) lane (plain_attributes attributes.now).parent }
+    {
+        if attributes.is_contextual() {
+            return self.current_on(lane);
+        }
+        match attributes.parent() {
+            None => None,
+            Some(id) => Some(*id),
+        }
+    }
+
+    // Adds the span of the next id.
+    #[tactic(auto, using(crate::proofs::Lists::map_more))]
+    fn push_span(
+        &mut self,
+        id: Id,
+        parent: Option<Id>,
+        metadata: &Metadata<'_>,
+        passed: FilterMap,
+    ) -> Result<(), AllocError>
+        requires { self.old.next_id ≡ Some id }
+        ensures ok { OnOk result (plain_registry self.new ≡ with_span (plain_registry self.old) (plain_metadata metadata.now) parent passed.passed) }
+        ensures err { OnErr result (plain_registry self.new ≡ plain_registry self.old) }
+        ensures fits { id ≤ 18446744073709551615 }
+    {
+        let metadata = self.owned(metadata)?;
+        let kin = SpanRecord {
+            id,
+            parent,
+            handles: 1,
+        };
+        self.spans.push(Span {
+            kin,
+            metadata,
+            passed,
+            slots: Slots::new(self.alloc),
+        })?;
+        self.next_id = id_after(id.into_u64());
+        Ok(())
+    }
+
+    /// Makes a span, with one handle.
+    pub(crate) fn new_span(
+        &mut self,
+        attributes: &Attributes<'_, '_>,
+        lane: u64,
+        passed: FilterMap,
+    ) -> Result<Id, RequestError>
+        ensures { let a = plain_attributes attributes.now in SpanGives (plain_registry self.old) a.metadata a.parent lane passed.passed result (plain_registry self.new) }
+    {
+        if !self.knows_parent(attributes) {
+            return Err(RequestError::UnknownParent);
+        }
+        let Some(id) = self.next_id else {
+            return Err(RequestError::IdsSpent);
+        };
+        let parent = self.parent_of(attributes, lane);
+        match self.push_span(id, parent, attributes.metadata(), passed) {
+            Ok(()) => Ok(id),
+            Err(_) => Err(RequestError::OutOfMemory),
+        }
+    }
+
+    /// Whether a span is open.
+    pub(crate) fn record(&self, id: Id) -> Result<(), RequestError>
+        ensures { result ≡ or_refused (open_refusal (plain_registry self.now) id) tt }
+    {
+        if self.is_open(id) {
+            Ok(())
+        } else {
+            Err(RequestError::UnknownSpan)
+        }
+    }
+
+    /// Whether both spans are open.
+    pub(crate) fn record_follows_from(&self, id: Id, follows: Id) -> Result<(), RequestError>
+        ensures { result ≡ or_refused (follow_refusal (plain_registry self.now) id follows) tt }
+    {
+        if self.is_open(id) && self.is_open(follows) {
+            Ok(())
+        } else {
+            Err(RequestError::UnknownSpan)
+        }
+    }
+
+    /// Counts one more filter.
+    pub(crate) fn register_filter(&mut self) -> Result<FilterId, TooManyFilters>
+        ensures { FilterGives (plain_registry self.old) result (plain_registry self.new) }
+    {
+        if self.filters >= 64 {
+            return Err(TooManyFilters(()));
+        }
+        let filter = FilterId {
+            index: self.filters,
+        };
+        self.filters += 1;
+        Ok(filter)
+    }
+
+    /// Adds an entry of a span on a lane.
+    pub(crate) fn enter(&mut self, id: Id, lane: u64) -> Result<(), RequestError>
+        ensures { EntryGives (plain_registry self.old) lane id result (plain_registry self.new) }
+    {
+        if !self.is_open(id) {
+            return Err(RequestError::UnknownSpan);
+        }
+        match push_entry(self.alloc, &mut self.lanes, lane, id) {
+            Ok(()) => Ok(()),
+            Err(_) => Err(RequestError::OutOfMemory),
+        }
+    }
+
+    /// Takes out the last entry of a span on a lane, if there is one.
+    pub(crate) fn leave(&mut self, id: Id, lane: u64)
+        ensures { plain_registry self.new ≡ without_entry (plain_registry self.old) lane id }
+    {
+        drop_entry(&mut self.lanes, lane, id);
+    }
+
+    /// Counts one more handle of a span.
+    pub(crate) fn take_one(&mut self, id: Id) -> Result<Id, RequestError>
+        ensures { (result, plain_registry self.new) ≡ clone_gives (plain_registry self.old) id }
+    {
+        let Some(place) = place_of(self.spans.as_slice(), id) else {
+            return Err(RequestError::UnknownSpan);
+        };
+        if self.spans[place].kin.handles == usize::MAX {
+            return Err(RequestError::TooManyHandles);
+        }
+        self.spans[place].kin.handles += 1;
+        Ok(id)
+    }
+
+    /// Counts one handle of a span less.
+    pub(crate) fn give_up(&mut self, id: Id) -> Result<(), RequestError>
+        ensures { (result, plain_registry self.new) ≡ give_up_gives (plain_registry self.old) id }
+    {
+        let Some(place) = place_of(self.spans.as_slice(), id) else {
+            return Err(RequestError::UnknownSpan);
+        };
+        if self.spans[place].kin.handles == 0 {
+            return Err(RequestError::UnknownSpan);
+        }
+        self.spans[place].kin.handles -= 1;
+        Ok(())
+    }
+
+    /// Puts a slot with a span, unless there is one.
+    pub(crate) fn insert_slot(
+        &mut self,
+        id: Id,
+        key: OutputKey,
+        tag: Tag,
+        slot: Slot,
+    ) -> Result<(), InsertError>
+        ensures { InsertsSlot (plain_registry self.old) id key.0 tag (plain_slot slot) result (plain_registry self.new) }
+    {
+        let Some(place) = place_of(self.spans.as_slice(), id) else {
+            return Err(InsertError::UnknownSpan(slot));
+        };
+        self.spans[place].slots.insert(key, tag, slot)
+    }
+
+    /// Puts a slot with a span, and answers the one that was there.
+    pub(crate) fn replace_slot(
+        &mut self,
+        id: Id,
+        key: OutputKey,
+        tag: Tag,
+        slot: Slot,
+    ) -> Result<Option<Slot>, Slot>
+        ensures { ReplacesSlot (plain_registry self.old) id key.0 tag (plain_slot slot) result (plain_registry self.new) }
+    {
+        let Some(place) = place_of(self.spans.as_slice(), id) else {
+            return Err(slot);
+        };
+        self.spans[place].slots.replace(key, tag, slot)
+    }
+
+    /// Takes a slot of a span out, where there is one.
+    pub(crate) fn remove_slot(&mut self, id: Id, key: OutputKey, tag: Tag) -> Option<Slot>
+        ensures { RemovesSlot (plain_registry self.old) id key.0 tag result (plain_registry self.new) }
+    {
+        let Some(place) = place_of(self.spans.as_slice(), id) else {
+            return None;
+        };
+        self.spans[place].slots.remove(key, tag)
+    }
+
+    /// The span that closes next, where one does: the latest that nothing keeps open.
+    pub(crate) fn closing(&self) -> Option<Id>
+        ensures { MatchOption result (IsSettled (plain_registry self.now)) (λ id. IsNext (plain_registry self.now) id) }
+    {
+        match closing(self.spans.as_slice(), self.lanes.as_slice()) {
+            None => None,
+            Some(place) => Some(self.spans[place].kin.id),
+        }
+    }
+
+    /// Forgets the span that closes next, where one does.
+    pub(crate) fn forget(&mut self) -> Option<Id>
+        ensures gives { ForgetGives (plain_registry self.old) result (plain_registry self.new) }
+        ensures fewer { IfSome result (λ _. length self.new.spans.items < length self.old.spans.items) }
+    {
+        match closing(self.spans.as_slice(), self.lanes.as_slice()) {
+            None => None,
+            Some(place) => {
+                let span = self.spans.remove(place);
+                Some(span.kin.id)
+            }
+        }
+    }
+
+    /// Forgets the spans that close.
+    fn sweep(&mut self)
+        ensures { plain_registry self.new ≡ swept (plain_registry self.old) }
+    {
+        while self.forget().is_some() {}
+    }
+
+    /// Takes out the last entry of a span on a lane, and forgets the spans that close.
+    pub(crate) fn exit(&mut self, id: Id, lane: u64)
+        ensures { plain_registry self.new ≡ swept (without_entry (plain_registry self.old) lane id) }
+    {
+        self.leave(id, lane);
+        self.sweep();
+    }
+
+    /// Gives up one handle of a span, and answers whether it closed.
+    pub(crate) fn try_close(&mut self, id: Id) -> Result<bool, RequestError>
+        ensures { (result, plain_registry self.new) ≡ close_gives (plain_registry self.old) id }
+    {
+        self.give_up(id)?;
+        self.sweep();
+        Ok(!self.is_open(id))
+    }
+}

@@ -1,0 +1,164 @@
+//! Open spans as a list in order of making, searched afresh at each question.
+ghost use Rattle.std.specs.Prelude.{true, false, ◌≡◌, ◌<◌, ◌+◌, length, drop, IfOk, MatchOption};
+ghost use Rattle.span_registry_layers_store.specs.Lanes.{plain_lanes};
+ghost use Rattle.span_registry_layers_store.specs.Spans.{AllStay, ClosesNext, current, handles_of, has_child, is_member, is_open, is_parent, line_of, parent_of, stays, without_last};
+ghost use Rattle.span_registry_layers_store.specs.Places.{IsPlace, kin_of, kin_at};
+
+use crate::lanes::is_entered;
+use crate::record::SpanRecord;
+use crate::span::Span;
+use std::alloc::{AllocError, Global};
+use tracing_core::Id;
+
+pub(crate) fn is_member(ids: &[Id], id: Id) -> bool
+    ensures { result ≡ is_member ids.now id }
+{
+    ids.iter().any(|entry| entry.into_u64() == id.into_u64())
+}
+
+/// The place of a span, where it is open.
+pub(crate) fn place_of(spans: &[Span], id: Id) -> Option<usize>
+    ensures { MatchOption result (is_open kin_of spans.now id ≡ false) (λ place. IsPlace spans.now id place) }
+{
+    for place in 0..spans.len() {
+        if spans[place].kin.id.into_u64() == id.into_u64() {
+            return Some(place);
+        }
+    }
+    None
+}
+
+/// The kinship of a span, where it is open.
+fn kin_of(spans: &[Span], id: Id) -> Option<SpanRecord>
+    ensures { result ≡ kin_at spans.now id }
+{
+    for span in spans {
+        if span.kin.id.into_u64() == id.into_u64() {
+            return Some(span.kin);
+        }
+    }
+    None
+}
+
+/// The parent of a span, where it is open and has one.
+pub(crate) fn parent_of(spans: &[Span], id: Id) -> Option<Id>
+    ensures { result ≡ parent_of kin_of spans.now id }
+{
+    match kin_of(spans, id) {
+        None => None,
+        Some(kin) => kin.parent,
+    }
+}
+
+/// How many handles a span has, and 0 for an id that is not open.
+pub(crate) fn handles_of(spans: &[Span], id: Id) -> usize
+    ensures { result ≡ handles_of kin_of spans.now id }
+{
+    match kin_of(spans, id) {
+        Some(kin) => kin.handles,
+        None => 0,
+    }
+}
+
+/// Whether a span is open.
+pub(crate) fn is_open(spans: &[Span], id: Id) -> bool
+    ensures { result ≡ is_open kin_of spans.now id }
+{
+    spans
+        .iter()
+        .any(|span| span.kin.id.into_u64() == id.into_u64())
+}
+
+fn is_parent(id: Id, parent: Option<Id>) -> bool
+    ensures { result ≡ is_parent id parent }
+{
+    match parent {
+        None => false,
+        Some(above) => above.into_u64() == id.into_u64(),
+    }
+}
+
+fn has_child(spans: &[Span], id: Id) -> bool
+    ensures { result ≡ has_child kin_of spans.now id }
+{
+    for span in spans {
+        if is_parent(id, span.kin.parent) {
+            return true;
+        }
+    }
+    false
+}
+
+fn stays(lanes: &[Vec<Id>], span: &Span, later: &[Span]) -> bool
+    ensures { result ≡ stays kin_of (plain_lanes lanes.now) span.now later.now }
+{
+    span.kin.handles > 0 || is_entered(lanes, span.kin.id) || has_child(later, span.kin.id)
+}
+
+fn later_than(spans: &[Span], place: usize) -> &[Span]
+    requires { place < length spans.now }
+    ensures { result.now ≡ drop (place + 1) spans.now }
+{
+    &spans[place + 1..]
+}
+
+/// The place of the latest span that doesn't stay.
+pub(crate) fn closing(spans: &[Span], lanes: &[Vec<Id>]) -> Option<usize>
+    ensures { MatchOption result (AllStay kin_of (plain_lanes lanes.now) spans.now) (λ place. ClosesNext kin_of (plain_lanes lanes.now) spans.now place) }
+{
+    let mut rest = spans.len();
+    while rest > 0 {
+        rest -= 1;
+        if !stays(lanes, &spans[rest], later_than(spans, rest)) {
+            return Some(rest);
+        }
+    }
+    None
+}
+
+/// An id and its ancestors, the nearest first.
+pub(crate) fn line_of(alloc: Global, spans: &[Span], id: Id) -> Result<Vec<Id>, AllocError>
+    ensures { IfOk result (λ line. line.items ≡ line_of kin_of spans.now id) }
+{
+    let mut line = Vec::new(alloc);
+    let mut at = Some(id);
+    for _step in 0..id.into_u64() {
+        match at {
+            None => return Ok(line),
+            Some(here) => {
+                line.push(here)?;
+                at = parent_of(spans, here);
+            }
+        }
+    }
+    Ok(line)
+}
+
+/// A lane's current span: its last entry that is no duplicate.
+#[tactic(auto, unfolding(crate::specs::Spans::current))]
+pub(crate) fn current(lane: &[Id]) -> Option<Id>
+    ensures { result ≡ current lane.now }
+{
+    let mut latest = None;
+    for place in 0..lane.len() {
+        let id = lane[place];
+        if !is_member(&lane[..place], id) {
+            latest = Some(id);
+        }
+    }
+    latest
+}
+
+/// Takes out the last entry of an id, if there is one.
+#[tactic(auto, unfolding(crate::specs::Spans::without_last))]
+pub(crate) fn remove_last(lane: &mut Vec<Id>, id: Id)
+    ensures { lane.new.items ≡ without_last id lane.old.items }
+{
+    let mut rest = lane.len();
+    while rest > 0 && lane[rest - 1].into_u64() != id.into_u64() {
+        rest -= 1;
+    }
+    if rest > 0 {
+        let _entry = lane.remove(rest - 1);
+    }
+}

@@ -1,0 +1,291 @@
+//! The registry of spans.
+
+ghost use Rattle.std.specs.Prelude.{◌≡◌, MatchOption, None};
+ghost use Rattle.std.specs.Option.{option_map};
+ghost use Rattle.tracing_core.specs.Handles.{or_refused};
+ghost use Rattle.tracing_core.specs.PlainRequests.{plain_attributes};
+ghost use Rattle.span_registry_layers_store.specs.Gives.{EntryGives, FilterGives, ForgetGives, IsNext, IsSettled, SpanGives, clone_gives, close_gives, follow_refusal, give_up_gives, open_refusal};
+ghost use Rattle.span_registry_layers_store.specs.Keeping.{InsertsSlot, RemovesSlot, ReplacesSlot};
+ghost use Rattle.span_registry_layers_store.specs.Lanes.{lane_at};
+ghost use Rattle.span_registry_layers_store.specs.Registries.{current_on, kin_in, new_registry, swept, without_entry};
+ghost use Rattle.span_registry_layers_store.specs.References.{plain_ref, ref_of};
+ghost use Rattle.span_registry_layers_store.specs.Slots.{plain_slot};
+ghost use Rattle.span_registry_layers_store.specs.Spans.{is_open, parent_of};
+ghost use Rattle.span_registry_layers_store.specs.Views.{current_under, mask_of, seen};
+
+use crate::filter_map::{FilterId, FilterMap, TooManyFilters};
+use crate::parts::RegistryParts;
+use crate::slot::{InsertError, OutputKey, Slot, Tag};
+use crate::span_ref::SpanRef;
+use std::alloc::Global;
+use std::marker::Model;
+use tracing_core::{Attributes, Id, RequestError};
+
+/// Keeps the open spans, and the entries of each lane.
+///
+/// A span is open while it has a handle, an entry on some lane, or an open child. Ids are 1, 2, 3, .. and are
+/// not used again. Lanes stand for threads, and are numbers.
+///
+/// A contract sees a registry as a `RegistryValue`.
+#[derive(Debug, Drop)]
+pub struct Registry {
+    parts: RegistryParts,
+}
+
+impl Model for Registry {
+    ghost use Rattle.span_registry_layers_store.specs.Registries.{RegistryValue, plain_registry};
+
+    ghost Value = { RegistryValue };
+
+    ghost view = { λ r. plain_registry r.parts };
+}
+
+impl Registry {
+    /// A registry with no span, no entry and no filter.
+    pub fn new(alloc: Global) -> Registry
+        ensures { result ≡ new_registry }
+    {
+        Registry {
+            parts: RegistryParts {
+                alloc,
+                lanes: Vec::new(alloc),
+                spans: Vec::new(alloc),
+                next_id: Id::from_u64(1),
+                callsites: Vec::new(alloc),
+                filters: 0,
+            },
+        }
+    }
+
+    /// Registers one more filter.
+    ///
+    /// # Errors
+    ///
+    /// `TooManyFilters` where there are 64 already.
+    pub fn register_filter(&mut self) -> Result<FilterId, TooManyFilters>
+        ensures { FilterGives self.old result self.new }
+    {
+        self.parts.register_filter()
+    }
+
+    /// Makes a span with one handle, and answers its id. Its parent is the one that is named, else none, else
+    /// the current span of the lane.
+    ///
+    /// # Errors
+    ///
+    /// `UnknownParent` where a parent is named that is not open, else `IdsSpent` where all ids were given, else
+    /// `OutOfMemory`; each leaves the registry as it was.
+    pub fn new_span(
+        &mut self,
+        attributes: &Attributes<'_, '_>,
+        lane: u64,
+        passed: FilterMap,
+    ) -> Result<Id, RequestError>
+        ensures { let a = plain_attributes attributes.now in SpanGives self.old a.metadata a.parent lane passed.passed result self.new }
+    {
+        self.parts.new_span(attributes, lane, passed)
+    }
+
+    /// Whether values can be recorded on a span: the registry keeps none.
+    ///
+    /// # Errors
+    ///
+    /// `UnknownSpan` where the span is not open.
+    pub fn record(&self, span: &Id) -> Result<(), RequestError>
+        ensures { result ≡ or_refused (open_refusal self.now span.now) tt }
+    {
+        self.parts.record(*span)
+    }
+
+    /// Whether a span can follow from another: the registry keeps no such link.
+    ///
+    /// # Errors
+    ///
+    /// `UnknownSpan` where one of them is not open.
+    pub fn record_follows_from(&self, span: &Id, follows: &Id) -> Result<(), RequestError>
+        ensures { result ≡ or_refused (follow_refusal self.now span.now follows.now) tt }
+    {
+        self.parts.record_follows_from(*span, *follows)
+    }
+
+    /// Adds an entry of a span on a lane. A second entry of it there is a duplicate.
+    ///
+    /// # Errors
+    ///
+    /// `UnknownSpan` where the span is not open, else `OutOfMemory`; both leave the registry as it was.
+    pub fn enter(&mut self, span: &Id, lane: u64) -> Result<(), RequestError>
+        ensures { EntryGives self.old lane span.now result self.new }
+    {
+        self.parts.enter(*span, lane)
+    }
+
+    /// Takes out the last entry of a span on a lane, if there is one, and closes what nothing keeps open then.
+    /// It takes no memory.
+    pub fn exit(&mut self, span: &Id, lane: u64)
+        ensures { self.new ≡ swept (without_entry self.old lane span.now) }
+    {
+        self.parts.exit(*span, lane)
+    }
+
+    /// Counts one more handle of a span. It takes no memory.
+    ///
+    /// # Errors
+    ///
+    /// `UnknownSpan` where the span is not open, else `TooManyHandles` where it has `usize::MAX`; both leave
+    /// the registry as it was.
+    pub fn clone_span(&mut self, span: &Id) -> Result<Id, RequestError>
+        ensures { (result, self.new) ≡ clone_gives self.old span.now }
+    {
+        self.parts.take_one(*span)
+    }
+
+    /// Gives up one handle of a span, and closes what nothing keeps open then. Answers whether the span itself
+    /// closed. It takes no memory.
+    ///
+    /// # Errors
+    ///
+    /// `UnknownSpan` where the span has no handle, which leaves the registry as it was.
+    pub fn try_close(&mut self, span: Id) -> Result<bool, RequestError>
+        ensures { (result, self.new) ≡ close_gives self.old span }
+    {
+        self.parts.try_close(span)
+    }
+
+    /// The span that a lane is in: its last entry that is no duplicate.
+    pub fn current_span(&self, lane: u64) -> Option<Id>
+        ensures { result ≡ current_on self.now lane }
+    {
+        self.parts.current_on(lane)
+    }
+
+    /// The entries of a lane, the earliest first.
+    pub fn lane(&self, lane: u64) -> &[Id]
+        ensures { result.now ≡ lane_at self.now.lanes lane }
+    {
+        self.parts.lane(lane)
+    }
+
+    /// Whether a span is open.
+    pub fn is_open(&self, span: &Id) -> bool
+        ensures { result ≡ is_open kin_in self.now.spans span.now }
+    {
+        self.parts.is_open(*span)
+    }
+
+    /// An open span.
+    pub fn span(&self, span: &Id) -> Option<SpanRef<'_>>
+        ensures { option_map plain_ref result ≡ option_map (λ s. record { registry = self.now; span = s; mask = None }) (seen self.now None span.now) }
+    {
+        self.span_under(span, None)
+    }
+
+    /// An open span, where the filter passed it.
+    pub fn span_under(&self, span: &Id, filter: Option<FilterId>) -> Option<SpanRef<'_>>
+        ensures { option_map plain_ref result ≡ option_map (λ s. record { registry = self.now; span = s; mask = mask_of filter }) (seen self.now (mask_of filter) span.now) }
+    {
+        match self.parts.find(*span, filter) {
+            None => None,
+            Some(span) => Some(SpanRef {
+                registry: self,
+                span,
+                filter,
+            }),
+        }
+    }
+
+    /// The span that a lane is in, as the filter sees it: its last entry that is no duplicate and that the
+    /// filter passed.
+    pub fn current_under(&self, lane: u64, filter: Option<FilterId>) -> Option<SpanRef<'_>>
+        ensures { option_map plain_ref result ≡ option_map (ref_of self.now (mask_of filter)) (current_under self.now (mask_of filter) lane) }
+    {
+        match self.parts.current_under(lane, filter) {
+            None => None,
+            Some(span) => Some(SpanRef {
+                registry: self,
+                span,
+                filter,
+            }),
+        }
+    }
+
+    /// The parent of a span, where it is open and has one.
+    pub(crate) fn above(&self, span: &Id) -> Option<Id>
+        ensures { result ≡ parent_of kin_in self.now.spans span.now }
+    {
+        self.parts.above(*span)
+    }
+
+    /// Puts a slot of an output with a span. All else stays as it was.
+    ///
+    /// # Errors
+    ///
+    /// The slot comes back with `UnknownSpan` where the span is not open, with `Present` where the output has one
+    /// under that tag already, and with `OutOfMemory`; each leaves the registry as it was.
+    pub fn insert_slot(
+        &mut self,
+        span: &Id,
+        key: OutputKey,
+        tag: Tag,
+        slot: Slot,
+    ) -> Result<(), InsertError>
+        ensures { InsertsSlot self.old span.now key.0 tag (plain_slot slot) result self.new }
+    {
+        self.parts.insert_slot(*span, key, tag, slot)
+    }
+
+    /// Puts a slot of an output with a span, and answers the one that was there. All else stays as it was.
+    ///
+    /// # Errors
+    ///
+    /// The slot comes back where the span is not open, or for want of memory; both leave the registry as it was.
+    pub fn replace_slot(
+        &mut self,
+        span: &Id,
+        key: OutputKey,
+        tag: Tag,
+        slot: Slot,
+    ) -> Result<Option<Slot>, Slot>
+        ensures { ReplacesSlot self.old span.now key.0 tag (plain_slot slot) result self.new }
+    {
+        self.parts.replace_slot(*span, key, tag, slot)
+    }
+
+    /// Takes the slot of an output under a tag out of a span, where there is one. All else stays as it was.
+    pub fn remove_slot(&mut self, span: &Id, key: OutputKey, tag: Tag) -> Option<Slot>
+        ensures { RemovesSlot self.old span.now key.0 tag result self.new }
+    {
+        self.parts.remove_slot(*span, key, tag)
+    }
+
+    /// Takes out the last entry of a span on a lane, and closes nothing yet.
+    pub fn leave(&mut self, span: &Id, lane: u64)
+        ensures { self.new ≡ without_entry self.old lane span.now }
+    {
+        self.parts.leave(*span, lane)
+    }
+
+    /// Gives up one handle of a span, and closes nothing yet.
+    ///
+    /// # Errors
+    ///
+    /// `UnknownSpan` where the span has no handle, which leaves the registry as it was.
+    pub fn give_up(&mut self, span: &Id) -> Result<(), RequestError>
+        ensures { (result, self.new) ≡ give_up_gives self.old span.now }
+    {
+        self.parts.give_up(*span)
+    }
+
+    /// The span that closes next, where one does: a child comes before its parent.
+    pub fn closing(&self) -> Option<Id>
+        ensures { MatchOption result (IsSettled self.now) (λ id. IsNext self.now id) }
+    {
+        self.parts.closing()
+    }
+
+    /// Forgets the span that closes next, where one does.
+    pub fn forget(&mut self) -> Option<Id>
+        ensures { ForgetGives self.old result self.new }
+    {
+        self.parts.forget()
+    }
+}
