@@ -1,0 +1,8 @@
+use Rattle.std.proofs.Common.{◌≡◌, subst, ap, ◌∙◌}
+use Rattle.tracing_core.specs.Metadata.{plain_metadata}
+use Rattle.tracing_core.specs.PlainRequests.{plain_attributes, plain_event, plain_record}
+use Rattle.span_registry_layers_layers.specs.Looks.{Closed, Entered, Exited, Recorded, SpanMade, view}
+use Rattle.span_registry_layers_layers.proofs.filter.boxed.BoxDynFilterFilter.max_level_hint.Goals as goal
+
+pub returns : goal.returns
+returns g c = subst (λ p. c.max_level_hint.result ≡ (g.dyn-1.0.entry p.0).1.hint p.1) c.deref_box-1.ensures.1 c.max_level_hint.ensures

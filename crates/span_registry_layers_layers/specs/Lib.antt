@@ -1,0 +1,5 @@
+pub mod Looks
+pub mod Honesty
+pub mod Combined
+pub mod Optional
+pub mod Functions

@@ -1,0 +1,45 @@
+-- A filter that may be absent: where it is, all passes.
+use Rattle.std.specs.Prelude.{◌≡◌, ℕ, Bool, true, Option, Some, None, MatchOption, refl}
+use Rattle.std.proofs.Common.{sym, subst}
+use Rattle.tracing_core.specs.InterestInner.TheVariants.{Always}
+use Rattle.tracing_core.specs.Interests.{PlainInterest}
+use Rattle.tracing_core.specs.PlainMetadata.{PlainMetadata}
+use Rattle.tracing_core.specs.PlainRequests.{PlainEvent}
+use Rattle.tracing_core.specs.Steady.{InterestFits, SameWord}
+use Rattle.span_registry_layers_layers.specs.Combined.{same_word}
+use Rattle.span_registry_layers_layers.specs.Honesty.{Fair}
+use Rattle.span_registry_layers_layers.specs.Looks.{Hook, View}
+use Rattle.span_registry_layers_layers.specs.declared.filter.Filter.{Ghosts}
+
+module _ {F : Type 0} (g : Ghosts F) where
+  abbrev pub AnswersOf : Option F → PlainMetadata → View → Bool → Type 0
+  AnswersOf None m v b = b ≡ true
+  AnswersOf (Some f) m v b = g.answers f m v b
+
+  abbrev pub EventAnswersOf : Option F → PlainEvent → View → Bool → Type 0
+  EventAnswersOf None e v b = b ≡ true
+  EventAnswersOf (Some f) e v b = g.event_answers f e v b
+
+  abbrev pub SaysOf : Option F → PlainMetadata → PlainInterest → Type 0
+  SaysOf None m k = k ≡ Always
+  SaysOf (Some f) m k = g.says f m k
+
+  abbrev pub hint_of : Option F → Option ℕ
+  hint_of None = None
+  hint_of (Some f) = g.hint f
+
+  abbrev pub after_of : Option F → Hook → Option F
+  after_of None h = None
+  after_of (Some f) h = Some (g.after f h)
+
+  abbrev pub IsHonest : Option F → Type 0
+  IsHonest None = Unit {0}
+  IsHonest (Some f) = g.honest f
+
+  pub optional_fair : (o : Option F) → IsHonest o → Fair (AnswersOf o) (SaysOf o) (hint_of o)
+  optional_fair None k = record { interest = λ m v b i a s. subst (λ j. InterestFits j b) (sym s) a; below = λ m v b a. tt }
+  optional_fair (Some f) k = g.fair f k
+
+  pub optional_stays : (o : Option F) (h : Hook) → IsHonest o → IsHonest (after_of o h) × SameWord (SaysOf o) (SaysOf (after_of o h)) (hint_of o) (hint_of (after_of o h))
+  optional_stays None h k = (tt, same_word (SaysOf None) None)
+  optional_stays (Some f) h k = g.stays f h k

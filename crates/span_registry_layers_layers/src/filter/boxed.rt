@@ -1,0 +1,59 @@
+//! A boxed filter is one.
+use crate::context::Context;
+use crate::filter::Filter;
+use tracing_core::{Attributes, Event, Id, Interest, LevelFilter, Metadata, Record};
+
+/// The box answers what the filter in it does.
+impl Filter for Box<dyn Filter> {
+    ghost answers = { λ b. (Filter-box b).answers b.value };
+
+    ghost event_answers = { λ b. (Filter-box b).event_answers b.value };
+
+    ghost says = { λ b. (Filter-box b).says b.value };
+
+    ghost hint = { λ b. (Filter-box b).hint b.value };
+
+    ghost after = { λ b h. record b { value = (Filter-box b).after b.value h } };
+
+    ghost honest = { λ b. (Filter-box b).honest b.value };
+
+    ghost fair = { λ b k. (Filter-box b).fair b.value k };
+
+    ghost stays = { λ b h k. (Filter-box b).stays b.value h k };
+
+    fn enabled(&self, metadata: &Metadata<'_>, context: &Context<'_>) -> bool {
+        (**self).enabled(metadata, context)
+    }
+
+    fn callsite_enabled(&self, metadata: &Metadata<'_>) -> Interest {
+        (**self).callsite_enabled(metadata)
+    }
+
+    fn event_enabled(&self, event: &Event<'_, '_>, context: &Context<'_>) -> bool {
+        (**self).event_enabled(event, context)
+    }
+
+    fn max_level_hint(&self) -> Option<LevelFilter> {
+        (**self).max_level_hint()
+    }
+
+    fn on_new_span(&mut self, attributes: &Attributes<'_, '_>, span: &Id, context: &Context<'_>) {
+        (**self).on_new_span(attributes, span, context)
+    }
+
+    fn on_record(&mut self, span: &Id, values: &Record<'_>, context: &Context<'_>) {
+        (**self).on_record(span, values, context)
+    }
+
+    fn on_enter(&mut self, span: &Id, context: &Context<'_>) {
+        (**self).on_enter(span, context)
+    }
+
+    fn on_exit(&mut self, span: &Id, context: &Context<'_>) {
+        (**self).on_exit(span, context)
+    }
+
+    fn on_close(&mut self, span: &Id, context: &Context<'_>) {
+        (**self).on_close(span, context)
+    }
+}

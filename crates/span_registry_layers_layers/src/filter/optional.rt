@@ -1,0 +1,88 @@
+//! A filter that may be absent.
+use crate::context::Context;
+use crate::filter::Filter;
+use tracing_core::{Attributes, Event, Id, Interest, LevelFilter, Metadata, Record};
+
+/// Passes all where it is absent.
+impl<F: Filter> Filter for Option<F> {
+    ghost use Rattle.span_registry_layers_layers.specs.Optional as optional;
+
+    ghost answers = { optional.AnswersOf ⟦<F as Filter>⟧ };
+
+    ghost event_answers = { optional.EventAnswersOf ⟦<F as Filter>⟧ };
+
+    ghost says = { optional.SaysOf ⟦<F as Filter>⟧ };
+
+    ghost hint = { optional.hint_of ⟦<F as Filter>⟧ };
+
+    ghost after = { optional.after_of ⟦<F as Filter>⟧ };
+
+    ghost honest = { optional.IsHonest ⟦<F as Filter>⟧ };
+
+    ghost fair = { optional.optional_fair ⟦<F as Filter>⟧ };
+
+    ghost stays = { optional.optional_stays ⟦<F as Filter>⟧ };
+
+    fn enabled(&self, metadata: &Metadata<'_>, context: &Context<'_>) -> bool {
+        match self {
+            None => true,
+            Some(filter) => filter.enabled(metadata, context),
+        }
+    }
+
+    fn callsite_enabled(&self, metadata: &Metadata<'_>) -> Interest {
+        match self {
+            None => Interest::always(),
+            Some(filter) => filter.callsite_enabled(metadata),
+        }
+    }
+
+    fn event_enabled(&self, event: &Event<'_, '_>, context: &Context<'_>) -> bool {
+        match self {
+            None => true,
+            Some(filter) => filter.event_enabled(event, context),
+        }
+    }
+
+    fn max_level_hint(&self) -> Option<LevelFilter> {
+        match self {
+            None => None,
+            Some(filter) => filter.max_level_hint(),
+        }
+    }
+
+    fn on_new_span(&mut self, attributes: &Attributes<'_, '_>, span: &Id, context: &Context<'_>) {
+        match self {
+            None => {}
+            Some(filter) => filter.on_new_span(attributes, span, context),
+        }
+    }
+
+    fn on_record(&mut self, span: &Id, values: &Record<'_>, context: &Context<'_>) {
+        match self {
+            None => {}
+            Some(filter) => filter.on_record(span, values, context),
+        }
+    }
+
+    fn on_enter(&mut self, span: &Id, context: &Context<'_>) {
+        match self {
+            None => {}
+            Some(filter) => filter.on_enter(span, context),
+        }
+    }
+
+    fn on_exit(&mut self, span: &Id, context: &Context<'_>) {
+        match self {
+            None => {}
+            Some(filter) => filter.on_exit(span, context),
+        }
+    }
+
+    fn on_close(&mut self, span: &Id, context: &Context<'_>) {
+        match self {
+            None => {}
+            Some(filter) => filter.on_close(span, context),
+        }
+    }
+}

@@ -1,0 +1,87 @@
+//! Filters.
+use crate::{And, Context, Filter, FilterFn, MetadataTest, Not, Or, filter_fn};
+use span_registry_layers_store::Registry;
+use std::test::Fail;
+use tracing_core::{At, FieldSet, Identifier, Interest, Kind, Level, LevelFilter, Metadata};
+
+const NAMES: [&str; 1] = ["n"];
+
+const PLACE: At = At {
+    lane: 0,
+    seconds: 0,
+    nanoseconds: 0,
+};
+
+fn metadata_of(target: &str, level: Level) -> Metadata<'_> {
+    let fields = FieldSet::new(&NAMES, Identifier(7));
+    Metadata::new("e", target, level, None, None, None, fields, Kind::EVENT)
+}
+
+/// Whether a filter passes DEBUG events of a target, and its interest in them.
+fn asked<F: Filter>(filter: &F, registry: &Registry, target: &str) -> (bool, Interest) {
+    let metadata = metadata_of(target, Level::DEBUG);
+    let context = Context::new(registry, PLACE, None);
+    (
+        filter.enabled(&metadata, &context),
+        filter.callsite_enabled(&metadata),
+    )
+}
+
+#[test]
+fn a_level_filter_passes_what_is_at_most_as_verbose(rt: HostRuntime) {
+    let registry = Registry::new(rt.alloc());
+    let (passed, interest) = asked(&LevelFilter::DEBUG, &registry, "app");
+    assert!(rt; passed && interest.is_always());
+    let (passed, interest) = asked(&LevelFilter::INFO, &registry, "app");
+    assert!(rt; !passed && interest.is_never());
+    assert!(rt; LevelFilter::INFO.max_level_hint() == Some(LevelFilter::INFO));
+}
+
+#[test]
+fn both_or_either_or_neither(rt: HostRuntime) {
+    let registry = Registry::new(rt.alloc());
+    let (low, high) = (LevelFilter::INFO, LevelFilter::TRACE);
+    let both = And::new(low, high);
+    let (passed, interest) = asked(&both, &registry, "app");
+    assert!(rt; !passed && interest.is_never() && both.max_level_hint() == Some(low));
+    let either = Or::new(low, high);
+    let (passed, interest) = asked(&either, &registry, "app");
+    assert!(rt; passed && interest.is_always() && either.max_level_hint() == Some(high));
+    let turned = Not::new(low);
+    let (passed, interest) = asked(&turned, &registry, "app");
+    assert!(rt; passed && interest.is_always() && turned.max_level_hint().is_none());
+}
+
+#[test]
+fn an_absent_filter_passes_all(rt: HostRuntime) {
+    let registry = Registry::new(rt.alloc());
+    let absent: Option<LevelFilter> = None;
+    let (passed, interest) = asked(&absent, &registry, "app");
+    assert!(rt; passed && interest.is_always() && absent.max_level_hint().is_none());
+    let (passed, interest) = asked(&Some(LevelFilter::OFF), &registry, "app");
+    assert!(rt; !passed && interest.is_never());
+}
+
+#[test]
+fn a_closure_decides_by_metadata(rt: HostRuntime) -> Result<(), Fail> {
+    let registry = Registry::new(rt.alloc());
+    let of_app: MetadataTest = Box::new(rt.alloc(), |metadata: &Metadata<'_>| -> bool {
+        metadata.target() == "app"
+    })?;
+    let filter: FilterFn = filter_fn(of_app);
+    let (passed, interest) = asked(&filter, &registry, "app");
+    assert!(rt; passed && interest.is_always() && filter.max_level_hint().is_none());
+    let (passed, interest) = asked(&filter, &registry, "other");
+    assert!(rt; !passed && interest.is_never());
+    Ok(())
+}
+
+#[test]
+fn a_box_answers_what_is_in_it(rt: HostRuntime) -> Result<(), Fail> {
+    let registry = Registry::new(rt.alloc());
+    let boxed: Box<dyn Filter> = Box::new(rt.alloc(), LevelFilter::INFO)?;
+    let (passed, interest) = asked(&boxed, &registry, "app");
+    assert!(rt; !passed && interest.is_never());
+    assert!(rt; boxed.max_level_hint() == Some(LevelFilter::INFO));
+    Ok(())
+}
