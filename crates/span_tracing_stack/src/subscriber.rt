@@ -26,6 +26,7 @@ impl Told {
 
 impl Subscriber for Stack {
     ghost use Rattle.std.specs.Prelude.{Some};
+    ghost use Rattle.std.proofs.Common.{◌∙◌, sym};
     ghost use Rattle.span_tracing_stack.specs.Stacks.{passes, own_interest};
     ghost use Rattle.span_tracing_stack.specs.Moves.{StackMoves};
     ghost use Rattle.span_tracing_stack.specs.Steadiness.{is_fair, same_word, same_answer};
@@ -41,6 +42,8 @@ impl Subscriber for Stack {
     ghost steady = { λ x. Unit {0} };
 
     ghost fair = { λ x k. is_fair x };
+
+    ghost single = { λ x m at a b real k p q. p ∙ sym q };
 
     ghost stays = { λ x c r y real moved k. (tt, same_word x y moved.setting) };
 

@@ -1,5 +1,5 @@
 -- What is known without asking is what asking gives.
-use Rattle.std.proofs.Common.{◌≡◌, ℕ, ◌≤◌, Bool, true, false, nat_le, List, Option, Some, None, refl, sym, ◌∙◌, subst, arith}
+use Rattle.std.proofs.Common.{◌≡◌, ℕ, ◌≤◌, Bool, true, false, nat_le, List, Option, Some, None, refl, ap, sym, ◌∙◌, subst, arith}
 use Rattle.std.specs.Prelude.{if◌then◌else◌}
 use Rattle.tracing_core_fields.specs.PlainMetadata.{PlainMetadata}
 use Rattle.tracing_core_hub.specs.Asking.{level_of}
@@ -45,16 +45,18 @@ module _ {S C : Type 0} (g : Ghosts S) (h : SiteGhosts C) where
       let asked : AskGivesAt g m place e.serial t.entries (Some e) answer fs = subst (λ o. AskGivesAt g m place e.serial t.entries o answer fs) there given in
       asked.1
 
-  answer_right : (t : Table S C) (e : Entry S) (row : Row C) (place : At) (k : Option Bool) (answer p : Bool) (fs : List (Entry S)) → known t.greatest row.level row.interest ≡ k → Kept g h t e → IsTrueRow h row → RowRight g h e.subscriber row → May e row place p → AnswerGives g h row place k (Some e.serial) t.entries answer fs → May e row place answer
-  answer_right t e row place (Some b) answer p fs found kept true_row right may given = subst (May e row place) (known_right t e row place b p kept true_row right may found ∙ sym given.0) may
-  answer_right t e row place None answer p fs found kept true_row right may given = asked_right t e (h.metadata_of row.callsite) place answer fs kept.stands given
+  answer_right : (t : Table S C) (e : Entry S) (row : Row C) (place : At) (k : Option Bool) (answer p : Bool) (fs : List (Entry S)) → known t.greatest row.level row.interest ≡ k → Kept g h t e → IsTrueRow h row → RowRight g h e.subscriber row → May e row place p → AnswerGives g h row place k (Some e.serial) t.entries answer fs → answer ≡ p
+  answer_right t e row place (Some b) answer p fs found kept true_row right may given = given.0 ∙ sym (known_right t e row place b p kept true_row right may found)
+  answer_right t e row place None answer p fs found kept true_row right may given =
+      let m = h.metadata_of row.callsite in
+      g.single e.subscriber m place answer p true_row.1 kept.steady (asked_right t e m place answer fs kept.stands given) may
 
-  -- a gate answers what asking the reached subscriber may, where it may answer anything
-  pub gate_right : (t u : Table S C) (e : Entry S) (row : Row C) (identifier : ℕ) (place : At) (result : Option Bool) (p : Bool) → GateGives g h t identifier place result u → row_of identifier t.rows ≡ Some row → reached t place.lane ≡ Some e.serial → Kept g h t e → g.answers e.subscriber (h.metadata_of row.callsite) place p →
-      (answer : Bool) × (result ≡ Some answer) × g.answers e.subscriber (h.metadata_of row.callsite) place answer
+  -- a gate answers what asking the reached subscriber does
+  pub gate_right : (t u : Table S C) (e : Entry S) (row : Row C) (identifier : ℕ) (place : At) (result : Option Bool) (p : Bool) → GateGives g h t identifier place result u → row_of identifier t.rows ≡ Some row → reached t place.lane ≡ Some e.serial → Kept g h t e → g.answers e.subscriber (h.metadata_of row.callsite) place p → result ≡ Some p
   gate_right t u e row identifier place result p given found reaches kept may =
       let at_row : GateGivesAt g h t (Some row) place result u = subst (λ o. GateGivesAt g h t o place result u) found given in
       let k = known t.greatest row.level row.interest in
       let answer = at_row.0.0 in
       let one : AnswerGives g h row place k (Some e.serial) t.entries answer u.entries = subst (λ o. AnswerGives g h row place k o t.entries answer u.entries) reaches at_row.0.2 in
-      (answer, at_row.0.1, answer_right t e row place k answer p u.entries refl kept (row_every (IsTrueRow h) identifier t.rows row found kept.rows) (row_every (RowRight g h e.subscriber) identifier t.rows row found kept.right) may one)
+      let same : answer ≡ p = answer_right t e row place k answer p u.entries refl kept (row_every (IsTrueRow h) identifier t.rows row found kept.rows) (row_every (RowRight g h e.subscriber) identifier t.rows row found kept.right) may one in
+      at_row.0.1 ∙ ap Some same

@@ -5,7 +5,7 @@ use Rattle.std.specs.Cmp.{unsigned_Decides}
 use Rattle.tracing_core_fields.specs.PlainMetadata.{PlainMetadata}
 use Rattle.tracing_core_hub.specs.Asking.{level_of}
 use Rattle.tracing_core_hub.specs.Calls.{Call, ReplyTo, Asked, CallsiteRegistered, DispatchRegistered}
-use Rattle.tracing_core_hub.specs.Commands.{AskGives, AskGivesAt, AnswerGives, GateGives, GateGivesAt, AddGives, Rebuilt, Registered, RegisterGives, RegisterOnceGives, RegisterOnceGivesAt, becomes, kept_alike, known, living, new_row, reached, row_of}
+use Rattle.tracing_core_hub.specs.Commands.{AskGives, AskGivesAt, AnswerGives, GateGives, GateGivesAt, AddGives, Rebuilt, Registered, RegisterGives, RegisterGivesAt, TakeGives, becomes, kept_alike, known, living, new_row, reached, row_of}
 use Rattle.tracing_core_hub.specs.Defaults.{holding, letting_go, globally, global_refusal, locally, default_refusal, given_up, end_gives, end_gives_at, reset_gives, reset_gives_at, running}
 use Rattle.tracing_core_hub.specs.Handing.{CallGives, CallGivesAt, HubGives}
 use Rattle.tracing_core_hub.specs.Handles.{entry_of, changed, without, is_of, held, given_back, given_back_at, hold_refusal, one_more, one_less, or_same}
@@ -259,8 +259,9 @@ module _ {S C : Type 0} (g : Ghosts S) (h : SiteGhosts C) where
   ask_moves m place (Some n) es fs answer real given = ask_moves_at m place n es fs (entry_of n es) answer refl real given
 
   answer_moves : (row : Row C) (place : At) (k : Option Bool) (serial : Option ℕ) (es fs : List (Entry S)) (answer : Bool) → IsReal (h.metadata_of row.callsite) → AnswerGives g h row place k serial es answer fs → Moved g es fs
-  answer_moves row place (Some b) serial es fs answer real given = Still given.1
-  answer_moves row place None serial es fs answer real given = ask_moves (h.metadata_of row.callsite) place serial es fs answer real given
+  answer_moves row place k None es fs answer real given = Still given.1
+  answer_moves row place (Some b) (Some n) es fs answer real given = Still given.1
+  answer_moves row place None (Some n) es fs answer real given = ask_moves (h.metadata_of row.callsite) place (Some n) es fs answer real given
 
   call_moves_at : (c : Call) (n : ℕ) (es fs : List (Entry S)) (o : Option (Entry S)) (reply : ReplyTo c) → entry_of n es ≡ o → IsRealCall c → CallGivesAt g c (Some n) es o reply fs → Moved g es fs
   call_moves_at c n es fs None reply there real given = Still given.1
@@ -368,6 +369,13 @@ module _ {S C : Type 0} (g : Ghosts S) (h : SiteGhosts C) where
   added_right t u s (Ok dispatch) given = λ sound steady. added_kept t u s dispatch given sound steady
   added_right t u s (Err e) given = tt
 
+  -- and of those that were lent and keep theirs
+  pub added_others : (t u : Table S C) (s : S) (r : Result (Option ℕ) (AddError S)) → AddGives g h t s r u → IfOk r (λ _. (e : Entry S) → entry_of e.serial t.entries ≡ Some e → e.lent ≡ true → g.steady e.subscriber → Every (IsTrueRow h) t.rows → (z : S) × Kept g h u (asked_anew z e))
+  unfolding with_new
+  added_others t u s (Ok dispatch) given = λ e there lent steady sites.
+      refreshed_right g h (with_new t given.1.0) u e given.1.2 (inl lent) (entry_appended e.serial t.entries (living t.next given.1.0 ∷ []) e there) steady sites
+  added_others t u s (Err e) given = tt
+
   registered_kept : (t u : Table S C) (callsite : C) (interest : PlainInterest) (e : Entry S) → IsReal (h.metadata_of callsite) → Registered g h t callsite interest u → Kept g h t e → (z : S) × Kept g h u (becomes z e)
   registered_kept t u callsite interest e real r kept =
       let m = h.metadata_of callsite in
@@ -390,24 +398,24 @@ module _ {S C : Type 0} (g : Ghosts S) (h : SiteGhosts C) where
       )
 
   -- a callsite more
-  pub register_keeps : (t u : Table S C) (callsite : C) (r : Result PlainInterest (RegisterError C)) → IsReal (h.metadata_of callsite) → RegisterGives g h t callsite r u → Keeps g h t u
-  register_keeps t u callsite (Ok interest) real given =
+  take_keeps : (t u : Table S C) (callsite : C) (r : Result PlainInterest (RegisterError C)) → IsReal (h.metadata_of callsite) → TakeGives g h t callsite r u → Keeps g h t u
+  take_keeps t u callsite (Ok interest) real given =
       record {
         sound = registered_sound h g t u callsite interest real given;
         later = λ sound. later_alike t u (asked_serials h g (h.metadata_of callsite) t.entries u.entries None given.asked.0.0 given.asked.0.1) (ap (λ (v : Table S C). v.next) given.kept);
         right_of = λ e kept. let a = registered_kept t u callsite interest e real given kept in (becomes a.0 e, refl, a.1);
       }
-  register_keeps t u callsite (Err (registering.Taken back)) real given = subst (Keeps g h t) (sym given.2) (itself_keeps t)
-  register_keeps t u callsite (Err (registering.OutOfMemory back)) real given = subst (Keeps g h t) (sym given.2) (itself_keeps t)
+  take_keeps t u callsite (Err (registering.Taken back)) real given = absurd given
+  take_keeps t u callsite (Err (registering.OutOfMemory back)) real given = subst (Keeps g h t) (sym given.1) (itself_keeps t)
 
-  register_once_keeps_at : (t u : Table S C) (callsite : C) (o : Option (Option PlainInterest)) (r : Result PlainInterest (RegisterError C)) → IsReal (h.metadata_of callsite) → RegisterOnceGivesAt g h t callsite o r u → Keeps g h t u
-  register_once_keeps_at t u callsite None r real given = register_keeps t u callsite r real given
-  register_once_keeps_at t u callsite (Some None) r real given = subst (Keeps g h t) (sym given.1) (itself_keeps t)
-  register_once_keeps_at t u callsite (Some (Some interest)) r real given = subst (Keeps g h t) (sym given.1) (itself_keeps t)
+  register_keeps_at : (t u : Table S C) (callsite : C) (o : Option (Option PlainInterest)) (r : Result PlainInterest (RegisterError C)) → IsReal (h.metadata_of callsite) → RegisterGivesAt g h t callsite o r u → Keeps g h t u
+  register_keeps_at t u callsite None r real given = take_keeps t u callsite r real given
+  register_keeps_at t u callsite (Some None) r real given = subst (Keeps g h t) (sym given.1) (itself_keeps t)
+  register_keeps_at t u callsite (Some (Some interest)) r real given = subst (Keeps g h t) (sym given.1) (itself_keeps t)
 
-  pub register_once_keeps : (t u : Table S C) (callsite : C) (r : Result PlainInterest (RegisterError C)) → IsReal (h.metadata_of callsite) → RegisterOnceGives g h t callsite r u → Keeps g h t u
-  register_once_keeps t u callsite r real given =
-      register_once_keeps_at t u callsite (kept_alike h (h.metadata_of callsite) (row_of (h.metadata_of callsite).callsite t.rows)) r real given
+  pub register_keeps : (t u : Table S C) (callsite : C) (r : Result PlainInterest (RegisterError C)) → IsReal (h.metadata_of callsite) → RegisterGives g h t callsite r u → Keeps g h t u
+  register_keeps t u callsite r real given =
+      register_keeps_at t u callsite (kept_alike h (h.metadata_of callsite) (row_of (h.metadata_of callsite).callsite t.rows)) r real given
 
   -- one command after another
   pub keeps_then : (t v u : Table S C) → Keeps g h t v → Keeps g h v u → Keeps g h t u

@@ -1,5 +1,5 @@
 -- What the commands of a hub leave and answer.
-use Rattle.std.specs.Prelude.{◌≡◌, ℕ, ◌+◌, ◌==◌, nat_le, Bool, true, false, if◌then◌else◌, List, [], ◌∷◌, ◌++◌, Option, Some, None, Result, Ok, Err, IsSome, slice_get}
+use Rattle.std.specs.Prelude.{◌≡◌, ℕ, ◌+◌, ◌==◌, nat_le, Bool, true, false, if◌then◌else◌, List, [], ◌∷◌, ◌++◌, Option, Some, None, Result, Ok, Err, slice_get}
 use Rattle.tracing_core_fields.specs.PlainMetadata.{PlainMetadata, is_same_metadata}
 use Rattle.tracing_core_hub.specs.Asking.{Each, RowAsked, Hints}
 use Rattle.tracing_core_hub.specs.Calls.{Asked, DispatchRegistered}
@@ -89,26 +89,27 @@ module _ {S : Type 0} (g : Ghosts S) where
       pub told : interest ≡ row.interest
       pub kept : u ≡ record t { entries = u.entries; rows = t.rows ++ row ∷ [] }
 
+    -- a callsite whose identifier isn't known is taken, where there is memory for it
+    abbrev pub TakeGives : Table S C → C → Result PlainInterest (RegisterError C) → Table S C → Type 0
+    TakeGives t callsite (Ok interest) u = Registered t callsite interest u
+    TakeGives t callsite (Err (registering.Taken back)) u = ⊥
+    TakeGives t callsite (Err (registering.OutOfMemory back)) u = (back ≡ callsite) × (u ≡ t)
+
+    abbrev pub RegisterGivesAt : Table S C → C → Option (Option PlainInterest) → Result PlainInterest (RegisterError C) → Table S C → Type 0
+    RegisterGivesAt t callsite None result u = TakeGives t callsite result u
+    RegisterGivesAt t callsite (Some None) result u = (result ≡ Err (registering.Taken callsite)) × (u ≡ t)
+    RegisterGivesAt t callsite (Some (Some interest)) result u = (result ≡ Ok interest) × (u ≡ t)
+
+    -- a known callsite with the same metadata counts as this one; with other metadata the identifier is taken
     abbrev pub RegisterGives : Table S C → C → Result PlainInterest (RegisterError C) → Table S C → Type 0
-    RegisterGives t callsite (Ok interest) u = Registered t callsite interest u
-    RegisterGives t callsite (Err (registering.Taken back)) u = IsSome (row_of (h.metadata_of callsite).callsite t.rows) × (back ≡ callsite) × (u ≡ t)
-    RegisterGives t callsite (Err (registering.OutOfMemory back)) u =
-        (row_of (h.metadata_of callsite).callsite t.rows ≡ None) × (back ≡ callsite) × (u ≡ t)
+    RegisterGives t callsite result u =
+        RegisterGivesAt t callsite (kept_alike h (h.metadata_of callsite) (row_of (h.metadata_of callsite).callsite t.rows)) result u
 
-    -- registering where another callsite with the same metadata counts as this one
-    abbrev pub RegisterOnceGivesAt : Table S C → C → Option (Option PlainInterest) → Result PlainInterest (RegisterError C) → Table S C → Type 0
-    RegisterOnceGivesAt t callsite None result u = RegisterGives t callsite result u
-    RegisterOnceGivesAt t callsite (Some None) result u = (result ≡ Err (registering.Taken callsite)) × (u ≡ t)
-    RegisterOnceGivesAt t callsite (Some (Some interest)) result u = (result ≡ Ok interest) × (u ≡ t)
-
-    abbrev pub RegisterOnceGives : Table S C → C → Result PlainInterest (RegisterError C) → Table S C → Type 0
-    RegisterOnceGives t callsite result u =
-        RegisterOnceGivesAt t callsite (kept_alike h (h.metadata_of callsite) (row_of (h.metadata_of callsite).callsite t.rows)) result u
-
-    -- what is known is answered; else the subscriber of the number is asked
+    -- where somebody is reached, what is known is answered, else it is asked; where nobody is, nothing is wanted
     abbrev pub AnswerGives : Row C → At → Option Bool → Option ℕ → List (Entry S) → Bool → List (Entry S) → Type 0
-    AnswerGives row at (Some answer) serial es result fs = (result ≡ answer) × (fs ≡ es)
-    AnswerGives row at None serial es result fs = AskGives (h.metadata_of row.callsite) at serial es result fs
+    AnswerGives row at known None es result fs = (result ≡ false) × (fs ≡ es)
+    AnswerGives row at (Some answer) (Some serial) es result fs = (result ≡ answer) × (fs ≡ es)
+    AnswerGives row at None (Some serial) es result fs = AskGives (h.metadata_of row.callsite) at (Some serial) es result fs
 
     abbrev pub GateGivesAt : Table S C → Option (Row C) → At → Option Bool → Table S C → Type 0
     GateGivesAt t None at result u = (result ≡ None) × (u ≡ t)

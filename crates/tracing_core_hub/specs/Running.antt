@@ -1,8 +1,8 @@
 -- What a hub replies to commands on handles, lanes and guards by number, and what they leave.
 use Rattle.std.specs.Prelude.{◌≡◌, ℕ, Bool, true, false, List, [], ◌∷◌, ◌++◌, Option, Some, None, Result, Ok, Err, length, slice_get, slice_set}
 use Rattle.std.specs.Option.{option_map}
-use Rattle.tracing_core_hub.specs.Commands.{AddGives, GateGives, RegisterGives, RegisterOnceGives, Rebuilt, reached, row_of}
-use Rattle.tracing_core_hub.specs.Defaults.{was_set, holding, letting_go, global_refusal, globally, default_refusal, locally, guard_of, end_gives, reset_gives}
+use Rattle.tracing_core_hub.specs.Commands.{AddGives, GateGives, RegisterGives, Rebuilt, reached, row_of}
+use Rattle.tracing_core_hub.specs.Defaults.{was_set, holding, letting_go, global_refusal, globally, default_refusal, locally, guard_of, running, end_gives, reset_gives}
 use Rattle.tracing_core_hub.specs.Handles.{given_back, hold_refusal, or_refused, or_same}
 use Rattle.tracing_core_hub.specs.Keeping.{KeepsBy}
 use Rattle.tracing_core_hub.specs.Refreshing.{Refreshed}
@@ -11,11 +11,14 @@ use Rattle.tracing_core_hub.specs.declared.at.At.{At}
 use Rattle.tracing_core_hub.specs.declared.callsite.Callsite.{Ghosts as SiteGhosts}
 use Rattle.tracing_core_hub.specs.declared.guard.DefaultGuard.{DefaultGuard}
 use Rattle.tracing_core_hub.specs.declared.guard.WrongLane.{WrongLane}
+use Rattle.tracing_core_hub.specs.declared.hub.parts.Lane.{Lane}
 use Rattle.tracing_core_hub.specs.declared.hub.parts.Lane.TheVariants.{Running}
+use Rattle.tracing_core_hub.specs.declared.hub.parts.Setting.{Setting}
 use Rattle.tracing_core_hub.specs.declared.hub.parts.Setting.TheVariants.{Unset}
 use Rattle.tracing_core_hub.specs.declared.refusal.HandleError.{HandleError}
 use Rattle.tracing_core_hub.specs.declared.refusal.HandleError.TheVariants.{Unknown, TooMany}
 use Rattle.tracing_core_hub.specs.declared.refusal.SetDefaultError.{SetDefaultError}
+use Rattle.tracing_core_hub.specs.declared.refusal.SetDefaultError.TheVariants as own
 use Rattle.tracing_core_hub.specs.declared.refusal.SetGlobalDefaultError.{SetGlobalDefaultError}
 use Rattle.tracing_core_hub.specs.declared.refusal.UnknownLane.{UnknownLane}
 use Rattle.tracing_core_hub.specs.declared.run.command.Command.{Command}
@@ -95,19 +98,29 @@ module _ {S C : Type 0} where
   SetDefaultRunsAt t guards lane dispatch None answer u left =
       OrNoRoom answer ((u ≡ t) × (left ≡ guards)) (((answer, u), left) ≡ set_default_gives t guards lane dispatch)
 
-  -- a default is set where nothing refuses it
-  abbrev pub SetDefaultRuns : Table S C → List (Option DefaultGuard) → ℕ → Option (Option ℕ) → CommandReply S C → Table S C → List (Option DefaultGuard) → Type 0
-  SetDefaultRuns t guards lane None answer u left = (answer ≡ reply.Refused error.UnknownHandle) × (u ≡ t) × (left ≡ guards)
-  SetDefaultRuns t guards lane (Some dispatch) answer u left =
+  abbrev pub SetDefaultRunsIn : Table S C → List (Option DefaultGuard) → ℕ → Option Setting → Option (Option ℕ) → CommandReply S C → Table S C → List (Option DefaultGuard) → Type 0
+  SetDefaultRunsIn t guards lane None dispatch answer u left = (answer ≡ reply.Refused (error.SetDefault own.UnknownLane)) × (u ≡ t) × (left ≡ guards)
+  SetDefaultRunsIn t guards lane (Some setting) None answer u left = (answer ≡ reply.Refused error.UnknownHandle) × (u ≡ t) × (left ≡ guards)
+  SetDefaultRunsIn t guards lane (Some setting) (Some dispatch) answer u left =
       SetDefaultRunsAt t guards lane dispatch (default_refusal t lane dispatch) answer u left
 
-  abbrev pub reset_runs_at : Table S C → List (Option DefaultGuard) → ℕ → ℕ → Option DefaultGuard → (CommandReply S C × Table S C) × List (Option DefaultGuard)
-  reset_runs_at t guards lane number None = ((reply.Refused error.UnknownGuard, t), guards)
-  reset_runs_at t guards lane number (Some guard) =
+  -- a default is set where nothing refuses it: the lane is looked at first, then the handle
+  abbrev pub SetDefaultRuns : Table S C → List (Option DefaultGuard) → ℕ → Option (Option ℕ) → CommandReply S C → Table S C → List (Option DefaultGuard) → Type 0
+  SetDefaultRuns t guards lane dispatch answer u left = SetDefaultRunsIn t guards lane (running (slice_get t.lanes lane)) dispatch answer u left
+
+  -- a guard that was never made, or is spent, is none of this lane's
+  abbrev pub reset_runs_by : Table S C → List (Option DefaultGuard) → ℕ → ℕ → Option DefaultGuard → (CommandReply S C × Table S C) × List (Option DefaultGuard)
+  reset_runs_by t guards lane number None = ((reply.Refused error.WrongLane, t), guards)
+  reset_runs_by t guards lane number (Some guard) =
       ((reset_reply (reset_gives t lane guard).0, (reset_gives t lane guard).1), guards_after guards number (reset_gives t lane guard).0)
 
+  abbrev pub reset_runs_at : Table S C → List (Option DefaultGuard) → ℕ → ℕ → Option Lane → (CommandReply S C × Table S C) × List (Option DefaultGuard)
+  reset_runs_at t guards lane number None = ((reply.Refused error.UnknownLane, t), guards)
+  reset_runs_at t guards lane number (Some given) = reset_runs_by t guards lane number (item_of guards number)
+
+  -- the lane is looked at first, then the guard
   abbrev pub reset_runs : Table S C → List (Option DefaultGuard) → ℕ → ℕ → (CommandReply S C × Table S C) × List (Option DefaultGuard)
-  reset_runs t guards lane number = reset_runs_at t guards lane number (item_of guards number)
+  reset_runs t guards lane number = reset_runs_at t guards lane number (slice_get t.lanes lane)
 
   -- a further handle has the next number
   abbrev pub hold_gives : Table S C → List (Option (Option ℕ)) → Option ℕ → (CommandReply S C × Table S C) × List (Option (Option ℕ))
@@ -181,11 +194,6 @@ module _ {S : Type 0} (g : Ghosts S) {C : Type 0} (h : SiteGhosts C) where
   RegisterRuns t callsite (reply.Refused (error.Register refusal)) u = RegisterGives g h t callsite (Err refusal) u
   RegisterRuns t callsite other u = ⊥
 
-  abbrev pub RegisterOnceRuns : Table S C → C → CommandReply S C → Table S C → Type 0
-  RegisterOnceRuns t callsite (reply.Registered interest) u = RegisterOnceGives g h t callsite (Ok interest) u
-  RegisterOnceRuns t callsite (reply.Refused (error.Register refusal)) u = RegisterOnceGives g h t callsite (Err refusal) u
-  RegisterOnceRuns t callsite other u = ⊥
-
   abbrev pub GateRuns : Table S C → ℕ → At → CommandReply S C → Table S C → Type 0
   GateRuns t identifier at (reply.Wanted wanted) u = GateGives g h t identifier at wanted u
   GateRuns t identifier at other u = ⊥
@@ -196,7 +204,6 @@ module _ {S : Type 0} (g : Ghosts S) {C : Type 0} (h : SiteGhosts C) where
   CommandGives t b (command.EndThread lane) answer u c = (answer ≡ end_reply (end_gives t lane).0) × (u ≡ (end_gives t lane).1) × (c ≡ b)
   CommandGives t b (command.Add subscriber) answer u c = AddRuns t b.handles subscriber answer u c.handles × (c ≡ record b { handles = c.handles })
   CommandGives t b (command.Register callsite) answer u c = RegisterRuns t callsite answer u × (c ≡ b)
-  CommandGives t b (command.RegisterOnce callsite) answer u c = RegisterOnceRuns t callsite answer u × (c ≡ b)
   CommandGives t b command.RebuildInterestCache answer u c = (answer ≡ reply.Done) × Rebuilt g h t u × (c ≡ b)
   CommandGives t b command.Refresh answer u c = (answer ≡ reply.Done) × Refreshed g h t u × (c ≡ b)
   CommandGives t b command.MaxLevel answer u c = (answer ≡ reply.Level t.greatest) × (u ≡ t) × (c ≡ b)

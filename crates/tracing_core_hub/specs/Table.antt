@@ -31,9 +31,9 @@ chosen Unset = None
 chosen Nothing = None
 chosen (To serial) = Some serial
 
--- the default of a lane, where it has one of its own
+-- the default of a lane, where it has one of its own; a lane that was never given reaches nothing
 abbrev pub own_setting : Option Lane → Setting
-own_setting None = Unset
+own_setting None = Nothing
 own_setting (Some Ended) = Unset
 own_setting (Some (Running setting)) = setting
 

@@ -5,7 +5,7 @@ ghost use Rattle.tracing_core_fields.specs.PlainMetadata.{PlainMetadata};
 ghost use Rattle.tracing_core_hub.specs.Calls.{Call, ReplyTo, DispatchRegistered, CallsiteRegistered, Asked, HintAsked, SpanMade, Recorded, FollowsRecorded, EventAsked, Told, Entered, Exited, Cloned, Dropped, CloseTried, CurrentAsked};
 ghost use Rattle.tracing_core_hub.specs.Interests.{PlainInterest};
 ghost use Rattle.tracing_core_hub.specs.PlainRequests.{plain_attributes, plain_event, plain_record};
-ghost use Rattle.tracing_core_hub.specs.Steady.{Agrees, IsRealCall, SameWord};
+ghost use Rattle.tracing_core_hub.specs.Steady.{Agrees, IsReal, IsRealCall, SameWord};
 
 mod boxed;
 mod boxed_one;
@@ -23,8 +23,8 @@ use tracing_core_fields::{Id, LevelFilter, Metadata};
 /// What takes the requests: the making, entering and closing of spans, and events.
 ///
 /// A subscriber that keeps its word is steady: what it says is never enabled isn't, what it says is always
-/// enabled is, no level above its hint is; a question changes none of its answers, and no call changes
-/// what it says of its interests, or its hint.
+/// enabled is, no level above its hint is; asked twice in one place it answers the same, a question changes
+/// none of its answers, and no call changes what it says of its interests, or its hint.
 pub trait Subscriber: Drop {
     ghost use Rattle.tracing_core_hub.specs.declared.at.At.{At};
 
@@ -44,6 +44,8 @@ pub trait Subscriber: Drop {
     ghost steady: { Self → Type 0 };
 
     ghost fair: { (x : Self) → steady x → Agrees (answers x) (says x) (hint x) };
+
+    ghost single: { (x : Self) (m : PlainMetadata) (at : At) (a b : Bool) → IsReal m → steady x → answers x m at a → answers x m at b → a ≡ b };
 
     ghost stays: { (x : Self) (c : Call) (r : ReplyTo c) (y : Self) → IsRealCall c → moves x c r y → steady x → steady y × SameWord (says x) (says y) (hint x) (hint y) };
 

@@ -68,22 +68,16 @@ fn callsites_register_once(rt: HostRuntime) -> Result<(), Fail> {
     let mut hub: Hub<Everything, Place> = Hub::new(rt.alloc());
     let lane = hub.thread()?;
     assert_eq!(rt;
-        hub.register_once(Place::new(4, Level::WARN)).ok(),
+        hub.register(Place::new(4, Level::WARN)).ok(),
         Some(Interest::never())
-    );
-    assert!(rt;
-        matches!(
-            hub.register(Place::new(4, Level::WARN)),
-            Err(RegisterError::Taken(_))
-        )
     );
     assert_eq!(rt;
-        hub.register_once(Place::new(4, Level::WARN)).ok(),
+        hub.register(Place::new(4, Level::WARN)).ok(),
         Some(Interest::never())
     );
     assert!(rt;
         matches!(
-            hub.register_once(Place::new(4, Level::INFO)),
+            hub.register(Place::new(4, Level::INFO)),
             Err(RegisterError::Taken(_))
         )
     );

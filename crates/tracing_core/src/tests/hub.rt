@@ -34,8 +34,9 @@ fn surface_hub_tables(rt: HostRuntime) -> Result<(), Fail> {
     let lane = hub.thread()?;
     let first = hub.add(NoSubscriber::new()).ok().ok_or("memory")?;
     let told = hub.register(Place::new(3)).ok().ok_or("memory")?;
-    assert!(rt; told.is_never() && hub.register(Place::new(3)).is_err());
-    assert!(rt; hub.register_once(Place::new(3)).is_ok());
+    let again = hub.register(Place::new(3)).ok().ok_or("memory")?;
+    assert!(rt; told.is_never() && again.is_never() && hub.gate(Identifier(3), moment(lane)) == Some(false));
+    assert!(rt; hub.reached(lane).serial().is_none());
     hub.rebuild_interest_cache();
     hub.refresh();
     assert!(rt; hub.max_level() == LevelFilter::TRACE);

@@ -9,7 +9,7 @@ fn setting_up(alloc: Global) -> Result<Vec<Command<NoSubscriber, Place>>, AllocE
     commands.push(Command::Thread)?;
     commands.push(Command::Add(NoSubscriber::new()))?;
     commands.push(Command::Register(Place::new(3)))?;
-    commands.push(Command::RegisterOnce(Place::new(3)))?;
+    commands.push(Command::Register(Place::new(3)))?;
     commands.push(Command::RebuildInterestCache)?;
     commands.push(Command::Refresh)?;
     commands.push(Command::MaxLevel)?;

@@ -11,7 +11,7 @@ use crate::interest::{Interest, InterestInner};
 use tracing_core_fields::Metadata;
 
 /// A callsite that keeps its metadata, and the interest that it is told.
-/// [`Hub::register_once`](crate::Hub::register_once) registers it.
+/// [`Hub::register`](crate::Hub::register) registers it.
 #[derive(Debug, Drop)]
 pub struct DefaultCallsite<'a> {
     metadata: &'a Metadata<'a>,

@@ -1,6 +1,7 @@
 //! The defaults: the global one, and those of lanes.
-ghost use Rattle.std.specs.Prelude.{◌≡◌, ◌<◌, length};
-ghost use Rattle.tracing_core_hub.specs.Defaults.{was_set, setting_to, global_refusal, globally, default_refusal, guard_of, locally, end_gives, reset_gives, given_up};
+ghost use Rattle.std.specs.Option.{is_some};
+ghost use Rattle.std.specs.Prelude.{◌≡◌, ◌<◌, length, slice_get};
+ghost use Rattle.tracing_core_hub.specs.Defaults.{was_set, setting_to, global_refusal, globally, default_refusal, guard_of, locally, end_gives, reset_gives, given_up, running};
 ghost use Rattle.tracing_core_hub.specs.Handles.{or_refused, or_same};
 ghost use Rattle.tracing_core_hub.specs.Keeping.{Keeps, KeepsLiving};
 ghost use Rattle.tracing_core_hub.specs.Table.{chosen};
@@ -65,6 +66,20 @@ impl<S, C> Hub<S, C> {
             }
             Err(error) => Err(SetGlobalDefaultError::Handle(error)),
         }
+    }
+
+    // Whether the lane was ever given.
+    pub(crate) fn was_given(&self, lane: u64) -> bool
+        ensures { result ≡ is_some (slice_get self.now.lanes lane) }
+    {
+        lane_at(&self.lanes, lane).is_some()
+    }
+
+    // Whether the lane runs.
+    pub(crate) fn is_running(&self, lane: u64) -> bool
+        ensures { result ≡ is_some (running (slice_get self.now.lanes lane)) }
+    {
+        matches!(lane_at(&self.lanes, lane), Some(Lane::Running(_)))
     }
 
     // Why the default of a lane isn't set to the subscriber of the handle.

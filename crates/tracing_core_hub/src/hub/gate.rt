@@ -1,6 +1,6 @@
 //! Whether spans and events are wanted.
 ghost use Rattle.std.specs.Prelude.{◌≡◌, Bool, Some, slice_get};
-ghost use Rattle.std.specs.Option.{option_map, is_some};
+ghost use Rattle.std.specs.Option.{option_map};
 ghost use Rattle.tracing_core_hub.specs.Commands.{GateGives, reached, row_of};
 ghost use Rattle.tracing_core_hub.specs.Keeping.{Keeps};
 ghost use Rattle.tracing_core_hub.specs.Kept.{Kept};
@@ -21,7 +21,7 @@ pub(crate) fn setting_of(lanes: &[Lane], lane: u64) -> Setting
     ensures { result ≡ own_setting (slice_get lanes.now lane) }
 {
     match lane_at(lanes, lane) {
-        None => Setting::Unset,
+        None => Setting::Nothing,
         Some(Lane::Ended) => Setting::Unset,
         Some(Lane::Running(setting)) => setting,
     }
@@ -47,7 +47,7 @@ impl<S, C> Hub<S, C> {
     }
 
     /// The subscriber that requests of the lane reach: that of its own default where one was set, else of
-    /// the global one.
+    /// the global one. A lane that was never given reaches none.
     pub fn reached(&self, lane: u64) -> WeakDispatch
         ensures { result ≡ reached self.now lane }
     {
@@ -59,13 +59,6 @@ impl<S, C> Hub<S, C> {
         ensures { option_map (λ row. row.now) result ≡ row_of identifier self.now.rows }
     {
         find_row(&self.rows, identifier)
-    }
-
-    // Whether some callsite has the identifier.
-    pub(crate) fn knows(&self, identifier: u64) -> bool
-        ensures { result ≡ is_some (row_of identifier self.now.rows) }
-    {
-        find_row(&self.rows, identifier).is_some()
     }
 
     /// The common interest that is kept of the callsite with the identifier.
@@ -81,12 +74,12 @@ impl<S, C> Hub<S, C> {
 
 impl<S: Subscriber, C: Callsite> Hub<S, C> {
     /// Whether a span or an event of the callsite with the identifier, made there and then, is wanted, or
-    /// `None` where no callsite has it. The reached subscriber is asked where what is kept doesn't tell.
+    /// `None` where no callsite has it. Where the lane reaches nothing, it isn't. The reached subscriber is
+    /// asked where what is kept doesn't tell.
     pub fn gate(&mut self, identifier: Identifier, at: At) -> Option<bool>
         ensures answer { GateGives ⟦<S as Subscriber>⟧ ⟦<C as Callsite>⟧ self.old identifier.0 at result self.new }
-        // Where what is kept is right of the reached subscriber, this is what asking it may answer.
-        ensures asking { (row : Row C) (e : Entry S) (b : Bool) → row_of identifier.0 self.old.rows ≡ Some row → reached self.old at.lane ≡ Some e.serial → Kept ⟦<S as Subscriber>⟧ ⟦<C as Callsite>⟧ self.old e → S.answers e.subscriber (C.metadata_of row.callsite) at b →
-            ((answer : Bool) × (result ≡ Some answer) × S.answers e.subscriber (C.metadata_of row.callsite) at answer) }
+        // Where what is kept is right of the reached subscriber, this is what asking it answers.
+        ensures asking { (row : Row C) (e : Entry S) (b : Bool) → row_of identifier.0 self.old.rows ≡ Some row → reached self.old at.lane ≡ Some e.serial → Kept ⟦<S as Subscriber>⟧ ⟦<C as Callsite>⟧ self.old e → S.answers e.subscriber (C.metadata_of row.callsite) at b → result ≡ Some b }
         ensures keeps { Keeps ⟦<S as Subscriber>⟧ ⟦<C as Callsite>⟧ self.old self.new }
     {
         self.look(identifier, at)

@@ -103,7 +103,7 @@ impl<C: Callsite> Row<C> {
         ask_one(entries, serial, &metadata, at)
     }
 
-    // What is known, or else what the subscriber of the number says.
+    // What is known, or else what the subscriber of the number says. Where there is none, nothing is wanted.
     pub(crate) fn answer<S: Subscriber>(
         &self,
         entries: &mut [Entry<S>],
@@ -113,6 +113,9 @@ impl<C: Callsite> Row<C> {
     ) -> bool
         ensures { AnswerGives ⟦<S as Subscriber>⟧ ⟦<C as Callsite>⟧ self.now at (known greatest self.now.level self.now.interest) serial entries.old result entries.new }
     {
+        if serial.is_none() {
+            return false;
+        }
         match known_answer(greatest, self.level, self.interest) {
             Some(answer) => answer,
             None => self.ask_one(entries, serial, at),

@@ -1,6 +1,6 @@
 //! Taking subscribers and callsites, and asking all again.
-ghost use Rattle.std.specs.Prelude.{◌≡◌, ◌==◌, Some, [], true, IfOk};
-ghost use Rattle.tracing_core_hub.specs.Commands.{Rebuilt, AddGives, RegisterGives, RegisterOnceGives, kept_alike, row_of};
+ghost use Rattle.std.specs.Prelude.{◌≡◌, ◌==◌, Some, None, [], true, IfOk};
+ghost use Rattle.tracing_core_hub.specs.Commands.{Rebuilt, AddGives, RegisterGives, TakeGives, kept_alike, row_of};
 ghost use Rattle.tracing_core_hub.specs.Handles.{entry_of, most};
 ghost use Rattle.tracing_core_hub.specs.Keeping.{Keeps, IsOff};
 ghost use Rattle.tracing_core_hub.specs.Kept.{Every, IsTrueRow, Kept, asked_anew};
@@ -90,15 +90,12 @@ impl<S: Subscriber, C: Callsite> Hub<S, C> {
         Ok(Dispatch::new(Some(serial)))
     }
 
-    // Takes a callsite, and asks all of it.
+    // Takes a callsite whose identifier isn't known, and asks all of it.
     fn take_callsite(&mut self, callsite: C) -> Result<Interest, RegisterError<C>>
-        ensures { RegisterGives ⟦<S as Subscriber>⟧ ⟦<C as Callsite>⟧ self.old callsite result self.new }
+        requires { row_of (C.metadata_of callsite).callsite self.old.rows ≡ None }
+        ensures { TakeGives ⟦<S as Subscriber>⟧ ⟦<C as Callsite>⟧ self.old callsite result self.new }
     {
         let mut row = Row::new(callsite);
-        if self.knows(row.identifier) {
-            let Row { callsite, .. } = row;
-            return Err(RegisterError::Taken(callsite));
-        }
         if self.rows.reserve(1).is_err() {
             let Row { callsite, .. } = row;
             return Err(RegisterError::OutOfMemory(callsite));
@@ -121,8 +118,8 @@ impl<S: Subscriber, C: Callsite> Hub<S, C> {
     }
 
     // Takes a callsite, where none like it is known.
-    fn take_callsite_once(&mut self, callsite: C) -> Result<Interest, RegisterError<C>>
-        ensures { RegisterOnceGives ⟦<S as Subscriber>⟧ ⟦<C as Callsite>⟧ self.old callsite result self.new }
+    fn take_once(&mut self, callsite: C) -> Result<Interest, RegisterError<C>>
+        ensures { RegisterGives ⟦<S as Subscriber>⟧ ⟦<C as Callsite>⟧ self.old callsite result self.new }
     {
         match self.kept_alike(&callsite) {
             None => self.take_callsite(callsite),
@@ -135,31 +132,26 @@ impl<S: Subscriber, C: Callsite> Hub<S, C> {
     /// where no number is left, or else there is no memory for it; then it wasn't told anything.
     pub fn add(&mut self, subscriber: S) -> Result<Dispatch, AddError<S>>
         ensures gives { AddGives ⟦<S as Subscriber>⟧ ⟦<C as Callsite>⟧ self.old subscriber result self.new }
-        // Then what is kept is right of the new one too, if it keeps its word.
+        // Then what is kept is right of the new one, if it keeps its word.
         ensures right { IfOk result (λ dispatch. IsSound ⟦<C as Callsite>⟧ self.old → S.steady subscriber →
             ((e : Entry S) × (dispatch ≡ Some e.serial) × Kept ⟦<S as Subscriber>⟧ ⟦<C as Callsite>⟧ self.new e)) }
+        // And of each that was lent and keeps its word.
+        ensures others { IfOk result (λ _. (e : Entry S) → entry_of e.serial self.old.entries ≡ Some e → e.lent ≡ true → S.steady e.subscriber → Every (IsTrueRow ⟦<C as Callsite>⟧) self.old.rows →
+            ((z : S) × Kept ⟦<S as Subscriber>⟧ ⟦<C as Callsite>⟧ self.new (asked_anew z e))) }
         ensures keeps { Keeps ⟦<S as Subscriber>⟧ ⟦<C as Callsite>⟧ self.old self.new }
     {
         self.take_in(subscriber)
     }
 
     /// Takes a callsite, asks all subscribers of it, and tells it their common interest, which is never
-    /// where there is none. It comes back where its identifier is known, or there is no memory for it.
+    /// where there is none. One that is known with the same metadata counts as this one: then nothing
+    /// changes, and the kept interest is answered. The callsite comes back where its identifier is known
+    /// with other metadata, or there is no memory for it.
     pub fn register(&mut self, callsite: C) -> Result<Interest, RegisterError<C>>
         ensures gives { RegisterGives ⟦<S as Subscriber>⟧ ⟦<C as Callsite>⟧ self.old callsite result self.new }
         ensures keeps { Keeps ⟦<S as Subscriber>⟧ ⟦<C as Callsite>⟧ self.old self.new }
     {
         is_real_callsite(&callsite);
-        self.take_callsite(callsite)
-    }
-
-    /// Registers a callsite, where another one with the same metadata counts as this one: then nothing
-    /// changes, and the kept interest is answered. With other metadata its identifier is taken.
-    pub fn register_once(&mut self, callsite: C) -> Result<Interest, RegisterError<C>>
-        ensures gives { RegisterOnceGives ⟦<S as Subscriber>⟧ ⟦<C as Callsite>⟧ self.old callsite result self.new }
-        ensures keeps { Keeps ⟦<S as Subscriber>⟧ ⟦<C as Callsite>⟧ self.old self.new }
-    {
-        is_real_callsite(&callsite);
-        self.take_callsite_once(callsite)
+        self.take_once(callsite)
     }
 }

@@ -17,10 +17,8 @@ pub enum Command<S, C> {
     EndThread(u64),
     /// Takes a subscriber, whose handle is a new one.
     Add(S),
-    /// Takes a callsite.
+    /// Takes a callsite, where a known one with the same metadata counts as this one.
     Register(C),
-    /// Takes a callsite, where another one with the same metadata counts as this one.
-    RegisterOnce(C),
     /// Asks all subscribers of each callsite and for their hints.
     RebuildInterestCache,
     /// Asks again whoever may say something else than what is kept.
@@ -33,7 +31,7 @@ pub enum Command<S, C> {
     HasBeenSet,
     /// Sets the default of a lane to the subscriber of a handle, with a new guard.
     SetDefault(u64, Option<u64>),
-    /// Gives a lane the default that a guard remembers, and spends the guard.
+    /// Gives a lane the default that its guard remembers, and spends the guard.
     Reset(u64, u64),
     /// Makes a further handle.
     CloneHandle(u64),
@@ -96,14 +94,11 @@ pub enum CommandError<S, C> {
     /// No weak handle has the number.
     #[error("unknown weak handle")]
     UnknownWeakHandle,
-    /// No unspent guard has the number.
-    #[error("unknown guard")]
-    UnknownGuard,
-    /// No lane that runs has the number.
+    /// No lane that runs has the number; where a guard is to be spent, none was ever given it.
     #[error("unknown lane")]
     UnknownLane,
-    /// The guard is of another lane.
-    #[error("the guard is of another lane")]
+    /// The lane has no unspent guard with the number.
+    #[error("no guard of this lane")]
     WrongLane,
     /// The subscriber has as many handles as can be counted.
     #[error("too many handles")]

@@ -2,13 +2,13 @@
 ghost use Rattle.std.specs.Prelude.{◌≡◌};
 ghost use Rattle.tracing_core_hub.specs.Defaults.{end_gives};
 ghost use Rattle.tracing_core_hub.specs.Keeping.{Keeps, KeepsLiving};
-ghost use Rattle.tracing_core_hub.specs.Running.{SetDefaultRuns, ThreadRuns, end_reply, global_gives, global_reply, reset_runs, named};
+ghost use Rattle.tracing_core_hub.specs.Running.{SetDefaultRuns, ThreadRuns, end_reply, global_gives, global_reply, item_of, reset_runs, reset_runs_by, named};
 
 use crate::callsite::Callsite;
 use crate::dispatch::Dispatch;
 use crate::guard::{DefaultGuard, WrongLane};
 use crate::hub::Hub;
-use crate::refusal::{SetGlobalDefaultError, UnknownLane};
+use crate::refusal::{SetDefaultError, SetGlobalDefaultError, UnknownLane};
 use crate::run::book::{find_named, keep, put_back, spend};
 use crate::run::command::{CommandError, CommandReply};
 use crate::subscriber::Subscriber;
@@ -76,6 +76,9 @@ impl<S: Subscriber, C: Callsite> Hub<S, C> {
         ensures gives { SetDefaultRuns self.old guards.old.items lane (named handles.now number) result self.new guards.new.items }
         ensures keeps { Keeps ⟦<S as Subscriber>⟧ ⟦<C as Callsite>⟧ self.old self.new }
     {
+        if !self.is_running(lane) {
+            return CommandReply::Refused(CommandError::SetDefault(SetDefaultError::UnknownLane));
+        }
         let Some(dispatch) = find_named(handles, number) else {
             return CommandReply::Refused(CommandError::UnknownHandle);
         };
@@ -101,8 +104,26 @@ impl<S: Subscriber, C: Callsite> Hub<S, C> {
         ensures gives { ((result, self.new), guards.new) ≡ reset_runs self.old guards.old lane number }
         ensures keeps { KeepsLiving ⟦<S as Subscriber>⟧ ⟦<C as Callsite>⟧ self.old self.new }
     {
+        if self.was_given(lane) {
+            self.spend_guard(guards, lane, number)
+        } else {
+            CommandReply::Refused(CommandError::UnknownLane)
+        }
+    }
+
+    // Gives a lane the default that the guard of the number remembers, and spends the guard.
+    #[tactic(auto, using(crate::proofs::Words::itself_living))]
+    fn spend_guard(
+        &mut self,
+        guards: &mut [Option<DefaultGuard>],
+        lane: u64,
+        number: u64,
+    ) -> CommandReply<S, C>
+        ensures gives { ((result, self.new), guards.new) ≡ reset_runs_by self.old guards.old lane number (item_of guards.old number) }
+        ensures keeps { KeepsLiving ⟦<S as Subscriber>⟧ ⟦<C as Callsite>⟧ self.old self.new }
+    {
         let Some(guard) = spend(guards, number) else {
-            return CommandReply::Refused(CommandError::UnknownGuard);
+            return CommandReply::Refused(CommandError::WrongLane);
         };
         match self.reset(lane, guard) {
             Ok(released) => CommandReply::Released(released),

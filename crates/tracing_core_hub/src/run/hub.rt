@@ -2,7 +2,7 @@
 ghost use Rattle.std.specs.Prelude.{◌≡◌, IfErr, IfOk, OnErr};
 ghost use Rattle.tracing_core_hub.specs.Keeping.{Keeps, KeepsLiving};
 ghost use Rattle.tracing_core_hub.specs.Kept.{Every};
-ghost use Rattle.tracing_core_hub.specs.Running.{CommandGives, CommandKeeps, CommandsGive, GateRuns, GivesNothingUp, RegisterOnceRuns, RegisterRuns};
+ghost use Rattle.tracing_core_hub.specs.Running.{CommandGives, CommandKeeps, CommandsGive, GateRuns, GivesNothingUp, RegisterRuns};
 
 use crate::at::At;
 use crate::callsite::Callsite;
@@ -18,16 +18,6 @@ impl<S: Subscriber, C: Callsite> Hub<S, C> {
         ensures keeps { Keeps ⟦<S as Subscriber>⟧ ⟦<C as Callsite>⟧ self.old self.new }
     {
         match self.register(callsite) {
-            Ok(interest) => CommandReply::Registered(interest),
-            Err(error) => CommandReply::Refused(CommandError::Register(error)),
-        }
-    }
-
-    fn run_register_once(&mut self, callsite: C) -> CommandReply<S, C>
-        ensures gives { RegisterOnceRuns ⟦<S as Subscriber>⟧ ⟦<C as Callsite>⟧ self.old callsite result self.new }
-        ensures keeps { Keeps ⟦<S as Subscriber>⟧ ⟦<C as Callsite>⟧ self.old self.new }
-    {
-        match self.register_once(callsite) {
             Ok(interest) => CommandReply::Registered(interest),
             Err(error) => CommandReply::Refused(CommandError::Register(error)),
         }
@@ -52,7 +42,6 @@ impl<S: Subscriber, C: Callsite> Hub<S, C> {
             Command::EndThread(lane) => self.run_end_thread(lane),
             Command::Add(subscriber) => self.run_add(&mut book.handles, subscriber),
             Command::Register(callsite) => self.run_register(callsite),
-            Command::RegisterOnce(callsite) => self.run_register_once(callsite),
             Command::RebuildInterestCache => {
                 self.rebuild_interest_cache();
                 CommandReply::Done

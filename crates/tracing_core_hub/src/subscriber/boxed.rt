@@ -26,6 +26,8 @@ impl Subscriber for Box<dyn Subscriber> {
 
     ghost fair = { λ b k. (Subscriber-box b).fair b.value k };
 
+    ghost single = { λ b m at p q real k one other. (Subscriber-box b).single b.value m at p q real k one other };
+
     ghost stays = { λ b c r e real m k. subst (λ x. (Subscriber-box x).steady x.value × SameWord ((Subscriber-box b).says b.value) ((Subscriber-box x).says x.value) ((Subscriber-box b).hint b.value) ((Subscriber-box x).hint x.value)) (sym m.2) ((Subscriber-box b).stays b.value c r m.0 real m.1 k) };
 
     ghost quiet = { λ b m n at place r e a moved k. subst (λ x. (Subscriber-box b).answers b.value n place a ↔ (Subscriber-box x).answers x.value n place a) (sym moved.2) ((Subscriber-box b).quiet b.value m n at place r moved.0 a moved.1 k) };

@@ -26,6 +26,8 @@ impl<S: Subscriber> Subscriber for Box<S> {
 
     ghost fair = { λ b k. S.fair b.value k };
 
+    ghost single = { λ b m at p q real k one other. S.single b.value m at p q real k one other };
+
     ghost stays = { λ b c r e real m k. subst (λ x. S.steady x.value × SameWord (S.says b.value) (S.says x.value) (S.hint b.value) (S.hint x.value)) (sym m.2) (S.stays b.value c r m.0 real m.1 k) };
 
     ghost quiet = { λ b m n at place r e a moved k. subst (λ x. S.answers b.value n place a ↔ S.answers x.value n place a) (sym moved.2) (S.quiet b.value m n at place r moved.0 a moved.1 k) };

@@ -25,6 +25,7 @@ impl NoSubscriber {
 
 impl Subscriber for NoSubscriber {
     ghost use Rattle.std.specs.Prelude.{refl};
+    ghost use Rattle.std.proofs.Common.{◌∙◌, sym};
 
     ghost answers = { λ x m at b. b ≡ false };
 
@@ -37,6 +38,8 @@ impl Subscriber for NoSubscriber {
     ghost steady = { λ x. Unit {0} };
 
     ghost fair = { λ x k. is_fair };
+
+    ghost single = { λ x m at a b real k p q. p ∙ sym q };
 
     ghost stays = { λ x c r y real m k. (k, same_word) };
 

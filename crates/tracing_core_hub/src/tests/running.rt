@@ -21,12 +21,14 @@ fn setting_up(alloc: Global) -> Result<Vec<Command<Everything, Place>>, AllocErr
     commands.push(Command::Thread)?;
     commands.push(Command::Register(Place::new(3, Level::INFO)))?;
     commands.push(Command::Add(Everything::new(1, Interest::always())))?;
-    commands.push(Command::RegisterOnce(Place::new(3, Level::INFO)))?;
     commands.push(Command::Register(Place::new(3, Level::INFO)))?;
+    commands.push(Command::Register(Place::new(3, Level::WARN)))?;
     commands.push(Command::SetDefault(0, Some(0)))?;
     commands.push(Command::SetDefault(0, Some(9)))?;
+    commands.push(Command::SetDefault(7, Some(9)))?;
     commands.push(Command::Reached(0))?;
     commands.push(Command::Gate(Identifier(3), moment(0)))?;
+    commands.push(Command::Gate(Identifier(3), moment(7)))?;
     commands.push(Command::MaxLevel)?;
     Ok(commands)
 }
@@ -39,7 +41,7 @@ fn commands_set_up_a_hub(rt: HostRuntime) -> Result<(), Fail> {
         .run(&mut book, setting_up(rt.alloc())?)
         .ok()
         .ok_or("memory")?;
-    assert_eq!(rt; replies.len(), 10);
+    assert_eq!(rt; replies.len(), 12);
     assert!(rt; matches!(replies.get(0), Some(Told::Lane(0))));
     assert!(rt; matches!(replies.get(1), Some(Told::Registered(interest)) if interest.is_never()));
     assert!(rt; matches!(replies.get(2), Some(Told::Handle(0))));
@@ -57,9 +59,16 @@ fn commands_set_up_a_hub(rt: HostRuntime) -> Result<(), Fail> {
             Some(Told::Refused(CommandError::UnknownHandle))
         )
     );
-    assert!(rt; matches!(replies.get(7), Some(Told::Reached(Some(0)))));
-    assert!(rt; matches!(replies.get(8), Some(Told::Wanted(Some(true)))));
-    assert!(rt; matches!(replies.get(9), Some(Told::Level(level)) if *level == LevelFilter::TRACE));
+    assert!(rt;
+        matches!(
+            replies.get(7),
+            Some(Told::Refused(CommandError::SetDefault(SetDefaultError::UnknownLane)))
+        )
+    );
+    assert!(rt; matches!(replies.get(8), Some(Told::Reached(Some(0)))));
+    assert!(rt; matches!(replies.get(9), Some(Told::Wanted(Some(true)))));
+    assert!(rt; matches!(replies.get(10), Some(Told::Wanted(Some(false)))));
+    assert!(rt; matches!(replies.get(11), Some(Told::Level(level)) if *level == LevelFilter::TRACE));
     assert!(rt; book.handle(0).is_some());
     assert!(rt; book.handle(1).is_none());
     Ok(())
@@ -108,7 +117,7 @@ fn commands_give_up_what_they_made(rt: HostRuntime) -> Result<(), Fail> {
     assert!(rt;
         matches!(
             replies.get(10),
-            Some(Told::Refused(CommandError::WrongLane))
+            Some(Told::Refused(CommandError::UnknownLane))
         )
     );
     assert!(rt;
@@ -120,7 +129,7 @@ fn commands_give_up_what_they_made(rt: HostRuntime) -> Result<(), Fail> {
     assert!(rt;
         matches!(
             replies.get(12),
-            Some(Told::Refused(CommandError::UnknownGuard))
+            Some(Told::Refused(CommandError::WrongLane))
         )
     );
     assert!(rt; matches!(replies.get(13), Some(Told::Gone)));

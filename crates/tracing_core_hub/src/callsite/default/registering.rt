@@ -1,6 +1,6 @@
 //! Registering a callsite that stays with its maker.
 ghost use Rattle.std.specs.Prelude.{◌≡◌, IfOk, OnErr};
-ghost use Rattle.tracing_core_hub.specs.Commands.{RegisterOnceGives};
+ghost use Rattle.tracing_core_hub.specs.Commands.{RegisterGives};
 ghost use Rattle.tracing_core_hub.specs.DefaultCallsites.{site_interest, site_metadata, untold};
 ghost use Rattle.tracing_core_hub.specs.Keeping.{Keeps};
 
@@ -21,20 +21,20 @@ impl<'a> DefaultCallsite<'a> {
         }
     }
 
-    /// Registers a copy of the callsite with a hub, as [`Hub::register_once`] does: where a callsite with the
+    /// Registers a copy of the callsite with a hub, as [`Hub::register`] does: where a callsite with the
     /// same metadata is known, nothing changes there. Answers the interest that the hub keeps of it, which
     /// this one keeps too.
     pub fn register<S: Subscriber>(
         &mut self,
         hub: &mut Hub<S, DefaultCallsite<'a>>,
     ) -> Result<Interest, RegisterError<DefaultCallsite<'a>>>
-        ensures registered { RegisterOnceGives ⟦<S as Subscriber>⟧ ⟦<DefaultCallsite<'a> as Callsite>⟧ hub.old (untold self.old) result hub.new }
+        ensures registered { RegisterGives ⟦<S as Subscriber>⟧ ⟦<DefaultCallsite<'a> as Callsite>⟧ hub.old (untold self.old) result hub.new }
         ensures metadata { site_metadata self.new ≡ site_metadata self.old }
         ensures kept { IfOk result (λ interest. site_interest self.new ≡ interest) }
         ensures refused { OnErr result (self.new ≡ self.old) }
         ensures keeps { Keeps ⟦<S as Subscriber>⟧ ⟦<DefaultCallsite<'a> as Callsite>⟧ hub.old hub.new }
     {
-        let interest = hub.register_once(self.untold())?;
+        let interest = hub.register(self.untold())?;
         self.interest = interest.inner();
         Ok(interest)
     }

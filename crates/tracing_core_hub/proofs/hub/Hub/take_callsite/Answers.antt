@@ -10,13 +10,10 @@ use Rattle.tracing_core_hub.proofs.hub.Hub.take_callsite.Goals as goal
 pub returns : goal.returns
 returns g c =
     let i = c.self.inside in
-    let m = g.C.Callsite.metadata_of c.args.callsite in
-    let unknown : row_of m.callsite c.args.self.now.rows ≡ None =
-    none_of _ (ap (λ (r : Row g.row.C.Denot). is_some (row_of r.identifier c.args.self.now.rows)) (sym c.new-row.ensures) ∙ sym c.knows.ensures ∙ c.if-knows.false) in
     let whole : take i.entries.len (c.ask.new.entries ++ drop (length c.ask.new.entries) i.entries.items) ≡ c.ask.new.entries = with_items_is i.entries c.ask.new.entries (omega arith) in
     let rows : c.push_reserved.new.self.items ≡ i.rows.items ++ c.ask.new.self ∷ [] = c.push_reserved.ensures.items ∙ ap (λ (rs : List (Row g.row.C.Denot)). rs ++ c.ask.new.self ∷ []) c.reserve.ensures.items in
     record {
-      unknown = unknown;
+      unknown = c.requires;
       row = c.ask.new.self;
       asked = asked_alike g.S.Subscriber g.C.Callsite _ _ _ _ _ _ c.ask.new.self (c.deref_mut.ensures.value ∙ ap (λ (t : Table g.row.S.Denot g.row.C.Denot). t.entries) c.self.view_is) c.new-row.ensures (sym whole) c.ask.ensures;
       told = refl;

@@ -1,7 +1,7 @@
 use Rattle.std.proofs.Common.{◌≡◌, ap, sym, refl, Some}
 use Rattle.tracing_core_hub.specs.Running.{item_of}
 use Rattle.tracing_core_hub.proofs.Books.{back_again, same_guard}
-use Rattle.tracing_core_hub.proofs.hub.Hub.run_reset.Goals as goal
+use Rattle.tracing_core_hub.proofs.hub.Hub.spend_guard.Goals as goal
 
 pub returns-in-Err-clause-gives : goal.returns-in-Err-clause-gives
 returns-in-Err-clause-gives g c =
