@@ -1,9 +1,9 @@
 -- Asking the stack leaves it as it was.
-use Rattle.std.proofs.Common.{◌≡◌, ◌≤◌, ℕ, ◌+◌, suc, Bool, List, [], ◌∷◌, ◌++◌, length, map, false, Option, Some, None, Ok, Vec, refl, sym, ap, ◌∙◌, subst, arith}
+use Rattle.std.proofs.Common.{◌≡◌, ◌≤◌, ℕ, ◌+◌, suc, Bool, List, [], ◌∷◌, ◌++◌, length, map, false, Option, Some, None, Ok, Err, Vec, refl, sym, ap, ◌∙◌, subst, arith}
 use Rattle.std.specs.Global.{Global}
 use Rattle.tracing_core.specs.Asking.{Each, Registers, Hints, RowAsked}
 use Rattle.tracing_core.specs.Calls.{Call, ReplyTo, CallsiteRegistered, HintAsked, DispatchRegistered}
-use Rattle.tracing_core.specs.Commands.{AddGives, Rebuilt, Registered, living, new_row}
+use Rattle.tracing_core.specs.Commands.{AddGives, Rebuilt, RegisterGives, RegisterGivesAt, Registered, kept_alike, living, new_row, row_of}
 use Rattle.tracing_core.specs.Defaults.{was_set}
 use Rattle.tracing_core.specs.Setting.TheVariants.{Unset}
 use Rattle.tracing_core.specs.Sound.{IsSound as IsSoundHub}
@@ -11,6 +11,7 @@ use Rattle.tracing_core.specs.Handles.{given_back, given_back_at}
 use Rattle.tracing_core.specs.Interests.{PlainInterest}
 use Rattle.tracing_core.specs.PlainMetadata.{PlainMetadata}
 use Rattle.tracing_core.specs.Entry.{Entry}
+use Rattle.tracing_core.specs.RegisterError.TheVariants.{Taken, OutOfMemory}
 use Rattle.tracing_core.specs.Row.{Row}
 use Rattle.tracing_core.specs.Lane.{Lane}
 use Rattle.tracing_core.specs.Subscriber.{Ghosts}
@@ -46,6 +47,35 @@ hint_same x r y moved = moved.gives.1
 pub dispatch_same : (x : StackValue) (d : Option ℕ) (y : StackValue) → StackMoves x (DispatchRegistered d) tt y → y ≡ x
 unfolding Gives
 dispatch_same x d y moved = moved.gives
+
+-- registering a callsite that isn't known
+pub taken_new : (g : Ghosts StackValue) (t u : Table StackValue Site) (site : Site) (k : PlainInterest) → row_of (ghosts.metadata_of site).callsite t.rows ≡ None → RegisterGives g ghosts t site (Ok k) u → Registered g ghosts t site k u
+taken_new g t u site k unknown given = subst (λ o. RegisterGivesAt g ghosts t site (kept_alike ghosts (ghosts.metadata_of site) o) (Ok k) u) unknown given
+
+pub never_known : (g : Ghosts StackValue) (t u : Table StackValue Site) (site back : Site) → row_of (ghosts.metadata_of site).callsite t.rows ≡ None → RegisterGives g ghosts t site (Err (Taken back)) u → ⊥
+never_known g t u site back unknown given = subst (λ o. RegisterGivesAt g ghosts t site (kept_alike ghosts (ghosts.metadata_of site) o) (Err (Taken back)) u) unknown given
+
+-- one that finds no memory
+pub out_of_memory : (g : Ghosts StackValue) (t u : Table StackValue Site) (site back : Site) → row_of (ghosts.metadata_of site).callsite t.rows ≡ None → RegisterGives g ghosts t site (Err (OutOfMemory back)) u → u ≡ t
+out_of_memory g t u site back unknown given = (subst (λ o. RegisterGivesAt g ghosts t site (kept_alike ghosts (ghosts.metadata_of site) o) (Err (OutOfMemory back)) u) unknown given).1
+
+-- with the same callsites and the same hub, all is as it was
+pub unchanged_value : (p : TraceParts) (callsites : Vec Callsite Global) (u : Table StackValue Site) → callsites.items ≡ p.callsites.items → u ≡ p.hub → value_in (record p { callsites = callsites; hub = u }) ≡ value_in p
+unchanged_value p callsites u is same =
+    let ts = map plain_thread p.threads.items in
+    ap (λ (h : Table StackValue Site). value_with (map plain_callsite callsites.items) ts (was_set h.global) p.starved (stack_of p.handle h.entries)) same
+    ∙ ap (λ (cs : List Callsite). value_with (map plain_callsite cs) ts (was_set p.hub.global) p.starved (stack_in p)) is
+
+pub unchanged_sound : (p : TraceParts) (callsites : Vec Callsite Global) (u : Table StackValue Site) → IsSound p → callsites.items ≡ p.callsites.items → u ≡ p.hub → IsSound (record p { callsites = callsites; hub = u })
+unchanged_sound p callsites u sound is same =
+    subst (λ (h : Table StackValue Site). IsSound (record p { callsites = callsites; hub = h })) (sym same)
+    (record {
+      only = sound.only;
+      lanes = sound.lanes;
+      fits = sound.fits;
+      hub = sound.hub;
+      kept = subst (λ (cs : List Callsite). KeepsCallsites (filter_here (stack_in p)) cs p.hub) (sym is) sound.kept;
+    })
 
 module _ (g : Ghosts StackValue) (means : (x : StackValue) (c : Call) (r : ReplyTo c) (y : StackValue) → g.moves x c r y → StackMoves x c r y) where
   entries_same : (m : PlainMetadata) (es fs : List (Entry StackValue)) (before after : Option PlainInterest) → Each (Registers g m) before es fs after → fs ≡ es
@@ -123,7 +153,7 @@ module _ (g : Ghosts StackValue) (means : (x : StackValue) (c : Call) (r : Reply
       let later = ap (λ (es : List (Entry StackValue)). filter_here (stack_of p.handle es)) entries ∙ filter in (
         record {
           only = subst (λ (h : Table StackValue Site). HasOnly p.handle h.global u.entries) (sym rest) (subst (λ es. HasOnly p.handle p.hub.global es) (sym entries) sound.only);
-          lanes = ap (λ (h : Table StackValue Site). length h.lanes) rest ∙ sound.lanes;
+          lanes = ap (λ (h : Table StackValue Site). h.lanes) rest ∙ sound.lanes;
           fits = subst (λ (es : List (Entry StackValue)). length (lanes_in (stack_of p.handle es)) ≤ length p.threads.items) (sym entries) sound.fits;
           hub = hub;
           kept = subst (λ (cs : List Callsite). KeepsCallsites (filter_here (stack_of p.handle u.entries)) cs u) (sym is) (subst (λ o. KeepsCallsites o (p.callsites.items ++ c ∷ []) u) (sym later) taken.0);
@@ -155,7 +185,7 @@ module _ (g : Ghosts StackValue) (means : (x : StackValue) (c : Call) (r : Reply
         owns = (last, left, gives.0, refl);
         sound = record {
           only = (last, left, gives.0, (λ unset. refl), subst (λ setting. LeadsTo setting last.serial) (sym (global ∙ before.1)) tt);
-          lanes = ap (λ (t : Table StackValue Site). length t.lanes) rebuilt.rest ∙ sound.lanes;
+          lanes = ap (λ (t : Table StackValue Site). t.lanes) rebuilt.rest ∙ sound.lanes;
           fits = subst (λ (o : Option StackValue). length (lanes_in o) ≤ length p.threads.items) (sym stack) (subst (λ (ls : List (List ℕ)). length ls ≤ length p.threads.items) (sym empty) (omega arith));
           hub = hub;
           kept = subst (λ o. KeepsCallsites o p.callsites.items u) (sym filter) kept;
@@ -176,7 +206,7 @@ module _ (g : Ghosts StackValue) (means : (x : StackValue) (c : Call) (r : Reply
   pub emptied : (p : TraceParts) (u : Table StackValue Site) → IsSound p → p.hub.global ≡ Unset → Rebuilt g ghosts (record (p.hub) { entries = [] }) u → IsSoundHub ghosts u → IsSound (record p { handle = None; hub = u })
   emptied p u sound unset w hub = record {
     only = (rebuilt_none (record (p.hub) { entries = [] }) u refl w, ap (λ (t : Table StackValue Site). t.global) w.rest ∙ unset);
-    lanes = ap (λ (t : Table StackValue Site). length t.lanes) w.rest ∙ sound.lanes;
+    lanes = ap (λ (t : Table StackValue Site). t.lanes) w.rest ∙ sound.lanes;
     fits = omega arith;
     hub = hub;
     kept = rebuilt_keeps g means hint (row_same g means ghosts) (record (p.hub) { entries = [] }) u p.callsites.items tt w sound.kept.numbers sound.kept.metadata;

@@ -100,7 +100,7 @@ module _ (p : TraceParts) (u : Table StackValue Site) (dispatch : Option ℕ) (h
       let filter = ap filter_here (stack_after y stands) ∙ ap (λ (s : Setting). Some s.filter) same ∙ sym (ap filter_here (stack_before x stood)) in
       record {
         only = subst (λ h. HasOnly h u.global u.entries) (sym handle) (subst (λ (t : Table StackValue Site). HasOnly (Some dispatch) t.global u.entries) (sym rest) only);
-        lanes = ap (λ (t : Table StackValue Site). length t.lanes) rest ∙ sound.lanes;
+        lanes = ap (λ (t : Table StackValue Site). t.lanes) rest ∙ sound.lanes;
         fits = subst (λ (o : Option StackValue). length (Rattle.span_tracing.specs.Skeletons.lanes_in o) ≤ length p.threads.items) (sym (stack_after y stands)) fits;
         hub = hub_alike p.hub u rest (same_serials dispatch p.hub.global p.hub.global p.hub.entries u.entries has_only only) sound.hub;
         kept =

@@ -1,12 +1,15 @@
 -- What it means for a request that it isn't refused.
 use Rattle.std.proofs.Common.{◌≡◌, ℕ, ◌<◌, ◌≤◌, ◌==◌, ◌&&◌, Bool, true, false, not, List, length, Option, Some, None, refl, ap, arith}
 use Rattle.std.specs.Prelude.{nat_le, nat_lt}
-use Rattle.std.specs.Option.{option_map}
+use Rattle.std.specs.Option.{is_some, option_map}
 use Rattle.std.proofs.lemmas.Bool.Decides.{nat_tests}
-use Rattle.span_tracing_machine.specs.PlainData.{Request, GlobalStep, EventStep, SpanStep}
+use Rattle.span_tracing_machine.specs.PlainData.{Request, GlobalStep, EventStep, EnabledStep, SpanStep}
+use Rattle.span_tracing_machine.specs.declared.call.EnabledCall.{EnabledCall}
+use Rattle.span_tracing_machine.specs.declared.call.Parent.{Parent}
 use Rattle.span_tracing_machine.specs.declared.call.SpanCall.{SpanCall}
+use Rattle.tracing_appender_rolling.specs.declared.moment.Moment.{Moment}
 use Rattle.span_tracing_machine.specs.declared.refusal.Refusal.TheVariants.{UnknownLane, IdsSpent, GlobalSet, UnknownStack}
-use Rattle.span_tracing_machine.specs.Machine.{when, knows_stack, refusal_of, parent_refusal, request_refusal, made_at, call_refusal, callsite_refusal, known_place, lane_refusal, moment_refusal}
+use Rattle.span_tracing_machine.specs.Machine.{when, knows_stack, refusal_of, ids_refusal, parent_refusal, request_refusal, made_at, call_refusal, callsite_refusal, known_place, lane_refusal, moment_refusal}
 use Rattle.span_tracing_machine.specs.Skeleton.{Skeleton, Mask}
 use Rattle.span_tracing_machine.specs.State.{PlainText, event_line, handed_at, offer_of}
 use Rattle.span_tracing_machine.proofs.Refusing.{first_none, none_when, second_none}
@@ -43,6 +46,35 @@ not_beyond count lane h = by_test (nat_le count lane) refl h
 
 pub call_lane : (p : TraceParts) (call : SpanCall) → IsSound p → call_refusal (skeleton_of (value_in p)) call ≡ None → call.lane < length p.threads.items
 call_lane p call sound h = let inside = not_beyond (length (skeleton_of (value_in p)).lanes) call.lane (first_none (lane_refusal (skeleton_of (value_in p)) call.lane) _ h) in let same = lanes_count p sound in omega (arith, inside, same)
+
+pub none_there : {A : Type 0} (o : Option A) → is_some o ≡ false → o ≡ None
+none_there None h = refl
+none_there (Some x) h = absurd (cc)
+
+pub request_lane : (p : TraceParts) (lane : ℕ) (moment : Moment) (number : ℕ) (is_span : Bool) (parent : Parent) → IsSound p → request_refusal (skeleton_of (value_in p)) lane moment number is_span parent ≡ None → lane < length p.threads.items
+request_lane p lane moment number is_span parent sound h = let inside = not_beyond (length (skeleton_of (value_in p)).lanes) lane (first_none (lane_refusal (skeleton_of (value_in p)) lane) _ h) in let same = lanes_count p sound in omega (arith, inside, same)
+
+-- the lane of a request that isn't refused was given
+pub event_lane : (p : TraceParts) (e : Request) (mask : Mask) → IsSound p → refusal_of (skeleton_of (value_in p)) (EventStep e) mask ≡ None → e.lane < length p.threads.items
+unfolding refusal_of
+event_lane p e mask sound h = request_lane p e.lane e.moment e.callsite false e.parent sound h
+
+pub span_lane : (p : TraceParts) (n : Request) (mask : Mask) → IsSound p → refusal_of (skeleton_of (value_in p)) (SpanStep n) mask ≡ None → n.lane < length p.threads.items
+unfolding refusal_of
+span_lane p n mask sound h = request_lane p n.lane n.moment n.callsite true n.parent sound (first_none (request_refusal (skeleton_of (value_in p)) n.lane n.moment n.callsite true n.parent) _ h)
+
+pub asked_lane : (p : TraceParts) (call : EnabledCall) (mask : Mask) → IsSound p → refusal_of (skeleton_of (value_in p)) (EnabledStep call) mask ≡ None → call.lane < length p.threads.items
+unfolding refusal_of
+asked_lane p call mask sound h = let inside = not_beyond (length (skeleton_of (value_in p)).lanes) call.lane (first_none (lane_refusal (skeleton_of (value_in p)) call.lane) _ h) in let same = lanes_count p sound in omega (arith, inside, same)
+
+-- while ids are left, none is refused for want of one
+pub ids_left : (s : Skeleton) (place : Option ℕ) → s.next_id ≤ 18446744073709551615 → ids_refusal s place ≡ None
+ids_left s None left = refl
+ids_left s (Some place) left = by_test (nat_lt 18446744073709551615 s.next_id) refl
+  where
+    by_test : (b : Bool) → nat_lt 18446744073709551615 s.next_id ≡ b → when b IdsSpent ≡ None
+    by_test true e = absurd (grind (arith, nat_tests))
+    by_test false e = refl
 
 -- the line that an event offers where it is made
 pub offered : (s : Skeleton) (texts : List PlainText) (time : Option (List ℕ)) (e : Request) (mask : Mask) (place : ℕ) → made_at s e.callsite false mask ≡ Some place → offer_of s texts time (EventStep e) mask ≡ Some (handed_at e.moment (event_line s texts time e place))

@@ -1,6 +1,8 @@
 -- What is true of the parts of each trace.
-use Rattle.std.specs.Prelude.{◌≡◌, ◌≤◌, ℕ, List, [], ◌∷◌, length, map, Option, Some, None, unwrap_or}
+use Rattle.std.specs.Prelude.{◌≡◌, ◌≤◌, ℕ, List, [], ◌∷◌, length, map, replicate, Option, Some, None, unwrap_or}
 use Rattle.tracing_core.specs.Entry.{Entry}
+use Rattle.tracing_core.specs.Lane.{Lane}
+use Rattle.tracing_core.specs.Lane.TheVariants.{Running}
 use Rattle.tracing_core.specs.Row.{Row}
 use Rattle.tracing_core.specs.Setting.{Setting}
 use Rattle.tracing_core.specs.Setting.TheVariants.{Unset, Nothing, To}
@@ -35,7 +37,8 @@ pub record KeepsCallsites (filter : Option ℕ) (callsites : List Callsite) (hub
 
 pub record IsSound (p : TraceParts) : Type 0 where
   pub only : HasOnly p.handle p.hub.global p.hub.entries
-  pub lanes : length p.hub.lanes ≡ length p.threads.items
+  -- no lane has a default of its own
+  pub lanes : p.hub.lanes ≡ replicate (length p.threads.items) (Running Unset)
   pub fits : length (lanes_in (stack_in p)) ≤ length p.threads.items
   pub hub : IsSoundHub ghosts p.hub
   pub kept : KeepsCallsites (filter_here (stack_in p)) p.callsites.items p.hub

@@ -188,8 +188,9 @@ impl TraceParts {
 
     /// Whether the hub lets requests at a callsite through.
     fn is_let_through(&mut self, lane: usize, moment: Moment, number: u64) -> bool
-        requires { IsSound self.old }
-        ensures answer { result ≡ is_made (mask_at (filter_in (setting_of (value_in self.old))) (callsite_named (map plain_callsite self.old.callsites.items) number)) }
+        requires sound { IsSound self.old }
+        requires lane { lane < length self.old.threads.items }
+        ensures answer { result ≡ is_made (mask_asked (skeleton_of (value_in self.old)) (filter_in (setting_of (value_in self.old))) number) }
         ensures kept { self.new ≡ self.old }
     {
         let answer = self.hub.gate(Identifier(number), at_of(lane, moment));
@@ -205,15 +206,13 @@ impl TraceParts {
         number: u64,
         is_span: bool,
     ) -> Option<usize>
-        requires { IsSound self.old }
+        requires sound { IsSound self.old }
+        requires lane { lane < length self.old.threads.items }
         ensures within { IfSome result (λ place. place < length self.old.callsites.items) }
         ensures passed { IfSome result (λ place. is_made (mask_at (filter_in (setting_of (value_in self.old))) (slice_get (map plain_callsite self.old.callsites.items) place)) ≡ true) }
         ensures value { result ≡ made_at (skeleton_of (value_in self.old)) number is_span (mask_for (skeleton_of (value_in self.old)) (filter_in (setting_of (value_in self.old))) number is_span) }
         ensures kept { self.new ≡ self.old }
     {
-        if !self.hub.has_been_set() {
-            return None;
-        }
         match known_place(self.callsites.as_slice(), number, is_span) {
             None => None,
             Some(place) => {
@@ -228,29 +227,30 @@ impl TraceParts {
 
     /// Whether a request at a callsite of any kind would be made.
     pub(crate) fn is_enabled(&mut self, call: &EnabledCall) -> bool
-        requires { IsSound self.old }
+        requires sound { IsSound self.old }
+        requires lane { call.now.lane < length self.old.threads.items }
         ensures answer { result ≡ is_made (mask_asked (skeleton_of (value_in self.old)) (filter_in (setting_of (value_in self.old))) call.now.callsite.0) }
         ensures kept { self.new ≡ self.old }
     {
-        if !self.hub.has_been_set() {
-            return false;
-        }
         self.is_let_through(call.lane, call.moment, call.callsite.0)
     }
 
+    // The hub is asked only where no id is left, since then alone it matters whether the span would be made.
     fn ids_refusal(&mut self, span: &Request<'_>) -> Option<Refusal>
-        requires { IsSound self.old }
+        requires sound { IsSound self.old }
+        requires lane { span.now.lane < length self.old.threads.items }
         ensures value { result ≡ ids_refusal (skeleton_of (value_in self.old)) (made_at (skeleton_of (value_in self.old)) span.now.callsite true (mask_for (skeleton_of (value_in self.old)) (filter_in (setting_of (value_in self.old))) span.now.callsite true)) }
         ensures kept { self.new ≡ self.old }
     {
-        self.made_at(span.lane, span.moment, span.callsite, true)?;
-        match self.coming_id() {
-            None => Some(Refusal::IdsSpent),
-            Some(_) => None,
+        if self.coming_id().is_some() {
+            return None;
         }
+        self.made_at(span.lane, span.moment, span.callsite, true)?;
+        Some(Refusal::IdsSpent)
     }
 
-    /// The first refusal that a step meets.
+    /// The first refusal that a step meets. It is found by reading, but for spent ids: only a span that is
+    /// made meets those.
     #[tactic(auto, unfolding(span_tracing_machine::specs::Machine::refusal_of, span_tracing_machine::specs::State::step_mask))]
     pub(crate) fn refusal(&mut self, action: &Action<'_>) -> Option<Refusal>
         requires { IsSound self.old }

@@ -12,7 +12,7 @@ use crate::checks::place_of;
 use crate::parts::{Thread, TraceParts};
 use crate::site::Site;
 use std::alloc::AllocError;
-use tracing_core::{Identifier, Interest, Metadata};
+use tracing_core::{Identifier, Interest, Metadata, RegisterError};
 
 impl TraceParts {
     ghost use Rattle.span_tracing.specs.Sound.{IsSound};
@@ -40,7 +40,8 @@ impl TraceParts {
         number: u64,
         metadata: &Metadata<'_>,
     ) -> Result<Interest, AllocError>
-        requires { IsSound self.old }
+        requires sound { IsSound self.old }
+        requires unknown { callsite_named (skeleton_of (value_in self.old)).callsites number ≡ None }
         ensures sound { IsSound self.new }
         ensures interest { IfOk result (λ interest. interest ≡ interest_in (value_in self.old) (plain_metadata metadata.now).level) }
         ensures ok { OnOk result (value_in self.new ≡ record (value_in self.old) { skeleton = record (skeleton_of (value_in self.old)) { callsites = (skeleton_of (value_in self.old)).callsites ++ (record { number = number; metadata = plain_metadata metadata.now }) ∷ [] } }) }
@@ -58,8 +59,9 @@ impl TraceParts {
                 self.callsites.push_reserved(callsite);
                 Ok(interest)
             }
+            Err(RegisterError::OutOfMemory(_)) => Err(AllocError),
             // The hub knows no identifier that the trace doesn't.
-            Err(_) => Err(AllocError),
+            Err(RegisterError::Taken(_)) => unreachable!(),
         }
     }
 

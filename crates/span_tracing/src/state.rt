@@ -105,6 +105,7 @@ impl TraceState {
         number: u64,
         metadata: &Metadata<'_>,
     ) -> Result<Interest, AllocError>
+        requires { callsite_named (skeleton_of self.old).callsites number ≡ None }
         ensures interest { IfOk result (λ interest. interest ≡ interest_in self.old (plain_metadata metadata.now).level) }
         ensures ok { OnOk result (self.new ≡ record self.old { skeleton = record (skeleton_of self.old) { callsites = (skeleton_of self.old).callsites ++ (record { number = number; metadata = plain_metadata metadata.now }) ∷ [] } }) }
         ensures err { OnErr result (self.new ≡ self.old) }
@@ -171,6 +172,7 @@ impl TraceState {
 
     /// A question that is not refused; answers whether a request would be made.
     pub(crate) fn enabled(&mut self, call: &EnabledCall) -> bool
+        requires { refusal_of (skeleton_of self.old) (EnabledStep call.now) (mask_in self.old (EnabledStep call.now)) ≡ None }
         ensures answer { Reply.Enabled result ≡ answered (skeleton_of self.old) (EnabledStep call.now) (mask_in self.old (EnabledStep call.now)) }
         ensures acted { Acted self.old self.old (EnabledStep call.now) Fate.Whole }
         ensures kept { self.new ≡ self.old }

@@ -75,7 +75,8 @@ impl TraceParts {
     /// A question; answers whether a request would be made.
     #[tactic(auto, unfolding(span_tracing_machine::specs::Machine::acted, span_tracing_machine::specs::Machine::answered, span_tracing_machine::specs::Missed::wanted, crate::specs::Stored::texts_acted, span_tracing_machine::specs::State::step_mask, span_tracing_machine::specs::State::offer_of))]
     pub(crate) fn enabled(&mut self, call: &EnabledCall) -> bool
-        requires { IsSound self.old }
+        requires sound { IsSound self.old }
+        requires unrefused { refusal_of (skeleton_of (value_in self.old)) (EnabledStep call.now) (mask_in (value_in self.old) (EnabledStep call.now)) ≡ None }
         ensures answer { Reply.Enabled result ≡ answered (skeleton_of (value_in self.old)) (EnabledStep call.now) (mask_in (value_in self.old) (EnabledStep call.now)) }
         ensures acted { Acted (value_in self.old) (value_in self.old) (EnabledStep call.now) Fate.Whole }
         ensures kept { self.new ≡ self.old }

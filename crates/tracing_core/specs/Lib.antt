@@ -58,6 +58,7 @@ pub use Rattle.tracing_core_hub.specs.declared.refusal.RequestError
 pub use Rattle.tracing_core_hub.specs.declared.hub.parts.Entry
 pub use Rattle.tracing_core_hub.specs.declared.hub.parts.Row
 pub use Rattle.tracing_core_hub.specs.declared.hub.parts.Setting
+pub use Rattle.tracing_core_hub.specs.declared.refusal.RegisterError
 pub use Rattle.tracing_core_hub.specs.declared.hub.parts.Lane
 pub use Rattle.tracing_core_hub.specs.declared.subscriber.Subscriber
 pub use Rattle.tracing_core_hub.specs.declared.callsite.Callsite

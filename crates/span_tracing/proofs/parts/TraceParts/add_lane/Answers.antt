@@ -1,11 +1,17 @@
-use Rattle.std.proofs.Common.{arith, ap, ◌∙◌, ◌++◌, ◌∷◌, []}
+use Rattle.std.proofs.Common.{arith, ap, length, ◌∙◌, ◌++◌, ◌∷◌, []}
+use Rattle.std.proofs.lemmas.List.{length-replicate}
+use Rattle.tracing_core.specs.Lane.TheVariants.{Running}
+use Rattle.tracing_core.specs.Setting.TheVariants.{Unset}
 use Rattle.span_tracing.specs.declared.parts.Thread.{Thread}
 use Rattle.span_tracing.proofs.Asked.{lane_more}
 use Rattle.span_tracing.proofs.Padded.{lanes_count}
 use Rattle.span_tracing.proofs.parts.TraceParts.add_lane.Goals as goal
 
 pub returns-clause-number : goal.returns-clause-number
-returns-clause-number c = let same = lanes_count c.args.self.now c.requires in omega (arith, same, c.in_ok-lane.ensures.number, c.requires.lanes)
+returns-clause-number c = 
+    let same = lanes_count c.args.self.now c.requires in
+    let lanes = ap length c.requires.lanes ∙ length-replicate (length c.args.self.now.threads.items) (Running Unset) in
+    omega (arith, same, c.in_ok-lane.ensures.number, lanes)
 
 pub returns-clause-ok : goal.returns-clause-ok
 returns-clause-ok c =

@@ -7,8 +7,14 @@ use Rattle.span_tracing_machine.proofs.Refusing.{moment_fits}
 use Rattle.span_tracing.specs.Actions.{plain_request}
 use Rattle.span_tracing.specs.Skeletons.{setting_of, skeleton_of, time_in, value_in}
 use Rattle.span_tracing.specs.Stored.{TakesLines, mask_in}
-use Rattle.span_tracing.proofs.Unrefused.{event_parent, offered}
+use Rattle.span_tracing.proofs.Unrefused.{event_lane, event_parent, offered}
 use Rattle.span_tracing.proofs.parts.TraceParts.event.Goals as goal
+
+pub made_at-requires-clause-lane : goal.made_at-requires-clause-lane
+made_at-requires-clause-lane g c =
+    let v = value_in c.args.self.now in
+    let e = plain_request c.args.event.now in
+    event_lane c.args.self.now e (mask_in v (EventStep e)) c.requires.sound c.requires.unrefused
 
 pub tell-requires-clause-parent : goal.tell-requires-clause-parent
 tell-requires-clause-parent g c =
