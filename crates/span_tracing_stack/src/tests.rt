@@ -5,6 +5,7 @@ mod handles;
 mod ids;
 mod lines;
 mod place;
+mod serving;
 mod words;
 
 use crate::{Fields, LineFormat, OutputKey, Setting, Stack, Timer};

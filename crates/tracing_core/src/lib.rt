@@ -18,4 +18,4 @@ pub use tracing_core_hub::{
 pub use tracing_core_values::{DebugValue, DisplayValue, Empty, Value, debug, display};
 
 #[cfg(test)]
-mod tests;
+mod surface_tracing_core;

@@ -1,5 +1,5 @@
 // A list of commands, with a reply each.
-use crate::tests::place::Place;
+use crate::surface_tracing_core::place::Place;
 use crate::{At, Book, Command, CommandReply, Hub, Identifier, NoSubscriber};
 use std::alloc::{AllocError, Global};
 use std::test::Fail;

@@ -6,3 +6,5 @@ mod lines;
 mod place;
 mod requests;
 mod run;
+mod serving;
+mod texts;

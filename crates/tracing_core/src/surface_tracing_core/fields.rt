@@ -1,5 +1,5 @@
 // Levels, metadata, fields and values.
-use crate::tests::lines::Counted;
+use crate::surface_tracing_core::lines::Counted;
 use crate::{
     AnyValue, DebugText, Empty, ErrorText, FieldSet, Identifier, Interest, Kind, Level,
     LevelFilter, Metadata, Value, Visit, debug, display, filters_read_their_names,

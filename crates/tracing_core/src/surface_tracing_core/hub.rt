@@ -1,5 +1,5 @@
 // A hub, at one kind of subscriber and at boxes of any.
-use crate::tests::place::Place;
+use crate::surface_tracing_core::place::Place;
 use crate::{
     At, Attributes, Callsite, CurrentSpan, DefaultCallsite, Dispatch, Event, FieldSet, Hub, Id,
     Identifier, Interest, Kind, Level, LevelFilter, Metadata, NoSubscriber, Record,
@@ -35,8 +35,9 @@ fn surface_hub_tables(rt: HostRuntime) -> Result<(), Fail> {
     let first = hub.add(NoSubscriber::new()).ok().ok_or("memory")?;
     let told = hub.register(Place::new(3)).ok().ok_or("memory")?;
     let again = hub.register(Place::new(3)).ok().ok_or("memory")?;
-    assert!(rt; told.is_never() && again.is_never() && hub.gate(Identifier(3), moment(lane)) == Some(false));
-    assert!(rt; hub.reached(lane).serial().is_none());
+    assert!(rt;
+        told.is_never() && again.is_never() && hub.gate(Identifier(3), moment(lane)) == Some(false)
+    );
     hub.rebuild_interest_cache();
     hub.refresh();
     assert!(rt; hub.max_level() == LevelFilter::TRACE);
@@ -114,6 +115,8 @@ fn surface_hub_lanes(rt: HostRuntime) -> Result<(), Fail> {
     let first = hub.add(none).ok().ok_or("memory")?;
     assert!(rt; hub.register(Place::new(3)).is_ok());
     assert!(rt; hub.set_default(lane, &first).is_ok());
+    let reached = hub.reached(lane);
+    assert!(rt; hub.upgrade(&reached)?.is_some());
     assert!(rt; !hub.enabled_here(&metadata, moment(lane)));
     assert_eq!(rt; hub.gate(Identifier(3), moment(lane)), Some(false));
     hub.event_here(&Event::new(&metadata, values), moment(lane))?;

@@ -1,5 +1,5 @@
 // What is handed to a subscriber.
-use crate::tests::lines::Counted;
+use crate::surface_tracing_core::lines::Counted;
 use crate::{
     AnyValue, Attributes, Current, Event, FieldSet, Id, Identifier, Kind, Level, Metadata, Record,
     metadata,
