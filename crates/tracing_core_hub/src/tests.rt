@@ -46,7 +46,7 @@ fn two_subscribers_differ(rt: HostRuntime) -> Result<(), Fail> {
         .ok()
         .ok_or("a hub")?;
     assert_eq!(rt; hub.interest(Identifier(3)), Some(Interest::always()));
-    assert_eq!(rt; hub.gate(Identifier(3), at(lane)), Some(true));
+    assert_eq!(rt; hub.gate(Identifier(3), at(lane)), Some(false));
     let second = hub
         .add(Everything::new(2, Interest::never()))
         .ok()
