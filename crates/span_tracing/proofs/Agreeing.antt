@@ -7,7 +7,7 @@ use Rattle.tracing_appender_rolling.specs.Sinks.{Handed, PlainSink}
 use Rattle.span_tracing_machine.specs.declared.fate.Fate.{Fate}
 use Rattle.span_tracing_machine.specs.declared.refusal.Refusal.{Refusal}
 use Rattle.span_tracing_machine.specs.declared.call.Reply.{Reply}
-use Rattle.span_tracing_machine.specs.PlainData.{Request, PlainStep, GlobalStep, EventStep, EnabledStep, SpanStep, EnterStep, ExitStep, CloseStep}
+use Rattle.span_tracing_machine.specs.PlainData.{Request, PlainStep, GlobalStep, EventStep, EnabledStep, SpanStep, FollowsFromStep, EnterStep, ExitStep, CloneStep, CloseStep}
 use Rattle.span_tracing_machine.specs.Skeleton.{Skeleton, Mask}
 use Rattle.span_tracing_machine.specs.Machine.{refusal_of, reply_of, acted, after, or_same, made_at}
 use Rattle.span_tracing_machine.specs.Missed.{handed_lines, starved_by, count_missed, wants_of}
@@ -29,8 +29,10 @@ texts_kept s lists (GlobalStep h) mask fate = refl
 texts_kept s lists (EventStep e) mask fate = refl
 texts_kept s lists (EnabledStep call) mask fate = refl
 texts_kept s lists (SpanStep n) mask fate = text_made lists s n fate (made_at s n.callsite Rattle.std.proofs.Common.true mask)
+texts_kept s lists (FollowsFromStep call) mask fate = refl
 texts_kept s lists (EnterStep call) mask fate = refl
 texts_kept s lists (ExitStep call) mask fate = sym (lists_left_plain call.span (acted s (ExitStep call) mask).spans lists)
+texts_kept s lists (CloneStep call) mask fate = refl
 texts_kept s lists (CloseStep call) mask fate = sym (lists_left_plain call.span (acted s (CloseStep call) mask).spans lists)
 
 -- what a setting says of an output

@@ -4,7 +4,7 @@ use Rattle.std.specs.Prelude.{slice_get, ◌+◌}
 use Rattle.std.specs.Option.{option_map}
 use Rattle.std.proofs.lemmas.Option.{slice_get-get_or}
 use Rattle.tracing_core.specs.At.{At}
-use Rattle.tracing_core.specs.Calls.{SpanMade, Told, Entered, Exited, CloseTried}
+use Rattle.tracing_core.specs.Calls.{SpanMade, FollowsRecorded, Told, Entered, Exited, Cloned, CloseTried}
 use Rattle.tracing_core.specs.Defaults.{was_set}
 use Rattle.tracing_core.specs.Handing.{HubGives}
 use Rattle.tracing_core.specs.RequestError.{RequestError}
@@ -16,15 +16,15 @@ use Rattle.span_tracing_machine.specs.declared.fate.Fate.{Fate}
 use Rattle.span_tracing_machine.specs.declared.record.SpanRecord.{SpanRecord}
 use Rattle.span_tracing_machine.specs.FieldTexts.{fields_text}
 use Rattle.span_tracing_machine.specs.Missed.{given_by}
-use Rattle.span_tracing_machine.specs.Machine.{is_made, parent_refusal, lane_at, one_less, parent_id}
+use Rattle.span_tracing_machine.specs.Machine.{is_made, parent_refusal, lane_at, one_less, one_more, parent_id}
 use Rattle.span_tracing_machine.specs.Skeleton.{PlainCallsite}
-use Rattle.span_tracing_machine.specs.Spans.{is_open, open_of, without_last}
+use Rattle.span_tracing_machine.specs.Spans.{handles_of, is_open, open_of, without_last}
 use Rattle.span_tracing_machine.specs.State.{mask_at, event_line, name_of, fields_of}
 use Rattle.span_tracing_stack.specs.Lanes.{padded, pushed, removed}
-use Rattle.span_tracing_stack.specs.Moves.{Gives, StackMoves, SpanGives, EventGives, EntryGives, quiet}
+use Rattle.span_tracing_stack.specs.Moves.{Gives, StackMoves, SpanGives, EventGives, EntryGives, CloneGives, quiet}
 use Rattle.span_tracing_stack.specs.Stacks.{StackValue, Quiet, passes, knows_parent, line_told, span_text, with_span, with_exit, with_less}
 use Rattle.span_tracing.specs.Actions.{plain_request}
-use Rattle.span_tracing.specs.Left.{TellsEvent, MakesSpan, LeavesParts, with_made, with_entry, without_entry, without_one}
+use Rattle.span_tracing.specs.Left.{TellsEvent, MakesSpan, LeavesParts, with_made, with_entry, with_one, without_entry, without_one}
 use Rattle.span_tracing.specs.Skeletons.{StateValue, PlainThread, plain_callsite, plain_thread, stack_in, stack_of, skeleton_of, setting_of, filter_in, skeleton_with, value_with, value_in, spans_in, lanes_in, told_in}
 use Rattle.span_tracing.specs.Stored.{open_texts}
 use Rattle.span_tracing.specs.Sound.{IsSound}
@@ -222,6 +222,44 @@ module _ (g : Ghosts StackValue) (means : (x : StackValue) (c : Call) (r : Reply
             ∙ ap (λ (ss : List SpanRecord). shape (padded count gone) ss) (sym (open_padded count gone x.spans))
             ∙ ap (λ (ls : List (List ℕ)). shape ls (open_of ls x.spans)) (removed_padded count x.lanes lane id)
             ∙ ap (λ (v : StateValue). without_entry v lane id) (sym old),
+      )
+
+  -- a handle that is taken
+  clone_given : (x y : StackValue) (id : ℕ) (r : Result ℕ RequestError) → CloneGives x id r y → is_open x.spans id ≡ true → ¬ (handles_of x.spans id ≡ 18446744073709551615) → y ≡ record x { spans = one_more x.spans id; told = Quiet }
+  clone_given x y id (Ok same) g there fewer = g.2
+  clone_given x y id (Err OutOfMemory) g there fewer = absurd g
+  clone_given x y id (Err UnknownSpan) g there fewer = absurd (let e : false ≡ true = sym g.0 ∙ there in cc)
+  clone_given x y id (Err UnknownParent) g there fewer = absurd g
+  clone_given x y id (Err IdsSpent) g there fewer = absurd g
+  clone_given x y id (Err TooManyHandles) g there fewer = absurd (fewer g.1)
+
+  fewer_before : (rest : Rest) (x : StackValue) (id : ℕ) → stack_of (Some dispatch) p.hub.entries ≡ Some x → ¬ (handles_of (spans_in (stack_in p)) id ≡ 18446744073709551615) → ¬ (handles_of x.spans id ≡ 18446744073709551615)
+  fewer_before rest x id stood fewer = subst (λ (o : Option StackValue). ¬ (handles_of (spans_in o) id ≡ 18446744073709551615)) (stack_before p u dispatch handle sound rest x stood) fewer
+
+  pub clones : (id : ℕ) (at : At) (r : Result ℕ RequestError) → HubGives g (Cloned id at) dispatch p.hub r u → is_open (spans_in (stack_in p)) id ≡ true → ¬ (handles_of (spans_in (stack_in p)) id ≡ 18446744073709551615) → IsSound new × (value_in new ≡ with_one (value_in p) id)
+  unfolding Gives
+  clones id at r gives there fewer =
+      let rest = gives.1 in
+      let one = the_call (Cloned id at) r gives in
+      let x = one.before in
+      let y = one.after in
+      let same = clone_given x y id r one.moved.gives (there_before rest x id one.stood there) (fewer_before rest x id one.stood fewer) in (
+        sound_after p u dispatch handle sound rest x y one.stood one.stands one.moved.setting one.only (subst (λ (v : StackValue). length v.lanes ≤ length p.threads.items) (sym same) (fits_before p u dispatch handle sound rest x one.stood)),
+        value_after p u dispatch handle sound rest y one.stands ∙ ap (λ (v : StackValue). over rest (Some v)) same
+            ∙ ap (λ (v : StateValue). with_one v id) (sym (value_before p u dispatch handle sound rest x one.stood)),
+      )
+
+  -- what a span follows from
+  pub follows : (id other : ℕ) (at : At) (r : Result (Unit {0}) RequestError) → HubGives g (FollowsRecorded id other at) dispatch p.hub r u → LeavesParts p new
+  unfolding Gives
+  follows id other at r gives =
+      let rest = gives.1 in
+      let one = the_call (FollowsRecorded id other at) r gives in
+      let x = one.before in
+      let y = one.after in
+      let same = one.moved.gives.1 in (
+        sound_after p u dispatch handle sound rest x y one.stood one.stands one.moved.setting one.only (subst (λ (v : StackValue). length v.lanes ≤ length p.threads.items) (sym same) (fits_before p u dispatch handle sound rest x one.stood)),
+        value_after p u dispatch handle sound rest y one.stands ∙ ap (λ (v : StackValue). over rest (Some v)) same ∙ sym (value_before p u dispatch handle sound rest x one.stood),
       )
 
   -- a handle that is given up

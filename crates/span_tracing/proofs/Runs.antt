@@ -8,7 +8,7 @@ use Rattle.tracing_appender_rolling.specs.Sinks.{Handed}
 use Rattle.span_tracing_machine.specs.declared.call.Step.{Step}
 use Rattle.span_tracing_machine.specs.declared.call.Reply.{Reply}
 use Rattle.span_tracing_machine.specs.declared.call.Reply.TheVariants.{Done, Enabled, Span, Closed, Refused}
-use Rattle.span_tracing_machine.specs.declared.refusal.Refusal.TheVariants.{UnknownCallsite, UnknownStack, UnknownSpan, ForeignParent, NoOutput, BadName, FolderRefused, BadMoment, OutOfMemory, BadRoute, UnknownLane, GlobalSet, Taken, IdsSpent}
+use Rattle.span_tracing_machine.specs.declared.refusal.Refusal.TheVariants.{UnknownCallsite, UnknownStack, UnknownSpan, ForeignParent, NoOutput, BadName, FolderRefused, BadMoment, OutOfMemory, BadRoute, UnknownLane, GlobalSet, Taken, TooManyHandles, IdsSpent}
 use Rattle.span_tracing_machine.specs.declared.fate.Fate.{Fate}
 use Rattle.span_tracing_machine.specs.declared.refusal.Refusal.{Refusal}
 use Rattle.span_tracing_machine.specs.PlainData.{PlainStep, plain_step, plain_steps}
@@ -250,6 +250,7 @@ memory_is (Refused BadRoute) e = cc
 memory_is (Refused UnknownLane) e = cc
 memory_is (Refused GlobalSet) e = cc
 memory_is (Refused Taken) e = cc
+memory_is (Refused TooManyHandles) e = cc
 memory_is (Refused IdsSpent) e = cc
 
 not_memory : (r : Reply) → is_memory r ≡ false → r ≢ Refused OutOfMemory

@@ -1,15 +1,18 @@
 -- What it means for a request that it isn't refused.
-use Rattle.std.proofs.Common.{◌≡◌, ℕ, ◌<◌, ◌≤◌, ◌==◌, ◌&&◌, Bool, true, false, not, List, length, Option, Some, None, refl, ap, arith}
+use Rattle.std.proofs.Common.{◌≡◌, ℕ, ◌<◌, ◌≤◌, ◌==◌, ◌&&◌, Bool, true, false, not, List, [], length, Option, Some, None, refl, sym, ◌∙◌, ap, arith}
 use Rattle.std.specs.Prelude.{nat_le, nat_lt}
 use Rattle.std.specs.Option.{is_some, option_map}
 use Rattle.std.proofs.lemmas.Bool.Decides.{nat_tests}
-use Rattle.span_tracing_machine.specs.PlainData.{Request, GlobalStep, EventStep, EnabledStep, SpanStep}
+use Rattle.std.specs.Cmp.{unsigned_Decides}
+use Rattle.span_tracing_machine.specs.PlainData.{Request, GlobalStep, EventStep, EnabledStep, SpanStep, CloneStep}
 use Rattle.span_tracing_machine.specs.declared.call.EnabledCall.{EnabledCall}
 use Rattle.span_tracing_machine.specs.declared.call.Parent.{Parent}
 use Rattle.span_tracing_machine.specs.declared.call.SpanCall.{SpanCall}
+use Rattle.span_tracing_machine.specs.declared.call.SpanName.{SpanName}
+use Rattle.span_tracing_machine.specs.Spans.{handles_of, is_open}
 use Rattle.tracing_appender_rolling.specs.declared.moment.Moment.{Moment}
-use Rattle.span_tracing_machine.specs.declared.refusal.Refusal.TheVariants.{UnknownLane, IdsSpent, GlobalSet, UnknownStack}
-use Rattle.span_tracing_machine.specs.Machine.{when, knows_stack, refusal_of, ids_refusal, parent_refusal, request_refusal, made_at, call_refusal, callsite_refusal, known_place, lane_refusal, moment_refusal}
+use Rattle.span_tracing_machine.specs.declared.refusal.Refusal.TheVariants.{UnknownLane, UnknownSpan, IdsSpent, TooManyHandles, GlobalSet, UnknownStack}
+use Rattle.span_tracing_machine.specs.Machine.{when, count_refusal, span_refusal, knows_stack, refusal_of, ids_refusal, parent_refusal, request_refusal, made_at, call_refusal, callsite_refusal, known_place, lane_refusal, moment_refusal}
 use Rattle.span_tracing_machine.specs.Skeleton.{Skeleton, Mask}
 use Rattle.span_tracing_machine.specs.State.{PlainText, event_line, handed_at, offer_of}
 use Rattle.span_tracing_machine.proofs.Refusing.{first_none, none_when, second_none}
@@ -75,6 +78,24 @@ ids_left s (Some place) left = by_test (nat_lt 18446744073709551615 s.next_id) r
     by_test : (b : Bool) → nat_lt 18446744073709551615 s.next_id ≡ b → when b IdsSpent ≡ None
     by_test true e = absurd (grind (arith, nat_tests))
     by_test false e = refl
+
+-- the span of a call that isn't refused is open
+pub clone_there : (s : Skeleton) (call : SpanCall) (name : SpanName) → refusal_of s (CloneStep call) [] ≡ None → call.span ≡ Some name → (is_open s.spans name.id ≡ true) × ¬ (handles_of s.spans name.id ≡ 18446744073709551615)
+unfolding refusal_of
+clone_there s call name h is =
+    let whole = first_none (call_refusal s call) (count_refusal s call.span) h in
+    let on_span : span_refusal s (Some name) ≡ None = ap (span_refusal s) (sym is) ∙ second_none (moment_refusal call.moment) _ (second_none (lane_refusal s call.lane) _ whole) in
+    let counted : count_refusal s (Some name) ≡ None = ap (count_refusal s) (sym is) ∙ second_none (call_refusal s call) _ h in (
+      none_when (is_open s.spans name.id) UnknownSpan (second_none (when (not (knows_stack s name.stack)) UnknownStack) _ on_span),
+      λ most. full (handles_of s.spans name.id) most counted,
+    )
+  where
+    full : (n : ℕ) → n ≡ 18446744073709551615 → when (n == 18446744073709551615) TooManyHandles ≡ None → ⊥
+    full n most e = by_test (n == 18446744073709551615) refl e
+      where
+        by_test : (b : Bool) → (n == 18446744073709551615) ≡ b → when b TooManyHandles ≡ None → ⊥
+        by_test true at h = cc
+        by_test false at h = let same = (unsigned_Decides n 18446744073709551615).1 most in cc
 
 -- the line that an event offers where it is made
 pub offered : (s : Skeleton) (texts : List PlainText) (time : Option (List ℕ)) (e : Request) (mask : Mask) (place : ℕ) → made_at s e.callsite false mask ≡ Some place → offer_of s texts time (EventStep e) mask ≡ Some (handed_at e.moment (event_line s texts time e place))

@@ -1,7 +1,7 @@
 -- Steps without where their values lie in memory.
 use Rattle.std.specs.Prelude.{ℕ, Option, Some, None}
 use Rattle.span_tracing_machine.specs.declared.call.SpanName.{SpanName}
-use Rattle.span_tracing_machine.specs.PlainData.{PlainStep, GlobalStep, EventStep, EnabledStep, SpanStep, EnterStep, ExitStep, CloseStep}
+use Rattle.span_tracing_machine.specs.PlainData.{PlainStep, GlobalStep, EventStep, EnabledStep, SpanStep, FollowsFromStep, EnterStep, ExitStep, CloneStep, CloseStep}
 use Rattle.span_tracing_machine.specs.PlainData as plain
 use Rattle.tracing_core.specs.OwnedValues.{owned_entries}
 use Rattle.span_tracing.specs.declared.action.Request.{Request}
@@ -16,8 +16,10 @@ plain_action (actions.SetGlobalDefault handle) = GlobalStep handle
 plain_action (actions.Event r) = EventStep (plain_request r)
 plain_action (actions.Enabled call) = EnabledStep call
 plain_action (actions.NewSpan r) = SpanStep (plain_request r)
+plain_action (actions.RecordFollowsFrom call) = FollowsFromStep call
 plain_action (actions.Enter call) = EnterStep call
 plain_action (actions.Exit call) = ExitStep call
+plain_action (actions.CloneSpan call) = CloneStep call
 plain_action (actions.TryClose call) = CloseStep call
 
 -- the name of a span of the one stack

@@ -3,7 +3,7 @@ use Rattle.std.specs.Prelude.{◌≡◌, Result, Ok, Err, ℕ, List, ◌∷◌, 
 use Rattle.std.specs.List.{filter}
 use Rattle.span_tracing_machine.specs.declared.fate.Fate.{Fate}
 use Rattle.span_tracing_machine.specs.PlainData.{Request}
-use Rattle.span_tracing_machine.specs.Machine.{parent_id, with_span, changed_lane, swept, without_handle}
+use Rattle.span_tracing_machine.specs.Machine.{parent_id, with_span, changed_lane, one_more, swept, without_handle}
 use Rattle.span_tracing_machine.specs.Spans.{without_last}
 use Rattle.span_tracing_machine.specs.State.{event_line}
 use Rattle.span_tracing_stack.specs.Stacks.{line_told, text_told}
@@ -29,6 +29,10 @@ abbrev pub without_entry : StateValue → ℕ → ℕ → StateValue
 without_entry v lane id =
     let s = swept (changed_lane v.skeleton lane (without_last id)) in
     record v { skeleton = s; texts = open_texts s.spans v.texts }
+
+-- with one handle of a span more
+abbrev pub with_one : StateValue → ℕ → StateValue
+with_one v id = record v { skeleton = record (v.skeleton) { spans = one_more v.skeleton.spans id } }
 
 -- with one handle of a span less, and without the spans that close then
 abbrev pub without_one : StateValue → ℕ → StateValue

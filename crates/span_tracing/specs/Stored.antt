@@ -8,7 +8,7 @@ use Rattle.tracing_appender_rolling.specs.declared.appender.RollingFileAppender.
 use Rattle.span_tracing_machine.specs.declared.fate.Fate.{Fate}
 use Rattle.span_tracing_machine.specs.declared.record.SpanRecord.{SpanRecord}
 use Rattle.span_tracing_machine.specs.declared.call.SpanName.{SpanName}
-use Rattle.span_tracing_machine.specs.PlainData.{Request, PlainStep, GlobalStep, EventStep, EnabledStep, SpanStep, EnterStep, ExitStep, CloseStep}
+use Rattle.span_tracing_machine.specs.PlainData.{Request, PlainStep, GlobalStep, EventStep, EnabledStep, SpanStep, FollowsFromStep, EnterStep, ExitStep, CloneStep, CloseStep}
 use Rattle.span_tracing_machine.specs.FieldTexts.{fields_text}
 use Rattle.span_tracing_machine.specs.Spans.{is_open}
 use Rattle.span_tracing_machine.specs.Skeleton.{Skeleton, Mask}
@@ -39,8 +39,10 @@ texts_acted s texts (GlobalStep handle) mask fate = texts
 texts_acted s texts (EventStep e) mask fate = texts
 texts_acted s texts (EnabledStep call) mask fate = texts
 texts_acted s texts (SpanStep n) mask fate = with_text texts s n fate (made_at s n.callsite true mask)
+texts_acted s texts (FollowsFromStep call) mask fate = texts
 texts_acted s texts (EnterStep call) mask fate = texts
 texts_acted s texts (ExitStep call) mask fate = texts_left call.span (acted s (ExitStep call) mask).spans texts
+texts_acted s texts (CloneStep call) mask fate = texts
 texts_acted s texts (CloseStep call) mask fate = texts_left call.span (acted s (CloseStep call) mask).spans texts
 
 -- a step that is not refused, whose one text or line met this fate
@@ -84,8 +86,10 @@ TakesRoom s (GlobalStep handle) mask = ⊥
 TakesRoom s (EventStep e) mask = ⊥
 TakesRoom s (EnabledStep call) mask = ⊥
 TakesRoom s (SpanStep n) mask = IsSome (made_at s n.callsite true mask)
+TakesRoom s (FollowsFromStep call) mask = ⊥
 TakesRoom s (EnterStep call) mask = IsSome call.span
 TakesRoom s (ExitStep call) mask = ⊥
+TakesRoom s (CloneStep call) mask = ⊥
 TakesRoom s (CloseStep call) mask = ⊥
 
 -- want of memory is told last: nothing else stands in the way

@@ -4,7 +4,7 @@ ghost use Rattle.std.specs.Prelude.{◌≡◌};
 ghost use Rattle.span_tracing_machine.specs.PlainData.{plain_step};
 ghost use Rattle.span_tracing.specs.Actions.{plain_action};
 
-use span_tracing_machine::{EnabledCall, Parent, SpanCall, Step};
+use span_tracing_machine::{EnabledCall, FollowsCall, Parent, SpanCall, Step};
 use tracing_appender_rolling::Moment;
 use tracing_core::FieldValue;
 
@@ -25,8 +25,10 @@ pub(crate) enum Action<'a> {
     Event(Request<'a>),
     Enabled(EnabledCall),
     NewSpan(Request<'a>),
+    RecordFollowsFrom(FollowsCall),
     Enter(SpanCall),
     Exit(SpanCall),
+    CloneSpan(SpanCall),
     TryClose(SpanCall),
 }
 
@@ -51,8 +53,10 @@ pub(crate) fn action_of(step: &Step) -> Action<'_>
             parent: span.parent,
             values: span.values.as_slice(),
         }),
+        Step::RecordFollowsFrom(call) => Action::RecordFollowsFrom(*call),
         Step::Enter(call) => Action::Enter(*call),
         Step::Exit(call) => Action::Exit(*call),
+        Step::CloneSpan(call) => Action::CloneSpan(*call),
         Step::TryClose(call) => Action::TryClose(*call),
     }
 }

@@ -2,7 +2,7 @@
 
 ghost use Rattle.std.specs.Prelude.{◌≡◌, map, Bool, true, false, IfSome, IfNone, ◌<◌, ◌≤◌, length, option_and_then, slice_get};
 ghost use Rattle.std.specs.Option.{option_map, option_copied};
-ghost use Rattle.span_tracing_machine.specs.Machine.{place_of, is_kind, known_place, knows_stack, lane_refusal, parent_refusal, request_refusal, enabled_refusal, span_refusal, call_refusal, handle_refusal, ids_refusal, refusal_of, made_at, is_made};
+ghost use Rattle.span_tracing_machine.specs.Machine.{place_of, is_kind, known_place, knows_stack, lane_refusal, parent_refusal, request_refusal, enabled_refusal, span_refusal, stack_refusal, open_refusal, pair_refusal, follows_refusal, call_refusal, count_refusal, handle_refusal, ids_refusal, refusal_of, made_at, is_made};
 ghost use Rattle.span_tracing_machine.specs.State.{callsite_named, mask_at, mask_for, mask_asked};
 ghost use Rattle.span_tracing.specs.Actions.{plain_action};
 ghost use Rattle.span_tracing.specs.Skeletons.{plain_callsite, skeleton_of, setting_of, filter_in, value_in};
@@ -12,7 +12,7 @@ use crate::action::{Action, Request};
 use crate::callsite::Callsite;
 use crate::hand::at_of;
 use crate::parts::TraceParts;
-use span_tracing_machine::{EnabledCall, Parent, Refusal, SpanCall, SpanName};
+use span_tracing_machine::{EnabledCall, FollowsCall, Parent, Refusal, SpanCall, SpanName};
 use tracing_appender_rolling::Moment;
 use tracing_core::Identifier;
 
@@ -172,6 +172,73 @@ impl TraceParts {
         self.span_refusal(call.span)
     }
 
+    fn stack_refusal(&self, span: Option<SpanName>) -> Option<Refusal>
+        ensures { result ≡ stack_refusal (skeleton_of (value_in self.now)) span }
+    {
+        match span {
+            None => None,
+            Some(name) => {
+                if self.knows_stack(name.stack) {
+                    None
+                } else {
+                    Some(Refusal::UnknownStack)
+                }
+            }
+        }
+    }
+
+    fn open_refusal(&self, span: Option<SpanName>) -> Option<Refusal>
+        ensures { result ≡ open_refusal (skeleton_of (value_in self.now)) span }
+    {
+        match span {
+            None => None,
+            Some(name) => {
+                if self.is_open(name.id) {
+                    None
+                } else {
+                    Some(Refusal::UnknownSpan)
+                }
+            }
+        }
+    }
+
+    fn follows_refusal(&self, call: FollowsCall) -> Option<Refusal>
+        requires { IsSound self.now }
+        ensures { result ≡ follows_refusal (skeleton_of (value_in self.now)) call }
+    {
+        if let Some(refusal) = self.lane_refusal(call.lane) {
+            return Some(refusal);
+        }
+        if !call.moment.is_in_range() {
+            return Some(Refusal::BadMoment);
+        }
+        self.pair_refusal(call.span, call.follows)
+    }
+
+    // The stacks of both are looked at before whether they are open.
+    fn pair_refusal(&self, span: Option<SpanName>, follows: Option<SpanName>) -> Option<Refusal>
+        ensures { result ≡ pair_refusal (skeleton_of (value_in self.now)) span follows }
+    {
+        self.stack_refusal(span)
+            .or(self.stack_refusal(follows))
+            .or(self.open_refusal(span))
+            .or(self.open_refusal(follows))
+    }
+
+    fn count_refusal(&self, span: Option<SpanName>) -> Option<Refusal>
+        ensures { result ≡ count_refusal (skeleton_of (value_in self.now)) span }
+    {
+        match span {
+            None => None,
+            Some(name) => {
+                if self.handles_of(name.id) == usize::MAX {
+                    return Some(Refusal::TooManyHandles);
+                }
+                None
+            }
+        }
+    }
+
     fn handle_refusal(&self, span: Option<SpanName>) -> Option<Refusal>
         ensures { result ≡ handle_refusal (skeleton_of (value_in self.now)) span }
     {
@@ -288,8 +355,16 @@ impl TraceParts {
                 }
                 self.ids_refusal(span)
             }
+            Action::RecordFollowsFrom(call) => self.follows_refusal(*call),
             Action::Enter(call) => self.call_refusal(*call),
             Action::Exit(call) => self.call_refusal(*call),
+            Action::CloneSpan(call) => {
+                let refusal = self.call_refusal(*call);
+                if refusal.is_some() {
+                    return refusal;
+                }
+                self.count_refusal(call.span)
+            }
             Action::TryClose(call) => {
                 let refusal = self.call_refusal(*call);
                 if refusal.is_some() {

@@ -5,11 +5,11 @@ ghost use Rattle.tracing_appender_rolling.specs.Moments.{is_moment};
 ghost use Rattle.tracing_core.specs.PlainValue.{PlainValue};
 ghost use Rattle.span_tracing_machine.specs.Machine.{is_made, parent_refusal};
 ghost use Rattle.span_tracing_machine.specs.Missed.{given_by, handed_by};
-ghost use Rattle.span_tracing_machine.specs.Spans.{is_open};
+ghost use Rattle.span_tracing_machine.specs.Spans.{handles_of, is_open};
 ghost use Rattle.span_tracing_machine.specs.State.{handed_at, mask_at};
 ghost use Rattle.span_tracing_stack.specs.Stacks.{line_told, text_told};
 ghost use Rattle.span_tracing.specs.Actions.{plain_request};
-ghost use Rattle.span_tracing.specs.Left.{TellsEvent, SpanHanded, globally, with_entry, without_entry, without_one};
+ghost use Rattle.span_tracing.specs.Left.{TellsEvent, SpanHanded, globally, with_entry, with_one, without_entry, without_one};
 ghost use Rattle.span_tracing.specs.Skeletons.{filter_in, plain_callsite, setting_of, skeleton_of, spans_in, stack_in, told_in, value_in};
 ghost use Rattle.span_tracing.specs.Stored.{TakesLines};
 
@@ -123,6 +123,35 @@ impl TraceParts {
             return;
         };
         self.hub.exit(handle, &id, at_of(lane, moment));
+    }
+
+    /// Takes one more handle of an open span, whose count isn't the greatest.
+    pub(crate) fn take_one(&mut self, id: Id, lane: usize, moment: Moment)
+        requires sound { IsSound self.old }
+        requires there { is_open (spans_in (stack_in self.old)) id ≡ true }
+        requires fewer { ¬ (handles_of (spans_in (stack_in self.old)) id ≡ 18446744073709551615) }
+        ensures sound { IsSound self.new }
+        ensures left { value_in self.new ≡ with_one (value_in self.old) id }
+    {
+        let Some(handle) = &self.handle else {
+            return;
+        };
+        // The refusals were looked for, so nothing stands in its way.
+        let _same = self.hub.clone_span(handle, &id, at_of(lane, moment));
+    }
+
+    /// Tells the stack that an open span follows from another one.
+    pub(crate) fn tell_follows(&mut self, id: Id, follows: Id, lane: usize, moment: Moment)
+        requires { IsSound self.old }
+        ensures sound { IsSound self.new }
+        ensures left { value_in self.new ≡ value_in self.old }
+    {
+        let Some(handle) = &self.handle else {
+            return;
+        };
+        let _told = self
+            .hub
+            .record_follows_from(handle, &id, &follows, at_of(lane, moment));
     }
 
     /// Gives up one handle of an open span, and answers whether the span closed.

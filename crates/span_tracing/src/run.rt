@@ -5,7 +5,7 @@ ghost use Rattle.tracing_appender_rolling.specs.Moments.{is_moment};
 ghost use Rattle.tracing_appender_rolling.specs.Sinks.{PlainSink};
 ghost use Rattle.tracing_appender_rolling.specs.Appenders.{AgreesSink};
 ghost use Rattle.tracing_core.specs.OwnedValues.{owned_entries};
-ghost use Rattle.span_tracing_machine.specs.PlainData.{plain_step, plain_steps, GlobalStep, EventStep, EnabledStep, SpanStep, EnterStep, ExitStep, CloseStep};
+ghost use Rattle.span_tracing_machine.specs.PlainData.{plain_step, plain_steps, GlobalStep, EventStep, EnabledStep, SpanStep, FollowsFromStep, EnterStep, ExitStep, CloneStep, CloseStep};
 ghost use Rattle.span_tracing_machine.specs.Machine.{refusal_of, reply_of, or_same};
 ghost use Rattle.span_tracing_machine.specs.Missed.{handed_by, handed_lines};
 ghost use Rattle.span_tracing_machine.specs.State.{handed_at, event_line, offer_of};
@@ -15,7 +15,9 @@ ghost use Rattle.span_tracing.specs.Stored.{Acted, Stepped, TakesLines, WantsRoo
 
 use crate::action::{Action, Request, action_of};
 use crate::trace::Trace;
-use span_tracing_machine::{EnabledCall, Fate, Parent, Refusal, Reply, SpanCall, SpanName, Step};
+use span_tracing_machine::{
+    EnabledCall, Fate, FollowsCall, Parent, Refusal, Reply, SpanCall, SpanName, Step,
+};
 use std::alloc::AllocError;
 use tracing_appender_rolling::{Folder, Moment};
 use tracing_core::{FieldValue, Identifier};
@@ -77,12 +79,20 @@ impl<D: Folder> Trace<D> {
                 },
                 Err(_) => whole(Reply::Refused(Refusal::OutOfMemory)),
             },
+            Action::RecordFollowsFrom(call) => {
+                self.state.record_follows_from(call);
+                whole(Reply::Done)
+            }
             Action::Enter(call) => match self.state.enter(call) {
                 Ok(()) => whole(Reply::Done),
                 Err(_) => whole(Reply::Refused(Refusal::OutOfMemory)),
             },
             Action::Exit(call) => {
                 self.state.exit(call);
+                whole(Reply::Done)
+            }
+            Action::CloneSpan(call) => {
+                self.state.clone_span(call);
                 whole(Reply::Done)
             }
             Action::TryClose(call) => whole(Reply::Closed(self.state.try_close(call))),
@@ -222,6 +232,33 @@ impl<D: Folder> Trace<D> {
         ensures refused { (refusal : Refusal) → result ≡ Reply.Refused refusal → value_of self.new ≡ value_of self.old }
     {
         self.act(&Action::Exit(SpanCall { lane, moment, span }))
+    }
+
+    /// Records that a span follows from another one. Nothing shows it yet. Takes no memory.
+    pub fn record_follows_from(
+        &mut self,
+        lane: usize,
+        moment: Moment,
+        span: Option<SpanName>,
+        follows: Option<SpanName>,
+    ) -> Reply
+        ensures follows { FollowsStep D.contents self.old self.new result (FollowsFromStep (record { lane = lane; moment = moment; span = span; follows = follows })) }
+        ensures refused { (refusal : Refusal) → result ≡ Reply.Refused refusal → value_of self.new ≡ value_of self.old }
+    {
+        self.act(&Action::RecordFollowsFrom(FollowsCall {
+            lane,
+            moment,
+            span,
+            follows,
+        }))
+    }
+
+    /// Takes one more handle of a span. Takes no memory.
+    pub fn clone_span(&mut self, lane: usize, moment: Moment, span: Option<SpanName>) -> Reply
+        ensures follows { FollowsStep D.contents self.old self.new result (CloneStep (record { lane = lane; moment = moment; span = span })) }
+        ensures refused { (refusal : Refusal) → result ≡ Reply.Refused refusal → value_of self.new ≡ value_of self.old }
+    {
+        self.act(&Action::CloneSpan(SpanCall { lane, moment, span }))
     }
 
     /// Gives up one handle of a span; answers whether the span closed. Takes no memory.

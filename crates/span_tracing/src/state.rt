@@ -7,7 +7,7 @@ ghost use Rattle.tracing_appender_rolling.specs.Moments.{is_moment};
 ghost use Rattle.tracing_core.specs.Metadata.{plain_metadata};
 ghost use Rattle.span_tracing_machine.specs.Machine.{answered, call_refusal, made_at, refusal_of};
 ghost use Rattle.span_tracing_machine.specs.Missed.{handed_lines};
-ghost use Rattle.span_tracing_machine.specs.PlainData.{GlobalStep, EventStep, EnabledStep, SpanStep, EnterStep, ExitStep, CloseStep};
+ghost use Rattle.span_tracing_machine.specs.PlainData.{GlobalStep, EventStep, EnabledStep, SpanStep, FollowsFromStep, EnterStep, ExitStep, CloneStep, CloseStep};
 ghost use Rattle.span_tracing_machine.specs.Skeleton.{PlainCallsite};
 ghost use Rattle.span_tracing_machine.specs.State.{callsite_named, offer_of};
 ghost use Rattle.span_tracing.specs.Actions.{plain_action, plain_request};
@@ -21,7 +21,7 @@ use crate::output::Output;
 use crate::parts::TraceParts;
 use crate::stacks::OutputBack;
 use crate::steps::MadeSpan;
-use span_tracing_machine::{EnabledCall, Fate, Refusal, Reply, SpanCall};
+use span_tracing_machine::{EnabledCall, Fate, FollowsCall, Refusal, Reply, SpanCall};
 use std::alloc::{AllocError, Global};
 use std::marker::Model;
 use tracing_appender_rolling::{Folder, Moment, RollingFileAppender};
@@ -207,6 +207,21 @@ impl TraceState {
         ensures { Acted self.old self.new (ExitStep call.now) Fate.Whole }
     {
         self.parts.exit(call)
+    }
+
+    /// That a span follows from another one, which is not refused.
+    pub(crate) fn record_follows_from(&mut self, call: &FollowsCall)
+        ensures { Acted self.old self.new (FollowsFromStep call.now) Fate.Whole }
+    {
+        self.parts.record_follows_from(call)
+    }
+
+    /// A handle taken that is not refused.
+    pub(crate) fn clone_span(&mut self, call: &SpanCall)
+        requires { refusal_of (skeleton_of self.old) (CloneStep call.now) [] ≡ None }
+        ensures { Acted self.old self.new (CloneStep call.now) Fate.Whole }
+    {
+        self.parts.clone_span(call)
     }
 
     /// A handle given up that is not refused; answers whether the span closed.

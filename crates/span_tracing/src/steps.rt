@@ -3,7 +3,7 @@
 ghost use Rattle.std.specs.Prelude.{◌≡◌, ◌∷◌, [], true, false, IfOk, IsSome, None, OnErr, OnOk};
 ghost use Rattle.span_tracing_machine.specs.Machine.{answered, call_refusal, made_at, refusal_of};
 ghost use Rattle.span_tracing_machine.specs.Missed.{handed_lines};
-ghost use Rattle.span_tracing_machine.specs.PlainData.{EventStep, EnabledStep, SpanStep, EnterStep, ExitStep, CloseStep};
+ghost use Rattle.span_tracing_machine.specs.PlainData.{EventStep, EnabledStep, SpanStep, FollowsFromStep, EnterStep, ExitStep, CloneStep, CloseStep};
 ghost use Rattle.span_tracing_machine.specs.State.{offer_of};
 ghost use Rattle.span_tracing.specs.Actions.{plain_request, named_as};
 ghost use Rattle.span_tracing.specs.Skeletons.{setting_of, skeleton_of, texts_of, time_in, value_in};
@@ -11,7 +11,7 @@ ghost use Rattle.span_tracing.specs.Stored.{Acted, TakesLines, count_by, mask_in
 
 use crate::action::Request;
 use crate::parts::TraceParts;
-use span_tracing_machine::{EnabledCall, Fate, Reply, SpanCall, SpanName};
+use span_tracing_machine::{EnabledCall, Fate, FollowsCall, Reply, SpanCall, SpanName};
 use std::alloc::AllocError;
 use tracing_appender_rolling::{Folder, RollingFileAppender};
 use tracing_core::Id;
@@ -146,6 +146,31 @@ impl TraceParts {
     {
         if let Some(name) = call.span {
             self.drop_entry(name.id, call.lane, call.moment);
+        }
+    }
+
+    /// That a span follows from another one.
+    #[tactic(auto, unfolding(span_tracing_machine::specs::Machine::acted, span_tracing_machine::specs::Machine::answered, span_tracing_machine::specs::Missed::wanted, crate::specs::Stored::texts_acted, span_tracing_machine::specs::State::step_mask, span_tracing_machine::specs::State::offer_of))]
+    pub(crate) fn record_follows_from(&mut self, call: &FollowsCall)
+        requires sound { IsSound self.old }
+        ensures sound { IsSound self.new }
+        ensures acted { Acted (value_in self.old) (value_in self.new) (FollowsFromStep call.now) Fate.Whole }
+    {
+        if let (Some(span), Some(follows)) = (call.span, call.follows) {
+            self.tell_follows(span.id, follows.id, call.lane, call.moment);
+        }
+    }
+
+    /// A handle taken.
+    #[tactic(auto, unfolding(span_tracing_machine::specs::Machine::acted, span_tracing_machine::specs::Machine::answered, span_tracing_machine::specs::Missed::wanted, crate::specs::Stored::texts_acted, span_tracing_machine::specs::State::step_mask, span_tracing_machine::specs::State::offer_of))]
+    pub(crate) fn clone_span(&mut self, call: &SpanCall)
+        requires sound { IsSound self.old }
+        requires unrefused { refusal_of (skeleton_of (value_in self.old)) (CloneStep call.now) [] ≡ None }
+        ensures sound { IsSound self.new }
+        ensures acted { Acted (value_in self.old) (value_in self.new) (CloneStep call.now) Fate.Whole }
+    {
+        if let Some(name) = call.span {
+            self.take_one(name.id, call.lane, call.moment);
         }
     }
 

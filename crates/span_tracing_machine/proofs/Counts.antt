@@ -3,7 +3,7 @@ use Rattle.std.proofs.Common.{◌≡◌, ℕ, zero, suc, ◌+◌, ◌<◌, ◌�
 use Rattle.std.proofs.lemmas.Bool.Decides.{nat_tests}
 use Rattle.std.specs.Option.{option_map}
 use Rattle.tracing_appender_rolling.specs.Sinks.{Handed}
-use Rattle.span_tracing_machine.specs.PlainData.{Request, PlainStep, GlobalStep, EventStep, EnabledStep, SpanStep, EnterStep, ExitStep, CloseStep}
+use Rattle.span_tracing_machine.specs.PlainData.{Request, PlainStep, GlobalStep, EventStep, EnabledStep, SpanStep, FollowsFromStep, EnterStep, ExitStep, CloneStep, CloseStep}
 use Rattle.span_tracing_machine.specs.declared.refusal.Refusal.{Refusal}
 use Rattle.span_tracing_machine.specs.Skeleton.{Skeleton, Mask}
 use Rattle.span_tracing_machine.specs.Machine.{made_at, refusal_of, or_same}
@@ -83,8 +83,10 @@ lists_given s lists (GlobalStep handle) mask fates none = refl
 lists_given s lists (EventStep e) mask fates none = refl
 lists_given s lists (EnabledStep call) mask fates none = refl
 lists_given s lists (SpanStep n) mask fates none = values_given lists s n fates (made_at s n.callsite true mask) none
+lists_given s lists (FollowsFromStep call) mask fates none = refl
 lists_given s lists (EnterStep call) mask fates none = refl
 lists_given s lists (ExitStep call) mask fates none = refl
+lists_given s lists (CloneStep call) mask fates none = refl
 lists_given s lists (CloseStep call) mask fates none = refl
 
 -- an event's line is handed over whole
@@ -101,8 +103,10 @@ lines_given s texts time (GlobalStep handle) mask fates none = refl
 lines_given s texts time (EventStep e) mask fates none = line_given fates (made_at s e.callsite false mask) (λ place. handed_at e.moment (event_line s texts time e place)) none
 lines_given s texts time (EnabledStep call) mask fates none = refl
 lines_given s texts time (SpanStep n) mask fates none = refl
+lines_given s texts time (FollowsFromStep call) mask fates none = refl
 lines_given s texts time (EnterStep call) mask fates none = refl
 lines_given s texts time (ExitStep call) mask fates none = refl
+lines_given s texts time (CloneStep call) mask fates none = refl
 lines_given s texts time (CloseStep call) mask fates none = refl
 
 -- the same for a whole step, refused or not

@@ -3,15 +3,16 @@ use Rattle.std.proofs.Common.{◌≡◌, ℕ, Bool, true, false, not, Option, So
 use Rattle.tracing_appender_rolling.specs.Moments.{is_moment}
 use Rattle.tracing_appender_rolling.specs.declared.moment.Moment.{Moment}
 use Rattle.span_tracing_machine.specs.declared.refusal.Refusal.{Refusal}
-use Rattle.span_tracing_machine.specs.declared.refusal.Refusal.TheVariants.{UnknownStack, UnknownSpan, ForeignParent, BadMoment, OutOfMemory, UnknownLane, GlobalSet, IdsSpent}
+use Rattle.span_tracing_machine.specs.declared.refusal.Refusal.TheVariants.{UnknownStack, UnknownSpan, ForeignParent, BadMoment, OutOfMemory, UnknownLane, GlobalSet, TooManyHandles, IdsSpent}
 use Rattle.span_tracing_machine.specs.declared.call.Parent.{Parent}
 use Rattle.span_tracing_machine.specs.declared.call.Parent.TheVariants.{Contextual, Root, Explicit}
 use Rattle.span_tracing_machine.specs.declared.call.SpanCall.{SpanCall}
 use Rattle.span_tracing_machine.specs.declared.call.SpanName.{SpanName}
 use Rattle.span_tracing_machine.specs.declared.call.EnabledCall.{EnabledCall}
-use Rattle.span_tracing_machine.specs.PlainData.{Request, PlainStep, GlobalStep, EventStep, EnabledStep, SpanStep, EnterStep, ExitStep, CloseStep}
+use Rattle.span_tracing_machine.specs.declared.call.FollowsCall.{FollowsCall}
+use Rattle.span_tracing_machine.specs.PlainData.{Request, PlainStep, GlobalStep, EventStep, EnabledStep, SpanStep, FollowsFromStep, EnterStep, ExitStep, CloneStep, CloseStep}
 use Rattle.span_tracing_machine.specs.Skeleton.{Skeleton, Mask}
-use Rattle.span_tracing_machine.specs.Machine.{first, when, known_place, lane_refusal, moment_refusal, callsite_refusal, parent_refusal, request_refusal, enabled_refusal, place_of, span_refusal, call_refusal, handle_refusal, ids_refusal, made_at, refusal_of}
+use Rattle.span_tracing_machine.specs.Machine.{first, when, known_place, lane_refusal, moment_refusal, callsite_refusal, parent_refusal, request_refusal, enabled_refusal, place_of, span_refusal, call_refusal, follows_refusal, stack_refusal, open_refusal, count_refusal, handle_refusal, ids_refusal, made_at, refusal_of}
 
 -- where neither of two refuses, the first doesn't
 pub first_none : (a b : Option Refusal) → first a b ≡ None → a ≡ None
@@ -67,6 +68,23 @@ not_span s (Some name) h = not_first _ _ (not_when _ UnknownStack (λ e. cc)) (n
 not_call : (s : Skeleton) (call : SpanCall) → NoMemory (call_refusal s call)
 not_call s call h = not_first _ _ (not_when _ UnknownLane (λ e. cc)) (not_first _ _ (not_when _ BadMoment (λ e. cc)) (not_span s call.span)) h
 
+not_stack : (s : Skeleton) (span : Option SpanName) → NoMemory (stack_refusal s span)
+not_stack s None h = cc
+not_stack s (Some name) h = not_when _ UnknownStack (λ e. cc) h
+
+not_open : (s : Skeleton) (span : Option SpanName) → NoMemory (open_refusal s span)
+not_open s None h = cc
+not_open s (Some name) h = not_when _ UnknownSpan (λ e. cc) h
+
+not_follows : (s : Skeleton) (call : FollowsCall) → NoMemory (follows_refusal s call)
+not_follows s call h =
+    not_first _ _ (not_when _ UnknownLane (λ e. cc)) (not_first _ _ (not_when _ BadMoment (λ e. cc)) (not_first _ _ (not_stack s call.span)
+    (not_first _ _ (not_stack s call.follows) (not_first _ _ (not_open s call.span) (not_open s call.follows))))) h
+
+not_count : (s : Skeleton) (span : Option SpanName) → NoMemory (count_refusal s span)
+not_count s None h = cc
+not_count s (Some name) h = not_when _ TooManyHandles (λ e. cc) h
+
 not_handle : (s : Skeleton) (span : Option SpanName) → NoMemory (handle_refusal s span)
 not_handle s None h = cc
 not_handle s (Some name) h = not_when _ UnknownSpan (λ e. cc) h
@@ -81,6 +99,8 @@ never_memory s (GlobalStep handle) mask h = not_first _ _ (not_when _ UnknownSta
 never_memory s (EventStep e) mask h = not_request s e.lane e.moment e.callsite false e.parent h
 never_memory s (EnabledStep call) mask h = not_enabled s call h
 never_memory s (SpanStep n) mask h = not_first _ _ (not_request s n.lane n.moment n.callsite true n.parent) (not_ids s (made_at s n.callsite true mask)) h
+never_memory s (FollowsFromStep call) mask h = not_follows s call h
 never_memory s (EnterStep call) mask h = not_call s call h
 never_memory s (ExitStep call) mask h = not_call s call h
+never_memory s (CloneStep call) mask h = not_first _ _ (not_call s call) (not_count s call.span) h
 never_memory s (CloseStep call) mask h = not_first _ _ (not_call s call) (not_handle s call.span) h

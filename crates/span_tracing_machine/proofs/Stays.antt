@@ -9,15 +9,15 @@ use Rattle.span_tracing_machine.specs.declared.call.Parent.{Parent}
 use Rattle.span_tracing_machine.specs.declared.call.Parent.TheVariants.{Contextual, Root, Explicit}
 use Rattle.span_tracing_machine.specs.declared.refusal.Refusal.{Refusal}
 use Rattle.span_tracing_machine.specs.declared.refusal.Refusal.TheVariants.{UnknownStack, UnknownSpan, ForeignParent}
-use Rattle.span_tracing_machine.specs.PlainData.{PlainStep, GlobalStep, EventStep, EnabledStep, SpanStep, EnterStep, ExitStep, CloseStep}
+use Rattle.span_tracing_machine.specs.PlainData.{PlainStep, GlobalStep, EventStep, EnabledStep, SpanStep, FollowsFromStep, EnterStep, ExitStep, CloneStep, CloseStep}
 use Rattle.span_tracing_machine.specs.Spans.{is_member, is_open, is_entered, open_of, without_last}
 use Rattle.span_tracing_machine.specs.Skeleton.{Skeleton, PlainCallsite, Mask}
-use Rattle.span_tracing_machine.specs.Machine.{when, first, lane_refusal, moment_refusal, callsite_refusal, known_place, knows_stack, parent_refusal, span_refusal, call_refusal, ids_refusal, made_at, refusal_of, lane_at, parent_id, with_span, one_less, entered, left, given_up, acted, after, or_same}
+use Rattle.span_tracing_machine.specs.Machine.{when, first, lane_refusal, moment_refusal, callsite_refusal, known_place, knows_stack, parent_refusal, span_refusal, call_refusal, ids_refusal, made_at, refusal_of, lane_at, parent_id, with_span, one_less, one_more, cloned, entered, left, given_up, acted, after, or_same}
 use Rattle.span_tracing_machine.specs.Laws.{IsWellFormed, SetupStaysWellFormed}
 use Rattle.span_tracing_machine.specs.State.{Plain, PlainOutput, new_plain, callsite_named, with_callsite, with_lane, with_stack}
 use Rattle.span_tracing_machine.proofs.Open.{or_left, entered_stays}
 use Rattle.span_tracing_machine.proofs.Lanes.{member_cases, member_without, lane_entered, current_entered, changed_entered, entered_all, entered_from}
-use Rattle.span_tracing_machine.proofs.Swept.{open_again, all_stay_more, all_stay_entered, entered_more, swept_ordered, swept_all, ordered_more, below_more, open_more, less_ordered, less_below, less_open}
+use Rattle.span_tracing_machine.proofs.Swept.{open_again, all_stay_more, all_stay_entered, entered_more, swept_ordered, swept_all, ordered_more, below_more, open_more, less_ordered, less_below, less_open, more_ordered, more_below, more_open, all_stay_with}
 use Rattle.span_tracing_machine.proofs.Refusing.{first_none, second_none}
 
 -- a condition that doesn't refuse doesn't hold
@@ -121,6 +121,18 @@ given_well s (Some name) well =
           (λ id entry. entered_stays s.lanes spans id (less_open s.spans name.id id ∙ entry_open s well id entry) entry);
     }
 
+-- and a handle more does
+cloned_well : (s : Skeleton) (span : Option SpanName) → IsWellFormed s → IsWellFormed (cloned s span)
+cloned_well s None well = well
+cloned_well s (Some name) well =
+    record {
+      started = well.started;
+      ordered = more_ordered [] 0 s.spans name.id well.ordered;
+      below = more_below s.next_id s.spans name.id well.below;
+      all_open = all_stay_with s.lanes s.spans name.id well.all_open;
+      entries = entered_from (is_open (one_more s.spans name.id)) s.lanes (λ id entry. more_open s.spans name.id id ∙ entry_open s well id entry);
+    }
+
 -- a step that is not refused keeps a skeleton well formed
 acted_well : (s : Skeleton) (step : PlainStep) (mask : Mask) → IsWellFormed s → refusal_of s step mask ≡ None → IsWellFormed (acted s step mask)
 unfolding acted refusal_of
@@ -138,8 +150,10 @@ acted_well s (SpanStep n) mask well passes =
     let no_callsite : on_callsite ≡ None = second_none (moment_refusal n.moment) on_callsite no_moment in
     let no_parent : on_parent ≡ None = second_none (callsite_refusal (known_place s.callsites n.callsite true)) on_parent no_callsite in
     made_well s (parent_id s.lanes n.lane n.parent) made well (λ p is. parent_listed s n.lane n.parent p well no_parent is)
+acted_well s (FollowsFromStep call) mask well passes = well
 acted_well s (EnterStep call) mask well passes = entered_well s call.lane call.span well (λ name is. span_listed s call name is passes)
 acted_well s (ExitStep call) mask well passes = left_well s call.lane call.span well
+acted_well s (CloneStep call) mask well passes = cloned_well s call.span well
 acted_well s (CloseStep call) mask well passes = given_well s call.span well
 
 -- a refused step leaves the skeleton

@@ -1,11 +1,12 @@
 -- What a sweep and a step leave of the spans.
 use Rattle.std.proofs.Common.{◌≡◌, ◌⊎◌, inl, inr, ℕ, zero, suc, ◌+◌, ◌-◌, ◌<◌, ◌≤◌, List, [], ◌∷◌, ◌++◌, length, set, Bool, true, false, ◌||◌, ◌==◌, nat_lt, if◌then◌else◌, Some, refl, sym, ap, ◌∙◌, arith}
 use Rattle.std.proofs.lemmas.Bool.{false≢true, both_ways, or_cases, eqb-true}
+use Rattle.std.proofs.lemmas.Bool.Decides.{nat_tests}
 use Rattle.std.proofs.lemmas.List.Folds.{list_any-append}
 use Rattle.std.specs.List.{AllByRecursion}
 use Rattle.span_tracing_machine.specs.declared.record.SpanRecord.{SpanRecord}
 use Rattle.span_tracing_machine.specs.Spans.{is_member, is_open, is_entered, is_parent, has_child, stays, keep_if, open_of}
-use Rattle.span_tracing_machine.specs.Machine.{lane_at, one_less}
+use Rattle.span_tracing_machine.specs.Machine.{lane_at, one_less, one_more}
 use Rattle.span_tracing_machine.specs.Laws.{ParentIn, IsOrdered}
 use Rattle.span_tracing_machine.proofs.Open.{or_left, or_right, or_map, child_beside, kept_child, parent_stays, parent_in, parent_from}
 
@@ -210,3 +211,67 @@ less_open_if false s ss id x later = ap (λ (b : Bool). (s.id == x) || b) later
 pub less_open : (ss : List SpanRecord) (id x : ℕ) → is_open (one_less ss id) x ≡ is_open ss x
 less_open [] id x = refl
 less_open (s ∷ ss) id x = less_open_if (s.id == id) s ss id x (less_open ss id x)
+
+-- the spans with one handle more: by whether it is the first one's
+abbrev more_if : Bool → SpanRecord → List SpanRecord → ℕ → List SpanRecord
+more_if is_first s ss id = if is_first then (record s { handles = s.handles + 1 }) ∷ ss else s ∷ one_more ss id
+
+-- a handle more keeps the order: by whether it is the first span's
+more_ordered_if : (is_first : Bool) (earlier : List ℕ) (least : ℕ) (s : SpanRecord) (ss : List SpanRecord) (id : ℕ) → IsOrdered earlier least (s ∷ ss) →
+    IsOrdered (s.id ∷ earlier) s.id (one_more ss id) → IsOrdered earlier least (more_if is_first s ss id)
+more_ordered_if true earlier least s ss id ordered later = ordered
+more_ordered_if false earlier least s ss id ordered later = (ordered.0, ordered.1, later)
+
+-- a handle more keeps the order
+pub more_ordered : (earlier : List ℕ) (least : ℕ) (ss : List SpanRecord) (id : ℕ) → IsOrdered earlier least ss → IsOrdered earlier least (one_more ss id)
+more_ordered earlier least [] id ordered = tt
+more_ordered earlier least (s ∷ ss) id ordered = more_ordered_if (s.id == id) earlier least s ss id ordered (more_ordered (s.id ∷ earlier) s.id ss id ordered.2)
+
+-- a handle more keeps the bound of ids: by whether it is the first span's
+more_below_if : (is_first : Bool) (next : ℕ) (s : SpanRecord) (ss : List SpanRecord) (id : ℕ) → AllByRecursion (λ (x : SpanRecord). x.id < next) (s ∷ ss) →
+    AllByRecursion (λ (x : SpanRecord). x.id < next) (one_more ss id) → AllByRecursion (λ (x : SpanRecord). x.id < next) (more_if is_first s ss id)
+more_below_if true next s ss id below later = below
+more_below_if false next s ss id below later = (below.0, later)
+
+-- a handle more keeps the bound of ids
+pub more_below : (next : ℕ) (ss : List SpanRecord) (id : ℕ) → AllByRecursion (λ (x : SpanRecord). x.id < next) ss → AllByRecursion (λ (x : SpanRecord). x.id < next) (one_more ss id)
+more_below next [] id below = tt
+more_below next (s ∷ ss) id below = more_below_if (s.id == id) next s ss id below (more_below next ss id below.1)
+
+-- a handle more changes nothing in which ids are open: by whether it is the first span's
+more_open_if : (is_first : Bool) (s : SpanRecord) (ss : List SpanRecord) (id x : ℕ) → is_open (one_more ss id) x ≡ is_open ss x → is_open (more_if is_first s ss id) x ≡ is_open (s ∷ ss) x
+more_open_if true s ss id x later = refl
+more_open_if false s ss id x later = ap (λ (b : Bool). (s.id == x) || b) later
+
+-- a handle more changes nothing in which ids are open
+pub more_open : (ss : List SpanRecord) (id x : ℕ) → is_open (one_more ss id) x ≡ is_open ss x
+more_open [] id x = refl
+more_open (s ∷ ss) id x = more_open_if (s.id == id) s ss id x (more_open ss id x)
+
+-- nor in who has a child
+more_child_if : (is_first : Bool) (s : SpanRecord) (ss : List SpanRecord) (id x : ℕ) → has_child (one_more ss id) x ≡ has_child ss x → has_child (more_if is_first s ss id) x ≡ has_child (s ∷ ss) x
+more_child_if true s ss id x later = refl
+more_child_if false s ss id x later = ap (λ (b : Bool). is_parent x s.parent || b) later
+
+more_child : (ss : List SpanRecord) (id x : ℕ) → has_child (one_more ss id) x ≡ has_child ss x
+more_child [] id x = refl
+more_child (s ∷ ss) id x = more_child_if (s.id == id) s ss id x (more_child ss id x)
+
+some_handle : (n : ℕ) → nat_lt 0 (n + 1) ≡ true
+some_handle n = grind (arith, nat_tests)
+
+-- where all stay, they do with a handle more: by whether it is the first span's
+more_stay_if : (is_first : Bool) (lanes : List (List ℕ)) (s : SpanRecord) (ss : List SpanRecord) (id : ℕ) → stays lanes s ss ≡ true → open_of lanes ss ≡ ss → open_of lanes (one_more ss id) ≡ one_more ss id →
+    open_of lanes (more_if is_first s ss id) ≡ more_if is_first s ss id
+more_stay_if true lanes s ss id first all later =
+    all_stay_join lanes (record s { handles = s.handles + 1 }) ss (or_left (nat_lt 0 (s.handles + 1)) (is_entered lanes s.id || has_child ss s.id) (some_handle s.handles)) all
+more_stay_if false lanes s ss id first all later =
+    all_stay_join lanes s (one_more ss id) (ap (λ (b : Bool). nat_lt 0 s.handles || (is_entered lanes s.id || b)) (more_child ss id s.id) ∙ first) later
+
+-- where all stay, they do with a handle more
+pub all_stay_with : (lanes : List (List ℕ)) (ss : List SpanRecord) (id : ℕ) → open_of lanes ss ≡ ss → open_of lanes (one_more ss id) ≡ one_more ss id
+unfolding open_of
+all_stay_with lanes [] id all = refl
+all_stay_with lanes (s ∷ ss) id all =
+    let parts = all_stay_split lanes s ss all in
+    more_stay_if (s.id == id) lanes s ss id parts.0 parts.1 (all_stay_with lanes ss id parts.1)

@@ -1,7 +1,7 @@
 -- The machine on skeletons: which step is refused, what it answers, and what it leaves.
 use Rattle.std.specs.Prelude.{ℕ, ◌+◌, ◌-◌, List, [], ◌∷◌, ◌++◌, length, Bool, true, false, not, ◌&&◌, ◌==◌, nat_lt, nat_le, if◌then◌else◌, Option, Some, None, slice_get, slice_set, option_and_then, unwrap_or}
 use Rattle.std.specs.List.{position_from, list_any}
-use Rattle.span_tracing_machine.specs.PlainData.{PlainStep, GlobalStep, EventStep, EnabledStep, SpanStep, EnterStep, ExitStep, CloseStep}
+use Rattle.span_tracing_machine.specs.PlainData.{PlainStep, GlobalStep, EventStep, EnabledStep, SpanStep, FollowsFromStep, EnterStep, ExitStep, CloneStep, CloseStep}
 use Rattle.tracing_appender_rolling.specs.declared.moment.Moment.{Moment}
 use Rattle.tracing_appender_rolling.specs.Moments.{is_moment}
 use Rattle.span_tracing_machine.specs.declared.record.SpanRecord.{SpanRecord}
@@ -9,11 +9,12 @@ use Rattle.span_tracing_machine.specs.declared.call.SpanName.{SpanName}
 use Rattle.span_tracing_machine.specs.declared.call.Parent.{Parent}
 use Rattle.span_tracing_machine.specs.declared.call.Parent.TheVariants.{Contextual, Root, Explicit}
 use Rattle.span_tracing_machine.specs.declared.refusal.Refusal.{Refusal}
-use Rattle.span_tracing_machine.specs.declared.refusal.Refusal.TheVariants.{UnknownCallsite, UnknownStack, UnknownSpan, ForeignParent, BadMoment, UnknownLane, GlobalSet, IdsSpent}
+use Rattle.span_tracing_machine.specs.declared.refusal.Refusal.TheVariants.{UnknownCallsite, UnknownStack, UnknownSpan, ForeignParent, BadMoment, UnknownLane, GlobalSet, TooManyHandles, IdsSpent}
 use Rattle.span_tracing_machine.specs.declared.call.Reply.{Reply}
 use Rattle.span_tracing_machine.specs.declared.call.Reply.TheVariants.{Done, Enabled, Span, Closed, Refused}
 use Rattle.span_tracing_machine.specs.declared.call.SpanCall.{SpanCall}
 use Rattle.span_tracing_machine.specs.declared.call.EnabledCall.{EnabledCall}
+use Rattle.span_tracing_machine.specs.declared.call.FollowsCall.{FollowsCall}
 use Rattle.span_tracing_machine.specs.Spans.{is_open, open_of, current, without_last, handles_of}
 use Rattle.span_tracing_machine.specs.Skeleton.{Skeleton, PlainCallsite, Mask}
 
@@ -86,6 +87,30 @@ span_refusal s (Some name) =
 abbrev pub call_refusal : Skeleton → SpanCall → Option Refusal
 call_refusal s call = first (lane_refusal s call.lane) (first (moment_refusal call.moment) (span_refusal s call.span))
 
+-- the stacks of both spans are looked at first, then whether these are open; with one stack none of them is foreign
+abbrev pub stack_refusal : Skeleton → Option SpanName → Option Refusal
+stack_refusal s None = None
+stack_refusal s (Some name) = when (not (knows_stack s name.stack)) UnknownStack
+
+abbrev pub open_refusal : Skeleton → Option SpanName → Option Refusal
+open_refusal s None = None
+open_refusal s (Some name) = when (not (is_open s.spans name.id)) UnknownSpan
+
+abbrev pub pair_refusal : Skeleton → Option SpanName → Option SpanName → Option Refusal
+pair_refusal s span follows =
+    first (stack_refusal s span)
+    (first (stack_refusal s follows)
+    (first (open_refusal s span)
+    (open_refusal s follows)))
+
+abbrev pub follows_refusal : Skeleton → FollowsCall → Option Refusal
+follows_refusal s call = first (lane_refusal s call.lane) (first (moment_refusal call.moment) (pair_refusal s call.span call.follows))
+
+-- a span's handles are counted up to the greatest number
+abbrev pub count_refusal : Skeleton → Option SpanName → Option Refusal
+count_refusal s None = None
+count_refusal s (Some name) = when (handles_of s.spans name.id == 18446744073709551615) TooManyHandles
+
 abbrev pub handle_refusal : Skeleton → Option SpanName → Option Refusal
 handle_refusal s None = None
 handle_refusal s (Some name) = when (handles_of s.spans name.id == 0) UnknownSpan
@@ -109,8 +134,10 @@ refusal_of s (GlobalStep handle) mask = first (when (not (knows_stack s handle))
 refusal_of s (EventStep e) mask = request_refusal s e.lane e.moment e.callsite false e.parent
 refusal_of s (EnabledStep call) mask = enabled_refusal s call
 refusal_of s (SpanStep n) mask = first (request_refusal s n.lane n.moment n.callsite true n.parent) (ids_refusal s (made_at s n.callsite true mask))
+refusal_of s (FollowsFromStep call) mask = follows_refusal s call
 refusal_of s (EnterStep call) mask = call_refusal s call
 refusal_of s (ExitStep call) mask = call_refusal s call
+refusal_of s (CloneStep call) mask = first (call_refusal s call) (count_refusal s call.span)
 refusal_of s (CloseStep call) mask = first (call_refusal s call) (handle_refusal s call.span)
 
 abbrev pub lane_at : List (List ℕ) → ℕ → List ℕ
@@ -133,6 +160,15 @@ changed_lane s lane f = record s { lanes = slice_set s.lanes lane (f (lane_at s.
 abbrev pub one_less : List SpanRecord → ℕ → List SpanRecord
 one_less [] id = []
 one_less (s ∷ ss) id = if s.id == id then (record s { handles = s.handles - 1 }) ∷ ss else s ∷ one_less ss id
+
+-- the record of an id with one handle more
+abbrev pub one_more : List SpanRecord → ℕ → List SpanRecord
+one_more [] id = []
+one_more (s ∷ ss) id = if s.id == id then (record s { handles = s.handles + 1 }) ∷ ss else s ∷ one_more ss id
+
+abbrev pub cloned : Skeleton → Option SpanName → Skeleton
+cloned s None = s
+cloned s (Some name) = record s { spans = one_more s.spans name.id }
 
 -- what stays open
 abbrev pub swept : Skeleton → Skeleton
@@ -159,8 +195,10 @@ acted s (GlobalStep handle) mask = record s { is_global = true }
 acted s (EventStep e) mask = s
 acted s (EnabledStep call) mask = s
 acted s (SpanStep n) mask = with_span s (parent_id s.lanes n.lane n.parent) (made_at s n.callsite true mask)
+acted s (FollowsFromStep call) mask = s
 acted s (EnterStep call) mask = entered s call.lane call.span
 acted s (ExitStep call) mask = left s call.lane call.span
+acted s (CloneStep call) mask = cloned s call.span
 acted s (CloseStep call) mask = given_up s call.span
 
 abbrev pub new_name : Skeleton → Option ℕ → Option SpanName
@@ -173,8 +211,10 @@ answered s (GlobalStep handle) mask = Done
 answered s (EventStep e) mask = Done
 answered s (EnabledStep call) mask = Enabled (is_made mask)
 answered s (SpanStep n) mask = Span (new_name s (made_at s n.callsite true mask))
+answered s (FollowsFromStep call) mask = Done
 answered s (EnterStep call) mask = Done
 answered s (ExitStep call) mask = Done
+answered s (CloneStep call) mask = Done
 answered s (CloseStep call) mask = Closed (is_closed s call.span)
   where
     is_closed : Skeleton → Option SpanName → Bool

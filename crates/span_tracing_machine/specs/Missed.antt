@@ -4,7 +4,7 @@ use Rattle.tracing_core.specs.PlainValue.{PlainValue}
 use Rattle.tracing_appender_rolling.specs.Sinks.{Handed}
 pub use Rattle.span_tracing_machine.specs.declared.fate.Fate.{Fate}
 pub use Rattle.span_tracing_machine.specs.declared.fate.Fate.TheVariants.{Whole, Missed, Unwritten}
-use Rattle.span_tracing_machine.specs.PlainData.{PlainStep, GlobalStep, EventStep, EnabledStep, SpanStep, EnterStep, ExitStep, CloseStep}
+use Rattle.span_tracing_machine.specs.PlainData.{PlainStep, GlobalStep, EventStep, EnabledStep, SpanStep, FollowsFromStep, EnterStep, ExitStep, CloneStep, CloseStep}
 use Rattle.span_tracing_machine.specs.Skeleton.{Skeleton, Mask}
 use Rattle.span_tracing_machine.specs.Machine.{refusal_of, made_at, or_same}
 
@@ -23,8 +23,10 @@ wanted s (GlobalStep handle) mask = []
 wanted s (EventStep e) mask = want_if (made_at s e.callsite false mask) (LineTo 0 0)
 wanted s (EnabledStep call) mask = []
 wanted s (SpanStep n) mask = want_if (made_at s n.callsite true mask) (TextOf 0)
+wanted s (FollowsFromStep call) mask = []
 wanted s (EnterStep call) mask = []
 wanted s (ExitStep call) mask = []
+wanted s (CloneStep call) mask = []
 wanted s (CloseStep call) mask = []
 
 unfoldable pub wants_of : Skeleton → PlainStep → Mask → List Want

@@ -7,6 +7,7 @@ use Rattle.span_tracing_machine.specs.declared.call.Parent.{Parent}
 use Rattle.span_tracing_machine.specs.declared.call.SpanCall.{SpanCall}
 use Rattle.span_tracing_machine.specs.declared.call.EventCall.{EventCall}
 use Rattle.span_tracing_machine.specs.declared.call.EnabledCall.{EnabledCall}
+use Rattle.span_tracing_machine.specs.declared.call.FollowsCall.{FollowsCall}
 use Rattle.span_tracing_machine.specs.declared.call.NewSpanCall.{NewSpanCall}
 use Rattle.span_tracing_machine.specs.declared.call.Step.{Step}
 use Rattle.span_tracing_machine.specs.declared.call.Step.TheVariants as steps
@@ -25,8 +26,10 @@ pub data PlainStep : Type 0 where
   EventStep : Request → PlainStep
   EnabledStep : EnabledCall → PlainStep
   SpanStep : Request → PlainStep
+  FollowsFromStep : FollowsCall → PlainStep
   EnterStep : SpanCall → PlainStep
   ExitStep : SpanCall → PlainStep
+  CloneStep : SpanCall → PlainStep
   CloseStep : SpanCall → PlainStep
 
 abbrev pub event_request : EventCall → Request
@@ -40,8 +43,10 @@ plain_step (steps.SetGlobalDefault handle) = GlobalStep handle
 plain_step (steps.Event e) = EventStep (event_request e)
 plain_step (steps.Enabled call) = EnabledStep call
 plain_step (steps.NewSpan n) = SpanStep (span_request n)
+plain_step (steps.RecordFollowsFrom call) = FollowsFromStep call
 plain_step (steps.Enter call) = EnterStep call
 plain_step (steps.Exit call) = ExitStep call
+plain_step (steps.CloneSpan call) = CloneStep call
 plain_step (steps.TryClose call) = CloseStep call
 
 abbrev pub plain_steps : List Step → List PlainStep

@@ -1,7 +1,7 @@
 -- The numbers of refusals.
 use Rattle.std.specs.Prelude.{ℕ}
 use Rattle.span_tracing_machine.specs.declared.refusal.Refusal.{Refusal}
-use Rattle.span_tracing_machine.specs.declared.refusal.Refusal.TheVariants.{UnknownCallsite, UnknownStack, UnknownSpan, ForeignParent, NoOutput, BadName, FolderRefused, BadMoment, OutOfMemory, BadRoute, UnknownLane, GlobalSet, Taken, IdsSpent}
+use Rattle.span_tracing_machine.specs.declared.refusal.Refusal.TheVariants.{UnknownCallsite, UnknownStack, UnknownSpan, ForeignParent, NoOutput, BadName, FolderRefused, BadMoment, OutOfMemory, BadRoute, UnknownLane, GlobalSet, Taken, TooManyHandles, IdsSpent}
 
 abbrev pub refusal_number : Refusal → ℕ
 refusal_number UnknownCallsite = 1
@@ -17,4 +17,5 @@ refusal_number BadRoute = 21
 refusal_number UnknownLane = 23
 refusal_number GlobalSet = 24
 refusal_number Taken = 25
+refusal_number TooManyHandles = 26
 refusal_number IdsSpent = 27

@@ -8,9 +8,10 @@ use Rattle.tracing_core.specs.PlainKind.{PlainKind}
 use Rattle.tracing_core.specs.PlainValue.{Unsigned, Text}
 use Rattle.span_tracing_machine.specs.declared.call.Parent.TheVariants.{Contextual}
 use Rattle.span_tracing_machine.specs.declared.call.Reply.TheVariants.{Done, Enabled, Span, Closed, Refused}
-use Rattle.span_tracing_machine.specs.declared.refusal.Refusal.TheVariants.{UnknownCallsite, UnknownSpan, BadMoment, UnknownLane}
+use Rattle.span_tracing_machine.specs.declared.refusal.Refusal.TheVariants.{UnknownCallsite, UnknownStack, UnknownSpan, BadMoment, UnknownLane}
 use Rattle.span_tracing_machine.specs.declared.call.SpanCall.{SpanCall}
-use Rattle.span_tracing_machine.specs.PlainData.{Request, PlainStep, GlobalStep, EventStep, EnabledStep, SpanStep, EnterStep, ExitStep, CloseStep}
+use Rattle.span_tracing_machine.specs.declared.call.SpanName.{SpanName}
+use Rattle.span_tracing_machine.specs.PlainData.{Request, PlainStep, GlobalStep, EventStep, EnabledStep, SpanStep, FollowsFromStep, EnterStep, ExitStep, CloneStep, CloseStep}
 use Rattle.span_tracing_machine.specs.Lines.{line_end}
 use Rattle.span_tracing_machine.specs.Skeleton.{PlainCallsite}
 use Rattle.span_tracing_machine.specs.Missed.{Missed, Unwritten}
@@ -60,6 +61,9 @@ new_outer = SpanStep (record { lane = 0; moment = at_ten; callsite = 1; parent =
 
 abbrev pub on_one : SpanCall
 on_one = record { lane = 0; moment = at_ten; span = Some (record { stack = 0; id = 1 }) }
+
+abbrev pub on_none : SpanCall
+on_none = record { lane = 0; moment = at_ten; span = None }
 
 abbrev pub hi_at : Moment → PlainStep
 hi_at moment = EventStep (record { lane = 0; moment = moment; callsite = 2; parent = Contextual; values = (0, Text (codes "hi")) ∷ (1, Unsigned 3) ∷ [] })
@@ -122,6 +126,28 @@ CycleReplies = replies_of base cycle ≡ (Done ∷ Span (Some (record { stack = 
 
 abbrev pub CycleLeft : Type 0
 CycleLeft = ((plain_run base cycle []).skeleton.spans ≡ []) × ((plain_run base cycle []).value_lists ≡ []) × ((plain_run base cycle []).skeleton.next_id ≡ 2)
+
+-- a span with two handles closes at the second that is given up, and then can't be cloned
+abbrev pub clones : List PlainStep
+clones = GlobalStep 0 ∷ new_outer ∷ CloneStep on_one ∷ CloseStep on_one ∷ CloseStep on_one ∷ CloneStep on_one ∷ CloneStep on_none ∷ []
+
+abbrev pub CloneReplies : Type 0
+CloneReplies = replies_of base clones ≡ (Done ∷ Span (Some (record { stack = 0; id = 1 })) ∷ Done ∷ Closed false ∷ Closed true ∷ Refused UnknownSpan ∷ Done ∷ [])
+
+-- a span follows itself; one that was never made, and one of a stack that was never given, are refused, the stack first
+abbrev pub follows : Option SpanName → Option SpanName → PlainStep
+follows span other = FollowsFromStep (record { lane = 0; moment = at_ten; span = span; follows = other })
+
+abbrev pub named : ℕ → ℕ → Option SpanName
+named stack id = Some (record { stack = stack; id = id })
+
+abbrev pub FollowsReplies : Type 0
+FollowsReplies = replies_of base (GlobalStep 0 ∷ new_outer ∷ follows (named 0 1) (named 0 1) ∷ follows (named 0 7) (named 1 1) ∷ follows None (named 0 7) ∷ follows (named 0 1) None ∷ [])
+    ≡ (Done ∷ Span (named 0 1) ∷ Done ∷ Refused UnknownStack ∷ Refused UnknownSpan ∷ Done ∷ [])
+
+-- nothing of it is kept
+abbrev pub FollowsLeaves : Type 0
+FollowsLeaves = plain_run base (GlobalStep 0 ∷ new_outer ∷ follows (named 0 1) (named 0 1) ∷ []) [] ≡ plain_run base (GlobalStep 0 ∷ new_outer ∷ []) []
 
 -- a DEBUG callsite of an event
 abbrev pub quiet : PlainCallsite

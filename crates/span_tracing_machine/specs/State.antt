@@ -10,7 +10,7 @@ use Rattle.span_tracing_machine.specs.declared.call.SpanName.{SpanName}
 use Rattle.span_tracing_machine.specs.declared.call.Reply.{Reply}
 use Rattle.span_tracing_machine.specs.declared.refusal.Refusal.{Refusal}
 use Rattle.span_tracing_machine.specs.declared.refusal.Refusal.TheVariants.{Taken}
-use Rattle.span_tracing_machine.specs.PlainData.{Request, PlainStep, GlobalStep, EventStep, EnabledStep, SpanStep, EnterStep, ExitStep, CloseStep}
+use Rattle.span_tracing_machine.specs.PlainData.{Request, PlainStep, GlobalStep, EventStep, EnabledStep, SpanStep, FollowsFromStep, EnterStep, ExitStep, CloneStep, CloseStep}
 use Rattle.span_tracing_machine.specs.FieldTexts.{fields_text}
 use Rattle.span_tracing_machine.specs.Lines.{Shown, full_line}
 use Rattle.span_tracing_machine.specs.Spans.{line_of, is_open}
@@ -72,8 +72,10 @@ step_mask s filter (GlobalStep handle) = []
 step_mask s filter (EventStep e) = mask_for s filter e.callsite false
 step_mask s filter (EnabledStep call) = mask_asked s filter call.callsite.0
 step_mask s filter (SpanStep n) = mask_for s filter n.callsite true
+step_mask s filter (FollowsFromStep call) = []
 step_mask s filter (EnterStep call) = []
 step_mask s filter (ExitStep call) = []
+step_mask s filter (CloneStep call) = []
 step_mask s filter (CloseStep call) = []
 
 abbrev pub filter_of : Option PlainOutput → Option ℕ
@@ -121,8 +123,10 @@ offer_of s texts time (GlobalStep handle) mask = None
 offer_of s texts time (EventStep e) mask = option_map (λ place. handed_at e.moment (event_line s texts time e place)) (made_at s e.callsite false mask)
 offer_of s texts time (EnabledStep call) mask = None
 offer_of s texts time (SpanStep n) mask = None
+offer_of s texts time (FollowsFromStep call) mask = None
 offer_of s texts time (EnterStep call) mask = None
 offer_of s texts time (ExitStep call) mask = None
+offer_of s texts time (CloneStep call) mask = None
 offer_of s texts time (CloseStep call) mask = None
 
 -- the value lists with those of a new span
@@ -141,8 +145,10 @@ lists_acted s lists (GlobalStep handle) mask fate = lists
 lists_acted s lists (EventStep e) mask fate = lists
 lists_acted s lists (EnabledStep call) mask fate = lists
 lists_acted s lists (SpanStep n) mask fate = with_values lists s n fate (made_at s n.callsite true mask)
+lists_acted s lists (FollowsFromStep call) mask fate = lists
 lists_acted s lists (EnterStep call) mask fate = lists
 lists_acted s lists (ExitStep call) mask fate = lists_left call.span (acted s (ExitStep call) mask).spans lists
+lists_acted s lists (CloneStep call) mask fate = lists
 lists_acted s lists (CloseStep call) mask fate = lists_left call.span (acted s (CloseStep call) mask).spans lists
 
 abbrev pub time_of : Option PlainOutput → Option (List ℕ)

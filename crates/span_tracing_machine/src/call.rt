@@ -50,6 +50,15 @@ pub struct SpanCall {
     pub span: Option<SpanName>,
 }
 
+/// A span that follows from another one. Where either is none, nothing is told, and the other is looked at all the same.
+#[derive(Clone, Copy, Debug, PartialEq, Eq)]
+pub struct FollowsCall {
+    pub lane: usize,
+    pub moment: Moment,
+    pub span: Option<SpanName>,
+    pub follows: Option<SpanName>,
+}
+
 /// A question on a lane: whether a request at a callsite would be made.
 #[derive(Clone, Copy, Debug, PartialEq, Eq)]
 pub struct EnabledCall {
@@ -67,8 +76,12 @@ pub enum Step {
     /// Asks whether a request would be made. It is no request, and leaves no mark.
     Enabled(EnabledCall),
     NewSpan(NewSpanCall),
+    /// Records that a span follows from another one.
+    RecordFollowsFrom(FollowsCall),
     Enter(SpanCall),
     Exit(SpanCall),
+    /// Takes one more handle of a span.
+    CloneSpan(SpanCall),
     /// Gives up one handle of a span.
     TryClose(SpanCall),
 }

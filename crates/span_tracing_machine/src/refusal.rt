@@ -33,6 +33,8 @@ pub enum Refusal {
     GlobalSet,
     #[error("the identifier is taken by other metadata")]
     Taken,
+    #[error("the span has as many handles as can be counted")]
+    TooManyHandles,
     #[error("all span ids are given")]
     IdsSpent,
 }
@@ -58,6 +60,7 @@ impl Refusal {
             Refusal::UnknownLane => 23,
             Refusal::GlobalSet => 24,
             Refusal::Taken => 25,
+            Refusal::TooManyHandles => 26,
             Refusal::IdsSpent => 27,
         }
     }

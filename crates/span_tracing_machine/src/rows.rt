@@ -1,6 +1,6 @@
 //! Worked rows: what the plain machine gives for a few runs, found by computing.
 
-ghost use Rattle.span_tracing_machine.specs.Rows.{StoredRunReplies, StoredRunFile, BytesAtOpening, EmptyReplies, EmptyFile, TooEarlyReplies, TooEarlyFile, MissedText, MissedLine, UnwrittenLine, CycleReplies, CycleLeft, EnabledReplies, EnabledRefusals, EnabledLeaves, HintReplies, NestedFile, NestedLeft};
+ghost use Rattle.span_tracing_machine.specs.Rows.{StoredRunReplies, StoredRunFile, BytesAtOpening, EmptyReplies, EmptyFile, TooEarlyReplies, TooEarlyFile, MissedText, MissedLine, UnwrittenLine, CloneReplies, CycleReplies, CycleLeft, EnabledReplies, EnabledRefusals, EnabledLeaves, FollowsLeaves, FollowsReplies, HintReplies, NestedFile, NestedLeft};
 
 /// A span, an event in it, and the file's one line.
 pub fn row_stored_run()
@@ -36,6 +36,17 @@ pub fn row_missed()
 pub fn row_span_cycle()
     ensures replies { CycleReplies }
     ensures left { CycleLeft }
+{}
+
+/// A span with two handles closes at the second that is given up.
+pub fn row_clones()
+    ensures { CloneReplies }
+{}
+
+/// That a span follows from another one is refused by stacks, then by spans, and nothing of it is kept.
+pub fn row_follows()
+    ensures replies { FollowsReplies }
+    ensures left { FollowsLeaves }
 {}
 
 /// Asking whether a request would be made goes by the filter and the reached stack, and leaves no mark.

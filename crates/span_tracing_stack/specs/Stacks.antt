@@ -11,6 +11,7 @@ use Rattle.span_tracing_machine.specs.declared.record.SpanRecord.{SpanRecord}
 use Rattle.span_tracing_machine.specs.FieldTexts.{fields_text}
 use Rattle.span_tracing_machine.specs.Lines.{full_line}
 use Rattle.span_tracing_machine.specs.Machine.{lane_at, one_less}
+pub use Rattle.span_tracing_machine.specs.Machine.{one_more}
 use Rattle.span_tracing_machine.specs.declared.fate.Fate.{Fate}
 use Rattle.span_tracing_machine.specs.declared.fate.Fate.TheVariants.{Whole, Missed, Unwritten}
 use Rattle.span_tracing_machine.specs.Missed.{given_by}
@@ -155,11 +156,6 @@ with_exit x lane id = swept_with (removed lane id x.lanes) x.spans x
 -- with one handle of a span less
 abbrev pub with_less : StackValue → ℕ → StackValue
 with_less x id = swept_with x.lanes (one_less x.spans id) x
-
--- the record of an id with one handle more
-abbrev pub one_more : List SpanRecord → ℕ → List SpanRecord
-one_more [] id = []
-one_more (s ∷ ss) id = if s.id == id then (record s { handles = s.handles + 1 }) ∷ ss else s ∷ one_more ss id
 
 -- the line that was told, and whether a text or a line found no memory
 abbrev pub line_said : PlainTold → Option (List ℕ)

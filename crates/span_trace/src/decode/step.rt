@@ -5,7 +5,8 @@ use crate::decode::setup::{CallsiteLine, Setup};
 use crate::fault::LineFault;
 use serde_json::Value as Json;
 use span_tracing::{
-    EnabledCall, EventCall, FieldValue, NewSpanCall, OwnedValue, Parent, SpanCall, SpanName, Step,
+    EnabledCall, EventCall, FieldValue, FollowsCall, NewSpanCall, OwnedValue, Parent, SpanCall,
+    SpanName, Step,
 };
 use std::alloc::Global;
 use tracing_core::{Id, Identifier};
@@ -25,8 +26,10 @@ pub(crate) fn step_line(
         "event" => Ok(Step::Event(event_call(alloc, setup, members)?)),
         "enabled" => Ok(Step::Enabled(enabled_call(members)?)),
         "new_span" => Ok(Step::NewSpan(new_span_call(alloc, setup, members)?)),
+        "record_follows_from" => Ok(Step::RecordFollowsFrom(follows_call(members)?)),
         "enter" => Ok(Step::Enter(span_call(members)?)),
         "exit" => Ok(Step::Exit(span_call(members)?)),
+        "clone_span" => Ok(Step::CloneSpan(span_call(members)?)),
         "try_close" => Ok(Step::TryClose(span_call(members)?)),
         _ => Err(LineFault::NotReadable),
     }
@@ -77,16 +80,29 @@ fn enabled_call(members: Members<'_>) -> Result<EnabledCall, LineFault> {
 
 fn span_call(members: Members<'_>) -> Result<SpanCall, LineFault> {
     members.only(&["do", "lane", "moment", "span"])?;
-    let value = members.get("span")?;
     Ok(SpanCall {
         lane: members.size("lane")?,
         moment: members.moment()?,
-        span: if value.is_null() {
-            None
-        } else {
-            Some(span_name(value)?)
-        },
+        span: span_or_none(members.get("span")?)?,
     })
+}
+
+fn follows_call(members: Members<'_>) -> Result<FollowsCall, LineFault> {
+    members.only(&["do", "lane", "moment", "span", "follows"])?;
+    Ok(FollowsCall {
+        lane: members.size("lane")?,
+        moment: members.moment()?,
+        span: span_or_none(members.get("span")?)?,
+        follows: span_or_none(members.get("follows")?)?,
+    })
+}
+
+/// A span, or none for null.
+fn span_or_none(value: &Json) -> Result<Option<SpanName>, LineFault> {
+    if value.is_null() {
+        return Ok(None);
+    }
+    Ok(Some(span_name(value)?))
 }
 
 /// A stack's number and a span's id in it, which is not 0.

@@ -19,7 +19,9 @@ const EXIT: &str = r#"{"do":"exit","lane":0,"moment":[1739786460,0],"span":[0,1]
 
 const CLOSE: &str = r#"{"do":"try_close","lane":0,"moment":[1739786460,0],"span":[0,1]}"#;
 
-const REPLIES: [Row<'static>; 10] = [
+const CLONE: &str = r#"{"do":"clone_span","lane":0,"moment":[1739786460,0],"span":[0,1]}"#;
+
+const REPLIES: [Row<'static>; 12] = [
     Row {
         steps: &[DEFAULT, NEW_SPAN, ENTER, EVENT],
         replies: &[r#""done""#, r#"{"span":[0,1]}"#, r#""done""#, r#""done""#],
@@ -46,6 +48,41 @@ const REPLIES: [Row<'static>; 10] = [
         ],
         status: 1,
         text: r"fake time outer{x=42}: app: hi n=3\n",
+    },
+    Row {
+        steps: &[DEFAULT, NEW_SPAN, CLONE, CLOSE, CLOSE, CLONE],
+        replies: &[
+            r#""done""#,
+            r#"{"span":[0,1]}"#,
+            r#""done""#,
+            r#"{"closed":false}"#,
+            r#"{"closed":true}"#,
+            r#"{"refused":4}"#,
+        ],
+        status: 1,
+        text: "",
+    },
+    Row {
+        steps: &[
+            DEFAULT,
+            NEW_SPAN,
+            r#"{"do":"record_follows_from","lane":0,"moment":[1739786460,0],"span":[0,1],"follows":[0,1]}"#,
+            r#"{"do":"record_follows_from","lane":0,"moment":[1739786460,0],"span":[0,1],"follows":null}"#,
+            r#"{"do":"record_follows_from","lane":0,"moment":[1739786460,0],"span":null,"follows":[0,9]}"#,
+            r#"{"do":"record_follows_from","lane":0,"moment":[1739786460,0],"span":[0,9],"follows":[1,1]}"#,
+            r#"{"do":"record_follows_from","lane":1,"moment":[1739786460,0],"span":[0,9],"follows":[1,1]}"#,
+        ],
+        replies: &[
+            r#""done""#,
+            r#"{"span":[0,1]}"#,
+            r#""done""#,
+            r#""done""#,
+            r#"{"refused":4}"#,
+            r#"{"refused":2}"#,
+            r#"{"refused":23}"#,
+        ],
+        status: 1,
+        text: "",
     },
     Row {
         steps: &[

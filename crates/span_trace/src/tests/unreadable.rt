@@ -29,7 +29,7 @@ const LINES: [&str; 26] = [
     r#"{"do":"enabled","lane":0,"moment":[0,0],"callsite":null}"#,
     r#"{"do":"enabled","lane":0,"moment":[0,0],"callsite":1,"values":[]}"#,
     r#"{"do":"record","lane":0,"moment":[0,0],"span":[0,1],"values":[]}"#,
-    r#"{"do":"clone_span","lane":0,"moment":[0,0],"span":[0,1]}"#,
+    r#"{"do":"swap_filter","lane":0,"moment":[0,0],"span":[0,1]}"#,
     r#"{"do":"work","moment":[0,0],"sink":0,"lines":9}"#,
     r#"{"do":"set_default","lane":0,"handle":0}"#,
     r#"{"do":"release","handle":0}"#,

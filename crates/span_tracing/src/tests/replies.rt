@@ -1,7 +1,7 @@
 //! Each step once, and each refusal of a step.
 
 use super::*;
-use crate::{EnabledCall, EventCall, NewSpanCall, Parent, SpanCall, Step};
+use crate::{EnabledCall, EventCall, FollowsCall, NewSpanCall, Parent, SpanCall, Step};
 
 #[test]
 fn each_step_answers(rt: HostRuntime) -> Result<(), Fail> {
@@ -31,6 +31,57 @@ fn each_step_answers(rt: HostRuntime) -> Result<(), Fail> {
     assert_eq!(rt; trace.try_close(0, OPENED, None), Reply::Closed(false));
     let last = made(trace.new_span(1, OPENED, OUTER, Parent::Contextual, &[]))?;
     assert_eq!(rt; last, span_name(0, 3)?);
+    Ok(())
+}
+
+#[test]
+fn spans_have_as_many_handles_as_were_taken(rt: HostRuntime) -> Result<(), Fail> {
+    let alloc = rt.alloc();
+    let mut trace = set_trace(&rt, alloc, LevelFilter::INFO, fixed_time(alloc)?)?;
+    let span = made(trace.new_span(0, OPENED, OUTER, Parent::Root, &[]))?;
+    assert_eq!(rt; trace.clone_span(0, OPENED, Some(span)), Reply::Done);
+    assert_eq!(rt; trace.clone_span(0, OPENED, None), Reply::Done);
+    assert_eq!(rt;
+        trace.record_follows_from(0, OPENED, Some(span), Some(span)),
+        Reply::Done
+    );
+    assert_eq!(rt;
+        trace.record_follows_from(0, OPENED, None, None),
+        Reply::Done
+    );
+    let steps = [
+        Step::RecordFollowsFrom(FollowsCall {
+            lane: 0,
+            moment: OPENED,
+            span: Some(span_name(0, 9)?),
+            follows: Some(span),
+        }),
+        Step::TryClose(SpanCall {
+            lane: 0,
+            moment: OPENED,
+            span: Some(span),
+        }),
+        Step::TryClose(SpanCall {
+            lane: 0,
+            moment: OPENED,
+            span: Some(span),
+        }),
+        Step::CloneSpan(SpanCall {
+            lane: 0,
+            moment: OPENED,
+            span: Some(span),
+        }),
+    ];
+    assert_eq!(rt;
+        trace.run(&steps)?.as_slice(),
+        [
+            Reply::Refused(Refusal::UnknownSpan),
+            Reply::Closed(false),
+            Reply::Closed(true),
+            Reply::Refused(Refusal::UnknownSpan),
+        ]
+        .as_slice()
+    );
     Ok(())
 }
 

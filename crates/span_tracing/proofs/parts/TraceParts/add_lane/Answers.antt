@@ -8,7 +8,7 @@ use Rattle.span_tracing.proofs.Padded.{lanes_count}
 use Rattle.span_tracing.proofs.parts.TraceParts.add_lane.Goals as goal
 
 pub returns-clause-number : goal.returns-clause-number
-returns-clause-number c = 
+returns-clause-number c =
     let same = lanes_count c.args.self.now c.requires in
     let lanes = ap length c.requires.lanes ∙ length-replicate (length c.args.self.now.threads.items) (Running Unset) in
     omega (arith, same, c.in_ok-lane.ensures.number, lanes)
