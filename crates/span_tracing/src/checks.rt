@@ -202,9 +202,9 @@ impl TraceParts {
         }
     }
 
-    fn follows_refusal(&self, call: FollowsCall) -> Option<Refusal>
+    fn follows_refusal(&self, call: &FollowsCall) -> Option<Refusal>
         requires { IsSound self.now }
-        ensures { result ≡ follows_refusal (skeleton_of (value_in self.now)) call }
+        ensures { result ≡ follows_refusal (skeleton_of (value_in self.now)) call.now }
     {
         if let Some(refusal) = self.lane_refusal(call.lane) {
             return Some(refusal);
@@ -212,17 +212,26 @@ impl TraceParts {
         if !call.moment.is_in_range() {
             return Some(Refusal::BadMoment);
         }
-        self.pair_refusal(call.span, call.follows)
+        self.pair_refusal(call)
     }
 
     // The stacks of both are looked at before whether they are open.
-    fn pair_refusal(&self, span: Option<SpanName>, follows: Option<SpanName>) -> Option<Refusal>
-        ensures { result ≡ pair_refusal (skeleton_of (value_in self.now)) span follows }
+    fn pair_refusal(&self, call: &FollowsCall) -> Option<Refusal>
+        ensures { result ≡ pair_refusal (skeleton_of (value_in self.now)) call.now.span call.now.follows }
     {
-        self.stack_refusal(span)
-            .or(self.stack_refusal(follows))
-            .or(self.open_refusal(span))
-            .or(self.open_refusal(follows))
+        let refusal = self.stack_refusal(call.span);
+        if refusal.is_some() {
+            return refusal;
+        }
+        let refusal = self.stack_refusal(call.follows);
+        if refusal.is_some() {
+            return refusal;
+        }
+        let refusal = self.open_refusal(call.span);
+        if refusal.is_some() {
+            return refusal;
+        }
+        self.open_refusal(call.follows)
     }
 
     fn count_refusal(&self, span: Option<SpanName>) -> Option<Refusal>
@@ -355,7 +364,7 @@ impl TraceParts {
                 }
                 self.ids_refusal(span)
             }
-            Action::RecordFollowsFrom(call) => self.follows_refusal(*call),
+            Action::RecordFollowsFrom(call) => self.follows_refusal(call),
             Action::Enter(call) => self.call_refusal(*call),
             Action::Exit(call) => self.call_refusal(*call),
             Action::CloneSpan(call) => {

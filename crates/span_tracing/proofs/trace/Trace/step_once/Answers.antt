@@ -43,3 +43,7 @@ pub set_global-requires-clause-first : goal.set_global-requires-clause-first
 set_global-requires-clause-first g c =
     let t = c.args.self.now.state in
     rw (c.refusal.ensures.kept) (global_first (skeleton_of t) c.in-SetGlobalDefault.field-0 (mask_in t (GlobalStep c.in-SetGlobalDefault.field-0)) (sym (rw (c.in_default.is, c.in-SetGlobalDefault.is) at c.refusal.ensures.value)))
+
+pub clone_span-requires : goal.clone_span-requires
+unfolding refusal_of
+clone_span-requires g c = rw (c.refusal.ensures.kept) (sym (rw (c.in_default.is, c.in-CloneSpan.is) at c.refusal.ensures.value))
