@@ -3,3 +3,5 @@ pub mod Honesty
 pub mod Combined
 pub mod Optional
 pub mod Functions
+pub mod Notices
+pub mod Lending

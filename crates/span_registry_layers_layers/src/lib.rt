@@ -3,9 +3,13 @@
 
 mod context;
 mod filter;
+mod filtered;
+mod layer;
 
 pub use context::Context;
 pub use filter::{And, Filter, FilterFn, MetadataTest, Not, Or, filter_fn};
+pub use filtered::Filtered;
+pub use layer::Layer;
 
 #[cfg(test)]
 mod tests;

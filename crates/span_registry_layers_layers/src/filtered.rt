@@ -1,0 +1,50 @@
+//! A layer with a filter of its own.
+ghost use Rattle.std.specs.Borrow.{sem};
+ghost use Rattle.std.specs.Prelude.{◌≡◌};
+ghost use Rattle.span_registry_layers_layers.specs.Lending.{LendsFilter, LendsLayer};
+
+/// A layer that is told what its filter passes.
+#[derive(Clone, Copy, Debug, Drop)]
+pub struct Filtered<L, F> {
+    layer: L,
+    filter: F,
+}
+
+impl<L, F> Filtered<L, F> {
+    /// The layer, told what the filter passes.
+    pub fn new(layer: L, filter: F) -> Filtered<L, F>
+        ensures { (result.layer ≡ layer) × (result.filter ≡ filter) }
+    {
+        Filtered { layer, filter }
+    }
+
+    /// The filter.
+    pub fn filter(&self) -> &F
+        ensures { result.now ≡ self.now.filter }
+    {
+        &self.filter
+    }
+
+    /// The filter, to be changed. What was kept of its answers is not asked anew.
+    pub fn filter_mut(&mut self) -> &mut F
+        ensures lent { result.now ≡ self.old.filter }
+        ensures* ends { sem 𝓛 (LendsFilter L.row F.row self.entry result) }
+    {
+        &mut self.filter
+    }
+
+    /// The layer.
+    pub fn inner(&self) -> &L
+        ensures { result.now ≡ self.now.layer }
+    {
+        &self.layer
+    }
+
+    /// The layer, to be changed.
+    pub fn inner_mut(&mut self) -> &mut L
+        ensures lent { result.now ≡ self.old.layer }
+        ensures* ends { sem 𝓛 (LendsLayer L.row F.row self.entry result) }
+    {
+        &mut self.layer
+    }
+}

@@ -1,0 +1,99 @@
+//! What an output does with what it is told.
+ghost use Rattle.std.specs.Prelude.{◌≡◌, ℕ, Bool, Option};
+ghost use Rattle.tracing_core.specs.Interests.{PlainInterest};
+ghost use Rattle.tracing_core.specs.Metadata.{plain_metadata};
+ghost use Rattle.tracing_core.specs.PlainMetadata.{PlainMetadata};
+ghost use Rattle.tracing_core.specs.PlainRequests.{PlainEvent, plain_attributes, plain_event, plain_record};
+ghost use Rattle.tracing_core.specs.Steady.{SameWord};
+ghost use Rattle.span_registry_layers_layers.specs.Honesty.{Fair};
+ghost use Rattle.span_registry_layers_layers.specs.Looks.{Closed, Entered, Exited, Recorded, SpanMade, View, view};
+ghost use Rattle.span_registry_layers_layers.specs.Notices.{AddsFilters, Attached, Dispatched, Followed, Happened, Notice, Renamed, Spanned};
+
+use crate::context::Context;
+use span_registry_layers_store::Registry;
+use tracing_core::{Attributes, Event, Id, Interest, LevelFilter, Metadata, Record, WeakDispatch};
+
+/// What an output does with the spans and events that it is told.
+///
+/// A notice answers nothing: a layer that finds no memory keeps that in its own state, so what a notice may
+/// make of it is a relation. An honest layer keeps its word as an honest filter does, whatever it is told.
+pub trait Layer: Drop {
+    // What it may answer of a callsite, by what it may look at.
+    ghost answers: { Self → PlainMetadata → View → Bool → Type 0 };
+
+    // What it may answer of an event that it passed so far.
+    ghost event_answers: { Self → PlainEvent → View → Bool → Type 0 };
+
+    // What it may say of its interest in a callsite.
+    ghost says: { Self → PlainMetadata → PlainInterest → Type 0 };
+
+    // The rank of the most verbose level that it passes.
+    ghost hint: { Self → Option ℕ };
+
+    // What a notice may make of it.
+    ghost told: { Self → Notice → Self → Type 0 };
+
+    // Which values keep their word.
+    ghost honest: { Self → Type 0 };
+
+    ghost fair: { (x : Self) → honest x → Fair (answers x) (says x) (hint x) };
+
+    ghost stays: { (x : Self) (n : Notice) (y : Self) → told x n y → honest x → honest y × SameWord (says x) (says y) (hint x) (hint y) };
+
+    /// A hub took the stack that it is in, and gave out this handle.
+    fn on_register_dispatch(&mut self, dispatch: &WeakDispatch)
+        ensures { told self.old (Dispatched dispatch.now) self.new };
+
+    /// It was attached to a registry, which it may have number its filters.
+    fn on_layer(&mut self, registry: &mut Registry)
+        ensures told { told self.old (Attached registry.old) self.new }
+        ensures filters { AddsFilters registry.old registry.new };
+
+    /// Its interest in a callsite.
+    fn register_callsite(&self, metadata: &Metadata<'_>) -> Interest
+        ensures { says self.now (plain_metadata metadata.now) result };
+
+    /// Whether spans and events of the callsite pass, made there and then. Where it refuses, nobody is told.
+    fn enabled(&self, metadata: &Metadata<'_>, context: &Context<'_>) -> bool
+        ensures { answers self.now (plain_metadata metadata.now) (view context.now) result };
+
+    /// A span was made.
+    fn on_new_span(&mut self, attributes: &Attributes<'_, '_>, span: &Id, context: &mut Context<'_>)
+        ensures { told self.old (Spanned (SpanMade (plain_attributes attributes.now) span.now (view context.old))) self.new };
+
+    /// The most verbose level that passes, where it knows one.
+    fn max_level_hint(&self) -> Option<LevelFilter>
+        ensures { result ≡ hint self.now };
+
+    /// Values were recorded on a span.
+    fn on_record(&mut self, span: &Id, values: &Record<'_>, context: &mut Context<'_>)
+        ensures { told self.old (Spanned (Recorded span.now (plain_record values.now) (view context.old))) self.new };
+
+    /// A span was said to follow from another one.
+    fn on_follows_from(&mut self, span: &Id, follows: &Id, context: &mut Context<'_>)
+        ensures { told self.old (Followed span.now follows.now (view context.old)) self.new };
+
+    /// Whether an event passes, whose callsite does. Where it refuses, nobody is told.
+    fn event_enabled(&self, event: &Event<'_, '_>, context: &Context<'_>) -> bool
+        ensures { event_answers self.now (plain_event event.now) (view context.now) result };
+
+    /// An event happened.
+    fn on_event(&mut self, event: &Event<'_, '_>, context: &mut Context<'_>)
+        ensures { told self.old (Happened (plain_event event.now) (view context.old)) self.new };
+
+    /// A span was entered.
+    fn on_enter(&mut self, span: &Id, context: &mut Context<'_>)
+        ensures { told self.old (Spanned (Entered span.now (view context.old))) self.new };
+
+    /// A span was left.
+    fn on_exit(&mut self, span: &Id, context: &mut Context<'_>)
+        ensures { told self.old (Spanned (Exited span.now (view context.old))) self.new };
+
+    /// A span closes: it can still be looked at.
+    fn on_close(&mut self, span: &Id, context: &mut Context<'_>)
+        ensures { told self.old (Spanned (Closed span.now (view context.old))) self.new };
+
+    /// A span has another id. No stack of this crate calls it.
+    fn on_id_change(&mut self, old: &Id, new: &Id, context: &mut Context<'_>)
+        ensures { told self.old (Renamed old.now new.now (view context.old)) self.new };
+}
