@@ -5,3 +5,4 @@ pub mod Optional
 pub mod Functions
 pub mod Notices
 pub mod Lending
+pub mod Oracles
