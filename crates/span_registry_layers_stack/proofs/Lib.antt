@@ -1,0 +1,4 @@
+pub mod Telling
+pub mod Loops
+pub mod Asking
+pub mod Keeping

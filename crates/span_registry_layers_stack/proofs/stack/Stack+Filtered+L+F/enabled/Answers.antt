@@ -1,0 +1,7 @@
+use Rattle.std.proofs.Common.{◌≡◌, ◌∙◌}
+use Rattle.tracing_core.specs.Metadata.{plain_metadata}
+use Rattle.span_registry_layers_stack.specs.Caches.{passes_is_asked}
+use Rattle.span_registry_layers_stack.proofs.stack.Stack+Filtered+L+F.enabled.Goals as goal
+
+pub returns-clause-asking : goal.returns-clause-asking
+returns-clause-asking g c o w = c.some_passes.ensures o ∙ passes_is_asked g.F.Filter o c.args.self.now (plain_metadata c.args.metadata.now) c.args.at c.is_real.ensures w

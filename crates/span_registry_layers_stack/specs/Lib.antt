@@ -1,0 +1,6 @@
+pub mod Rows
+pub mod Sites
+pub mod Asked
+pub mod Stacks
+pub mod Words
+pub mod Caches

@@ -1,0 +1,78 @@
+-- A stack as a value, and what an event leaves of it.
+use Rattle.std.specs.Prelude.{◌≡◌, ◌||◌, ◌&&◌, not, ℕ, nat_lt, Bool, true, false, List, map, Option, Some, None, Result, Ok, Err, if◌then◌else◌}
+use Rattle.std.specs.List.{list_any}
+use Rattle.tracing_core.specs.At.{At}
+use Rattle.tracing_core.specs.Interests.{PlainInterest}
+use Rattle.tracing_core.specs.PlainMetadata.{PlainMetadata}
+use Rattle.tracing_core.specs.PlainRequests.{PlainEvent, explicit_parent}
+use Rattle.tracing_core.specs.RequestError.{RequestError}
+use Rattle.tracing_core.specs.RequestError.TheVariants.{UnknownParent}
+use Rattle.span_registry_layers_store.specs.Registries.{RegistryValue, knows}
+use Rattle.span_registry_layers_layers.specs.Oracles.{Oracle}
+use Rattle.span_registry_layers_layers.specs.declared.filter.Filter.{Ghosts}
+use Rattle.span_registry_layers_layers.specs.declared.filtered.Filtered.{Filtered}
+use Rattle.span_registry_layers_layers.specs.declared.layer.Layer.{Ghosts as LayerGhosts}
+use Rattle.span_registry_layers_stack.specs.Asked.{any_passes}
+use Rattle.span_registry_layers_stack.specs.Rows.{EachBecomes, TellsEvent, marked}
+use Rattle.span_registry_layers_stack.specs.Sites.{Keeps, PlainSite, is_refused_by, plain_site}
+use Rattle.span_registry_layers_stack.specs.declared.parts.StackParts.{StackParts}
+use Rattle.span_registry_layers_stack.specs.declared.row.Row.{Row}
+
+-- the spans, the outputs in order, the kept interests of callsites, and the kept hint
+pub record StackValue (O : Type 0) : Type 0 where
+  pub registry : RegistryValue
+  pub rows : List (Row O)
+  pub sites : List PlainSite
+  pub hint : Option ℕ
+
+abbrev pub plain_stack : {O : Type 0} → StackParts O → StackValue O
+plain_stack s = record { registry = s.registry; rows = s.rows.items; sites = map plain_site s.sites.items; hint = s.hint }
+
+-- a level is above the hint, where there is one
+abbrev pub is_above : Option ℕ → ℕ → Bool
+is_above None level = false
+is_above (Some top) level = nat_lt top level
+
+-- what is kept refuses the callsite: its level is above the hint, or nobody is interested in it
+abbrev pub is_refused : {O : Type 0} → StackValue O → PlainMetadata → Bool
+is_refused s m = is_above s.hint m.level || list_any (is_refused_by m) s.sites
+
+-- no filter passed the last request
+abbrev pub cleared : {O : Type 0} → StackValue O → StackValue O
+cleared s = record s { rows = map (marked false) s.rows }
+
+-- a parent that is named has to be open; else the stack stays
+abbrev pub WhereKnown : {O : Type 0} → Bool → StackValue O → (StackValue O → Type 0) → Result (Unit {0}) RequestError → StackValue O → Type 0
+WhereKnown true s leaves r t = (r ≡ Ok tt) × leaves t
+WhereKnown false s leaves r t = (r ≡ Err UnknownParent) × (t ≡ s)
+
+module _ {L F : Type 0} (g : Ghosts F) where
+  module _ (o : Oracle g) where
+    -- whether some filter passes the callsite, false where what is kept refuses it
+    abbrev pub passes_cached : StackValue (Filtered L F) → PlainMetadata → At → Bool
+    passes_cached s m at = not (is_refused s m) && any_passes g o m at s.registry s.rows
+
+    -- the same, each filter asked afresh
+    abbrev pub passes_asked : StackValue (Filtered L F) → PlainMetadata → At → Bool
+    passes_asked s m at = any_passes g o m at s.registry s.rows
+
+module _ {L F : Type 0} (g : Ghosts F) (h : LayerGhosts L) (o : Oracle g) where
+  -- each output is told, in order, where its filter, asked afresh, passes the event
+  abbrev pub TellsAll : PlainEvent → At → StackValue (Filtered L F) → StackValue (Filtered L F) → Type 0
+  TellsAll e at s t = EachBecomes (TellsEvent g h o e at s.registry) s.rows t.rows × (t ≡ record s { rows = t.rows })
+
+  abbrev pub TellsUnless : Bool → PlainEvent → At → StackValue (Filtered L F) → StackValue (Filtered L F) → Type 0
+  TellsUnless true e at s t = t ≡ cleared s
+  TellsUnless false e at s t = TellsAll e at s t
+
+  -- an event, every filter asked afresh
+  abbrev pub EventAsked : PlainEvent → At → StackValue (Filtered L F) → Result (Unit {0}) RequestError → StackValue (Filtered L F) → Type 0
+  EventAsked e at s r t = WhereKnown (knows s.registry (explicit_parent e.parent)) s (TellsAll e at s) r t
+
+  -- an event, nobody asked where what is kept refuses it
+  abbrev pub EventCached : PlainEvent → At → StackValue (Filtered L F) → Result (Unit {0}) RequestError → StackValue (Filtered L F) → Type 0
+  EventCached e at s r t = WhereKnown (knows s.registry (explicit_parent e.parent)) s (TellsUnless (is_refused s e.metadata) e at s) r t
+
+-- an interest is kept of a callsite, where there is room
+abbrev pub Registers : {O : Type 0} → PlainMetadata → PlainInterest → StackValue O → StackValue O → Type 0
+Registers m k s t = Keeps m k s.sites t.sites × (t ≡ record s { sites = t.sites })

@@ -1,0 +1,123 @@
+//! The state of a stack.
+ghost use Rattle.std.specs.Prelude.{◌≡◌, Some, map};
+ghost use Rattle.std.specs.Option.{option_copied};
+ghost use Rattle.tracing_core.specs.Metadata.{plain_metadata};
+ghost use Rattle.tracing_core.specs.PlainRequests.{plain_event};
+ghost use Rattle.span_registry_layers_store.specs.Registries.{knows};
+ghost use Rattle.span_registry_layers_layers.specs.Oracles.{Oracle};
+ghost use Rattle.span_registry_layers_stack.specs.Asked.{common_hint, common_interest};
+ghost use Rattle.span_registry_layers_stack.specs.Rows.{filters_of};
+ghost use Rattle.span_registry_layers_stack.specs.Sites.{Keeps, plain_site};
+ghost use Rattle.span_registry_layers_stack.specs.Stacks.{EventCached, Registers, TellsAll, cleared, is_above, is_refused, passes_cached, plain_stack};
+
+use crate::row::Row;
+use crate::rows::{any_passes, ask_hint, ask_interest, clear_marks, tell_event};
+use crate::site::Site;
+use crate::sites::{is_kept, refuse, renew};
+use span_registry_layers_layers::{Filter, Filtered, Layer};
+use span_registry_layers_store::{OwnedMetadata, Registry};
+use std::alloc::Global;
+use tracing_core::{At, Event, Id, Interest, Level, LevelFilter, Metadata, RequestError};
+
+/// The outputs in order, the registry of their spans, and what is kept of their filters' answers.
+#[derive(Drop)]
+pub(crate) struct StackParts<O> {
+    pub(crate) alloc: Global,
+    pub(crate) registry: Registry,
+    pub(crate) rows: Vec<Row<O>>,
+    pub(crate) sites: Vec<Site>,
+    pub(crate) hint: Option<LevelFilter>,
+}
+
+fn is_above(hint: Option<LevelFilter>, level: Level) -> bool
+    ensures { result ≡ is_above hint level }
+{
+    match hint {
+        None => false,
+        Some(top) => LevelFilter::from_level(level) > top,
+    }
+}
+
+impl<O> StackParts<O> {
+    // Whether a span that is named is open.
+    pub(crate) fn knows(&self, span: Option<&Id>) -> bool
+        ensures { result ≡ knows self.now.registry (option_copied span.entry) }
+    {
+        match span {
+            None => true,
+            Some(span) => self.registry.is_open(span),
+        }
+    }
+
+    // Whether what is kept refuses the callsite.
+    pub(crate) fn refuses(&self, metadata: &Metadata<'_>) -> bool
+        ensures { result ≡ is_refused (plain_stack self.now) (plain_metadata metadata.now) }
+    {
+        is_above(self.hint, *metadata.level()) || refuse(&self.sites, metadata)
+    }
+
+    // Keeps the interest, where there is room.
+    fn keep(&mut self, metadata: &Metadata<'_>, interest: Interest)
+        ensures sites { Keeps (plain_metadata metadata.now) interest (map plain_site self.old.sites.items) (map plain_site self.new.sites.items) }
+        ensures rest { plain_stack self.new ≡ record (plain_stack self.old) { sites = map plain_site self.new.sites.items } }
+    {
+        if is_kept(&self.sites, metadata) {
+            renew(&mut self.sites, metadata, interest);
+        } else if let Ok(metadata) = OwnedMetadata::new(self.alloc, metadata) {
+            let _room = self.sites.push(Site { metadata, interest });
+        }
+    }
+
+    fn clear(&mut self)
+        ensures { plain_stack self.new ≡ cleared (plain_stack self.old) }
+    {
+        clear_marks(&mut self.rows);
+    }
+}
+
+impl<L: Layer, F: Filter> StackParts<Filtered<L, F>> {
+    // Asks all filters of a callsite, and keeps what they have in common where there is room.
+    pub(crate) fn register(&mut self, metadata: &Metadata<'_>) -> Interest
+        ensures answer { (o : Oracle ⟦<F as Filter>⟧) → result ≡ common_interest ⟦<F as Filter>⟧ o (plain_metadata metadata.now) (filters_of self.old.rows.items) }
+        ensures left { Registers (plain_metadata metadata.now) result (plain_stack self.old) (plain_stack self.new) }
+    {
+        let interest = ask_interest(&self.rows, metadata);
+        self.keep(metadata, interest);
+        interest
+    }
+
+    // The hint of all filters, asked now.
+    pub(crate) fn ask_hint(&self) -> Option<LevelFilter>
+        ensures { result ≡ common_hint ⟦<F as Filter>⟧ (Some 0) (filters_of self.now.rows.items) }
+    {
+        ask_hint(&self.rows)
+    }
+
+    // Whether some filter passes it, and false where what is kept refuses it.
+    pub(crate) fn enabled(&self, metadata: &Metadata<'_>, at: At) -> bool
+        ensures { (o : Oracle ⟦<F as Filter>⟧) → result ≡ passes_cached ⟦<F as Filter>⟧ o (plain_stack self.now) (plain_metadata metadata.now) at }
+    {
+        !self.refuses(metadata) && any_passes(&self.rows, metadata, &self.registry, at)
+    }
+
+    fn tell(&mut self, event: &Event<'_, '_>, at: At)
+        ensures { (o : Oracle ⟦<F as Filter>⟧) → TellsAll ⟦<F as Filter>⟧ ⟦<L as Layer>⟧ o (plain_event event.now) at (plain_stack self.old) (plain_stack self.new) }
+    {
+        tell_event(&mut self.rows, event, &self.registry, at);
+    }
+
+    // Tells each output that passes the event, and asks nobody where what is kept refuses it.
+    pub(crate) fn event(&mut self, event: &Event<'_, '_>, at: At) -> Result<(), RequestError>
+        ensures { (o : Oracle ⟦<F as Filter>⟧) → EventCached ⟦<F as Filter>⟧ ⟦<L as Layer>⟧ o (plain_event event.now) at (plain_stack self.old) result (plain_stack self.new) }
+    {
+        if !self.knows(event.parent()) {
+            return Err(RequestError::UnknownParent);
+        }
+        if self.refuses(event.metadata()) {
+            self.clear();
+        } else {
+            self.tell(event, at);
+        }
+        Ok(())
+    }
+}

@@ -1,0 +1,89 @@
+//! One output of a stack.
+ghost use Rattle.std.specs.Prelude.{◌≡◌, ◌&&◌, false};
+ghost use Rattle.tracing_core.specs.Metadata.{plain_metadata};
+ghost use Rattle.tracing_core.specs.PlainRequests.{plain_event};
+ghost use Rattle.span_registry_layers_layers.specs.Notices.{Happened};
+ghost use Rattle.span_registry_layers_layers.specs.Oracles.{Oracle};
+ghost use Rattle.span_registry_layers_stack.specs.Rows.{TellsEvent, marked, row_passes, row_wants, view_of, with_layer};
+
+use span_registry_layers_layers::{Context, Filter, Filtered, Layer};
+use span_registry_layers_store::{FilterId, OutputKey, Registry};
+use tracing_core::{At, Event, Interest, LevelFilter, Metadata};
+
+/// An output, its key, the number of its filter, and whether its filter passed the last request.
+#[derive(Drop)]
+pub(crate) struct Row<O> {
+    pub(crate) key: OutputKey,
+    pub(crate) id: FilterId,
+    pub(crate) output: O,
+    pub(crate) passed: bool,
+}
+
+impl<O> Row<O> {
+    // Its filter didn't pass the request.
+    pub(crate) fn clear(&mut self)
+        ensures { self.new ≡ marked false self.old }
+    {
+        self.passed = false;
+    }
+}
+
+impl<L: Layer, F: Filter> Row<Filtered<L, F>> {
+    // What its filter says of a callsite.
+    pub(crate) fn interest(&self, metadata: &Metadata<'_>) -> Interest
+        ensures { F.says self.now.output.filter (plain_metadata metadata.now) result }
+    {
+        self.output.filter().callsite_enabled(metadata)
+    }
+
+    // The most verbose level that its filter passes.
+    pub(crate) fn hint(&self) -> Option<LevelFilter>
+        ensures { result ≡ F.hint self.now.output.filter }
+    {
+        self.output.filter().max_level_hint()
+    }
+
+    // Whether its filter passes what is made of the callsite.
+    pub(crate) fn passes(&self, metadata: &Metadata<'_>, registry: &Registry, at: At) -> bool
+        ensures { (o : Oracle ⟦<F as Filter>⟧) → result ≡ row_passes ⟦<F as Filter>⟧ o (plain_metadata metadata.now) at registry.now self.now }
+    {
+        let context = Context::new(registry, at, Some(self.id));
+        self.output.filter().enabled(metadata, &context)
+    }
+
+    // Whether its filter passes the event, whose callsite it passes.
+    fn wants(&self, event: &Event<'_, '_>, registry: &Registry, at: At) -> bool
+        ensures { (o : Oracle ⟦<F as Filter>⟧) → result ≡ row_wants ⟦<F as Filter>⟧ o (plain_event event.now) at registry.now self.now }
+    {
+        let context = Context::new(registry, at, Some(self.id));
+        self.output.filter().event_enabled(event, &context)
+    }
+
+    // The same, where it is known what it passes of the callsite.
+    fn hears(&self, passes: bool, event: &Event<'_, '_>, registry: &Registry, at: At) -> bool
+        ensures { (o : Oracle ⟦<F as Filter>⟧) → result ≡ (passes && row_wants ⟦<F as Filter>⟧ o (plain_event event.now) at registry.now self.now) }
+    {
+        passes && self.wants(event, registry, at)
+    }
+
+    // Tells its layer of the event.
+    fn tell(&mut self, event: &Event<'_, '_>, registry: &Registry, at: At)
+        ensures told { L.told self.old.output.layer (Happened (plain_event event.now) (view_of at registry.now self.old)) self.new.output.layer }
+        ensures rest { self.new ≡ with_layer self.new.output.layer self.old }
+    {
+        let mut context = Context::new(registry, at, Some(self.id));
+        self.output.inner_mut().on_event(event, &mut context);
+    }
+
+    // Asks its filter of the event, and tells its layer where that passes it.
+    pub(crate) fn event(&mut self, event: &Event<'_, '_>, registry: &Registry, at: At)
+        ensures { (o : Oracle ⟦<F as Filter>⟧) → TellsEvent ⟦<F as Filter>⟧ ⟦<L as Layer>⟧ o (plain_event event.now) at registry.now self.old self.new }
+    {
+        let passes = self.passes(event.metadata(), registry, at);
+        let hears = self.hears(passes, event, registry, at);
+        self.passed = passes;
+        if hears {
+            self.tell(event, registry, at);
+        }
+    }
+}

@@ -1,0 +1,109 @@
+//! What is asked of all outputs, and told to them, in order.
+ghost use Rattle.std.specs.Prelude.{◌≡◌, None, Some, map, false};
+ghost use Rattle.tracing_core.specs.Asking.{joined, settled};
+ghost use Rattle.tracing_core.specs.Metadata.{plain_metadata};
+ghost use Rattle.tracing_core.specs.PlainRequests.{plain_event};
+ghost use Rattle.span_registry_layers_layers.specs.Oracles.{Oracle};
+ghost use Rattle.span_registry_layers_stack.specs.Asked.{any_passes, common_interest, common_hint, higher_hint};
+ghost use Rattle.span_registry_layers_stack.specs.Rows.{EachBecomes, TellsEvent, filters_of, marked};
+
+use crate::row::Row;
+use span_registry_layers_layers::{Filter, Filtered, Layer};
+use span_registry_layers_store::Registry;
+use tracing_core::{At, Event, Interest, LevelFilter, Metadata};
+
+// Tells each output of the event that passes it.
+pub(crate) fn tell_event<L: Layer, F: Filter>(
+    rows: &mut [Row<Filtered<L, F>>],
+    event: &Event<'_, '_>,
+    registry: &Registry,
+    at: At,
+)
+    ensures { (o : Oracle ⟦<F as Filter>⟧) → EachBecomes (TellsEvent ⟦<F as Filter>⟧ ⟦<L as Layer>⟧ o (plain_event event.now) at registry.now) rows.old rows.new }
+{
+    for row in rows.iter_mut() {
+        row.event(event, registry, at);
+    }
+}
+
+// No filter passed the request.
+pub(crate) fn clear_marks<O>(rows: &mut [Row<O>])
+    ensures { rows.new ≡ map (marked false) rows.old }
+{
+    for row in rows.iter_mut() {
+        row.clear();
+    }
+}
+
+// Whether some filter passes what is made of the callsite.
+pub(crate) fn any_passes<L: Layer, F: Filter>(
+    rows: &[Row<Filtered<L, F>>],
+    metadata: &Metadata<'_>,
+    registry: &Registry,
+    at: At,
+) -> bool
+    ensures { (o : Oracle ⟦<F as Filter>⟧) → result ≡ any_passes ⟦<F as Filter>⟧ o (plain_metadata metadata.now) at registry.now rows.now }
+{
+    let mut rest = rows;
+    while let [row, later @ ..] = rest {
+        if row.passes(metadata, registry, at) {
+            return true;
+        }
+        rest = later;
+    }
+    false
+}
+
+// With those before, where there were any.
+fn join(before: Option<Interest>, answer: Interest) -> Option<Interest>
+    ensures { result ≡ joined before answer }
+{
+    match before {
+        None => Some(answer),
+        Some(interest) => Some(interest.common(answer)),
+    }
+}
+
+fn settle(interest: Option<Interest>) -> Interest
+    ensures { result ≡ settled interest }
+{
+    match interest {
+        None => Interest::never(),
+        Some(interest) => interest,
+    }
+}
+
+// What all filters have in common of a callsite, asked now.
+pub(crate) fn ask_interest<L: Layer, F: Filter>(
+    rows: &[Row<Filtered<L, F>>],
+    metadata: &Metadata<'_>,
+) -> Interest
+    ensures { (o : Oracle ⟦<F as Filter>⟧) → result ≡ common_interest ⟦<F as Filter>⟧ o (plain_metadata metadata.now) (filters_of rows.now) }
+{
+    let mut interest = None;
+    for row in rows {
+        interest = join(interest, row.interest(metadata));
+    }
+    settle(interest)
+}
+
+// The higher of the two, and none where one is absent.
+fn higher_hint(a: Option<LevelFilter>, b: Option<LevelFilter>) -> Option<LevelFilter>
+    ensures { result ≡ higher_hint a b }
+{
+    match (a, b) {
+        (Some(a), Some(b)) => Some(if a < b { b } else { a }),
+        (_, _) => None,
+    }
+}
+
+// The most verbose level that some filter passes, asked now; none where a filter doesn't know its own.
+pub(crate) fn ask_hint<L: Layer, F: Filter>(rows: &[Row<Filtered<L, F>>]) -> Option<LevelFilter>
+    ensures { result ≡ common_hint ⟦<F as Filter>⟧ (Some 0) (filters_of rows.now) }
+{
+    let mut hint = Some(LevelFilter::OFF);
+    for row in rows {
+        hint = higher_hint(hint, row.hint());
+    }
+    hint
+}

@@ -1,0 +1,46 @@
+//! What is kept of all callsites.
+ghost use Rattle.std.specs.Prelude.{◌≡◌, map};
+ghost use Rattle.std.specs.List.{list_any};
+ghost use Rattle.tracing_core.specs.Metadata.{plain_metadata};
+ghost use Rattle.span_registry_layers_stack.specs.Rows.{EachBecomes};
+ghost use Rattle.span_registry_layers_stack.specs.Sites.{Renews, is_of, is_refused_by, plain_site};
+
+use crate::site::Site;
+use tracing_core::{Interest, Metadata};
+
+// Whether something is kept of the callsite.
+pub(crate) fn is_kept(sites: &[Site], metadata: &Metadata<'_>) -> bool
+    ensures { result ≡ list_any (is_of (plain_metadata metadata.now)) (map plain_site sites.now) }
+{
+    let mut rest = sites;
+    while let [site, later @ ..] = rest {
+        if site.is_of(metadata) {
+            return true;
+        }
+        rest = later;
+    }
+    false
+}
+
+// Whether it was kept that nobody is interested in the callsite.
+pub(crate) fn refuse(sites: &[Site], metadata: &Metadata<'_>) -> bool
+    ensures { result ≡ list_any (is_refused_by (plain_metadata metadata.now)) (map plain_site sites.now) }
+{
+    let mut rest = sites;
+    while let [site, later @ ..] = rest {
+        if site.refuses(metadata) {
+            return true;
+        }
+        rest = later;
+    }
+    false
+}
+
+// Keeps another interest of the callsite, where one is kept.
+pub(crate) fn renew(sites: &mut [Site], metadata: &Metadata<'_>, interest: Interest)
+    ensures { EachBecomes (Renews (plain_metadata metadata.now) interest) sites.old sites.new }
+{
+    for site in sites.iter_mut() {
+        site.renew(metadata, interest);
+    }
+}

@@ -1,0 +1,96 @@
+//! Outputs over a registry of spans.
+ghost use Rattle.std.specs.Prelude.{◌≡◌, Some};
+ghost use Rattle.tracing_core.specs.Metadata.{plain_metadata};
+ghost use Rattle.tracing_core.specs.PlainRequests.{plain_event};
+ghost use Rattle.tracing_core.specs.Steady.{IsReal};
+ghost use Rattle.span_registry_layers_layers.specs.Oracles.{Oracle};
+ghost use Rattle.span_registry_layers_stack.specs.Asked.{common_hint, common_interest};
+ghost use Rattle.span_registry_layers_stack.specs.Rows.{filters_of};
+ghost use Rattle.span_registry_layers_stack.specs.Stacks.{EventAsked, EventCached, Registers, passes_asked, passes_cached};
+ghost use Rattle.span_registry_layers_stack.specs.Words.{Word};
+
+use crate::parts::StackParts;
+use span_registry_layers_layers::{Filter, Filtered, Layer};
+use std::marker::Model;
+use tracing_core::{At, Event, Interest, LevelFilter, Metadata, RequestError};
+
+/// Outputs in order, over one registry of spans.
+///
+/// It keeps what its filters have in common of callsites, and their hint, and asks nobody where these refuse. While
+/// what is kept is right, which a contract says by `Word`, each call is what asking every filter afresh gives.
+///
+/// A contract sees a stack as a `StackValue`.
+#[derive(Drop)]
+pub struct Stack<O> {
+    parts: StackParts<O>,
+}
+
+impl<O> Model for Stack<O> {
+    ghost use Rattle.span_registry_layers_stack.specs.Stacks.{StackValue, plain_stack};
+
+    ghost Value = { StackValue O };
+
+    ghost view = { λ s. plain_stack s.parts };
+}
+
+// The level of metadata is one of the five.
+fn is_real(metadata: &Metadata<'_>)
+    ensures { IsReal (plain_metadata metadata.now) }
+{
+    let _name = metadata.level().as_str();
+}
+
+impl<L: Layer, F: Filter> Stack<Filtered<L, F>> {
+    /// Tells each output, in order, of the event that its filter passes, and asks nobody where what is kept refuses it.
+    ///
+    /// # Errors
+    ///
+    /// `UnknownParent` where a parent is named that is not open, which leaves the stack as it was.
+    pub fn event(&mut self, event: &Event<'_, '_>, at: At) -> Result<(), RequestError>
+        ensures exact { (o : Oracle ⟦<F as Filter>⟧) → EventCached ⟦<F as Filter>⟧ ⟦<L as Layer>⟧ o (plain_event event.now) at self.old result self.new }
+        // While what is kept is right, this is asking every filter afresh, and what is kept stays right.
+        ensures asking { (o : Oracle ⟦<F as Filter>⟧) → Word ⟦<F as Filter>⟧ self.old → EventAsked ⟦<F as Filter>⟧ ⟦<L as Layer>⟧ o (plain_event event.now) at self.old result self.new }
+        ensures kept { (o : Oracle ⟦<F as Filter>⟧) → Word ⟦<F as Filter>⟧ self.old → Word ⟦<F as Filter>⟧ self.new }
+    {
+        is_real(event.metadata());
+        self.hand_event(event, at)
+    }
+
+    /// Whether some output's filter passes what is made of the callsite there and then. It leaves no mark.
+    pub fn enabled(&self, metadata: &Metadata<'_>, at: At) -> bool
+        ensures exact { (o : Oracle ⟦<F as Filter>⟧) → result ≡ passes_cached ⟦<F as Filter>⟧ o self.now (plain_metadata metadata.now) at }
+        ensures asking { (o : Oracle ⟦<F as Filter>⟧) → Word ⟦<F as Filter>⟧ self.now → result ≡ passes_asked ⟦<F as Filter>⟧ o self.now (plain_metadata metadata.now) at }
+    {
+        is_real(metadata);
+        self.some_passes(metadata, at)
+    }
+
+    // One event, by what is kept.
+    pub(crate) fn hand_event(&mut self, event: &Event<'_, '_>, at: At) -> Result<(), RequestError>
+        ensures { (o : Oracle ⟦<F as Filter>⟧) → EventCached ⟦<F as Filter>⟧ ⟦<L as Layer>⟧ o (plain_event event.now) at self.old result self.new }
+    {
+        self.parts.event(event, at)
+    }
+
+    // Whether some filter passes it, by what is kept.
+    pub(crate) fn some_passes(&self, metadata: &Metadata<'_>, at: At) -> bool
+        ensures { (o : Oracle ⟦<F as Filter>⟧) → result ≡ passes_cached ⟦<F as Filter>⟧ o self.now (plain_metadata metadata.now) at }
+    {
+        self.parts.enabled(metadata, at)
+    }
+
+    // What all filters have in common of a callsite.
+    pub(crate) fn common_interest(&mut self, metadata: &Metadata<'_>) -> Interest
+        ensures answer { (o : Oracle ⟦<F as Filter>⟧) → result ≡ common_interest ⟦<F as Filter>⟧ o (plain_metadata metadata.now) (filters_of self.old.rows) }
+        ensures left { Registers (plain_metadata metadata.now) result self.old self.new }
+    {
+        self.parts.register(metadata)
+    }
+
+    // The hint of all filters.
+    pub(crate) fn common_hint(&self) -> Option<LevelFilter>
+        ensures { result ≡ common_hint ⟦<F as Filter>⟧ (Some 0) (filters_of self.now.rows) }
+    {
+        self.parts.ask_hint()
+    }
+}
