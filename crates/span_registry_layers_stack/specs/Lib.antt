@@ -3,4 +3,5 @@ pub mod Sites
 pub mod Asked
 pub mod Stacks
 pub mod Words
+pub mod Spans
 pub mod Caches

@@ -6,6 +6,8 @@ ghost use Rattle.span_registry_layers_layers.specs.Notices.{Happened};
 ghost use Rattle.span_registry_layers_layers.specs.Oracles.{Oracle};
 ghost use Rattle.span_registry_layers_stack.specs.Rows.{TellsEvent, marked, row_passes, row_wants, view_of, with_layer};
 
+mod spans;
+
 use span_registry_layers_layers::{Context, Filter, Filtered, Layer};
 use span_registry_layers_store::{FilterId, OutputKey, Registry};
 use tracing_core::{At, Event, Interest, LevelFilter, Metadata};

@@ -3,13 +3,20 @@ ghost use Rattle.std.specs.Prelude.{◌≡◌, None, Some, map, false};
 ghost use Rattle.tracing_core.specs.Asking.{joined, settled};
 ghost use Rattle.tracing_core.specs.Metadata.{plain_metadata};
 ghost use Rattle.tracing_core.specs.PlainRequests.{plain_event};
+ghost use Rattle.span_registry_layers_store.specs.Verdicts.{all_pass};
 ghost use Rattle.span_registry_layers_layers.specs.Oracles.{Oracle};
 ghost use Rattle.span_registry_layers_stack.specs.Asked.{any_passes, common_interest, common_hint, higher_hint};
 ghost use Rattle.span_registry_layers_stack.specs.Rows.{EachBecomes, TellsEvent, filters_of, marked};
+ghost use Rattle.span_registry_layers_stack.specs.Spans.{verdicts_from};
+
+mod spans;
 
 use crate::row::Row;
 use span_registry_layers_layers::{Filter, Filtered, Layer};
-use span_registry_layers_store::Registry;
+use span_registry_layers_store::{FilterMap, Registry};
+pub(crate) use spans::{
+    tell_close, tell_enter, tell_exit, tell_follows, tell_new_span, tell_record,
+};
 use tracing_core::{At, Event, Interest, LevelFilter, Metadata};
 
 // Tells each output of the event that passes it.
@@ -52,6 +59,26 @@ pub(crate) fn any_passes<L: Layer, F: Filter>(
         rest = later;
     }
     false
+}
+
+// Asks each filter of a new span: which ones pass it, and whether one does.
+pub(crate) fn ask_span<L: Layer, F: Filter>(
+    rows: &[Row<Filtered<L, F>>],
+    metadata: &Metadata<'_>,
+    registry: &Registry,
+    at: At,
+) -> (FilterMap, bool)
+    ensures verdicts { (o : Oracle ⟦<F as Filter>⟧) → result.0.passed ≡ verdicts_from ⟦<F as Filter>⟧ o all_pass (plain_metadata metadata.now) at registry.now rows.now }
+    ensures some { (o : Oracle ⟦<F as Filter>⟧) → result.1 ≡ any_passes ⟦<F as Filter>⟧ o (plain_metadata metadata.now) at registry.now rows.now }
+{
+    let mut verdicts = FilterMap::all();
+    let mut some = false;
+    for row in rows {
+        let passes = row.passes(metadata, registry, at);
+        verdicts = verdicts.with(row.id, passes);
+        some = some || passes;
+    }
+    (verdicts, some)
 }
 
 // With those before, where there were any.

@@ -1,0 +1,147 @@
+//! What one output is told of spans.
+ghost use Rattle.std.specs.Prelude.{◌≡◌, ◌&&◌};
+ghost use Rattle.tracing_core.specs.PlainRequests.{plain_attributes, plain_record};
+ghost use Rattle.span_registry_layers_layers.specs.Looks.{Closed, Entered, Exited, Recorded, SpanMade};
+ghost use Rattle.span_registry_layers_layers.specs.Notices.{Followed};
+ghost use Rattle.span_registry_layers_stack.specs.Rows.{view_of, with_layer};
+ghost use Rattle.span_registry_layers_stack.specs.Spans.{Hears, TellsFollows, TellsMade, TellsSpan, sees};
+
+use crate::row::Row;
+use span_registry_layers_layers::{Context, Filter, Filtered, Layer};
+use span_registry_layers_store::Registry;
+use tracing_core::{At, Attributes, Id, Record};
+
+impl<O> Row<O> {
+    // Whether it sees the span: the span is open, and the filter passed it when it was made.
+    pub(crate) fn sees(&self, span: &Id, registry: &Registry) -> bool
+        ensures { result ≡ sees registry.now span.now self.now }
+    {
+        registry.span_under(span, Some(self.id)).is_some()
+    }
+}
+
+impl<L: Layer, F: Filter> Row<Filtered<L, F>> {
+    fn hear_span(&mut self, attributes: &Attributes<'_, '_>, span: &Id, registry: &Registry, at: At)
+        ensures { Hears ⟦<F as Filter>⟧ ⟦<L as Layer>⟧ (SpanMade (plain_attributes attributes.now) span.now (view_of at registry.now self.old)) self.old self.new }
+    {
+        let mut context = Context::new(registry, at, Some(self.id));
+        self.output
+            .filter_mut()
+            .on_new_span(attributes, span, &context);
+        self.output
+            .inner_mut()
+            .on_new_span(attributes, span, &mut context);
+    }
+
+    // A span was made.
+    pub(crate) fn new_span(
+        &mut self,
+        attributes: &Attributes<'_, '_>,
+        span: &Id,
+        registry: &Registry,
+        at: At,
+    )
+        ensures { TellsMade ⟦<F as Filter>⟧ ⟦<L as Layer>⟧ (SpanMade (plain_attributes attributes.now) span.now) span.now at registry.now self.old self.new }
+    {
+        let sees = self.sees(span, registry);
+        self.passed = sees;
+        if sees {
+            self.hear_span(attributes, span, registry, at);
+        }
+    }
+
+    fn hear_record(&mut self, span: &Id, values: &Record<'_>, registry: &Registry, at: At)
+        ensures { Hears ⟦<F as Filter>⟧ ⟦<L as Layer>⟧ (Recorded span.now (plain_record values.now) (view_of at registry.now self.old)) self.old self.new }
+    {
+        let mut context = Context::new(registry, at, Some(self.id));
+        self.output.filter_mut().on_record(span, values, &context);
+        self.output
+            .inner_mut()
+            .on_record(span, values, &mut context);
+    }
+
+    // Values were recorded on a span.
+    pub(crate) fn record(&mut self, span: &Id, values: &Record<'_>, registry: &Registry, at: At)
+        ensures { TellsSpan ⟦<F as Filter>⟧ ⟦<L as Layer>⟧ (Recorded span.now (plain_record values.now)) span.now at registry.now self.old self.new }
+    {
+        if self.sees(span, registry) {
+            self.hear_record(span, values, registry, at);
+        }
+    }
+
+    fn hear_follows(&mut self, span: &Id, follows: &Id, registry: &Registry, at: At)
+        ensures told { L.told self.old.output.layer (Followed span.now follows.now (view_of at registry.now self.old)) self.new.output.layer }
+        ensures rest { self.new ≡ with_layer self.new.output.layer self.old }
+    {
+        let mut context = Context::new(registry, at, Some(self.id));
+        self.output
+            .inner_mut()
+            .on_follows_from(span, follows, &mut context);
+    }
+
+    fn sees_both(&self, span: &Id, follows: &Id, registry: &Registry) -> bool
+        ensures { result ≡ (sees registry.now span.now self.now && sees registry.now follows.now self.now) }
+    {
+        self.sees(span, registry) && self.sees(follows, registry)
+    }
+
+    // A span was said to follow from another one: a filter isn't told of that.
+    pub(crate) fn follows_from(&mut self, span: &Id, follows: &Id, registry: &Registry, at: At)
+        ensures { TellsFollows ⟦<F as Filter>⟧ ⟦<L as Layer>⟧ span.now follows.now at registry.now self.old self.new }
+    {
+        if self.sees_both(span, follows, registry) {
+            self.hear_follows(span, follows, registry, at);
+        }
+    }
+
+    fn hear_enter(&mut self, span: &Id, registry: &Registry, at: At)
+        ensures { Hears ⟦<F as Filter>⟧ ⟦<L as Layer>⟧ (Entered span.now (view_of at registry.now self.old)) self.old self.new }
+    {
+        let mut context = Context::new(registry, at, Some(self.id));
+        self.output.filter_mut().on_enter(span, &context);
+        self.output.inner_mut().on_enter(span, &mut context);
+    }
+
+    // A span was entered.
+    pub(crate) fn enter(&mut self, span: &Id, registry: &Registry, at: At)
+        ensures { TellsSpan ⟦<F as Filter>⟧ ⟦<L as Layer>⟧ (Entered span.now) span.now at registry.now self.old self.new }
+    {
+        if self.sees(span, registry) {
+            self.hear_enter(span, registry, at);
+        }
+    }
+
+    fn hear_exit(&mut self, span: &Id, registry: &Registry, at: At)
+        ensures { Hears ⟦<F as Filter>⟧ ⟦<L as Layer>⟧ (Exited span.now (view_of at registry.now self.old)) self.old self.new }
+    {
+        let mut context = Context::new(registry, at, Some(self.id));
+        self.output.filter_mut().on_exit(span, &context);
+        self.output.inner_mut().on_exit(span, &mut context);
+    }
+
+    // A span was left.
+    pub(crate) fn exit(&mut self, span: &Id, registry: &Registry, at: At)
+        ensures { TellsSpan ⟦<F as Filter>⟧ ⟦<L as Layer>⟧ (Exited span.now) span.now at registry.now self.old self.new }
+    {
+        if self.sees(span, registry) {
+            self.hear_exit(span, registry, at);
+        }
+    }
+
+    fn hear_close(&mut self, span: &Id, registry: &Registry, at: At)
+        ensures { Hears ⟦<F as Filter>⟧ ⟦<L as Layer>⟧ (Closed span.now (view_of at registry.now self.old)) self.old self.new }
+    {
+        let mut context = Context::new(registry, at, Some(self.id));
+        self.output.filter_mut().on_close(span, &context);
+        self.output.inner_mut().on_close(span, &mut context);
+    }
+
+    // A span closes.
+    pub(crate) fn close(&mut self, span: &Id, registry: &Registry, at: At)
+        ensures { TellsSpan ⟦<F as Filter>⟧ ⟦<L as Layer>⟧ (Closed span.now) span.now at registry.now self.old self.new }
+    {
+        if self.sees(span, registry) {
+            self.hear_close(span, registry, at);
+        }
+    }
+}

@@ -1,0 +1,97 @@
+//! What all outputs are told of spans, in order.
+ghost use Rattle.tracing_core.specs.PlainRequests.{plain_attributes, plain_record};
+ghost use Rattle.span_registry_layers_layers.specs.Looks.{Closed, Entered, Exited, Recorded, SpanMade};
+ghost use Rattle.span_registry_layers_stack.specs.Rows.{EachBecomes};
+ghost use Rattle.span_registry_layers_stack.specs.Spans.{TellsFollows, TellsMade, TellsSpan};
+
+use crate::row::Row;
+use span_registry_layers_layers::{Filter, Filtered, Layer};
+use span_registry_layers_store::Registry;
+use tracing_core::{At, Attributes, Id, Record};
+
+// A span was made: those that passed it are told.
+pub(crate) fn tell_new_span<L: Layer, F: Filter>(
+    rows: &mut [Row<Filtered<L, F>>],
+    attributes: &Attributes<'_, '_>,
+    span: &Id,
+    registry: &Registry,
+    at: At,
+)
+    ensures { EachBecomes (TellsMade ⟦<F as Filter>⟧ ⟦<L as Layer>⟧ (SpanMade (plain_attributes attributes.now) span.now) span.now at registry.now) rows.old rows.new }
+{
+    for row in rows.iter_mut() {
+        row.new_span(attributes, span, registry, at);
+    }
+}
+
+// Values were recorded on a span.
+pub(crate) fn tell_record<L: Layer, F: Filter>(
+    rows: &mut [Row<Filtered<L, F>>],
+    span: &Id,
+    values: &Record<'_>,
+    registry: &Registry,
+    at: At,
+)
+    ensures { EachBecomes (TellsSpan ⟦<F as Filter>⟧ ⟦<L as Layer>⟧ (Recorded span.now (plain_record values.now)) span.now at registry.now) rows.old rows.new }
+{
+    for row in rows.iter_mut() {
+        row.record(span, values, registry, at);
+    }
+}
+
+// A span was said to follow from another one.
+pub(crate) fn tell_follows<L: Layer, F: Filter>(
+    rows: &mut [Row<Filtered<L, F>>],
+    span: &Id,
+    follows: &Id,
+    registry: &Registry,
+    at: At,
+)
+    ensures { EachBecomes (TellsFollows ⟦<F as Filter>⟧ ⟦<L as Layer>⟧ span.now follows.now at registry.now) rows.old rows.new }
+{
+    for row in rows.iter_mut() {
+        row.follows_from(span, follows, registry, at);
+    }
+}
+
+// A span was entered.
+pub(crate) fn tell_enter<L: Layer, F: Filter>(
+    rows: &mut [Row<Filtered<L, F>>],
+    span: &Id,
+    registry: &Registry,
+    at: At,
+)
+    ensures { EachBecomes (TellsSpan ⟦<F as Filter>⟧ ⟦<L as Layer>⟧ (Entered span.now) span.now at registry.now) rows.old rows.new }
+{
+    for row in rows.iter_mut() {
+        row.enter(span, registry, at);
+    }
+}
+
+// A span was left.
+pub(crate) fn tell_exit<L: Layer, F: Filter>(
+    rows: &mut [Row<Filtered<L, F>>],
+    span: &Id,
+    registry: &Registry,
+    at: At,
+)
+    ensures { EachBecomes (TellsSpan ⟦<F as Filter>⟧ ⟦<L as Layer>⟧ (Exited span.now) span.now at registry.now) rows.old rows.new }
+{
+    for row in rows.iter_mut() {
+        row.exit(span, registry, at);
+    }
+}
+
+// A span closes.
+pub(crate) fn tell_close<L: Layer, F: Filter>(
+    rows: &mut [Row<Filtered<L, F>>],
+    span: &Id,
+    registry: &Registry,
+    at: At,
+)
+    ensures { EachBecomes (TellsSpan ⟦<F as Filter>⟧ ⟦<L as Layer>⟧ (Closed span.now) span.now at registry.now) rows.old rows.new }
+{
+    for row in rows.iter_mut() {
+        row.close(span, registry, at);
+    }
+}
