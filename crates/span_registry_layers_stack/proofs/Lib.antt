@@ -2,3 +2,5 @@ pub mod Telling
 pub mod Loops
 pub mod Asking
 pub mod Keeping
+pub mod Closing
+pub mod Making

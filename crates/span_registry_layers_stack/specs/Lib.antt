@@ -4,4 +4,5 @@ pub mod Asked
 pub mod Stacks
 pub mod Words
 pub mod Spans
+pub mod Calls
 pub mod Caches

@@ -41,6 +41,10 @@ is_refused s m = is_above s.hint m.level || list_any (is_refused_by m) s.sites
 abbrev pub cleared : {O : Type 0} → StackValue O → StackValue O
 cleared s = record s { rows = map (marked false) s.rows }
 
+-- the outputs become others that are so related to them, and the rest stays
+abbrev pub RowsBecome : {O : Type 0} → (Row O → Row O → Type 0) → StackValue O → StackValue O → Type 0
+RowsBecome R s t = EachBecomes R s.rows t.rows × (t ≡ record s { rows = t.rows })
+
 -- a parent that is named has to be open; else the stack stays
 abbrev pub WhereKnown : {O : Type 0} → Bool → StackValue O → (StackValue O → Type 0) → Result (Unit {0}) RequestError → StackValue O → Type 0
 WhereKnown true s leaves r t = (r ≡ Ok tt) × leaves t
@@ -59,7 +63,7 @@ module _ {L F : Type 0} (g : Ghosts F) where
 module _ {L F : Type 0} (g : Ghosts F) (h : LayerGhosts L) (o : Oracle g) where
   -- each output is told, in order, where its filter, asked afresh, passes the event
   abbrev pub TellsAll : PlainEvent → At → StackValue (Filtered L F) → StackValue (Filtered L F) → Type 0
-  TellsAll e at s t = EachBecomes (TellsEvent g h o e at s.registry) s.rows t.rows × (t ≡ record s { rows = t.rows })
+  TellsAll e at s t = RowsBecome (TellsEvent g h o e at s.registry) s t
 
   abbrev pub TellsUnless : Bool → PlainEvent → At → StackValue (Filtered L F) → StackValue (Filtered L F) → Type 0
   TellsUnless true e at s t = t ≡ cleared s

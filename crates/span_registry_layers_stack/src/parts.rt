@@ -10,6 +10,9 @@ ghost use Rattle.span_registry_layers_stack.specs.Rows.{filters_of};
 ghost use Rattle.span_registry_layers_stack.specs.Sites.{Keeps, plain_site};
 ghost use Rattle.span_registry_layers_stack.specs.Stacks.{EventCached, Registers, TellsAll, cleared, is_above, is_refused, passes_cached, plain_stack};
 
+mod spans;
+mod telling;
+
 use crate::row::Row;
 use crate::rows::{any_passes, ask_hint, ask_interest, clear_marks, tell_event};
 use crate::site::Site;
@@ -68,6 +71,7 @@ impl<O> StackParts<O> {
         }
     }
 
+    // No filter passed the last request.
     fn clear(&mut self)
         ensures { plain_stack self.new ≡ cleared (plain_stack self.old) }
     {

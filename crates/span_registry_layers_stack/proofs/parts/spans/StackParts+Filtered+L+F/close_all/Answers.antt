@@ -1,0 +1,16 @@
+use Rattle.std.proofs.Common.{◌≡◌, ap, ◌∙◌}
+use Rattle.span_registry_layers_layers.specs.declared.filtered.Filtered.{Filtered}
+use Rattle.span_registry_layers_stack.specs.Stacks.{StackValue}
+use Rattle.span_registry_layers_stack.proofs.Closing.{one_closed}
+use Rattle.span_registry_layers_stack.proofs.parts.spans.StackParts+Filtered+L+F.close_all.Goals as goal
+
+pub loop-at-preserved : goal.loop-at-preserved
+loop-at-preserved g c =
+    let one = c.loop-at-test.ensures in
+    let s = c.loop-at.self in
+    let t = c.close_next.new.self in
+    record {
+      each = λ y later rest. c.loop-at.invariant.each y later (one_closed g.F.Filter g.L.Layer c.args.at one.0 s.registry t.registry y s.rows.items t.rows.items later one.2 one.1 rest);
+      same = one.2.3 ∙ c.loop-at.invariant.same;
+      rest = one.3 ∙ ap (λ (v : StackValue (Filtered g.row.L.Denot g.row.F.Denot)). record v { registry = t.registry; rows = t.rows.items }) c.loop-at.invariant.rest;
+    }
