@@ -70,7 +70,7 @@ module _ {F : Type 0} (g : Ghosts F) (o : Oracle g) where
       by_sites (Every (Knows g m Never) fs) (is_refused_by m site) (list_any (is_refused_by m) sites) (either_true (is_refused_by m site) (list_any (is_refused_by m) sites) e)
       (λ t. site_known m site fs t w.0) (λ later. never_known m fs sites later w.1)
 
-  all_below : (m : PlainMetadata) (h : Option ℕ) (fs : List F) → IsReal m → is_above h m.level ≡ true → Every (λ f. g.honest f) fs → Every (λ f. HintOver (g.hint f) h) fs → Every (Refuses m) fs
+  pub all_below : (m : PlainMetadata) (h : Option ℕ) (fs : List F) → IsReal m → is_above h m.level ≡ true → Every (λ f. g.honest f) fs → Every (λ f. HintOver (g.hint f) h) fs → Every (Refuses m) fs
   all_below m h [] real e a b = tt
   all_below m h (f ∷ fs) real e a b =
       (λ v. by_hint (g.hint f) h m.level (o.passes f m v) ((g.fair f a.0).below m v (o.passes f m v) (o.answered f m v real)) b.0 e, all_below m h fs real e a.1 b.1)
@@ -87,7 +87,7 @@ module _ {F : Type 0} (g : Ghosts F) (o : Oracle g) where
       each (inl above) = all_below m h fs real above w.honest w.hints
       each (inr never) = all_never m fs real w.honest (never_known m fs sites never w.interests)
 
-  nobody_passes : {L : Type 0} (m : PlainMetadata) (at : At) (x : RegistryValue) (rows : List (Row (Filtered L F))) → Every (Refuses m) (filters_of rows) → any_passes g o m at x rows ≡ false
+  pub nobody_passes : {L : Type 0} (m : PlainMetadata) (at : At) (x : RegistryValue) (rows : List (Row (Filtered L F))) → Every (Refuses m) (filters_of rows) → any_passes g o m at x rows ≡ false
   nobody_passes m at x [] w = refl
   nobody_passes m at x (row ∷ rows) w = rw (w.0 (view_of at x row)) (nobody_passes m at x rows w.1)
 

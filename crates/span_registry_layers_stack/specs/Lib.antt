@@ -5,4 +5,7 @@ pub mod Stacks
 pub mod Words
 pub mod Spans
 pub mod Calls
+pub mod Moves
+pub mod Steps
 pub mod Caches
+pub mod Steadiness

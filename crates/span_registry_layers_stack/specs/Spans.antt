@@ -1,12 +1,12 @@
 -- What outputs are told of spans.
-use Rattle.std.specs.Prelude.{◌≡◌, ◌&&◌, ℕ, Bool, true, false, List, [], ◌∷◌, Some, slice_set, is_some}
+use Rattle.std.specs.Prelude.{◌≡◌, ◌&&◌, ℕ, Bool, true, false, List, [], ◌∷◌, Option, Some, slice_set, is_some}
 use Rattle.tracing_core.specs.At.{At}
 use Rattle.tracing_core.specs.PlainMetadata.{PlainMetadata}
 use Rattle.span_registry_layers_store.specs.Gives.{ClosesNext}
 use Rattle.span_registry_layers_store.specs.Registries.{PlainSpan, RegistryValue}
 use Rattle.span_registry_layers_store.specs.Views.{seen}
 use Rattle.span_registry_layers_layers.specs.Looks.{Closed, Hook, View}
-use Rattle.span_registry_layers_layers.specs.Notices.{Followed, Spanned}
+use Rattle.span_registry_layers_layers.specs.Notices.{Dispatched, Followed, Spanned}
 use Rattle.span_registry_layers_layers.specs.Oracles.{Oracle}
 use Rattle.span_registry_layers_layers.specs.declared.filter.Filter.{Ghosts}
 use Rattle.span_registry_layers_layers.specs.declared.filtered.Filtered.{Filtered}
@@ -44,6 +44,11 @@ module _ {L F : Type 0} (g : Ghosts F) (h : LayerGhosts L) where
   TellsFollows id follows at x row later =
       TellsIf h (sees x id row && sees x follows row) row.output.layer (Followed id follows (view_of at x row)) later.output.layer
       × (later ≡ with_layer later.output.layer row)
+
+  -- a layer is told that a hub took the stack
+  abbrev pub TellsDispatch : Option ℕ → Row (Filtered L F) → Row (Filtered L F) → Type 0
+  TellsDispatch dispatch row later =
+      h.told row.output.layer (Dispatched dispatch) later.output.layer × (later ≡ with_layer later.output.layer row)
 
   -- these spans close, each told once, in this order, to the outputs that see it, and then forgotten
   abbrev pub ClosesEach : List PlainSpan → At → RegistryValue → List (Row (Filtered L F)) → RegistryValue → List (Row (Filtered L F)) → Type 0

@@ -41,6 +41,10 @@ is_refused s m = is_above s.hint m.level || list_any (is_refused_by m) s.sites
 abbrev pub cleared : {O : Type 0} → StackValue O → StackValue O
 cleared s = record s { rows = map (marked false) s.rows }
 
+-- with another kept hint
+abbrev pub with_hint : {O : Type 0} → Option ℕ → StackValue O → StackValue O
+with_hint hint s = record s { hint = hint }
+
 -- the outputs become others that are so related to them, and the rest stays
 abbrev pub RowsBecome : {O : Type 0} → (Row O → Row O → Type 0) → StackValue O → StackValue O → Type 0
 RowsBecome R s t = EachBecomes R s.rows t.rows × (t ≡ record s { rows = t.rows })

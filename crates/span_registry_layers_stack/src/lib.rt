@@ -7,5 +7,6 @@ mod rows;
 mod site;
 mod sites;
 mod stack;
+mod subscriber;
 
 pub use stack::Stack;

@@ -8,7 +8,7 @@ ghost use Rattle.span_registry_layers_layers.specs.Oracles.{Oracle};
 ghost use Rattle.span_registry_layers_stack.specs.Asked.{common_hint, common_interest};
 ghost use Rattle.span_registry_layers_stack.specs.Rows.{filters_of};
 ghost use Rattle.span_registry_layers_stack.specs.Sites.{Keeps, plain_site};
-ghost use Rattle.span_registry_layers_stack.specs.Stacks.{EventCached, Registers, TellsAll, cleared, is_above, is_refused, passes_cached, plain_stack};
+ghost use Rattle.span_registry_layers_stack.specs.Stacks.{EventCached, Registers, TellsAll, cleared, is_above, is_refused, passes_cached, plain_stack, with_hint};
 
 mod spans;
 mod telling;
@@ -90,11 +90,13 @@ impl<L: Layer, F: Filter> StackParts<Filtered<L, F>> {
         interest
     }
 
-    // The hint of all filters, asked now.
-    pub(crate) fn ask_hint(&self) -> Option<LevelFilter>
-        ensures { result ≡ common_hint ⟦<F as Filter>⟧ (Some 0) (filters_of self.now.rows.items) }
+    // Asks all filters for their hint, and keeps it.
+    pub(crate) fn ask_hint(&mut self) -> Option<LevelFilter>
+        ensures answer { result ≡ common_hint ⟦<F as Filter>⟧ (Some 0) (filters_of self.old.rows.items) }
+        ensures left { plain_stack self.new ≡ with_hint result (plain_stack self.old) }
     {
-        ask_hint(&self.rows)
+        self.hint = ask_hint(&self.rows);
+        self.hint
     }
 
     // Whether some filter passes it, and false where what is kept refuses it.

@@ -15,7 +15,7 @@ use crate::row::Row;
 use span_registry_layers_layers::{Filter, Filtered, Layer};
 use span_registry_layers_store::{FilterMap, Registry};
 pub(crate) use spans::{
-    tell_close, tell_enter, tell_exit, tell_follows, tell_new_span, tell_record,
+    tell_close, tell_dispatch, tell_enter, tell_exit, tell_follows, tell_new_span, tell_record,
 };
 use tracing_core::{At, Event, Interest, LevelFilter, Metadata};
 

@@ -1,18 +1,18 @@
 //! Outputs over a registry of spans.
-ghost use Rattle.std.specs.Prelude.{◌≡◌, Some};
+ghost use Rattle.std.specs.Prelude.{◌≡◌};
 ghost use Rattle.tracing_core.specs.Metadata.{plain_metadata};
 ghost use Rattle.tracing_core.specs.PlainRequests.{plain_event};
 ghost use Rattle.tracing_core.specs.Steady.{IsReal};
 ghost use Rattle.span_registry_layers_layers.specs.Oracles.{Oracle};
-ghost use Rattle.span_registry_layers_stack.specs.Asked.{common_hint, common_interest};
-ghost use Rattle.span_registry_layers_stack.specs.Rows.{filters_of};
-ghost use Rattle.span_registry_layers_stack.specs.Stacks.{EventAsked, EventCached, Registers, passes_asked, passes_cached};
+ghost use Rattle.span_registry_layers_stack.specs.Stacks.{EventAsked, EventCached, passes_asked, passes_cached};
 ghost use Rattle.span_registry_layers_stack.specs.Words.{Word};
+
+mod handing;
 
 use crate::parts::StackParts;
 use span_registry_layers_layers::{Filter, Filtered, Layer};
 use std::marker::Model;
-use tracing_core::{At, Event, Interest, LevelFilter, Metadata, RequestError};
+use tracing_core::{At, Event, Metadata, RequestError};
 
 /// Outputs in order, over one registry of spans.
 ///
@@ -22,7 +22,7 @@ use tracing_core::{At, Event, Interest, LevelFilter, Metadata, RequestError};
 /// A contract sees a stack as a `StackValue`.
 #[derive(Drop)]
 pub struct Stack<O> {
-    parts: StackParts<O>,
+    pub(crate) parts: StackParts<O>,
 }
 
 impl<O> Model for Stack<O> {
@@ -63,34 +63,5 @@ impl<L: Layer, F: Filter> Stack<Filtered<L, F>> {
     {
         is_real(metadata);
         self.some_passes(metadata, at)
-    }
-
-    // One event, by what is kept.
-    pub(crate) fn hand_event(&mut self, event: &Event<'_, '_>, at: At) -> Result<(), RequestError>
-        ensures { (o : Oracle ⟦<F as Filter>⟧) → EventCached ⟦<F as Filter>⟧ ⟦<L as Layer>⟧ o (plain_event event.now) at self.old result self.new }
-    {
-        self.parts.event(event, at)
-    }
-
-    // Whether some filter passes it, by what is kept.
-    pub(crate) fn some_passes(&self, metadata: &Metadata<'_>, at: At) -> bool
-        ensures { (o : Oracle ⟦<F as Filter>⟧) → result ≡ passes_cached ⟦<F as Filter>⟧ o self.now (plain_metadata metadata.now) at }
-    {
-        self.parts.enabled(metadata, at)
-    }
-
-    // What all filters have in common of a callsite.
-    pub(crate) fn common_interest(&mut self, metadata: &Metadata<'_>) -> Interest
-        ensures answer { (o : Oracle ⟦<F as Filter>⟧) → result ≡ common_interest ⟦<F as Filter>⟧ o (plain_metadata metadata.now) (filters_of self.old.rows) }
-        ensures left { Registers (plain_metadata metadata.now) result self.old self.new }
-    {
-        self.parts.register(metadata)
-    }
-
-    // The hint of all filters.
-    pub(crate) fn common_hint(&self) -> Option<LevelFilter>
-        ensures { result ≡ common_hint ⟦<F as Filter>⟧ (Some 0) (filters_of self.now.rows) }
-    {
-        self.parts.ask_hint()
     }
 }

@@ -1,13 +1,15 @@
 //! Telling the outputs of a stack of its spans.
 ghost use Rattle.tracing_core.specs.PlainRequests.{plain_attributes, plain_record};
 ghost use Rattle.span_registry_layers_layers.specs.Looks.{Closed, Entered, Exited, Recorded, SpanMade};
-ghost use Rattle.span_registry_layers_stack.specs.Spans.{TellsFollows, TellsMade, TellsSpan};
+ghost use Rattle.span_registry_layers_stack.specs.Spans.{TellsDispatch, TellsFollows, TellsMade, TellsSpan};
 ghost use Rattle.span_registry_layers_stack.specs.Stacks.{RowsBecome, plain_stack};
 
 use crate::parts::StackParts;
-use crate::rows::{tell_close, tell_enter, tell_exit, tell_follows, tell_new_span, tell_record};
+use crate::rows::{
+    tell_close, tell_dispatch, tell_enter, tell_exit, tell_follows, tell_new_span, tell_record,
+};
 use span_registry_layers_layers::{Filter, Filtered, Layer};
-use tracing_core::{At, Attributes, Id, Record};
+use tracing_core::{At, Attributes, Id, Record, WeakDispatch};
 
 impl<L: Layer, F: Filter> StackParts<Filtered<L, F>> {
     pub(super) fn tell_new_span(&mut self, attributes: &Attributes<'_, '_>, span: &Id, at: At)
@@ -44,5 +46,11 @@ impl<L: Layer, F: Filter> StackParts<Filtered<L, F>> {
         ensures { RowsBecome (TellsSpan ⟦<F as Filter>⟧ ⟦<L as Layer>⟧ (Closed span.now) span.now at self.old.registry) (plain_stack self.old) (plain_stack self.new) }
     {
         tell_close(&mut self.rows, span, &self.registry, at);
+    }
+
+    pub(crate) fn tell_dispatch(&mut self, dispatch: &WeakDispatch)
+        ensures { RowsBecome (TellsDispatch ⟦<F as Filter>⟧ ⟦<L as Layer>⟧ dispatch.now) (plain_stack self.old) (plain_stack self.new) }
+    {
+        tell_dispatch(&mut self.rows, dispatch);
     }
 }

@@ -4,12 +4,12 @@ ghost use Rattle.tracing_core.specs.PlainRequests.{plain_attributes, plain_recor
 ghost use Rattle.span_registry_layers_layers.specs.Looks.{Closed, Entered, Exited, Recorded, SpanMade};
 ghost use Rattle.span_registry_layers_layers.specs.Notices.{Followed};
 ghost use Rattle.span_registry_layers_stack.specs.Rows.{view_of, with_layer};
-ghost use Rattle.span_registry_layers_stack.specs.Spans.{Hears, TellsFollows, TellsMade, TellsSpan, sees};
+ghost use Rattle.span_registry_layers_stack.specs.Spans.{Hears, TellsDispatch, TellsFollows, TellsMade, TellsSpan, sees};
 
 use crate::row::Row;
 use span_registry_layers_layers::{Context, Filter, Filtered, Layer};
 use span_registry_layers_store::Registry;
-use tracing_core::{At, Attributes, Id, Record};
+use tracing_core::{At, Attributes, Id, Record, WeakDispatch};
 
 impl<O> Row<O> {
     // Whether it sees the span: the span is open, and the filter passed it when it was made.
@@ -21,6 +21,13 @@ impl<O> Row<O> {
 }
 
 impl<L: Layer, F: Filter> Row<Filtered<L, F>> {
+    // A hub took the stack.
+    pub(crate) fn dispatch(&mut self, dispatch: &WeakDispatch)
+        ensures { TellsDispatch ⟦<F as Filter>⟧ ⟦<L as Layer>⟧ dispatch.now self.old self.new }
+    {
+        self.output.inner_mut().on_register_dispatch(dispatch);
+    }
+
     fn hear_span(&mut self, attributes: &Attributes<'_, '_>, span: &Id, registry: &Registry, at: At)
         ensures { Hears ⟦<F as Filter>⟧ ⟦<L as Layer>⟧ (SpanMade (plain_attributes attributes.now) span.now (view_of at registry.now self.old)) self.old self.new }
     {

@@ -2,12 +2,12 @@
 ghost use Rattle.tracing_core.specs.PlainRequests.{plain_attributes, plain_record};
 ghost use Rattle.span_registry_layers_layers.specs.Looks.{Closed, Entered, Exited, Recorded, SpanMade};
 ghost use Rattle.span_registry_layers_stack.specs.Rows.{EachBecomes};
-ghost use Rattle.span_registry_layers_stack.specs.Spans.{TellsFollows, TellsMade, TellsSpan};
+ghost use Rattle.span_registry_layers_stack.specs.Spans.{TellsDispatch, TellsFollows, TellsMade, TellsSpan};
 
 use crate::row::Row;
 use span_registry_layers_layers::{Filter, Filtered, Layer};
 use span_registry_layers_store::Registry;
-use tracing_core::{At, Attributes, Id, Record};
+use tracing_core::{At, Attributes, Id, Record, WeakDispatch};
 
 // A span was made: those that passed it are told.
 pub(crate) fn tell_new_span<L: Layer, F: Filter>(
@@ -93,5 +93,17 @@ pub(crate) fn tell_close<L: Layer, F: Filter>(
 {
     for row in rows.iter_mut() {
         row.close(span, registry, at);
+    }
+}
+
+// A hub took the stack.
+pub(crate) fn tell_dispatch<L: Layer, F: Filter>(
+    rows: &mut [Row<Filtered<L, F>>],
+    dispatch: &WeakDispatch,
+)
+    ensures { EachBecomes (TellsDispatch ⟦<F as Filter>⟧ ⟦<L as Layer>⟧ dispatch.now) rows.old rows.new }
+{
+    for row in rows.iter_mut() {
+        row.dispatch(dispatch);
     }
 }

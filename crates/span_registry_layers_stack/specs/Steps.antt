@@ -1,0 +1,202 @@
+-- What calls leave of the filters' word.
+use Rattle.std.specs.Prelude.{◌≡◌, ℕ, Bool, true, false, List, [], ◌∷◌, map, Option, Some, None, Result, Ok, Err, refl}
+use Rattle.std.proofs.Common.{ap, sym, ◌∙◌, subst}
+use Rattle.tracing_core.specs.At.{At}
+use Rattle.tracing_core.specs.Interests.{PlainInterest}
+use Rattle.tracing_core.specs.Kept.{Covers, Every}
+use Rattle.tracing_core.specs.PlainMetadata.{PlainMetadata}
+use Rattle.tracing_core.specs.PlainRequests.{PlainAttributes, PlainEvent, PlainValues, explicit_parent}
+use Rattle.tracing_core.specs.RequestError.{RequestError}
+use Rattle.tracing_core.specs.Steady.{SameWord}
+use Rattle.span_registry_layers_store.specs.Gives.{ClosesNext, close_refusal}
+use Rattle.span_registry_layers_store.specs.Registries.{PlainSpan, RegistryValue, closing_in, knows, without_entry, without_handle}
+use Rattle.span_registry_layers_store.specs.Verdicts.{all_pass}
+use Rattle.span_registry_layers_layers.specs.Looks.{Closed, Entered, Exited, Hook, Recorded, SpanMade, View}
+use Rattle.span_registry_layers_layers.specs.Oracles.{Oracle}
+use Rattle.span_registry_layers_layers.specs.declared.filter.Filter.{Ghosts}
+use Rattle.span_registry_layers_layers.specs.declared.filtered.Filtered.{Filtered}
+use Rattle.span_registry_layers_layers.specs.declared.layer.Layer.{Ghosts as LayerGhosts}
+use Rattle.span_registry_layers_stack.specs.Calls.{CloneGives, CloseGives, CloseUnless, Closes, EnterGives, ExitGives, FollowsGives, MakesSpan, RecordGives, SpanCached, SpanKnown, SpanWhere, WhereTaken, over}
+use Rattle.span_registry_layers_stack.specs.Rows.{EachBecomes, TellsEvent, filters_of, marked}
+use Rattle.span_registry_layers_stack.specs.Sites.{PlainSite}
+use Rattle.span_registry_layers_stack.specs.Spans.{ClosesEach, HearsIf, TellsDispatch, TellsFollows, TellsMade, TellsSpan, sees, verdicts_from}
+use Rattle.span_registry_layers_stack.specs.Stacks.{EventCached, RowsBecome, StackValue, TellsAll, TellsUnless, WhereKnown, cleared, is_refused, passes_cached}
+use Rattle.span_registry_layers_stack.specs.Words.{HintOver, Knows, Word, WordOf}
+use Rattle.span_registry_layers_stack.specs.declared.row.Row.{Row}
+
+module _ {F : Type 0} (g : Ghosts F) where
+  -- an honest filter stays one, and says what it said
+  abbrev pub Steps : F → F → Type 0
+  Steps f later = g.honest f → g.honest later × SameWord (g.says f) (g.says later) (g.hint f) (g.hint later)
+
+  pub stays_put : (f later : F) → later ≡ f → Steps f later
+  stays_put f later e = subst (Steps f) (sym e) (λ k. (k, record { onward = λ m j s. s; back = λ m j s. s; same_hint = refl }))
+
+  then_steps : (a b c : F) → Steps a b → Steps b c → Steps a c
+  then_steps a b c f k =
+      λ good.
+      let one = f good in
+      let two = k one.0 in
+      (two.0, record { onward = λ m j s. two.1.onward m j (one.1.onward m j s); back = λ m j s. one.1.back m j (two.1.back m j s); same_hint = two.1.same_hint ∙ one.1.same_hint })
+
+  pub each_then : (xs ys zs : List F) → EachBecomes Steps xs ys → EachBecomes Steps ys zs → EachBecomes Steps xs zs
+  each_then [] [] [] a b = tt
+  each_then [] [] (z ∷ zs) a b = absurd b
+  each_then [] (y ∷ ys) zs a b = absurd a
+  each_then (x ∷ xs) [] zs a b = absurd a
+  each_then (x ∷ xs) (y ∷ ys) [] a b = absurd b
+  each_then (x ∷ xs) (y ∷ ys) (z ∷ zs) a b = (then_steps x y z a.0 b.0, each_then xs ys zs a.1 b.1)
+
+  pub each_put : (xs : List F) → EachBecomes Steps xs xs
+  each_put [] = tt
+  each_put (x ∷ xs) = (stays_put x x refl, each_put xs)
+
+  honest_step : (xs ys : List F) → EachBecomes Steps xs ys → Every (λ f. g.honest f) xs → Every (λ f. g.honest f) ys
+  honest_step [] [] a w = tt
+  honest_step [] (y ∷ ys) a w = absurd a
+  honest_step (x ∷ xs) [] a w = absurd a
+  honest_step (x ∷ xs) (y ∷ ys) a w = ((a.0 w.0).0, honest_step xs ys a.1 w.1)
+
+  knows_step : (m : PlainMetadata) (k : PlainInterest) (xs ys : List F) → EachBecomes Steps xs ys → Every (λ f. g.honest f) xs → Every (Knows g m k) xs → Every (Knows g m k) ys
+  knows_step m k [] [] a w n = tt
+  knows_step m k [] (y ∷ ys) a w n = absurd a
+  knows_step m k (x ∷ xs) [] a w n = absurd a
+  knows_step m k (x ∷ xs) (y ∷ ys) a w n = ((n.0.0, (a.0 w.0).1.onward m n.0.0 n.0.1, n.0.2), knows_step m k xs ys a.1 w.1 n.1)
+
+  sites_step : (sites : List PlainSite) (xs ys : List F) → EachBecomes Steps xs ys → Every (λ f. g.honest f) xs → Every (λ site. Every (Knows g site.metadata site.interest) xs) sites → Every (λ site. Every (Knows g site.metadata site.interest) ys) sites
+  sites_step [] xs ys a w n = tt
+  sites_step (c ∷ cs) xs ys a w n = (knows_step c.metadata c.interest xs ys a w n.0, sites_step cs xs ys a w n.1)
+
+  hints_step : (kept : Option ℕ) (xs ys : List F) → EachBecomes Steps xs ys → Every (λ f. g.honest f) xs → Every (λ f. HintOver (g.hint f) kept) xs → Every (λ f. HintOver (g.hint f) kept) ys
+  hints_step kept [] [] a w n = tt
+  hints_step kept [] (y ∷ ys) a w n = absurd a
+  hints_step kept (x ∷ xs) [] a w n = absurd a
+  hints_step kept (x ∷ xs) (y ∷ ys) a w n = (subst (λ own. HintOver own kept) (sym (a.0 w.0).1.same_hint) n.0, hints_step kept xs ys a.1 w.1 n.1)
+
+  pub word_step : (sites : List PlainSite) (kept : Option ℕ) (xs ys : List F) → EachBecomes Steps xs ys → WordOf g xs sites kept → WordOf g ys sites kept
+  word_step sites kept xs ys a w =
+      record { honest = honest_step xs ys a w.honest; interests = sites_step sites xs ys a w.honest w.interests; hints = hints_step kept xs ys a w.honest w.hints }
+
+  -- each filter stays honest and says what it said, and what is kept stays
+  pub record Keeps {L : Type 0} (s t : StackValue (Filtered L F)) : Type 0 where
+    pub steps : EachBecomes Steps (filters_of s.rows) (filters_of t.rows)
+    pub sites : t.sites ≡ s.sites
+    pub hint : t.hint ≡ s.hint
+
+  pub keeps_word : {L : Type 0} (s t : StackValue (Filtered L F)) → Keeps s t → Word g s → Word g t
+  keeps_word s t k w =
+      subst (λ cs. WordOf g (filters_of t.rows) cs t.hint) (sym k.sites)
+      (subst (λ kept. WordOf g (filters_of t.rows) s.sites kept) (sym k.hint) (word_step s.sites s.hint (filters_of s.rows) (filters_of t.rows) k.steps w))
+
+  pub keeps_same : {L : Type 0} (s t : StackValue (Filtered L F)) → t ≡ s → Keeps s t
+  keeps_same s t e = subst (Keeps s) (sym e) (record { steps = each_put (filters_of s.rows); sites = refl; hint = refl })
+
+  pub keeps_then : {L : Type 0} (s t u : StackValue (Filtered L F)) → Keeps s t → Keeps t u → Keeps s u
+  keeps_then s t u a b =
+      record { steps = each_then (filters_of s.rows) (filters_of t.rows) (filters_of u.rows) a.steps b.steps; sites = b.sites ∙ a.sites; hint = b.hint ∙ a.hint }
+
+  pub cleared_keeps : {L : Type 0} (s t : StackValue (Filtered L F)) → t ≡ cleared s → Keeps s t
+  cleared_keeps s t e = subst (Keeps s) (sym e) (record { steps = rows_put s.rows; sites = refl; hint = refl })
+    where
+      rows_put : {L : Type 0} (rows : List (Row (Filtered L F))) → EachBecomes Steps (filters_of rows) (filters_of (map (marked false) rows))
+      rows_put [] = tt
+      rows_put (row ∷ rows) = (stays_put row.output.filter row.output.filter refl, rows_put rows)
+
+  each_steps : {L : Type 0} (R : Row (Filtered L F) → Row (Filtered L F) → Type 0) → ((row later : Row (Filtered L F)) → R row later → Steps row.output.filter later.output.filter) →
+      (rows later : List (Row (Filtered L F))) → EachBecomes R rows later → EachBecomes Steps (filters_of rows) (filters_of later)
+  each_steps R f [] [] w = tt
+  each_steps R f [] (l ∷ ls) w = absurd w
+  each_steps R f (r ∷ rs) [] w = absurd w
+  each_steps R f (r ∷ rs) (l ∷ ls) w = (f r l w.0, each_steps R f rs ls w.1)
+
+  pub rows_keep : {L : Type 0} (x : RegistryValue) (R : Row (Filtered L F) → Row (Filtered L F) → Type 0) → ((row later : Row (Filtered L F)) → R row later → Steps row.output.filter later.output.filter) → (s t : StackValue (Filtered L F)) → RowsBecome R (over x s) t → Keeps s t
+  rows_keep {L = L} x R f s t w =
+      record { steps = each_steps R f s.rows t.rows w.0; sites = ap (λ (v : StackValue (Filtered L F)). v.sites) w.1; hint = ap (λ (v : StackValue (Filtered L F)). v.hint) w.1 }
+
+module _ {L F : Type 0} (g : Ghosts F) (h : LayerGhosts L) where
+  hears_steps : (b : Bool) (hook : Hook) (row later : Row (Filtered L F)) → HearsIf g h b hook row later → Steps g row.output.filter later.output.filter
+  hears_steps true hook row later w = subst (Steps g row.output.filter) (sym (ap (λ (r : Row (Filtered L F)). r.output.filter) w.1)) (g.stays row.output.filter hook)
+  hears_steps false hook row later w = stays_put g row.output.filter later.output.filter (ap (λ (r : Row (Filtered L F)). r.output.filter) w)
+
+  span_steps : (call : View → Hook) (id : ℕ) (at : At) (x : RegistryValue) (row later : Row (Filtered L F)) → TellsSpan g h call id at x row later → Steps g row.output.filter later.output.filter
+  span_steps call id at x row later w = hears_steps (sees x id row) (call (record { at = at; registry = x; mask = Some row.id.index })) row later w
+
+  made_steps : (call : View → Hook) (id : ℕ) (at : At) (x : RegistryValue) (row later : Row (Filtered L F)) → TellsMade g h call id at x row later → Steps g row.output.filter later.output.filter
+  made_steps call id at x row later w = span_steps call id at x (marked (sees x id row) row) later w
+
+  follows_steps : (id follows : ℕ) (at : At) (x : RegistryValue) (row later : Row (Filtered L F)) → TellsFollows g h id follows at x row later → Steps g row.output.filter later.output.filter
+  follows_steps id follows at x row later w = stays_put g row.output.filter later.output.filter (ap (λ (r : Row (Filtered L F)). r.output.filter) w.1)
+
+  dispatch_steps : (dispatch : Option ℕ) (row later : Row (Filtered L F)) → TellsDispatch g h dispatch row later → Steps g row.output.filter later.output.filter
+  dispatch_steps dispatch row later w = stays_put g row.output.filter later.output.filter (ap (λ (r : Row (Filtered L F)). r.output.filter) w.1)
+
+  pub dispatch_keeps : (dispatch : Option ℕ) (s t : StackValue (Filtered L F)) → RowsBecome (TellsDispatch g h dispatch) s t → Keeps g s t
+  dispatch_keeps dispatch s t w = rows_keep g s.registry (TellsDispatch g h dispatch) (dispatch_steps dispatch) s t w
+
+  taken_keeps : {A : Type 0} (s t : StackValue (Filtered L F)) (r : Result A RequestError) (leaves : StackValue (Filtered L F) → Type 0) → (leaves t → Keeps g s t) → WhereTaken r s leaves t → Keeps g s t
+  taken_keeps s t (Ok done) leaves f w = f w
+  taken_keeps s t (Err e) leaves f w = keeps_same g s t w
+
+  pub record_keeps : (id : ℕ) (values : PlainValues) (at : At) (s t : StackValue (Filtered L F)) (r : Result (Unit {0}) RequestError) → RecordGives g h id values at s r t → Keeps g s t
+  record_keeps id values at s t r w =
+      taken_keeps s t r (RowsBecome (TellsSpan g h (Recorded id values) id at s.registry) s) (rows_keep g s.registry (TellsSpan g h (Recorded id values) id at s.registry) (span_steps (Recorded id values) id at s.registry) s t) w.1
+
+  pub follows_keeps : (id follows : ℕ) (at : At) (s t : StackValue (Filtered L F)) (r : Result (Unit {0}) RequestError) → FollowsGives g h id follows at s r t → Keeps g s t
+  follows_keeps id follows at s t r w =
+      taken_keeps s t r (RowsBecome (TellsFollows g h id follows at s.registry) s) (rows_keep g s.registry (TellsFollows g h id follows at s.registry) (follows_steps id follows at s.registry) s t) w.1
+
+  pub enter_keeps : (id : ℕ) (at : At) (s t : StackValue (Filtered L F)) (r : Result (Unit {0}) RequestError) → EnterGives g h id at s r t → Keeps g s t
+  enter_keeps id at s t r w =
+      taken_keeps s t r (RowsBecome (TellsSpan g h (Entered id) id at w.0) (over w.0 s)) (rows_keep g w.0 (TellsSpan g h (Entered id) id at w.0) (span_steps (Entered id) id at w.0) s t) w.2
+
+  each_closes : (ss : List PlainSpan) (at : At) (x : RegistryValue) (rows : List (Row (Filtered L F))) (y : RegistryValue) (later : List (Row (Filtered L F))) → ClosesEach g h ss at x rows y later → EachBecomes (Steps g) (filters_of rows) (filters_of later)
+  each_closes [] at x rows y later w = subst (λ l. EachBecomes (Steps g) (filters_of rows) (filters_of l)) (sym w.1) (each_put g (filters_of rows))
+  each_closes (s ∷ ss) at x rows y later w =
+      each_then g (filters_of rows) (filters_of w.0) (filters_of later) (each_steps g (TellsSpan g h (Closed s.kin.id) s.kin.id at x) (span_steps (Closed s.kin.id) s.kin.id at x) rows w.0 w.1) (each_closes ss at w.2.0 w.0 y later w.2.2)
+
+  closes_keep : (at : At) (x : RegistryValue) (s t : StackValue (Filtered L F)) → Closes g h at (over x s) t → Keeps g s t
+  closes_keep at x s t w =
+      record {
+        steps = each_closes (closing_in x) at x s.rows t.registry t.rows w.0;
+        sites = ap (λ (v : StackValue (Filtered L F)). v.sites) w.2;
+        hint = ap (λ (v : StackValue (Filtered L F)). v.hint) w.2;
+      }
+
+  pub exit_keeps : (id : ℕ) (at : At) (s t : StackValue (Filtered L F)) → ExitGives g h id at s t → Keeps g s t
+  exit_keeps id at s t w =
+      let x = without_entry s.registry at.lane id in
+      keeps_then g s w.0 t (rows_keep g x (TellsSpan g h (Exited id) id at x) (span_steps (Exited id) id at x) s w.0 w.1) (closes_keep at w.0.registry w.0 t w.2)
+
+  pub close_keeps : (id : ℕ) (at : At) (s t : StackValue (Filtered L F)) (r : Bool) → CloseGives g h id at s r t → Keeps g s t
+  close_keeps id at s t r w = unless (close_refusal s.registry id) w
+    where
+      unless : (refusal : Option RequestError) → CloseUnless g h refusal id at s r t → Keeps g s t
+      unless None w = closes_keep at (without_handle s.registry id) s t w.1
+      unless (Some refusal) w = keeps_same g s t w.1
+
+  pub clone_keeps : (id : ℕ) (s t : StackValue (Filtered L F)) (r : Result ℕ RequestError) → CloneGives id s r t → Keeps g s t
+  clone_keeps id s t r w = subst (Keeps g s) (sym w.1) (record { steps = each_put g (filters_of s.rows); sites = refl; hint = refl })
+
+  makes_keeps : (a : PlainAttributes) (at : At) (verdicts : List Bool) (s t : StackValue (Filtered L F)) (r : Result (Option ℕ) RequestError) → MakesSpan g h a at verdicts s r t → Keeps g s t
+  makes_keeps a at verdicts s t r (Ok id, x, taken, made) = rows_keep g x (TellsMade g h (SpanMade a id) id at x) (made_steps (SpanMade a id) id at x) s t made.1
+  makes_keeps a at verdicts s t r (Err e, x, taken, made) = keeps_same g s t made.1
+
+  module _ (o : Oracle g) where
+    pub span_keeps : (a : PlainAttributes) (at : At) (s t : StackValue (Filtered L F)) (r : Result (Option ℕ) RequestError) → SpanCached g h o a at s r t → Keeps g s t
+    span_keeps a at s t r w = known (knows s.registry (explicit_parent a.parent)) (passes_cached g o s a.metadata at) w
+      where
+        known : (k p : Bool) → SpanKnown g h o k p a at s r t → Keeps g s t
+        known true true w = makes_keeps a at (verdicts_from g o all_pass a.metadata at s.registry s.rows) s t r w
+        known true false w = cleared_keeps g s t w.1
+        known false p w = keeps_same g s t w.1
+
+    event_steps : (e : PlainEvent) (at : At) (x : RegistryValue) (row later : Row (Filtered L F)) → TellsEvent g h o e at x row later → Steps g row.output.filter later.output.filter
+    event_steps e at x row later w = stays_put g row.output.filter later.output.filter (ap (λ (r : Row (Filtered L F)). r.output.filter) w.2)
+
+    pub event_keeps : (e : PlainEvent) (at : At) (s t : StackValue (Filtered L F)) (r : Result (Unit {0}) RequestError) → EventCached g h o e at s r t → Keeps g s t
+    event_keeps e at s t r w = known (knows s.registry (explicit_parent e.parent)) (is_refused s e.metadata) w
+      where
+        known : (k b : Bool) → WhereKnown k s (TellsUnless g h o b e at s) r t → Keeps g s t
+        known true true w = cleared_keeps g s t w.1
+        known true false w = rows_keep g s.registry (TellsEvent g h o e at s.registry) (event_steps e at s.registry) s t w.1
+        known false b w = keeps_same g s t w.1

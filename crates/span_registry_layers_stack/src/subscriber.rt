@@ -1,0 +1,97 @@
+//! A stack as a subscriber.
+use crate::stack::Stack;
+use span_registry_layers_layers::{Filter, Filtered, Layer};
+use tracing_core::{
+    At, Attributes, CurrentSpan, Event, Id, Interest, LevelFilter, Metadata, Record, RequestError,
+    Subscriber, WeakDispatch,
+};
+
+/// A stack whose filters are honest is steady while what it keeps is right. It wants each event whose callsite some
+/// filter passes: each filter is asked once, when the event is handed over.
+impl<L: Layer, F: Filter> Subscriber for Stack<Filtered<L, F>> {
+    ghost use Rattle.std.specs.Prelude.{Some};
+    ghost use Rattle.span_registry_layers_stack.specs.Asked.{common_hint};
+    ghost use Rattle.span_registry_layers_stack.specs.Moves.{AnswersOf, IsSteady, Moves, SaysOf};
+    ghost use Rattle.span_registry_layers_stack.specs.Rows.{filters_of};
+    ghost use Rattle.span_registry_layers_stack.specs.Steadiness.{asked_stays, stack_fair, stack_quiet, stack_stays};
+
+    ghost answers = { λ x m at b. AnswersOf ⟦<F as Filter>⟧ x m at b };
+
+    ghost says = { λ x m k. SaysOf ⟦<F as Filter>⟧ (filters_of x.rows) m k };
+
+    ghost hint = { λ x. common_hint ⟦<F as Filter>⟧ (Some 0) (filters_of x.rows) };
+
+    ghost moves = { λ x c r y. Moves ⟦<F as Filter>⟧ ⟦<L as Layer>⟧ x c r y };
+
+    ghost steady = { λ x. IsSteady ⟦<F as Filter>⟧ x };
+
+    ghost fair = { λ x k. stack_fair ⟦<F as Filter>⟧ x k };
+
+    ghost stays = { λ x c r y real moved k. stack_stays ⟦<F as Filter>⟧ ⟦<L as Layer>⟧ x c r y real moved k };
+
+    ghost quiet = { λ x m n at place r y b moved k. stack_quiet ⟦<F as Filter>⟧ x y n place b (asked_stays ⟦<F as Filter>⟧ ⟦<L as Layer>⟧ x m at r y moved) };
+
+    fn on_register_dispatch(&mut self, dispatch: &WeakDispatch) {
+        self.tell_dispatch(dispatch)
+    }
+
+    fn register_callsite(&mut self, metadata: &Metadata<'_>) -> Interest {
+        self.ask_interest(metadata)
+    }
+
+    fn enabled(&mut self, metadata: &Metadata<'_>, at: At) -> bool {
+        self.some_passes(metadata, at)
+    }
+
+    fn max_level_hint(&mut self) -> Option<LevelFilter> {
+        self.ask_hint()
+    }
+
+    fn new_span(
+        &mut self,
+        attributes: &Attributes<'_, '_>,
+        at: At,
+    ) -> Result<Option<Id>, RequestError> {
+        self.hand_span(attributes, at)
+    }
+
+    fn record(&mut self, span: &Id, values: &Record<'_>, at: At) -> Result<(), RequestError> {
+        self.hand_record(span, values, at)
+    }
+
+    fn record_follows_from(&mut self, span: &Id, follows: &Id, at: At) -> Result<(), RequestError> {
+        self.hand_follows(span, follows, at)
+    }
+
+    fn event_enabled(&mut self, _event: &Event<'_, '_>, _at: At) -> bool {
+        true
+    }
+
+    fn event(&mut self, event: &Event<'_, '_>, at: At) -> Result<(), RequestError> {
+        self.hand_event(event, at)
+    }
+
+    fn enter(&mut self, span: &Id, at: At) -> Result<(), RequestError> {
+        self.hand_enter(span, at)
+    }
+
+    fn exit(&mut self, span: &Id, at: At) {
+        self.hand_exit(span, at)
+    }
+
+    fn clone_span(&mut self, span: &Id, _at: At) -> Result<Id, RequestError> {
+        self.hand_clone(span)
+    }
+
+    fn drop_span(&mut self, span: Id, at: At) {
+        let _closed = self.hand_close(span, at);
+    }
+
+    fn try_close(&mut self, span: Id, at: At) -> bool {
+        self.hand_close(span, at)
+    }
+
+    fn current_span(&mut self, at: At) -> CurrentSpan {
+        self.current_on(at.lane)
+    }
+}
