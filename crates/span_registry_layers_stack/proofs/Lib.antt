@@ -4,3 +4,4 @@ pub mod Asking
 pub mod Keeping
 pub mod Closing
 pub mod Making
+pub mod Starting

@@ -5,6 +5,7 @@ pub mod Stacks
 pub mod Words
 pub mod Spans
 pub mod Calls
+pub mod New
 pub mod Moves
 pub mod Steps
 pub mod Caches

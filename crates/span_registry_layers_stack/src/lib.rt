@@ -1,6 +1,7 @@
 //! The stack: outputs, each told exactly what its filter passes.
 #![tactic(auto)]
 
+mod output;
 mod parts;
 mod row;
 mod rows;
@@ -9,4 +10,5 @@ mod sites;
 mod stack;
 mod subscriber;
 
+pub use output::{Output, StackError};
 pub use stack::Stack;

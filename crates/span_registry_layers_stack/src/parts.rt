@@ -10,6 +10,7 @@ ghost use Rattle.span_registry_layers_stack.specs.Rows.{filters_of};
 ghost use Rattle.span_registry_layers_stack.specs.Sites.{Keeps, plain_site};
 ghost use Rattle.span_registry_layers_stack.specs.Stacks.{EventCached, Registers, TellsAll, cleared, is_above, is_refused, passes_cached, plain_stack, with_hint};
 
+mod new;
 mod spans;
 mod telling;
 

@@ -1,16 +1,21 @@
 //! Outputs over a registry of spans.
-ghost use Rattle.std.specs.Prelude.{◌≡◌};
+ghost use Rattle.std.specs.Prelude.{◌≡◌, IfOk};
+ghost use Rattle.tracing_core.specs.Kept.{Every};
 ghost use Rattle.tracing_core.specs.Metadata.{plain_metadata};
 ghost use Rattle.tracing_core.specs.PlainRequests.{plain_event};
 ghost use Rattle.tracing_core.specs.Steady.{IsReal};
 ghost use Rattle.span_registry_layers_layers.specs.Oracles.{Oracle};
+ghost use Rattle.span_registry_layers_stack.specs.New.{NewGives};
+ghost use Rattle.span_registry_layers_stack.specs.Rows.{filters_of};
 ghost use Rattle.span_registry_layers_stack.specs.Stacks.{EventAsked, EventCached, passes_asked, passes_cached};
 ghost use Rattle.span_registry_layers_stack.specs.Words.{Word};
 
 mod handing;
 
+use crate::output::{Output, StackError, refusal};
 use crate::parts::StackParts;
 use span_registry_layers_layers::{Filter, Filtered, Layer};
+use std::alloc::Global;
 use std::marker::Model;
 use tracing_core::{At, Event, Metadata, RequestError};
 
@@ -41,6 +46,37 @@ fn is_real(metadata: &Metadata<'_>)
 }
 
 impl<L: Layer, F: Filter> Stack<Filtered<L, F>> {
+    /// The outputs in order, over a registry without spans.
+    ///
+    /// # Errors
+    ///
+    /// `NoOutput` where there is none, else `TooManyFilters` where there are more than 64, else `EqualKeys` where two have
+    /// the same key, else `OutOfMemory`.
+    pub fn new(
+        alloc: Global,
+        outputs: Vec<Output<Filtered<L, F>>>,
+    ) -> Result<Stack<Filtered<L, F>>, StackError>
+        ensures exact { NewGives ⟦<F as Filter>⟧ outputs.items result }
+        // What is kept is right of honest filters.
+        ensures kept { IfOk result (λ s. Every (λ f. F.honest f) (filters_of s.rows) → Word ⟦<F as Filter>⟧ s) }
+    {
+        Stack::build(alloc, outputs)
+    }
+
+    fn build(
+        alloc: Global,
+        outputs: Vec<Output<Filtered<L, F>>>,
+    ) -> Result<Stack<Filtered<L, F>>, StackError>
+        ensures { NewGives ⟦<F as Filter>⟧ outputs.items result }
+    {
+        if let Some(refusal) = refusal(&outputs) {
+            return Err(refusal);
+        }
+        let mut parts = StackParts::new(alloc, outputs)?;
+        let _hint = parts.ask_hint();
+        Ok(Stack { parts })
+    }
+
     /// Tells each output, in order, of the event that its filter passes, and asks nobody where what is kept refuses it.
     ///
     /// # Errors
