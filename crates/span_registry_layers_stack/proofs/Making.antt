@@ -9,7 +9,10 @@ use Rattle.span_registry_layers_layers.specs.Oracles.{Oracle}
 use Rattle.span_registry_layers_layers.specs.declared.filter.Filter.{Ghosts}
 use Rattle.span_registry_layers_layers.specs.declared.filtered.Filtered.{Filtered}
 use Rattle.span_registry_layers_layers.specs.declared.layer.Layer.{Ghosts as LayerGhosts}
-use Rattle.span_registry_layers_stack.specs.Calls.{MakesSpan, SpanCached, SpanKnown, SpanWhere}
+use Rattle.span_registry_layers_stack.specs.Calls.{MakesSpan, SpanAsked, SpanCached, SpanKnown, SpanWhere}
+use Rattle.tracing_core.specs.Steady.{IsReal}
+use Rattle.span_registry_layers_stack.specs.Caches.{passes_is_asked}
+use Rattle.span_registry_layers_stack.specs.Words.{Word}
 use Rattle.span_registry_layers_stack.specs.Spans.{verdicts_from}
 use Rattle.span_registry_layers_stack.specs.Stacks.{StackValue, cleared, passes_cached}
 
@@ -24,3 +27,8 @@ module _ {L F : Type 0} (g : Ghosts F) (h : LayerGhosts L) (o : Oracle g) where
   pub span_made : (b : Bool) (verdicts : List Bool) (a : PlainAttributes) (at : At) (s : StackValue (Filtered L F)) (r : Result (Option ℕ) RequestError) (t : StackValue (Filtered L F)) → knows s.registry (explicit_parent a.parent) ≡ true → b ≡ passes_cached g o s a.metadata at → b ≡ true →
       verdicts ≡ verdicts_from g o all_pass a.metadata at s.registry s.rows → MakesSpan g h a at verdicts s r t → SpanCached g h o a at s r t
   span_made b verdicts a at s r t known passes e same made = by_passes true a at s r t known (sym e ∙ passes) (subst (λ v. MakesSpan g h a at v s r t) same made)
+
+  -- what is answered by what is kept is what asking every filter afresh gives
+  pub span_is_asked : (a : PlainAttributes) (at : At) (s : StackValue (Filtered L F)) (r : Result (Option ℕ) RequestError) (t : StackValue (Filtered L F)) → IsReal a.metadata → Word g s → SpanCached g h o a at s r t → SpanAsked g h o a at s r t
+  span_is_asked a at s r t real w given =
+      subst (λ p. SpanKnown g h o (knows s.registry (explicit_parent a.parent)) p a at s r t) (passes_is_asked g o s a.metadata at real w) given

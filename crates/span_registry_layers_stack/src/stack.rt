@@ -11,6 +11,7 @@ ghost use Rattle.span_registry_layers_stack.specs.Stacks.{EventAsked, EventCache
 ghost use Rattle.span_registry_layers_stack.specs.Words.{Word};
 
 mod handing;
+mod spans;
 
 use crate::output::{Output, StackError, refusal};
 use crate::parts::StackParts;
@@ -39,7 +40,7 @@ impl<O> Model for Stack<O> {
 }
 
 // The level of metadata is one of the five.
-fn is_real(metadata: &Metadata<'_>)
+pub(crate) fn is_real(metadata: &Metadata<'_>)
     ensures { IsReal (plain_metadata metadata.now) }
 {
     let _name = metadata.level().as_str();
