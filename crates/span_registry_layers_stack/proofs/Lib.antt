@@ -5,3 +5,4 @@ pub mod Keeping
 pub mod Closing
 pub mod Making
 pub mod Starting
+pub mod Swapping

@@ -6,6 +6,8 @@ pub mod Words
 pub mod Spans
 pub mod Calls
 pub mod New
+pub mod Swaps
+pub mod Lending
 pub mod Moves
 pub mod Steps
 pub mod Caches

@@ -10,5 +10,5 @@ mod sites;
 mod stack;
 mod subscriber;
 
-pub use output::{Output, StackError};
+pub use output::{Output, StackError, UnknownOutput};
 pub use stack::Stack;

@@ -32,6 +32,11 @@ pub enum StackError {
     EqualKeys,
 }
 
+/// The stack has no output at this place.
+#[derive(Clone, Copy, Debug, PartialEq, Eq, Error)]
+#[error("unknown output")]
+pub struct UnknownOutput(pub(crate) ());
+
 fn has_key<O>(outputs: &[Output<O>], key: OutputKey) -> bool
     ensures { result ≡ is_member (keys_of outputs.now) key.0 }
 {

@@ -12,6 +12,7 @@ ghost use Rattle.span_registry_layers_stack.specs.Stacks.{EventCached, Registers
 
 mod new;
 mod spans;
+mod swapping;
 mod telling;
 
 use crate::row::Row;

@@ -5,6 +5,7 @@ ghost use Rattle.tracing_core.specs.PlainRequests.{plain_event};
 ghost use Rattle.span_registry_layers_layers.specs.Notices.{Happened};
 ghost use Rattle.span_registry_layers_layers.specs.Oracles.{Oracle};
 ghost use Rattle.span_registry_layers_stack.specs.Rows.{TellsEvent, marked, row_passes, row_wants, view_of, with_layer};
+ghost use Rattle.span_registry_layers_stack.specs.Swaps.{with_filter};
 
 mod spans;
 
@@ -36,6 +37,14 @@ impl<L: Layer, F: Filter> Row<Filtered<L, F>> {
         ensures { F.says self.now.output.filter (plain_metadata metadata.now) result }
     {
         self.output.filter().callsite_enabled(metadata)
+    }
+
+    // The two filters change places.
+    pub(crate) fn swap_filter(&mut self, filter: &mut F)
+        ensures row { self.new ≡ with_filter filter.old self.old }
+        ensures back { filter.new ≡ self.old.output.filter }
+    {
+        std::mem::swap(self.output.filter_mut(), filter);
     }
 
     // The most verbose level that its filter passes.

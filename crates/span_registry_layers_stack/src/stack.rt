@@ -12,6 +12,7 @@ ghost use Rattle.span_registry_layers_stack.specs.Words.{Word};
 
 mod handing;
 mod spans;
+mod swapping;
 
 use crate::output::{Output, StackError, refusal};
 use crate::parts::StackParts;

@@ -1,0 +1,7 @@
+use Rattle.std.specs.Prelude.{slice_get}
+use Rattle.span_registry_layers_stack.proofs.Swapping.{swapped_word}
+use Rattle.span_registry_layers_stack.proofs.stack.swapping.Stack+Filtered+L+F.swap_filter.Goals as goal
+
+pub returns-clause-kept : goal.returns-clause-kept
+returns-clause-kept g c =
+    swapped_word g.F.Filter (slice_get c.args.self.now.rows c.args.output) c.args.output c.args.filter.now c.args.self.now c.hand_filter.result c.hand_filter.new.filter c.hand_filter.new.self c.hand_filter.ensures

@@ -1,0 +1,23 @@
+-- An output that is lent for writing.
+use Rattle.std.specs.Prelude.{ℕ, List, [], Option, Some, None, slice_get, slice_set}
+use Rattle.std.specs.Borrow.{LendsIf, MutBor, Fml}
+use denote.RattleType.{RattleType}
+use Rattle.span_registry_layers_stack.specs.Stacks.{StackValue}
+use Rattle.span_registry_layers_stack.specs.contracts.stack.Stack.{the_row}
+use Rattle.span_registry_layers_stack.specs.declared.row.Row.{Row}
+
+abbrev pub put_at : {O : Type 0} → Option (Row O) → ℕ → O → List (Row O) → List (Row O)
+put_at None place output rows = rows
+put_at (Some row) place output rows = slice_set rows place (record row { output = output })
+
+-- with another output there
+abbrev pub put_output : {O : Type 0} → ℕ → O → List (Row O) → List (Row O)
+put_output place output rows = put_at (slice_get rows place) place output rows
+
+-- nothing is kept of any answer
+abbrev pub forgotten : {O : Type 0} → StackValue O → StackValue O
+forgotten s = record s { sites = []; hint = None }
+
+-- the stack ends with the output there as the last value behind r, and with nothing kept
+abbrev pub LendsOutput : (O : RattleType) → MutBor (StackValue O.Denot) → ℕ → Option (MutBor O.Denot) → Fml
+LendsOutput O h place r = LendsIf (the_row O) O h r (λ w. record (forgotten h.now) { rows = put_output place w h.now.rows }) (forgotten h.now)

@@ -1,0 +1,56 @@
+//! Other filters for the outputs of a stack.
+ghost use Rattle.std.specs.Borrow.{sem};
+ghost use Rattle.std.specs.Option.{option_map};
+ghost use Rattle.std.specs.Prelude.{◌≡◌, OnOk, slice_get};
+ghost use Rattle.tracing_core.specs.Kept.{Every};
+ghost use Rattle.span_registry_layers_stack.specs.Lending.{LendsOutput, forgotten};
+ghost use Rattle.span_registry_layers_stack.specs.Rows.{filters_of};
+ghost use Rattle.span_registry_layers_stack.specs.Swaps.{SwapGives};
+ghost use Rattle.span_registry_layers_stack.specs.Words.{Word};
+
+use crate::output::UnknownOutput;
+use crate::stack::Stack;
+use span_registry_layers_layers::{Filter, Filtered, Layer};
+
+impl<O> Stack<O> {
+    // Forgets all that was kept of answers.
+    fn forget(&mut self)
+        ensures { self.new ≡ forgotten self.old }
+    {
+        self.parts.sites.clear();
+        self.parts.hint = None;
+    }
+
+    fn lend(&mut self, output: usize) -> Option<&mut O>
+        ensures lent { option_map (λ lent. lent.now) result ≡ option_map (λ row. row.output) (slice_get self.old.rows output) }
+        ensures* ends { sem 𝓛 (LendsOutput O.row self.entry output result) }
+    {
+        self.forget();
+        match self.parts.rows.get_mut(output) {
+            None => None,
+            Some(row) => Some(&mut row.output),
+        }
+    }
+}
+
+impl<L: Layer, F: Filter> Stack<Filtered<L, F>> {
+    /// The filter of the output at this place, counted from 0, changes places with another one. Verdicts of spans, entries, ids,
+    /// slots and layers stand; the kept interests are forgotten, and the hint is asked anew. It takes no memory.
+    ///
+    /// # Errors
+    ///
+    /// `UnknownOutput` where there is no such output, which leaves both as they were.
+    pub fn swap_filter(&mut self, output: usize, filter: &mut F) -> Result<(), UnknownOutput>
+        ensures gives { SwapGives ⟦<F as Filter>⟧ output filter.old self.old result filter.new self.new }
+        // What is kept is right of honest filters.
+        ensures kept { OnOk result (Every (λ f. F.honest f) (filters_of self.new.rows) → Word ⟦<F as Filter>⟧ self.new) }
+    {
+        self.hand_filter(output, filter)
+    }
+
+    fn hand_filter(&mut self, output: usize, filter: &mut F) -> Result<(), UnknownOutput>
+        ensures { SwapGives ⟦<F as Filter>⟧ output filter.old self.old result filter.new self.new }
+    {
+        self.parts.swap_filter(output, filter)
+    }
+}
