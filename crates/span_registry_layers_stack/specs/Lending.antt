@@ -2,6 +2,8 @@
 use Rattle.std.specs.Prelude.{ℕ, List, [], Option, Some, None, slice_get, slice_set}
 use Rattle.std.specs.Borrow.{LendsIf, MutBor, Fml}
 use denote.RattleType.{RattleType}
+use Rattle.span_registry_layers_layers.specs.contracts.filtered.Filtered.{the_row as filtered_row}
+use Rattle.span_registry_layers_layers.specs.declared.filtered.Filtered.{Filtered}
 use Rattle.span_registry_layers_stack.specs.Stacks.{StackValue}
 use Rattle.span_registry_layers_stack.specs.contracts.stack.Stack.{the_row}
 use Rattle.span_registry_layers_stack.specs.declared.row.Row.{Row}
@@ -21,3 +23,7 @@ forgotten s = record s { sites = []; hint = None }
 -- the stack ends with the output there as the last value behind r, and with nothing kept
 abbrev pub LendsOutput : (O : RattleType) → MutBor (StackValue O.Denot) → ℕ → Option (MutBor O.Denot) → Fml
 LendsOutput O h place r = LendsIf (the_row O) O h r (λ w. record (forgotten h.now) { rows = put_output place w h.now.rows }) (forgotten h.now)
+
+-- the same where the outputs are layers with filters
+abbrev pub LendsFiltered : (L F : RattleType) → MutBor (StackValue (Filtered L.Denot F.Denot)) → ℕ → Option (MutBor (Filtered L.Denot F.Denot)) → Fml
+LendsFiltered L F h place r = LendsOutput (filtered_row L F) h place r

@@ -3,9 +3,10 @@ ghost use Rattle.std.specs.Borrow.{sem};
 ghost use Rattle.std.specs.Option.{option_map};
 ghost use Rattle.std.specs.Prelude.{◌≡◌, OnOk, slice_get};
 ghost use Rattle.tracing_core.specs.Kept.{Every};
-ghost use Rattle.span_registry_layers_stack.specs.Lending.{LendsOutput, forgotten};
+ghost use Rattle.span_registry_layers_layers.specs.declared.filtered.Filtered.{Filtered};
+ghost use Rattle.span_registry_layers_stack.specs.Lending.{LendsFiltered, LendsOutput, forgotten, put_output};
 ghost use Rattle.span_registry_layers_stack.specs.Rows.{filters_of};
-ghost use Rattle.span_registry_layers_stack.specs.Swaps.{SwapGives};
+ghost use Rattle.span_registry_layers_stack.specs.Swaps.{SwapGives, with_rows};
 ghost use Rattle.span_registry_layers_stack.specs.Words.{Word};
 
 use crate::output::UnknownOutput;
@@ -46,6 +47,17 @@ impl<L: Layer, F: Filter> Stack<Filtered<L, F>> {
         ensures kept { OnOk result (Every (λ f. F.honest f) (filters_of self.new.rows) → Word ⟦<F as Filter>⟧ self.new) }
     {
         self.hand_filter(output, filter)
+    }
+
+    /// Lends the output at this place, counted from 0, for writing. What was kept of answers is forgotten first, and is asked anew
+    /// as callsites are registered again.
+    pub fn stack_mut(&mut self, output: usize) -> Option<&mut Filtered<L, F>>
+        ensures lent { option_map (λ lent. lent.now) result ≡ option_map (λ row. row.output) (slice_get self.old.rows output) }
+        // What is kept is right of honest filters, whatever the output becomes.
+        ensures kept { (w : Filtered L F) → Every (λ f. F.honest f) (filters_of (put_output output w self.old.rows)) → Word ⟦<F as Filter>⟧ (with_rows (put_output output w self.old.rows) (forgotten self.old)) }
+        ensures* ends { sem 𝓛 (LendsFiltered L.row F.row self.entry output result) }
+    {
+        self.lend(output)
     }
 
     fn hand_filter(&mut self, output: usize, filter: &mut F) -> Result<(), UnknownOutput>
