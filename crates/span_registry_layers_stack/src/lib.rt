@@ -12,3 +12,6 @@ mod subscriber;
 
 pub use output::{Output, StackError, UnknownOutput};
 pub use stack::Stack;
+
+#[cfg(test)]
+mod tests;

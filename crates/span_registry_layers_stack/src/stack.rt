@@ -11,6 +11,7 @@ ghost use Rattle.span_registry_layers_stack.specs.Stacks.{EventAsked, EventCache
 ghost use Rattle.span_registry_layers_stack.specs.Words.{Word};
 
 mod handing;
+mod reading;
 mod spans;
 mod swapping;
 

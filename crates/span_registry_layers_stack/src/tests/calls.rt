@@ -1,0 +1,117 @@
+// What outputs are told.
+use super::*;
+use tracing_core::CurrentSpan;
+
+#[test]
+fn each_output_is_told_what_its_filter_passes(rt: HostRuntime) -> Result<(), Fail> {
+    let mut stack = stack_of(rt.alloc(), LevelFilter::INFO, LevelFilter::DEBUG)?;
+    tell(&mut stack, "app", Level::DEBUG)?;
+    assert!(rt; was_told(&stack, 0, &[]) && was_told(&stack, 1, &[(Told::Happened, 0)]));
+    assert!(rt; stack.passed(0) == Some(false) && stack.passed(1) == Some(true));
+    tell(&mut stack, "app", Level::TRACE)?;
+    assert!(rt; was_told(&stack, 0, &[]) && was_told(&stack, 1, &[(Told::Happened, 0)]));
+    assert!(rt; stack.passed(0) == Some(false) && stack.passed(1) == Some(false));
+    assert!(rt; make(&mut stack, "app", Level::TRACE)?.is_none());
+    assert!(rt; stack.passed(2).is_none() && stack.output(2).is_none());
+    Ok(())
+}
+
+#[test]
+fn a_probe_leaves_no_mark(rt: HostRuntime) -> Result<(), Fail> {
+    let mut stack = stack_of(rt.alloc(), LevelFilter::INFO, LevelFilter::DEBUG)?;
+    tell(&mut stack, "app", Level::DEBUG)?;
+    let fields = FieldSet::new(&NAMES, Identifier(7));
+    let metadata = Metadata::new(
+        "e",
+        "app",
+        Level::INFO,
+        None,
+        None,
+        None,
+        fields,
+        Kind::EVENT,
+    );
+    assert!(rt; stack.enabled(&metadata, PLACE));
+    assert!(rt; stack.passed(0) == Some(false) && stack.passed(1) == Some(true));
+    assert!(rt; was_told(&stack, 0, &[]));
+    Ok(())
+}
+
+#[test]
+fn surface_span_calls(rt: HostRuntime) -> Result<(), Fail> {
+    let mut stack = stack_of(rt.alloc(), LevelFilter::INFO, LevelFilter::DEBUG)?;
+    let span = make(&mut stack, "app", Level::DEBUG)?.ok_or("a span")?;
+    let other = make(&mut stack, "app", Level::INFO)?.ok_or("a span")?;
+    assert!(rt; was_told(&stack, 0, &[(Told::Made, 2)]));
+    let fields = FieldSet::new(&NAMES, Identifier(8));
+    stack.record(&span, &Record::new(fields.value_set_all(&[])), PLACE)?;
+    stack.record_follows_from(&other, &span, PLACE)?;
+    stack.enter(&span, PLACE)?;
+    assert!(rt; matches!(stack.current_span(0), CurrentSpan::Inside(_)));
+    stack.exit(&span, PLACE);
+    assert!(rt; matches!(stack.current_span(0), CurrentSpan::Outside));
+    assert!(rt; stack.clone_span(&span)? == span && !stack.try_close(span, PLACE));
+    assert!(rt; stack.try_close(span, PLACE) && stack.registry().is_open(&other));
+    let told = [
+        (Told::Made, 1),
+        (Told::Made, 2),
+        (Told::Recorded, 1),
+        (Told::Followed, 2),
+        (Told::Entered, 1),
+        (Told::Left, 1),
+        (Told::Closed, 1),
+    ];
+    assert!(rt; was_told(&stack, 0, &[(Told::Made, 2)]) && was_told(&stack, 1, &told));
+    Ok(())
+}
+
+#[test]
+fn a_close_is_told_by_the_own_verdict_child_first(rt: HostRuntime) -> Result<(), Fail> {
+    let mut stack = stack_of(rt.alloc(), LevelFilter::INFO, LevelFilter::TRACE)?;
+    let parent = make(&mut stack, "app", Level::DEBUG)?.ok_or("a span")?;
+    stack.enter(&parent, PLACE)?;
+    let child = make(&mut stack, "app", Level::INFO)?.ok_or("a span")?;
+    assert!(rt; !stack.try_close(parent, PLACE));
+    stack.exit(&parent, PLACE);
+    assert!(rt; stack.try_close(child, PLACE) && !stack.registry().is_open(&parent));
+    assert!(rt; was_told(&stack, 0, &[(Told::Made, 2), (Told::Closed, 2)]));
+    let told = [
+        (Told::Made, 1),
+        (Told::Entered, 1),
+        (Told::Made, 2),
+        (Told::Left, 1),
+        (Told::Closed, 2),
+        (Told::Closed, 1),
+    ];
+    assert!(rt; was_told(&stack, 1, &told));
+    Ok(())
+}
+
+#[test]
+fn a_swapped_filter_decides_from_then_on(rt: HostRuntime) -> Result<(), Fail> {
+    let mut stack = stack_of(rt.alloc(), LevelFilter::INFO, LevelFilter::OFF)?;
+    let span = make(&mut stack, "app", Level::INFO)?.ok_or("a span")?;
+    let mut filter = LevelFilter::OFF;
+    stack.swap_filter(0, &mut filter)?;
+    assert!(rt; filter == LevelFilter::INFO && make(&mut stack, "app", Level::INFO)?.is_none());
+    stack.swap_filter(1, &mut filter)?;
+    assert!(rt; stack.swap_filter(2, &mut filter).is_err());
+    tell(&mut stack, "app", Level::INFO)?;
+    assert!(rt; stack.try_close(span, PLACE));
+    assert!(rt; was_told(&stack, 0, &[(Told::Made, 1), (Told::Closed, 1)]));
+    assert!(rt; was_told(&stack, 1, &[(Told::Happened, 0)]));
+    Ok(())
+}
+
+#[test]
+fn a_lent_output_is_changed(rt: HostRuntime) -> Result<(), Fail> {
+    let mut stack = stack_of(rt.alloc(), LevelFilter::OFF, LevelFilter::OFF)?;
+    assert!(rt; stack.stack_mut(2).is_none());
+    match stack.stack_mut(1) {
+        None => {}
+        Some(output) => *output.filter_mut() = LevelFilter::INFO,
+    }
+    tell(&mut stack, "app", Level::INFO)?;
+    assert!(rt; was_told(&stack, 0, &[]) && was_told(&stack, 1, &[(Told::Happened, 0)]));
+    Ok(())
+}

@@ -1,0 +1,121 @@
+// A layer that keeps what it was told.
+ghost use Rattle.std.specs.Prelude.{◌≡◌, None, true, refl};
+ghost use Rattle.std.proofs.Common.{sym, subst};
+ghost use Rattle.tracing_core.specs.InterestInner.TheVariants.{Always};
+ghost use Rattle.tracing_core.specs.Steady.{InterestFits};
+ghost use Rattle.span_registry_layers_layers.specs.Combined.{same_word};
+
+use span_registry_layers_layers::{Context, Layer};
+use span_registry_layers_store::Registry;
+use std::alloc::Global;
+use tracing_core::{Attributes, Event, Id, Interest, LevelFilter, Metadata, Record, WeakDispatch};
+
+#[derive(Clone, Copy, Debug, PartialEq, Eq)]
+pub enum Told {
+    Taken,
+    Made,
+    Recorded,
+    Followed,
+    Happened,
+    Entered,
+    Left,
+    Closed,
+}
+
+#[derive(Drop)]
+pub struct Journal {
+    told: Vec<(Told, u64)>,
+}
+
+impl Journal {
+    pub fn new(alloc: Global) -> Journal {
+        Journal {
+            told: Vec::new(alloc),
+        }
+    }
+
+    fn note(&mut self, told: Told, number: u64) {
+        let _room = self.told.push((told, number));
+    }
+
+    pub fn is(&self, told: &[(Told, u64)]) -> bool {
+        self.told.as_slice() == told
+    }
+}
+
+impl Layer for Journal {
+    ghost use Rattle.tracing_core.specs.Interests.{PlainInterest};
+
+    ghost answers = { λ x m v b. b ≡ true };
+
+    ghost event_answers = { λ x e v b. b ≡ true };
+
+    ghost says = { λ x m k. k ≡ Always };
+
+    ghost hint = { λ x. None };
+
+    ghost told = { λ x n y. Unit {0} };
+
+    ghost honest = { λ x. Unit {0} };
+
+    ghost fair = { λ x k. record { interest = λ m v b i a s. subst (λ j. InterestFits j b) (sym s) a; below = λ m v b a. tt } };
+
+    ghost stays = { λ x n y t k. (tt, same_word (λ m j. j ≡ Always) None) };
+
+    fn on_register_dispatch(&mut self, _dispatch: &WeakDispatch) {
+        self.note(Told::Taken, 0);
+    }
+
+    fn on_layer(&mut self, _registry: &mut Registry) {}
+
+    fn register_callsite(&self, _metadata: &Metadata<'_>) -> Interest {
+        Interest::always()
+    }
+
+    fn enabled(&self, _metadata: &Metadata<'_>, _context: &Context<'_>) -> bool {
+        true
+    }
+
+    fn on_new_span(
+        &mut self,
+        _attributes: &Attributes<'_, '_>,
+        span: &Id,
+        _context: &mut Context<'_>,
+    ) {
+        self.note(Told::Made, span.into_u64());
+    }
+
+    fn max_level_hint(&self) -> Option<LevelFilter> {
+        None
+    }
+
+    fn on_record(&mut self, span: &Id, _values: &Record<'_>, _context: &mut Context<'_>) {
+        self.note(Told::Recorded, span.into_u64());
+    }
+
+    fn on_follows_from(&mut self, span: &Id, _follows: &Id, _context: &mut Context<'_>) {
+        self.note(Told::Followed, span.into_u64());
+    }
+
+    fn event_enabled(&self, _event: &Event<'_, '_>, _context: &Context<'_>) -> bool {
+        true
+    }
+
+    fn on_event(&mut self, _event: &Event<'_, '_>, _context: &mut Context<'_>) {
+        self.note(Told::Happened, 0);
+    }
+
+    fn on_enter(&mut self, span: &Id, _context: &mut Context<'_>) {
+        self.note(Told::Entered, span.into_u64());
+    }
+
+    fn on_exit(&mut self, span: &Id, _context: &mut Context<'_>) {
+        self.note(Told::Left, span.into_u64());
+    }
+
+    fn on_close(&mut self, span: &Id, _context: &mut Context<'_>) {
+        self.note(Told::Closed, span.into_u64());
+    }
+
+    fn on_id_change(&mut self, _old: &Id, _new: &Id, _context: &mut Context<'_>) {}
+}
