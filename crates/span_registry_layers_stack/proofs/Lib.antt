@@ -6,3 +6,4 @@ pub mod Closing
 pub mod Making
 pub mod Starting
 pub mod Swapping
+pub mod Numbering

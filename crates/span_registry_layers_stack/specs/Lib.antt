@@ -12,3 +12,4 @@ pub mod Moves
 pub mod Steps
 pub mod Caches
 pub mod Steadiness
+pub mod Numbers

@@ -4,6 +4,7 @@ use Rattle.tracing_core.specs.At.{At}
 use Rattle.tracing_core.specs.PlainMetadata.{PlainMetadata}
 use Rattle.tracing_core.specs.PlainRequests.{PlainEvent}
 use Rattle.span_registry_layers_store.specs.Registries.{RegistryValue}
+use Rattle.span_registry_layers_store.specs.declared.filter_map.FilterId.{FilterId}
 use Rattle.span_registry_layers_layers.specs.Looks.{View}
 use Rattle.span_registry_layers_layers.specs.Notices.{Notice, Happened}
 use Rattle.span_registry_layers_layers.specs.Oracles.{Oracle}
@@ -22,6 +23,10 @@ marked passed row = record row { passed = passed }
 
 abbrev pub filters_of : {L F : Type 0} → List (Row (Filtered L F)) → List F
 filters_of rows = map (λ row. row.output.filter) rows
+
+-- the numbers of the filters
+abbrev pub ids_of : {O : Type 0} → List (Row O) → List FilterId
+ids_of rows = map (λ row. row.id) rows
 
 -- each becomes one that is so related to it
 abbrev pub EachBecomes : {A : Type 0} → (A → A → Type 0) → List A → List A → Type 0

@@ -17,7 +17,7 @@ use Rattle.span_registry_layers_layers.specs.declared.filter.Filter.{Ghosts}
 use Rattle.span_registry_layers_layers.specs.declared.filtered.Filtered.{Filtered}
 use Rattle.span_registry_layers_layers.specs.declared.layer.Layer.{Ghosts as LayerGhosts}
 use Rattle.span_registry_layers_stack.specs.Calls.{CloneGives, CloseGives, CloseUnless, Closes, EnterGives, ExitGives, FollowsGives, MakesSpan, RecordGives, SpanCached, SpanKnown, SpanWhere, WhereTaken, over}
-use Rattle.span_registry_layers_stack.specs.Rows.{EachBecomes, TellsEvent, filters_of, marked}
+use Rattle.span_registry_layers_stack.specs.Rows.{EachBecomes, TellsEvent, filters_of, ids_of, marked}
 use Rattle.span_registry_layers_stack.specs.Sites.{PlainSite}
 use Rattle.span_registry_layers_stack.specs.Spans.{ClosesEach, HearsIf, TellsDispatch, TellsFollows, TellsMade, TellsSpan, sees, verdicts_from}
 use Rattle.span_registry_layers_stack.specs.Stacks.{EventCached, RowsBecome, StackValue, TellsAll, TellsUnless, WhereKnown, cleared, is_refused, passes_cached}
@@ -51,6 +51,13 @@ module _ {F : Type 0} (g : Ghosts F) where
   each_put [] = tt
   each_put (x ∷ xs) = (stays_put x x refl, each_put xs)
 
+  -- an output's filter steps, and its number stays
+  abbrev pub Stepped : {L : Type 0} → Row (Filtered L F) → Row (Filtered L F) → Type 0
+  Stepped row later = Steps row.output.filter later.output.filter × (later.id ≡ row.id)
+
+  stepped_put : {L : Type 0} (row later : Row (Filtered L F)) → later.output.filter ≡ row.output.filter → later.id ≡ row.id → Stepped row later
+  stepped_put row later e n = (stays_put row.output.filter later.output.filter e, n)
+
   honest_step : (xs ys : List F) → EachBecomes Steps xs ys → Every (λ f. g.honest f) xs → Every (λ f. g.honest f) ys
   honest_step [] [] a w = tt
   honest_step [] (y ∷ ys) a w = absurd a
@@ -82,6 +89,7 @@ module _ {F : Type 0} (g : Ghosts F) where
     pub steps : EachBecomes Steps (filters_of s.rows) (filters_of t.rows)
     pub sites : t.sites ≡ s.sites
     pub hint : t.hint ≡ s.hint
+    pub numbers : ids_of t.rows ≡ ids_of s.rows
 
   pub keeps_word : {L : Type 0} (s t : StackValue (Filtered L F)) → Keeps s t → Word g s → Word g t
   keeps_word s t k w =
@@ -89,46 +97,57 @@ module _ {F : Type 0} (g : Ghosts F) where
       (subst (λ kept. WordOf g (filters_of t.rows) s.sites kept) (sym k.hint) (word_step s.sites s.hint (filters_of s.rows) (filters_of t.rows) k.steps w))
 
   pub keeps_same : {L : Type 0} (s t : StackValue (Filtered L F)) → t ≡ s → Keeps s t
-  keeps_same s t e = subst (Keeps s) (sym e) (record { steps = each_put (filters_of s.rows); sites = refl; hint = refl })
+  keeps_same s t e = subst (Keeps s) (sym e) (record { steps = each_put (filters_of s.rows); sites = refl; hint = refl; numbers = refl })
 
   pub keeps_then : {L : Type 0} (s t u : StackValue (Filtered L F)) → Keeps s t → Keeps t u → Keeps s u
   keeps_then s t u a b =
-      record { steps = each_then (filters_of s.rows) (filters_of t.rows) (filters_of u.rows) a.steps b.steps; sites = b.sites ∙ a.sites; hint = b.hint ∙ a.hint }
+      record { steps = each_then (filters_of s.rows) (filters_of t.rows) (filters_of u.rows) a.steps b.steps; sites = b.sites ∙ a.sites; hint = b.hint ∙ a.hint; numbers = b.numbers ∙ a.numbers }
 
   pub cleared_keeps : {L : Type 0} (s t : StackValue (Filtered L F)) → t ≡ cleared s → Keeps s t
-  cleared_keeps s t e = subst (Keeps s) (sym e) (record { steps = rows_put s.rows; sites = refl; hint = refl })
+  cleared_keeps s t e = subst (Keeps s) (sym e) (record { steps = rows_put s.rows; sites = refl; hint = refl; numbers = same_ids s.rows })
     where
       rows_put : {L : Type 0} (rows : List (Row (Filtered L F))) → EachBecomes Steps (filters_of rows) (filters_of (map (marked false) rows))
       rows_put [] = tt
       rows_put (row ∷ rows) = (stays_put row.output.filter row.output.filter refl, rows_put rows)
 
-  each_steps : {L : Type 0} (R : Row (Filtered L F) → Row (Filtered L F) → Type 0) → ((row later : Row (Filtered L F)) → R row later → Steps row.output.filter later.output.filter) →
+      same_ids : {L : Type 0} (rows : List (Row (Filtered L F))) → ids_of (map (marked false) rows) ≡ ids_of rows
+      same_ids [] = refl
+      same_ids (row ∷ rows) = ap (λ ids. row.id ∷ ids) (same_ids rows)
+
+  each_steps : {L : Type 0} (R : Row (Filtered L F) → Row (Filtered L F) → Type 0) → ((row later : Row (Filtered L F)) → R row later → Stepped row later) →
       (rows later : List (Row (Filtered L F))) → EachBecomes R rows later → EachBecomes Steps (filters_of rows) (filters_of later)
   each_steps R f [] [] w = tt
   each_steps R f [] (l ∷ ls) w = absurd w
   each_steps R f (r ∷ rs) [] w = absurd w
-  each_steps R f (r ∷ rs) (l ∷ ls) w = (f r l w.0, each_steps R f rs ls w.1)
+  each_steps R f (r ∷ rs) (l ∷ ls) w = ((f r l w.0).0, each_steps R f rs ls w.1)
 
-  pub rows_keep : {L : Type 0} (x : RegistryValue) (R : Row (Filtered L F) → Row (Filtered L F) → Type 0) → ((row later : Row (Filtered L F)) → R row later → Steps row.output.filter later.output.filter) → (s t : StackValue (Filtered L F)) → RowsBecome R (over x s) t → Keeps s t
+  each_ids : {L : Type 0} (R : Row (Filtered L F) → Row (Filtered L F) → Type 0) → ((row later : Row (Filtered L F)) → R row later → Stepped row later) → (rows later : List (Row (Filtered L F))) → EachBecomes R rows later → ids_of later ≡ ids_of rows
+  each_ids R f [] [] w = refl
+  each_ids R f [] (l ∷ ls) w = absurd w
+  each_ids R f (r ∷ rs) [] w = absurd w
+  each_ids R f (r ∷ rs) (l ∷ ls) w = ap (λ id. id ∷ ids_of ls) (f r l w.0).1 ∙ ap (λ ids. r.id ∷ ids) (each_ids R f rs ls w.1)
+
+  pub rows_keep : {L : Type 0} (x : RegistryValue) (R : Row (Filtered L F) → Row (Filtered L F) → Type 0) → ((row later : Row (Filtered L F)) → R row later → Stepped row later) → (s t : StackValue (Filtered L F)) → RowsBecome R (over x s) t → Keeps s t
   rows_keep {L = L} x R f s t w =
-      record { steps = each_steps R f s.rows t.rows w.0; sites = ap (λ (v : StackValue (Filtered L F)). v.sites) w.1; hint = ap (λ (v : StackValue (Filtered L F)). v.hint) w.1 }
+      record { steps = each_steps R f s.rows t.rows w.0; sites = ap (λ (v : StackValue (Filtered L F)). v.sites) w.1; hint = ap (λ (v : StackValue (Filtered L F)). v.hint) w.1; numbers = each_ids R f s.rows t.rows w.0 }
 
 module _ {L F : Type 0} (g : Ghosts F) (h : LayerGhosts L) where
-  hears_steps : (b : Bool) (hook : Hook) (row later : Row (Filtered L F)) → HearsIf g h b hook row later → Steps g row.output.filter later.output.filter
-  hears_steps true hook row later w = subst (Steps g row.output.filter) (sym (ap (λ (r : Row (Filtered L F)). r.output.filter) w.1)) (g.stays row.output.filter hook)
-  hears_steps false hook row later w = stays_put g row.output.filter later.output.filter (ap (λ (r : Row (Filtered L F)). r.output.filter) w)
+  hears_steps : (b : Bool) (hook : Hook) (row later : Row (Filtered L F)) → HearsIf g h b hook row later → Stepped g row later
+  hears_steps true hook row later w =
+      (subst (Steps g row.output.filter) (sym (ap (λ (r : Row (Filtered L F)). r.output.filter) w.1)) (g.stays row.output.filter hook), ap (λ (r : Row (Filtered L F)). r.id) w.1)
+  hears_steps false hook row later w = stepped_put g row later (ap (λ (r : Row (Filtered L F)). r.output.filter) w) (ap (λ (r : Row (Filtered L F)). r.id) w)
 
-  span_steps : (call : View → Hook) (id : ℕ) (at : At) (x : RegistryValue) (row later : Row (Filtered L F)) → TellsSpan g h call id at x row later → Steps g row.output.filter later.output.filter
+  span_steps : (call : View → Hook) (id : ℕ) (at : At) (x : RegistryValue) (row later : Row (Filtered L F)) → TellsSpan g h call id at x row later → Stepped g row later
   span_steps call id at x row later w = hears_steps (sees x id row) (call (record { at = at; registry = x; mask = Some row.id.index })) row later w
 
-  made_steps : (call : View → Hook) (id : ℕ) (at : At) (x : RegistryValue) (row later : Row (Filtered L F)) → TellsMade g h call id at x row later → Steps g row.output.filter later.output.filter
+  made_steps : (call : View → Hook) (id : ℕ) (at : At) (x : RegistryValue) (row later : Row (Filtered L F)) → TellsMade g h call id at x row later → Stepped g row later
   made_steps call id at x row later w = span_steps call id at x (marked (sees x id row) row) later w
 
-  follows_steps : (id follows : ℕ) (at : At) (x : RegistryValue) (row later : Row (Filtered L F)) → TellsFollows g h id follows at x row later → Steps g row.output.filter later.output.filter
-  follows_steps id follows at x row later w = stays_put g row.output.filter later.output.filter (ap (λ (r : Row (Filtered L F)). r.output.filter) w.1)
+  follows_steps : (id follows : ℕ) (at : At) (x : RegistryValue) (row later : Row (Filtered L F)) → TellsFollows g h id follows at x row later → Stepped g row later
+  follows_steps id follows at x row later w = stepped_put g row later (ap (λ (r : Row (Filtered L F)). r.output.filter) w.1) (ap (λ (r : Row (Filtered L F)). r.id) w.1)
 
-  dispatch_steps : (dispatch : Option ℕ) (row later : Row (Filtered L F)) → TellsDispatch g h dispatch row later → Steps g row.output.filter later.output.filter
-  dispatch_steps dispatch row later w = stays_put g row.output.filter later.output.filter (ap (λ (r : Row (Filtered L F)). r.output.filter) w.1)
+  dispatch_steps : (dispatch : Option ℕ) (row later : Row (Filtered L F)) → TellsDispatch g h dispatch row later → Stepped g row later
+  dispatch_steps dispatch row later w = stepped_put g row later (ap (λ (r : Row (Filtered L F)). r.output.filter) w.1) (ap (λ (r : Row (Filtered L F)). r.id) w.1)
 
   pub dispatch_keeps : (dispatch : Option ℕ) (s t : StackValue (Filtered L F)) → RowsBecome (TellsDispatch g h dispatch) s t → Keeps g s t
   dispatch_keeps dispatch s t w = rows_keep g s.registry (TellsDispatch g h dispatch) (dispatch_steps dispatch) s t w
@@ -154,12 +173,18 @@ module _ {L F : Type 0} (g : Ghosts F) (h : LayerGhosts L) where
   each_closes (s ∷ ss) at x rows y later w =
       each_then g (filters_of rows) (filters_of w.0) (filters_of later) (each_steps g (TellsSpan g h (Closed s.kin.id) s.kin.id at x) (span_steps (Closed s.kin.id) s.kin.id at x) rows w.0 w.1) (each_closes ss at w.2.0 w.0 y later w.2.2)
 
+  ids_closed : (ss : List PlainSpan) (at : At) (x : RegistryValue) (rows : List (Row (Filtered L F))) (y : RegistryValue) (later : List (Row (Filtered L F))) → ClosesEach g h ss at x rows y later → ids_of later ≡ ids_of rows
+  ids_closed [] at x rows y later w = ap ids_of w.1
+  ids_closed (s ∷ ss) at x rows y later w =
+      ids_closed ss at w.2.0 w.0 y later w.2.2 ∙ each_ids g (TellsSpan g h (Closed s.kin.id) s.kin.id at x) (span_steps (Closed s.kin.id) s.kin.id at x) rows w.0 w.1
+
   closes_keep : (at : At) (x : RegistryValue) (s t : StackValue (Filtered L F)) → Closes g h at (over x s) t → Keeps g s t
   closes_keep at x s t w =
       record {
         steps = each_closes (closing_in x) at x s.rows t.registry t.rows w.0;
         sites = ap (λ (v : StackValue (Filtered L F)). v.sites) w.2;
         hint = ap (λ (v : StackValue (Filtered L F)). v.hint) w.2;
+        numbers = ids_closed (closing_in x) at x s.rows t.registry t.rows w.0;
       }
 
   pub exit_keeps : (id : ℕ) (at : At) (s t : StackValue (Filtered L F)) → ExitGives g h id at s t → Keeps g s t
@@ -175,7 +200,7 @@ module _ {L F : Type 0} (g : Ghosts F) (h : LayerGhosts L) where
       unless (Some refusal) w = keeps_same g s t w.1
 
   pub clone_keeps : (id : ℕ) (s t : StackValue (Filtered L F)) (r : Result ℕ RequestError) → CloneGives id s r t → Keeps g s t
-  clone_keeps id s t r w = subst (Keeps g s) (sym w.1) (record { steps = each_put g (filters_of s.rows); sites = refl; hint = refl })
+  clone_keeps id s t r w = subst (Keeps g s) (sym w.1) (record { steps = each_put g (filters_of s.rows); sites = refl; hint = refl; numbers = refl })
 
   makes_keeps : (a : PlainAttributes) (at : At) (verdicts : List Bool) (s t : StackValue (Filtered L F)) (r : Result (Option ℕ) RequestError) → MakesSpan g h a at verdicts s r t → Keeps g s t
   makes_keeps a at verdicts s t r (Ok id, x, taken, made) = rows_keep g x (TellsMade g h (SpanMade a id) id at x) (made_steps (SpanMade a id) id at x) s t made.1
@@ -190,8 +215,8 @@ module _ {L F : Type 0} (g : Ghosts F) (h : LayerGhosts L) where
         known true false w = cleared_keeps g s t w.1
         known false p w = keeps_same g s t w.1
 
-    event_steps : (e : PlainEvent) (at : At) (x : RegistryValue) (row later : Row (Filtered L F)) → TellsEvent g h o e at x row later → Steps g row.output.filter later.output.filter
-    event_steps e at x row later w = stays_put g row.output.filter later.output.filter (ap (λ (r : Row (Filtered L F)). r.output.filter) w.2)
+    event_steps : (e : PlainEvent) (at : At) (x : RegistryValue) (row later : Row (Filtered L F)) → TellsEvent g h o e at x row later → Stepped g row later
+    event_steps e at x row later w = stepped_put g row later (ap (λ (r : Row (Filtered L F)). r.output.filter) w.2) (ap (λ (r : Row (Filtered L F)). r.id) w.2)
 
     pub event_keeps : (e : PlainEvent) (at : At) (s t : StackValue (Filtered L F)) (r : Result (Unit {0}) RequestError) → EventCached g h o e at s r t → Keeps g s t
     event_keeps e at s t r w = known (knows s.registry (explicit_parent e.parent)) (is_refused s e.metadata) w

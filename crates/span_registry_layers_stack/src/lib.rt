@@ -1,6 +1,7 @@
 //! The stack: outputs, each told exactly what its filter passes.
 #![tactic(auto)]
 
+mod laws;
 mod output;
 mod parts;
 mod row;
@@ -10,6 +11,7 @@ mod sites;
 mod stack;
 mod subscriber;
 
+pub use laws::{dropped_events_tell_nobody, numbers_stay, verdicts_are_own};
 pub use output::{Output, StackError, UnknownOutput};
 pub use stack::Stack;
 

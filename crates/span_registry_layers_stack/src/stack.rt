@@ -6,6 +6,7 @@ ghost use Rattle.tracing_core.specs.PlainRequests.{plain_event};
 ghost use Rattle.tracing_core.specs.Steady.{IsReal};
 ghost use Rattle.span_registry_layers_layers.specs.Oracles.{Oracle};
 ghost use Rattle.span_registry_layers_stack.specs.New.{NewGives};
+ghost use Rattle.span_registry_layers_stack.specs.Numbers.{HasNumbers};
 ghost use Rattle.span_registry_layers_stack.specs.Rows.{filters_of};
 ghost use Rattle.span_registry_layers_stack.specs.Stacks.{EventAsked, EventCached, passes_asked, passes_cached};
 ghost use Rattle.span_registry_layers_stack.specs.Words.{Word};
@@ -60,6 +61,7 @@ impl<L: Layer, F: Filter> Stack<Filtered<L, F>> {
         outputs: Vec<Output<Filtered<L, F>>>,
     ) -> Result<Stack<Filtered<L, F>>, StackError>
         ensures exact { NewGives ⟦<F as Filter>⟧ outputs.items result }
+        ensures numbers { IfOk result (λ s. HasNumbers s) }
         // What is kept is right of honest filters.
         ensures kept { IfOk result (λ s. Every (λ f. F.honest f) (filters_of s.rows) → Word ⟦<F as Filter>⟧ s) }
     {
