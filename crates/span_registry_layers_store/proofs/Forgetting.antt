@@ -1,10 +1,8 @@
 -- Spans that close, of a registry as a value.
-use Rattle.std.proofs.Common.{◌≡◌, ◌<◌, ◌+◌, ℕ, suc, List, [], ◌∷◌, ◌++◌, length, take, drop, map, get_or, Vec, Some, refl, ap, sym, subst, ◌∙◌, arith}
-use Rattle.std.specs.Global.{Global}
+use Rattle.std.proofs.Common.{◌≡◌, ℕ, suc, List, ◌∷◌, ◌++◌, take, drop, map, get_or, refl, ap, sym, ◌∙◌}
 use Rattle.span_registry_layers_store.specs.Gives.{ClosesNext, IsNext, IsSettled}
-use Rattle.span_registry_layers_store.specs.Lanes.{plain_lanes}
 use Rattle.span_registry_layers_store.specs.Places.{kin_of}
-use Rattle.span_registry_layers_store.specs.Registries.{PlainSpan, RegistryValue, kin_in, plain_span}
+use Rattle.span_registry_layers_store.specs.Registries.{PlainSpan, RegistryValue, plain_span}
 use Rattle.span_registry_layers_store.specs.Spans as spans
 use Rattle.span_registry_layers_store.specs.Spans.{closed_of, open_of, without}
 use Rattle.span_registry_layers_store.specs.declared.span.Span.{Span}

@@ -1,9 +1,9 @@
 -- Slots of the span at a place.
-use Rattle.std.proofs.Common.{◌≡◌, ℕ, List, map, set, get_or, false, Option, Some, None, refl, ap, sym, ◌∙◌, subst}
+use Rattle.std.proofs.Common.{◌≡◌, ℕ, List, map, set, get_or, false, refl, ap, sym, ◌∙◌, subst}
 use Rattle.std.specs.Option.{option_map}
-use Rattle.span_registry_layers_store.specs.Keeping.{Keeps, with_places, with_slots}
+use Rattle.span_registry_layers_store.specs.Keeping.{Keeps, with_places}
 use Rattle.span_registry_layers_store.specs.Places.{IsPlace, kin_of}
-use Rattle.span_registry_layers_store.specs.Registries.{PlainSpan, RegistryValue, kin_in, plain_registry, plain_span}
+use Rattle.span_registry_layers_store.specs.Registries.{PlainSpan, kin_in, plain_registry, plain_span}
 use Rattle.span_registry_layers_store.specs.Slots.{PlainPlace, plain_place}
 use Rattle.span_registry_layers_store.specs.Spans.{changed, found, is_open}
 use Rattle.span_registry_layers_store.specs.declared.parts.RegistryParts.{RegistryParts}

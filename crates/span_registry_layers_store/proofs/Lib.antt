@@ -13,3 +13,12 @@ pub mod Slotting
 pub mod Seeing
 pub mod Walking
 pub mod Keeping
+pub mod Opening
+pub mod Sweeping
+pub mod Least
+pub mod Entering
+pub mod Pushing
+pub mod Ancestry
+pub mod Changing
+pub mod Told
+pub mod Sound

@@ -4,7 +4,7 @@ use Rattle.std.specs.Option.{option_map}
 use Rattle.span_registry_layers_store.specs.Places.{IsPlace, kin_of}
 use Rattle.span_registry_layers_store.specs.Registries.{PlainSpan, RegistryValue, kin_in, plain_span}
 use Rattle.span_registry_layers_store.specs.Spans.{found, is_open}
-use Rattle.span_registry_layers_store.specs.Views.{IsFoundAt, seen, seen_if, sees}
+use Rattle.span_registry_layers_store.specs.Views.{IsFoundAt, seen, sees}
 use Rattle.span_registry_layers_store.specs.declared.span.Span.{Span}
 use Rattle.span_registry_layers_store.proofs.Mapped.{found_mapped}
 

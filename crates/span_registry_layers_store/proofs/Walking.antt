@@ -1,13 +1,12 @@
 -- Walks along a span's ancestors.
-use Rattle.std.proofs.Common.{◌≡◌, ℕ, List, [], ◌∷◌, ◌++◌, map, reverse, Option, Some, None, MatchOption, refl, ap, sym, ◌∙◌, append_assoc}
+use Rattle.std.proofs.Common.{◌≡◌, ℕ, List, [], ◌∷◌, ◌++◌, map, reverse, Option, Some, None, refl, ap, sym, ◌∙◌, append_assoc}
 use Rattle.std.specs.Option.{option_map}
 use Rattle.std.proofs.lemmas.List.{map-append, reverse-append}
 use Rattle.std.proofs.lemmas.Option.{none-some, same_Some}
-use Rattle.span_registry_layers_store.specs.References.{PlainRef, Steps, ids_left, plain_ref, ref_of, refs_of, root_left, scope_left}
+use Rattle.span_registry_layers_store.specs.References.{Steps, ids_left, plain_ref, ref_of, refs_of, scope_left}
 use Rattle.span_registry_layers_store.specs.Registries.{PlainSpan, RegistryValue}
 use Rattle.span_registry_layers_store.specs.Views.{all_seen, mask_of, one_or_none, seen}
 use Rattle.span_registry_layers_store.specs.declared.scope.Scope.{Scope}
-use Rattle.span_registry_layers_store.specs.declared.scope.ScopeFromRoot.{ScopeFromRoot}
 use Rattle.span_registry_layers_store.specs.declared.span_ref.SpanRef.{SpanRef}
 
 module _ (x : RegistryValue) (mask : Option ℕ) where

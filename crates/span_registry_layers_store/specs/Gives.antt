@@ -1,5 +1,5 @@
 -- What the calls of a registry answer and leave.
-use Rattle.std.specs.Prelude.{◌≡◌, ◌<◌, ◌≤◌, ◌+◌, ℕ, ◌==◌, nat_lt, List, [], ◌∷◌, Bool, true, false, not, if◌then◌else◌, Option, Some, None, Result, Ok, Err}
+use Rattle.std.specs.Prelude.{◌≡◌, ◌<◌, ◌≤◌, ◌+◌, ℕ, ◌==◌, nat_lt, List, [], ◌∷◌, Bool, true, false, not, Option, Some, None, Result, Ok, Err}
 use Rattle.tracing_core.specs.Handles.{or_refused, or_same}
 use Rattle.tracing_core.specs.Parent.{Parent}
 use Rattle.tracing_core.specs.PlainMetadata.{PlainMetadata}

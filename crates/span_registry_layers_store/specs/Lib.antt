@@ -9,3 +9,5 @@ pub mod Slots
 pub mod Keeping
 pub mod Views
 pub mod References
+pub mod Laws
+pub mod Copies

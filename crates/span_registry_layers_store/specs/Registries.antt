@@ -1,14 +1,13 @@
 -- A registry as a value: what it keeps without where it lies in memory.
-use Rattle.std.specs.Prelude.{ℕ, ◌+◌, ◌-◌, ◌==◌, nat_lt, List, [], ◌∷◌, ◌++◌, Bool, true, false, not, if◌then◌else◌, map, Option, Some, None}
+use Rattle.std.specs.Prelude.{ℕ, ◌+◌, ◌-◌, List, [], ◌∷◌, ◌++◌, Bool, true, map, Option, Some, None}
 use Rattle.std.specs.Arc.{arc_value}
 use Rattle.tracing_core.specs.PlainMetadata.{PlainMetadata}
-use Rattle.tracing_core.specs.PlainRequests.{explicit_parent}
 use Rattle.tracing_core.specs.Parent.{Parent}
 use Rattle.tracing_core.specs.Parent.TheVariants.{Root, Current, Explicit}
 use Rattle.span_registry_layers_store.specs.Lanes.{lane_at, plain_lanes, pushed, removed}
 use Rattle.span_registry_layers_store.specs.OwnedMetadatas.{owned_plain}
 use Rattle.span_registry_layers_store.specs.Slots.{PlainPlace, plain_place}
-use Rattle.span_registry_layers_store.specs.Spans.{changed, closed_of, current, found, handles_of, is_open, open_of}
+use Rattle.span_registry_layers_store.specs.Spans.{changed, closed_of, current, is_open, open_of}
 use Rattle.span_registry_layers_store.specs.declared.parts.RegistryParts.{RegistryParts}
 use Rattle.span_registry_layers_store.specs.declared.record.SpanRecord.{SpanRecord}
 use Rattle.span_registry_layers_store.specs.declared.span.Span.{Span}

@@ -1,10 +1,9 @@
 -- What outputs keep with a span, by their keys and tags.
-use Rattle.std.specs.Prelude.{◌≡◌, ◌<◌, length, slice_get, slice_set, IsSome, ℕ, ◌==◌, ◌&&◌, Bool, true, false, if◌then◌else◌, List, [], ◌∷◌, ◌++◌, map, Option, Some, None, Result, Ok, Err, string_bytes}
+use Rattle.std.specs.Prelude.{◌≡◌, ◌<◌, length, slice_get, slice_set, IsSome, ℕ, ◌==◌, ◌&&◌, Bool, true, false, if◌then◌else◌, List, [], ◌∷◌, map, Option, Some, None, Result, Ok, Err, string_bytes}
 use Rattle.std.specs.Option.{option_map}
 use Rattle.span_registry_layers_store.specs.Spans.{without}
 use Rattle.span_registry_layers_store.specs.declared.slot.InsertError.{InsertError}
 use Rattle.span_registry_layers_store.specs.declared.slot.InsertError.TheVariants.{Present, OutOfMemory, UnknownSpan}
-use Rattle.span_registry_layers_store.specs.declared.slot.OutputKey.{OutputKey}
 use Rattle.span_registry_layers_store.specs.declared.slot.Place.{Place}
 use Rattle.span_registry_layers_store.specs.declared.slot.Slot.{Slot}
 use Rattle.span_registry_layers_store.specs.declared.slot.Slot.TheVariants as slot

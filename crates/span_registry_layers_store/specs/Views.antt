@@ -1,8 +1,8 @@
 -- What can be seen of a registry under a filter: the spans that it passed.
-use Rattle.std.specs.Prelude.{◌≡◌, ◌<◌, length, map, slice_get, ℕ, List, [], ◌∷◌, ◌++◌, Bool, true, false, not, ◌&&◌, if◌then◌else◌, Option, Some, None, is_some, reverse}
+use Rattle.std.specs.Prelude.{◌≡◌, ◌<◌, length, map, slice_get, ℕ, List, [], ◌∷◌, ◌++◌, Bool, true, if◌then◌else◌, Option, Some, None, reverse}
 use Rattle.span_registry_layers_store.specs.Lanes.{lane_at}
 use Rattle.span_registry_layers_store.specs.Registries.{PlainSpan, RegistryValue, kin_in, plain_span}
-use Rattle.span_registry_layers_store.specs.Spans.{ancestry, found, is_member, line_of}
+use Rattle.span_registry_layers_store.specs.Spans.{found, is_member, line_of}
 use Rattle.span_registry_layers_store.specs.Verdicts.{passes_at}
 use Rattle.span_registry_layers_store.specs.declared.span.Span.{Span}
 use Rattle.span_registry_layers_store.specs.declared.filter_map.FilterId.{FilterId}

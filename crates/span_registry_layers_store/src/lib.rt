@@ -3,6 +3,7 @@
 
 mod filter_map;
 mod lanes;
+mod laws;
 mod metadata;
 mod parts;
 mod plain;
@@ -13,14 +14,17 @@ mod slot;
 mod slots;
 mod span;
 mod span_ref;
+mod table;
 
 pub use filter_map::{FilterId, FilterMap, TooManyFilters};
+pub use laws::{closes_child_first, line_is_whole, open_is_least, registry_stays_sound};
 pub use metadata::OwnedMetadata;
 pub use record::SpanRecord;
 pub use registry::Registry;
 pub use scope::{Scope, ScopeFromRoot};
 pub use slot::{InsertError, OutputKey, Slot, Tag, Timings};
 pub use span_ref::SpanRef;
+pub use table::{RegistryTable, SpanRow};
 
 #[cfg(test)]
 mod tests;

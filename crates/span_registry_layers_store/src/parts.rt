@@ -6,6 +6,7 @@ ghost use Rattle.std.specs.Option.{option_map};
 ghost use Rattle.tracing_core.specs.Handles.{or_refused};
 ghost use Rattle.tracing_core.specs.Metadata.{plain_metadata};
 ghost use Rattle.tracing_core.specs.PlainRequests.{explicit_parent, plain_attributes};
+ghost use Rattle.span_registry_layers_store.specs.Copies.{CopyOf};
 ghost use Rattle.span_registry_layers_store.specs.Gives.{EntryGives, FilterGives, ForgetGives, IsNext, IsSettled, SpanGives, clone_gives, close_gives, follow_refusal, give_up_gives, open_refusal};
 ghost use Rattle.span_registry_layers_store.specs.Keeping.{InsertsSlot, RemovesSlot, ReplacesSlot};
 ghost use Rattle.span_registry_layers_store.specs.Lanes.{lane_at};
@@ -23,6 +24,7 @@ use crate::record::SpanRecord;
 use crate::slot::{InsertError, OutputKey, Slot, Tag};
 use crate::slots::Slots;
 use crate::span::Span;
+use crate::table::{RegistryTable, copy_lanes, copy_spans};
 use std::alloc::{AllocError, Global};
 use std::sync::Arc;
 use tracing_core::{Attributes, Id, Metadata, RequestError};
@@ -86,6 +88,16 @@ impl RegistryParts {
         let copy = Arc::new(self.alloc, OwnedMetadata::new(self.alloc, metadata)?)?;
         self.callsites.push(Arc::clone(&copy)?)?;
         Ok(copy)
+    }
+
+    /// A copy of the spans and lanes.
+    pub(crate) fn table(&self) -> Result<RegistryTable, AllocError>
+        ensures { IfOk result (λ copy. CopyOf (plain_registry self.now) copy) }
+    {
+        Ok(RegistryTable {
+            spans: copy_spans(self.alloc, self.spans.as_slice())?,
+            lanes: copy_lanes(self.alloc, self.lanes.as_slice())?,
+        })
     }
 
     /// The entries of a lane, the earliest first.

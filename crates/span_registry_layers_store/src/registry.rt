@@ -1,9 +1,10 @@
 //! The registry of spans.
 
-ghost use Rattle.std.specs.Prelude.{◌≡◌, MatchOption, None};
+ghost use Rattle.std.specs.Prelude.{◌≡◌, IfOk, MatchOption, None};
 ghost use Rattle.std.specs.Option.{option_map};
 ghost use Rattle.tracing_core.specs.Handles.{or_refused};
 ghost use Rattle.tracing_core.specs.PlainRequests.{plain_attributes};
+ghost use Rattle.span_registry_layers_store.specs.Copies.{CopyOf};
 ghost use Rattle.span_registry_layers_store.specs.Gives.{EntryGives, FilterGives, ForgetGives, IsNext, IsSettled, SpanGives, clone_gives, close_gives, follow_refusal, give_up_gives, open_refusal};
 ghost use Rattle.span_registry_layers_store.specs.Keeping.{InsertsSlot, RemovesSlot, ReplacesSlot};
 ghost use Rattle.span_registry_layers_store.specs.Lanes.{lane_at};
@@ -17,7 +18,8 @@ use crate::filter_map::{FilterId, FilterMap, TooManyFilters};
 use crate::parts::RegistryParts;
 use crate::slot::{InsertError, OutputKey, Slot, Tag};
 use crate::span_ref::SpanRef;
-use std::alloc::Global;
+use crate::table::RegistryTable;
+use std::alloc::{AllocError, Global};
 use std::marker::Model;
 use tracing_core::{Attributes, Id, RequestError};
 
@@ -156,6 +158,17 @@ impl Registry {
         ensures { result ≡ current_on self.now lane }
     {
         self.parts.current_on(lane)
+    }
+
+    /// A copy of the open spans and of the lanes' entries.
+    ///
+    /// # Errors
+    ///
+    /// Want of memory.
+    pub fn table(&self) -> Result<RegistryTable, AllocError>
+        ensures { IfOk result (λ copy. CopyOf self.now copy) }
+    {
+        self.parts.table()
     }
 
     /// The entries of a lane, the earliest first.

@@ -1,4 +1,4 @@
-use Rattle.std.proofs.Common.{arith, ◌-◌, ◌∙◌, sym, ap, drop}
+use Rattle.std.proofs.Common.{arith, ◌-◌, ◌∙◌, sym}
 use Rattle.span_registry_layers_store.specs.Lanes.{plain_lanes}
 use Rattle.span_registry_layers_store.specs.Places.{kin_of}
 use Rattle.span_registry_layers_store.proofs.Closing.{closes_at, settled_end, settled_turn}

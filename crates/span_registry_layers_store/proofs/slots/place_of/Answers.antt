@@ -1,6 +1,4 @@
-use Rattle.std.proofs.Common.{refl, arith, ◌+◌, sym, ◌∙◌, ap}
-use Rattle.span_registry_layers_store.specs.Slots.{is_at, plain_place}
-use Rattle.span_registry_layers_store.specs.declared.slot.Place.{Place}
+use Rattle.std.proofs.Common.{refl, arith, ◌+◌, sym, ◌∙◌}
 use Rattle.span_registry_layers_store.proofs.Slotting.{nothing_left, place_at, shift_none, shift_turn, there_turn}
 use Rattle.span_registry_layers_store.proofs.slots.place_of.Goals as goal
 

@@ -1,4 +1,4 @@
-use Rattle.std.proofs.Common.{◌∙◌, ap, sym, subst}
+use Rattle.std.proofs.Common.{subst}
 use Rattle.span_registry_layers_store.specs.Lanes.{plain_lanes}
 use Rattle.span_registry_layers_store.specs.Places.{kin_of}
 use Rattle.span_registry_layers_store.specs.Registries.{plain_registry}

@@ -1,5 +1,4 @@
-use Rattle.std.proofs.Common.{◌≡◌, ◌∙◌, List, ap, sym, subst, refl, Ok}
-use Rattle.tracing_core.specs.RequestError.{RequestError}
+use Rattle.std.proofs.Common.{◌∙◌, List, ap, sym, subst, refl, Ok}
 use Rattle.span_registry_layers_store.specs.Places.{IsPlace}
 use Rattle.span_registry_layers_store.specs.Registries.{PlainSpan, plain_registry}
 use Rattle.span_registry_layers_store.proofs.Handles.{give_up_none, give_up_some, handles_there, less_there, no_handles}

@@ -1,4 +1,4 @@
-use Rattle.std.proofs.Common.{◌≡◌, List, None, refl, ap, sym, ◌∙◌, subst}
+use Rattle.std.proofs.Common.{None, refl, ap, sym, ◌∙◌, subst}
 use Rattle.span_registry_layers_store.specs.Keeping.{RemoveRefused}
 use Rattle.span_registry_layers_store.specs.Places.{IsPlace, kin_of}
 use Rattle.span_registry_layers_store.specs.Slots.{RemoveGives}

@@ -1,4 +1,4 @@
-use Rattle.std.proofs.Common.{◌≡◌, List, Err, refl, ap, sym, ◌∙◌, subst}
+use Rattle.std.proofs.Common.{Err, refl, ap, sym, ◌∙◌, subst}
 use Rattle.span_registry_layers_store.specs.Keeping.{ReplaceRefused}
 use Rattle.span_registry_layers_store.specs.Places.{IsPlace, kin_of}
 use Rattle.span_registry_layers_store.specs.Slots.{ReplaceGives, plain_slot}

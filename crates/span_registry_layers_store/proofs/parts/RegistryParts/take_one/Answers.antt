@@ -1,5 +1,4 @@
-use Rattle.std.proofs.Common.{◌≡◌, ◌∙◌, List, ap, sym, subst, Ok}
-use Rattle.tracing_core.specs.RequestError.{RequestError}
+use Rattle.std.proofs.Common.{◌∙◌, List, ap, sym, subst, Ok}
 use Rattle.span_registry_layers_store.specs.Places.{IsPlace}
 use Rattle.span_registry_layers_store.specs.Registries.{PlainSpan, plain_registry}
 use Rattle.span_registry_layers_store.proofs.Handles.{clone_full, clone_more, clone_unknown, handles_there, is_there, more_there}

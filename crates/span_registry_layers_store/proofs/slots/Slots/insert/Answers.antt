@@ -1,7 +1,5 @@
-use Rattle.std.proofs.Common.{◌≡◌, ◌++◌, ◌∷◌, [], List, ap, sym, ◌∙◌, refl}
-use Rattle.span_registry_layers_store.specs.Slots.{plain_place, plain_slot, with_slot}
+use Rattle.std.proofs.Common.{◌++◌, ◌∷◌, [], List, ap, ◌∙◌, refl}
 use Rattle.span_registry_layers_store.specs.declared.slot.Place.{Place}
-use Rattle.span_registry_layers_store.specs.declared.slot.Slot.{Slot}
 use Rattle.span_registry_layers_store.proofs.Slotting.{pushed}
 use Rattle.span_registry_layers_store.proofs.slots.Slots.insert.Goals as goal
 

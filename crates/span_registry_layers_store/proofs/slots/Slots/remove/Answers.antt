@@ -1,7 +1,5 @@
-use Rattle.std.proofs.Common.{◌≡◌, ◌++◌, ◌∷◌, [], List, map, Some, ap, sym, ◌∙◌, refl}
-use Rattle.span_registry_layers_store.specs.Slots.{IsSlotPlace, plain_place, plain_slot, with_slot}
-use Rattle.span_registry_layers_store.specs.declared.slot.Place.{Place}
-use Rattle.span_registry_layers_store.specs.declared.slot.Slot.{Slot}
+use Rattle.std.proofs.Common.{map, ap, sym, ◌∙◌}
+use Rattle.span_registry_layers_store.specs.Slots.{IsSlotPlace, plain_place}
 use Rattle.span_registry_layers_store.proofs.Slotting.{taken_none, was_there}
 use Rattle.span_registry_layers_store.proofs.slots.Slots.remove.Goals as goal
 

@@ -1,4 +1,4 @@
-use Rattle.std.proofs.Common.{◌≡◌, ◌++◌, ◌∷◌, [], List, map, Some, ap, sym, ◌∙◌, refl}
+use Rattle.std.proofs.Common.{◌++◌, ◌∷◌, [], List, map, Some, ap, sym, ◌∙◌, refl}
 use Rattle.span_registry_layers_store.specs.Slots.{plain_place, plain_slot, with_slot}
 use Rattle.span_registry_layers_store.specs.declared.slot.Place.{Place}
 use Rattle.span_registry_layers_store.specs.declared.slot.Slot.{Slot}

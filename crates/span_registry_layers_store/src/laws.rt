@@ -1,0 +1,26 @@
+//! Laws of registries.
+
+ghost use Rattle.span_registry_layers_store.specs.Laws.{ClosesChildFirst, LineIsWhole, OpenIsClosedUp, OpenIsLeast, StartsSound, StaysSound};
+
+/// The open spans are the least set that holds each span with a handle or an entry, and the parents of its members.
+pub fn open_is_least()
+    ensures least { OpenIsLeast }
+    ensures closed_up { OpenIsClosedUp }
+{}
+
+/// Each span closes once, and a child before its parent.
+pub fn closes_child_first()
+    ensures { ClosesChildFirst }
+{}
+
+/// Each call keeps a registry sound: ids rise, parents stand before their children, and the listed spans are
+/// the open ones.
+pub fn registry_stays_sound()
+    ensures start { StartsSound }
+    ensures call { StaysSound }
+{}
+
+/// The ancestors of an open span are all shown.
+pub fn line_is_whole()
+    ensures { LineIsWhole }
+{}
