@@ -12,7 +12,6 @@ pub mod Making
 pub mod Slotting
 pub mod Seeing
 pub mod Walking
-pub mod Keeping
 pub mod Opening
 pub mod Sweeping
 pub mod Least
@@ -22,3 +21,4 @@ pub mod Ancestry
 pub mod Changing
 pub mod Told
 pub mod Sound
+pub mod Lending

@@ -6,7 +6,7 @@ use Rattle.tracing_core.specs.Parent.{Parent}
 use Rattle.tracing_core.specs.Parent.TheVariants.{Root, Current, Explicit}
 use Rattle.span_registry_layers_store.specs.Lanes.{lane_at, plain_lanes, pushed, removed}
 use Rattle.span_registry_layers_store.specs.OwnedMetadatas.{owned_plain}
-use Rattle.span_registry_layers_store.specs.Slots.{PlainPlace, plain_place}
+use Rattle.span_registry_layers_store.specs.Slots.{PlainPlace}
 use Rattle.span_registry_layers_store.specs.Spans.{changed, closed_of, current, is_open, open_of}
 use Rattle.span_registry_layers_store.specs.declared.parts.RegistryParts.{RegistryParts}
 use Rattle.span_registry_layers_store.specs.declared.record.SpanRecord.{SpanRecord}
@@ -23,7 +23,7 @@ abbrev pub kin_in : PlainSpan → SpanRecord
 kin_in s = s.kin
 
 abbrev pub plain_span : Span → PlainSpan
-plain_span s = record { kin = s.kin; metadata = owned_plain (arc_value s.metadata); passed = s.passed.passed; slots = map plain_place s.slots.places.items }
+plain_span s = record { kin = s.kin; metadata = owned_plain (arc_value s.metadata); passed = s.passed.passed; slots = s.slots }
 
 -- entries by lane, open spans in order of making, the next id (past the greatest one where all are given), and the number of filters
 pub record RegistryValue : Type 0 where

@@ -1,9 +1,11 @@
 //! Spans, lane stacks, and what is kept with spans.
 #![tactic(auto)]
 
+mod extensions;
 mod filter_map;
 mod lanes;
 mod laws;
+mod lookup;
 mod metadata;
 mod parts;
 mod plain;
@@ -11,13 +13,14 @@ mod record;
 mod registry;
 mod scope;
 mod slot;
-mod slots;
 mod span;
 mod span_ref;
 mod table;
 
+pub use extensions::{Extensions, ExtensionsMut};
 pub use filter_map::{FilterId, FilterMap, TooManyFilters};
 pub use laws::{closes_child_first, line_is_whole, open_is_least, registry_stays_sound};
+pub use lookup::{Data, LookupSpan, SpanData};
 pub use metadata::OwnedMetadata;
 pub use record::SpanRecord;
 pub use registry::Registry;

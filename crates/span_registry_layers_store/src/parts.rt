@@ -8,21 +8,19 @@ ghost use Rattle.tracing_core.specs.Metadata.{plain_metadata};
 ghost use Rattle.tracing_core.specs.PlainRequests.{explicit_parent, plain_attributes};
 ghost use Rattle.span_registry_layers_store.specs.Copies.{CopyOf};
 ghost use Rattle.span_registry_layers_store.specs.Gives.{EntryGives, FilterGives, ForgetGives, IsNext, IsSettled, SpanGives, clone_gives, close_gives, follow_refusal, give_up_gives, open_refusal};
-ghost use Rattle.span_registry_layers_store.specs.Keeping.{InsertsSlot, RemovesSlot, ReplacesSlot};
 ghost use Rattle.span_registry_layers_store.specs.Lanes.{lane_at};
+ghost use Rattle.span_registry_layers_store.specs.Lending.{IsSpanToLend};
 ghost use Rattle.span_registry_layers_store.specs.OwnedMetadatas.{owned_plain};
 ghost use Rattle.span_registry_layers_store.specs.Registries.{current_on, kin_in, knows, next_number, plain_registry, plain_span, swept, under, with_span, without_entry};
-ghost use Rattle.span_registry_layers_store.specs.Slots.{plain_slot};
 ghost use Rattle.span_registry_layers_store.specs.Spans.{found, handles_of, is_open, parent_of};
 ghost use Rattle.span_registry_layers_store.specs.Views.{IsFoundAt, current_under, entry_seen, latest_seen, mask_of, seen, sees};
 
+use crate::extensions::Extensions;
 use crate::filter_map::{FilterId, FilterMap, TooManyFilters};
 use crate::lanes::{drop_entry, lane_at, push_entry};
 use crate::metadata::OwnedMetadata;
 use crate::plain::{closing, current, handles_of, is_member, is_open, parent_of, place_of};
 use crate::record::SpanRecord;
-use crate::slot::{InsertError, OutputKey, Slot, Tag};
-use crate::slots::Slots;
 use crate::span::Span;
 use crate::table::{RegistryTable, copy_lanes, copy_spans};
 use std::alloc::{AllocError, Global};
@@ -71,6 +69,16 @@ fn is_seen(span: &Span, filter: Option<FilterId>) -> bool
     match filter {
         None => true,
         Some(filter) => span.passed.passes(filter),
+    }
+}
+
+// The place of the span of an id, and the end where it is not open.
+pub(crate) fn place_to_lend(spans: &[Span], id: Id) -> usize
+    ensures { IsSpanToLend spans.now id result }
+{
+    match place_of(spans, id) {
+        None => spans.len(),
+        Some(place) => place,
     }
 }
 
@@ -241,7 +249,7 @@ impl RegistryParts {
             kin,
             metadata,
             passed,
-            slots: Slots::new(self.alloc),
+            slots: Extensions::new(self.alloc),
         })?;
         self.next_id = id_after(id.into_u64());
         Ok(())
@@ -351,48 +359,6 @@ impl RegistryParts {
         }
         self.spans[place].kin.handles -= 1;
         Ok(())
-    }
-
-    /// Puts a slot with a span, unless there is one.
-    pub(crate) fn insert_slot(
-        &mut self,
-        id: Id,
-        key: OutputKey,
-        tag: Tag,
-        slot: Slot,
-    ) -> Result<(), InsertError>
-        ensures { InsertsSlot (plain_registry self.old) id key.0 tag (plain_slot slot) result (plain_registry self.new) }
-    {
-        let Some(place) = place_of(self.spans.as_slice(), id) else {
-            return Err(InsertError::UnknownSpan(slot));
-        };
-        self.spans[place].slots.insert(key, tag, slot)
-    }
-
-    /// Puts a slot with a span, and answers the one that was there.
-    pub(crate) fn replace_slot(
-        &mut self,
-        id: Id,
-        key: OutputKey,
-        tag: Tag,
-        slot: Slot,
-    ) -> Result<Option<Slot>, Slot>
-        ensures { ReplacesSlot (plain_registry self.old) id key.0 tag (plain_slot slot) result (plain_registry self.new) }
-    {
-        let Some(place) = place_of(self.spans.as_slice(), id) else {
-            return Err(slot);
-        };
-        self.spans[place].slots.replace(key, tag, slot)
-    }
-
-    /// Takes a slot of a span out, where there is one.
-    pub(crate) fn remove_slot(&mut self, id: Id, key: OutputKey, tag: Tag) -> Option<Slot>
-        ensures { RemovesSlot (plain_registry self.old) id key.0 tag result (plain_registry self.new) }
-    {
-        let Some(place) = place_of(self.spans.as_slice(), id) else {
-            return None;
-        };
-        self.spans[place].slots.remove(key, tag)
     }
 
     /// The span that closes next, where one does: the latest that nothing keeps open.

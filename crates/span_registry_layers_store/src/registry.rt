@@ -1,6 +1,7 @@
 //! The registry of spans.
 
 ghost use Rattle.std.specs.Prelude.{◌≡◌, IfOk, MatchOption, None};
+ghost use Rattle.std.specs.Borrow.{sem};
 ghost use Rattle.std.specs.Option.{option_map};
 ghost use Rattle.tracing_core.specs.Handles.{or_refused};
 ghost use Rattle.tracing_core.specs.PlainRequests.{plain_attributes};
@@ -8,14 +9,18 @@ ghost use Rattle.span_registry_layers_store.specs.Copies.{CopyOf};
 ghost use Rattle.span_registry_layers_store.specs.Gives.{EntryGives, FilterGives, ForgetGives, IsNext, IsSettled, SpanGives, clone_gives, close_gives, follow_refusal, give_up_gives, open_refusal};
 ghost use Rattle.span_registry_layers_store.specs.Keeping.{InsertsSlot, RemovesSlot, ReplacesSlot};
 ghost use Rattle.span_registry_layers_store.specs.Lanes.{lane_at};
+ghost use Rattle.span_registry_layers_store.specs.Lending.{LendsSlots, slots_of};
+ghost use Rattle.span_registry_layers_store.specs.Lookups.{plain_data};
 ghost use Rattle.span_registry_layers_store.specs.Registries.{current_on, kin_in, new_registry, swept, without_entry};
 ghost use Rattle.span_registry_layers_store.specs.References.{plain_ref, ref_of};
 ghost use Rattle.span_registry_layers_store.specs.Slots.{plain_slot};
-ghost use Rattle.span_registry_layers_store.specs.Spans.{is_open, parent_of};
+ghost use Rattle.span_registry_layers_store.specs.Spans.{found, is_open, parent_of};
 ghost use Rattle.span_registry_layers_store.specs.Views.{current_under, mask_of, seen};
 
+use crate::extensions::ExtensionsMut;
 use crate::filter_map::{FilterId, FilterMap, TooManyFilters};
-use crate::parts::RegistryParts;
+use crate::lookup::Data;
+use crate::parts::{RegistryParts, place_to_lend};
 use crate::slot::{InsertError, OutputKey, Slot, Tag};
 use crate::span_ref::SpanRef;
 use crate::table::RegistryTable;
@@ -57,6 +62,13 @@ impl Registry {
                 filters: 0,
             },
         }
+    }
+
+    /// The same as `new`.
+    pub fn default(alloc: Global) -> Registry
+        ensures { result ≡ new_registry }
+    {
+        Registry::new(alloc)
     }
 
     /// Registers one more filter.
@@ -185,6 +197,16 @@ impl Registry {
         self.parts.is_open(*span)
     }
 
+    /// What is kept of an open span.
+    pub(crate) fn data(&self, span: &Id) -> Option<Data<'_>>
+        ensures { option_map plain_data result ≡ seen self.now None span.now }
+    {
+        match self.parts.find(*span, None) {
+            None => None,
+            Some(span) => Some(Data { span }),
+        }
+    }
+
     /// An open span.
     pub fn span(&self, span: &Id) -> Option<SpanRef<'_>>
         ensures { option_map plain_ref result ≡ option_map (λ s. record { registry = self.now; span = s; mask = None }) (seen self.now None span.now) }
@@ -228,6 +250,19 @@ impl Registry {
         self.parts.above(*span)
     }
 
+    /// What outputs keep with an open span, to be changed.
+    pub fn extensions_mut(&mut self, span: &Id) -> Option<ExtensionsMut<'_>>
+        ensures lent { option_map (λ s. s.now) result ≡ option_map slots_of (found kin_in self.old.spans span.now) }
+        ensures* ends { sem 𝓛 (LendsSlots self.entry span.now result) }
+    {
+        let parts = &mut self.parts;
+        let place = place_to_lend(parts.spans.as_slice(), *span);
+        match parts.spans.get_mut(place) {
+            None => None,
+            Some(span) => Some(&mut span.slots),
+        }
+    }
+
     /// Puts a slot of an output with a span. All else stays as it was.
     ///
     /// # Errors
@@ -243,7 +278,10 @@ impl Registry {
     ) -> Result<(), InsertError>
         ensures { InsertsSlot self.old span.now key.0 tag (plain_slot slot) result self.new }
     {
-        self.parts.insert_slot(*span, key, tag, slot)
+        match self.extensions_mut(span) {
+            None => Err(InsertError::UnknownSpan(slot)),
+            Some(extensions) => extensions.insert(key, tag, slot),
+        }
     }
 
     /// Puts a slot of an output with a span, and answers the one that was there. All else stays as it was.
@@ -260,14 +298,20 @@ impl Registry {
     ) -> Result<Option<Slot>, Slot>
         ensures { ReplacesSlot self.old span.now key.0 tag (plain_slot slot) result self.new }
     {
-        self.parts.replace_slot(*span, key, tag, slot)
+        match self.extensions_mut(span) {
+            None => Err(slot),
+            Some(extensions) => extensions.replace(key, tag, slot),
+        }
     }
 
     /// Takes the slot of an output under a tag out of a span, where there is one. All else stays as it was.
     pub fn remove_slot(&mut self, span: &Id, key: OutputKey, tag: Tag) -> Option<Slot>
         ensures { RemovesSlot self.old span.now key.0 tag result self.new }
     {
-        self.parts.remove_slot(*span, key, tag)
+        match self.extensions_mut(span) {
+            None => None,
+            Some(extensions) => extensions.remove(key, tag),
+        }
     }
 
     /// Takes out the last entry of a span on a lane, and closes nothing yet.

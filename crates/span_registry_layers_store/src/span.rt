@@ -1,8 +1,8 @@
 //! What is kept of an open span.
+use crate::extensions::Extensions;
 use crate::filter_map::FilterMap;
 use crate::metadata::OwnedMetadata;
 use crate::record::SpanRecord;
-use crate::slots::Slots;
 use std::alloc::Global;
 use std::sync::Arc;
 
@@ -12,5 +12,5 @@ pub(crate) struct Span {
     pub(crate) kin: SpanRecord,
     pub(crate) metadata: Arc<OwnedMetadata>,
     pub(crate) passed: FilterMap,
-    pub(crate) slots: Slots,
+    pub(crate) slots: Extensions,
 }

@@ -11,6 +11,7 @@ ghost use Rattle.span_registry_layers_store.specs.Spans.{line_of};
 ghost use Rattle.span_registry_layers_store.specs.Verdicts.{passes_at};
 ghost use Rattle.span_registry_layers_store.specs.Views.{parent_under};
 
+use crate::extensions::Extensions;
 use crate::filter_map::FilterId;
 use crate::registry::Registry;
 use crate::scope::Scope;
@@ -89,6 +90,13 @@ impl<'a> SpanRef<'a> {
         ensures { result ≡ passes_at (plain_ref self.now).span.passed filter.index }
     {
         self.span.passed.passes(filter)
+    }
+
+    /// What outputs keep with the span.
+    pub fn extensions(&self) -> &'a Extensions
+        ensures { result.now ≡ (plain_ref self.now).span.slots }
+    {
+        &self.span.slots
     }
 
     /// What an output keeps with the span under a tag.

@@ -1,11 +1,13 @@
 //! Registries.
 
 mod closing;
+mod looking;
 mod refusing;
+mod script;
 mod seeing;
 mod slots;
 
-use crate::{FilterId, FilterMap, Registry, ScopeFromRoot};
+use crate::{FilterId, FilterMap, OutputKey, Registry, ScopeFromRoot, Tag};
 use std::alloc::Global;
 use std::test::Fail;
 use tracing_core::{Attributes, FieldSet, Id, Identifier, Kind, Level, Metadata, RequestError};

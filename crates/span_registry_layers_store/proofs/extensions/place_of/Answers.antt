@@ -1,6 +1,6 @@
 use Rattle.std.proofs.Common.{refl, arith, ◌+◌, sym, ◌∙◌}
 use Rattle.span_registry_layers_store.proofs.Slotting.{nothing_left, place_at, shift_none, shift_turn, there_turn}
-use Rattle.span_registry_layers_store.proofs.slots.place_of.Goals as goal
+use Rattle.span_registry_layers_store.proofs.extensions.place_of.Goals as goal
 
 pub loop-place-init : goal.loop-place-init
 loop-place-init c = record { there = refl; shift = shift_none c.args.key.0 c.args.tag c.args.places.now }

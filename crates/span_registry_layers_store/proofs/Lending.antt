@@ -1,0 +1,57 @@
+-- What is lent for writing, by its place.
+use Rattle.std.proofs.Common.{◌≡◌, ◌<◌, ℕ, zero, suc, List, [], ◌∷◌, length, map, false, Option, Some, None, refl, ap, sym, ◌∙◌, arith, slice_get}
+use Rattle.std.specs.Option.{option_map}
+use Rattle.std.proofs.lemmas.List.{map-set}
+use Rattle.std.proofs.lemmas.Option.{none-some, slice_get_past}
+use Rattle.span_registry_layers_store.specs.Keeping.{with_places}
+use Rattle.span_registry_layers_store.specs.Lending.{IsSlotToLend, IsSpanToLend, slots_of}
+use Rattle.span_registry_layers_store.specs.Places.{IsPlace, kin_of}
+use Rattle.span_registry_layers_store.specs.Registries.{plain_span}
+use Rattle.span_registry_layers_store.specs.Slots.{IsSlotPlace, PlainPlace, plain_place, plain_slot, slot_at}
+use Rattle.span_registry_layers_store.specs.Spans.{found, is_open}
+use Rattle.span_registry_layers_store.specs.declared.slot.Place.{Place}
+use Rattle.span_registry_layers_store.specs.declared.slot.Tag.{Tag}
+use Rattle.span_registry_layers_store.specs.declared.span.Span.{Span}
+use Rattle.span_registry_layers_store.proofs.Mapped.{changed_mapped, found_mapped}
+use Rattle.span_registry_layers_store.proofs.Seeing.{none_found}
+
+-- a span with these slots
+abbrev kept : List PlainPlace → Span → Span
+kept slots s = record s { slots = slots }
+
+at_some : {A : Type 0} (xs : List A) (n : ℕ) → n < length xs → (x : A) × (slice_get xs n ≡ Some x)
+at_some [] n h = absurd (omega arith)
+at_some (x ∷ xs) zero h = (x, refl)
+at_some (x ∷ xs) (suc n) h = at_some xs n (omega arith)
+
+past : {A : Type 0} (xs : List A) (x : A) → slice_get xs (length xs) ≡ Some x → ⊥
+past xs x e = none-some x (sym (slice_get_past xs (length xs) (omega arith)) ∙ e)
+
+pub slot_to_lend : (ps : List Place) (key : ℕ) (t : Tag) (place : ℕ) → IsSlotPlace ps key t place → IsSlotToLend ps key t place
+slot_to_lend ps key t place i =
+    let here = at_some ps place i.within in (
+      ap (option_map (λ (p : Place). plain_slot p.slot)) here.1 ∙ sym (i.there here.0 here.1),
+      λ w p e. i.put (plain_slot w) p e ∙ sym (map-set plain_place ps place (record p { slot = w })),
+    )
+
+pub no_slot_to_lend : (ps : List Place) (key : ℕ) (t : Tag) → slot_at (map plain_place ps) key t ≡ None → IsSlotToLend ps key t (length ps)
+no_slot_to_lend ps key t none = (
+  ap (option_map (λ (p : Place). plain_slot p.slot)) (slice_get_past ps (length ps) (omega arith)) ∙ sym none,
+  λ w p e. absurd (past ps p e),
+)
+
+span_slots : (o : Option Span) → option_map slots_of (option_map plain_span o) ≡ option_map (λ (s : Span). s.slots) o
+span_slots None = refl
+span_slots (Some s) = refl
+
+pub span_to_lend : (spans : List Span) (id place : ℕ) → IsPlace spans id place → IsSpanToLend spans id place
+span_to_lend spans id place i = (
+  ap (option_map (λ (s : Span). s.slots)) (sym i.here) ∙ sym (ap (option_map slots_of) (found_mapped spans id) ∙ span_slots (found kin_of spans id)),
+  λ w s e. changed_mapped (kept w) (with_places w) (λ x. refl) spans id ∙ ap (map plain_span) (i.change (kept w) s e),
+)
+
+pub no_span_to_lend : (spans : List Span) (id : ℕ) → is_open kin_of spans id ≡ false → IsSpanToLend spans id (length spans)
+no_span_to_lend spans id none = (
+  ap (option_map (λ (s : Span). s.slots)) (slice_get_past spans (length spans) (omega arith)) ∙ sym (ap (option_map slots_of) (none_found spans id none)),
+  λ w s e. absurd (past spans s e),
+)
