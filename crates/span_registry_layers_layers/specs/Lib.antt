@@ -6,3 +6,5 @@ pub mod Functions
 pub mod Notices
 pub mod Lending
 pub mod Oracles
+pub mod Contexts
+pub mod Dynamic

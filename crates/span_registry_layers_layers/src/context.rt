@@ -1,10 +1,15 @@
-//! What a filter may look at.
-ghost use Rattle.std.specs.Prelude.{◌≡◌};
+//! What a filter or a layer may look at.
+ghost use Rattle.std.specs.Option.{option_map};
+ghost use Rattle.std.specs.Prelude.{◌≡◌, is_some};
+ghost use Rattle.tracing_core.specs.Metadata.{plain_metadata};
+ghost use Rattle.tracing_core.specs.PlainRequests.{plain_event};
+ghost use Rattle.span_registry_layers_store.specs.References.{plain_ref, scope_left};
 ghost use Rattle.span_registry_layers_store.specs.Views.{mask_of};
+ghost use Rattle.span_registry_layers_layers.specs.Contexts.{current_told, event_span, lane_span, metadata_in, ref_in, scope_in, span_in};
 ghost use Rattle.span_registry_layers_layers.specs.Looks.{view};
 
-use span_registry_layers_store::{FilterId, Registry};
-use tracing_core::At;
+use span_registry_layers_store::{FilterId, Registry, Scope, SpanRef};
+use tracing_core::{At, CurrentSpan, Event, Id, Metadata};
 
 /// Where and when a request is made, and the registry as one filter sees it: without the spans that it refused.
 #[derive(Clone, Copy)]
@@ -23,6 +28,83 @@ impl<'a> Context<'a> {
             registry,
             at,
             filter,
+        }
+    }
+
+    /// The span that the lane is in: its last entry that is no duplicate and that the filter passed.
+    pub fn lookup_current(&self) -> Option<SpanRef<'a>>
+        ensures { let v = view self.now in option_map plain_ref result ≡ option_map (ref_in v) (lane_span v) }
+    {
+        self.registry.current_under(self.at.lane, self.filter)
+    }
+
+    /// Which span the lane is in, as `lookup_current` finds it.
+    pub fn current_span(&self) -> CurrentSpan
+        ensures { result ≡ current_told (lane_span (view self.now)) }
+    {
+        match self.lookup_current() {
+            None => CurrentSpan::Outside,
+            Some(span) => CurrentSpan::Inside(span.id()),
+        }
+    }
+
+    /// An open span, where the filter passed it.
+    pub fn span(&self, id: &Id) -> Option<SpanRef<'a>>
+        ensures { let v = view self.now in option_map plain_ref result ≡ option_map (ref_in v) (span_in v id.now) }
+    {
+        self.registry.span_under(id, self.filter)
+    }
+
+    /// Whether a span is open and the filter passed it.
+    pub fn exists(&self, id: &Id) -> bool
+        ensures { result ≡ is_some (span_in (view self.now) id.now) }
+    {
+        self.span(id).is_some()
+    }
+
+    /// The metadata of an open span, where the filter passed it.
+    pub fn metadata(&self, id: &Id) -> Option<Metadata<'a>>
+        ensures { option_map plain_metadata result ≡ option_map metadata_in (span_in (view self.now) id.now) }
+    {
+        match self.span(id) {
+            None => None,
+            Some(span) => Some(span.metadata()),
+        }
+    }
+
+    /// A span and its ancestors, the nearest first, without those that the filter refused. None where the span
+    /// is not open or refused itself.
+    pub fn span_scope(&self, id: &Id) -> Option<Scope<'a>>
+        ensures { let v = view self.now in option_map scope_left result ≡ option_map (scope_in v) (span_in v id.now) }
+    {
+        match self.span(id) {
+            None => None,
+            Some(span) => Some(span.scope()),
+        }
+    }
+
+    /// The span that an event stands in: the one that it names, where the filter passed it, else none for a root,
+    /// else the lane's.
+    pub fn event_span(&self, event: &Event<'_, '_>) -> Option<SpanRef<'a>>
+        ensures { let v = view self.now in option_map plain_ref result ≡ option_map (ref_in v) (event_span v (plain_event event.now).parent) }
+    {
+        if event.is_contextual() {
+            return self.lookup_current();
+        }
+        match event.parent() {
+            None => None,
+            Some(id) => self.span(id),
+        }
+    }
+
+    /// The span that an event stands in and its ancestors, the nearest first, without those that the filter
+    /// refused.
+    pub fn event_scope(&self, event: &Event<'_, '_>) -> Option<Scope<'a>>
+        ensures { let v = view self.now in option_map scope_left result ≡ option_map (scope_in v) (event_span v (plain_event event.now).parent) }
+    {
+        match self.event_span(event) {
+            None => None,
+            Some(span) => Some(span.scope()),
         }
     }
 }

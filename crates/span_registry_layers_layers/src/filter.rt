@@ -10,12 +10,16 @@ ghost use Rattle.span_registry_layers_layers.specs.Looks.{Closed, Entered, Exite
 
 mod boxed;
 mod combined;
+mod dynamic;
+mod ext;
 mod function;
 mod level;
 mod optional;
 
 use crate::context::Context;
 pub use combined::{And, Not, Or};
+pub use dynamic::{CallsiteTest, ContextTest, DynFilterFn, dynamic_filter_fn};
+pub use ext::FilterExt;
 pub use function::{FilterFn, MetadataTest, filter_fn};
 use tracing_core::{Attributes, Event, Id, Interest, LevelFilter, Metadata, Record};
 

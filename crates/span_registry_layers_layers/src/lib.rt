@@ -7,7 +7,10 @@ mod filtered;
 mod layer;
 
 pub use context::Context;
-pub use filter::{And, Filter, FilterFn, MetadataTest, Not, Or, filter_fn};
+pub use filter::{
+    And, CallsiteTest, ContextTest, DynFilterFn, Filter, FilterExt, FilterFn, MetadataTest, Not,
+    Or, dynamic_filter_fn, filter_fn,
+};
 pub use filtered::Filtered;
 pub use layer::Layer;
 

@@ -1,0 +1,150 @@
+//! A stored closure that looks at the context, as a filter.
+ghost use Rattle.std.specs.Prelude.{◌≡◌, IfSome, IsSome, None, Some, true};
+ghost use Rattle.span_registry_layers_layers.specs.Combined.{same_word};
+ghost use Rattle.span_registry_layers_layers.specs.Dynamic.{AnswersIn, CallsitesFit, RefusesAboveHintIn, RefusesAboveIn, SaysIn, dynamic_fair};
+ghost use Rattle.span_registry_layers_layers.specs.Honesty.{Fair};
+
+use crate::context::Context;
+use crate::filter::Filter;
+use tracing_core::{Attributes, Event, Id, Interest, LevelFilter, Metadata, Record};
+
+/// Decides by metadata and by what the context shows.
+pub type ContextTest = Box<dyn Fn(&Metadata<'_>, &Context<'_>) -> bool>;
+
+/// Says what a filter's interest in a callsite is.
+pub type CallsiteTest = Box<dyn Fn(&Metadata<'_>) -> Interest>;
+
+/// A closure that can be asked of any callsite.
+#[derive(Drop)]
+struct Says {
+    closure: CallsiteTest,
+    ghost callable: { CallsiteTest.IsAlwaysCallable closure },
+}
+
+/// A filter that asks a closure about metadata and context, and perhaps another one about callsites.
+#[derive(Drop)]
+pub struct DynFilterFn {
+    enabled: ContextTest,
+    callsite_enabled: Option<Says>,
+    max_level_hint: Option<LevelFilter>,
+    ghost callable: { ContextTest.IsAlwaysCallable enabled },
+}
+
+impl DynFilterFn {
+    /// Asks the closure, and knows no most verbose level. It keeps its word, since it says nothing of callsites.
+    pub fn new(enabled: ContextTest) -> DynFilterFn
+        requires { ContextTest.IsAlwaysCallable enabled }
+        ensures kept { (result.enabled ≡ enabled) × (result.callsite_enabled ≡ None) × (result.max_level_hint ≡ None) }
+        ensures honest { Fair (AnswersIn (ContextTest.post result.enabled)) (SaysIn (λ s. CallsiteTest.post s.closure) result.callsite_enabled result.max_level_hint) result.max_level_hint }
+    {
+        DynFilterFn {
+            enabled,
+            callsite_enabled: None,
+            max_level_hint: None,
+        }
+    }
+
+    /// The same with a most verbose level, above which the closure has to refuse. It keeps its word where what
+    /// is said of callsites fits what the closure answers.
+    pub fn with_max_level_hint(self, hint: LevelFilter) -> DynFilterFn
+        requires { RefusesAboveIn hint (ContextTest.post self.enabled) }
+        ensures kept { (result.enabled ≡ self.enabled) × (result.callsite_enabled ≡ self.callsite_enabled) × (result.max_level_hint ≡ Some hint) }
+        ensures honest { CallsitesFit (ContextTest.post self.enabled) (λ s. CallsiteTest.post s.closure) self.callsite_enabled → Fair (AnswersIn (ContextTest.post result.enabled)) (SaysIn (λ s. CallsiteTest.post s.closure) result.callsite_enabled result.max_level_hint) result.max_level_hint }
+    {
+        let DynFilterFn {
+            enabled,
+            callsite_enabled,
+            ..
+        } = self;
+        DynFilterFn {
+            enabled,
+            callsite_enabled,
+            max_level_hint: Some(hint),
+        }
+    }
+
+    /// The same with a closure that says what the interest in a callsite is. It keeps its word where that fits
+    /// what the filter answers.
+    pub fn with_callsite_filter(self, callsite_enabled: CallsiteTest) -> DynFilterFn
+        requires { CallsiteTest.IsAlwaysCallable callsite_enabled }
+        ensures kept { (result.enabled ≡ self.enabled) × IfSome result.callsite_enabled (λ s. s.closure ≡ callsite_enabled) × IsSome result.callsite_enabled × (result.max_level_hint ≡ self.max_level_hint) }
+        ensures honest { RefusesAboveHintIn self.max_level_hint (ContextTest.post self.enabled) → CallsitesFit (ContextTest.post self.enabled) (λ s. CallsiteTest.post s.closure) result.callsite_enabled → Fair (AnswersIn (ContextTest.post result.enabled)) (SaysIn (λ s. CallsiteTest.post s.closure) result.callsite_enabled result.max_level_hint) result.max_level_hint }
+    {
+        let DynFilterFn {
+            enabled,
+            max_level_hint,
+            ..
+        } = self;
+        DynFilterFn {
+            enabled,
+            callsite_enabled: Some(Says {
+                closure: callsite_enabled,
+            }),
+            max_level_hint,
+        }
+    }
+}
+
+/// A filter that asks a closure about metadata and context.
+pub fn dynamic_filter_fn(enabled: ContextTest) -> DynFilterFn
+    requires { ContextTest.IsAlwaysCallable enabled }
+    ensures { (result.enabled ≡ enabled) × (result.callsite_enabled ≡ None) × (result.max_level_hint ≡ None) }
+{
+    DynFilterFn::new(enabled)
+}
+
+impl Filter for DynFilterFn {
+    ghost answers = { λ f. AnswersIn (ContextTest.post f.enabled) };
+
+    ghost event_answers = { λ f e v b. b ≡ true };
+
+    ghost says = { λ f. SaysIn (λ s. CallsiteTest.post s.closure) f.callsite_enabled f.max_level_hint };
+
+    ghost hint = { λ f. f.max_level_hint };
+
+    ghost after = { λ f h. f };
+
+    ghost honest = { λ f. Fair (AnswersIn (ContextTest.post f.enabled)) (SaysIn (λ s. CallsiteTest.post s.closure) f.callsite_enabled f.max_level_hint) f.max_level_hint };
+
+    ghost fair = { λ f k. k };
+
+    ghost stays = { λ f h k. (k, same_word (SaysIn (λ s. CallsiteTest.post s.closure) f.callsite_enabled f.max_level_hint) f.max_level_hint) };
+
+    fn enabled(&self, metadata: &Metadata<'_>, context: &Context<'_>) -> bool {
+        (self.enabled)(metadata, context)
+    }
+
+    // The answer may change with the context, so without a closure for callsites it is asked each time.
+    fn callsite_enabled(&self, metadata: &Metadata<'_>) -> Interest {
+        if let Some(says) = &self.callsite_enabled {
+            return (says.closure)(metadata);
+        }
+        match self.max_level_hint {
+            Some(hint) if !hint.passes(*metadata.level()) => Interest::never(),
+            _ => Interest::sometimes(),
+        }
+    }
+
+    fn event_enabled(&self, _event: &Event<'_, '_>, _context: &Context<'_>) -> bool {
+        true
+    }
+
+    fn max_level_hint(&self) -> Option<LevelFilter> {
+        self.max_level_hint
+    }
+
+    fn on_new_span(
+        &mut self,
+        _attributes: &Attributes<'_, '_>,
+        _span: &Id,
+        _context: &Context<'_>,
+    ) {}
+
+    fn on_record(&mut self, _span: &Id, _values: &Record<'_>, _context: &Context<'_>) {}
+
+    fn on_enter(&mut self, _span: &Id, _context: &Context<'_>) {}
+
+    fn on_exit(&mut self, _span: &Id, _context: &Context<'_>) {}
+
+    fn on_close(&mut self, _span: &Id, _context: &Context<'_>) {}
+}
