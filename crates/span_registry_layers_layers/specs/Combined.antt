@@ -89,11 +89,11 @@ either_hint None h = None
 either_hint (Some a) None = None
 either_hint (Some a) (Some b) = Some (max a b)
 
-then_passed : (Q : Bool → Type 0) (p r : Bool) → Then Q p r → p ≡ true → Q r
+pub then_passed : (Q : Bool → Type 0) (p r : Bool) → Then Q p r → p ≡ true → Q r
 then_passed Q true r t e = t
 then_passed Q false r t e = absurd (true≢false (sym e))
 
-then_refused : (Q : Bool → Type 0) (p r : Bool) → Then Q p r → p ≡ false → r ≡ false
+pub then_refused : (Q : Bool → Type 0) (p r : Bool) → Then Q p r → p ≡ false → r ≡ false
 then_refused Q true r t e = absurd (true≢false e)
 then_refused Q false r t e = t
 

@@ -8,3 +8,6 @@ pub mod Lending
 pub mod Oracles
 pub mod Contexts
 pub mod Dynamic
+pub mod Layereds
+pub mod Identities
+pub mod Absent

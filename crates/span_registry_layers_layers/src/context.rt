@@ -31,6 +31,17 @@ impl<'a> Context<'a> {
         }
     }
 
+    /// The same, to be read.
+    pub(crate) fn again(&self) -> Context<'a>
+        ensures { view result ≡ view self.now }
+    {
+        Context {
+            registry: self.registry,
+            at: self.at,
+            filter: self.filter,
+        }
+    }
+
     /// The span that the lane is in: its last entry that is no duplicate and that the filter passed.
     pub fn lookup_current(&self) -> Option<SpanRef<'a>>
         ensures { let v = view self.now in option_map plain_ref result ≡ option_map (ref_in v) (lane_span v) }

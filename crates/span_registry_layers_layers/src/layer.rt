@@ -9,7 +9,19 @@ ghost use Rattle.span_registry_layers_layers.specs.Honesty.{Fair};
 ghost use Rattle.span_registry_layers_layers.specs.Looks.{Closed, Entered, Exited, Recorded, SpanMade, View, view};
 ghost use Rattle.span_registry_layers_layers.specs.Notices.{AddsFilters, Attached, Dispatched, Followed, Happened, Notice, Renamed, Spanned};
 
+mod boxed;
+mod dynamic;
+mod ext;
+mod function;
+mod identity;
+mod layered;
+mod level;
+mod optional;
+
 use crate::context::Context;
+pub use ext::LayerExt;
+pub use identity::Identity;
+pub use layered::Layered;
 use span_registry_layers_store::Registry;
 use tracing_core::{Attributes, Event, Id, Interest, LevelFilter, Metadata, Record, WeakDispatch};
 

@@ -12,7 +12,7 @@ pub use filter::{
     Or, dynamic_filter_fn, filter_fn,
 };
 pub use filtered::Filtered;
-pub use layer::Layer;
+pub use layer::{Identity, Layer, LayerExt, Layered};
 
 #[cfg(test)]
 mod tests;

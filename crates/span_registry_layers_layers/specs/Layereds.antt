@@ -1,0 +1,82 @@
+-- Two layers as one.
+use Rattle.std.specs.Prelude.{◌≡◌, ◌<◌, ℕ, Bool, true, false, max, Option, Some, None, refl}
+use Rattle.std.proofs.Common.{sym, subst, arith}
+use Rattle.tracing_core.specs.InterestInner.TheVariants.{Never, Sometimes, Always}
+use Rattle.tracing_core.specs.Interests.{PlainInterest}
+use Rattle.tracing_core.specs.PlainMetadata.{PlainMetadata}
+use Rattle.tracing_core.specs.Steady.{HintFits, InterestFits, SameWord}
+use Rattle.span_registry_layers_store.specs.Registries.{RegistryValue}
+use Rattle.span_registry_layers_layers.specs.Combined.{Both, SaysOf, joined_word, then_passed, then_refused}
+use Rattle.span_registry_layers_layers.specs.Honesty.{Fair}
+use Rattle.span_registry_layers_layers.specs.Looks.{View}
+use Rattle.span_registry_layers_layers.specs.Notices.{AddsFilters, Attached, Dispatched, Followed, Happened, Notice, Renamed, Spanned}
+use Rattle.span_registry_layers_layers.specs.declared.layer.Layer.{Ghosts}
+use Rattle.span_registry_layers_layers.specs.declared.layer.layered.Layered.{Layered}
+
+-- the outer layer's interest, save that what it always passes is as the inner one says
+abbrev pub picked_interest : PlainInterest → PlainInterest → PlainInterest
+picked_interest Never k = Never
+picked_interest Sometimes k = Sometimes
+picked_interest Always k = k
+
+-- known where one is known, the higher of two
+abbrev pub picked_hint : Option ℕ → Option ℕ → Option ℕ
+picked_hint None h = h
+picked_hint (Some a) None = Some a
+picked_hint (Some a) (Some b) = Some (max a b)
+
+picked_fit : (k j : PlainInterest) (p r : Bool) → InterestFits k p → (p ≡ true → InterestFits j r) → (p ≡ false → r ≡ false) → InterestFits (picked_interest k j) r
+picked_fit Never j p r a b c = c a
+picked_fit Sometimes j p r a b c = tt
+picked_fit Always j p r a b c = b a
+
+refused_fits : (i : Option ℕ) (level : ℕ) (r : Bool) → r ≡ false → HintFits i level r
+refused_fits None level r e = tt
+refused_fits (Some y) level r e = λ lt. e
+
+picked_below : (h i : Option ℕ) (level : ℕ) (p r : Bool) → HintFits h level p → (p ≡ true → HintFits i level r) → (p ≡ false → r ≡ false) → HintFits (picked_hint h i) level r
+picked_below None i level true r a b c = b refl
+picked_below None i level false r a b c = refused_fits i level r (c refl)
+picked_below (Some x) None level p r a b c = λ lt. c (a lt)
+picked_below (Some x) (Some y) level p r a b c = λ lt. c (a (omega (arith, lt)))
+
+module _ {A B : PlainMetadata → View → Bool → Type 0} {S T : PlainMetadata → PlainInterest → Type 0} {h i : Option ℕ} where
+  pub layered_fair : Fair A S h → Fair B T i → Fair (λ m v r. Both (A m v) (B m v) r) (λ m k. SaysOf picked_interest (S m) (T m) k) (picked_hint h i)
+  layered_fair f g = record {
+    interest = λ m v r k a s.
+        subst (λ z. InterestFits z r) (sym s.2.2)
+        (picked_fit s.0 s.2.0 a.0 r (f.interest m v a.0 s.0 a.1 s.1) (λ e. g.interest m v r s.2.0 (then_passed (B m v) a.0 r a.2 e) s.2.1) (then_refused (B m v) a.0 r a.2));
+    below = λ m v r a. picked_below h i m.level a.0 r (f.below m v a.0 a.1) (λ e. g.below m v r (then_passed (B m v) a.0 r a.2 e)) (then_refused (B m v) a.0 r a.2);
+  }
+
+module _ {A B : Type 0} (g : Ghosts A) (h : Ghosts B) where
+  -- both are told the same, and attached to the registry in turn
+  abbrev pub ToldBoth : Layered A B → Notice → Layered A B → Type 0
+  ToldBoth l (Spanned hook) m = g.told l.layer (Spanned hook) m.layer × h.told l.inner (Spanned hook) m.inner
+  ToldBoth l (Followed span follows v) m = g.told l.layer (Followed span follows v) m.layer × h.told l.inner (Followed span follows v) m.inner
+  ToldBoth l (Happened e v) m = g.told l.layer (Happened e v) m.layer × h.told l.inner (Happened e v) m.inner
+  ToldBoth l (Renamed old new v) m = g.told l.layer (Renamed old new v) m.layer × h.told l.inner (Renamed old new v) m.inner
+  ToldBoth l (Dispatched handle) m = g.told l.layer (Dispatched handle) m.layer × h.told l.inner (Dispatched handle) m.inner
+  ToldBoth l (Attached x) m = (y : RegistryValue) × AddsFilters x y × g.told l.layer (Attached x) m.layer × h.told l.inner (Attached y) m.inner
+
+  abbrev pub BothHonest : Layered A B → Type 0
+  BothHonest l = g.honest l.layer × h.honest l.inner
+
+  abbrev SameWords : Layered A B → Layered A B → Type 0
+  SameWords l m =
+      SameWord (λ d k. SaysOf picked_interest (g.says l.layer d) (h.says l.inner d) k) (λ d k. SaysOf picked_interest (g.says m.layer d) (h.says m.inner d) k)
+      (picked_hint (g.hint l.layer) (h.hint l.inner)) (picked_hint (g.hint m.layer) (h.hint m.inner))
+
+  stays_each : (l m : Layered A B) (n k : Notice) → g.told l.layer n m.layer → h.told l.inner k m.inner → BothHonest l → BothHonest m × SameWords l m
+  stays_each l m n k a b honest =
+      let outer = g.stays l.layer n m.layer a honest.0 in
+      let inner = h.stays l.inner k m.inner b honest.1 in
+      ((outer.0, inner.0), joined_word picked_interest picked_hint outer.1 inner.1)
+
+  pub both_stay : (l : Layered A B) (n : Notice) (m : Layered A B) → ToldBoth l n m → BothHonest l → BothHonest m × SameWords l m
+  both_stay l (Spanned hook) m t = stays_each l m (Spanned hook) (Spanned hook) t.0 t.1
+  both_stay l (Followed span follows v) m t = stays_each l m (Followed span follows v) (Followed span follows v) t.0 t.1
+  both_stay l (Happened e v) m t = stays_each l m (Happened e v) (Happened e v) t.0 t.1
+  both_stay l (Renamed old new v) m t = stays_each l m (Renamed old new v) (Renamed old new v) t.0 t.1
+  both_stay l (Dispatched handle) m t = stays_each l m (Dispatched handle) (Dispatched handle) t.0 t.1
+  both_stay l (Attached x) m t = stays_each l m (Attached x) (Attached t.0) t.2 t.3

@@ -1,0 +1,89 @@
+//! A boxed layer is one.
+ghost use Rattle.std.proofs.Common.{subst, sym};
+ghost use Rattle.std.specs.Prelude.{◌≡◌};
+ghost use Rattle.tracing_core.specs.Steady.{SameWord};
+
+use crate::context::Context;
+use crate::layer::Layer;
+use span_registry_layers_store::Registry;
+use tracing_core::{Attributes, Event, Id, Interest, LevelFilter, Metadata, Record, WeakDispatch};
+
+/// The box does and answers what the layer in it does.
+impl Layer for Box<dyn Layer> {
+    ghost answers = { λ b. (Layer-box b).answers b.value };
+
+    ghost event_answers = { λ b. (Layer-box b).event_answers b.value };
+
+    ghost says = { λ b. (Layer-box b).says b.value };
+
+    ghost hint = { λ b. (Layer-box b).hint b.value };
+
+    ghost told = { λ b n c. (v : _) × (Layer-box b).told b.value n v × (c ≡ record b { value = v }) };
+
+    ghost honest = { λ b. (Layer-box b).honest b.value };
+
+    ghost fair = { λ b k. (Layer-box b).fair b.value k };
+
+    ghost stays = { λ b n c t k. subst (λ z. (Layer-box z).honest z.value × SameWord ((Layer-box b).says b.value) ((Layer-box z).says z.value) ((Layer-box b).hint b.value) ((Layer-box z).hint z.value)) (sym t.2) ((Layer-box b).stays b.value n t.0 t.1 k) };
+
+    fn on_register_dispatch(&mut self, dispatch: &WeakDispatch) {
+        (**self).on_register_dispatch(dispatch)
+    }
+
+    fn on_layer(&mut self, registry: &mut Registry) {
+        (**self).on_layer(registry)
+    }
+
+    fn register_callsite(&self, metadata: &Metadata<'_>) -> Interest {
+        (**self).register_callsite(metadata)
+    }
+
+    fn enabled(&self, metadata: &Metadata<'_>, context: &Context<'_>) -> bool {
+        (**self).enabled(metadata, context)
+    }
+
+    fn on_new_span(
+        &mut self,
+        attributes: &Attributes<'_, '_>,
+        span: &Id,
+        context: &mut Context<'_>,
+    ) {
+        (**self).on_new_span(attributes, span, context)
+    }
+
+    fn max_level_hint(&self) -> Option<LevelFilter> {
+        (**self).max_level_hint()
+    }
+
+    fn on_record(&mut self, span: &Id, values: &Record<'_>, context: &mut Context<'_>) {
+        (**self).on_record(span, values, context)
+    }
+
+    fn on_follows_from(&mut self, span: &Id, follows: &Id, context: &mut Context<'_>) {
+        (**self).on_follows_from(span, follows, context)
+    }
+
+    fn event_enabled(&self, event: &Event<'_, '_>, context: &Context<'_>) -> bool {
+        (**self).event_enabled(event, context)
+    }
+
+    fn on_event(&mut self, event: &Event<'_, '_>, context: &mut Context<'_>) {
+        (**self).on_event(event, context)
+    }
+
+    fn on_enter(&mut self, span: &Id, context: &mut Context<'_>) {
+        (**self).on_enter(span, context)
+    }
+
+    fn on_exit(&mut self, span: &Id, context: &mut Context<'_>) {
+        (**self).on_exit(span, context)
+    }
+
+    fn on_close(&mut self, span: &Id, context: &mut Context<'_>) {
+        (**self).on_close(span, context)
+    }
+
+    fn on_id_change(&mut self, old: &Id, new: &Id, context: &mut Context<'_>) {
+        (**self).on_id_change(old, new, context)
+    }
+}

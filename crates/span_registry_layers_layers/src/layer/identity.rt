@@ -1,0 +1,80 @@
+//! A layer that does nothing.
+ghost use Rattle.std.specs.Prelude.{◌≡◌, None, true};
+ghost use Rattle.tracing_core.specs.InterestInner.TheVariants.{Always};
+ghost use Rattle.span_registry_layers_layers.specs.Combined.{same_word};
+ghost use Rattle.span_registry_layers_layers.specs.Identities.{idle_fair};
+
+use crate::context::Context;
+use crate::layer::Layer;
+use span_registry_layers_store::Registry;
+use tracing_core::{Attributes, Event, Id, Interest, LevelFilter, Metadata, Record, WeakDispatch};
+
+/// A layer that does nothing with what it is told, and vetoes nothing.
+#[derive(Clone, Copy, Debug, Drop)]
+pub struct Identity(());
+
+impl Identity {
+    /// A layer that does nothing.
+    pub fn new() -> Identity {
+        Identity(())
+    }
+}
+
+impl Layer for Identity {
+    ghost answers = { λ x m v b. b ≡ true };
+
+    ghost event_answers = { λ x e v b. b ≡ true };
+
+    ghost says = { λ x m k. k ≡ Always };
+
+    ghost hint = { λ x. None };
+
+    ghost told = { λ x n y. y ≡ x };
+
+    ghost honest = { λ x. Unit {0} };
+
+    ghost fair = { λ x _. idle_fair };
+
+    ghost stays = { λ x n y t _. (tt, same_word (λ m k. k ≡ Always) None) };
+
+    fn on_register_dispatch(&mut self, _dispatch: &WeakDispatch) {}
+
+    fn on_layer(&mut self, _registry: &mut Registry) {}
+
+    fn register_callsite(&self, _metadata: &Metadata<'_>) -> Interest {
+        Interest::always()
+    }
+
+    fn enabled(&self, _metadata: &Metadata<'_>, _context: &Context<'_>) -> bool {
+        true
+    }
+
+    fn on_new_span(
+        &mut self,
+        _attributes: &Attributes<'_, '_>,
+        _span: &Id,
+        _context: &mut Context<'_>,
+    ) {}
+
+    fn max_level_hint(&self) -> Option<LevelFilter> {
+        None
+    }
+
+    fn on_record(&mut self, _span: &Id, _values: &Record<'_>, _context: &mut Context<'_>) {}
+
+    fn on_follows_from(&mut self, _span: &Id, _follows: &Id, _context: &mut Context<'_>) {}
+
+    fn event_enabled(&self, _event: &Event<'_, '_>, _context: &Context<'_>) -> bool {
+        true
+    }
+
+    fn on_event(&mut self, _event: &Event<'_, '_>, _context: &mut Context<'_>) {}
+
+    fn on_enter(&mut self, _span: &Id, _context: &mut Context<'_>) {}
+
+    fn on_exit(&mut self, _span: &Id, _context: &mut Context<'_>) {}
+
+    fn on_close(&mut self, _span: &Id, _context: &mut Context<'_>) {}
+
+    fn on_id_change(&mut self, _old: &Id, _new: &Id, _context: &mut Context<'_>) {}
+}

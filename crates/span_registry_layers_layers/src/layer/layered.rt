@@ -1,0 +1,142 @@
+//! Two layers as one.
+ghost use Rattle.std.specs.Prelude.{◌≡◌};
+ghost use Rattle.span_registry_layers_layers.specs.Layereds.{picked_hint, picked_interest};
+
+use crate::context::Context;
+use crate::layer::Layer;
+use span_registry_layers_store::Registry;
+use tracing_core::{Attributes, Event, Id, Interest, LevelFilter, Metadata, Record, WeakDispatch};
+
+/// A layer over an inner one, or over a registry.
+///
+/// Both layers are told; the outer one is asked first, and where one refuses, nobody is told.
+#[derive(Clone, Copy, Debug, Drop)]
+pub struct Layered<L, I> {
+    layer: L,
+    inner: I,
+}
+
+impl<L, I> Layered<L, I> {
+    /// The layer over the inner one.
+    pub(crate) fn new(layer: L, inner: I) -> Layered<L, I>
+        ensures { (result.layer ≡ layer) × (result.inner ≡ inner) }
+    {
+        Layered { layer, inner }
+    }
+}
+
+impl<L: Layer, I: Layer> Layer for Layered<L, I> {
+    ghost use Rattle.span_registry_layers_layers.specs.Combined.{Both, SaysOf};
+    ghost use Rattle.span_registry_layers_layers.specs.Layereds as layereds;
+    ghost use Rattle.span_registry_layers_layers.specs.Layereds.{layered_fair, picked_hint, picked_interest};
+
+    ghost answers = { λ l m v r. Both (L.answers l.layer m v) (I.answers l.inner m v) r };
+
+    ghost event_answers = { λ l e v r. Both (L.event_answers l.layer e v) (I.event_answers l.inner e v) r };
+
+    ghost says = { λ l m k. SaysOf picked_interest (L.says l.layer m) (I.says l.inner m) k };
+
+    ghost hint = { λ l. picked_hint (L.hint l.layer) (I.hint l.inner) };
+
+    ghost told = { layereds.ToldBoth ⟦<L as Layer>⟧ ⟦<I as Layer>⟧ };
+
+    ghost honest = { layereds.BothHonest ⟦<L as Layer>⟧ ⟦<I as Layer>⟧ };
+
+    ghost fair = { λ l k. layered_fair (L.fair l.layer k.0) (I.fair l.inner k.1) };
+
+    ghost stays = { layereds.both_stay ⟦<L as Layer>⟧ ⟦<I as Layer>⟧ };
+
+    fn on_register_dispatch(&mut self, dispatch: &WeakDispatch) {
+        self.layer.on_register_dispatch(dispatch);
+        self.inner.on_register_dispatch(dispatch);
+    }
+
+    fn on_layer(&mut self, registry: &mut Registry) {
+        self.layer.on_layer(registry);
+        self.inner.on_layer(registry);
+    }
+
+    fn register_callsite(&self, metadata: &Metadata<'_>) -> Interest {
+        picked_interest(
+            self.layer.register_callsite(metadata),
+            self.inner.register_callsite(metadata),
+        )
+    }
+
+    fn enabled(&self, metadata: &Metadata<'_>, context: &Context<'_>) -> bool {
+        self.layer.enabled(metadata, context) && self.inner.enabled(metadata, context)
+    }
+
+    fn on_new_span(
+        &mut self,
+        attributes: &Attributes<'_, '_>,
+        span: &Id,
+        context: &mut Context<'_>,
+    ) {
+        self.inner
+            .on_new_span(attributes, span, &mut context.again());
+        self.layer.on_new_span(attributes, span, context);
+    }
+
+    fn max_level_hint(&self) -> Option<LevelFilter> {
+        picked_hint(self.layer.max_level_hint(), self.inner.max_level_hint())
+    }
+
+    fn on_record(&mut self, span: &Id, values: &Record<'_>, context: &mut Context<'_>) {
+        self.inner.on_record(span, values, &mut context.again());
+        self.layer.on_record(span, values, context);
+    }
+
+    fn on_follows_from(&mut self, span: &Id, follows: &Id, context: &mut Context<'_>) {
+        self.inner
+            .on_follows_from(span, follows, &mut context.again());
+        self.layer.on_follows_from(span, follows, context);
+    }
+
+    fn event_enabled(&self, event: &Event<'_, '_>, context: &Context<'_>) -> bool {
+        self.layer.event_enabled(event, context) && self.inner.event_enabled(event, context)
+    }
+
+    fn on_event(&mut self, event: &Event<'_, '_>, context: &mut Context<'_>) {
+        self.inner.on_event(event, &mut context.again());
+        self.layer.on_event(event, context);
+    }
+
+    fn on_enter(&mut self, span: &Id, context: &mut Context<'_>) {
+        self.inner.on_enter(span, &mut context.again());
+        self.layer.on_enter(span, context);
+    }
+
+    fn on_exit(&mut self, span: &Id, context: &mut Context<'_>) {
+        self.inner.on_exit(span, &mut context.again());
+        self.layer.on_exit(span, context);
+    }
+
+    fn on_close(&mut self, span: &Id, context: &mut Context<'_>) {
+        self.inner.on_close(span, &mut context.again());
+        self.layer.on_close(span, context);
+    }
+
+    fn on_id_change(&mut self, old: &Id, new: &Id, context: &mut Context<'_>) {
+        self.inner.on_id_change(old, new, &mut context.again());
+        self.layer.on_id_change(old, new, context);
+    }
+}
+
+// What the outer layer always passes is as the inner one says.
+fn picked_interest(outer: Interest, inner: Interest) -> Interest
+    ensures { result ≡ picked_interest outer inner }
+{
+    if outer.is_always() { inner } else { outer }
+}
+
+// Known where one is, the higher of two.
+fn picked_hint(outer: Option<LevelFilter>, inner: Option<LevelFilter>) -> Option<LevelFilter>
+    ensures { result ≡ picked_hint outer inner }
+{
+    match (outer, inner) {
+        (Some(a), Some(b)) => Some(if a < b { b } else { a }),
+        (Some(a), None) => Some(a),
+        (None, known) => known,
+    }
+}

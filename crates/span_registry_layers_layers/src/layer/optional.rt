@@ -1,0 +1,130 @@
+//! A layer that may be absent.
+use crate::context::Context;
+use crate::layer::Layer;
+use span_registry_layers_store::Registry;
+use tracing_core::{Attributes, Event, Id, Interest, LevelFilter, Metadata, Record, WeakDispatch};
+
+/// Where it is absent it vetoes nothing, but its hint is that it passes nothing: an absent layer doesn't keep its
+/// word.
+impl<L: Layer> Layer for Option<L> {
+    ghost use Rattle.span_registry_layers_layers.specs.Absent as absent;
+
+    ghost answers = { absent.AnswersOf ⟦<L as Layer>⟧ };
+
+    ghost event_answers = { absent.EventAnswersOf ⟦<L as Layer>⟧ };
+
+    ghost says = { absent.SaysOf ⟦<L as Layer>⟧ };
+
+    ghost hint = { absent.hint_of ⟦<L as Layer>⟧ };
+
+    ghost told = { absent.ToldOf ⟦<L as Layer>⟧ };
+
+    ghost honest = { absent.IsHonest ⟦<L as Layer>⟧ };
+
+    ghost fair = { absent.absent_fair ⟦<L as Layer>⟧ };
+
+    ghost stays = { absent.absent_stays ⟦<L as Layer>⟧ };
+
+    fn on_register_dispatch(&mut self, dispatch: &WeakDispatch) {
+        match self {
+            None => {}
+            Some(layer) => layer.on_register_dispatch(dispatch),
+        }
+    }
+
+    fn on_layer(&mut self, registry: &mut Registry) {
+        match self {
+            None => {}
+            Some(layer) => layer.on_layer(registry),
+        }
+    }
+
+    fn register_callsite(&self, metadata: &Metadata<'_>) -> Interest {
+        match self {
+            None => Interest::always(),
+            Some(layer) => layer.register_callsite(metadata),
+        }
+    }
+
+    fn enabled(&self, metadata: &Metadata<'_>, context: &Context<'_>) -> bool {
+        match self {
+            None => true,
+            Some(layer) => layer.enabled(metadata, context),
+        }
+    }
+
+    fn on_new_span(
+        &mut self,
+        attributes: &Attributes<'_, '_>,
+        span: &Id,
+        context: &mut Context<'_>,
+    ) {
+        match self {
+            None => {}
+            Some(layer) => layer.on_new_span(attributes, span, context),
+        }
+    }
+
+    fn max_level_hint(&self) -> Option<LevelFilter> {
+        match self {
+            None => Some(LevelFilter::OFF),
+            Some(layer) => layer.max_level_hint(),
+        }
+    }
+
+    fn on_record(&mut self, span: &Id, values: &Record<'_>, context: &mut Context<'_>) {
+        match self {
+            None => {}
+            Some(layer) => layer.on_record(span, values, context),
+        }
+    }
+
+    fn on_follows_from(&mut self, span: &Id, follows: &Id, context: &mut Context<'_>) {
+        match self {
+            None => {}
+            Some(layer) => layer.on_follows_from(span, follows, context),
+        }
+    }
+
+    fn event_enabled(&self, event: &Event<'_, '_>, context: &Context<'_>) -> bool {
+        match self {
+            None => true,
+            Some(layer) => layer.event_enabled(event, context),
+        }
+    }
+
+    fn on_event(&mut self, event: &Event<'_, '_>, context: &mut Context<'_>) {
+        match self {
+            None => {}
+            Some(layer) => layer.on_event(event, context),
+        }
+    }
+
+    fn on_enter(&mut self, span: &Id, context: &mut Context<'_>) {
+        match self {
+            None => {}
+            Some(layer) => layer.on_enter(span, context),
+        }
+    }
+
+    fn on_exit(&mut self, span: &Id, context: &mut Context<'_>) {
+        match self {
+            None => {}
+            Some(layer) => layer.on_exit(span, context),
+        }
+    }
+
+    fn on_close(&mut self, span: &Id, context: &mut Context<'_>) {
+        match self {
+            None => {}
+            Some(layer) => layer.on_close(span, context),
+        }
+    }
+
+    fn on_id_change(&mut self, old: &Id, new: &Id, context: &mut Context<'_>) {
+        match self {
+            None => {}
+            Some(layer) => layer.on_id_change(old, new, context),
+        }
+    }
+}
