@@ -4,7 +4,7 @@ use Rattle.std.specs.Option.{option_map}
 use Rattle.std.proofs.lemmas.List.{map-set}
 use Rattle.std.proofs.lemmas.Option.{none-some, slice_get_past}
 use Rattle.span_registry_layers_store.specs.Keeping.{with_places}
-use Rattle.span_registry_layers_store.specs.Lending.{IsSlotToLend, IsSpanToLend, slots_of}
+use Rattle.span_registry_layers_store.specs.SlotLoans.{IsSlotToLend, IsSpanToLend, slots_of}
 use Rattle.span_registry_layers_store.specs.Places.{IsPlace, kin_of}
 use Rattle.span_registry_layers_store.specs.Registries.{plain_span}
 use Rattle.span_registry_layers_store.specs.Slots.{IsSlotPlace, PlainPlace, plain_place, plain_slot, slot_at}

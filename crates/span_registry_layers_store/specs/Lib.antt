@@ -11,5 +11,5 @@ pub mod Views
 pub mod References
 pub mod Laws
 pub mod Copies
-pub mod Lending
+pub mod SlotLoans
 pub mod Lookups

@@ -3,7 +3,7 @@
 ghost use Rattle.std.specs.Prelude.{◌≡◌, [], MatchOption, None, map};
 ghost use Rattle.std.specs.Borrow.{sem};
 ghost use Rattle.std.specs.Option.{option_map};
-ghost use Rattle.span_registry_layers_store.specs.Lending.{IsSlotToLend, LendsSlot};
+ghost use Rattle.span_registry_layers_store.specs.SlotLoans.{IsSlotToLend, LendsSlot};
 ghost use Rattle.span_registry_layers_store.specs.Slots.{InsertGives, IsSlotPlace, RemoveGives, ReplaceGives, is_at, is_same_tag, plain_place, plain_slot, slot_at, with_slot, without_slot};
 
 use crate::slot::{InsertError, OutputKey, Place, Slot, Tag};

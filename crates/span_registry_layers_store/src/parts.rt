@@ -9,7 +9,7 @@ ghost use Rattle.tracing_core.specs.PlainRequests.{explicit_parent, plain_attrib
 ghost use Rattle.span_registry_layers_store.specs.Copies.{CopyOf};
 ghost use Rattle.span_registry_layers_store.specs.Gives.{EntryGives, FilterGives, ForgetGives, IsNext, IsSettled, SpanGives, clone_gives, close_gives, follow_refusal, give_up_gives, open_refusal};
 ghost use Rattle.span_registry_layers_store.specs.Lanes.{lane_at};
-ghost use Rattle.span_registry_layers_store.specs.Lending.{IsSpanToLend};
+ghost use Rattle.span_registry_layers_store.specs.SlotLoans.{IsSpanToLend};
 ghost use Rattle.span_registry_layers_store.specs.OwnedMetadatas.{owned_plain};
 ghost use Rattle.span_registry_layers_store.specs.Registries.{current_on, kin_in, knows, next_number, plain_registry, plain_span, swept, under, with_span, without_entry};
 ghost use Rattle.span_registry_layers_store.specs.Spans.{found, handles_of, is_open, parent_of};

@@ -9,7 +9,7 @@ ghost use Rattle.span_registry_layers_store.specs.Copies.{CopyOf};
 ghost use Rattle.span_registry_layers_store.specs.Gives.{EntryGives, FilterGives, ForgetGives, IsNext, IsSettled, SpanGives, clone_gives, close_gives, follow_refusal, give_up_gives, open_refusal};
 ghost use Rattle.span_registry_layers_store.specs.Keeping.{InsertsSlot, RemovesSlot, ReplacesSlot};
 ghost use Rattle.span_registry_layers_store.specs.Lanes.{lane_at};
-ghost use Rattle.span_registry_layers_store.specs.Lending.{LendsSlots, slots_of};
+ghost use Rattle.span_registry_layers_store.specs.SlotLoans.{LendsSlots, slots_of};
 ghost use Rattle.span_registry_layers_store.specs.Lookups.{plain_data};
 ghost use Rattle.span_registry_layers_store.specs.Registries.{current_on, kin_in, new_registry, swept, without_entry};
 ghost use Rattle.span_registry_layers_store.specs.References.{plain_ref, ref_of};

@@ -1,0 +1,112 @@
+// Filters.
+use super::*;
+use crate::{
+    And, CallsiteTest, Context, ContextTest, DynFilterFn, Filter, FilterExt, FilterFn,
+    MetadataTest, Not, Or, dynamic_filter_fn, filter_fn,
+};
+use tracing_core::{Event, Interest, LevelFilter, Record};
+
+/// Whether a filter passes an INFO span, and its interest in it.
+fn asked<F: Filter>(filter: &F, registry: &Registry) -> (bool, Interest) {
+    let metadata = span_metadata("asked");
+    let context = Context::new(registry, PLACE, None);
+    (
+        filter.enabled(&metadata, &context),
+        filter.callsite_enabled(&metadata),
+    )
+}
+
+/// Makes each other call of a filter once, and answers whether it passes an event.
+fn told<F: Filter>(filter: &mut F, registry: &Registry, span: Id) -> bool {
+    let fields = FieldSet::new(&NAMES, Identifier(7));
+    let metadata = Metadata::new(
+        "e",
+        "app",
+        Level::INFO,
+        None,
+        None,
+        None,
+        fields,
+        Kind::EVENT,
+    );
+    let context = Context::new(registry, PLACE, None);
+    let attributes = Attributes::new(&metadata, fields.value_set_all(&[]));
+    filter.on_new_span(&attributes, &span, &context);
+    filter.on_record(&span, &Record::new(fields.value_set_all(&[])), &context);
+    filter.on_enter(&span, &context);
+    filter.on_exit(&span, &context);
+    filter.on_close(&span, &context);
+    filter.event_enabled(&Event::new(&metadata, fields.value_set_all(&[])), &context)
+}
+
+#[test]
+fn surface_combined(rt: HostRuntime) -> Result<(), Fail> {
+    let (registry, outer, _inner) = nested(rt.alloc())?;
+    let (low, high) = (LevelFilter::WARN, LevelFilter::DEBUG);
+    let (passed, interest) = asked(&And::new(low, high), &registry);
+    assert!(rt; !passed && interest.is_never());
+    let (passed, interest) = asked(&low.and(high), &registry);
+    assert!(rt; !passed && interest.is_never());
+    let (passed, interest) = asked(&Or::new(low, high), &registry);
+    assert!(rt; passed && interest.is_always());
+    let (passed, interest) = asked(&low.or(high), &registry);
+    assert!(rt; passed && interest.is_always());
+    let (passed, interest) = asked(&Not::new(low), &registry);
+    assert!(rt; passed && interest.is_always());
+    let (passed, interest) = asked(&FilterExt::not(low), &registry);
+    assert!(rt; passed && interest.is_always());
+    assert!(rt; low.and(high).max_level_hint() == Some(low));
+    assert!(rt; told(&mut low.and(high), &registry, outer));
+    let absent: Option<LevelFilter> = None;
+    let (passed, interest) = asked(&absent, &registry);
+    assert!(rt; passed && interest.is_always());
+    let mut boxed: Box<dyn Filter> = Box::new(rt.alloc(), high)?;
+    let (passed, interest) = asked(&boxed, &registry);
+    assert!(rt; passed && interest.is_always() && told(&mut boxed, &registry, outer));
+    Ok(())
+}
+
+#[test]
+fn surface_closures(rt: HostRuntime) -> Result<(), Fail> {
+    let (registry, outer, _inner) = nested(rt.alloc())?;
+    let of_app: MetadataTest = Box::new(rt.alloc(), |metadata: &Metadata<'_>| -> bool {
+        metadata.target() == "app"
+    })?;
+    let mut filter = FilterFn::new(of_app);
+    let (passed, interest) = asked(&filter, &registry);
+    assert!(rt; passed && interest.is_always() && told(&mut filter, &registry, outer));
+    let of_others: MetadataTest = Box::new(rt.alloc(), |metadata: &Metadata<'_>| -> bool {
+        metadata.target() == "other"
+    })?;
+    let filter = filter_fn(of_others);
+    let (passed, interest) = asked(&filter, &registry);
+    assert!(rt; !passed && interest.is_never() && filter.max_level_hint().is_none());
+    Ok(())
+}
+
+#[test]
+fn surface_dynamic_closures(rt: HostRuntime) -> Result<(), Fail> {
+    let (registry, outer, _inner) = nested(rt.alloc())?;
+    let in_span: ContextTest = Box::new(
+        rt.alloc(),
+        |_metadata: &Metadata<'_>, context: &Context<'_>| -> bool {
+            context.lookup_current().is_some()
+        },
+    )?;
+    let mut filter = dynamic_filter_fn(in_span);
+    let (passed, interest) = asked(&filter, &registry);
+    assert!(rt; passed && interest.is_sometimes() && told(&mut filter, &registry, outer));
+    let outside: ContextTest = Box::new(
+        rt.alloc(),
+        |_metadata: &Metadata<'_>, context: &Context<'_>| -> bool {
+            context.lookup_current().is_none()
+        },
+    )?;
+    let sometimes: CallsiteTest = Box::new(rt.alloc(), |_metadata: &Metadata<'_>| -> Interest {
+        Interest::sometimes()
+    })?;
+    let filter = DynFilterFn::new(outside).with_callsite_filter(sometimes);
+    let (passed, interest) = asked(&filter, &registry);
+    assert!(rt; !passed && interest.is_sometimes() && filter.max_level_hint().is_none());
+    Ok(())
+}
