@@ -1,9 +1,9 @@
 -- What closures over metadata and a context may answer as filters.
 use Rattle.std.specs.Prelude.{◌≡◌, ◌<◌, ℕ, Bool, true, false, nat_lt, if◌then◌else◌, Option, Some, None, refl}
 use Rattle.std.specs.Borrow.{Bor}
-use Rattle.std.proofs.Common.{subst, sym, ap, ◌∙◌, arith, true≢false}
+use Rattle.std.proofs.Common.{subst, sym, ◌∙◌, arith}
 use Rattle.std.proofs.lemmas.Bool.Decides.{nat_tests}
-use Rattle.tracing_core.specs.InterestInner.TheVariants.{Never, Sometimes, Always}
+use Rattle.tracing_core.specs.InterestInner.TheVariants.{Never, Sometimes}
 use Rattle.tracing_core.specs.Interests.{PlainInterest}
 use Rattle.tracing_core.specs.Metadata.{plain_metadata}
 use Rattle.tracing_core.specs.PlainMetadata.{PlainMetadata}

@@ -1,8 +1,7 @@
 -- What closures may answer as filters.
-use Rattle.std.specs.Prelude.{◌≡◌, ◌<◌, ℕ, Bool, true, false, Option, Some, None, refl}
+use Rattle.std.specs.Prelude.{◌≡◌, ◌<◌, ℕ, Bool, true, false, Option, Some, None}
 use Rattle.std.specs.Borrow.{Bor}
-use Rattle.std.proofs.Common.{subst, sym, ap, ◌∙◌}
-use Rattle.tracing_core.specs.InterestInner.TheVariants.{Never, Sometimes, Always}
+use Rattle.std.proofs.Common.{subst, sym, ◌∙◌}
 use Rattle.tracing_core.specs.Interests.{PlainInterest}
 use Rattle.tracing_core.specs.Metadata.{plain_metadata}
 use Rattle.tracing_core.specs.PlainMetadata.{PlainMetadata}
@@ -10,8 +9,7 @@ use Rattle.tracing_core.specs.Steady.{HintFits, InterestFits}
 use Rattle.tracing_core.specs.declared.Metadata.{Metadata}
 use Rattle.span_registry_layers_layers.specs.Combined.{kept_by}
 use Rattle.span_registry_layers_layers.specs.Honesty.{Fair}
-use Rattle.span_registry_layers_layers.specs.Looks.{View, view}
-use Rattle.span_registry_layers_layers.specs.declared.context.Context.{Context}
+use Rattle.span_registry_layers_layers.specs.Looks.{View}
 
 -- the answer is determined by what the metadata says
 abbrev pub IsDetermined : (Bor Metadata → Bool → Type 0) → Type 0

@@ -1,5 +1,5 @@
 -- What it means that a filter keeps its word.
-use Rattle.std.specs.Prelude.{◌≡◌, ℕ, Bool, Option}
+use Rattle.std.specs.Prelude.{ℕ, Bool, Option}
 use Rattle.tracing_core.specs.Interests.{PlainInterest}
 use Rattle.tracing_core.specs.PlainMetadata.{PlainMetadata}
 use Rattle.tracing_core.specs.Steady.{HintFits, InterestFits}

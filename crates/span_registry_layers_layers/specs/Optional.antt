@@ -1,5 +1,5 @@
 -- A filter that may be absent: where it is, all passes.
-use Rattle.std.specs.Prelude.{◌≡◌, ℕ, Bool, true, Option, Some, None, MatchOption, refl}
+use Rattle.std.specs.Prelude.{◌≡◌, ℕ, Bool, true, Option, Some, None}
 use Rattle.std.proofs.Common.{sym, subst}
 use Rattle.tracing_core.specs.InterestInner.TheVariants.{Always}
 use Rattle.tracing_core.specs.Interests.{PlainInterest}

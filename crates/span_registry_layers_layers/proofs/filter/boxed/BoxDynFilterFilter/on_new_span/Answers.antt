@@ -1,7 +1,6 @@
-use Rattle.std.proofs.Common.{◌≡◌, subst, ap, ◌∙◌}
-use Rattle.tracing_core.specs.Metadata.{plain_metadata}
-use Rattle.tracing_core.specs.PlainRequests.{plain_attributes, plain_event, plain_record}
-use Rattle.span_registry_layers_layers.specs.Looks.{Closed, Entered, Exited, Recorded, SpanMade, view}
+use Rattle.std.proofs.Common.{ap, ◌∙◌}
+use Rattle.tracing_core.specs.PlainRequests.{plain_attributes}
+use Rattle.span_registry_layers_layers.specs.Looks.{SpanMade, view}
 use Rattle.span_registry_layers_layers.proofs.filter.boxed.BoxDynFilterFilter.on_new_span.Goals as goal
 
 pub returns : goal.returns
