@@ -11,3 +11,4 @@ pub mod Dynamic
 pub mod Layereds
 pub mod Identities
 pub mod Absent
+pub mod Several

@@ -17,6 +17,7 @@ mod identity;
 mod layered;
 mod level;
 mod optional;
+mod several;
 
 use crate::context::Context;
 pub use ext::LayerExt;

@@ -268,7 +268,7 @@ fn both_hints(a: Option<LevelFilter>, b: Option<LevelFilter>) -> Option<LevelFil
 }
 
 // Always where one always passes, never where both never pass.
-fn either_interest(a: Interest, b: Interest) -> Interest
+pub(crate) fn either_interest(a: Interest, b: Interest) -> Interest
     ensures { result ≡ either_interest a b }
 {
     if a.is_always() || b.is_always() {
@@ -281,7 +281,7 @@ fn either_interest(a: Interest, b: Interest) -> Interest
 }
 
 // Known where both are, the higher of two.
-fn either_hint(a: Option<LevelFilter>, b: Option<LevelFilter>) -> Option<LevelFilter>
+pub(crate) fn either_hint(a: Option<LevelFilter>, b: Option<LevelFilter>) -> Option<LevelFilter>
     ensures { result ≡ either_hint a b }
 {
     match (a, b) {

@@ -1,0 +1,176 @@
+-- Several layers as one: each is told, and where one refuses, nobody is.
+use Rattle.std.specs.Prelude.{◌≡◌, ◌<◌, ◌≤◌, ℕ, Bool, true, List, [], ◌∷◌, Option, Some, None, refl}
+use Rattle.std.proofs.Common.{sym, ap, subst, ◌∙◌, arith, true≢false}
+use Rattle.tracing_core.specs.InterestInner.TheVariants.{Never, Sometimes, Always}
+use Rattle.tracing_core.specs.Interests.{PlainInterest}
+use Rattle.tracing_core.specs.PlainMetadata.{PlainMetadata}
+use Rattle.tracing_core.specs.PlainRequests.{PlainEvent}
+use Rattle.tracing_core.specs.Steady.{HintFits, InterestFits, SameWord}
+use Rattle.span_registry_layers_store.specs.Registries.{RegistryValue}
+use Rattle.span_registry_layers_layers.specs.Combined.{Both, either_hint, either_interest, then_passed}
+use Rattle.span_registry_layers_layers.specs.Honesty.{Fair}
+use Rattle.span_registry_layers_layers.specs.Looks.{View}
+use Rattle.span_registry_layers_layers.specs.Notices.{AddsFilters, Attached, Dispatched, Followed, Happened, Notice, Renamed, Spanned}
+use Rattle.span_registry_layers_layers.specs.declared.layer.Layer.{Ghosts}
+
+-- each becomes one that is so related to it
+abbrev pub EachBecomes : {A : Type 0} → (A → A → Type 0) → List A → List A → Type 0
+EachBecomes R [] [] = Unit {0}
+EachBecomes R [] (y ∷ ys) = ⊥
+EachBecomes R (x ∷ xs) [] = ⊥
+EachBecomes R (x ∷ xs) (y ∷ ys) = R x y × EachBecomes R xs ys
+
+-- an interest of a request that passes: where it is wanted by one, it isn't never
+fits_more : (i j : PlainInterest) → InterestFits i true → InterestFits (either_interest i j) true
+fits_more Never j a = absurd (true≢false a)
+fits_more Sometimes Never a = tt
+fits_more Sometimes Sometimes a = tt
+fits_more Sometimes Always a = refl
+fits_more Always j a = refl
+
+-- a hint that the level isn't above
+abbrev Covers : Option ℕ → ℕ → Type 0
+Covers None level = Unit {0}
+Covers (Some top) level = level ≤ top
+
+covers_more : (h i : Option ℕ) (level : ℕ) → Covers h level → Covers (either_hint h i) level
+covers_more None i level a = tt
+covers_more (Some x) None level a = tt
+covers_more (Some x) (Some y) level a = omega (arith, a)
+
+covers_first : (h : Option ℕ) (level : ℕ) (b : Bool) → b ≡ true → HintFits h level b → Covers (either_hint (Some 0) h) level
+covers_first None level b e a = tt
+covers_first (Some x) level b e a = let not_above : x < level → ⊥ = λ lt. true≢false (sym e ∙ a lt) in omega (arith, not_above)
+
+covers_fits : (h : Option ℕ) (level : ℕ) (b : Bool) → Covers h level → HintFits h level b
+covers_fits None level b a = tt
+covers_fits (Some x) level b a = λ lt. absurd (omega (arith, lt, a))
+
+module _ {L : Type 0} (g : Ghosts L) where
+  -- asked in turn, until one refuses
+  abbrev pub AllAnswer : List L → PlainMetadata → View → Bool → Type 0
+  AllAnswer [] m v b = b ≡ true
+  AllAnswer (x ∷ xs) m v b = Both (g.answers x m v) (AllAnswer xs m v) b
+
+  abbrev pub AllAnswerEvents : List L → PlainEvent → View → Bool → Type 0
+  AllAnswerEvents [] e v b = b ≡ true
+  AllAnswerEvents (x ∷ xs) e v b = Both (g.event_answers x e v) (AllAnswerEvents xs e v) b
+
+  -- always where one says so, never where all do, over what was said before
+  abbrev pub SaysFrom : PlainInterest → List L → PlainMetadata → PlainInterest → Type 0
+  SaysFrom i [] m k = k ≡ i
+  SaysFrom i (x ∷ xs) m k = (j : PlainInterest) × g.says x m j × SaysFrom (either_interest i j) xs m k
+
+  -- known where all are, the highest, over what was known before
+  abbrev pub hint_from : Option ℕ → List L → Option ℕ
+  hint_from h [] = h
+  hint_from h (x ∷ xs) = hint_from (either_hint h (g.hint x)) xs
+
+  -- each is attached in turn, and may have the registry number some filters
+  abbrev pub AttachedEach : RegistryValue → List L → List L → RegistryValue → Type 0
+  AttachedEach x [] [] z = z ≡ x
+  AttachedEach x [] (m ∷ ms) z = ⊥
+  AttachedEach x (l ∷ ls) [] z = ⊥
+  AttachedEach x (l ∷ ls) (m ∷ ms) z = (y : RegistryValue) × AddsFilters x y × g.told l (Attached x) m × AttachedEach y ls ms z
+
+  abbrev pub EachTold : Notice → List L → List L → Type 0
+  EachTold n = EachBecomes (λ x y. g.told x n y)
+
+  -- each is told the same, and they are attached to the registry in turn
+  abbrev pub ToldEach : List L → Notice → List L → Type 0
+  ToldEach xs (Spanned hook) ys = EachTold (Spanned hook) xs ys
+  ToldEach xs (Followed span follows v) ys = EachTold (Followed span follows v) xs ys
+  ToldEach xs (Happened e v) ys = EachTold (Happened e v) xs ys
+  ToldEach xs (Renamed old new v) ys = EachTold (Renamed old new v) xs ys
+  ToldEach xs (Dispatched handle) ys = EachTold (Dispatched handle) xs ys
+  ToldEach xs (Attached x) ys = (z : RegistryValue) × AttachedEach x xs ys z
+
+  -- each keeps its word, and always wants all
+  abbrev pub EachWants : List L → Type 0
+  EachWants [] = Unit {0}
+  EachWants (x ∷ xs) = g.honest x × ((m : PlainMetadata) → g.says x m Always) × EachWants xs
+
+  -- there is one, and each wants all: an empty list says that nothing passes, and lets all pass
+  abbrev pub IsHonest : List L → Type 0
+  IsHonest [] = ⊥
+  IsHonest (x ∷ xs) = EachWants (x ∷ xs)
+
+  one_passes : (x : L) (m : PlainMetadata) (v : View) (b : Bool) → g.honest x → ((m : PlainMetadata) → g.says x m Always) → g.answers x m v b → b ≡ true
+  one_passes x m v b honest wants a = (g.fair x honest).interest m v b Always a (wants m)
+
+  all_pass : (xs : List L) (m : PlainMetadata) (v : View) (b : Bool) → EachWants xs → AllAnswer xs m v b → b ≡ true
+  all_pass [] m v b each a = a
+  all_pass (x ∷ xs) m v b each a = all_pass xs m v b each.2 (then_passed (AllAnswer xs m v) a.0 b a.2 (one_passes x m v a.0 each.0 each.1 a.1))
+
+  fits_from : (i : PlainInterest) (xs : List L) (m : PlainMetadata) (k : PlainInterest) → InterestFits i true → SaysFrom i xs m k → InterestFits k true
+  fits_from i [] m k a s = subst (λ z. InterestFits z true) (sym s) a
+  fits_from i (x ∷ xs) m k a s = fits_from (either_interest i s.0) xs m k (fits_more i s.0 a) s.2
+
+  covers_from : (h : Option ℕ) (xs : List L) (level : ℕ) → Covers h level → Covers (hint_from h xs) level
+  covers_from h [] level a = a
+  covers_from h (x ∷ xs) level a = covers_from (either_hint h (g.hint x)) xs level (covers_more h (g.hint x) level a)
+
+  pub several_fair : (xs : List L) → IsHonest xs → Fair (AllAnswer xs) (SaysFrom Never xs) (hint_from (Some 0) xs)
+  several_fair [] k = absurd k
+  several_fair (x ∷ xs) k = record {
+    interest = λ m v b i a s.
+        let first : a.0 ≡ true = one_passes x m v a.0 k.0 k.1 a.1 in
+        let said : InterestFits s.0 true = subst (λ z. InterestFits s.0 z) first ((g.fair x k.0).interest m v a.0 s.0 a.1 s.1) in
+        subst (λ z. InterestFits i z) (sym (all_pass (x ∷ xs) m v b k a)) (fits_from s.0 xs m i said s.2);
+    below = λ m v b a.
+        let first : a.0 ≡ true = one_passes x m v a.0 k.0 k.1 a.1 in
+        covers_fits (hint_from (Some 0) (x ∷ xs)) m.level b (covers_from (either_hint (Some 0) (g.hint x)) xs m.level (covers_first (g.hint x) m.level a.0 first ((g.fair x k.0).below m v a.0 a.1)));
+  }
+
+  -- the word of two lists is the same, whatever was said before
+  abbrev SameFrom : List L → List L → Type 0
+  SameFrom xs ys = (i : PlainInterest) (h : Option ℕ) → SameWord (SaysFrom i xs) (SaysFrom i ys) (hint_from h xs) (hint_from h ys)
+
+  same_none : SameFrom [] []
+  same_none i h = record { onward = λ m k s. s; back = λ m k s. s; same_hint = refl }
+
+  same_more : (x y : L) (xs ys : List L) → SameWord (g.says x) (g.says y) (g.hint x) (g.hint y) → SameFrom xs ys → SameFrom (x ∷ xs) (y ∷ ys)
+  same_more x y xs ys w later i h = record {
+    onward = λ m k s. (s.0, w.onward m s.0 s.1, (later (either_interest i s.0) h).onward m k s.2);
+    back = λ m k s. (s.0, w.back m s.0 s.1, (later (either_interest i s.0) h).back m k s.2);
+    same_hint = (later i (either_hint h (g.hint y))).same_hint ∙ ap (λ j. hint_from (either_hint h j) xs) w.same_hint;
+  }
+
+  wants_still : (x y : L) → SameWord (g.says x) (g.says y) (g.hint x) (g.hint y) → ((m : PlainMetadata) → g.says x m Always) → (m : PlainMetadata) → g.says y m Always
+  wants_still x y w wants m = w.onward m Always (wants m)
+
+  told_stays : (n : Notice) (xs ys : List L) → EachTold n xs ys → EachWants xs → EachWants ys × SameFrom xs ys
+  told_stays n [] [] t k = (tt, same_none)
+  told_stays n [] (y ∷ ys) t k = absurd t
+  told_stays n (x ∷ xs) [] t k = absurd t
+  told_stays n (x ∷ xs) (y ∷ ys) t k =
+      let first = g.stays x n y t.0 k.0 in
+      let later = told_stays n xs ys t.1 k.2 in
+      ((first.0, wants_still x y first.1 k.1, later.0), same_more x y xs ys first.1 later.1)
+
+  attached_stays : (r z : RegistryValue) (xs ys : List L) → AttachedEach r xs ys z → EachWants xs → EachWants ys × SameFrom xs ys
+  attached_stays r z [] [] t k = (tt, same_none)
+  attached_stays r z [] (y ∷ ys) t k = absurd t
+  attached_stays r z (x ∷ xs) [] t k = absurd t
+  attached_stays r z (x ∷ xs) (y ∷ ys) t k =
+      let first = g.stays x (Attached r) y t.2 k.0 in
+      let later = attached_stays t.0 z xs ys t.3 k.2 in
+      ((first.0, wants_still x y first.1 k.1, later.0), same_more x y xs ys first.1 later.1)
+
+  honest_told : (n : Notice) (xs ys : List L) → EachTold n xs ys → IsHonest xs → IsHonest ys × SameWord (SaysFrom Never xs) (SaysFrom Never ys) (hint_from (Some 0) xs) (hint_from (Some 0) ys)
+  honest_told n [] ys t k = absurd k
+  honest_told n (x ∷ xs) [] t k = absurd t
+  honest_told n (x ∷ xs) (y ∷ ys) t k = let all = told_stays n (x ∷ xs) (y ∷ ys) t k in (all.0, all.1 Never (Some 0))
+
+  honest_attached : (r z : RegistryValue) (xs ys : List L) → AttachedEach r xs ys z → IsHonest xs → IsHonest ys × SameWord (SaysFrom Never xs) (SaysFrom Never ys) (hint_from (Some 0) xs) (hint_from (Some 0) ys)
+  honest_attached r z [] ys t k = absurd k
+  honest_attached r z (x ∷ xs) [] t k = absurd t
+  honest_attached r z (x ∷ xs) (y ∷ ys) t k = let all = attached_stays r z (x ∷ xs) (y ∷ ys) t k in (all.0, all.1 Never (Some 0))
+
+  pub several_stay : (xs : List L) (n : Notice) (ys : List L) → ToldEach xs n ys → IsHonest xs → IsHonest ys × SameWord (SaysFrom Never xs) (SaysFrom Never ys) (hint_from (Some 0) xs) (hint_from (Some 0) ys)
+  several_stay xs (Spanned hook) ys t = honest_told (Spanned hook) xs ys t
+  several_stay xs (Followed span follows v) ys t = honest_told (Followed span follows v) xs ys t
+  several_stay xs (Happened e v) ys t = honest_told (Happened e v) xs ys t
+  several_stay xs (Renamed old new v) ys t = honest_told (Renamed old new v) xs ys t
+  several_stay xs (Dispatched handle) ys t = honest_told (Dispatched handle) xs ys t
+  several_stay xs (Attached x) ys t = honest_attached x t.0 xs ys t.1

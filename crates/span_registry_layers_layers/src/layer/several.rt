@@ -1,0 +1,240 @@
+//! Several layers as one.
+ghost use Rattle.std.specs.Prelude.{◌≡◌};
+ghost use Rattle.tracing_core.specs.Metadata.{plain_metadata};
+ghost use Rattle.tracing_core.specs.PlainRequests.{plain_attributes, plain_event, plain_record};
+ghost use Rattle.tracing_core.specs.InterestInner.TheVariants.{Never};
+ghost use Rattle.span_registry_layers_layers.specs.Looks.{Closed, Entered, Exited, Recorded, SpanMade, view};
+ghost use Rattle.span_registry_layers_layers.specs.Notices.{AddsFilters, Attached, Dispatched, Followed, Happened, Renamed, Spanned};
+ghost use Rattle.span_registry_layers_layers.specs.Several.{AllAnswer, AllAnswerEvents, EachTold, SaysFrom, ToldEach, hint_from};
+ghost use Rattle.std.specs.Prelude.{Some};
+
+use crate::context::Context;
+use crate::filter::{either_hint, either_interest};
+use crate::layer::Layer;
+use span_registry_layers_store::Registry;
+use tracing_core::{Attributes, Event, Id, Interest, LevelFilter, Metadata, Record, WeakDispatch};
+
+/// Each layer is told, and where one refuses, nobody is. They keep their word where there is one, and each of them
+/// keeps its own and always wants all.
+impl<L: Layer> Layer for Vec<L> {
+    ghost use Rattle.tracing_core.specs.InterestInner.TheVariants.{Never};
+    ghost use Rattle.std.specs.Prelude.{Some};
+    ghost use Rattle.span_registry_layers_layers.specs.Several as several;
+
+    ghost answers = { λ v. several.AllAnswer ⟦<L as Layer>⟧ v.items };
+
+    ghost event_answers = { λ v. several.AllAnswerEvents ⟦<L as Layer>⟧ v.items };
+
+    ghost says = { λ v. several.SaysFrom ⟦<L as Layer>⟧ Never v.items };
+
+    ghost hint = { λ v. several.hint_from ⟦<L as Layer>⟧ (Some 0) v.items };
+
+    ghost told = { λ v n w. several.ToldEach ⟦<L as Layer>⟧ v.items n w.items };
+
+    ghost honest = { λ v. several.IsHonest ⟦<L as Layer>⟧ v.items };
+
+    ghost fair = { λ v k. several.several_fair ⟦<L as Layer>⟧ v.items k };
+
+    ghost stays = { λ v n w t k. several.several_stay ⟦<L as Layer>⟧ v.items n w.items t k };
+
+    fn on_register_dispatch(&mut self, dispatch: &WeakDispatch) {
+        tell_dispatch(self.as_mut_slice(), dispatch);
+    }
+
+    fn on_layer(&mut self, registry: &mut Registry) {
+        attach(self.as_mut_slice(), registry);
+    }
+
+    fn register_callsite(&self, metadata: &Metadata<'_>) -> Interest {
+        joined_interest(self.as_slice(), metadata)
+    }
+
+    fn enabled(&self, metadata: &Metadata<'_>, context: &Context<'_>) -> bool {
+        all_enabled(self.as_slice(), metadata, context)
+    }
+
+    fn on_new_span(
+        &mut self,
+        attributes: &Attributes<'_, '_>,
+        span: &Id,
+        context: &mut Context<'_>,
+    ) {
+        tell_new_span(self.as_mut_slice(), attributes, span, context);
+    }
+
+    fn max_level_hint(&self) -> Option<LevelFilter> {
+        joined_hint(self.as_slice())
+    }
+
+    fn on_record(&mut self, span: &Id, values: &Record<'_>, context: &mut Context<'_>) {
+        tell_record(self.as_mut_slice(), span, values, context);
+    }
+
+    fn on_follows_from(&mut self, span: &Id, follows: &Id, context: &mut Context<'_>) {
+        tell_follows(self.as_mut_slice(), span, follows, context);
+    }
+
+    fn event_enabled(&self, event: &Event<'_, '_>, context: &Context<'_>) -> bool {
+        all_event_enabled(self.as_slice(), event, context)
+    }
+
+    fn on_event(&mut self, event: &Event<'_, '_>, context: &mut Context<'_>) {
+        tell_event(self.as_mut_slice(), event, context);
+    }
+
+    fn on_enter(&mut self, span: &Id, context: &mut Context<'_>) {
+        tell_enter(self.as_mut_slice(), span, context);
+    }
+
+    fn on_exit(&mut self, span: &Id, context: &mut Context<'_>) {
+        tell_exit(self.as_mut_slice(), span, context);
+    }
+
+    fn on_close(&mut self, span: &Id, context: &mut Context<'_>) {
+        tell_close(self.as_mut_slice(), span, context);
+    }
+
+    fn on_id_change(&mut self, old: &Id, new: &Id, context: &mut Context<'_>) {
+        tell_id_change(self.as_mut_slice(), old, new, context);
+    }
+}
+
+// Asks each in turn, until one refuses.
+fn all_enabled<L: Layer>(layers: &[L], metadata: &Metadata<'_>, context: &Context<'_>) -> bool
+    ensures { AllAnswer ⟦<L as Layer>⟧ layers.now (plain_metadata metadata.now) (view context.now) result }
+{
+    let mut rest = layers;
+    while let [layer, later @ ..] = rest {
+        if !layer.enabled(metadata, context) {
+            return false;
+        }
+        rest = later;
+    }
+    true
+}
+
+// Asks each of an event in turn, until one refuses.
+fn all_event_enabled<L: Layer>(layers: &[L], event: &Event<'_, '_>, context: &Context<'_>) -> bool
+    ensures { AllAnswerEvents ⟦<L as Layer>⟧ layers.now (plain_event event.now) (view context.now) result }
+{
+    let mut rest = layers;
+    while let [layer, later @ ..] = rest {
+        if !layer.event_enabled(event, context) {
+            return false;
+        }
+        rest = later;
+    }
+    true
+}
+
+// The highest interest, and never where there is no layer.
+fn joined_interest<L: Layer>(layers: &[L], metadata: &Metadata<'_>) -> Interest
+    ensures { SaysFrom ⟦<L as Layer>⟧ Never layers.now (plain_metadata metadata.now) result }
+{
+    let mut interest = Interest::never();
+    let mut rest = layers;
+    while let [layer, later @ ..] = rest {
+        interest = either_interest(interest, layer.register_callsite(metadata));
+        rest = later;
+    }
+    interest
+}
+
+// The highest hint, where all have one.
+fn joined_hint<L: Layer>(layers: &[L]) -> Option<LevelFilter>
+    ensures { result ≡ hint_from ⟦<L as Layer>⟧ (Some 0) layers.now }
+{
+    let mut hint = Some(LevelFilter::OFF);
+    let mut rest = layers;
+    while let [layer, later @ ..] = rest {
+        hint = either_hint(hint, layer.max_level_hint());
+        rest = later;
+    }
+    hint
+}
+
+fn tell_dispatch<L: Layer>(layers: &mut [L], dispatch: &WeakDispatch)
+    ensures { EachTold ⟦<L as Layer>⟧ (Dispatched dispatch.now) layers.old layers.new }
+{
+    for layer in layers.iter_mut() {
+        layer.on_register_dispatch(dispatch);
+    }
+}
+
+fn attach<L: Layer>(layers: &mut [L], registry: &mut Registry)
+    ensures each { ToldEach ⟦<L as Layer>⟧ layers.old (Attached registry.old) layers.new }
+    ensures filters { AddsFilters registry.old registry.new }
+{
+    for layer in layers.iter_mut() {
+        layer.on_layer(registry);
+    }
+}
+
+fn tell_new_span<L: Layer>(
+    layers: &mut [L],
+    attributes: &Attributes<'_, '_>,
+    span: &Id,
+    context: &Context<'_>,
+)
+    ensures { EachTold ⟦<L as Layer>⟧ (Spanned (SpanMade (plain_attributes attributes.now) span.now (view context.now))) layers.old layers.new }
+{
+    for layer in layers.iter_mut() {
+        layer.on_new_span(attributes, span, &mut context.again());
+    }
+}
+
+fn tell_record<L: Layer>(layers: &mut [L], span: &Id, values: &Record<'_>, context: &Context<'_>)
+    ensures { EachTold ⟦<L as Layer>⟧ (Spanned (Recorded span.now (plain_record values.now) (view context.now))) layers.old layers.new }
+{
+    for layer in layers.iter_mut() {
+        layer.on_record(span, values, &mut context.again());
+    }
+}
+
+fn tell_follows<L: Layer>(layers: &mut [L], span: &Id, follows: &Id, context: &Context<'_>)
+    ensures { EachTold ⟦<L as Layer>⟧ (Followed span.now follows.now (view context.now)) layers.old layers.new }
+{
+    for layer in layers.iter_mut() {
+        layer.on_follows_from(span, follows, &mut context.again());
+    }
+}
+
+fn tell_event<L: Layer>(layers: &mut [L], event: &Event<'_, '_>, context: &Context<'_>)
+    ensures { EachTold ⟦<L as Layer>⟧ (Happened (plain_event event.now) (view context.now)) layers.old layers.new }
+{
+    for layer in layers.iter_mut() {
+        layer.on_event(event, &mut context.again());
+    }
+}
+
+fn tell_enter<L: Layer>(layers: &mut [L], span: &Id, context: &Context<'_>)
+    ensures { EachTold ⟦<L as Layer>⟧ (Spanned (Entered span.now (view context.now))) layers.old layers.new }
+{
+    for layer in layers.iter_mut() {
+        layer.on_enter(span, &mut context.again());
+    }
+}
+
+fn tell_exit<L: Layer>(layers: &mut [L], span: &Id, context: &Context<'_>)
+    ensures { EachTold ⟦<L as Layer>⟧ (Spanned (Exited span.now (view context.now))) layers.old layers.new }
+{
+    for layer in layers.iter_mut() {
+        layer.on_exit(span, &mut context.again());
+    }
+}
+
+fn tell_close<L: Layer>(layers: &mut [L], span: &Id, context: &Context<'_>)
+    ensures { EachTold ⟦<L as Layer>⟧ (Spanned (Closed span.now (view context.now))) layers.old layers.new }
+{
+    for layer in layers.iter_mut() {
+        layer.on_close(span, &mut context.again());
+    }
+}
+
+fn tell_id_change<L: Layer>(layers: &mut [L], old: &Id, new: &Id, context: &Context<'_>)
+    ensures { EachTold ⟦<L as Layer>⟧ (Renamed old.now new.now (view context.now)) layers.old layers.new }
+{
+    for layer in layers.iter_mut() {
+        layer.on_id_change(old, new, &mut context.again());
+    }
+}
