@@ -105,7 +105,7 @@ impl Stage {
             suffix,
         } = line;
         self.folder = Some(folder);
-        let mut builder = Builder::new(Rotation::DAILY);
+        let mut builder = Builder::new().rotation(Rotation::DAILY);
         if let Some(text) = prefix {
             builder = builder.filename_prefix(text);
         }

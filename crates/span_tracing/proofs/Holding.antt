@@ -2,14 +2,16 @@
 use Rattle.std.proofs.Common.{◌≡◌, ℕ, ℤ, List, [], ◌∷◌, ◌++◌, true, Option, Some, None, Result, Ok, Err, IfOk, sym, ap, subst, ◌∙◌}
 use Rattle.std.specs.List.{AllByRecursion}
 use Rattle.std.specs.Option.{option_map}
-use Rattle.tracing_appender_rolling.specs.Moments.{is_moment, is_day}
-use Rattle.tracing_appender_rolling.specs.Names.{FileNames, names_of, file_name}
+use Rattle.tracing_appender_rolling.specs.declared.moment.Moment.{Moment}
+use Rattle.tracing_appender_rolling.specs.Moments.{is_moment}
+use Rattle.tracing_appender_rolling.specs.Names.{FileNames}
+use Rattle.tracing_appender_rolling.specs.Builders.{builder_names}
 use Rattle.tracing_appender_rolling.specs.Contents.{Contents, bytes_at}
-use Rattle.tracing_appender_rolling.specs.Sinks.{Handed, PlainSink, file_text, day_text}
+use Rattle.tracing_appender_rolling.specs.Sinks.{Handed, PlainSink, period_in, period_name, file_text, period_text}
 use Rattle.tracing_appender_rolling.specs.Appenders.{KeepsKnown}
 use Rattle.tracing_appender_rolling.specs.declared.appender.RollingFileAppender.{RollingFileAppender}
 use Rattle.tracing_appender_rolling.specs.declared.fault.FileNumber.{FileNumber}
-use Rattle.tracing_appender_rolling.proofs.ByDay.{by_day}
+use Rattle.tracing_appender_rolling.proofs.ByPeriod.{by_period}
 use Rattle.span_tracing_machine.specs.declared.call.Reply.{Reply}
 use Rattle.span_tracing_machine.specs.PlainData.{PlainStep}
 use Rattle.span_tracing_machine.specs.State.{Plain, PlainOutput, offered_in}
@@ -24,26 +26,26 @@ all_both [] ys f g = g
 all_both (x ∷ xs) ys f g = (f.0, all_both xs ys f.1 g)
 
 -- known contents hold the texts of their sink
-known_holds : (contents : Option Contents) (c : Contents) (names : FileNames) (boundary : ℤ) (current : FileNumber) (s : PlainSink) → contents ≡ Some c → KeepsKnown contents names boundary current s → (name : List ℕ) → bytes_at c.files name ≡ file_text s name
+known_holds : (contents : Option Contents) (c : Contents) (names : FileNames) (boundary : Option ℤ) (current : FileNumber) (s : PlainSink) → contents ≡ Some c → KeepsKnown contents names boundary current s → (name : List ℕ) → bytes_at c.files name ≡ file_text s name
 known_holds contents c names boundary current s is keeps =
     (subst (λ (x : Option Contents). KeepsKnown x names boundary current s) is keeps).files
 
 sink_holds : {D : Type 0} (contents : D → Option Contents) (sink : Option (RollingFileAppender D)) (s : PlainSink) (c : Contents) → AgreesOption contents sink (Some s) → folder_of contents sink ≡ Some c → (name : List ℕ) → bytes_at c.files name ≡ file_text s name
 sink_holds contents None s c agrees is = absurd agrees
-sink_holds contents (Some a) s c agrees is = known_holds (contents a.folder) c (names_of a.prefix a.suffix) a.boundary a.current s is agrees
+sink_holds contents (Some a) s c agrees is = known_holds (contents a.folder) c (builder_names a.builder) a.boundary a.current s is agrees
 
--- what a sink holds by day
-day_holds : {D : Type 0} (contents : D → Option Contents) (sink : Option (RollingFileAppender D)) (s : PlainSink) (c : Contents) (day : ℤ) → AgreesOption contents sink (Some s) → folder_of contents sink ≡ Some c → IsInRange s → is_day day ≡ true → bytes_at c.files (file_name s.names day) ≡ day_text s day (s.found (file_name s.names day))
-day_holds contents sink s c day agrees is fits real = sink_holds contents sink s c agrees is (file_name s.names day) ∙ by_day s day real fits.0 fits.1
+-- what a sink holds by period
+period_holds : {D : Type 0} (contents : D → Option Contents) (sink : Option (RollingFileAppender D)) (s : PlainSink) (c : Contents) (m : Moment) → AgreesOption contents sink (Some s) → folder_of contents sink ≡ Some c → IsInRange s → is_moment m ≡ true → bytes_at c.files (period_name s (period_in s m)) ≡ period_text s (period_in s m) (s.found (period_name s (period_in s m)))
+period_holds contents sink s c m agrees is fits real = sink_holds contents sink s c agrees is (period_name s (period_in s m)) ∙ by_period s m real fits.0 fits.1
 
 pub holds : {D : Type 0} (contents : D → Option Contents) (old new : Trace D) (replies : List Reply) (steps : List PlainStep) → FollowsRun contents old new replies steps → NothingStarved old new → HoldsOffered contents old new steps
-holds contents old new replies steps run starved p o c day agrees files is fits known real =
+holds contents old new replies steps run starved p o c m agrees files is fits known real =
     let count = sym (run.agreed p agrees).2 ∙ starved.1 in
     let whole = none_missed_in_run p steps run.fates old.state.starved starved.0 count in
     let output = ap (λ (q : Plain). q.output) whole ∙ run_hands p o steps is in
     let sinks : AgreesOption contents new.sink (Some (more_lines (offered_in p steps) o.sink)) =
     subst (λ (x : Option PlainOutput). AgreesOption contents new.sink (option_map (λ (y : PlainOutput). y.sink) x)) output (run.files p agrees files) in
-    day_holds contents new.sink (more_lines (offered_in p steps) o.sink) c day sinks known (fits.0, all_both o.sink.handed (offered_in p steps) fits.1 (offers_in_range p steps)) real
+    period_holds contents new.sink (more_lines (offered_in p steps) o.sink) c m sinks known (fits.0, all_both o.sink.handed (offered_in p steps) fits.1 (offers_in_range p steps)) real
 
 -- a fact of a result's value gives another
 pub ok_then : {X : Type 0} → {E : Type 0} (P Q : X → Type 0) → ((v : X) → P v → Q v) → (r : Result X E) → IfOk r P → IfOk r Q

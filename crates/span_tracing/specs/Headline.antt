@@ -1,10 +1,10 @@
 -- The headline: which bytes stand in which file.
-use Rattle.std.specs.Prelude.{◌≡◌, ◌<◌, ℤ, List, true, Option, Some, None}
+use Rattle.std.specs.Prelude.{◌≡◌, ◌<◌, List, true, Option, Some, None}
 use Rattle.std.specs.List.{AllByRecursion}
-use Rattle.tracing_appender_rolling.specs.Moments.{is_moment, is_day}
-use Rattle.tracing_appender_rolling.specs.Names.{file_name}
+use Rattle.tracing_appender_rolling.specs.declared.moment.Moment.{Moment}
+use Rattle.tracing_appender_rolling.specs.Moments.{is_moment}
 use Rattle.tracing_appender_rolling.specs.Contents.{Contents, bytes_at}
-use Rattle.tracing_appender_rolling.specs.Sinks.{Handed, PlainSink, day_text}
+use Rattle.tracing_appender_rolling.specs.Sinks.{Handed, PlainSink, period_in, period_name, period_text}
 use Rattle.tracing_appender_rolling.specs.declared.appender.RollingFileAppender.{RollingFileAppender}
 use Rattle.span_tracing_machine.specs.PlainData.{PlainStep}
 use Rattle.span_tracing_machine.specs.State.{Plain, PlainOutput, offered_in}
@@ -21,15 +21,16 @@ folder_of contents (Some a) = contents a.folder
 abbrev pub IsInRange : PlainSink → Type 0
 IsInRange s = (is_moment s.opened ≡ true) × AllByRecursion (λ (h : Handed). is_moment h.moment ≡ true) s.handed
 
--- Each day's file holds its bytes at opening and then, whole and in call order, exactly the lines that were handed over before and those that
--- the passed calls of these steps offer, each in the file of the day in which the greatest moment so far lay; and there is no such file where
--- there was none and no such moment lay in its day.
+-- The file of each moment's period holds its bytes at opening and then, whole and in call order, exactly the lines that were handed over before and
+-- those that the passed calls of these steps offer, each in the file of the period in which the greatest moment so far lay; and there is no such
+-- file where there was none and no such moment lay in its period. A period is as long as the output's rotation says.
 abbrev pub HoldsOffered : {D : Type 0} → (D → Option Contents) → Trace D → Trace D → List PlainStep → Type 0
 HoldsOffered contents old new steps =
-    (p : Plain) (o : PlainOutput) (c : Contents) (day : ℤ) →
+    (p : Plain) (o : PlainOutput) (c : Contents) (moment : Moment) →
     Agrees old.state p → AgreesFiles contents old p → p.output ≡ Some o → IsInRange o.sink →
-    folder_of contents new.sink ≡ Some c → is_day day ≡ true →
-    bytes_at c.files (file_name o.sink.names day) ≡ day_text (more_lines (offered_in p steps) o.sink) day (o.sink.found (file_name o.sink.names day))
+    folder_of contents new.sink ≡ Some c → is_moment moment ≡ true →
+    bytes_at c.files (period_name o.sink (period_in o.sink moment)) ≡
+    period_text (more_lines (offered_in p steps) o.sink) (period_in o.sink moment) (o.sink.found (period_name o.sink (period_in o.sink moment)))
 
 -- no text and no line of a run found no memory: the count stayed below the greatest one
 abbrev pub NothingStarved : {D : Type 0} → Trace D → Trace D → Type 0

@@ -157,7 +157,7 @@ impl TraceParts {
         ensures known { (c : Contents) → D.contents folder ≡ Some c → MayOpen (Some c) (builder_names builder) →
             IfErr result (λ back. (back.refusal ≡ Refusal.OutOfMemory) × HandsBack c (builder_names builder) (D.contents back.output.folder)) }
     {
-        match RollingFileAppender::build(self.alloc, builder, folder, moment) {
+        match RollingFileAppender::open(self.alloc, builder, folder, moment) {
             Ok(sink) => Ok(sink),
             Err(refused) => match self.take_stack() {
                 Some(stack) => Err(OutputBack {

@@ -3,6 +3,7 @@ use Rattle.std.specs.Prelude.{◌≡◌, ℕ, pos, negsuc, List, [], ◌∷◌, 
 use Rattle.std.specs.Option.{option_map}
 use Rattle.std.specs.Str.{bytes_eq}
 use Rattle.tracing_appender_rolling.specs.declared.moment.Moment.{Moment}
+use Rattle.tracing_appender_rolling.specs.PeriodKind.TheVariants.{Day}
 use Rattle.tracing_appender_rolling.specs.Sinks.{file_text}
 use Rattle.tracing_core.specs.PlainKind.{PlainKind}
 use Rattle.tracing_core.specs.PlainValue.{Unsigned, Text}
@@ -39,7 +40,7 @@ abbrev pub output_over : (List ℕ → Option (List ℕ)) → PlainOutput
 output_over found = record {
   filter = 3;
   time = Some (codes "fake time");
-  sink = record { names = record { prefix = Some (codes "my_prefix"); suffix = Some (codes "log") }; opened = at_ten; found = found; handed = [] };
+  sink = record { names = record { kind = Day; prefix = Some (codes "my_prefix"); suffix = Some (codes "log"); limit = None; latest = None }; opened = at_ten; found = found; handed = [] };
 }
 
 -- one stack, one lane, both callsites

@@ -8,3 +8,4 @@ pub mod Reading
 pub mod Stamping
 pub mod Naming
 pub mod Strips
+pub mod Asked

@@ -1,11 +1,11 @@
 -- Names, and that those of different periods differ.
-use Rattle.std.proofs.Common.{arith, ◌≡◌, ◌≢◌, ◌∙◌, sym, ap, refl, true, pos, negsuc, ◌+ℤ◌, ◌-ℤ◌, ◌*ℤ◌, ◌≤ℤ◌, ◌<◌, ◌*◌, ◌/◌, ℕ, ℤ, List, [], ◌∷◌, ◌++◌, Option, Some, None, append_assoc}
+use Rattle.std.proofs.Common.{arith, ◌≡◌, ◌≢◌, ◌∙◌, sym, ap, subst, refl, true, pos, negsuc, ◌+ℤ◌, ◌-ℤ◌, ◌*ℤ◌, ◌≤ℤ◌, ◌<◌, ◌*◌, ◌/◌, ℕ, ℤ, List, [], ◌∷◌, ◌++◌, Option, Some, None, append_assoc}
 use Rattle.std.proofs.lemmas.List.{append-nil, append_cancel_left, append_cancel_right}
 use Rattle.jiff_core.proofs.SignedLemmas.{signed_arith}
 use Rattle.tracing_appender_dates.specs.declared.period.PeriodKind.{PeriodKind}
 use Rattle.tracing_appender_dates.specs.declared.period.PeriodKind.TheVariants.{Minute, Hour, Day, Week, Whole}
 use Rattle.tracing_appender_dates.specs.Days.{is_date, is_second, day_at}
-use Rattle.tracing_appender_dates.specs.Periods.{period_of}
+use Rattle.tracing_appender_dates.specs.Periods.{period_of, first_second}
 use Rattle.tracing_appender_dates.specs.Stamps.{clock_at, told_part, stamp, stamped, named_second}
 use Rattle.tracing_appender_dates.specs.Names.{around, before_date, after_date, PeriodsDiffer}
 use Rattle.tracing_appender_dates.proofs.Range.{second_range, is_date_from}
@@ -93,6 +93,14 @@ starts_week s is =
       low = omega (arith, signed_arith, r.0);
       high = omega (arith, signed_arith, r.1);
     }
+
+-- the first second of a period is what its stamp tells
+pub first_told : (kind : PeriodKind) (s first : ℤ) → is_second s ≡ true → first_second kind (period_of kind s) ≡ Some first → (is_date (day_at first) ≡ true) × (stamped kind first ≡ first)
+first_told Minute s first is e = let same : named_second Minute s ≡ first = cc in subst (λ f. (is_date (day_at f) ≡ true) × (stamped Minute f ≡ f)) same (told_first Minute s (named_second Minute s) (starts_minute s is))
+first_told Hour s first is e = let same : named_second Hour s ≡ first = cc in subst (λ f. (is_date (day_at f) ≡ true) × (stamped Hour f ≡ f)) same (told_first Hour s (named_second Hour s) (starts_hour s is))
+first_told Day s first is e = let same : named_second Day s ≡ first = cc in subst (λ f. (is_date (day_at f) ≡ true) × (stamped Day f ≡ f)) same (told_first Day s (named_second Day s) (starts_day s is))
+first_told Week s first is e = let same : named_second Week s ≡ first = cc in subst (λ f. (is_date (day_at f) ≡ true) × (stamped Week f ≡ f)) same (told_first Week s (named_second Week s) (starts_week s is))
+first_told Whole s first is e = cc
 
 apart : (kind : PeriodKind) (prefix suffix : Option (List ℕ)) (s t a b : ℤ) → Starts kind s a → Starts kind t b → around prefix (stamp kind a) suffix ≡ around prefix (stamp kind b) suffix → a ≡ b
 apart kind prefix suffix s t a b at_s at_t e =

@@ -3,7 +3,7 @@ use Rattle.std.specs.Prelude.{◌≡◌, ℕ, ℤ, List, [], ◌∷◌, ◌++◌
 use Rattle.tracing_appender_dates.specs.declared.period.PeriodKind.{PeriodKind}
 use Rattle.tracing_appender_dates.specs.declared.period.PeriodKind.TheVariants.{Minute, Hour, Day, Week, Whole}
 use Rattle.tracing_appender_dates.specs.Days.{is_second}
-use Rattle.tracing_appender_dates.specs.Periods.{period_of}
+use Rattle.tracing_appender_dates.specs.Periods.{period_of, first_second}
 use Rattle.tracing_appender_dates.specs.Stamps.{stamp, named_second}
 
 abbrev pub before_date : Option (List ℕ) → List ℕ
@@ -35,6 +35,10 @@ name_at Hour prefix suffix s = around prefix (stamp Hour (named_second Hour s)) 
 name_at Day prefix suffix s = around prefix (stamp Day (named_second Day s)) suffix
 name_at Week prefix suffix s = around prefix (stamp Week (named_second Week s)) suffix
 name_at Whole prefix suffix s = lasting_name prefix (stamp Whole s) suffix
+
+-- the name has the date of the first second of a second's period
+abbrev pub HasName : PeriodKind → Option (List ℕ) → Option (List ℕ) → List ℕ → ℤ → Type 0
+HasName kind prefix suffix name s = (first : ℤ) × (first_second kind (period_of kind s) ≡ Some first) × (name ≡ around prefix (stamp kind first) suffix)
 
 -- different periods have different names
 abbrev pub PeriodsDiffer : Type 0

@@ -4,12 +4,14 @@
 mod date;
 mod laws;
 mod name;
+mod named;
 mod period;
 mod read;
 
 pub use date::{date_text, stamp_text};
 pub use laws::{dates_count_days, periods_differ, worked_dates, worked_names};
 pub use name::name_text;
+pub use named::second_named;
 pub use period::PeriodKind;
 pub use read::{read_name, read_stamp};
 

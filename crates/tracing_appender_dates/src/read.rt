@@ -50,7 +50,7 @@ pub fn read_name(
 }
 
 /// What stands behind a prefix and a point.
-fn without_prefix<'a>(prefix: &Option<String>, name: &'a [u8]) -> Option<&'a [u8]>
+pub(crate) fn without_prefix<'a>(prefix: &Option<String>, name: &'a [u8]) -> Option<&'a [u8]>
     ensures some { IfSome result (λ rest. name.now ≡ before_date (option_map string_bytes prefix.now) ++ rest.now) }
     ensures none { IfNone result ((rest : List ℕ) → name.now ≢ before_date (option_map string_bytes prefix.now) ++ rest) }
 {

@@ -1,22 +1,22 @@
--- Names of different days.
-use Rattle.std.proofs.Common.{arith, ◌≡◌, true, ℤ, ◌++◌}
-use Rattle.std.proofs.lemmas.List.{append_cancel_left, append_cancel_right}
-use Rattle.jiff_core.proofs.SignedLemmas.{signed_arith}
-use Rattle.tracing_appender_dates.specs.Days.{is_date}
-use Rattle.tracing_appender_dates.specs.Calendar.{date_text}
-use Rattle.tracing_appender_dates.proofs.Range.{is_date_from}
-use Rattle.tracing_appender_dates.proofs.Years.{texts_apart}
-use Rattle.tracing_appender_rolling.specs.Moments.{is_day}
-use Rattle.tracing_appender_rolling.specs.Names.{NamesDiffer, file_name, before_date, after_date}
-use Rattle.tracing_appender_rolling.proofs.DayFacts.{day_range}
+-- Names of different periods.
+use Rattle.std.proofs.Common.{◌≡◌, true, ℕ, ℤ, List, Option, refl}
+use Rattle.tracing_appender_dates.specs.declared.period.PeriodKind.{PeriodKind}
+use Rattle.tracing_appender_dates.specs.declared.period.PeriodKind.TheVariants.{Minute, Hour, Day, Week, Whole}
+use Rattle.tracing_appender_dates.specs.Days.{is_second}
+use Rattle.tracing_appender_dates.specs.Periods.{period_of, first_second}
+use Rattle.tracing_appender_dates.specs.Stamps.{stamp, or_itself}
+use Rattle.tracing_appender_dates.proofs.Naming.{differ}
+use Rattle.tracing_appender_rolling.specs.Names.{NamesDiffer, joined, file_name}
+use Rattle.tracing_appender_rolling.proofs.PeriodFacts.{moment_second}
 
--- the days of moments have dates
-pub dated : (day : ℤ) → is_day day ≡ true → is_date day ≡ true
-dated day is =
-    let r = day_range day is in
-    is_date_from day (omega (arith, signed_arith, r.0)) (omega (arith, signed_arith, r.1))
+apart_by_kind : (kind : PeriodKind) (prefix suffix : Option (List ℕ)) (opened s t : ℤ) → is_second s ≡ true → is_second t ≡ true → joined kind prefix (stamp kind (or_itself (first_second kind (period_of kind s)) opened)) suffix ≡ joined kind prefix (stamp kind (or_itself (first_second kind (period_of kind t)) opened)) suffix → period_of kind s ≡ period_of kind t
+apart_by_kind Minute prefix suffix opened s t is_s is_t e = differ Minute prefix suffix s t is_s is_t e
+apart_by_kind Hour prefix suffix opened s t is_s is_t e = differ Hour prefix suffix s t is_s is_t e
+apart_by_kind Day prefix suffix opened s t is_s is_t e = differ Day prefix suffix s t is_s is_t e
+apart_by_kind Week prefix suffix opened s t is_s is_t e = differ Week prefix suffix s t is_s is_t e
+apart_by_kind Whole prefix suffix opened s t is_s is_t e = refl
 
 pub names_apart : NamesDiffer
 unfolding file_name
-names_apart names d e is_d is_e same =
-    texts_apart d e (dated d is_d) (dated e is_e) (append_cancel_right (date_text d) (date_text e) (after_date names.suffix) (append_cancel_left (before_date names.prefix) (date_text d ++ after_date names.suffix) (date_text e ++ after_date names.suffix) same))
+names_apart names opened a b is_a is_b same =
+    apart_by_kind names.kind names.prefix names.suffix opened a.seconds b.seconds (moment_second a is_a) (moment_second b is_b) same

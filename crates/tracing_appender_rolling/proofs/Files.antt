@@ -7,9 +7,9 @@ use Rattle.std.proofs.lemmas.List.Folds.{list_any-append}
 use Rattle.std.proofs.lemmas.List.Elements.{filter-append}
 use Rattle.std.proofs.lemmas.List.Concat.{flat_map-append}
 use Rattle.tracing_appender_rolling.specs.declared.moment.Moment.{Moment}
-use Rattle.tracing_appender_rolling.specs.Moments.{day_of, latest_of}
+use Rattle.tracing_appender_rolling.specs.Moments.{latest_of, period_at}
 use Rattle.tracing_appender_rolling.specs.Names.{FileNames, file_name}
-use Rattle.tracing_appender_rolling.specs.Sinks.{PlainSink, Handed, Placed, placed, running_moment, with_handed, lies_in, file_text}
+use Rattle.tracing_appender_rolling.specs.Sinks.{PlainSink, Handed, Placed, placed, running_moment, with_handed, lies_in, period_in, period_name, file_text}
 use Rattle.tracing_appender_rolling.proofs.Content.{after_line}
 
 pub running_more : (seen : Moment) (hs : List Handed) (h : Handed) → running_moment seen (hs ++ h ∷ []) ≡ latest_of (running_moment seen hs) h.moment
@@ -72,16 +72,16 @@ or_false false = refl
 
 -- the name of the file in which a moment's line lies
 abbrev pub name_at : PlainSink → Moment → List ℕ
-name_at s m = file_name s.names (day_of (latest_of (running_moment s.opened s.handed) m))
+name_at s m = period_name s (period_in s (latest_of (running_moment s.opened s.handed) m))
 
 pub file_more : (s : PlainSink) (h : Handed) (name : List ℕ) → file_text (with_handed s h) name ≡ after_line (bytes_eq (name_at s h.moment) name) (file_text s name) h.line
 unfolding file_text
 file_more s h name =
     let before = placed s.opened s.handed in
     let x = placed_at (running_moment s.opened s.handed) h in
-    let f : Placed → Bool = lies_in s.names name in
+    let f : Placed → Bool = lies_in s.names s.opened name in
     let mine = name_at s h.moment in
-    let start = bytes_eq (file_name s.names (day_of s.opened)) name in
+    let start = bytes_eq (period_name s (period_in s s.opened)) name in
     let more = placed_more s.opened s.handed h in
     let any = ap (list_any f) more ∙ list_any-append f before (x ∷ []) ∙ ap (λ b. list_any f before || b) (or_false (bytes_eq mine name)) in
     let kept = ap (λ (xs : List Placed). flat_map line_in (filter f xs)) more ∙ ap (flat_map line_in) (filter-append f before (x ∷ [])) ∙ flat_map-append line_in (filter f before) (filter f (x ∷ [])) in
@@ -91,9 +91,9 @@ file_more s h name =
     (λ e. ap (flat_map line_in) (filter_none f before e)) refl (extra_yes (bytes_eq mine name) x) (extra_no (bytes_eq mine name) x)
 
 -- a sink to which nothing was handed over
-pub file_fresh : (names : FileNames) (m : Moment) (found : List ℕ → Option (List ℕ)) (name : List ℕ) → file_text (record { names = names; opened = m; found = found; handed = [] }) name ≡ after_line (bytes_eq (file_name names (day_of m)) name) (found name) []
+pub file_fresh : (names : FileNames) (m : Moment) (found : List ℕ → Option (List ℕ)) (name : List ℕ) → file_text (record { names = names; opened = m; found = found; handed = [] }) name ≡ after_line (bytes_eq (file_name names m.seconds (period_at names.kind m)) name) (found name) []
 unfolding file_text
-file_fresh names m found name = ap (λ b. after_line b (found name) []) (or_false (bytes_eq (file_name names (day_of m)) name))
+file_fresh names m found name = ap (λ b. after_line b (found name) []) (or_false (bytes_eq (file_name names m.seconds (period_at names.kind m)) name))
 
 after_both : (b : Bool) (text : Option (List ℕ)) (line : List ℕ) → after_line b (after_line b text []) line ≡ after_line b text line
 after_both true text line = ap (λ bs. Some (bs ++ line)) (append-nil (unwrap_or text []))

@@ -1,13 +1,14 @@
-pub mod DayFacts
+pub mod PeriodFacts
 pub mod Apart
 pub mod Content
 pub mod Files
 pub mod Openings
-pub mod ByDay
+pub mod ByPeriod
 pub mod Named
 pub mod Wrapped
 pub mod Listing
 pub mod Puts
-pub mod Joined
 pub mod Writing
+pub mod Removing
+pub mod Switching
 pub mod Keeping

@@ -1,52 +1,87 @@
 -- What a rolling file keeps of its sink.
-use Rattle.std.specs.Prelude.{◌≡◌, ℕ, ℤ, List, [], false, Option, Some, None, Ok}
+use Rattle.std.specs.Prelude.{◌≡◌, ℕ, ℤ, List, [], false, Option, Some, None, Ok, Err}
 use Rattle.tracing_appender_rolling.specs.declared.moment.Moment.{Moment}
 use Rattle.tracing_appender_rolling.specs.declared.fault.FileNumber.{FileNumber}
+use Rattle.tracing_appender_rolling.specs.declared.fault.FolderError.{FolderError}
+use Rattle.tracing_appender_rolling.specs.declared.fault.FolderError.TheVariants.{Fault, OutOfMemory}
+use Rattle.tracing_appender_rolling.specs.declared.fault.FolderFault.{FolderFault}
+use Rattle.tracing_appender_rolling.specs.declared.fault.InitContext.{InitContext}
+use Rattle.tracing_appender_rolling.specs.declared.faults.Faults.{Faults}
 use Rattle.tracing_appender_rolling.specs.declared.appender.RollingFileAppender.{RollingFileAppender}
-use Rattle.tracing_appender_rolling.specs.Moments.{day_of, end_of_day}
-use Rattle.tracing_appender_rolling.specs.Names.{FileNames, names_of, file_name}
-use Rattle.tracing_appender_rolling.specs.Contents.{Contents, Answer, IsSound, file_named, link_named, bytes_at}
-use Rattle.tracing_appender_rolling.specs.Looks.{Held, IsHeld}
-use Rattle.tracing_appender_rolling.specs.Sinks.{PlainSink, running_moment, file_text}
+use Rattle.tracing_appender_rolling.specs.Moments.{end_of, is_due}
+use Rattle.tracing_appender_rolling.specs.Names.{FileNames, file_name}
+use Rattle.tracing_appender_rolling.specs.Builders.{builder_names}
+use Rattle.tracing_appender_rolling.specs.Contents.{Contents, IsSound, file_named, link_named, bytes_at}
+use Rattle.tracing_appender_rolling.specs.Faults.{no_faults}
+use Rattle.tracing_appender_rolling.specs.Pruning.{Pruned}
+use Rattle.tracing_appender_rolling.specs.Tries.{failure}
+use Rattle.tracing_appender_rolling.specs.Looks.{Held, IsHeld, LookedTo, end_at, try_at}
+use Rattle.tracing_appender_rolling.specs.Sinks.{PlainSink, running_moment, period_in, period_name, file_text}
 
--- the day of the latest moment seen
-abbrev pub running_day : PlainSink → ℤ
-running_day s = day_of (running_moment s.opened s.handed)
+-- the period of the latest moment seen
+abbrev pub running_period : PlainSink → ℤ
+running_period s = period_in s (running_moment s.opened s.handed)
 
--- the folder refuses nothing, takes each write whole, and has no link under the name of a log file of the sink; the boundary is the end of the
--- running moment's day, the current file is that day's, and each file holds its text
-pub record Keeps (c : Contents) (names : FileNames) (boundary : ℤ) (current : FileNumber) (s : PlainSink) : Type 0 where
+-- no file goes and no link is made
+pub record KeepsAll (names : FileNames) : Type 0 where
+  pub unlimited : names.limit ≡ None
+  pub linkless : names.latest ≡ None
+
+-- the folder refuses nothing, takes each write whole, and has no link under the name of a log file of the sink, which keeps all of them; the boundary is the
+-- end of the running moment's period, the current file is that period's, and each file holds its text
+pub record Keeps (c : Contents) (names : FileNames) (boundary : Option ℤ) (current : FileNumber) (s : PlainSink) : Type 0 where
   pub names_same : names ≡ s.names
-  pub boundary_same : boundary ≡ end_of_day (running_day s)
+  pub all : KeepsAll s.names
+  pub boundary_same : boundary ≡ end_of s.names.kind (running_period s)
   pub sound : IsSound c
-  pub unlinked : (day : ℤ) → link_named (file_name s.names day) c.links ≡ false
-  pub current_same : file_named (file_name s.names (running_day s)) c.files ≡ Some current.index
+  pub unlinked : (period : ℤ) → link_named (period_name s period) c.links ≡ false
+  pub current_same : file_named (period_name s (running_period s)) c.files ≡ Some current.index
   pub files : (name : List ℕ) → bytes_at c.files name ≡ file_text s name
 
 -- nothing is said of a folder whose contents aren't known
-abbrev pub KeepsKnown : Option Contents → FileNames → ℤ → FileNumber → PlainSink → Type 0
+abbrev pub KeepsKnown : Option Contents → FileNames → Option ℤ → FileNumber → PlainSink → Type 0
 KeepsKnown None names boundary current s = Unit {0}
 KeepsKnown (Some c) names boundary current s = Keeps c names boundary current s
 
 abbrev pub AgreesSink : {D : Type 0} → (D → Option Contents) → RollingFileAppender D → PlainSink → Type 0
-AgreesSink contents a s = KeepsKnown (contents a.folder) (names_of a.prefix a.suffix) a.boundary a.current s
+AgreesSink contents a s = KeepsKnown (contents a.folder) (builder_names a.builder) a.boundary a.current s
 
 -- the appender stands for this one
 abbrev pub Holds : {D : Type 0} → (D → Option Contents) → RollingFileAppender D → Held → Type 0
 Holds contents a h = IsHeld (contents a.folder) a.boundary a.current a.faults h
 
--- the appender stands where an opening for that day left the folder
-abbrev pub IsOpened : {D : Type 0} → (D → Option Contents) → Answer FileNumber → ℤ → RollingFileAppender D → Type 0
-IsOpened contents answer day a = (answer.0 ≡ Ok a.current) × (contents a.folder ≡ Some answer.1) × (a.boundary ≡ end_of_day day)
+-- a look at that moment led there
+abbrev pub LooksAt : {D : Type 0} → (D → Option Contents) → FileNames → Moment → Held → RollingFileAppender D → Type 0
+LooksAt contents names m h a = LookedTo (is_due h.boundary m.seconds) names m h a.boundary a.current a.faults (contents a.folder)
 
--- the same files and links
-abbrev pub KeepsFiles : Contents → Option Contents → Type 0
-KeepsFiles c after = (d : Contents) × (after ≡ Some d) × (d.files ≡ c.files) × (d.links ≡ c.links)
+-- the appender stands where retention and the try at that moment left the folder
+pub record IsOpenedAt (names : FileNames) (m : Moment) (c : Contents) (current : FileNumber) (boundary : Option ℤ) (faults : Faults) (after : Option Contents) : Type 0 where
+  pub pruned : Contents
+  pub retention : Pruned names no_faults c faults pruned
+  pub answered : (try_at names m pruned).0 ≡ Ok current
+  pub left : after ≡ Some (try_at names m pruned).1
+  pub until : boundary ≡ end_at names m
 
--- a folder that a sink may be opened over: it refuses nothing, and no link stands under a name of a log file; nothing is asked of one whose contents aren't known
+abbrev pub IsOpened : {D : Type 0} → (D → Option Contents) → FileNames → Moment → Contents → RollingFileAppender D → Type 0
+IsOpened contents names m c a = IsOpenedAt names m c a.current a.boundary a.faults (contents a.folder)
+
+-- the try at that moment failed so, and left the folder so; of want of memory nothing more is said
+pub record FailedTry (names : FileNames) (m : Moment) (c : Contents) (context : InitContext) (fault : FolderFault) (after : Option Contents) : Type 0 where
+  pub counted : Faults
+  pub pruned : Contents
+  pub retention : Pruned names no_faults c counted pruned
+  pub answered : (try_at names m pruned).0 ≡ Err (failure context (Fault fault))
+  pub left : after ≡ Some (try_at names m pruned).1
+
+abbrev pub FailedAt : FileNames → Moment → Contents → InitContext → FolderError → Option Contents → Type 0
+FailedAt names m c context OutOfMemory after = Unit {0}
+FailedAt names m c context (Fault fault) after = FailedTry names m c context fault after
+
+-- a folder that a sink may be opened over: it refuses nothing, and no link stands under a name of a log file; the sink keeps all files; nothing is asked of a
+-- folder whose contents aren't known
 abbrev pub MayOpen : Option Contents → FileNames → Type 0
 MayOpen None names = Unit {0}
-MayOpen (Some c) names = IsSound c × ((day : ℤ) → link_named (file_name names day) c.links ≡ false)
+MayOpen (Some c) names = IsSound c × ((opened period : ℤ) → link_named (file_name names opened period) c.links ≡ false) × KeepsAll names
 
 -- the folder comes back: the same bytes under each name, and a sink may be opened over it again
 abbrev pub HandsBack : Contents → FileNames → Option Contents → Type 0

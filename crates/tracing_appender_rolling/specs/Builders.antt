@@ -1,6 +1,24 @@
--- The names that a builder gives.
+-- What a builder sets.
+use Rattle.std.specs.Prelude.{None, string_bytes}
+use Rattle.std.specs.Option.{option_map}
+use Rattle.tracing_appender_dates.specs.declared.period.PeriodKind.{PeriodKind}
+use Rattle.tracing_appender_dates.specs.declared.period.PeriodKind.TheVariants.{Whole}
+use Rattle.tracing_appender_rolling.specs.declared.rotation.Rotation.{Rotation}
 use Rattle.tracing_appender_rolling.specs.declared.builder.Builder.{Builder}
-use Rattle.tracing_appender_rolling.specs.Names.{FileNames, names_of}
+use Rattle.tracing_appender_rolling.specs.Names.{FileNames}
+
+abbrev pub kind_of : Rotation → PeriodKind
+kind_of r = r.0
 
 abbrev pub builder_names : Builder → FileNames
-builder_names b = names_of b.prefix b.suffix
+builder_names b = record {
+  kind = kind_of b.rotation;
+  prefix = option_map string_bytes b.prefix;
+  suffix = option_map string_bytes b.suffix;
+  limit = b.limit;
+  latest = option_map string_bytes b.latest;
+}
+
+-- one file for all of time, without prefix, suffix, limit and link
+abbrev pub plain_names : FileNames
+plain_names = record { kind = Whole; prefix = None; suffix = None; limit = None; latest = None }

@@ -1,4 +1,5 @@
 pub mod Moments
+pub use Rattle.tracing_appender_dates.specs.declared.period.PeriodKind
 pub use Rattle.tracing_appender_dates.specs.Calendar
 pub mod Names
 pub mod Builders
@@ -11,5 +12,8 @@ pub mod Sinks
 pub use Rattle.tracing_appender_dates.specs.Rows
 pub mod Faults
 pub mod Writes
+pub mod Tries
+pub mod Retention
+pub mod Pruning
 pub mod Looks
 pub mod Appenders

@@ -1,37 +1,79 @@
 -- A look at a moment, whatever the folder refuses.
-use Rattle.std.specs.Prelude.{◌≡◌, ℤ, int_le, if◌then◌else◌, Option, Some, Ok, Err}
+use Rattle.std.specs.Prelude.{◌≡◌, ℕ, ℤ, List, Bool, true, false, Option, Some, None, Result, Ok, Err}
 use Rattle.tracing_appender_rolling.specs.declared.moment.Moment.{Moment}
-use Rattle.tracing_appender_rolling.specs.declared.appender.Faults.{Faults}
+use Rattle.tracing_appender_rolling.specs.declared.faults.Faults.{Faults}
 use Rattle.tracing_appender_rolling.specs.declared.fault.FileNumber.{FileNumber}
+use Rattle.tracing_appender_rolling.specs.declared.fault.FolderError.{FolderError}
 use Rattle.tracing_appender_rolling.specs.declared.fault.FolderError.TheVariants.{Fault, OutOfMemory}
-use Rattle.tracing_appender_rolling.specs.Moments.{day_of, end_of_day}
+use Rattle.tracing_appender_rolling.specs.Moments.{period_at, end_of}
 use Rattle.tracing_appender_rolling.specs.Names.{FileNames, file_name}
-use Rattle.tracing_appender_rolling.specs.Contents.{Contents, Answer, opened, called}
+use Rattle.tracing_appender_rolling.specs.Contents.{Contents, called}
 use Rattle.tracing_appender_rolling.specs.Faults.{after_switch}
+use Rattle.tracing_appender_rolling.specs.Pruning.{Pruned}
+use Rattle.tracing_appender_rolling.specs.Tries.{Tried, opened_linked}
+use Rattle.tracing_appender_rolling.specs.Writes.{Left}
 
 -- an appender over a folder whose contents are known
 pub record Held : Type 0 where
-  pub boundary : ℤ
+  pub boundary : Option ℤ
   pub current : FileNumber
   pub faults : Faults
   pub contents : Contents
 
 -- what is kept stands for this one
-pub record IsHeld (known : Option Contents) (end : ℤ) (file : FileNumber) (lost : Faults) (h : Held) : Type 0 where
+pub record IsHeld (known : Option Contents) (end : Option ℤ) (file : FileNumber) (lost : Faults) (h : Held) : Type 0 where
   pub folder : known ≡ Some h.contents
   pub until : end ≡ h.boundary
   pub open_file : file ≡ h.current
   pub counts : lost ≡ h.faults
 
--- an opening that succeeded closes the old file, whatever that answers; one that failed keeps it and is counted
-abbrev pub tried : Held → Answer FileNumber → Held
-tried h (Ok file, c) = record h { current = file; contents = called c }
-tried h (Err (Fault fault), c) = record h { faults = after_switch h.faults fault; contents = c }
-tried h (Err OutOfMemory, c) = h
+-- the end of the moment's period
+abbrev pub end_at : FileNames → Moment → Option ℤ
+end_at names m = end_of names.kind (period_at names.kind m)
 
--- from the boundary on the moment's day is opened, and is the last that was tried
-abbrev pub looked : FileNames → Held → Moment → Held
-looked names h m =
-    if int_le h.boundary m.seconds
-    then tried (record h { boundary = end_of_day (day_of m) }) (opened h.contents (file_name names (day_of m)))
-    else h
+-- the name of the moment's file, where it is the first that is opened or there is more than one period
+abbrev pub name_at : FileNames → Moment → List ℕ
+name_at names m = file_name names m.seconds (period_at names.kind m)
+
+-- the try at the moment's period
+abbrev pub try_at : FileNames → Moment → Contents → Tried
+try_at names m c = opened_linked names.latest (name_at names m) c
+
+-- a try that failed is counted, and the old file stays
+abbrev pub failed_by : Held → Contents → FolderError → Held
+failed_by h c (Fault fault) = record h { faults = after_switch h.faults fault; contents = c }
+failed_by h c OutOfMemory = record h { contents = c }
+
+-- a try that succeeded closes the old file, whatever that answers
+abbrev pub tried : Held → Tried → Held
+tried h (Ok file, c) = record h { current = file; contents = called c }
+tried h (Err f, c) = failed_by h c f.error
+
+-- Retention leaves a count of faults and contents; then the moment's period is tried, and is the last one that was.
+pub record SwitchedTo (names : FileNames) (m : Moment) (h : Held) (boundary : Option ℤ) (current : FileNumber) (faults : Faults) (after : Option Contents) : Type 0 where
+  pub counted : Faults
+  pub pruned : Contents
+  pub retention : Pruned names h.faults h.contents counted pruned
+  pub held : IsHeld after boundary current faults (tried (record { boundary = end_at names m; current = h.current; faults = counted; contents = pruned }) (try_at names m pruned))
+
+-- from the boundary on the moment's period is tried, and before it nothing changes
+abbrev pub LookedTo : Bool → FileNames → Moment → Held → Option ℤ → FileNumber → Faults → Option Contents → Type 0
+LookedTo true names m h boundary current faults after = SwitchedTo names m h boundary current faults after
+LookedTo false names m h boundary current faults after = IsHeld after boundary current faults h
+
+-- what is left where some call found no memory: without a limit and a link files and links are as before
+abbrev pub Starved : Option ℕ → Option (List ℕ) → Contents → Option Contents → Type 0
+Starved None None c after = Left c c.files after
+Starved (Some limit) latest c after = (d : Contents) × (after ≡ Some d)
+Starved None (Some link) c after = (d : Contents) × (after ≡ Some d)
+
+-- the switch left the one or the other
+abbrev pub SwitchedKnown : {E : Type 0} → FileNames → Moment → Held → Result (Unit {0}) E → Option ℤ → FileNumber → Faults → Option Contents → Type 0
+SwitchedKnown names m h (Ok done) boundary current faults after = SwitchedTo names m h boundary current faults after
+SwitchedKnown names m h (Err e) boundary current faults after = Starved names.limit names.latest h.contents after
+
+-- contents that aren't known stay so
+abbrev pub Switches : {E : Type 0} → FileNames → Moment → Option ℤ → FileNumber → Faults → Option Contents → Result (Unit {0}) E → Option ℤ → FileNumber → Faults → Option Contents → Type 0
+Switches names m boundary current faults None result b f l after = after ≡ None
+Switches names m boundary current faults (Some c) result b f l after =
+    SwitchedKnown names m (record { boundary = boundary; current = current; faults = faults; contents = c }) result b f l after

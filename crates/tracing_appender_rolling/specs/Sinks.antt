@@ -3,8 +3,9 @@ use Rattle.std.specs.Prelude.{◌≡◌, ℕ, ℤ, List, [], ◌∷◌, ◌++◌
 use Rattle.std.specs.List.{filter, flat_map, list_any, AllByRecursion}
 use Rattle.std.specs.Ordering.{int_eq}
 use Rattle.std.specs.Str.{bytes_eq}
+use Rattle.tracing_appender_dates.specs.declared.period.PeriodKind.{PeriodKind}
 use Rattle.tracing_appender_rolling.specs.declared.moment.Moment.{Moment}
-use Rattle.tracing_appender_rolling.specs.Moments.{is_moment, is_day, latest_of, day_of}
+use Rattle.tracing_appender_rolling.specs.Moments.{is_moment, latest_of, period_at}
 use Rattle.tracing_appender_rolling.specs.Names.{FileNames, file_name}
 
 -- a handed line, with the moment at which it was handed over; a line that was looked at and then found no memory has no bytes
@@ -40,33 +41,41 @@ with_handed s h = record s { handed = s.handed ++ h ∷ [] }
 abbrev pub placed_lines : PlainSink → List Placed
 placed_lines s = placed s.opened s.handed
 
--- the running moment lies in a day whose file has this name
-abbrev pub lies_in : FileNames → List ℕ → Placed → Bool
-lies_in names name x = bytes_eq (file_name names (day_of x.running)) name
+-- the period of a moment
+abbrev pub period_in : PlainSink → Moment → ℤ
+period_in s m = period_at s.names.kind m
 
--- a file is opened for the day of the opening, and for each day in which a running moment lies
+-- the name of a period's file
+abbrev pub period_name : PlainSink → ℤ → List ℕ
+period_name s period = file_name s.names s.opened.seconds period
+
+-- the running moment lies in a period whose file has this name; the sink's names and the moment of its opening come first
+abbrev pub lies_in : FileNames → Moment → List ℕ → Placed → Bool
+lies_in names opened name x = bytes_eq (file_name names opened.seconds (period_at names.kind x.running)) name
+
+-- a file is opened for the period of the opening, and for each period in which a running moment lies
 abbrev pub was_opened : PlainSink → List ℕ → Bool
-was_opened s name = bytes_eq (file_name s.names (day_of s.opened)) name || list_any (lies_in s.names name) (placed_lines s)
+was_opened s name = bytes_eq (period_name s (period_in s s.opened)) name || list_any (lies_in s.names s.opened name) (placed_lines s)
 
--- a file that was opened holds what the opening found, and then, in order, the lines whose running moment lies in its day
+-- a file that was opened holds what the opening found, and then, in order, the lines whose running moment lies in its period
 unfoldable pub file_text : PlainSink → List ℕ → Option (List ℕ)
 file_text s name =
     if was_opened s name
-    then Some (unwrap_or (s.found name) [] ++ flat_map (λ (x : Placed). x.line) (filter (lies_in s.names name) (placed_lines s)))
+    then Some (unwrap_or (s.found name) [] ++ flat_map (λ (x : Placed). x.line) (filter (lies_in s.names s.opened name) (placed_lines s)))
     else s.found name
 
--- the same by day: what the opening found, and then the lines whose running moment lies in the day
-abbrev pub is_on : ℤ → Placed → Bool
-is_on day x = int_eq (day_of x.running) day
+-- the same by period: what the opening found, and then the lines whose running moment lies in the period
+abbrev pub is_in : PeriodKind → ℤ → Placed → Bool
+is_in kind period x = int_eq (period_at kind x.running) period
 
-abbrev pub day_text : PlainSink → ℤ → Option (List ℕ) → Option (List ℕ)
-day_text s day found =
-    if int_eq (day_of s.opened) day || list_any (is_on day) (placed_lines s)
-    then Some (unwrap_or found [] ++ flat_map (λ (x : Placed). x.line) (filter (is_on day) (placed_lines s)))
+abbrev pub period_text : PlainSink → ℤ → Option (List ℕ) → Option (List ℕ)
+period_text s period found =
+    if int_eq (period_in s s.opened) period || list_any (is_in s.names.kind period) (placed_lines s)
+    then Some (unwrap_or found [] ++ flat_map (λ (x : Placed). x.line) (filter (is_in s.names.kind period) (placed_lines s)))
     else found
 
--- each day's file holds what was found in it and then that day's lines, where all moments are in range
-abbrev pub FilesByDay : Type 0
-FilesByDay = (s : PlainSink) (day : ℤ) → is_day day ≡ true → is_moment s.opened ≡ true →
+-- the file of each moment's period holds what was found in it and then that period's lines, where all moments are in range
+abbrev pub FilesByPeriod : Type 0
+FilesByPeriod = (s : PlainSink) (m : Moment) → is_moment m ≡ true → is_moment s.opened ≡ true →
     AllByRecursion (λ (h : Handed). is_moment h.moment ≡ true) s.handed →
-    file_text s (file_name s.names day) ≡ day_text s day (s.found (file_name s.names day))
+    file_text s (period_name s (period_in s m)) ≡ period_text s (period_in s m) (s.found (period_name s (period_in s m)))

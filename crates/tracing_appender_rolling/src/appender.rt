@@ -1,195 +1,174 @@
-//! A file that changes by the day.
+//! A file that changes by the period.
 
-ghost use Rattle.std.specs.Prelude.{◌≡◌, ◌≤◌, List, [], Option, Some, IfOk, IfErr, OnOk, OnErr, Ok, true, false, int_le, length, drop};
-ghost use Rattle.tracing_appender_rolling.specs.Moments.{is_moment, day_of};
-ghost use Rattle.tracing_appender_rolling.specs.Contents.{Contents, opened};
-ghost use Rattle.tracing_appender_rolling.specs.Names.{names_of, file_name};
+ghost use Rattle.std.specs.Prelude.{◌≡◌, ◌≤◌, List, [], Option, Some, None, IfOk, IfErr, OnOk, OnErr, Ok, true, false, length, drop, string_bytes};
+ghost use Rattle.std.specs.Option.{option_map};
+ghost use Rattle.tracing_appender_rolling.specs.Moments.{is_moment, period_at, end_of, is_due};
+ghost use Rattle.tracing_appender_rolling.specs.Contents.{Contents};
+ghost use Rattle.tracing_appender_rolling.specs.Names.{file_name};
+ghost use Rattle.tracing_appender_rolling.specs.Builders.{builder_names};
 ghost use Rattle.tracing_appender_rolling.specs.Sinks.{PlainSink, with_handed};
+ghost use Rattle.tracing_appender_rolling.specs.Tries.{TriesFile};
 ghost use Rattle.tracing_appender_rolling.specs.Writes.{WritesAll};
 
 use crate::builder::Builder;
-use crate::date::{day_of, end_of_day};
-use crate::fault::{FileNumber, FolderError, FolderFault};
+use crate::fault::{FileNumber, FolderError, FolderFault, InitContext};
+use crate::faults::Faults;
 use crate::folder::Folder;
 use crate::moment::Moment;
-use crate::name::file_name;
+use crate::opening::open_linked;
+use crate::retention::prune;
 use std::alloc::{AllocError, Global};
-
-/// What was lost to a folder's faults. Each count stops at the greatest number.
-#[derive(Clone, Copy, Debug, PartialEq, Eq)]
-pub struct Faults {
-    /// Openings that failed; the old file stays in use.
-    pub switches: usize,
-    /// Lines whose write failed; the rest of such a line is lost.
-    pub writes: usize,
-    /// The last fault.
-    pub last: Option<FolderFault>,
-}
-
-impl Faults {
-    ghost use Rattle.tracing_appender_rolling.specs.Faults.{no_faults, after_switch, after_write};
-
-    fn none() -> Faults
-        ensures { result ≡ no_faults }
-    {
-        Faults {
-            switches: 0,
-            writes: 0,
-            last: None,
-        }
-    }
-
-    fn after_switch(self, fault: FolderFault) -> Faults
-        ensures { result ≡ after_switch self fault }
-    {
-        Faults {
-            switches: self.switches.saturating_add(1),
-            writes: self.writes,
-            last: Some(fault),
-        }
-    }
-
-    fn after_write(self, outcome: Result<(), FolderError>) -> Faults
-        ensures { result ≡ after_write self outcome }
-    {
-        match outcome {
-            Ok(()) | Err(FolderError::OutOfMemory) => self,
-            Err(FolderError::Fault(fault)) => Faults {
-                switches: self.switches,
-                writes: self.writes.saturating_add(1),
-                last: Some(fault),
-            },
-        }
-    }
-}
 
 /// Why a file could not be opened, with what was handed in: the folder as the calls until then left it.
 #[derive(Drop)]
-pub struct BuildRefusal<D> {
+pub struct OpenRefusal<D> {
+    pub context: InitContext,
     pub error: FolderError,
     pub builder: Builder,
     pub folder: D,
 }
 
-/// A log file over a folder, which changes when a moment passes the end of the file's day.
+/// A log file over a folder, which changes when a moment passes the end of the file's period.
 #[derive(Drop)]
 pub struct RollingFileAppender<D> {
     pub(crate) alloc: Global,
-    pub(crate) prefix: Option<String>,
-    pub(crate) suffix: Option<String>,
+    pub(crate) builder: Builder,
     pub(crate) folder: D,
-    /// The first second past the day of the last try to open a file.
-    pub(crate) boundary: i64,
+    /// The first second past the period of the last try to open a file.
+    pub(crate) boundary: Option<i64>,
     pub(crate) current: FileNumber,
     pub(crate) faults: Faults,
 }
 
 impl<D: Folder> RollingFileAppender<D> {
-    ghost use Rattle.tracing_appender_rolling.specs.Appenders.{AgreesSink, Holds, IsOpened, KeepsFiles, MayOpen, HandsBack, fresh_sink};
-    ghost use Rattle.tracing_appender_rolling.specs.Looks.{Held, looked};
-    ghost use Rattle.tracing_appender_rolling.specs.Builders.{builder_names};
+    ghost use Rattle.tracing_appender_rolling.specs.Appenders.{AgreesSink, Holds, LooksAt, IsOpened, FailedAt, MayOpen, HandsBack, fresh_sink};
+    ghost use Rattle.tracing_appender_rolling.specs.Looks.{Held, Switches};
     ghost use Rattle.tracing_appender_rolling.specs.Faults.{no_faults, after_write};
 
-    /// Opens the file of the moment's day.
+    /// Opens the file of the moment's period, after retention. Names are not looked at.
     ///
     /// # Errors
     ///
     /// The folder's fault, or `OutOfMemory`, with the builder and the folder.
-    pub fn build(
+    pub fn open(
         alloc: Global,
         builder: Builder,
         mut folder: D,
         moment: Moment,
-    ) -> Result<Self, BuildRefusal<D>>
+    ) -> Result<Self, OpenRefusal<D>>
         requires { is_moment moment ≡ true }
         ensures opens { MayOpen (D.contents folder) (builder_names builder) →
             IfOk result (λ appender. AgreesSink D.contents appender (fresh_sink (builder_names builder) moment (D.contents folder))) }
-        ensures faults { IfOk result (λ appender. appender.faults ≡ no_faults) }
-        ensures names { IfOk result (λ appender. names_of appender.prefix appender.suffix ≡ builder_names builder) }
+        ensures faults { (builder_names builder).limit ≡ None → IfOk result (λ appender. appender.faults ≡ no_faults) }
+        ensures names { IfOk result (λ appender. builder_names appender.builder ≡ builder_names builder) }
         // whatever the folder refuses
         ensures held { (c : Contents) → D.contents folder ≡ Some c →
-            IfOk result (λ appender. IsOpened D.contents (opened c (file_name (builder_names builder) (day_of moment))) (day_of moment) appender) }
-        ensures kept { (c : Contents) → D.contents folder ≡ Some c → IfErr result (λ refusal. KeepsFiles c (D.contents refusal.folder)) }
+            IfOk result (λ appender. IsOpened D.contents (builder_names builder) moment c appender) }
+        ensures failed { (c : Contents) → D.contents folder ≡ Some c →
+            IfErr result (λ refusal. FailedAt (builder_names builder) moment c refusal.context refusal.error (D.contents refusal.folder)) }
         // without a fault of the folder only want of memory is told
         ensures known { (c : Contents) → D.contents folder ≡ Some c → MayOpen (Some c) (builder_names builder) →
             IfErr result (λ refusal. (refusal.error ≡ FolderError.OutOfMemory) × HandsBack c (builder_names builder) (D.contents refusal.folder)) }
         ensures back { IfErr result (λ refusal. builder_names refusal.builder ≡ builder_names builder) }
     {
-        let day = day_of(moment);
-        let name = match file_name(alloc, &builder.prefix, &builder.suffix, day) {
-            Ok(name) => name,
-            Err(_) => {
-                return Err(BuildRefusal {
-                    error: FolderError::OutOfMemory,
-                    builder,
-                    folder,
-                });
-            }
+        let Ok(name) = builder.name_at(alloc, moment) else {
+            return Err(OpenRefusal {
+                context: InitContext::File,
+                error: FolderError::OutOfMemory,
+                builder,
+                folder,
+            });
         };
-        match folder.open_append(name.as_str()) {
+        let Ok(faults) = prune(alloc, &builder, &mut folder, Faults::none()) else {
+            return Err(OpenRefusal {
+                context: InitContext::File,
+                error: FolderError::OutOfMemory,
+                builder,
+                folder,
+            });
+        };
+        match open_linked(&mut folder, name.as_str(), &builder.latest) {
             Ok(current) => Ok(RollingFileAppender {
                 alloc,
-                prefix: builder.prefix,
-                suffix: builder.suffix,
+                boundary: builder.rotation.next_date(moment),
+                builder,
                 folder,
-                boundary: end_of_day(day),
                 current,
-                faults: Faults::none(),
+                faults,
             }),
-            Err(error) => Err(BuildRefusal {
-                error,
+            Err(failure) => Err(OpenRefusal {
+                context: failure.context,
+                error: failure.error,
                 builder,
                 folder,
             }),
         }
     }
 
-    /// Whether the file's day is over.
+    /// Whether the file's period is over.
     fn is_due(&self, moment: Moment) -> bool
-        ensures { result ≡ int_le self.now.boundary moment.seconds }
+        ensures { result ≡ is_due self.now.boundary moment.seconds }
     {
-        self.boundary <= moment.seconds
+        match self.boundary {
+            None => false,
+            Some(boundary) => boundary <= moment.seconds,
+        }
     }
 
-    /// Looks at a moment before a line is written: from the end of the file's day on, the file of the moment's day is opened.
-    /// A folder's fault keeps the old file until the moment's day ends, and is counted.
+    /// Looks at a moment before a line is written: from the end of the file's period on, retention runs and the file of the moment's
+    /// period is opened. A folder's fault keeps the old file until the moment's period ends, and is counted.
     ///
     /// # Errors
     ///
-    /// Want of memory; nothing is changed.
+    /// Want of memory; boundary, file and counts are unchanged.
     pub fn look(&mut self, moment: Moment) -> Result<(), AllocError>
         requires { is_moment moment ≡ true }
         ensures ok { OnOk result ((s : PlainSink) → AgreesSink D.contents self.old s →
             AgreesSink D.contents self.new (with_handed s (record { line = []; moment = moment }))) }
         ensures err { OnErr result ((s : PlainSink) → AgreesSink D.contents self.old s → AgreesSink D.contents self.new s) }
         ensures looked { (h : Held) → Holds D.contents self.old h →
-            OnOk result (Holds D.contents self.new (looked (names_of self.old.prefix self.old.suffix) h moment)) }
-        ensures early { int_le self.old.boundary moment.seconds ≡ false → (result ≡ Ok tt) × (self.new ≡ self.old) }
+            OnOk result (LooksAt D.contents (builder_names self.old.builder) moment h self.new) }
+        ensures early { is_due self.old.boundary moment.seconds ≡ false → (result ≡ Ok tt) × (self.new ≡ self.old) }
         ensures still { OnErr result (record self.new { folder = self.old.folder } ≡ self.old) }
         ensures unfaulted { (c : Contents) (s : PlainSink) → D.contents self.old.folder ≡ Some c → AgreesSink D.contents self.old s →
             self.new.faults ≡ self.old.faults }
-        ensures names { names_of self.new.prefix self.new.suffix ≡ names_of self.old.prefix self.old.suffix }
+        ensures names { builder_names self.new.builder ≡ builder_names self.old.builder }
     {
         if !self.is_due(moment) {
             return Ok(());
         }
-        let day = day_of(moment);
-        let name = file_name(self.alloc, &self.prefix, &self.suffix, day)?;
-        match self.folder.open_append(name.as_str()) {
+        self.switch(moment)?;
+        Ok(())
+    }
+
+    /// Runs retention and opens the file of the moment's period.
+    fn switch(&mut self, moment: Moment) -> Result<(), AllocError>
+        requires { is_moment moment ≡ true }
+        ensures switched { Switches (builder_names self.old.builder) moment self.old.boundary self.old.current self.old.faults (D.contents self.old.folder)
+            result self.new.boundary self.new.current self.new.faults (D.contents self.new.folder) }
+        ensures still { OnErr result (record self.new { folder = self.old.folder } ≡ self.old) }
+        ensures builder { self.new.builder ≡ self.old.builder }
+    {
+        let name = self.builder.name_at(self.alloc, moment)?;
+        let faults = prune(self.alloc, &self.builder, &mut self.folder, self.faults)?;
+        match open_linked(&mut self.folder, name.as_str(), &self.builder.latest) {
             Ok(file) => {
                 let old = self.current;
+                self.faults = faults;
                 self.current = file;
-                self.boundary = end_of_day(day);
+                self.boundary = self.builder.rotation.next_date(moment);
                 // the old file is written no more, so what its close answers is passed over
                 let _ = self.folder.close_file(old);
                 Ok(())
             }
-            Err(FolderError::OutOfMemory) => Err(AllocError),
-            Err(FolderError::Fault(fault)) => {
-                self.boundary = end_of_day(day);
-                self.faults = self.faults.after_switch(fault);
-                Ok(())
-            }
+            Err(failure) => match failure.error {
+                FolderError::OutOfMemory => Err(AllocError),
+                FolderError::Fault(fault) => {
+                    self.boundary = self.builder.rotation.next_date(moment);
+                    self.faults = faults.after_switch(fault);
+                    Ok(())
+                }
+            },
         }
     }
 
@@ -207,7 +186,7 @@ impl<D: Folder> RollingFileAppender<D> {
         ensures still { self.new ≡ record self.old { folder = self.new.folder; faults = self.new.faults } }
         ensures unfaulted { (c : Contents) (s : PlainSink) → D.contents self.old.folder ≡ Some c → AgreesSink D.contents self.old s →
             (self.new.faults ≡ self.old.faults) × IfErr result (λ e. e ≡ FolderError.OutOfMemory) }
-        ensures names { names_of self.new.prefix self.new.suffix ≡ names_of self.old.prefix self.old.suffix }
+        ensures names { builder_names self.new.builder ≡ builder_names self.old.builder }
     {
         let outcome = write_all(&mut self.folder, self.current, bytes);
         self.faults = self.faults.after_write(outcome);

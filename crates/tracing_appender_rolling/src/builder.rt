@@ -1,44 +1,47 @@
-//! How the files of a sink are named and when they change.
+//! How the files of a sink are named, when they change, and what is kept of them.
 
-ghost use Rattle.std.specs.Prelude.{◌≡◌, None, string_bytes};
+ghost use Rattle.std.specs.Prelude.{◌≡◌, IfOk, string_bytes, true};
 ghost use Rattle.std.specs.Option.{option_map};
-ghost use Rattle.tracing_appender_rolling.specs.Names.{text_or_none, has_bad_byte};
+ghost use Rattle.tracing_appender_rolling.specs.Moments.{is_moment, period_at};
+ghost use Rattle.tracing_appender_rolling.specs.Names.{text_or_none, count_or_none, has_bad_byte, is_dots_or_none, is_lasting_dots, file_name};
 
-#[derive(Clone, Copy, Debug, PartialEq, Eq)]
-enum RotationKind {
-    Daily,
-}
+use crate::moment::Moment;
+use crate::rotation::Rotation;
+use std::alloc::{AllocError, Global};
+use tracing_appender_dates::{PeriodKind, name_text};
 
-/// How often a sink's file changes.
-#[derive(Clone, Copy, Debug, PartialEq, Eq)]
-pub struct Rotation(RotationKind);
-
-impl Rotation {
-    /// Each day in UTC.
-    pub const DAILY: Rotation = Rotation(RotationKind::Daily);
-}
-
-/// The names of a sink's files, and when they change.
+/// The names of a sink's files, when they change, how many are kept, and the link to the latest one.
 #[derive(Debug, Drop)]
 pub struct Builder {
     pub(crate) rotation: Rotation,
     pub(crate) prefix: Option<String>,
     pub(crate) suffix: Option<String>,
+    pub(crate) limit: Option<usize>,
+    pub(crate) latest: Option<String>,
 }
 
 impl Builder {
-    ghost use Rattle.tracing_appender_rolling.specs.Builders.{builder_names};
+    ghost use Rattle.tracing_appender_rolling.specs.Builders.{builder_names, plain_names, kind_of};
     ghost use Rattle.tracing_appender_rolling.specs.Names.{is_bad_name};
 
-    /// Files that change so often and have neither prefix nor suffix.
-    pub fn new(rotation: Rotation) -> Builder
-        ensures { builder_names result ≡ record { prefix = None; suffix = None } }
+    /// One file that never changes, with neither prefix nor suffix, no limit and no link.
+    pub fn new() -> Builder
+        ensures { builder_names result ≡ plain_names }
     {
         Builder {
-            rotation,
+            rotation: Rotation::NEVER,
             prefix: None,
             suffix: None,
+            limit: None,
+            latest: None,
         }
+    }
+
+    /// With files that change so often.
+    pub fn rotation(self, rotation: Rotation) -> Builder
+        ensures { builder_names result ≡ record (builder_names self) { kind = kind_of rotation } }
+    {
+        Builder { rotation, ..self }
     }
 
     /// With this text and a point before the date; an empty text means none.
@@ -61,11 +64,67 @@ impl Builder {
         }
     }
 
-    /// Whether the prefix or the suffix has a slash or a NUL.
+    /// With at most so many files at the opening of one, the new one among them; 0 means no limit.
+    pub fn max_log_files(self, n: usize) -> Builder
+        ensures { builder_names result ≡ record (builder_names self) { limit = count_or_none n } }
+    {
+        Builder {
+            limit: if n == 0 { None } else { Some(n) },
+            ..self
+        }
+    }
+
+    /// With a link of this name to the latest file; an empty text means none.
+    pub fn latest_symlink(self, name: String) -> Builder
+        ensures { builder_names result ≡ record (builder_names self) { latest = text_or_none (string_bytes name) } }
+    {
+        Builder {
+            latest: some_text(name),
+            ..self
+        }
+    }
+
+    /// Whether prefix, suffix or link have a slash or a NUL, or the link or a log file would be named `.` or `..`.
     pub fn has_bad_name(&self) -> bool
         ensures { result ≡ is_bad_name (builder_names self.now) }
     {
-        has_bad_byte(&self.prefix) || has_bad_byte(&self.suffix)
+        has_bad_byte(&self.prefix)
+            || has_bad_byte(&self.suffix)
+            || has_bad_byte(&self.latest)
+            || is_dots(&self.latest)
+            || self.is_lasting_dots()
+    }
+
+    /// Whether the one file for all of time would be named `.` or `..`.
+    fn is_lasting_dots(&self) -> bool
+        ensures { result ≡ is_lasting_dots (kind_of self.now.rotation) (option_map string_bytes self.now.prefix) (option_map string_bytes self.now.suffix) }
+    {
+        match (self.rotation.0, &self.prefix, &self.suffix) {
+            (PeriodKind::Whole, Some(_), None) => is_dots(&self.prefix),
+            (PeriodKind::Whole, None, Some(_)) => is_dots(&self.suffix),
+            _ => false,
+        }
+    }
+
+    /// The name of the file of a moment's period, where it is the first that is opened.
+    pub(crate) fn name_at(&self, alloc: Global, moment: Moment) -> Result<String, AllocError>
+        requires { is_moment moment ≡ true }
+        ensures { IfOk result (λ name. string_bytes name ≡ file_name (builder_names self.now) moment.seconds (period_at (kind_of self.now.rotation) moment)) }
+    {
+        let name = name_text(
+            alloc,
+            self.rotation.0,
+            &self.prefix,
+            &self.suffix,
+            moment.seconds,
+        )?;
+        Ok(name)
+    }
+}
+
+impl Default for Builder {
+    fn default() -> Builder {
+        Builder::new()
     }
 }
 
@@ -86,5 +145,15 @@ fn has_bad_byte(part: &Option<String>) -> bool
             .as_bytes()
             .iter()
             .any(|byte| *byte == b'/' || *byte == 0),
+    }
+}
+
+/// Whether a name is `.` or `..`.
+fn is_dots(name: &Option<String>) -> bool
+    ensures { result ≡ is_dots_or_none (option_map string_bytes name.now) }
+{
+    match name {
+        None => false,
+        Some(text) => text.as_str() == "." || text.as_str() == "..",
     }
 }

@@ -1,14 +1,14 @@
 //! Laws over the definitions.
 
 ghost use Rattle.tracing_appender_rolling.specs.Names.{NamesDiffer};
-ghost use Rattle.tracing_appender_rolling.specs.Sinks.{FilesByDay};
+ghost use Rattle.tracing_appender_rolling.specs.Sinks.{FilesByPeriod};
 
-/// Different days have different file names.
+/// Different periods have different file names.
 pub fn names_differ()
     ensures { NamesDiffer }
 {}
 
-/// Each day's file holds what was found in it and then that day's lines.
-pub fn files_by_day()
-    ensures { FilesByDay }
+/// Each period's file holds what was found in it and then that period's lines.
+pub fn files_by_period()
+    ensures { FilesByPeriod }
 {}

@@ -1,29 +1,32 @@
-//! Moments, names of log files, folders, and a file that changes by the day.
+//! Moments, names of log files, folders, and a file that changes by the period.
 #![tactic(auto)]
 
 mod appender;
 mod builder;
-mod date;
 mod disk;
 mod entries;
 mod fault;
+mod faults;
 mod faulty;
 mod folder;
 mod laws;
 mod memory;
 mod moment;
-mod name;
+mod opening;
+mod retention;
+mod rotation;
 
-pub use appender::{BuildRefusal, Faults, RollingFileAppender};
-pub use builder::{Builder, Rotation};
-pub use date::day_of;
+pub use appender::{OpenRefusal, RollingFileAppender};
+pub use builder::Builder;
 pub use disk::DiskFolder;
-pub use fault::{Entry, FileNumber, FolderError, FolderFault};
+pub use fault::{Entry, FileNumber, FolderError, FolderFault, InitContext, InitError};
+pub use faults::Faults;
 pub use faulty::FaultyFolder;
 pub use folder::Folder;
-pub use laws::{files_by_day, names_differ};
+pub use laws::{files_by_period, names_differ};
 pub use memory::{FileEntry, MemoryFolder};
 pub use moment::{BadMoment, Moment};
+pub use rotation::Rotation;
 pub use tracing_appender_dates::{date_text, dates_count_days, worked_dates};
 
 #[cfg(test)]

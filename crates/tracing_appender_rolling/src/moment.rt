@@ -1,7 +1,7 @@
 //! Points in time.
 
 ghost use Rattle.std.specs.Prelude.{◌≡◌, IfOk, OnErr, true, false};
-ghost use Rattle.tracing_appender_rolling.specs.Moments.{is_moment};
+ghost use Rattle.tracing_appender_rolling.specs.Moments.{is_moment, is_earlier};
 
 use thiserror::Error;
 
@@ -36,6 +36,14 @@ impl Moment {
         } else {
             Err(BadMoment)
         }
+    }
+
+    /// Whether the moment is earlier than another.
+    pub(crate) fn is_earlier(self, other: Moment) -> bool
+        ensures { result ≡ is_earlier self other }
+    {
+        self.seconds < other.seconds
+            || self.seconds == other.seconds && self.nanoseconds < other.nanoseconds
     }
 
     /// Whether the moment lies from 0001-01-01 to 9998-12-31, with less than a second of nanoseconds.

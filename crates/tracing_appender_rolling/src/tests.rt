@@ -6,8 +6,8 @@ ghost use Rattle.tracing_appender_rolling.specs.Moments.{is_moment};
 mod folders;
 
 use crate::{
-    Builder, Entry, FileNumber, Folder, FolderError, FolderFault, MemoryFolder, Moment,
-    RollingFileAppender, Rotation, date_text, day_of,
+    Builder, Entry, FileNumber, Folder, FolderError, FolderFault, InitContext, InitError,
+    MemoryFolder, Moment, RollingFileAppender, Rotation, date_text,
 };
 use std::alloc::{AllocError, Global};
 use std::test::Fail;
@@ -103,7 +103,8 @@ fn builder(alloc: Global, prefix: &str, suffix: &str) -> Result<Builder, AllocEr
     let prefix = String::from_str(alloc, prefix)?;
     let suffix = String::from_str(alloc, suffix)?;
     Ok(
-        Builder::new(Rotation::DAILY)
+        Builder::new()
+            .rotation(Rotation::DAILY)
             .filename_prefix(prefix)
             .filename_suffix(suffix),
     )
@@ -112,7 +113,7 @@ fn builder(alloc: Global, prefix: &str, suffix: &str) -> Result<Builder, AllocEr
 /// The name of the only file of a fresh appender.
 fn first_name(alloc: Global, prefix: &str, suffix: &str) -> Result<String, Fail> {
     let folder = MemoryFolder::new(alloc);
-    let appender = RollingFileAppender::build(
+    let appender = RollingFileAppender::open(
         alloc,
         builder(alloc, prefix, suffix)?,
         folder,
@@ -169,12 +170,10 @@ fn days_have_dates(rt: HostRuntime) -> Result<(), Fail> {
     };
     assert!(rt; first.is_in_range() && before.is_in_range() && last.is_in_range());
     assert!(rt; !past.is_in_range());
-    assert_eq!(rt; day_of(first), -719_162);
-    assert_eq!(rt; day_of(before), -1);
-    assert_eq!(rt; day_of(last), 2_932_531);
-    assert_eq!(rt; date_text(alloc, day_of(first))?.as_str(), "0001-01-01");
-    assert_eq!(rt; date_text(alloc, day_of(before))?.as_str(), "1969-12-31");
-    assert_eq!(rt; date_text(alloc, day_of(last))?.as_str(), "9998-12-31");
+    assert_eq!(rt; Rotation::DAILY.period_start(before), Some(-86_400));
+    assert_eq!(rt; Rotation::DAILY.next_date(last), Some(253_370_764_800));
+    assert_eq!(rt; date_text(alloc, -719_162)?.as_str(), "0001-01-01");
+    assert_eq!(rt; date_text(alloc, 2_932_531)?.as_str(), "9998-12-31");
     Ok(())
 }
 
@@ -185,7 +184,7 @@ fn a_late_line_stays_with_the_later_day(rt: HostRuntime) -> Result<(), Fail> {
     folder.put("app.2025-02-17", b"old\n", Some(FIRST))?;
     folder.put("app.2025-02-18", b"gone\n", None)?;
     folder.put("app.2025-02-18", b"found\n", None)?;
-    let mut appender = RollingFileAppender::build(
+    let mut appender = RollingFileAppender::open(
         alloc,
         builder(alloc, "app", "")?,
         folder,
@@ -229,7 +228,7 @@ fn files_are_in_order(rt: HostRuntime) -> Result<(), Fail> {
 fn a_failed_switch_keeps_the_old_file(rt: HostRuntime) -> Result<(), Fail> {
     let alloc = rt.alloc();
     let folder = SlowFolder::new(alloc, 1);
-    let mut appender = RollingFileAppender::build(
+    let mut appender = RollingFileAppender::open(
         alloc,
         builder(alloc, "app", "")?,
         folder,
@@ -252,12 +251,13 @@ fn a_failed_switch_keeps_the_old_file(rt: HostRuntime) -> Result<(), Fail> {
 fn a_refused_folder_comes_back(rt: HostRuntime) -> Result<(), Fail> {
     let alloc = rt.alloc();
     let folder = SlowFolder::new(alloc, 0);
-    match RollingFileAppender::build(alloc, builder(alloc, "a/b", "")?, folder, FIRST) {
+    match RollingFileAppender::open(alloc, builder(alloc, "a/b", "")?, folder, FIRST) {
         Ok(_) => Err("opened".into()),
         Err(refusal) => {
             assert_eq!(rt; refusal.error, FolderError::Fault(FolderFault::Refused));
             assert!(rt; refusal.builder.has_bad_name());
-            assert_eq!(rt; refusal.folder.failures(), 1);
+            assert_eq!(rt; refusal.context, InitContext::File);
+            assert_eq!(rt; refusal.folder.failures(), 2);
             Ok(())
         }
     }
@@ -270,6 +270,14 @@ fn faults_have_texts(rt: HostRuntime) -> Result<(), Fail> {
     assert_eq!(rt;
         format!(in alloc; "{fault}")?.as_str(),
         "write took no bytes"
+    );
+    let init = InitError {
+        context: InitContext::Directory,
+        source: FolderFault::NotFound,
+    };
+    assert_eq!(rt;
+        format!(in alloc; "{init}")?.as_str(),
+        "failed to create log directory: not found"
     );
     let memory = FolderError::from(AllocError);
     assert_eq!(rt; format!(in alloc; "{memory}")?.as_str(), "out of memory");

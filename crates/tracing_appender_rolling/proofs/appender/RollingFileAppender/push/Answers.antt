@@ -1,13 +1,13 @@
-use Rattle.tracing_appender_rolling.specs.Names.{names_of}
+use Rattle.tracing_appender_rolling.specs.Builders.{builder_names}
 use Rattle.tracing_appender_rolling.proofs.Keeping.{push_ok, push_err}
 use Rattle.tracing_appender_rolling.proofs.appender.RollingFileAppender.push.Goals as goal
 
 pub returns-clause-ok : goal.returns-clause-ok
 returns-clause-ok g c =
-    push_ok (g.D.Folder.contents c.args.self.now.folder) (g.D.Folder.contents c.write_all-outcome.new.folder) (names_of c.args.self.now.prefix c.args.self.now.suffix)
+    push_ok (g.D.Folder.contents c.args.self.now.folder) (g.D.Folder.contents c.write_all-outcome.new.folder) (builder_names c.args.self.now.builder)
     c.args.self.now.boundary c.args.self.now.current c.args.bytes.now c.write_all-outcome.result c.write_all-outcome.ensures
 
 pub returns-clause-err : goal.returns-clause-err
 returns-clause-err g c =
-    push_err (g.D.Folder.contents c.args.self.now.folder) (g.D.Folder.contents c.write_all-outcome.new.folder) (names_of c.args.self.now.prefix c.args.self.now.suffix)
+    push_err (g.D.Folder.contents c.args.self.now.folder) (g.D.Folder.contents c.write_all-outcome.new.folder) (builder_names c.args.self.now.builder)
     c.args.self.now.boundary c.args.self.now.current c.args.bytes.now c.write_all-outcome.result c.write_all-outcome.ensures

@@ -1,0 +1,74 @@
+-- Candidates one after another, and removals one after another.
+use Rattle.std.proofs.Common.{◌≡◌, ℕ, ◌+◌, ◌<◌, ℤ, List, [], ◌∷◌, ◌++◌, length, map, take, get_or, refl, ap, subst, sym, ◌∙◌, Option, Some, None, Result, Ok, Err}
+use Rattle.std.specs.List.{filter}
+use Rattle.std.proofs.lemmas.List.{take_more, map-append}
+use Rattle.std.proofs.lemmas.List.Elements.{filter-append}
+use Rattle.tracing_appender_rolling.specs.declared.moment.Moment.{Moment}
+use Rattle.tracing_appender_rolling.specs.declared.fault.Entry.{Entry}
+use Rattle.tracing_appender_rolling.specs.declared.faults.Faults.{Faults}
+use Rattle.tracing_appender_rolling.specs.declared.retention.Candidate.{Candidate}
+use Rattle.tracing_appender_rolling.specs.Names.{FileNames}
+use Rattle.tracing_appender_rolling.specs.Contents.{Contents, Listed}
+use Rattle.tracing_appender_rolling.specs.Listings.{listed_of}
+use Rattle.tracing_appender_rolling.specs.Retention.{PlainCandidate, candidate_of, with_candidate, made_of, Tells, IsAdded, IsCandidates, goes}
+use Rattle.tracing_appender_rolling.specs.Pruning.{doomed_of, removed_all, Removes, LeftAt}
+
+-- candidates
+added_behind : (name : List ℕ) (made : Option Moment) (rest more : List PlainCandidate) → with_candidate name made rest ++ more ≡ with_candidate name made (rest ++ more)
+added_behind name None rest more = refl
+added_behind name (Some m) rest more = refl
+
+one_more : (names : FileNames) (ls : List Listed) (cs : List PlainCandidate) (l : Listed) (date : Option ℤ) → IsCandidates names ls cs → Tells names l.name date → IsCandidates names (ls ++ l ∷ []) (cs ++ with_candidate l.name (made_of names l date) [])
+one_more names [] cs l date h tells = (date, [], tells, refl, ap (λ (xs : List PlainCandidate). xs ++ with_candidate l.name (made_of names l date) []) h)
+one_more names (k ∷ ks) cs l date (first, rest, told, more, is) tells = (
+  first,
+  rest ++ with_candidate l.name (made_of names l date) [],
+  told,
+  one_more names ks rest l date more tells,
+  ap (λ (xs : List PlainCandidate). xs ++ with_candidate l.name (made_of names l date) []) is ∙ added_behind k.name (made_of names k first) rest (with_candidate l.name (made_of names l date) []),
+)
+
+pub candidates_more : (names : FileNames) (entries : List Entry) (i : ℕ) (e : Entry) (old new : List PlainCandidate) → i < length entries → e ≡ get_or entries i e → IsCandidates names (map listed_of (take i entries)) old → IsAdded names (listed_of e) old new → IsCandidates names (map listed_of (take (i + 1) entries)) new
+candidates_more names entries i e old new lt is h (date, tells, added) =
+    let grown : map listed_of (take (i + 1) entries) ≡ map listed_of (take i entries) ++ listed_of e ∷ [] =
+    ap (map listed_of) (take_more entries i e lt ∙ ap (λ (x : Entry). take i entries ++ x ∷ []) (sym is)) ∙ map-append listed_of (take i entries) (e ∷ []) in
+    subst (λ (xs : List PlainCandidate). IsCandidates names (map listed_of (take (i + 1) entries)) xs) (sym added)
+    (subst (λ (ls : List Listed). IsCandidates names ls (old ++ with_candidate (listed_of e).name (made_of names (listed_of e) date) [])) (sym grown) (one_more names (map listed_of (take i entries)) old (listed_of e) date h tells))
+
+-- removals
+removed_both : (xs ys : List (List ℕ)) (at : Faults × Contents) → removed_all (xs ++ ys) at ≡ removed_all ys (removed_all xs at)
+removed_both [] ys at = refl
+removed_both (x ∷ xs) ys at = removed_both xs ys _
+
+module _ (E : Type 0) (xs ys : List (List ℕ)) (f g : Faults) where
+  known_then : (c d : Contents) (r : Result Faults E) (after : Option Contents) → LeftAt (removed_all xs (f, c)) g (Some d) → Removes ys g (Some d) r after → Removes (xs ++ ys) f (Some c) r after
+  known_then c d (Err e) after left more = more
+  known_then c d (Ok h) after (count, there) more =
+      let here : d ≡ (removed_all xs (f, c)).1 = cc in
+      let at : (g, d) ≡ removed_all xs (f, c) = ap (λ k. (k, d)) count ∙ ap (λ k. ((removed_all xs (f, c)).0, k)) here in
+      let both : removed_all ys (g, d) ≡ removed_all (xs ++ ys) (f, c) = ap (removed_all ys) at ∙ sym (removed_both xs ys (f, c)) in
+      subst (λ p. LeftAt p h after) both more
+
+  pub removes_then : (known middle after : Option Contents) (r : Result Faults E) → Removes {E = E} xs f known (Ok g) middle → Removes ys g middle r after → Removes (xs ++ ys) f known r after
+  removes_then None middle after (Ok h) left more = subst (λ (o : Option Contents). Removes {E = E} ys g o (Ok h) after) left more
+  removes_then None middle after (Err e) left more = subst (λ (o : Option Contents). Removes {E = E} ys g o (Err e) after) left more
+  removes_then (Some c) middle after r left more =
+      let is = left.1 in
+      known_then c (removed_all xs (f, c)).1 r after (left.0, refl) (subst (λ (o : Option Contents). Removes {E = E} ys g o r after) is more)
+
+doomed_more : (limit : ℕ) (cs : List PlainCandidate) (all : List Candidate) (i : ℕ) (d : Candidate) → i < length all → doomed_of limit cs (map candidate_of (take (i + 1) all)) ≡ doomed_of limit cs (map candidate_of (take i all)) ++ doomed_of limit cs (candidate_of (get_or all i d) ∷ [])
+doomed_more limit cs all i d lt =
+    let c = get_or all i d in
+    ap (λ (xs : List Candidate). doomed_of limit cs (map candidate_of xs)) (take_more all i d lt)
+    ∙ ap (doomed_of limit cs) (map-append candidate_of (take i all) (c ∷ []))
+    ∙ ap (map (λ (x : PlainCandidate). x.name)) (filter-append (goes limit cs) (map candidate_of (take i all)) (candidate_of c ∷ []))
+    ∙ map-append (λ (x : PlainCandidate). x.name) (filter (goes limit cs) (map candidate_of (take i all))) (filter (goes limit cs) (candidate_of c ∷ []))
+
+pub removes_next : (E : Type 0) (limit : ℕ) (all : List Candidate) (i : ℕ) (d : Candidate) (f g h : Faults) (known middle after : Option Contents) → i < length all →
+    Removes {E = E} (doomed_of limit (map candidate_of all) (map candidate_of (take i all))) f known (Ok g) middle →
+    Removes {E = E} (doomed_of limit (map candidate_of all) (candidate_of (get_or all i d) ∷ [])) g middle (Ok h) after →
+    Removes {E = E} (doomed_of limit (map candidate_of all) (map candidate_of (take (i + 1) all))) f known (Ok h) after
+removes_next E limit all i d f g h known middle after lt left next =
+    let cs = map candidate_of all in
+    subst (λ (names : List (List ℕ)). Removes {E = E} names f known (Ok h) after) (sym (doomed_more limit cs all i d lt))
+    (removes_then E (doomed_of limit cs (map candidate_of (take i all))) (doomed_of limit cs (candidate_of (get_or all i d) ∷ [])) f g known middle after (Ok h) left next)

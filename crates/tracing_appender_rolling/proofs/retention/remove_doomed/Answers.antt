@@ -1,0 +1,10 @@
+use Rattle.std.proofs.Common.{arith, ◌<◌, length}
+use Rattle.std.specs.declared.alloc.AllocError.{AllocError}
+use Rattle.tracing_appender_rolling.proofs.Removing.{removes_next}
+use Rattle.tracing_appender_rolling.proofs.retention.remove_doomed.Goals as goal
+
+pub loop-candidate-preserved : goal.loop-candidate-preserved
+loop-candidate-preserved g c =
+    let i = c.loop-candidate.candidate-index in
+    let lt : i < length c.args.all.now = omega arith in
+    removes_next AllocError c.args.limit c.args.all.now i _ c.args.faults c.loop-candidate.faults c.in_ok-faults.faults (g.D.Folder.contents c.args.folder.now) (g.D.Folder.contents c.loop-candidate.folder) (g.D.Folder.contents c.remove_if_doomed.new.folder) lt c.loop-candidate.invariant c.in_ok-faults.ensures

@@ -1,0 +1,63 @@
+-- What retention removes, whatever the folder refuses.
+use Rattle.std.specs.Prelude.{◌≡◌, ℕ, List, [], ◌∷◌, map, Option, Some, None, Result, Ok, Err}
+use Rattle.std.specs.List.{filter}
+use Rattle.tracing_appender_rolling.specs.declared.faults.Faults.{Faults}
+use Rattle.tracing_appender_rolling.specs.declared.fault.FolderError.TheVariants.{Fault, OutOfMemory}
+use Rattle.tracing_appender_rolling.specs.Names.{FileNames}
+use Rattle.tracing_appender_rolling.specs.Contents.{Contents, Answer, Listed, removed, names_listed}
+use Rattle.tracing_appender_rolling.specs.Faults.{after_retention}
+use Rattle.tracing_appender_rolling.specs.Retention.{PlainCandidate, IsCandidates, goes}
+
+-- the names of those of some candidates that go
+abbrev pub doomed_of : ℕ → List PlainCandidate → List PlainCandidate → List (List ℕ)
+doomed_of limit cs some = map (λ (c : PlainCandidate). c.name) (filter (goes limit cs) some)
+
+-- of all of them
+abbrev pub doomed : ℕ → List PlainCandidate → List (List ℕ)
+doomed limit cs = doomed_of limit cs cs
+
+-- a removal that failed is counted
+abbrev pub after_removal : Faults → Answer (Unit {0}) → Faults × Contents
+after_removal f (Ok done, c) = (f, c)
+after_removal f (Err (Fault fault), c) = (after_retention f fault, c)
+after_removal f (Err OutOfMemory, c) = (f, c)
+
+-- one removal after another
+abbrev pub removed_all : List (List ℕ) → Faults × Contents → Faults × Contents
+removed_all [] at = at
+removed_all (name ∷ names) at = removed_all names (after_removal at.0 (removed at.1 name))
+
+-- the count of faults and the contents that are left
+abbrev pub LeftAt : Faults × Contents → Faults → Option Contents → Type 0
+LeftAt at f after = (f ≡ at.0) × (after ≡ Some at.1)
+
+-- the names were removed in turn, or some removal found no memory. Contents that aren't known stay so.
+abbrev pub Removes : {E : Type 0} → List (List ℕ) → Faults → Option Contents → Result Faults E → Option Contents → Type 0
+Removes names f None result after = after ≡ None
+Removes names f (Some c) (Ok left) after = LeftAt (removed_all names (f, c)) left after
+Removes names f (Some c) (Err e) after = (d : Contents) × (after ≡ Some d)
+
+-- a listing that was refused is counted, and nothing goes; after one that wasn't go the candidates that retention says
+abbrev pub PrunedAfter : FileNames → ℕ → Faults → Answer (List Listed) → Faults → Contents → Type 0
+PrunedAfter names limit f (Ok listing, c) left d =
+    (cs : List PlainCandidate) × IsCandidates names listing cs × (removed_all (doomed limit cs) (f, c) ≡ (left, d))
+PrunedAfter names limit f (Err (Fault fault), c) left d = (left ≡ after_retention f fault) × (d ≡ c)
+PrunedAfter names limit f (Err OutOfMemory, c) left d = ⊥
+
+-- without a limit nothing is asked
+abbrev pub PrunedBy : Option ℕ → FileNames → Faults → Contents → Faults → Contents → Type 0
+PrunedBy None names f c left d = (left ≡ f) × (d ≡ c)
+PrunedBy (Some limit) names f c left d = PrunedAfter names limit f (names_listed c) left d
+
+abbrev pub Pruned : FileNames → Faults → Contents → Faults → Contents → Type 0
+Pruned names f c left d = PrunedBy names.limit names f c left d
+
+-- what is left where some call found no memory: without a limit nothing was asked
+abbrev pub Unpruned : Option ℕ → Contents → Option Contents → Type 0
+Unpruned None c after = after ≡ Some c
+Unpruned (Some limit) c after = (d : Contents) × (after ≡ Some d)
+
+abbrev pub Prunes : {E : Type 0} → FileNames → Faults → Option Contents → Result Faults E → Option Contents → Type 0
+Prunes names f None result after = after ≡ None
+Prunes names f (Some c) (Ok left) after = (d : Contents) × Pruned names f c left d × (after ≡ Some d)
+Prunes names f (Some c) (Err e) after = Unpruned names.limit c after

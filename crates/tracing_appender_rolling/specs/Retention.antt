@@ -1,0 +1,74 @@
+-- Which files retention may remove, and which of them go.
+use Rattle.std.specs.Prelude.{◌≡◌, ◌≢◌, ℕ, suc, ◌+◌, ◌-◌, ℤ, Bool, true, not, ◌&&◌, ◌||◌, nat_lt, if◌then◌else◌, List, [], ◌∷◌, ◌++◌, length, take, drop, is_some, Option, Some, None, IfSome, IfNone}
+use Rattle.std.specs.Str.{bytes_eq}
+use Rattle.std.specs.Cmp.Lexicographic.{slice_cmp}
+use Rattle.std.specs.Ordering.{nat_cmp, is_lt}
+use Rattle.tracing_appender_dates.specs.Days.{is_date, day_at}
+use Rattle.tracing_appender_dates.specs.Stamps.{stamp, stamped}
+use Rattle.tracing_appender_dates.specs.Names.{around}
+use Rattle.tracing_appender_rolling.specs.declared.moment.Moment.{Moment}
+use Rattle.tracing_appender_rolling.specs.declared.retention.Candidate.{Candidate}
+use Rattle.tracing_appender_rolling.specs.Moments.{is_earlier}
+use Rattle.tracing_appender_rolling.specs.Names.{FileNames}
+use Rattle.tracing_appender_rolling.specs.Contents.{Listed}
+
+abbrev pub begins : Option (List ℕ) → List ℕ → Bool
+begins None name = true
+begins (Some prefix) name = bytes_eq prefix (take (length prefix) name)
+
+abbrev pub ends : Option (List ℕ) → List ℕ → Bool
+ends None name = true
+ends (Some suffix) name = bytes_eq suffix (drop (length name - length suffix) name)
+
+-- the second that the date in a name tells, where it is prefix, date and suffix with a point between two
+pub record Tells (names : FileNames) (name : List ℕ) (date : Option ℤ) : Type 0 where
+  pub some : IfSome date (λ s. (is_date (day_at s) ≡ true) × (stamped names.kind s ≡ s) × (name ≡ around names.prefix (stamp names.kind s) names.suffix))
+  pub none : IfNone date ((s : ℤ) → is_date (day_at s) ≡ true → name ≢ around names.prefix (stamp names.kind s) names.suffix)
+
+-- the moment from which a file counts: that of its making, else its date
+abbrev pub counted_from : Option Moment → Option ℤ → Option Moment
+counted_from (Some made) date = Some made
+counted_from None (Some s) = Some (record { seconds = s; nanoseconds = 0 })
+counted_from None None = None
+
+-- a plain file whose name begins with the prefix and ends with the suffix, and is a date where there are neither, counts from a moment; else there is none
+abbrev pub made_of : FileNames → Listed → Option ℤ → Option Moment
+made_of names l date =
+    if l.plain && begins names.prefix l.name && ends names.suffix l.name && (is_some names.prefix || is_some names.suffix || is_some date)
+    then counted_from l.created date
+    else None
+
+-- a file that may go, with the moment from which it counts
+pub record PlainCandidate : Type 0 where
+  pub name : List ℕ
+  pub made : Moment
+
+abbrev pub candidate_of : Candidate → PlainCandidate
+candidate_of c = record { name = c.name.now; made = c.made }
+
+abbrev pub with_candidate : List ℕ → Option Moment → List PlainCandidate → List PlainCandidate
+with_candidate name None cs = cs
+with_candidate name (Some made) cs = record { name = name; made = made } ∷ cs
+
+-- one more entry of a listing, which is a candidate or not
+abbrev pub IsAdded : FileNames → Listed → List PlainCandidate → List PlainCandidate → Type 0
+IsAdded names l old new = (date : Option ℤ) × Tells names l.name date × (new ≡ old ++ with_candidate l.name (made_of names l date) [])
+
+-- the candidates of a listing, in its order
+abbrev pub IsCandidates : FileNames → List Listed → List PlainCandidate → Type 0
+IsCandidates names [] cs = cs ≡ []
+IsCandidates names (l ∷ ls) cs =
+    (date : Option ℤ) × (rest : List PlainCandidate) × Tells names l.name date × IsCandidates names ls rest × (cs ≡ with_candidate l.name (made_of names l date) rest)
+
+-- one counts from an earlier moment than the other, or from an equal one and has the smaller name in byte order
+abbrev pub is_before : PlainCandidate → PlainCandidate → Bool
+is_before a b = is_earlier a.made b.made || not (is_earlier b.made a.made) && is_lt (slice_cmp nat_cmp a.name b.name)
+
+-- how many stand before one
+abbrev pub before_count : PlainCandidate → List PlainCandidate → ℕ
+before_count c [] = 0
+before_count c (d ∷ ds) = if is_before d c then suc (before_count c ds) else before_count c ds
+
+-- fewer stand before it than the candidates and the new file are more than the limit
+abbrev pub goes : ℕ → List PlainCandidate → PlainCandidate → Bool
+goes limit cs c = nat_lt (before_count c cs) (length cs + 1 - limit)

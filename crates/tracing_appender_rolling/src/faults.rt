@@ -1,0 +1,66 @@
+//! What was lost to a folder's faults.
+
+ghost use Rattle.std.specs.Prelude.{◌≡◌};
+
+use crate::fault::{FolderError, FolderFault};
+
+/// What was lost to a folder's faults. Each count stops at the greatest number.
+#[derive(Clone, Copy, Debug, PartialEq, Eq)]
+pub struct Faults {
+    /// Openings that failed; the old file stays in use.
+    pub switches: usize,
+    /// Listings and removals that failed.
+    pub retentions: usize,
+    /// Lines whose write failed; the rest of such a line is lost.
+    pub writes: usize,
+    /// The last fault.
+    pub last: Option<FolderFault>,
+}
+
+impl Faults {
+    ghost use Rattle.tracing_appender_rolling.specs.Faults.{no_faults, after_switch, after_retention, after_write};
+
+    pub(crate) fn none() -> Faults
+        ensures { result ≡ no_faults }
+    {
+        Faults {
+            switches: 0,
+            retentions: 0,
+            writes: 0,
+            last: None,
+        }
+    }
+
+    pub(crate) fn after_switch(self, fault: FolderFault) -> Faults
+        ensures { result ≡ after_switch self fault }
+    {
+        Faults {
+            switches: self.switches.saturating_add(1),
+            last: Some(fault),
+            ..self
+        }
+    }
+
+    pub(crate) fn after_retention(self, fault: FolderFault) -> Faults
+        ensures { result ≡ after_retention self fault }
+    {
+        Faults {
+            retentions: self.retentions.saturating_add(1),
+            last: Some(fault),
+            ..self
+        }
+    }
+
+    pub(crate) fn after_write(self, outcome: Result<(), FolderError>) -> Faults
+        ensures { result ≡ after_write self outcome }
+    {
+        match outcome {
+            Ok(()) | Err(FolderError::OutOfMemory) => self,
+            Err(FolderError::Fault(fault)) => Faults {
+                writes: self.writes.saturating_add(1),
+                last: Some(fault),
+                ..self
+            },
+        }
+    }
+}

@@ -1,0 +1,79 @@
+//! A try to open a file and to link it.
+
+ghost use Rattle.std.specs.Prelude.{◌≡◌, string_bytes};
+ghost use Rattle.std.specs.Option.{option_map};
+ghost use Rattle.tracing_appender_rolling.specs.Tries.{TriesOpening, TriesLinking, TriesFile, made_again, opened_twice, linked_to, opened_linked};
+
+use crate::fault::{FileNumber, FolderError, InitContext, InitFailure};
+use crate::folder::Folder;
+
+/// Opens a file. Where that is refused, the directories are made and it is tried once more.
+fn open_twice<D: Folder>(folder: &mut D, name: &str) -> Result<FileNumber, InitFailure>
+    ensures { TriesOpening (opened_twice name.now) (D.contents folder.old) result (D.contents folder.new) }
+{
+    match folder.open_append(name) {
+        Ok(file) => Ok(file),
+        Err(FolderError::Fault(_)) => open_made(folder, name),
+        Err(FolderError::OutOfMemory) => Err(InitFailure {
+            context: InitContext::File,
+            error: FolderError::OutOfMemory,
+        }),
+    }
+}
+
+/// Makes the directories and opens a file.
+fn open_made<D: Folder>(folder: &mut D, name: &str) -> Result<FileNumber, InitFailure>
+    ensures { TriesOpening (made_again name.now) (D.contents folder.old) result (D.contents folder.new) }
+{
+    if let Err(error) = folder.create_dirs() {
+        return Err(InitFailure {
+            context: InitContext::Directory,
+            error,
+        });
+    }
+    match folder.open_append(name) {
+        Ok(file) => Ok(file),
+        Err(error) => Err(InitFailure {
+            context: InitContext::File,
+            error,
+        }),
+    }
+}
+
+/// Links a name to an opened file, or closes the file, whatever that answers.
+fn link_file<D: Folder>(
+    folder: &mut D,
+    file: FileNumber,
+    link: &str,
+    name: &str,
+) -> Result<FileNumber, InitFailure>
+    ensures { TriesLinking (linked_to link.now name.now file) (D.contents folder.old) result (D.contents folder.new) }
+{
+    match folder.link(link, name) {
+        Ok(()) => Ok(file),
+        Err(error) => {
+            let _ = folder.close_file(file);
+            Err(InitFailure {
+                context: InitContext::Link,
+                error,
+            })
+        }
+    }
+}
+
+/// Opens a file, and links the name of the latest one to it where there is such a name.
+pub(crate) fn open_linked<D: Folder>(
+    folder: &mut D,
+    name: &str,
+    latest: &Option<String>,
+) -> Result<FileNumber, InitFailure>
+    ensures { TriesFile (option_map string_bytes latest.now) name.now (D.contents folder.old) result (D.contents folder.new) }
+{
+    match open_twice(folder, name) {
+        Ok(file) => match latest {
+            None => Ok(file),
+            Some(link) => link_file(folder, file, link.as_str(), name),
+        },
+        Err(failure) => Err(failure),
+    }
+}

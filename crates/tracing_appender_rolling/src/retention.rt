@@ -1,0 +1,197 @@
+//! Which files go where one more is to be opened.
+
+ghost use Rattle.std.specs.Prelude.{◌≡◌, ◌≤◌, [], ◌∷◌, None, Ok, IfOk, OnOk, map, length, string_bytes};
+ghost use Rattle.std.specs.Option.{option_map};
+ghost use Rattle.tracing_appender_rolling.specs.Builders.{builder_names};
+ghost use Rattle.tracing_appender_rolling.specs.Listings.{listed_of};
+ghost use Rattle.tracing_appender_rolling.specs.Retention.{Tells, made_of, begins, ends, is_before, before_count, goes, IsAdded, IsCandidates, candidate_of};
+ghost use Rattle.tracing_appender_rolling.specs.Pruning.{Removes, Prunes, doomed, doomed_of};
+
+use crate::builder::Builder;
+use crate::fault::{Entry, FolderError};
+use crate::faults::Faults;
+use crate::folder::Folder;
+use crate::moment::Moment;
+use std::alloc::{AllocError, Global};
+use tracing_appender_dates::read_name;
+
+/// A file that retention may remove, with the moment from which it counts.
+#[derive(Clone, Copy, Debug)]
+pub(crate) struct Candidate<'a> {
+    name: &'a str,
+    made: Moment,
+}
+
+fn begins_with(name: &[u8], prefix: &Option<String>) -> bool
+    ensures { result ≡ begins (option_map string_bytes prefix.now) name.now }
+{
+    match prefix {
+        None => true,
+        Some(prefix) => name.starts_with(prefix.as_bytes()),
+    }
+}
+
+fn ends_with(name: &[u8], suffix: &Option<String>) -> bool
+    ensures { result ≡ ends (option_map string_bytes suffix.now) name.now }
+{
+    match suffix {
+        None => true,
+        Some(suffix) => name.ends_with(suffix.as_bytes()),
+    }
+}
+
+/// The moment from which an entry counts: that of its making, else the date in its name; none where it is no candidate.
+fn made_at(builder: &Builder, entry: &Entry, date: Option<i64>) -> Option<Moment>
+    ensures { result ≡ made_of (builder_names builder.now) (listed_of entry.now) date }
+{
+    let name = entry.name.as_bytes();
+    if !entry.plain || !begins_with(name, &builder.prefix) || !ends_with(name, &builder.suffix) {
+        return None;
+    }
+    if builder.prefix.is_none() && builder.suffix.is_none() && date.is_none() {
+        return None;
+    }
+    match (entry.created, date) {
+        (Some(moment), _) => Some(moment),
+        (None, Some(seconds)) => Some(Moment {
+            seconds,
+            nanoseconds: 0,
+        }),
+        (None, None) => None,
+    }
+}
+
+/// The date in an entry's name.
+fn date_of(builder: &Builder, entry: &Entry) -> Option<i64>
+    ensures { Tells (builder_names builder.now) (listed_of entry.now).name result }
+{
+    let name = entry.name.as_bytes();
+    read_name(builder.rotation.0, &builder.prefix, &builder.suffix, name)
+}
+
+/// Adds an entry where it is a candidate.
+fn add_candidate<'a>(
+    builder: &Builder,
+    all: &mut Vec<Candidate<'a>>,
+    entry: &'a Entry,
+) -> Result<(), AllocError>
+    ensures { OnOk result (IsAdded (builder_names builder.now) (listed_of entry.now) (map candidate_of all.old.items) (map candidate_of all.new.items)) }
+{
+    let date = date_of(builder, entry);
+    if let Some(made) = made_at(builder, entry, date) {
+        let name = entry.name.as_str();
+        all.push(Candidate { name, made })?;
+    }
+    Ok(())
+}
+
+/// The files of a listing that retention may remove.
+fn candidates<'a>(
+    alloc: Global,
+    builder: &Builder,
+    entries: &'a [Entry],
+) -> Result<Vec<Candidate<'a>>, AllocError>
+    ensures { IfOk result (λ all. IsCandidates (builder_names builder.now) (map listed_of entries.now) (map candidate_of all.items)) }
+{
+    let mut all = Vec::new(alloc);
+    for entry in entries {
+        add_candidate(builder, &mut all, entry)?;
+    }
+    Ok(all)
+}
+
+/// Whether one counts from an earlier moment than another, or from an equal one and has the smaller name in byte order.
+fn is_before(one: &Candidate<'_>, other: &Candidate<'_>) -> bool
+    ensures { result ≡ is_before (candidate_of one.now) (candidate_of other.now) }
+{
+    one.made.is_earlier(other.made) || !other.made.is_earlier(one.made) && one.name < other.name
+}
+
+/// How many stand before a candidate.
+fn count_before(all: &[Candidate<'_>], candidate: &Candidate<'_>) -> usize
+    ensures count { result ≡ before_count (candidate_of candidate.now) (map candidate_of all.now) }
+    ensures bound { result ≤ length all.now }
+{
+    let mut count = 0;
+    for other in all {
+        if is_before(other, candidate) {
+            count += 1;
+        }
+    }
+    count
+}
+
+/// Whether a candidate goes: too many stand behind it for a new file beside them.
+fn is_doomed(all: &[Candidate<'_>], candidate: &Candidate<'_>, limit: usize) -> bool
+    ensures { result ≡ goes limit (map candidate_of all.now) (candidate_of candidate.now) }
+{
+    limit <= all.len() - count_before(all, candidate)
+}
+
+/// Removes a file. A fault is counted.
+fn remove_file<D: Folder>(folder: &mut D, name: &str, faults: Faults) -> Result<Faults, AllocError>
+    ensures { Removes (name.now ∷ []) faults (D.contents folder.old) result (D.contents folder.new) }
+{
+    match folder.remove(name) {
+        Ok(()) => Ok(faults),
+        Err(FolderError::OutOfMemory) => Err(AllocError),
+        Err(FolderError::Fault(fault)) => Ok(faults.after_retention(fault)),
+    }
+}
+
+/// Removes a candidate where it goes.
+fn remove_if_doomed<D: Folder>(
+    folder: &mut D,
+    all: &[Candidate<'_>],
+    candidate: &Candidate<'_>,
+    limit: usize,
+    faults: Faults,
+) -> Result<Faults, AllocError>
+    ensures { Removes (doomed_of limit (map candidate_of all.now) (candidate_of candidate.now ∷ [])) faults (D.contents folder.old) result (D.contents folder.new) }
+{
+    if !is_doomed(all, candidate, limit) {
+        return Ok(faults);
+    }
+    let left = remove_file(folder, candidate.name, faults)?;
+    Ok(left)
+}
+
+/// Removes the candidates that go. A fault is counted, and the work goes on.
+fn remove_doomed<D: Folder>(
+    folder: &mut D,
+    all: &[Candidate<'_>],
+    limit: usize,
+    faults: Faults,
+) -> Result<Faults, AllocError>
+    ensures { Removes (doomed limit (map candidate_of all.now)) faults (D.contents folder.old) result (D.contents folder.new) }
+{
+    let mut faults = faults;
+    for candidate in all {
+        faults = remove_if_doomed(folder, all, candidate, limit, faults)?;
+    }
+    Ok(faults)
+}
+
+/// Removes the files that go where one more is to be opened, where there is a limit. A fault is counted, and the work goes on.
+pub(crate) fn prune<D: Folder>(
+    alloc: Global,
+    builder: &Builder,
+    folder: &mut D,
+    faults: Faults,
+) -> Result<Faults, AllocError>
+    ensures pruned { Prunes (builder_names builder.now) faults (D.contents folder.old) result (D.contents folder.new) }
+    ensures unlimited { (builder_names builder.now).limit ≡ None → (result ≡ Ok faults) × (folder.new ≡ folder.old) }
+{
+    let Some(limit) = builder.limit else {
+        return Ok(faults);
+    };
+    match folder.list() {
+        Ok(entries) => {
+            let all = candidates(alloc, builder, entries.as_slice())?;
+            let left = remove_doomed(folder, all.as_slice(), limit, faults)?;
+            Ok(left)
+        }
+        Err(FolderError::OutOfMemory) => Err(AllocError),
+        Err(FolderError::Fault(fault)) => Ok(faults.after_retention(fault)),
+    }
+}
