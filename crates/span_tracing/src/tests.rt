@@ -136,7 +136,8 @@ fn builder(alloc: Global, prefix: &str) -> Result<Builder, AllocError> {
     let prefix = String::from_str(alloc, prefix)?;
     let suffix = String::from_str(alloc, "log")?;
     Ok(
-        Builder::new().rotation(Rotation::DAILY)
+        Builder::new()
+            .rotation(Rotation::DAILY)
             .filename_prefix(prefix)
             .filename_suffix(suffix),
     )

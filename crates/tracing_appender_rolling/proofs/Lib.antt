@@ -9,6 +9,8 @@ pub mod Wrapped
 pub mod Listing
 pub mod Puts
 pub mod Writing
+pub mod Rising
 pub mod Removing
 pub mod Switching
 pub mod Keeping
+pub mod Building

@@ -21,3 +21,8 @@ abbrev pub after_write : Faults → Result (Unit {0}) FolderError → Faults
 after_write f (Ok done) = f
 after_write f (Err OutOfMemory) = f
 after_write f (Err (Fault fault)) = record f { writes = min (f.writes + 1) (2 ^ 64 - 1); last = Some fault }
+
+-- an answer without its value
+abbrev pub unit_of : {T : Type 0} → Result T FolderError → Result (Unit {0}) FolderError
+unit_of (Ok value) = Ok tt
+unit_of (Err e) = Err e

@@ -11,9 +11,12 @@ pub mod Faulty
 pub mod Sinks
 pub use Rattle.tracing_appender_dates.specs.Rows
 pub mod Faults
+pub mod Telling
 pub mod Writes
 pub mod Tries
 pub mod Retention
 pub mod Pruning
 pub mod Looks
 pub mod Appenders
+pub mod Builds
+pub mod Handing

@@ -1,5 +1,5 @@
 -- The names of log files.
-use Rattle.std.specs.Prelude.{◌≡◌, ℕ, ℤ, List, [], ◌∷◌, Bool, true, false, ◌||◌, ◌==◌, if◌then◌else◌, Option, Some, None}
+use Rattle.std.specs.Prelude.{◌≡◌, ◌≢◌, ℕ, ℤ, List, [], ◌∷◌, Bool, true, false, ◌||◌, ◌==◌, if◌then◌else◌, Option, Some, None}
 use Rattle.std.specs.List.{list_any}
 use Rattle.std.specs.Str.{bytes_eq}
 use Rattle.tracing_appender_dates.specs.declared.period.PeriodKind.{PeriodKind}
@@ -62,6 +62,13 @@ is_lasting_dots _ prefix suffix = false
 abbrev pub is_bad_name : FileNames → Bool
 is_bad_name names =
     has_bad_byte names.prefix || has_bad_byte names.suffix || has_bad_byte names.latest || is_dots_or_none names.latest || is_lasting_dots names.kind names.prefix names.suffix
+
+-- the link has the name of a log file of some moment
+abbrev pub HasBadLink : FileNames → Type 0
+HasBadLink names = (m : Moment) × (is_moment m ≡ true) × (names.latest ≡ Some (file_name names m.seconds (period_at names.kind m)))
+
+abbrev pub HasGoodLink : FileNames → Type 0
+HasGoodLink names = (m : Moment) → is_moment m ≡ true → names.latest ≢ Some (file_name names m.seconds (period_at names.kind m))
 
 -- different periods have different names
 abbrev pub NamesDiffer : Type 0

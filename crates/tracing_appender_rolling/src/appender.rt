@@ -9,6 +9,7 @@ ghost use Rattle.tracing_appender_rolling.specs.Builders.{builder_names};
 ghost use Rattle.tracing_appender_rolling.specs.Sinks.{PlainSink, with_handed};
 ghost use Rattle.tracing_appender_rolling.specs.Tries.{TriesFile};
 ghost use Rattle.tracing_appender_rolling.specs.Writes.{WritesAll};
+ghost use Rattle.tracing_appender_rolling.specs.Telling.{Counts, ToldError, ToldWrites};
 
 use crate::builder::Builder;
 use crate::fault::{FileNumber, FolderError, FolderFault, InitContext};
@@ -70,6 +71,8 @@ impl<D: Folder> RollingFileAppender<D> {
         ensures known { (c : Contents) → D.contents folder ≡ Some c → MayOpen (Some c) (builder_names builder) →
             IfErr result (λ refusal. (refusal.error ≡ FolderError.OutOfMemory) × HandsBack c (builder_names builder) (D.contents refusal.folder)) }
         ensures back { IfErr result (λ refusal. builder_names refusal.builder ≡ builder_names builder) }
+        ensures counted { IfOk result (λ appender. Counts (D.failed folder) no_faults appender.faults (D.failed appender.folder)) }
+        ensures told { IfErr result (λ refusal. ToldError (D.failed folder) refusal.error (D.failed refusal.folder)) }
     {
         let Ok(name) = builder.name_at(alloc, moment) else {
             return Err(OpenRefusal {
@@ -133,6 +136,7 @@ impl<D: Folder> RollingFileAppender<D> {
         ensures unfaulted { (c : Contents) (s : PlainSink) → D.contents self.old.folder ≡ Some c → AgreesSink D.contents self.old s →
             self.new.faults ≡ self.old.faults }
         ensures names { builder_names self.new.builder ≡ builder_names self.old.builder }
+        ensures counted { Counts (D.failed self.old.folder) self.old.faults self.new.faults (D.failed self.new.folder) }
     {
         if !self.is_due(moment) {
             return Ok(());
@@ -148,6 +152,7 @@ impl<D: Folder> RollingFileAppender<D> {
             result self.new.boundary self.new.current self.new.faults (D.contents self.new.folder) }
         ensures still { OnErr result (record self.new { folder = self.old.folder } ≡ self.old) }
         ensures builder { self.new.builder ≡ self.old.builder }
+        ensures counted { Counts (D.failed self.old.folder) self.old.faults self.new.faults (D.failed self.new.folder) }
     {
         let name = self.builder.name_at(self.alloc, moment)?;
         let faults = prune(self.alloc, &self.builder, &mut self.folder, self.faults)?;
@@ -187,6 +192,7 @@ impl<D: Folder> RollingFileAppender<D> {
         ensures unfaulted { (c : Contents) (s : PlainSink) → D.contents self.old.folder ≡ Some c → AgreesSink D.contents self.old s →
             (self.new.faults ≡ self.old.faults) × IfErr result (λ e. e ≡ FolderError.OutOfMemory) }
         ensures names { builder_names self.new.builder ≡ builder_names self.old.builder }
+        ensures told { ToldWrites (D.failed self.old.folder) result (D.failed self.new.folder) }
     {
         let outcome = write_all(&mut self.folder, self.current, bytes);
         self.faults = self.faults.after_write(outcome);
@@ -217,7 +223,8 @@ impl<D: Folder> RollingFileAppender<D> {
 
 /// Writes until all bytes are taken.
 fn write_all<D: Folder>(folder: &mut D, file: FileNumber, bytes: &[u8]) -> Result<(), FolderError>
-    ensures { WritesAll (D.contents folder.old) file bytes.now result (D.contents folder.new) }
+    ensures written { WritesAll (D.contents folder.old) file bytes.now result (D.contents folder.new) }
+    ensures told { ToldWrites (D.failed folder.old) result (D.failed folder.new) }
 {
     let mut from = 0;
     while from < bytes.len() {

@@ -1,6 +1,6 @@
 //! How the files of a sink are named, when they change, and what is kept of them.
 
-ghost use Rattle.std.specs.Prelude.{◌≡◌, IfOk, string_bytes, true};
+ghost use Rattle.std.specs.Prelude.{◌≡◌, IfOk, string_bytes, true, false};
 ghost use Rattle.std.specs.Option.{option_map};
 ghost use Rattle.tracing_appender_rolling.specs.Moments.{is_moment, period_at};
 ghost use Rattle.tracing_appender_rolling.specs.Names.{text_or_none, count_or_none, has_bad_byte, is_dots_or_none, is_lasting_dots, file_name};
@@ -8,7 +8,7 @@ ghost use Rattle.tracing_appender_rolling.specs.Names.{text_or_none, count_or_no
 use crate::moment::Moment;
 use crate::rotation::Rotation;
 use std::alloc::{AllocError, Global};
-use tracing_appender_dates::{PeriodKind, name_text};
+use tracing_appender_dates::{PeriodKind, name_text, second_named};
 
 /// The names of a sink's files, when they change, how many are kept, and the link to the latest one.
 #[derive(Debug, Drop)]
@@ -22,7 +22,7 @@ pub struct Builder {
 
 impl Builder {
     ghost use Rattle.tracing_appender_rolling.specs.Builders.{builder_names, plain_names, kind_of};
-    ghost use Rattle.tracing_appender_rolling.specs.Names.{is_bad_name};
+    ghost use Rattle.tracing_appender_rolling.specs.Names.{is_bad_name, HasBadLink, HasGoodLink};
 
     /// One file that never changes, with neither prefix nor suffix, no limit and no link.
     pub fn new() -> Builder
@@ -93,6 +93,20 @@ impl Builder {
             || has_bad_byte(&self.latest)
             || is_dots(&self.latest)
             || self.is_lasting_dots()
+    }
+
+    /// Whether the link has the name of a log file of some moment.
+    pub fn has_bad_link(&self) -> bool
+        ensures bad { result ≡ true → HasBadLink (builder_names self.now) }
+        ensures good { result ≡ false → HasGoodLink (builder_names self.now) }
+    {
+        match &self.latest {
+            None => false,
+            Some(link) => {
+                let kind = self.rotation.0;
+                second_named(kind, &self.prefix, &self.suffix, link.as_bytes()).is_some()
+            }
+        }
     }
 
     /// Whether the one file for all of time would be named `.` or `..`.

@@ -2,6 +2,7 @@
 #![tactic(auto)]
 
 mod appender;
+mod build;
 mod builder;
 mod disk;
 mod entries;
@@ -10,6 +11,7 @@ mod faults;
 mod faulty;
 mod folder;
 mod laws;
+mod lines;
 mod memory;
 mod moment;
 mod opening;
@@ -17,6 +19,7 @@ mod retention;
 mod rotation;
 
 pub use appender::{OpenRefusal, RollingFileAppender};
+pub use build::{BuildError, BuildRefusal, daily, hourly, minutely, never, weekly};
 pub use builder::Builder;
 pub use disk::DiskFolder;
 pub use fault::{Entry, FileNumber, FolderError, FolderFault, InitContext, InitError};

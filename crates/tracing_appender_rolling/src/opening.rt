@@ -3,13 +3,15 @@
 ghost use Rattle.std.specs.Prelude.{◌≡◌, string_bytes};
 ghost use Rattle.std.specs.Option.{option_map};
 ghost use Rattle.tracing_appender_rolling.specs.Tries.{TriesOpening, TriesLinking, TriesFile, made_again, opened_twice, linked_to, opened_linked};
+ghost use Rattle.tracing_appender_rolling.specs.Telling.{ToldTry};
 
 use crate::fault::{FileNumber, FolderError, InitContext, InitFailure};
 use crate::folder::Folder;
 
 /// Opens a file. Where that is refused, the directories are made and it is tried once more.
 fn open_twice<D: Folder>(folder: &mut D, name: &str) -> Result<FileNumber, InitFailure>
-    ensures { TriesOpening (opened_twice name.now) (D.contents folder.old) result (D.contents folder.new) }
+    ensures tries { TriesOpening (opened_twice name.now) (D.contents folder.old) result (D.contents folder.new) }
+    ensures told { ToldTry (D.failed folder.old) result (D.failed folder.new) }
 {
     match folder.open_append(name) {
         Ok(file) => Ok(file),
@@ -23,7 +25,8 @@ fn open_twice<D: Folder>(folder: &mut D, name: &str) -> Result<FileNumber, InitF
 
 /// Makes the directories and opens a file.
 fn open_made<D: Folder>(folder: &mut D, name: &str) -> Result<FileNumber, InitFailure>
-    ensures { TriesOpening (made_again name.now) (D.contents folder.old) result (D.contents folder.new) }
+    ensures tries { TriesOpening (made_again name.now) (D.contents folder.old) result (D.contents folder.new) }
+    ensures told { ToldTry (D.failed folder.old) result (D.failed folder.new) }
 {
     if let Err(error) = folder.create_dirs() {
         return Err(InitFailure {
@@ -47,7 +50,8 @@ fn link_file<D: Folder>(
     link: &str,
     name: &str,
 ) -> Result<FileNumber, InitFailure>
-    ensures { TriesLinking (linked_to link.now name.now file) (D.contents folder.old) result (D.contents folder.new) }
+    ensures tries { TriesLinking (linked_to link.now name.now file) (D.contents folder.old) result (D.contents folder.new) }
+    ensures told { ToldTry (D.failed folder.old) result (D.failed folder.new) }
 {
     match folder.link(link, name) {
         Ok(()) => Ok(file),
@@ -67,7 +71,8 @@ pub(crate) fn open_linked<D: Folder>(
     name: &str,
     latest: &Option<String>,
 ) -> Result<FileNumber, InitFailure>
-    ensures { TriesFile (option_map string_bytes latest.now) name.now (D.contents folder.old) result (D.contents folder.new) }
+    ensures tries { TriesFile (option_map string_bytes latest.now) name.now (D.contents folder.old) result (D.contents folder.new) }
+    ensures told { ToldTry (D.failed folder.old) result (D.failed folder.new) }
 {
     match open_twice(folder, name) {
         Ok(file) => match latest {

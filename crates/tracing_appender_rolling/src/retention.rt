@@ -6,6 +6,7 @@ ghost use Rattle.tracing_appender_rolling.specs.Builders.{builder_names};
 ghost use Rattle.tracing_appender_rolling.specs.Listings.{listed_of};
 ghost use Rattle.tracing_appender_rolling.specs.Retention.{Tells, made_of, begins, ends, is_before, before_count, goes, IsAdded, IsCandidates, candidate_of};
 ghost use Rattle.tracing_appender_rolling.specs.Pruning.{Removes, Prunes, doomed, doomed_of};
+ghost use Rattle.tracing_appender_rolling.specs.Telling.{CountsOk};
 
 use crate::builder::Builder;
 use crate::fault::{Entry, FolderError};
@@ -130,7 +131,8 @@ fn is_doomed(all: &[Candidate<'_>], candidate: &Candidate<'_>, limit: usize) -> 
 
 /// Removes a file. A fault is counted.
 fn remove_file<D: Folder>(folder: &mut D, name: &str, faults: Faults) -> Result<Faults, AllocError>
-    ensures { Removes (name.now ∷ []) faults (D.contents folder.old) result (D.contents folder.new) }
+    ensures removes { Removes (name.now ∷ []) faults (D.contents folder.old) result (D.contents folder.new) }
+    ensures told { CountsOk (D.failed folder.old) faults result (D.failed folder.new) }
 {
     match folder.remove(name) {
         Ok(()) => Ok(faults),
@@ -147,7 +149,8 @@ fn remove_if_doomed<D: Folder>(
     limit: usize,
     faults: Faults,
 ) -> Result<Faults, AllocError>
-    ensures { Removes (doomed_of limit (map candidate_of all.now) (candidate_of candidate.now ∷ [])) faults (D.contents folder.old) result (D.contents folder.new) }
+    ensures removes { Removes (doomed_of limit (map candidate_of all.now) (candidate_of candidate.now ∷ [])) faults (D.contents folder.old) result (D.contents folder.new) }
+    ensures told { CountsOk (D.failed folder.old) faults result (D.failed folder.new) }
 {
     if !is_doomed(all, candidate, limit) {
         return Ok(faults);
@@ -163,7 +166,8 @@ fn remove_doomed<D: Folder>(
     limit: usize,
     faults: Faults,
 ) -> Result<Faults, AllocError>
-    ensures { Removes (doomed limit (map candidate_of all.now)) faults (D.contents folder.old) result (D.contents folder.new) }
+    ensures removes { Removes (doomed limit (map candidate_of all.now)) faults (D.contents folder.old) result (D.contents folder.new) }
+    ensures told { CountsOk (D.failed folder.old) faults result (D.failed folder.new) }
 {
     let mut faults = faults;
     for candidate in all {
@@ -180,6 +184,7 @@ pub(crate) fn prune<D: Folder>(
     faults: Faults,
 ) -> Result<Faults, AllocError>
     ensures pruned { Prunes (builder_names builder.now) faults (D.contents folder.old) result (D.contents folder.new) }
+    ensures told { CountsOk (D.failed folder.old) faults result (D.failed folder.new) }
     ensures unlimited { (builder_names builder.now).limit ≡ None → (result ≡ Ok faults) × (folder.new ≡ folder.old) }
 {
     let Some(limit) = builder.limit else {

@@ -4,6 +4,7 @@ ghost use Rattle.std.specs.Prelude.{◌≡◌, true};
 ghost use Rattle.tracing_appender_rolling.specs.Moments.{is_moment};
 
 mod folders;
+mod rolling;
 
 use crate::{
     Builder, Entry, FileNumber, Folder, FolderError, FolderFault, InitContext, InitError,

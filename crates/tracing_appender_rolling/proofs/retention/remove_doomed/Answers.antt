@@ -1,5 +1,6 @@
 use Rattle.std.proofs.Common.{arith, ◌<◌, length}
 use Rattle.std.specs.declared.alloc.AllocError.{AllocError}
+use Rattle.tracing_appender_rolling.proofs.Rising.{counts_then}
 use Rattle.tracing_appender_rolling.proofs.Removing.{removes_next}
 use Rattle.tracing_appender_rolling.proofs.retention.remove_doomed.Goals as goal
 
@@ -7,4 +8,7 @@ pub loop-candidate-preserved : goal.loop-candidate-preserved
 loop-candidate-preserved g c =
     let i = c.loop-candidate.candidate-index in
     let lt : i < length c.args.all.now = omega arith in
-    removes_next AllocError c.args.limit c.args.all.now i _ c.args.faults c.loop-candidate.faults c.in_ok-faults.faults (g.D.Folder.contents c.args.folder.now) (g.D.Folder.contents c.loop-candidate.folder) (g.D.Folder.contents c.remove_if_doomed.new.folder) lt c.loop-candidate.invariant c.in_ok-faults.ensures
+    record {
+      removed = removes_next AllocError c.args.limit c.args.all.now i _ c.args.faults c.loop-candidate.faults c.in_ok-faults.faults (g.D.Folder.contents c.args.folder.now) (g.D.Folder.contents c.loop-candidate.folder) (g.D.Folder.contents c.remove_if_doomed.new.folder) lt c.loop-candidate.invariant.removed c.in_ok-faults.ensures.removes;
+      counted = counts_then (g.D.Folder.failed c.args.folder.now) (g.D.Folder.failed c.loop-candidate.folder) (g.D.Folder.failed c.remove_if_doomed.new.folder) c.args.faults c.loop-candidate.faults c.in_ok-faults.faults c.loop-candidate.invariant.counted c.in_ok-faults.ensures.told;
+    }

@@ -5,9 +5,9 @@ use Rattle.tracing_appender_rolling.proofs.appender.RollingFileAppender.push.Goa
 pub returns-clause-ok : goal.returns-clause-ok
 returns-clause-ok g c =
     push_ok (g.D.Folder.contents c.args.self.now.folder) (g.D.Folder.contents c.write_all-outcome.new.folder) (builder_names c.args.self.now.builder)
-    c.args.self.now.boundary c.args.self.now.current c.args.bytes.now c.write_all-outcome.result c.write_all-outcome.ensures
+    c.args.self.now.boundary c.args.self.now.current c.args.bytes.now c.write_all-outcome.result c.write_all-outcome.ensures.written
 
 pub returns-clause-err : goal.returns-clause-err
 returns-clause-err g c =
     push_err (g.D.Folder.contents c.args.self.now.folder) (g.D.Folder.contents c.write_all-outcome.new.folder) (builder_names c.args.self.now.builder)
-    c.args.self.now.boundary c.args.self.now.current c.args.bytes.now c.write_all-outcome.result c.write_all-outcome.ensures
+    c.args.self.now.boundary c.args.self.now.current c.args.bytes.now c.write_all-outcome.result c.write_all-outcome.ensures.written

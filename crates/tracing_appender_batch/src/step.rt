@@ -1,0 +1,126 @@
+//! A worker step.
+
+ghost use Rattle.std.specs.Prelude.{◌≡◌, ◌≤◌, true, false, length};
+ghost use Rattle.tracing_appender_rolling.specs.Moments.{is_moment};
+ghost use Rattle.tracing_appender_rolling.specs.Builders.{builder_names};
+ghost use Rattle.tracing_appender_rolling.specs.Looks.{Held};
+ghost use Rattle.tracing_appender_rolling.specs.Sinks.{PlainSink, with_handed};
+ghost use Rattle.tracing_appender_rolling.specs.Appenders.{AgreesSink, Holds};
+ghost use Rattle.tracing_appender_batch.specs.Batches.{lines_in, queue_in, close_if, Next};
+ghost use Rattle.tracing_appender_batch.specs.Steps.{with_lines, is_missed, HandsOne, HandsAll, HoldsFlushed};
+
+use tracing_appender_queue::{QueueState, Taken};
+use tracing_appender_rolling::{Folder, FolderError, Moment, RollingFileAppender};
+
+/// How many lines a step took, and how many of these found no memory.
+#[derive(Clone, Copy, Debug, PartialEq, Eq)]
+pub struct Batched {
+    pub taken: usize,
+    pub missed: usize,
+}
+
+/// What became of a line.
+#[derive(Clone, Copy, Debug, PartialEq, Eq)]
+enum Written {
+    Whole,
+    Failed,
+    Missed,
+}
+
+impl Written {
+    fn is_missed(self) -> bool
+        ensures { result ≡ is_missed self }
+    {
+        match self {
+            Written::Whole | Written::Failed => false,
+            Written::Missed => true,
+        }
+    }
+}
+
+/// The next line before the mark.
+fn next_line(queue: &mut QueueState) -> Option<Vec<u8>>
+    ensures { Next queue.old result queue.new }
+{
+    if queue.is_mark_next() {
+        return None;
+    }
+    match queue.take() {
+        Some(Taken::Line(_, line)) => Some(line),
+        Some(Taken::Mark) | None => None,
+    }
+}
+
+/// Takes the mark where it stands at the head.
+fn close_at_mark(queue: &mut QueueState)
+    ensures { queue.new ≡ close_if queue.old }
+{
+    if queue.is_mark_next() {
+        let _ = queue.take();
+    }
+}
+
+fn write_line<D: Folder>(
+    appender: &mut RollingFileAppender<D>,
+    line: &[u8],
+    moment: Moment,
+) -> Written
+    requires { is_moment moment ≡ true }
+    ensures agrees { is_missed result ≡ false → (s : PlainSink) → AgreesSink D.contents appender.old s →
+        AgreesSink D.contents appender.new (with_handed s (record { line = line.now; moment = moment })) }
+    ensures handed { is_missed result ≡ false → (h : Held) → Holds D.contents appender.old h →
+        HandsOne D.contents (builder_names appender.old.builder) moment h line.now appender.new }
+    ensures names { builder_names appender.new.builder ≡ builder_names appender.old.builder }
+{
+    match appender.write_all_at(line, moment) {
+        Ok(()) => Written::Whole,
+        Err(FolderError::Fault(_)) => Written::Failed,
+        Err(FolderError::OutOfMemory) => Written::Missed,
+    }
+}
+
+fn flush_if<D: Folder>(appender: &mut RollingFileAppender<D>, last: Written)
+    ensures agrees { (s : PlainSink) → AgreesSink D.contents appender.old s → AgreesSink D.contents appender.new s }
+    ensures names { builder_names appender.new.builder ≡ builder_names appender.old.builder }
+    ensures flushed { (h : Held) → Holds D.contents appender.old h → HoldsFlushed D.contents h appender.new }
+{
+    if last == Written::Whole {
+        let _ = appender.flush();
+    }
+}
+
+/// Takes the first `k` lines, or all before the mark, and writes each at the moment; a mark that then stands at the head is taken too.
+/// A failing write loses its line's rest alone. After a last line that was written whole the file is flushed; what that answers is
+/// passed over.
+pub fn batch<D: Folder>(
+    queue: &mut QueueState,
+    appender: &mut RollingFileAppender<D>,
+    k: usize,
+    moment: Moment,
+) -> Batched
+    requires { is_moment moment ≡ true }
+    ensures queue { queue.new ≡ queue_in k queue.old }
+    ensures taken { result.taken ≡ length (lines_in k queue.old) }
+    ensures missed { result.missed ≤ result.taken }
+    ensures agrees { (s : PlainSink) → AgreesSink D.contents appender.old s → result.missed ≡ 0 →
+        AgreesSink D.contents appender.new (with_lines s (lines_in k queue.old) moment) }
+    ensures handed { (h : Held) → Holds D.contents appender.old h → result.missed ≡ 0 →
+        HandsAll D.contents (builder_names appender.old.builder) moment h (lines_in k queue.old) appender.new }
+{
+    let mut taken = 0;
+    let mut missed = 0;
+    let mut last = Written::Failed;
+    while taken < k {
+        let Some(line) = next_line(queue) else {
+            break;
+        };
+        last = write_line(appender, line.as_slice(), moment);
+        if last.is_missed() {
+            missed += 1;
+        }
+        taken += 1;
+    }
+    close_at_mark(queue);
+    flush_if(appender, last);
+    Batched { taken, missed }
+}

@@ -1,0 +1,11 @@
+use Rattle.tracing_appender_rolling.specs.Builders.{builder_names}
+use Rattle.tracing_appender_rolling.proofs.Building.{hands, line_agrees}
+use Rattle.tracing_appender_rolling.proofs.appender.RollingFileAppender.write_all_at.Goals as goal
+
+pub returns-clause-handed : goal.returns-clause-handed
+returns-clause-handed g c = λ h holds.
+    hands g.D.Folder.contents (builder_names c.args.self.now.builder) c.args.moment h c.args.bytes.now c.push.result c.look.new.self c.push.new.self (c.in_ok-look.ensures.looked h holds) c.push.ensures.still c.push.ensures.faults c.push.ensures.written
+
+pub returns-clause-ok : goal.returns-clause-ok
+returns-clause-ok g c = λ fed s agrees.
+    line_agrees g.D.Folder.contents c.args.bytes.now c.args.moment s c.push.result c.look.new.self c.push.new.self fed (c.in_ok-look.ensures.ok s agrees) c.push.ensures.ok c.push.ensures.unfaulted c.push.ensures.written

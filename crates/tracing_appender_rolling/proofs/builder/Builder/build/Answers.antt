@@ -1,0 +1,16 @@
+use Rattle.std.proofs.Common.{sym, ◌∙◌, subst, refl}
+use Rattle.tracing_appender_rolling.specs.Builders.{builder_names}
+use Rattle.tracing_appender_rolling.specs.declared.build.BuildError.{BuildError}
+use Rattle.tracing_appender_rolling.specs.Builds.{Explains}
+use Rattle.tracing_appender_rolling.proofs.Building.{explained}
+use Rattle.tracing_appender_rolling.proofs.builder.Builder.build.Goals as goal
+
+pub returns-in-Err : goal.returns-in-Err
+returns-in-Err g c =
+    let names = builder_names c.args.self in
+    let r = c.in-Err.refused in
+    record {
+      names_same = c.in-Err.ensures.back;
+      explained = subst (λ (e : BuildError). Explains g.D.Folder.contents names c.args.folder c.args.moment e r.folder) (sym c.build_error.ensures)
+          (explained g.D.Folder.contents names c.args.folder c.args.moment r.context r.error r.folder (sym c.has_bad_name.ensures ∙ c.if-has_bad_name.false) (c.if-has_bad_link.ensures.good refl) c.in-Err.ensures.failed);
+    }

@@ -1,0 +1,56 @@
+-- A line that is handed over at a moment: a look, then writes.
+use Rattle.std.specs.Prelude.{◌≡◌, ℕ, ℤ, Bool, true, false, List, [], ◌⊎◌, Option, Some, Result, Ok, Err}
+use Rattle.tracing_appender_rolling.specs.declared.moment.Moment.{Moment}
+use Rattle.tracing_appender_rolling.specs.declared.faults.Faults.{Faults}
+use Rattle.tracing_appender_rolling.specs.declared.fault.FileNumber.{FileNumber}
+use Rattle.tracing_appender_rolling.specs.declared.fault.FolderError.{FolderError}
+use Rattle.tracing_appender_rolling.specs.declared.fault.FolderError.TheVariants.{Fault, OutOfMemory}
+use Rattle.tracing_appender_rolling.specs.declared.appender.RollingFileAppender.{RollingFileAppender}
+use Rattle.tracing_appender_rolling.specs.Moments.{is_due}
+use Rattle.tracing_appender_rolling.specs.Names.{FileNames}
+use Rattle.tracing_appender_rolling.specs.Contents.{Contents, written}
+use Rattle.tracing_appender_rolling.specs.Faults.{after_write, unit_of}
+use Rattle.tracing_appender_rolling.specs.Looks.{Held, LookedTo}
+use Rattle.tracing_appender_rolling.specs.Writes.{WritesAll}
+use Rattle.tracing_appender_rolling.specs.Sinks.{PlainSink, with_handed}
+use Rattle.tracing_appender_rolling.specs.Appenders.{AgreesSink}
+
+-- a look led there, and then writes answered so and left that
+pub record HandedOver (names : FileNames) (m : Moment) (h : Held) (bytes : List ℕ) (result : Result (Unit {0}) FolderError) (boundary : Option ℤ) (current : FileNumber) (faults : Faults) (after : Option Contents) : Type 0 where
+  pub seen : Held
+  pub looked : LookedTo (is_due h.boundary m.seconds) names m h seen.boundary seen.current seen.faults (Some seen.contents)
+  pub boundary_same : boundary ≡ seen.boundary
+  pub current_same : current ≡ seen.current
+  pub counted : faults ≡ after_write seen.faults result
+  pub writes : WritesAll (Some seen.contents) seen.current bytes result after
+
+-- nothing more is said where some call found no memory
+abbrev pub HandsLine : {D : Type 0} → (D → Option Contents) → FileNames → Moment → Held → List ℕ → Result (Unit {0}) FolderError → RollingFileAppender D → Type 0
+HandsLine contents names m h bytes (Ok done) a = HandedOver names m h bytes (Ok done) a.boundary a.current a.faults (contents a.folder)
+HandsLine contents names m h bytes (Err (Fault fault)) a = HandedOver names m h bytes (Err (Fault fault)) a.boundary a.current a.faults (contents a.folder)
+HandsLine contents names m h bytes (Err OutOfMemory) a = Unit {0}
+
+-- whether an answer is want of memory
+abbrev pub is_starved : Result (Unit {0}) FolderError → Bool
+is_starved (Ok done) = false
+is_starved (Err (Fault fault)) = false
+is_starved (Err OutOfMemory) = true
+
+-- the sink is as it was, or has a line without bytes more
+abbrev pub Misses : {D : Type 0} → (D → Option Contents) → PlainSink → Moment → RollingFileAppender D → Type 0
+Misses contents s m a = AgreesSink contents a s ⊎ AgreesSink contents a (with_handed s (record { line = []; moment = m }))
+
+-- a look led there, and then one write of the folder answered so and left that
+pub record WrittenOnce (names : FileNames) (m : Moment) (h : Held) (bytes : List ℕ) (result : Result ℕ FolderError) (boundary : Option ℤ) (current : FileNumber) (faults : Faults) (after : Option Contents) : Type 0 where
+  pub seen : Held
+  pub looked : LookedTo (is_due h.boundary m.seconds) names m h seen.boundary seen.current seen.faults (Some seen.contents)
+  pub boundary_same : boundary ≡ seen.boundary
+  pub current_same : current ≡ seen.current
+  pub counted : faults ≡ after_write seen.faults (unit_of result)
+  pub answered : (written seen.contents seen.current bytes).0 ≡ result
+  pub left : after ≡ Some (written seen.contents seen.current bytes).1
+
+abbrev pub WritesOnce : {D : Type 0} → (D → Option Contents) → FileNames → Moment → Held → List ℕ → Result ℕ FolderError → RollingFileAppender D → Type 0
+WritesOnce contents names m h bytes (Ok n) a = WrittenOnce names m h bytes (Ok n) a.boundary a.current a.faults (contents a.folder)
+WritesOnce contents names m h bytes (Err (Fault fault)) a = WrittenOnce names m h bytes (Err (Fault fault)) a.boundary a.current a.faults (contents a.folder)
+WritesOnce contents names m h bytes (Err OutOfMemory) a = Unit {0}

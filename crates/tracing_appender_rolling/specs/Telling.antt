@@ -1,0 +1,46 @@
+-- When a fault is told or counted: only where the folder's count rose, or a write of some bytes took none.
+use Rattle.std.specs.Prelude.{◌≡◌, ℕ, ◌+◌, ◌-◌, ◌^◌, ◌≤◌, min, ◌⊎◌, Result, Ok, Err}
+use Rattle.tracing_appender_rolling.specs.declared.faults.Faults.{Faults}
+use Rattle.tracing_appender_rolling.specs.declared.fault.FolderError.{FolderError}
+use Rattle.tracing_appender_rolling.specs.declared.fault.FolderError.TheVariants.{Fault, OutOfMemory}
+use Rattle.tracing_appender_rolling.specs.declared.fault.FolderFault.{FolderFault}
+use Rattle.tracing_appender_rolling.specs.declared.fault.FolderFault.TheVariants.{WriteZero}
+use Rattle.tracing_appender_rolling.specs.declared.fault.InitFailure.{InitFailure}
+
+-- a folder's count doesn't fall, unless it stands at the greatest number
+abbrev pub Keeps : ℕ → ℕ → Type 0
+Keeps n m = min n (2 ^ 64 - 1) ≤ m
+
+-- a folder's count rose, or stands at the greatest number
+abbrev pub Rises : ℕ → ℕ → Type 0
+Rises n m = min (n + 1) (2 ^ 64 - 1) ≤ m
+
+abbrev pub ToldError : ℕ → FolderError → ℕ → Type 0
+ToldError n (Fault fault) m = Rises n m
+ToldError n OutOfMemory m = Keeps n m
+
+-- an answer of a try
+abbrev pub ToldTry : {T : Type 0} → ℕ → Result T InitFailure → ℕ → Type 0
+ToldTry n (Ok value) m = Keeps n m
+ToldTry n (Err f) m = ToldError n f.error m
+
+-- a count of faults that was kept or that grew
+abbrev pub Counts : ℕ → Faults → Faults → ℕ → Type 0
+Counts n old new m = Keeps n m × ((new ≡ old) ⊎ Rises n m)
+
+abbrev pub CountsOk : {E : Type 0} → ℕ → Faults → Result Faults E → ℕ → Type 0
+CountsOk n old (Ok new) m = Counts n old new m
+CountsOk n old (Err e) m = Keeps n m
+
+-- an answer of writes
+abbrev pub ToldFault : ℕ → FolderFault → ℕ → Type 0
+ToldFault n fault m = Rises n m ⊎ (fault ≡ WriteZero)
+
+abbrev pub ToldWrites : {T : Type 0} → ℕ → Result T FolderError → ℕ → Type 0
+ToldWrites n (Ok value) m = Keeps n m
+ToldWrites n (Err OutOfMemory) m = Keeps n m
+ToldWrites n (Err (Fault fault)) m = Keeps n m × ToldFault n fault m
+
+-- a count of faults that was kept, or grew where the folder's count rose or a write took nothing
+abbrev pub CountsLine : ℕ → Faults → Faults → Result (Unit {0}) FolderError → ℕ → Type 0
+CountsLine n old new result m = (new ≡ old) ⊎ (Rises n m ⊎ (result ≡ Err (Fault WriteZero)))

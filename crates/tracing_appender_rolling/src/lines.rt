@@ -1,0 +1,87 @@
+//! Lines that are handed over at moments.
+
+ghost use Rattle.std.specs.Prelude.{◌≡◌, ◌≤◌, [], IfOk, OnErr, true, false, length};
+ghost use Rattle.tracing_appender_rolling.specs.Moments.{is_moment};
+ghost use Rattle.tracing_appender_rolling.specs.Builders.{builder_names};
+ghost use Rattle.tracing_appender_rolling.specs.Contents.{Gives, nothing, written};
+ghost use Rattle.tracing_appender_rolling.specs.Faults.{after_write, unit_of};
+ghost use Rattle.tracing_appender_rolling.specs.Telling.{Counts, CountsLine, ToldWrites};
+ghost use Rattle.tracing_appender_rolling.specs.Sinks.{PlainSink, with_handed};
+
+use crate::appender::RollingFileAppender;
+use crate::fault::FolderError;
+use crate::folder::Folder;
+use crate::moment::Moment;
+
+impl<D: Folder> RollingFileAppender<D> {
+    ghost use Rattle.tracing_appender_rolling.specs.Appenders.{AgreesSink, Holds};
+    ghost use Rattle.tracing_appender_rolling.specs.Looks.{Held};
+    ghost use Rattle.tracing_appender_rolling.specs.Handing.{HandsLine, WritesOnce, Misses, is_starved};
+
+    /// Looks at the moment, also for no bytes, and writes until all bytes are taken. A fault loses the rest, and is counted.
+    ///
+    /// # Errors
+    ///
+    /// The fault of a write, or want of memory, which is no fault. A failed switch is only counted.
+    pub fn write_all_at(&mut self, bytes: &[u8], moment: Moment) -> Result<(), FolderError>
+        requires { is_moment moment ≡ true }
+        ensures ok { is_starved result ≡ false → (s : PlainSink) → AgreesSink D.contents self.old s →
+            AgreesSink D.contents self.new (with_handed s (record { line = bytes.now; moment = moment })) }
+        ensures err { OnErr result ((s : PlainSink) → AgreesSink D.contents self.old s → Misses D.contents s moment self.new) }
+        ensures handed { (h : Held) → Holds D.contents self.old h → HandsLine D.contents (builder_names self.old.builder) moment h bytes.now result self.new }
+        ensures names { builder_names self.new.builder ≡ builder_names self.old.builder }
+        ensures told { ToldWrites (D.failed self.old.folder) result (D.failed self.new.folder) }
+        ensures counted { CountsLine (D.failed self.old.folder) self.old.faults self.new.faults result (D.failed self.new.folder) }
+    {
+        self.look(moment)?;
+        self.push(bytes)
+    }
+
+    /// Looks at the moment, and writes once; answers how many first bytes were taken. A fault is counted.
+    ///
+    /// # Errors
+    ///
+    /// The fault of the write, or want of memory, which is no fault. A failed switch is only counted.
+    pub fn write_at(&mut self, bytes: &[u8], moment: Moment) -> Result<usize, FolderError>
+        requires { is_moment moment ≡ true }
+        ensures bound { IfOk result (λ n. n ≤ length bytes.now) }
+        ensures written { (h : Held) → Holds D.contents self.old h → WritesOnce D.contents (builder_names self.old.builder) moment h bytes.now result self.new }
+        ensures names { builder_names self.new.builder ≡ builder_names self.old.builder }
+        ensures told { ToldWrites (D.failed self.old.folder) result (D.failed self.new.folder) }
+        ensures counted { Counts (D.failed self.old.folder) self.old.faults self.new.faults (D.failed self.new.folder) }
+    {
+        self.look(moment)?;
+        self.write_once(bytes)
+    }
+
+    /// Writes once to the current file. A fault is counted.
+    fn write_once(&mut self, bytes: &[u8]) -> Result<usize, FolderError>
+        ensures bound { IfOk result (λ n. n ≤ length bytes.now) }
+        ensures gives { Gives (λ c. written c self.old.current bytes.now) (D.contents self.old.folder) result (D.contents self.new.folder) }
+        ensures faults { self.new.faults ≡ after_write self.old.faults (unit_of result) }
+        ensures still { self.new ≡ record self.old { folder = self.new.folder; faults = self.new.faults } }
+        ensures told { ToldWrites (D.failed self.old.folder) result (D.failed self.new.folder) }
+        ensures counted { Counts (D.failed self.old.folder) self.old.faults self.new.faults (D.failed self.new.folder) }
+    {
+        match self.folder.write(self.current, bytes) {
+            Ok(taken) => Ok(taken),
+            Err(error) => {
+                self.faults = self.faults.after_write(Err(error));
+                Err(error)
+            }
+        }
+    }
+
+    /// Flushes the current file.
+    ///
+    /// # Errors
+    ///
+    /// The folder's fault, or want of memory. Neither is counted.
+    pub fn flush(&mut self) -> Result<(), FolderError>
+        ensures gives { Gives nothing (D.contents self.old.folder) result (D.contents self.new.folder) }
+        ensures still { self.new ≡ record self.old { folder = self.new.folder } }
+        ensures agrees { (s : PlainSink) → AgreesSink D.contents self.old s → AgreesSink D.contents self.new s }
+    {
+        self.folder.flush(self.current)
+    }
+}

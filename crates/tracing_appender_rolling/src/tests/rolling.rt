@@ -1,0 +1,385 @@
+//! Rotations, retention, links, and builders that are refused.
+
+ghost use Rattle.std.specs.Prelude.{◌≡◌, IfOk, true};
+ghost use Rattle.tracing_appender_rolling.specs.Moments.{is_moment};
+
+use crate::{
+    BuildError, Builder, DiskFolder, FaultyFolder, Folder, FolderFault, InitContext, InitError,
+    MemoryFolder, Moment, RollingFileAppender, Rotation, daily, hourly, minutely, never, weekly,
+};
+use std::alloc::{AllocError, Global};
+use std::fs;
+use std::test::Fail;
+
+/// 2025-02-17T10:01:00Z.
+const MONDAY: Moment = Moment {
+    seconds: 1_739_786_460,
+    nanoseconds: 0,
+};
+
+/// 2020-02-01T10:01:00Z.
+const FEBRUARY: Moment = Moment {
+    seconds: 1_580_551_260,
+    nanoseconds: 0,
+};
+
+/// 0001-01-01T00:00:00Z.
+const FIRST: Moment = Moment {
+    seconds: -62_135_596_800,
+    nanoseconds: 0,
+};
+
+/// 9998-12-31T23:59:59Z.
+const LAST: Moment = Moment {
+    seconds: 253_370_764_799,
+    nanoseconds: 0,
+};
+
+/// So many seconds after 2020-02-01T10:01:00Z.
+fn later(seconds: i64) -> Result<Moment, Fail>
+    ensures { IfOk result (λ moment. is_moment moment ≡ true) }
+{
+    match FEBRUARY.seconds.checked_add(seconds) {
+        Some(seconds) => Ok(Moment::new(seconds, 0)?),
+        None => Err("too late".into()),
+    }
+}
+
+fn named(
+    alloc: Global,
+    rotation: Rotation,
+    prefix: &str,
+    suffix: &str,
+) -> Result<Builder, AllocError> {
+    let prefix = String::from_str(alloc, prefix)?;
+    let suffix = String::from_str(alloc, suffix)?;
+    Ok(
+        Builder::new()
+            .rotation(rotation)
+            .filename_prefix(prefix)
+            .filename_suffix(suffix),
+    )
+}
+
+/// The name of the only file of a fresh appender.
+fn first_name(alloc: Global, builder: Builder, moment: Moment) -> Result<String, Fail>
+    requires { is_moment moment ≡ true }
+{
+    let appender = builder
+        .build(alloc, MemoryFolder::new(alloc), moment)
+        .map_err(|refusal| refusal.error)?;
+    let entries = appender.folder().files()?;
+    let entry = entries.first().ok_or("no file")?;
+    Ok(String::from_str(alloc, entry.name)?)
+}
+
+/// Whether the folder has the file with these bytes.
+fn holds(folder: &MemoryFolder, name: &str, bytes: &[u8]) -> Result<bool, AllocError> {
+    let entries = folder.files()?;
+    for entry in &entries {
+        if entry.name == name {
+            return Ok(entry.bytes == bytes);
+        }
+    }
+    Ok(false)
+}
+
+#[test]
+fn all_rotations_have_names(rt: HostRuntime) -> Result<(), Fail> {
+    let alloc = rt.alloc();
+    let week = first_name(
+        alloc,
+        named(alloc, Rotation::WEEKLY, "my_prefix", "log")?,
+        MONDAY,
+    )?;
+    assert_eq!(rt; week.as_str(), "my_prefix.2025-02-16.log");
+    let hour = first_name(
+        alloc,
+        named(alloc, Rotation::HOURLY, "my_prefix", "log")?,
+        MONDAY,
+    )?;
+    assert_eq!(rt; hour.as_str(), "my_prefix.2025-02-17-10.log");
+    let minute = first_name(
+        alloc,
+        named(alloc, Rotation::MINUTELY, "my_prefix", "log")?,
+        MONDAY,
+    )?;
+    assert_eq!(rt; minute.as_str(), "my_prefix.2025-02-17-10-01.log");
+    let lasting = first_name(
+        alloc,
+        named(alloc, Rotation::NEVER, "my_prefix", "log")?,
+        MONDAY,
+    )?;
+    assert_eq!(rt; lasting.as_str(), "my_prefix.log");
+    let alone = first_name(alloc, Builder::default(), MONDAY)?;
+    assert_eq!(rt; alone.as_str(), "2025-02-17");
+    let prefix = first_name(
+        alloc,
+        named(alloc, Rotation::NEVER, "app.log", "")?,
+        FEBRUARY,
+    )?;
+    assert_eq!(rt; prefix.as_str(), "app.log");
+    let suffix = first_name(alloc, named(alloc, Rotation::NEVER, "", "log")?, FEBRUARY)?;
+    assert_eq!(rt; suffix.as_str(), "log");
+    Ok(())
+}
+
+#[test]
+fn names_at_both_ends(rt: HostRuntime) -> Result<(), Fail> {
+    let alloc = rt.alloc();
+    let day = first_name(
+        alloc,
+        named(alloc, Rotation::DAILY, "my_prefix", "log")?,
+        FIRST,
+    )?;
+    assert_eq!(rt; day.as_str(), "my_prefix.0001-01-01.log");
+    let last = first_name(
+        alloc,
+        named(alloc, Rotation::DAILY, "my_prefix", "log")?,
+        LAST,
+    )?;
+    assert_eq!(rt; last.as_str(), "my_prefix.9998-12-31.log");
+    let week = first_name(
+        alloc,
+        named(alloc, Rotation::WEEKLY, "my_prefix", "log")?,
+        FIRST,
+    )?;
+    assert_eq!(rt; week.as_str(), "my_prefix.0000-12-31.log");
+    assert_eq!(rt; Rotation::DAILY.next_date(LAST), Some(253_370_764_800));
+    assert_eq!(rt; Rotation::WEEKLY.round_date(MONDAY), Some(1_739_664_000));
+    assert_eq!(rt; Rotation::HOURLY.period_start(MONDAY), Some(1_739_786_400));
+    assert_eq!(rt; Rotation::MINUTELY.next_date(MONDAY), Some(1_739_786_520));
+    assert_eq!(rt; Rotation::NEVER.next_date(MONDAY), None);
+    assert_eq!(rt; Rotation::NEVER.round_date(MONDAY), None);
+    Ok(())
+}
+
+#[test]
+fn each_rotation_writes_one_file(rt: HostRuntime) -> Result<(), Fail> {
+    let alloc = rt.alloc();
+    let prefix = String::from_str(alloc, "p.log")?;
+    let mut appender = minutely(alloc, MemoryFolder::new(alloc), prefix, FEBRUARY).map_err(
+        |refusal| refusal.error,
+    )?;
+    appender.write_all_at(b"Hello", FEBRUARY)?;
+    assert!(rt; holds(appender.folder(), "p.log.2020-02-01-10-01", b"Hello")?);
+    let prefix = String::from_str(alloc, "p.log")?;
+    let mut appender = hourly(alloc, MemoryFolder::new(alloc), prefix, FEBRUARY).map_err(
+        |refusal| refusal.error,
+    )?;
+    appender.write_all_at(b"Hello", FEBRUARY)?;
+    assert!(rt; holds(appender.folder(), "p.log.2020-02-01-10", b"Hello")?);
+    let prefix = String::from_str(alloc, "p.log")?;
+    let mut appender = daily(alloc, MemoryFolder::new(alloc), prefix, FEBRUARY).map_err(
+        |refusal| refusal.error,
+    )?;
+    appender.write_all_at(b"Hello", FEBRUARY)?;
+    assert!(rt; holds(appender.folder(), "p.log.2020-02-01", b"Hello")?);
+    let prefix = String::from_str(alloc, "p.log")?;
+    let mut appender = weekly(alloc, MemoryFolder::new(alloc), prefix, FEBRUARY).map_err(
+        |refusal| refusal.error,
+    )?;
+    appender.write_all_at(b"Hello", FEBRUARY)?;
+    assert!(rt; holds(appender.folder(), "p.log.2020-01-26", b"Hello")?);
+    let prefix = String::from_str(alloc, "p.log")?;
+    let mut appender = never(alloc, MemoryFolder::new(alloc), prefix, FEBRUARY).map_err(
+        |refusal| refusal.error,
+    )?;
+    appender.write_all_at(b"Hel", FEBRUARY)?;
+    assert_eq!(rt; appender.write_at(b"lo", LAST)?, 2);
+    appender.flush()?;
+    assert!(rt; holds(appender.folder(), "p.log", b"Hello")?);
+    assert_eq!(rt; appender.into_folder().files()?.len(), 1);
+    Ok(())
+}
+
+#[test]
+fn old_files_go(rt: HostRuntime) -> Result<(), Fail> {
+    let alloc = rt.alloc();
+    let mut appender = named(alloc, Rotation::HOURLY, "t", "")?
+        .max_log_files(2)
+        .build(alloc, MemoryFolder::new(alloc), FEBRUARY)
+        .map_err(|refusal| refusal.error)?;
+    appender.write_all_at(b"a", later(1)?)?;
+    appender.write_all_at(b"b", later(3_601)?)?;
+    appender.write_all_at(b"c", later(7_202)?)?;
+    assert_eq!(rt; appender.faults().retentions, 0);
+    let folder = appender.into_folder();
+    assert_eq!(rt; folder.files()?.len(), 2);
+    assert!(rt; holds(&folder, "t.2020-02-01-11", b"b")?);
+    assert!(rt; holds(&folder, "t.2020-02-01-12", b"c")?);
+    Ok(())
+}
+
+#[test]
+fn candidates_count_from_their_making(rt: HostRuntime) -> Result<(), Fail> {
+    let alloc = rt.alloc();
+    let mut folder = MemoryFolder::new(alloc);
+    folder.put("t.b", b"1", Some(FEBRUARY))?;
+    folder.put("t.a", b"2", Some(FEBRUARY))?;
+    folder.put("t.2019-01-01", b"3", None)?;
+    folder.put("t.2019-02-29", b"no date", None)?;
+    folder.put("u.2019-01-01", b"other", None)?;
+    folder.put("t.new", b"4", Some(MONDAY))?;
+    let appender = named(alloc, Rotation::DAILY, "t", "")?
+        .max_log_files(3)
+        .build(alloc, folder, FEBRUARY)
+        .map_err(|refusal| refusal.error)?;
+    let folder = appender.into_folder();
+    assert!(rt; !holds(&folder, "t.2019-01-01", b"3")?);
+    assert!(rt; !holds(&folder, "t.a", b"2")?);
+    assert!(rt; holds(&folder, "t.b", b"1")?);
+    assert!(rt; holds(&folder, "t.new", b"4")?);
+    assert!(rt; holds(&folder, "t.2019-02-29", b"no date")?);
+    assert!(rt; holds(&folder, "u.2019-01-01", b"other")?);
+    assert!(rt; holds(&folder, "t.2020-02-01", b"")?);
+    Ok(())
+}
+
+#[test]
+fn a_link_leads_to_the_latest_file(rt: HostRuntime) -> Result<(), Fail> {
+    let alloc = rt.alloc();
+    let link = String::from_str(alloc, "latest.log")?;
+    let mut appender = named(alloc, Rotation::HOURLY, "t", "")?
+        .latest_symlink(link)
+        .build(alloc, MemoryFolder::new(alloc), FEBRUARY)
+        .map_err(|refusal| refusal.error)?;
+    assert_eq!(rt;
+        appender.folder().link_target("latest.log"),
+        Some("t.2020-02-01-10")
+    );
+    appender.write_all_at(b"test\n", later(3_540)?)?;
+    assert_eq!(rt;
+        appender.folder().link_target("latest.log"),
+        Some("t.2020-02-01-11")
+    );
+    assert!(rt; holds(appender.folder(), "t.2020-02-01-11", b"test\n")?);
+    Ok(())
+}
+
+/// What building over an empty folder in memory is refused for.
+fn refusal(alloc: Global, builder: Builder) -> Option<BuildError> {
+    match builder.build(alloc, MemoryFolder::new(alloc), FEBRUARY) {
+        Ok(_) => None,
+        Err(refused) => Some(refused.error),
+    }
+}
+
+#[test]
+fn bad_names_and_links_are_refused(rt: HostRuntime) -> Result<(), Fail> {
+    let alloc = rt.alloc();
+    let slash = named(alloc, Rotation::HOURLY, "a/b", "")?;
+    assert_eq!(rt; refusal(alloc, slash), Some(BuildError::BadName));
+    let dots = named(alloc, Rotation::NEVER, "..", "")?;
+    assert_eq!(rt; refusal(alloc, dots), Some(BuildError::BadName));
+    let dots = named(alloc, Rotation::DAILY, "..", "")?;
+    assert_eq!(rt; refusal(alloc, dots), None);
+    let link = String::from_str(alloc, ".")?;
+    let dot = named(alloc, Rotation::HOURLY, "p", "")?.latest_symlink(link);
+    assert_eq!(rt; refusal(alloc, dot), Some(BuildError::BadName));
+    let link = String::from_str(alloc, "p.2020-02-01-10")?;
+    let hour = named(alloc, Rotation::HOURLY, "p", "")?.latest_symlink(link);
+    assert_eq!(rt; refusal(alloc, hour), Some(BuildError::BadLinkName));
+    let link = String::from_str(alloc, "p.2025-02-16")?;
+    let sunday = named(alloc, Rotation::WEEKLY, "p", "")?.latest_symlink(link);
+    assert_eq!(rt; refusal(alloc, sunday), Some(BuildError::BadLinkName));
+    let link = String::from_str(alloc, "p.2025-02-17")?;
+    let monday = named(alloc, Rotation::WEEKLY, "p", "")?.latest_symlink(link);
+    assert_eq!(rt; refusal(alloc, monday), None);
+    let link = String::from_str(alloc, "p.log")?;
+    let lasting = named(alloc, Rotation::NEVER, "p", "log")?.latest_symlink(link);
+    assert_eq!(rt; refusal(alloc, lasting), Some(BuildError::BadLinkName));
+    Ok(())
+}
+
+/// Builds with retention and a link, writes twice at one hour's distance, and flushes; the call with the number is refused. Answers
+/// the folder's count, and what was told or counted.
+fn script(alloc: Global, number: u64) -> Result<(u64, usize), Fail> {
+    let mut inner = MemoryFolder::new(alloc);
+    inner.put("t.2020-01-01-00", b"old", None)?;
+    let refused = Vec::from_slice(alloc, &[number])?;
+    let folder = FaultyFolder::new(inner, refused);
+    let link = String::from_str(alloc, "latest")?;
+    let builder = named(alloc, Rotation::HOURLY, "t", "")?
+        .max_log_files(1)
+        .latest_symlink(link);
+    match builder.build(alloc, folder, FEBRUARY) {
+        Err(refused) => Ok((refused.folder.failures(), 1)),
+        Ok(mut appender) => {
+            let mut told = 0;
+            if appender.write_all_at(b"a", FEBRUARY).is_err() {
+                told += 1;
+            }
+            if appender.write_all_at(b"b", later(3_600)?).is_err() {
+                told += 1;
+            }
+            if appender.flush().is_err() {
+                told += 1;
+            }
+            let faults = appender.faults();
+            let counted = faults.switches.saturating_add(faults.retentions);
+            Ok((appender.folder().failures(), counted.saturating_add(told)))
+        }
+    }
+}
+
+#[test]
+fn each_call_is_refused_in_turn(rt: HostRuntime) -> Result<(), Fail> {
+    let alloc = rt.alloc();
+    for number in 1..=12 {
+        let (failures, told) = script(alloc, number)?;
+        assert_eq!(rt; failures, 1);
+        // a first opening is tried again, and what a close answers is passed over
+        let passed = number == 3 || number == 8 || number == 10;
+        assert_eq!(rt; told, if passed { 0 } else { 1 });
+    }
+    assert_eq!(rt; script(alloc, 13)?, (0, 0));
+    Ok(())
+}
+
+#[test]
+fn a_folder_of_the_system_rolls(rt: HostRuntime) -> Result<(), Fail> {
+    let alloc = rt.alloc();
+    fs::create_dir_all(&rt, "rolled")?;
+    fs::write(&rt, "rolled/t.2020-02-01-10", b"old\n")?;
+    let folder = DiskFolder::new(rt, String::from_str(alloc, "rolled")?);
+    let mut appender = named(alloc, Rotation::HOURLY, "t", "")?
+        .max_log_files(2)
+        .build(alloc, folder, FEBRUARY)
+        .map_err(|refusal| refusal.error)?;
+    appender.write_all_at(b"a\n", FEBRUARY)?;
+    let first = fs::read(&rt, "rolled/t.2020-02-01-10")?;
+    assert_eq!(rt; first.as_slice(), b"old\na\n".as_slice());
+    appender.write_all_at(b"b\n", later(3_600)?)?;
+    fs::remove_dir_all(&rt, "rolled")?;
+    appender.write_all_at(b"c\n", later(7_200)?)?;
+    let third = fs::read(&rt, "rolled/t.2020-02-01-12")?;
+    assert_eq!(rt; third.as_slice(), b"c\n".as_slice());
+    assert_eq!(rt; appender.faults().switches, 0);
+    fs::remove_dir_all(&rt, "rolled")?;
+    Ok(())
+}
+
+#[test]
+fn a_folder_of_the_system_makes_no_links(rt: HostRuntime) -> Result<(), Fail> {
+    let alloc = rt.alloc();
+    let folder = DiskFolder::new(rt, String::from_str(alloc, "linked")?);
+    let link = String::from_str(alloc, "latest")?;
+    let error = BuildError::Init(InitError {
+        context: InitContext::Link,
+        source: FolderFault::Unsupported,
+    });
+    match Builder::new()
+        .latest_symlink(link)
+        .build(alloc, folder, FEBRUARY)
+    {
+        Ok(_) => return Err("linked".into()),
+        Err(refused) => assert_eq!(rt; refused.error, error),
+    }
+    assert_eq!(rt;
+        format!(in alloc; "{error}")?.as_str(),
+        "failed to create symlink to latest log file: unsupported"
+    );
+    fs::remove_dir_all(&rt, "linked")?;
+    Ok(())
+}
