@@ -13,7 +13,7 @@ impl<L: Layer, F: Filter> Subscriber for Stack<Filtered<L, F>> {
     ghost use Rattle.span_registry_layers_stack.specs.Asked.{common_hint};
     ghost use Rattle.span_registry_layers_stack.specs.Moves.{AnswersOf, IsSteady, Moves, SaysOf};
     ghost use Rattle.span_registry_layers_stack.specs.Rows.{filters_of};
-    ghost use Rattle.span_registry_layers_stack.specs.Steadiness.{asked_stays, stack_fair, stack_quiet, stack_stays};
+    ghost use Rattle.span_registry_layers_stack.specs.Steadiness.{asked_stays, stack_fair, stack_quiet, stack_single, stack_stays};
 
     ghost answers = { λ x m at b. AnswersOf ⟦<F as Filter>⟧ x m at b };
 
@@ -26,6 +26,8 @@ impl<L: Layer, F: Filter> Subscriber for Stack<Filtered<L, F>> {
     ghost steady = { λ x. IsSteady ⟦<F as Filter>⟧ x };
 
     ghost fair = { λ x k. stack_fair ⟦<F as Filter>⟧ x k };
+
+    ghost single = { λ x m at a b real k one other. stack_single ⟦<F as Filter>⟧ x m at a b real k one other };
 
     ghost stays = { λ x c r y real moved k. stack_stays ⟦<F as Filter>⟧ ⟦<L as Layer>⟧ x c r y real moved k };
 
