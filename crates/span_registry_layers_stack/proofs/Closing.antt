@@ -1,15 +1,15 @@
 -- Spans that close, one after the other.
-use Rattle.std.proofs.Common.{◌≡◌, ◌<◌, ◌≤◌, ℕ, Bool, true, false, List, [], ◌∷◌, length, Option, Some, None, refl, sym, ap, ◌∙◌, subst, arith}
+use Rattle.std.proofs.Common.{◌≡◌, ℕ, List, [], ◌∷◌, Option, Some, None, refl, sym, ap, ◌∙◌, subst}
 use Rattle.tracing_core.specs.At.{At}
-use Rattle.span_registry_layers_store.specs.Gives.{ClosesNext, ForgetGives, IsNext, IsSettled}
-use Rattle.span_registry_layers_store.specs.Registries.{PlainSpan, RegistryValue, closing_in, swept, without_entry}
+use Rattle.span_registry_layers_store.specs.Gives.{ClosesNext, ForgetGives, IsNext}
+use Rattle.span_registry_layers_store.specs.Registries.{PlainSpan, RegistryValue, closing_in, without_entry}
 use Rattle.span_registry_layers_layers.specs.Looks.{Closed, Exited}
 use Rattle.span_registry_layers_layers.specs.declared.filter.Filter.{Ghosts}
 use Rattle.span_registry_layers_layers.specs.declared.filtered.Filtered.{Filtered}
 use Rattle.span_registry_layers_layers.specs.declared.layer.Layer.{Ghosts as LayerGhosts}
-use Rattle.span_registry_layers_stack.specs.Calls.{Closes, ClosesOne, ExitGives, over}
+use Rattle.span_registry_layers_stack.specs.Calls.{Closes, ExitGives, over}
 use Rattle.span_registry_layers_stack.specs.Rows.{EachBecomes}
-use Rattle.span_registry_layers_stack.specs.Spans.{ClosesEach, TellsSpan}
+use Rattle.span_registry_layers_stack.specs.Hearing.{ClosesEach, TellsSpan}
 use Rattle.span_registry_layers_stack.specs.Stacks.{RowsBecome, StackValue}
 use Rattle.span_registry_layers_stack.specs.declared.row.Row.{Row}
 

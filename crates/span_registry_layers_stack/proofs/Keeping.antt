@@ -1,10 +1,10 @@
 -- Keeping interests of callsites.
-use Rattle.std.proofs.Common.{◌≡◌, Bool, true, false, List, [], ◌∷◌, map, refl, ap, ◌∙◌, subst, sym}
+use Rattle.std.proofs.Common.{◌≡◌, true, List, [], ◌∷◌, map, refl, ap, ◌∙◌, subst, sym}
 use Rattle.std.specs.List.{list_any}
 use Rattle.tracing_core.specs.Interests.{PlainInterest}
 use Rattle.tracing_core.specs.PlainMetadata.{PlainMetadata}
 use Rattle.span_registry_layers_stack.specs.Rows.{EachBecomes}
-use Rattle.span_registry_layers_stack.specs.Sites.{Keeps, KeepsIf, PlainSite, Renews, is_of, plain_site, renewed}
+use Rattle.span_registry_layers_stack.specs.Sites.{Keeps, KeepsIf, Renews, is_of, plain_site, renewed}
 use Rattle.span_registry_layers_stack.specs.declared.site.Site.{Site}
 
 renewed_all : (m : PlainMetadata) (k : PlainInterest) (sites later : List Site) → EachBecomes (Renews m k) sites later → map plain_site later ≡ map (renewed m k) (map plain_site sites)

@@ -1,5 +1,5 @@
 -- Loops that change each element in turn.
-use Rattle.std.proofs.Common.{◌≡◌, ◌≤◌, ℕ, zero, suc, ◌+◌, ◌<◌, List, ◌∷◌, [], length, get_or, set, take, drop, map, refl, ap, sym, ◌∙◌, subst, arith, add-one}
+use Rattle.std.proofs.Common.{◌≡◌, ◌≤◌, ℕ, zero, suc, ◌+◌, ◌<◌, List, ◌∷◌, [], length, get_or, set, take, drop, map, refl, ap, sym, subst, arith, add-one}
 use Rattle.span_registry_layers_stack.specs.Rows.{EachBecomes}
 
 heads : {A : Type 0} (x y : A) (xs ys : List A) → x ∷ xs ≡ y ∷ ys → x ≡ y

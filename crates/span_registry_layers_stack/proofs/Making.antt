@@ -1,5 +1,5 @@
 -- Making spans.
-use Rattle.std.proofs.Common.{◌≡◌, ℕ, Bool, true, false, List, Option, Some, None, Result, Ok, Err, refl, sym, ap, ◌∙◌, subst}
+use Rattle.std.proofs.Common.{◌≡◌, ℕ, Bool, true, false, List, Option, None, Result, Ok, refl, sym, ◌∙◌, subst}
 use Rattle.tracing_core.specs.At.{At}
 use Rattle.tracing_core.specs.PlainRequests.{PlainAttributes, explicit_parent}
 use Rattle.tracing_core.specs.RequestError.{RequestError}
@@ -13,7 +13,7 @@ use Rattle.span_registry_layers_stack.specs.Calls.{MakesSpan, SpanAsked, SpanCac
 use Rattle.tracing_core.specs.Steady.{IsReal}
 use Rattle.span_registry_layers_stack.specs.Caches.{passes_is_asked}
 use Rattle.span_registry_layers_stack.specs.Words.{Word}
-use Rattle.span_registry_layers_stack.specs.Spans.{verdicts_from}
+use Rattle.span_registry_layers_stack.specs.Hearing.{verdicts_from}
 use Rattle.span_registry_layers_stack.specs.Stacks.{StackValue, cleared, passes_cached}
 
 module _ {L F : Type 0} (g : Ghosts F) (h : LayerGhosts L) (o : Oracle g) where

@@ -1,7 +1,7 @@
 -- Why what holds of every stack does.
-use Rattle.std.proofs.Common.{◌≡◌, ◌≢◌, ◌≤◌, ◌<◌, ◌+◌, ◌||◌, ◌&&◌, ℕ, zero, suc, Bool, true, false, List, [], ◌∷◌, length, map, Option, Some, None, Result, Ok, Err, refl, sym, ap, ◌∙◌, subst, arith, slice_get, slice_set, replicate}
+use Rattle.std.proofs.Common.{◌≡◌, ◌≤◌, ◌<◌, ◌+◌, ◌||◌, ◌&&◌, ℕ, zero, suc, Bool, true, false, List, [], ◌∷◌, length, map, Some, Ok, refl, sym, ap, ◌∙◌, subst, arith, slice_get, slice_set}
 use Rattle.tracing_core.specs.At.{At}
-use Rattle.tracing_core.specs.Calls.{Call, ReplyTo, DispatchRegistered, CallsiteRegistered, Asked, HintAsked, SpanMade, Recorded, FollowsRecorded, EventAsked, Told, Entered, Exited, Cloned, Dropped, CloseTried, CurrentAsked}
+use Rattle.tracing_core.specs.Calls.{DispatchRegistered, CallsiteRegistered, Asked, HintAsked, SpanMade, Recorded, FollowsRecorded, EventAsked, Told, Entered, Exited, Cloned, Dropped, CloseTried, CurrentAsked}
 use Rattle.tracing_core.specs.Kept.{Every}
 use Rattle.tracing_core.specs.PlainMetadata.{PlainMetadata}
 use Rattle.tracing_core.specs.PlainRequests.{PlainEvent, explicit_parent}
@@ -13,12 +13,11 @@ use Rattle.span_registry_layers_layers.specs.declared.filter.Filter.{Ghosts}
 use Rattle.span_registry_layers_layers.specs.declared.filtered.Filtered.{Filtered}
 use Rattle.span_registry_layers_layers.specs.declared.layer.Layer.{Ghosts as LayerGhosts}
 use Rattle.span_registry_layers_stack.specs.Asked.{any_passes}
-use Rattle.span_registry_layers_stack.specs.Moves.{Moves}
 use Rattle.span_registry_layers_stack.specs.Numbers.{DroppedTellsNobody, HasNumbers, IsNumbered, NumbersStay, VerdictsAreOwn}
 use Rattle.span_registry_layers_stack.specs.Rows.{EachBecomes, TellsEvent, TellsIf, ids_of, marked, row_passes, row_wants, view_of, with_layer}
-use Rattle.span_registry_layers_stack.specs.Spans.{verdicts_from}
-use Rattle.span_registry_layers_stack.specs.Stacks.{EventAsked as AskedEvent, StackValue, TellsAll, WhereKnown, cleared, passes_asked}
-use Rattle.span_registry_layers_stack.specs.Steps.{Keeps, clone_keeps, close_keeps, dispatch_keeps, enter_keeps, event_keeps, exit_keeps, follows_keeps, keeps_same, record_keeps, span_keeps}
+use Rattle.span_registry_layers_stack.specs.Hearing.{verdicts_from}
+use Rattle.span_registry_layers_stack.specs.Stacks.{StackValue, TellsAll, WhereKnown, cleared, passes_asked}
+use Rattle.span_registry_layers_stack.specs.Steps.{Keeps, clone_keeps, close_keeps, dispatch_keeps, enter_keeps, event_keeps, exit_keeps, follows_keeps, record_keeps, span_keeps}
 use Rattle.span_registry_layers_stack.specs.declared.row.Row.{Row}
 
 or_left : (a b : Bool) → (a || b) ≡ false → a ≡ false

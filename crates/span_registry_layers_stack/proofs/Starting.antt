@@ -4,7 +4,7 @@ use Rattle.std.proofs.lemmas.Bool.Decides.{nat_tests}
 use Rattle.tracing_core.specs.Kept.{Every}
 use Rattle.span_registry_layers_layers.specs.declared.filter.Filter.{Ghosts}
 use Rattle.span_registry_layers_layers.specs.declared.filtered.Filtered.{Filtered}
-use Rattle.span_registry_layers_stack.specs.New.{NewUnless, bare_stack, has_equal_keys, keys_of, new_refusal, new_stack, rows_from}
+use Rattle.span_registry_layers_stack.specs.New.{NewUnless, has_equal_keys, keys_of, new_refusal, new_stack, rows_from}
 use Rattle.span_registry_layers_stack.specs.Numbers.{HasNumbers, IsNumbered}
 use Rattle.span_registry_layers_stack.specs.Rows.{filters_of, ids_of}
 use Rattle.span_registry_layers_stack.specs.Stacks.{StackValue}

@@ -1,9 +1,9 @@
 -- What is kept is right after a filter changed.
-use Rattle.std.proofs.Common.{◌≡◌, ℕ, List, [], ◌∷◌, Option, Some, None, Result, Ok, Err, OnOk, sym, subst, slice_set}
+use Rattle.std.proofs.Common.{ℕ, List, [], ◌∷◌, Option, Some, None, Result, OnOk, sym, subst, slice_set}
 use Rattle.tracing_core.specs.Kept.{Every}
 use Rattle.span_registry_layers_layers.specs.declared.filter.Filter.{Ghosts}
 use Rattle.span_registry_layers_layers.specs.declared.filtered.Filtered.{Filtered}
-use Rattle.span_registry_layers_stack.specs.Lending.{forgotten, put_output}
+use Rattle.span_registry_layers_stack.specs.Loans.{forgotten, put_output}
 use Rattle.span_registry_layers_stack.specs.Rows.{filters_of}
 use Rattle.span_registry_layers_stack.specs.Stacks.{StackValue}
 use Rattle.span_registry_layers_stack.specs.Steadiness.{hints_over}

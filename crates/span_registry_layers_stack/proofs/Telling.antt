@@ -3,7 +3,7 @@ use Rattle.std.proofs.Common.{◌≡◌, ◌&&◌, Bool, true, false, refl, sym,
 use Rattle.tracing_core.specs.At.{At}
 use Rattle.tracing_core.specs.PlainRequests.{PlainEvent, explicit_parent}
 use Rattle.span_registry_layers_store.specs.Registries.{RegistryValue, knows}
-use Rattle.span_registry_layers_layers.specs.Notices.{Notice, Happened}
+use Rattle.span_registry_layers_layers.specs.Notices.{Happened}
 use Rattle.span_registry_layers_layers.specs.Oracles.{Oracle}
 use Rattle.span_registry_layers_layers.specs.declared.filter.Filter.{Ghosts}
 use Rattle.span_registry_layers_layers.specs.declared.filtered.Filtered.{Filtered}

@@ -1,12 +1,12 @@
 -- What is kept refuses only what asking refuses.
-use Rattle.std.specs.Prelude.{◌≡◌, ◌≤◌, ◌<◌, ◌||◌, ◌&&◌, ◌⊎◌, not, ℕ, nat_lt, Bool, true, false, List, [], ◌∷◌, map, Option, Some, None, Result, refl}
+use Rattle.std.specs.Prelude.{◌≡◌, ◌||◌, ◌&&◌, ◌⊎◌, not, ℕ, Bool, true, false, List, [], ◌∷◌, map, Option, Some, None, Result, refl}
 use Rattle.std.specs.List.{list_any}
 use Rattle.std.proofs.Common.{inl, inr, ap, sym, ◌∙◌, subst, arith}
 use Rattle.tracing_core.specs.At.{At}
 use Rattle.tracing_core.specs.Interests.{PlainInterest, says_never}
 use Rattle.tracing_core.specs.InterestInner.TheVariants.{Never, Sometimes, Always}
 use Rattle.tracing_core.specs.Kept.{Covers, Every}
-use Rattle.tracing_core.specs.PlainMetadata.{PlainMetadata, is_same_metadata, is_same_metadata-decides}
+use Rattle.tracing_core.specs.PlainMetadata.{PlainMetadata, is_same_metadata-decides}
 use Rattle.tracing_core.specs.PlainRequests.{PlainEvent, explicit_parent}
 use Rattle.tracing_core.specs.RequestError.{RequestError}
 use Rattle.tracing_core.specs.Steady.{HintFits, InterestFits, IsReal}
@@ -18,9 +18,9 @@ use Rattle.span_registry_layers_layers.specs.declared.filter.Filter.{Ghosts}
 use Rattle.span_registry_layers_layers.specs.declared.filtered.Filtered.{Filtered}
 use Rattle.span_registry_layers_layers.specs.declared.layer.Layer.{Ghosts as LayerGhosts}
 use Rattle.span_registry_layers_stack.specs.Asked.{any_passes}
-use Rattle.span_registry_layers_stack.specs.Rows.{EachBecomes, TellsEvent, TellsIf, filters_of, marked, row_passes, row_wants, view_of}
+use Rattle.span_registry_layers_stack.specs.Rows.{EachBecomes, TellsEvent, TellsIf, filters_of, marked, row_wants, view_of}
 use Rattle.span_registry_layers_stack.specs.Sites.{PlainSite, is_of, is_refused_by}
-use Rattle.span_registry_layers_stack.specs.Stacks.{EventAsked, EventCached, StackValue, TellsAll, TellsUnless, WhereKnown, cleared, is_above, is_refused, passes_asked, passes_cached}
+use Rattle.span_registry_layers_stack.specs.Stacks.{EventAsked, EventCached, StackValue, TellsAll, TellsUnless, WhereKnown, is_above, is_refused, passes_asked, passes_cached}
 use Rattle.span_registry_layers_stack.specs.Words.{HintOver, Knows, Word, WordOf}
 use Rattle.span_registry_layers_stack.specs.declared.row.Row.{Row}
 

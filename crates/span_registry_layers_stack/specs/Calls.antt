@@ -1,5 +1,5 @@
 -- What calls on spans answer, and leave of a stack.
-use Rattle.std.specs.Prelude.{◌≡◌, ℕ, Bool, true, false, List, [], ◌∷◌, Option, Some, None, Result, Ok, Err}
+use Rattle.std.specs.Prelude.{◌≡◌, ℕ, Bool, true, false, List, Option, Some, None, Result, Ok, Err}
 use Rattle.tracing_core.specs.At.{At}
 use Rattle.tracing_core.specs.CurrentSpan.{CurrentSpan}
 use Rattle.tracing_core.specs.CurrentSpan.TheVariants.{Outside, Inside}
@@ -16,9 +16,8 @@ use Rattle.span_registry_layers_layers.specs.declared.filter.Filter.{Ghosts}
 use Rattle.span_registry_layers_layers.specs.declared.filtered.Filtered.{Filtered}
 use Rattle.span_registry_layers_layers.specs.declared.layer.Layer.{Ghosts as LayerGhosts}
 use Rattle.span_registry_layers_stack.specs.Rows.{EachBecomes}
-use Rattle.span_registry_layers_stack.specs.Spans.{ClosesEach, TellsFollows, TellsMade, TellsSpan, verdicts_from}
+use Rattle.span_registry_layers_stack.specs.Hearing.{ClosesEach, TellsFollows, TellsMade, TellsSpan, verdicts_from}
 use Rattle.span_registry_layers_stack.specs.Stacks.{RowsBecome, StackValue, cleared, passes_asked, passes_cached}
-use Rattle.span_registry_layers_stack.specs.declared.row.Row.{Row}
 
 -- with another value of the registry
 abbrev pub over : {O : Type 0} → RegistryValue → StackValue O → StackValue O

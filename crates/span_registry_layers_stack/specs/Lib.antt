@@ -3,11 +3,11 @@ pub mod Sites
 pub mod Asked
 pub mod Stacks
 pub mod Words
-pub mod Spans
+pub mod Hearing
 pub mod Calls
 pub mod New
 pub mod Swaps
-pub mod Lending
+pub mod Loans
 pub mod Moves
 pub mod Steps
 pub mod Caches

@@ -1,5 +1,5 @@
 -- What a call of a stack may answer and leave.
-use Rattle.std.specs.Prelude.{◌≡◌, ℕ, Bool, true, List, Some}
+use Rattle.std.specs.Prelude.{◌≡◌, Bool, true, List, Some}
 use Rattle.tracing_core.specs.At.{At}
 use Rattle.tracing_core.specs.Calls.{Call, ReplyTo, DispatchRegistered, CallsiteRegistered, Asked, HintAsked, SpanMade, Recorded, FollowsRecorded, EventAsked, Told, Entered, Exited, Cloned, Dropped, CloseTried, CurrentAsked}
 use Rattle.tracing_core.specs.Interests.{PlainInterest}
@@ -12,7 +12,7 @@ use Rattle.span_registry_layers_layers.specs.declared.layer.Layer.{Ghosts as Lay
 use Rattle.span_registry_layers_stack.specs.Asked.{common_hint, common_interest}
 use Rattle.span_registry_layers_stack.specs.Calls.{CloneGives, CloseGives, EnterGives, ExitGives, FollowsGives, RecordGives, SpanCached, current_in}
 use Rattle.span_registry_layers_stack.specs.Rows.{filters_of}
-use Rattle.span_registry_layers_stack.specs.Spans.{TellsDispatch}
+use Rattle.span_registry_layers_stack.specs.Hearing.{TellsDispatch}
 use Rattle.span_registry_layers_stack.specs.Stacks.{EventCached, Registers, RowsBecome, StackValue, passes_cached, with_hint}
 use Rattle.span_registry_layers_stack.specs.Words.{Word}
 

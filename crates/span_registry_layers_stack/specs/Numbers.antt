@@ -1,5 +1,5 @@
 -- Each output has a filter number of its own, so that what is kept with a span tells of each filter.
-use Rattle.std.specs.Prelude.{◌≡◌, ◌≤◌, ◌+◌, ℕ, Bool, false, List, [], ◌∷◌, length, Ok}
+use Rattle.std.specs.Prelude.{◌≡◌, ◌≤◌, ◌+◌, ℕ, false, List, [], ◌∷◌, length, Ok}
 use Rattle.tracing_core.specs.At.{At}
 use Rattle.tracing_core.specs.Calls.{Call, ReplyTo}
 use Rattle.tracing_core.specs.Kept.{Every}
@@ -13,9 +13,8 @@ use Rattle.span_registry_layers_layers.specs.declared.filtered.Filtered.{Filtere
 use Rattle.span_registry_layers_layers.specs.declared.layer.Layer.{Ghosts as LayerGhosts}
 use Rattle.span_registry_layers_stack.specs.Moves.{Moves}
 use Rattle.span_registry_layers_stack.specs.Rows.{ids_of, row_passes}
-use Rattle.span_registry_layers_stack.specs.Spans.{verdicts_from}
+use Rattle.span_registry_layers_stack.specs.Hearing.{verdicts_from}
 use Rattle.span_registry_layers_stack.specs.Stacks.{EventAsked, StackValue, cleared, passes_asked}
-use Rattle.span_registry_layers_stack.specs.declared.row.Row.{Row}
 
 -- the filters are numbered from this number on
 abbrev pub IsNumbered : ℕ → List FilterId → Type 0

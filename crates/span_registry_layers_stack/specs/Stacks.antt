@@ -1,5 +1,5 @@
 -- A stack as a value, and what an event leaves of it.
-use Rattle.std.specs.Prelude.{◌≡◌, ◌||◌, ◌&&◌, not, ℕ, nat_lt, Bool, true, false, List, map, Option, Some, None, Result, Ok, Err, if◌then◌else◌}
+use Rattle.std.specs.Prelude.{◌≡◌, ◌||◌, ◌&&◌, not, ℕ, nat_lt, Bool, true, false, List, map, Option, Some, None, Result, Ok, Err}
 use Rattle.std.specs.List.{list_any}
 use Rattle.tracing_core.specs.At.{At}
 use Rattle.tracing_core.specs.Interests.{PlainInterest}

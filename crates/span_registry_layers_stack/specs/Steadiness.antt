@@ -1,5 +1,5 @@
 -- A stack of honest filters keeps its word.
-use Rattle.std.specs.Prelude.{◌≡◌, ◌≤◌, ◌<◌, ◌↔◌, ◌||◌, ◌⊎◌, ◌++◌, ℕ, nat_lt, max, Bool, true, false, if◌then◌else◌, List, [], ◌∷◌, map, Option, Some, None, Result, Ok, Err, refl}
+use Rattle.std.specs.Prelude.{◌≡◌, ◌↔◌, ◌||◌, ◌++◌, ℕ, Bool, true, false, if◌then◌else◌, List, [], ◌∷◌, map, Option, Some, None, refl}
 use Rattle.std.specs.List.{list_any}
 use Rattle.std.proofs.Common.{inl, inr, ap, sym, ◌∙◌, subst, arith}
 use Rattle.tracing_core.specs.Asking.{joined, settled}
@@ -16,13 +16,13 @@ use Rattle.span_registry_layers_layers.specs.declared.filter.Filter.{Ghosts}
 use Rattle.span_registry_layers_layers.specs.declared.filtered.Filtered.{Filtered}
 use Rattle.span_registry_layers_layers.specs.declared.layer.Layer.{Ghosts as LayerGhosts}
 use Rattle.span_registry_layers_stack.specs.Asked.{any_passes, common_hint, common_interest, higher_hint, interest_from}
-use Rattle.span_registry_layers_stack.specs.Caches.{Refuses, all_below, nobody_passes, passes_is_asked}
+use Rattle.span_registry_layers_stack.specs.Caches.{all_below, nobody_passes, passes_is_asked}
 use Rattle.span_registry_layers_stack.specs.Moves.{AnswersOf, IsSteady, Moves, SaysOf}
 use Rattle.span_registry_layers_stack.specs.Rows.{EachBecomes, filters_of, row_passes, view_of}
-use Rattle.span_registry_layers_stack.specs.Sites.{Keeps as KeepsSite, KeepsIf, PlainSite, is_of, renewed}
-use Rattle.span_registry_layers_stack.specs.Stacks.{Registers, StackValue, is_above, passes_cached, with_hint}
-use Rattle.span_registry_layers_stack.specs.Steps.{Keeps, Steps, clone_keeps, close_keeps, dispatch_keeps, each_put, enter_keeps, event_keeps, exit_keeps, follows_keeps, keeps_same, keeps_word, record_keeps, span_keeps}
-use Rattle.span_registry_layers_stack.specs.Words.{HintOver, Knows, Word, WordOf}
+use Rattle.span_registry_layers_stack.specs.Sites.{KeepsIf, PlainSite, is_of, renewed}
+use Rattle.span_registry_layers_stack.specs.Stacks.{Registers, StackValue, is_above, with_hint}
+use Rattle.span_registry_layers_stack.specs.Steps.{Keeps, Steps, clone_keeps, close_keeps, dispatch_keeps, enter_keeps, event_keeps, exit_keeps, follows_keeps, keeps_same, keeps_word, record_keeps, span_keeps}
+use Rattle.span_registry_layers_stack.specs.Words.{HintOver, Knows, Word}
 use Rattle.span_registry_layers_stack.specs.declared.row.Row.{Row}
 
 covers_self : (j : PlainInterest) → Covers j j

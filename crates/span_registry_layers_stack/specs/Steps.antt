@@ -3,12 +3,12 @@ use Rattle.std.specs.Prelude.{◌≡◌, ℕ, Bool, true, false, List, [], ◌�
 use Rattle.std.proofs.Common.{ap, sym, ◌∙◌, subst}
 use Rattle.tracing_core.specs.At.{At}
 use Rattle.tracing_core.specs.Interests.{PlainInterest}
-use Rattle.tracing_core.specs.Kept.{Covers, Every}
+use Rattle.tracing_core.specs.Kept.{Every}
 use Rattle.tracing_core.specs.PlainMetadata.{PlainMetadata}
 use Rattle.tracing_core.specs.PlainRequests.{PlainAttributes, PlainEvent, PlainValues, explicit_parent}
 use Rattle.tracing_core.specs.RequestError.{RequestError}
 use Rattle.tracing_core.specs.Steady.{SameWord}
-use Rattle.span_registry_layers_store.specs.Gives.{ClosesNext, close_refusal}
+use Rattle.span_registry_layers_store.specs.Gives.{close_refusal}
 use Rattle.span_registry_layers_store.specs.Registries.{PlainSpan, RegistryValue, closing_in, knows, without_entry, without_handle}
 use Rattle.span_registry_layers_store.specs.Verdicts.{all_pass}
 use Rattle.span_registry_layers_layers.specs.Looks.{Closed, Entered, Exited, Hook, Recorded, SpanMade, View}
@@ -16,11 +16,11 @@ use Rattle.span_registry_layers_layers.specs.Oracles.{Oracle}
 use Rattle.span_registry_layers_layers.specs.declared.filter.Filter.{Ghosts}
 use Rattle.span_registry_layers_layers.specs.declared.filtered.Filtered.{Filtered}
 use Rattle.span_registry_layers_layers.specs.declared.layer.Layer.{Ghosts as LayerGhosts}
-use Rattle.span_registry_layers_stack.specs.Calls.{CloneGives, CloseGives, CloseUnless, Closes, EnterGives, ExitGives, FollowsGives, MakesSpan, RecordGives, SpanCached, SpanKnown, SpanWhere, WhereTaken, over}
+use Rattle.span_registry_layers_stack.specs.Calls.{CloneGives, CloseGives, CloseUnless, Closes, EnterGives, ExitGives, FollowsGives, MakesSpan, RecordGives, SpanCached, SpanKnown, WhereTaken, over}
 use Rattle.span_registry_layers_stack.specs.Rows.{EachBecomes, TellsEvent, filters_of, ids_of, marked}
 use Rattle.span_registry_layers_stack.specs.Sites.{PlainSite}
-use Rattle.span_registry_layers_stack.specs.Spans.{ClosesEach, HearsIf, TellsDispatch, TellsFollows, TellsMade, TellsSpan, sees, verdicts_from}
-use Rattle.span_registry_layers_stack.specs.Stacks.{EventCached, RowsBecome, StackValue, TellsAll, TellsUnless, WhereKnown, cleared, is_refused, passes_cached}
+use Rattle.span_registry_layers_stack.specs.Hearing.{ClosesEach, HearsIf, TellsDispatch, TellsFollows, TellsMade, TellsSpan, sees, verdicts_from}
+use Rattle.span_registry_layers_stack.specs.Stacks.{EventCached, RowsBecome, StackValue, TellsUnless, WhereKnown, cleared, is_refused, passes_cached}
 use Rattle.span_registry_layers_stack.specs.Words.{HintOver, Knows, Word, WordOf}
 use Rattle.span_registry_layers_stack.specs.declared.row.Row.{Row}
 

@@ -1,5 +1,5 @@
 -- What is kept is right.
-use Rattle.std.specs.Prelude.{◌≡◌, ◌≤◌, ℕ, List, Option, Some, None}
+use Rattle.std.specs.Prelude.{◌≤◌, ℕ, List, Option, Some, None}
 use Rattle.tracing_core.specs.Interests.{PlainInterest}
 use Rattle.tracing_core.specs.Kept.{Covers, Every}
 use Rattle.tracing_core.specs.PlainMetadata.{PlainMetadata}

@@ -7,7 +7,7 @@ ghost use Rattle.span_registry_layers_store.specs.Verdicts.{all_pass};
 ghost use Rattle.span_registry_layers_layers.specs.Oracles.{Oracle};
 ghost use Rattle.span_registry_layers_stack.specs.Asked.{any_passes, common_interest, common_hint, higher_hint};
 ghost use Rattle.span_registry_layers_stack.specs.Rows.{EachBecomes, TellsEvent, filters_of, marked};
-ghost use Rattle.span_registry_layers_stack.specs.Spans.{verdicts_from};
+ghost use Rattle.span_registry_layers_stack.specs.Hearing.{verdicts_from};
 
 mod spans;
 

@@ -7,7 +7,7 @@ ghost use Rattle.span_registry_layers_store.specs.Spans.{is_open};
 ghost use Rattle.span_registry_layers_store.specs.Verdicts.{all_pass};
 ghost use Rattle.span_registry_layers_layers.specs.Oracles.{Oracle};
 ghost use Rattle.span_registry_layers_stack.specs.Calls.{CloneGives, CloseGives, Closes, ClosesOne, EnterGives, ExitGives, FollowsGives, MakesSpan, RecordGives, SpanCached, current_in};
-ghost use Rattle.span_registry_layers_stack.specs.Spans.{verdicts_from};
+ghost use Rattle.span_registry_layers_stack.specs.Hearing.{verdicts_from};
 ghost use Rattle.span_registry_layers_stack.specs.Stacks.{passes_cached, plain_stack};
 
 use crate::parts::StackParts;

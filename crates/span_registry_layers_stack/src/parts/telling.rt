@@ -1,7 +1,7 @@
 //! Telling the outputs of a stack of its spans.
 ghost use Rattle.tracing_core.specs.PlainRequests.{plain_attributes, plain_record};
 ghost use Rattle.span_registry_layers_layers.specs.Looks.{Closed, Entered, Exited, Recorded, SpanMade};
-ghost use Rattle.span_registry_layers_stack.specs.Spans.{TellsDispatch, TellsFollows, TellsMade, TellsSpan};
+ghost use Rattle.span_registry_layers_stack.specs.Hearing.{TellsDispatch, TellsFollows, TellsMade, TellsSpan};
 ghost use Rattle.span_registry_layers_stack.specs.Stacks.{RowsBecome, plain_stack};
 
 use crate::parts::StackParts;

@@ -4,7 +4,7 @@ ghost use Rattle.tracing_core.specs.PlainRequests.{plain_attributes, plain_recor
 ghost use Rattle.span_registry_layers_layers.specs.Looks.{Closed, Entered, Exited, Recorded, SpanMade};
 ghost use Rattle.span_registry_layers_layers.specs.Notices.{Followed};
 ghost use Rattle.span_registry_layers_stack.specs.Rows.{view_of, with_layer};
-ghost use Rattle.span_registry_layers_stack.specs.Spans.{Hears, TellsDispatch, TellsFollows, TellsMade, TellsSpan, sees};
+ghost use Rattle.span_registry_layers_stack.specs.Hearing.{Hears, TellsDispatch, TellsFollows, TellsMade, TellsSpan, sees};
 
 use crate::row::Row;
 use span_registry_layers_layers::{Context, Filter, Filtered, Layer};

@@ -2,7 +2,7 @@
 ghost use Rattle.tracing_core.specs.PlainRequests.{plain_attributes, plain_record};
 ghost use Rattle.span_registry_layers_layers.specs.Looks.{Closed, Entered, Exited, Recorded, SpanMade};
 ghost use Rattle.span_registry_layers_stack.specs.Rows.{EachBecomes};
-ghost use Rattle.span_registry_layers_stack.specs.Spans.{TellsDispatch, TellsFollows, TellsMade, TellsSpan};
+ghost use Rattle.span_registry_layers_stack.specs.Hearing.{TellsDispatch, TellsFollows, TellsMade, TellsSpan};
 
 use crate::row::Row;
 use span_registry_layers_layers::{Filter, Filtered, Layer};

@@ -6,7 +6,7 @@ ghost use Rattle.span_registry_layers_layers.specs.Oracles.{Oracle};
 ghost use Rattle.span_registry_layers_stack.specs.Asked.{common_hint, common_interest};
 ghost use Rattle.span_registry_layers_stack.specs.Calls.{CloneGives, CloseGives, EnterGives, ExitGives, FollowsGives, RecordGives, SpanCached, current_in};
 ghost use Rattle.span_registry_layers_stack.specs.Rows.{filters_of};
-ghost use Rattle.span_registry_layers_stack.specs.Spans.{TellsDispatch};
+ghost use Rattle.span_registry_layers_stack.specs.Hearing.{TellsDispatch};
 ghost use Rattle.span_registry_layers_stack.specs.Stacks.{EventCached, Registers, RowsBecome, passes_cached, with_hint};
 
 use crate::stack::Stack;

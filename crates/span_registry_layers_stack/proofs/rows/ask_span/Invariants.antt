@@ -3,7 +3,7 @@ use Rattle.tracing_core.specs.Metadata.{plain_metadata}
 use Rattle.span_registry_layers_store.specs.Verdicts.{all_pass}
 use Rattle.span_registry_layers_layers.specs.Oracles.{Oracle}
 use Rattle.span_registry_layers_stack.specs.Asked.{any_passes}
-use Rattle.span_registry_layers_stack.specs.Spans.{verdicts_from}
+use Rattle.span_registry_layers_stack.specs.Hearing.{verdicts_from}
 use Rattle.span_registry_layers_stack.proofs.rows.ask_span.Given as goal
 
 abbrev pub invariant-loop-row : goal.invariant-loop-row

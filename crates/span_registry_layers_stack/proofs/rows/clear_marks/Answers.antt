@@ -1,4 +1,4 @@
-use Rattle.std.proofs.Common.{◌≡◌, ◌<◌, length, sym, arith, ◌∙◌, false}
+use Rattle.std.proofs.Common.{◌≡◌, length, sym, arith, ◌∙◌, false}
 use Rattle.span_registry_layers_stack.specs.Rows.{marked}
 use Rattle.span_registry_layers_stack.proofs.Loops.{so_far-zero, so_far-all, so_far-next}
 use Rattle.span_registry_layers_stack.proofs.rows.clear_marks.Goals as goal

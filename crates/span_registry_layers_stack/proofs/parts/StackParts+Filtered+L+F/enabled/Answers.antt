@@ -1,4 +1,4 @@
-use Rattle.std.proofs.Common.{◌≡◌, sym, ap, ◌∙◌}
+use Rattle.std.proofs.Common.{sym, ap, ◌∙◌}
 use Rattle.tracing_core.specs.Metadata.{plain_metadata}
 use Rattle.span_registry_layers_stack.specs.Asked.{any_passes}
 use Rattle.span_registry_layers_stack.specs.Stacks.{is_refused, plain_stack}

@@ -1,4 +1,4 @@
-use Rattle.std.proofs.Common.{◌≡◌, sym, ap, ◌∙◌}
+use Rattle.std.proofs.Common.{sym, ap, ◌∙◌}
 use Rattle.tracing_core.specs.PlainRequests.{plain_event}
 use Rattle.span_registry_layers_store.specs.Registries.{knows}
 use Rattle.span_registry_layers_stack.specs.Stacks.{is_refused, plain_stack}

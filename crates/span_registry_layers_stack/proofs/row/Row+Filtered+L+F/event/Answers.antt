@@ -1,6 +1,5 @@
 use Rattle.tracing_core.specs.PlainRequests.{plain_event}
-use Rattle.std.proofs.Common.{◌≡◌, ◌∙◌, sym, ap}
-use Rattle.tracing_core.specs.Metadata.{plain_metadata}
+use Rattle.std.proofs.Common.{◌∙◌, ap}
 use Rattle.span_registry_layers_stack.specs.Rows.{row_passes}
 use Rattle.span_registry_layers_stack.proofs.Telling.{heard, unheard}
 use Rattle.span_registry_layers_stack.proofs.row.Row+Filtered+L+F.event.Goals as goal

@@ -1,5 +1,5 @@
 use Rattle.std.proofs.Common.{arith, refl}
-use Rattle.span_registry_layers_stack.specs.Spans.{TellsDispatch}
+use Rattle.span_registry_layers_stack.specs.Hearing.{TellsDispatch}
 use Rattle.span_registry_layers_stack.proofs.Loops.{becomes_next, becomes_end}
 use Rattle.span_registry_layers_stack.proofs.rows.spans.tell_dispatch.Goals as goal
 

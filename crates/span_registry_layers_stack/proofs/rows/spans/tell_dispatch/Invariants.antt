@@ -1,6 +1,6 @@
 use Rattle.std.proofs.Common.{◌≡◌, take, drop}
 use Rattle.span_registry_layers_stack.specs.Rows.{EachBecomes}
-use Rattle.span_registry_layers_stack.specs.Spans.{TellsDispatch}
+use Rattle.span_registry_layers_stack.specs.Hearing.{TellsDispatch}
 use Rattle.span_registry_layers_stack.proofs.rows.spans.tell_dispatch.Given as goal
 
 abbrev pub invariant-loop-row : goal.invariant-loop-row

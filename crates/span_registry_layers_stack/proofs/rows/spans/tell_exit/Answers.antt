@@ -1,6 +1,6 @@
 use Rattle.std.proofs.Common.{arith, refl}
 use Rattle.span_registry_layers_layers.specs.Looks.{Exited}
-use Rattle.span_registry_layers_stack.specs.Spans.{TellsSpan}
+use Rattle.span_registry_layers_stack.specs.Hearing.{TellsSpan}
 use Rattle.span_registry_layers_stack.proofs.Loops.{becomes_next, becomes_end}
 use Rattle.span_registry_layers_stack.proofs.rows.spans.tell_exit.Goals as goal
 

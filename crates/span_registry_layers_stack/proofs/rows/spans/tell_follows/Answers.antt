@@ -1,5 +1,5 @@
 use Rattle.std.proofs.Common.{arith, refl}
-use Rattle.span_registry_layers_stack.specs.Spans.{TellsFollows}
+use Rattle.span_registry_layers_stack.specs.Hearing.{TellsFollows}
 use Rattle.span_registry_layers_stack.proofs.Loops.{becomes_next, becomes_end}
 use Rattle.span_registry_layers_stack.proofs.rows.spans.tell_follows.Goals as goal
 

@@ -1,7 +1,7 @@
 use Rattle.std.proofs.Common.{arith, refl}
 use Rattle.tracing_core.specs.PlainRequests.{plain_attributes}
 use Rattle.span_registry_layers_layers.specs.Looks.{SpanMade}
-use Rattle.span_registry_layers_stack.specs.Spans.{TellsMade}
+use Rattle.span_registry_layers_stack.specs.Hearing.{TellsMade}
 use Rattle.span_registry_layers_stack.proofs.Loops.{becomes_next, becomes_end}
 use Rattle.span_registry_layers_stack.proofs.rows.spans.tell_new_span.Goals as goal
 

@@ -2,7 +2,7 @@ use Rattle.std.proofs.Common.{◌≡◌, take, drop}
 use Rattle.tracing_core.specs.PlainRequests.{plain_attributes}
 use Rattle.span_registry_layers_layers.specs.Looks.{SpanMade}
 use Rattle.span_registry_layers_stack.specs.Rows.{EachBecomes}
-use Rattle.span_registry_layers_stack.specs.Spans.{TellsMade}
+use Rattle.span_registry_layers_stack.specs.Hearing.{TellsMade}
 use Rattle.span_registry_layers_stack.proofs.rows.spans.tell_new_span.Given as goal
 
 abbrev pub invariant-loop-row : goal.invariant-loop-row

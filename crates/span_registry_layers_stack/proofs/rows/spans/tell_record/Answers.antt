@@ -1,7 +1,7 @@
 use Rattle.std.proofs.Common.{arith, refl}
 use Rattle.tracing_core.specs.PlainRequests.{plain_record}
 use Rattle.span_registry_layers_layers.specs.Looks.{Recorded}
-use Rattle.span_registry_layers_stack.specs.Spans.{TellsSpan}
+use Rattle.span_registry_layers_stack.specs.Hearing.{TellsSpan}
 use Rattle.span_registry_layers_stack.proofs.Loops.{becomes_next, becomes_end}
 use Rattle.span_registry_layers_stack.proofs.rows.spans.tell_record.Goals as goal
 

@@ -2,7 +2,7 @@ use Rattle.std.proofs.Common.{◌≡◌, take, drop}
 use Rattle.tracing_core.specs.PlainRequests.{plain_record}
 use Rattle.span_registry_layers_layers.specs.Looks.{Recorded}
 use Rattle.span_registry_layers_stack.specs.Rows.{EachBecomes}
-use Rattle.span_registry_layers_stack.specs.Spans.{TellsSpan}
+use Rattle.span_registry_layers_stack.specs.Hearing.{TellsSpan}
 use Rattle.span_registry_layers_stack.proofs.rows.spans.tell_record.Given as goal
 
 abbrev pub invariant-loop-row : goal.invariant-loop-row

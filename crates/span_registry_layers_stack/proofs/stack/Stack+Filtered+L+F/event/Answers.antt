@@ -1,4 +1,4 @@
-use Rattle.std.proofs.Common.{◌≡◌, subst}
+use Rattle.std.proofs.Common.{subst}
 use Rattle.tracing_core.specs.PlainRequests.{plain_event}
 use Rattle.tracing_core.specs.Steady.{IsReal}
 use Rattle.span_registry_layers_stack.specs.Caches.{event_is_asked, word_asked}

@@ -1,7 +1,7 @@
 use Rattle.std.proofs.Common.{◌≡◌, List, length}
 use Rattle.span_registry_layers_store.specs.Registries.{RegistryValue, closing_in, swept}
 use Rattle.span_registry_layers_layers.specs.declared.filtered.Filtered.{Filtered}
-use Rattle.span_registry_layers_stack.specs.Spans.{ClosesEach}
+use Rattle.span_registry_layers_stack.specs.Hearing.{ClosesEach}
 use Rattle.span_registry_layers_stack.specs.Stacks.{plain_stack}
 use Rattle.span_registry_layers_stack.specs.declared.row.Row.{Row}
 use Rattle.span_registry_layers_stack.proofs.parts.spans.StackParts+Filtered+L+F.close_all.Given as goal

@@ -1,8 +1,8 @@
-use Rattle.std.proofs.Common.{◌≡◌, sym, ap, ◌∙◌}
+use Rattle.std.proofs.Common.{sym, ap, ◌∙◌}
 use Rattle.tracing_core.specs.PlainRequests.{plain_attributes}
 use Rattle.span_registry_layers_store.specs.Registries.{knows}
 use Rattle.span_registry_layers_store.specs.Verdicts.{all_pass}
-use Rattle.span_registry_layers_stack.specs.Spans.{verdicts_from}
+use Rattle.span_registry_layers_stack.specs.Hearing.{verdicts_from}
 use Rattle.span_registry_layers_stack.specs.Stacks.{passes_cached, plain_stack}
 use Rattle.span_registry_layers_stack.proofs.Making.{span_dropped, span_made}
 use Rattle.span_registry_layers_stack.proofs.parts.spans.StackParts+Filtered+L+F.new_span.Goals as goal
