@@ -26,6 +26,22 @@ pub use Rattle.span_registry_layers_layers.specs.Dynamic
 pub use Rattle.span_registry_layers_layers.specs.Layereds
 pub use Rattle.span_registry_layers_layers.specs.Identities
 pub use Rattle.span_registry_layers_layers.specs.Absent
+pub use Rattle.span_registry_layers_layers.specs.Several
+pub use Rattle.span_registry_layers_stack.specs.Rows
+pub use Rattle.span_registry_layers_stack.specs.Sites
+pub use Rattle.span_registry_layers_stack.specs.Asked
+pub use Rattle.span_registry_layers_stack.specs.Stacks
+pub use Rattle.span_registry_layers_stack.specs.Words
+pub use Rattle.span_registry_layers_stack.specs.Spans as StackSpans
+pub use Rattle.span_registry_layers_stack.specs.Calls
+pub use Rattle.span_registry_layers_stack.specs.New
+pub use Rattle.span_registry_layers_stack.specs.Swaps
+pub use Rattle.span_registry_layers_stack.specs.Lending as StackLending
+pub use Rattle.span_registry_layers_stack.specs.Moves
+pub use Rattle.span_registry_layers_stack.specs.Steps
+pub use Rattle.span_registry_layers_stack.specs.Caches
+pub use Rattle.span_registry_layers_stack.specs.Steadiness
+pub use Rattle.span_registry_layers_stack.specs.Numbers
 pub use Rattle.span_registry_layers_store.specs.declared.filter_map.FilterId
 pub use Rattle.span_registry_layers_store.specs.declared.filter_map.TooManyFilters
 pub use Rattle.span_registry_layers_store.specs.declared.record.SpanRecord
@@ -47,3 +63,6 @@ pub use Rattle.span_registry_layers_layers.specs.declared.filter.Filter
 pub use Rattle.span_registry_layers_layers.specs.declared.filtered.Filtered
 pub use Rattle.span_registry_layers_layers.specs.declared.layer.Layer
 pub use Rattle.span_registry_layers_layers.specs.declared.layer.layered.Layered
+pub use Rattle.span_registry_layers_stack.specs.declared.output.Output
+pub use Rattle.span_registry_layers_stack.specs.declared.output.StackError
+pub use Rattle.span_registry_layers_stack.specs.declared.output.UnknownOutput

@@ -5,6 +5,10 @@ pub use span_registry_layers_layers::{
     And, CallsiteTest, Context, ContextTest, DynFilterFn, Filter, FilterExt, FilterFn, Filtered,
     Identity, Layer, LayerExt, Layered, MetadataTest, Not, Or, dynamic_filter_fn, filter_fn,
 };
+pub use span_registry_layers_stack::{
+    Output, Stack, StackError, UnknownOutput, dropped_events_tell_nobody, numbers_stay,
+    verdicts_are_own,
+};
 pub use span_registry_layers_store::{
     Data, Extensions, ExtensionsMut, FilterId, FilterMap, InsertError, LookupSpan, OutputKey,
     OwnedMetadata, Registry, RegistryTable, Scope, ScopeFromRoot, Slot, SpanData, SpanRecord,

@@ -2,6 +2,7 @@
 
 mod filters;
 mod layers;
+mod stack;
 mod store;
 
 use crate::{FilterMap, Registry};

@@ -5,8 +5,8 @@ use tracing_core::{CurrentSpan, Event, Interest, LevelFilter, Record, WeakDispat
 
 /// Counts what it is told.
 #[derive(Drop)]
-struct Counter {
-    told: u64,
+pub(super) struct Counter {
+    pub(super) told: u64,
 }
 
 impl Layer for Counter {
@@ -153,6 +153,12 @@ fn surface_layers(rt: HostRuntime) -> Result<(), Fail> {
     tell(&mut tree, &registry, outer);
     let (passed, interest) = asked(&tree, &registry);
     assert!(rt; passed && interest.is_always() && tree.max_level_hint().is_none());
+    let mut several = Vec::new(rt.alloc());
+    several.push(Identity::new()).ok().ok_or("room")?;
+    several.on_layer(&mut registry);
+    tell(&mut several, &registry, outer);
+    let (passed, interest) = asked(&several, &registry);
+    assert!(rt; passed && interest.is_always() && several.max_level_hint().is_none());
     let mut counter = Counter { told: 0 };
     tell(&mut counter, &registry, outer);
     assert!(rt; counter.told == 8);
