@@ -1,4 +1,7 @@
 // Filters.
+ghost use Rattle.std.specs.Prelude.{◌≡◌, nat_le};
+ghost use Rattle.tracing_core.specs.Metadata.{plain_metadata};
+
 use super::*;
 use crate::{
     And, CallsiteTest, Context, ContextTest, DynFilterFn, Filter, FilterExt, FilterFn,
@@ -81,6 +84,32 @@ fn surface_closures(rt: HostRuntime) -> Result<(), Fail> {
     let filter = filter_fn(of_others);
     let (passed, interest) = asked(&filter, &registry);
     assert!(rt; !passed && interest.is_never() && filter.max_level_hint().is_none());
+    Ok(())
+}
+
+#[test]
+fn surface_hints(rt: HostRuntime) -> Result<(), Fail> {
+    let (registry, _outer, _inner) = nested(rt.alloc())?;
+    let quiet: MetadataTest = Box::new(
+        rt.alloc(),
+        |metadata: &Metadata<'_>| -> bool
+            ensures { result ≡ nat_le (plain_metadata metadata.now).level 2 }
+        { *metadata.level() <= Level::WARN },
+    )?;
+    let filter = FilterFn::new(quiet).with_max_level_hint(LevelFilter::WARN);
+    let (passed, interest) = asked(&filter, &registry);
+    assert!(rt; !passed && interest.is_never());
+    assert!(rt; filter.max_level_hint() == Some(LevelFilter::WARN));
+    let quiet: ContextTest = Box::new(
+        rt.alloc(),
+        |metadata: &Metadata<'_>, _context: &Context<'_>| -> bool
+            ensures { result ≡ nat_le (plain_metadata metadata.now).level 2 }
+        { *metadata.level() <= Level::WARN },
+    )?;
+    let filter = DynFilterFn::new(quiet).with_max_level_hint(LevelFilter::WARN);
+    let (passed, interest) = asked(&filter, &registry);
+    assert!(rt; !passed && interest.is_never());
+    assert!(rt; filter.max_level_hint() == Some(LevelFilter::WARN));
     Ok(())
 }
 
