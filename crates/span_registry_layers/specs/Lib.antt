@@ -32,11 +32,11 @@ pub use Rattle.span_registry_layers_stack.specs.Sites
 pub use Rattle.span_registry_layers_stack.specs.Asked
 pub use Rattle.span_registry_layers_stack.specs.Stacks
 pub use Rattle.span_registry_layers_stack.specs.Words
-pub use Rattle.span_registry_layers_stack.specs.Spans as StackSpans
+pub use Rattle.span_registry_layers_stack.specs.Hearing
 pub use Rattle.span_registry_layers_stack.specs.Calls
 pub use Rattle.span_registry_layers_stack.specs.New
 pub use Rattle.span_registry_layers_stack.specs.Swaps
-pub use Rattle.span_registry_layers_stack.specs.Lending as StackLending
+pub use Rattle.span_registry_layers_stack.specs.Loans
 pub use Rattle.span_registry_layers_stack.specs.Moves
 pub use Rattle.span_registry_layers_stack.specs.Steps
 pub use Rattle.span_registry_layers_stack.specs.Caches
