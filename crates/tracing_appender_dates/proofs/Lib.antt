@@ -9,3 +9,4 @@ pub mod Stamping
 pub mod Naming
 pub mod Strips
 pub mod Asked
+pub mod Order

@@ -1,5 +1,8 @@
 -- The names of log files.
-use Rattle.std.specs.Prelude.{◌≡◌, ℕ, ℤ, List, [], ◌∷◌, ◌++◌, true, Option, Some, None}
+use Rattle.std.specs.Prelude.{◌≡◌, ℕ, ℤ, ◌<ℤ◌, List, [], ◌∷◌, ◌++◌, true, Option, Some, None}
+use Rattle.std.specs.Cmp.Lexicographic.{slice_cmp}
+use Rattle.std.specs.Ordering.{nat_cmp}
+use Rattle.std.specs.declared.cmp.Ordering.TheVariants.{Less}
 use Rattle.tracing_appender_dates.specs.declared.period.PeriodKind.{PeriodKind}
 use Rattle.tracing_appender_dates.specs.declared.period.PeriodKind.TheVariants.{Minute, Hour, Day, Week, Whole}
 use Rattle.tracing_appender_dates.specs.Days.{is_second}
@@ -44,3 +47,8 @@ HasName kind prefix suffix name s = (first : ℤ) × (first_second kind (period_
 abbrev pub PeriodsDiffer : Type 0
 PeriodsDiffer = (kind : PeriodKind) (prefix suffix : Option (List ℕ)) (s t : ℤ) → is_second s ≡ true → is_second t ≡ true →
     name_at kind prefix suffix s ≡ name_at kind prefix suffix t → period_of kind s ≡ period_of kind t
+
+-- names rise in byte order with their periods
+abbrev pub NamesRise : Type 0
+NamesRise = (kind : PeriodKind) (prefix suffix : Option (List ℕ)) (s t : ℤ) → is_second s ≡ true → is_second t ≡ true →
+    period_of kind s <ℤ period_of kind t → slice_cmp nat_cmp (name_at kind prefix suffix s) (name_at kind prefix suffix t) ≡ Less

@@ -1,7 +1,7 @@
 //! Laws over the definitions, and worked dates and names.
 
 ghost use Rattle.tracing_appender_dates.specs.Calendar.{DatesCountDays};
-ghost use Rattle.tracing_appender_dates.specs.Names.{PeriodsDiffer};
+ghost use Rattle.tracing_appender_dates.specs.Names.{NamesRise, PeriodsDiffer};
 ghost use Rattle.tracing_appender_dates.specs.Rows.{DayRow, FirstRow, LastRow, MinuteRow, HourRow, WeekRow, NewYearWeekRow, FirstWeekRow, WholeRow, DateAloneRow};
 
 /// The date texts of days are those that counting day by day gives.
@@ -12,6 +12,11 @@ pub fn dates_count_days()
 /// Different periods of one kind have different names.
 pub fn periods_differ()
     ensures { PeriodsDiffer }
+{}
+
+/// Names of later periods of one kind are greater in byte order.
+pub fn names_rise()
+    ensures { NamesRise }
 {}
 
 /// Worked dates: 2025-02-17, and the first and the last day of moments.

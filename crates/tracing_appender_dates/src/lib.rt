@@ -9,7 +9,7 @@ mod period;
 mod read;
 
 pub use date::{date_text, stamp_text};
-pub use laws::{dates_count_days, periods_differ, worked_dates, worked_names};
+pub use laws::{dates_count_days, names_rise, periods_differ, worked_dates, worked_names};
 pub use name::name_text;
 pub use named::second_named;
 pub use period::PeriodKind;

@@ -32,7 +32,7 @@ filter_same : (f g : Placed → Bool) (P : Placed → Type 0) → ((x : Placed) 
 filter_same f g P e [] a = refl
 filter_same f g P e (x ∷ xs) a = rw (e x a.0, filter_same f g P e xs a.1) refl
 
-later_is : (a b : Moment) (t : Bool) → is_moment a ≡ true → is_moment b ≡ true → is_moment (if t then b else a) ≡ true
+pub later_is : (a b : Moment) (t : Bool) → is_moment a ≡ true → is_moment b ≡ true → is_moment (if t then b else a) ≡ true
 later_is a b true is_a is_b = is_b
 later_is a b false is_a is_b = is_a
 

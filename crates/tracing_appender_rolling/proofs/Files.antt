@@ -27,7 +27,7 @@ kept_none : {X : Type 0} (b rest : Bool) (x : X) (kept : List X) → (rest ≡ f
 kept_none true rest x kept none e = cc
 kept_none false rest x kept none e = none e
 
-filter_none : {X : Type 0} (f : X → Bool) (xs : List X) → list_any f xs ≡ false → filter f xs ≡ []
+pub filter_none : {X : Type 0} (f : X → Bool) (xs : List X) → list_any f xs ≡ false → filter f xs ≡ []
 filter_none f [] e = refl
 filter_none f (x ∷ xs) e = kept_none (f x) (list_any f xs) x (filter f xs) (filter_none f xs) e
 

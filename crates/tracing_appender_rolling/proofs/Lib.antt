@@ -14,3 +14,5 @@ pub mod Removing
 pub mod Switching
 pub mod Keeping
 pub mod Building
+pub mod Whole
+pub mod InOrder

@@ -24,7 +24,7 @@ pub moment_second : (m : Moment) → is_moment m ≡ true → is_second m.second
 moment_second m is = first_holds (is_second m.seconds) (nat_lt m.nanoseconds 1000000000) is
 
 -- an earlier moment has no later second
-earlier_seconds : (a b : Moment) → is_earlier a b ≡ true → a.seconds ≤ℤ b.seconds
+pub earlier_seconds : (a b : Moment) → is_earlier a b ≡ true → a.seconds ≤ℤ b.seconds
 earlier_seconds a b e = by_case (int_le b.seconds a.seconds) refl e
   where
     by_case : (t : Bool) → int_le b.seconds a.seconds ≡ t → cond t (int_le a.seconds b.seconds && nat_lt a.nanoseconds b.nanoseconds) true ≡ true → a.seconds ≤ℤ b.seconds

@@ -20,3 +20,4 @@ pub mod Looks
 pub mod Appenders
 pub mod Builds
 pub mod Handing
+pub mod Reading

@@ -26,11 +26,11 @@ pub use fault::{Entry, FileNumber, FolderError, FolderFault, InitContext, InitEr
 pub use faults::Faults;
 pub use faulty::FaultyFolder;
 pub use folder::Folder;
-pub use laws::{files_by_period, names_differ};
+pub use laws::{files_by_period, files_read_in_order, lines_stand_whole, names_differ};
 pub use memory::{FileEntry, MemoryFolder};
 pub use moment::{BadMoment, Moment};
 pub use rotation::Rotation;
-pub use tracing_appender_dates::{date_text, dates_count_days, worked_dates};
+pub use tracing_appender_dates::{date_text, dates_count_days, names_rise, worked_dates};
 
 #[cfg(test)]
 mod tests;
