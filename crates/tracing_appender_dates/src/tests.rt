@@ -3,7 +3,7 @@
 ghost use Rattle.std.specs.Prelude.{◌≡◌, true};
 ghost use Rattle.tracing_appender_dates.specs.Days.{is_second};
 
-use crate::{PeriodKind, date_text, name_text, read_name, read_stamp, stamp_text};
+use crate::{PeriodKind, date_text, name_text, read_name, read_stamp, second_named, stamp_text};
 use std::alloc::{AllocError, Global};
 use std::test::Fail;
 
@@ -133,6 +133,33 @@ fn dates_are_read(rt: HostRuntime) -> Result<(), Fail> {
     assert_eq!(rt;
         read_name(PeriodKind::Day, &None, &None, b"2020-02-01"),
         Some(1_580_515_200)
+    );
+    Ok(())
+}
+
+#[test]
+fn some_period_has_the_name(rt: HostRuntime) -> Result<(), Fail> {
+    let alloc = rt.alloc();
+    let prefix = part(alloc, "p")?;
+    assert_eq!(rt;
+        second_named(PeriodKind::Week, &prefix, &None, b"p.0000-12-31"),
+        Some(FIRST)
+    );
+    assert_eq!(rt;
+        second_named(PeriodKind::Day, &prefix, &None, b"p.0000-12-31"),
+        None
+    );
+    assert_eq!(rt;
+        second_named(PeriodKind::Week, &prefix, &None, b"p.2025-02-17"),
+        None
+    );
+    assert_eq!(rt;
+        second_named(PeriodKind::Whole, &prefix, &None, b"p"),
+        Some(0)
+    );
+    assert_eq!(rt;
+        second_named(PeriodKind::Whole, &None, &None, b"9999-01-01"),
+        None
     );
     Ok(())
 }

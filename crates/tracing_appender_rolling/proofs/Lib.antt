@@ -16,3 +16,4 @@ pub mod Keeping
 pub mod Building
 pub mod Whole
 pub mod InOrder
+pub mod Sparing

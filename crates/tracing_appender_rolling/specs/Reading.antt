@@ -4,6 +4,9 @@ use Rattle.std.specs.List.{flat_map, AllByRecursion}
 use Rattle.std.specs.List.Sorted.{IsStrictlySortedBy}
 use Rattle.std.specs.Cmp.Lexicographic.{slice_cmp}
 use Rattle.std.specs.Ordering.{nat_cmp}
+use Rattle.tracing_appender_rolling.specs.declared.faults.Faults.{Faults}
+use Rattle.tracing_appender_rolling.specs.Contents.{Contents, bytes_at}
+use Rattle.tracing_appender_rolling.specs.Pruning.{removed_all}
 use Rattle.tracing_appender_rolling.specs.Moments.{is_moment}
 use Rattle.tracing_appender_rolling.specs.Sinks.{Handed, Placed, PlainSink, placed_lines, period_in, period_name, lies_in, was_opened, file_text}
 
@@ -24,3 +27,7 @@ FilesReadInOrder = (s : PlainSink) (names : List (List ℕ)) → is_moment s.ope
     ((name : List ℕ) → unwrap_or (s.found name) [] ≡ []) → IsStrictlySortedBy (slice_cmp nat_cmp) names →
     ((name : List ℕ) → was_opened s name ≡ true → IsAmong name names) →
     flat_map (λ (name : List ℕ). unwrap_or (file_text s name) []) names ≡ flat_map (λ (h : Handed). h.line) s.handed
+
+-- whatever the folder refuses, removals leave the bytes of every other name
+abbrev pub RetentionSpares : Type 0
+RetentionSpares = (names : List (List ℕ)) (f : Faults) (c : Contents) (q : List ℕ) → (IsAmong q names → ⊥) → bytes_at (removed_all names (f, c)).1.files q ≡ bytes_at c.files q

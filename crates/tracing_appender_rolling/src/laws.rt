@@ -2,7 +2,7 @@
 
 ghost use Rattle.tracing_appender_rolling.specs.Names.{NamesDiffer};
 ghost use Rattle.tracing_appender_rolling.specs.Sinks.{FilesByPeriod};
-ghost use Rattle.tracing_appender_rolling.specs.Reading.{LinesStandWhole, FilesReadInOrder};
+ghost use Rattle.tracing_appender_rolling.specs.Reading.{LinesStandWhole, FilesReadInOrder, RetentionSpares};
 
 /// Different periods have different file names.
 pub fn names_differ()
@@ -22,4 +22,9 @@ pub fn lines_stand_whole()
 /// Files that were empty at the opening, read in byte order of their names, are the handed lines in order.
 pub fn files_read_in_order()
     ensures { FilesReadInOrder }
+{}
+
+/// Whatever a folder refuses, retention leaves the bytes of every file that it doesn't remove.
+pub fn retention_spares_others()
+    ensures { RetentionSpares }
 {}

@@ -26,7 +26,9 @@ pub use fault::{Entry, FileNumber, FolderError, FolderFault, InitContext, InitEr
 pub use faults::Faults;
 pub use faulty::FaultyFolder;
 pub use folder::Folder;
-pub use laws::{files_by_period, files_read_in_order, lines_stand_whole, names_differ};
+pub use laws::{
+    files_by_period, files_read_in_order, lines_stand_whole, names_differ, retention_spares_others,
+};
 pub use memory::{FileEntry, MemoryFolder};
 pub use moment::{BadMoment, Moment};
 pub use rotation::Rotation;

@@ -5,6 +5,7 @@ ghost use Rattle.tracing_appender_rolling.specs.Moments.{is_moment};
 
 mod folders;
 mod rolling;
+mod system;
 
 use crate::{
     Builder, Entry, FileNumber, Folder, FolderError, FolderFault, InitContext, InitError,

@@ -4,11 +4,10 @@ ghost use Rattle.std.specs.Prelude.{◌≡◌, IfOk, true};
 ghost use Rattle.tracing_appender_rolling.specs.Moments.{is_moment};
 
 use crate::{
-    BuildError, Builder, DiskFolder, FaultyFolder, Folder, FolderFault, InitContext, InitError,
-    MemoryFolder, Moment, RollingFileAppender, Rotation, daily, hourly, minutely, never, weekly,
+    BuildError, Builder, FaultyFolder, Folder, MemoryFolder, Moment, RollingFileAppender, Rotation,
+    daily, hourly, minutely, never, weekly,
 };
 use std::alloc::{AllocError, Global};
-use std::fs;
 use std::test::Fail;
 
 /// 2025-02-17T10:01:00Z.
@@ -334,52 +333,5 @@ fn each_call_is_refused_in_turn(rt: HostRuntime) -> Result<(), Fail> {
         assert_eq!(rt; told, if passed { 0 } else { 1 });
     }
     assert_eq!(rt; script(alloc, 13)?, (0, 0));
-    Ok(())
-}
-
-#[test]
-fn a_folder_of_the_system_rolls(rt: HostRuntime) -> Result<(), Fail> {
-    let alloc = rt.alloc();
-    fs::create_dir_all(&rt, "rolled")?;
-    fs::write(&rt, "rolled/t.2020-02-01-10", b"old\n")?;
-    let folder = DiskFolder::new(rt, String::from_str(alloc, "rolled")?);
-    let mut appender = named(alloc, Rotation::HOURLY, "t", "")?
-        .max_log_files(2)
-        .build(alloc, folder, FEBRUARY)
-        .map_err(|refusal| refusal.error)?;
-    appender.write_all_at(b"a\n", FEBRUARY)?;
-    let first = fs::read(&rt, "rolled/t.2020-02-01-10")?;
-    assert_eq!(rt; first.as_slice(), b"old\na\n".as_slice());
-    appender.write_all_at(b"b\n", later(3_600)?)?;
-    fs::remove_dir_all(&rt, "rolled")?;
-    appender.write_all_at(b"c\n", later(7_200)?)?;
-    let third = fs::read(&rt, "rolled/t.2020-02-01-12")?;
-    assert_eq!(rt; third.as_slice(), b"c\n".as_slice());
-    assert_eq!(rt; appender.faults().switches, 0);
-    fs::remove_dir_all(&rt, "rolled")?;
-    Ok(())
-}
-
-#[test]
-fn a_folder_of_the_system_makes_no_links(rt: HostRuntime) -> Result<(), Fail> {
-    let alloc = rt.alloc();
-    let folder = DiskFolder::new(rt, String::from_str(alloc, "linked")?);
-    let link = String::from_str(alloc, "latest")?;
-    let error = BuildError::Init(InitError {
-        context: InitContext::Link,
-        source: FolderFault::Unsupported,
-    });
-    match Builder::new()
-        .latest_symlink(link)
-        .build(alloc, folder, FEBRUARY)
-    {
-        Ok(_) => return Err("linked".into()),
-        Err(refused) => assert_eq!(rt; refused.error, error),
-    }
-    assert_eq!(rt;
-        format!(in alloc; "{error}")?.as_str(),
-        "failed to create symlink to latest log file: unsupported"
-    );
-    fs::remove_dir_all(&rt, "linked")?;
     Ok(())
 }

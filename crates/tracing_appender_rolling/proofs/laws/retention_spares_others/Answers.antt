@@ -1,0 +1,5 @@
+use Rattle.tracing_appender_rolling.proofs.Sparing.{spares}
+use Rattle.tracing_appender_rolling.proofs.laws.retention_spares_others.Goals as goal
+
+pub returns : goal.returns
+returns c = spares

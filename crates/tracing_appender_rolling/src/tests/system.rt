@@ -1,0 +1,124 @@
+//! Files over a folder of the system.
+
+ghost use Rattle.std.specs.Prelude.{◌≡◌, true};
+ghost use Rattle.tracing_appender_rolling.specs.Moments.{is_moment};
+
+use crate::{
+    BuildError, Builder, DiskFolder, FolderFault, InitContext, InitError, Moment, Rotation,
+};
+use std::alloc::{AllocError, Global};
+use std::fs;
+use std::test::Fail;
+
+/// 2020-02-01T10:01:00Z.
+const FEBRUARY: Moment = Moment {
+    seconds: 1_580_551_260,
+    nanoseconds: 0,
+};
+
+/// An hour later.
+const ELEVEN: Moment = Moment {
+    seconds: 1_580_554_860,
+    nanoseconds: 0,
+};
+
+/// Two hours later.
+const NOON: Moment = Moment {
+    seconds: 1_580_558_460,
+    nanoseconds: 0,
+};
+
+/// Hourly files with the prefix `t`, at most two.
+fn hourly_files(alloc: Global) -> Result<Builder, AllocError> {
+    let prefix = String::from_str(alloc, "t")?;
+    Ok(
+        Builder::new()
+            .rotation(Rotation::HOURLY)
+            .filename_prefix(prefix)
+            .max_log_files(2),
+    )
+}
+
+#[test]
+fn a_folder_of_the_system_rolls(rt: HostRuntime) -> Result<(), Fail> {
+    let alloc = rt.alloc();
+    fs::create_dir_all(&rt, "rolled")?;
+    fs::write(&rt, "rolled/t.2020-02-01-10", b"old\n")?;
+    let folder = DiskFolder::new(rt, String::from_str(alloc, "rolled")?);
+    let mut appender = hourly_files(alloc)?
+        .build(alloc, folder, FEBRUARY)
+        .map_err(|refusal| refusal.error)?;
+    appender.write_all_at(b"a\n", FEBRUARY)?;
+    let first = fs::read(&rt, "rolled/t.2020-02-01-10")?;
+    assert_eq!(rt; first.as_slice(), b"old\na\n".as_slice());
+    appender.write_all_at(b"b\n", ELEVEN)?;
+    fs::remove_dir_all(&rt, "rolled")?;
+    appender.write_all_at(b"c\n", NOON)?;
+    let third = fs::read(&rt, "rolled/t.2020-02-01-12")?;
+    assert_eq!(rt; third.as_slice(), b"c\n".as_slice());
+    assert_eq!(rt; appender.faults().switches, 0);
+    fs::remove_dir_all(&rt, "rolled")?;
+    Ok(())
+}
+
+#[test]
+fn a_folder_of_the_system_makes_no_links(rt: HostRuntime) -> Result<(), Fail> {
+    let alloc = rt.alloc();
+    let folder = DiskFolder::new(rt, String::from_str(alloc, "linked")?);
+    let link = String::from_str(alloc, "latest")?;
+    let error = BuildError::Init(InitError {
+        context: InitContext::Link,
+        source: FolderFault::Unsupported,
+    });
+    match Builder::new()
+        .latest_symlink(link)
+        .build(alloc, folder, FEBRUARY)
+    {
+        Ok(_) => return Err("linked".into()),
+        Err(refused) => assert_eq!(rt; refused.error, error),
+    }
+    assert_eq!(rt;
+        format!(in alloc; "{error}")?.as_str(),
+        "failed to create symlink to latest log file: unsupported"
+    );
+    fs::remove_dir_all(&rt, "linked")?;
+    Ok(())
+}
+
+#[test]
+fn a_folder_of_the_system_is_pruned(rt: HostRuntime) -> Result<(), Fail> {
+    let alloc = rt.alloc();
+    fs::create_dir_all(&rt, "pruned")?;
+    fs::write(&rt, "pruned/t.2020-02-01-09", b"old\n")?;
+    let folder = DiskFolder::new(rt, String::from_str(alloc, "pruned")?);
+    let mut appender = hourly_files(alloc)?
+        .build(alloc, folder, FEBRUARY)
+        .map_err(|refusal| refusal.error)?;
+    let kept = fs::read(&rt, "pruned/t.2020-02-01-09")?;
+    assert_eq!(rt; kept.as_slice(), b"old\n".as_slice());
+    appender.write_all_at(b"b\n", ELEVEN)?;
+    assert!(rt; fs::read(&rt, "pruned/t.2020-02-01-09").is_err());
+    let first = fs::read(&rt, "pruned/t.2020-02-01-10")?;
+    assert_eq!(rt; first.len(), 0);
+    assert_eq!(rt; appender.faults().retentions, 0);
+    fs::remove_dir_all(&rt, "pruned")?;
+    Ok(())
+}
+
+#[test]
+fn a_file_in_the_folders_place_refuses(rt: HostRuntime) -> Result<(), Fail> {
+    let alloc = rt.alloc();
+    fs::write(&rt, "taken", b"")?;
+    let folder = DiskFolder::new(rt, String::from_str(alloc, "taken/deep")?);
+    match Builder::new().build(alloc, folder, FEBRUARY) {
+        Ok(_) => return Err("built".into()),
+        Err(refused) => match refused.error {
+            BuildError::Init(error) => {
+                assert_eq!(rt; error.context, InitContext::Directory);
+            }
+            _ => return Err("another refusal".into()),
+        },
+    }
+    fs::remove_file(&rt, "taken")?;
+    Ok(())
+}
