@@ -6,8 +6,8 @@ pub use span_registry_layers_layers::{
     Identity, Layer, LayerExt, Layered, MetadataTest, Not, Or, dynamic_filter_fn, filter_fn,
 };
 pub use span_registry_layers_stack::{
-    Output, Stack, StackError, UnknownOutput, dropped_events_tell_nobody, numbers_stay,
-    verdicts_are_own,
+    Output, Stack, StackError, UnknownOutput, both_answer_by_functions, dropped_events_tell_nobody,
+    level_filters_answer_by_functions, numbers_stay, verdicts_are_own,
 };
 pub use span_registry_layers_store::{
     Data, Extensions, ExtensionsMut, FilterId, FilterMap, InsertError, LookupSpan, OutputKey,

@@ -11,7 +11,10 @@ mod sites;
 mod stack;
 mod subscriber;
 
-pub use laws::{dropped_events_tell_nobody, numbers_stay, verdicts_are_own};
+pub use laws::{
+    both_answer_by_functions, dropped_events_tell_nobody, level_filters_answer_by_functions,
+    numbers_stay, verdicts_are_own,
+};
 pub use output::{Output, StackError, UnknownOutput};
 pub use stack::Stack;
 
