@@ -68,7 +68,9 @@ fn commands_set_up_a_hub(rt: HostRuntime) -> Result<(), Fail> {
     assert!(rt; matches!(replies.get(8), Some(Told::Reached(Some(0)))));
     assert!(rt; matches!(replies.get(9), Some(Told::Wanted(Some(true)))));
     assert!(rt; matches!(replies.get(10), Some(Told::Wanted(Some(false)))));
-    assert!(rt; matches!(replies.get(11), Some(Told::Level(level)) if *level == LevelFilter::TRACE));
+    assert!(rt;
+        matches!(replies.get(11), Some(Told::Level(level)) if *level == LevelFilter::TRACE)
+    );
     assert!(rt; book.handle(0).is_some());
     assert!(rt; book.handle(1).is_none());
     Ok(())
