@@ -1,6 +1,7 @@
 use super::*;
 use std::test::Fail;
 
+mod kinds;
 mod visits;
 
 const NAMES: [&str; 3] = ["message", "count", "count"];

@@ -1,11 +1,14 @@
 // Texts of what the core has, and values of every kind.
 use crate::surface_tracing_core::lines::Counted;
 use crate::{
-    AnyValue, Current, FieldSet, FieldValue, Id, Identifier, Kind, Level, LevelFilter, Metadata,
-    OwnedValue, Value,
+    AnyValue, Current, DebugText, FieldSet, FieldValue, Id, Identifier, Kind, Level, LevelFilter,
+    Metadata, OwnedValue, Value, constant_kinds, debug, display,
 };
 use std::convert::AsStr;
+use std::hash::{DefaultHasher, Hash, Hasher};
 use std::test::Fail;
+
+const NAMES: [&str; 1] = ["n"];
 
 #[test]
 fn surface_field_texts(rt: HostRuntime) -> Result<(), Fail> {
@@ -48,6 +51,42 @@ fn surface_level_texts(rt: HostRuntime) -> Result<(), Fail> {
         format!(in alloc; "{:?}", LevelFilter::OFF)?.as_str(),
         "LevelFilter::OFF"
     );
+    Ok(())
+}
+
+#[test]
+fn surface_shown_values(rt: HostRuntime) -> Result<(), Fail> {
+    let alloc = rt.alloc();
+    constant_kinds();
+    let seven = DebugText::Texts {
+        plain: "7",
+        alternate: "7",
+    };
+    assert!(rt; display(alloc, &7u8)?.text() == seven && debug(alloc, &7u8)?.text() == seven);
+    assert!(rt; !Current::unknown().is_known());
+    let fields = FieldSet::new(&[], Identifier(7));
+    let kind = Kind::SPAN;
+    let metadata = Metadata::new("made", "app", Level::INFO, None, None, None, fields, kind);
+    assert!(rt; metadata.kind() == kind);
+    Ok(())
+}
+
+fn hash_of<T: Hash>(value: &T) -> u64 {
+    let mut hasher = DefaultHasher::new();
+    value.hash(&mut hasher);
+    hasher.finish()
+}
+
+#[test]
+fn surface_hashes(rt: HostRuntime) -> Result<(), Fail> {
+    let fields = FieldSet::new(&NAMES, Identifier(7));
+    let field = fields.field("n").ok_or("n")?;
+    let again = fields.field("n").ok_or("n")?;
+    assert!(rt; hash_of(&field) == hash_of(&again));
+    assert!(rt; hash_of(&Level::INFO) == hash_of(&Level::INFO));
+    assert!(rt; hash_of(&LevelFilter::OFF) == hash_of(&LevelFilter::OFF));
+    assert!(rt; hash_of(&Identifier(7)) == hash_of(&fields.callsite()));
+    assert!(rt; hash_of(&Id::from_u64(5)) == hash_of(&Id::from_u64(5)));
     Ok(())
 }
 
