@@ -27,7 +27,7 @@ impl<L: Layer, F: Filter> Subscriber for Stack<Filtered<L, F>> {
 
     ghost fair = { λ x k. stack_fair ⟦<F as Filter>⟧ x k };
 
-    ghost single = { λ x m at a b real k one other. stack_single ⟦<F as Filter>⟧ x m at a b real k one other };
+    ghost single = { λ x m at a b real k p q. stack_single ⟦<F as Filter>⟧ x m at a b real k p q };
 
     ghost stays = { λ x c r y real moved k. stack_stays ⟦<F as Filter>⟧ ⟦<L as Layer>⟧ x c r y real moved k };
 
