@@ -1,9 +1,10 @@
 //! Which steps are refused, and which requests are made.
 
-ghost use Rattle.std.specs.Prelude.{◌≡◌, map, Bool, true, false, IfSome, IfNone, ◌<◌, ◌≤◌, length, option_and_then, slice_get};
+ghost use Rattle.std.specs.Prelude.{◌≡◌, map, Bool, true, false, not, IfSome, IfNone, ◌<◌, ◌≤◌, length, option_and_then, slice_get};
 ghost use Rattle.std.specs.Option.{option_map, option_copied};
-ghost use Rattle.span_tracing_machine.specs.Machine.{place_of, is_kind, known_place, knows_stack, lane_refusal, parent_refusal, request_refusal, enabled_refusal, span_refusal, stack_refusal, open_refusal, pair_refusal, follows_refusal, call_refusal, count_refusal, handle_refusal, ids_refusal, refusal_of, made_at, is_made};
+ghost use Rattle.span_tracing_machine.specs.Machine.{place_of, is_kind, known_place, knows_stack, lane_refusal, parent_refusal, request_refusal, enabled_refusal, span_refusal, stack_refusal, open_refusal, pair_refusal, follows_refusal, call_refusal, count_refusal, first, handle_refusal, when, ids_refusal, refusal_of, made_at, is_made};
 ghost use Rattle.span_tracing_machine.specs.State.{callsite_named, mask_at, mask_for, mask_asked};
+ghost use Rattle.span_tracing_machine.specs.declared.refusal.Refusal.TheVariants.{GlobalSet, UnknownStack};
 ghost use Rattle.span_tracing.specs.Actions.{plain_action};
 ghost use Rattle.span_tracing.specs.Skeletons.{plain_callsite, skeleton_of, setting_of, filter_in, value_in};
 ghost use Rattle.span_tracing.specs.Stored.{mask_in};
@@ -262,6 +263,40 @@ impl TraceParts {
         }
     }
 
+    fn clone_refusal(&self, call: &SpanCall) -> Option<Refusal>
+        requires { IsSound self.now }
+        ensures { result ≡ first (call_refusal (skeleton_of (value_in self.now)) call.now) (count_refusal (skeleton_of (value_in self.now)) call.now.span) }
+    {
+        let refusal = self.call_refusal(*call);
+        if refusal.is_some() {
+            return refusal;
+        }
+        self.count_refusal(call.span)
+    }
+
+    fn close_refusal(&self, call: &SpanCall) -> Option<Refusal>
+        requires { IsSound self.now }
+        ensures { result ≡ first (call_refusal (skeleton_of (value_in self.now)) call.now) (handle_refusal (skeleton_of (value_in self.now)) call.now.span) }
+    {
+        let refusal = self.call_refusal(*call);
+        if refusal.is_some() {
+            return refusal;
+        }
+        self.handle_refusal(call.span)
+    }
+
+    fn global_refusal(&self, handle: usize) -> Option<Refusal>
+        ensures { result ≡ first (when (not (knows_stack (skeleton_of (value_in self.now)) handle)) UnknownStack) (when (skeleton_of (value_in self.now)).is_global GlobalSet) }
+    {
+        if !self.knows_stack(handle) {
+            return Some(Refusal::UnknownStack);
+        }
+        if self.hub.has_been_set() {
+            return Some(Refusal::GlobalSet);
+        }
+        None
+    }
+
     /// Whether the hub lets requests at a callsite through.
     fn is_let_through(&mut self, lane: usize, moment: Moment, number: u64) -> bool
         requires sound { IsSound self.old }
@@ -334,15 +369,7 @@ impl TraceParts {
         ensures kept { self.new ≡ self.old }
     {
         match action {
-            Action::SetGlobalDefault(handle) => {
-                if !self.knows_stack(*handle) {
-                    return Some(Refusal::UnknownStack);
-                }
-                if self.hub.has_been_set() {
-                    return Some(Refusal::GlobalSet);
-                }
-                None
-            }
+            Action::SetGlobalDefault(handle) => self.global_refusal(*handle),
             Action::Event(event) => self.request_refusal(
                 event.lane,
                 event.moment,
@@ -367,20 +394,8 @@ impl TraceParts {
             Action::RecordFollowsFrom(call) => self.follows_refusal(call),
             Action::Enter(call) => self.call_refusal(*call),
             Action::Exit(call) => self.call_refusal(*call),
-            Action::CloneSpan(call) => {
-                let refusal = self.call_refusal(*call);
-                if refusal.is_some() {
-                    return refusal;
-                }
-                self.count_refusal(call.span)
-            }
-            Action::TryClose(call) => {
-                let refusal = self.call_refusal(*call);
-                if refusal.is_some() {
-                    return refusal;
-                }
-                self.handle_refusal(call.span)
-            }
+            Action::CloneSpan(call) => self.clone_refusal(call),
+            Action::TryClose(call) => self.close_refusal(call),
         }
     }
 }

@@ -41,21 +41,7 @@ fn spans_have_as_many_handles_as_were_taken(rt: HostRuntime) -> Result<(), Fail>
     let span = made(trace.new_span(0, OPENED, OUTER, Parent::Root, &[]))?;
     assert_eq!(rt; trace.clone_span(0, OPENED, Some(span)), Reply::Done);
     assert_eq!(rt; trace.clone_span(0, OPENED, None), Reply::Done);
-    assert_eq!(rt;
-        trace.record_follows_from(0, OPENED, Some(span), Some(span)),
-        Reply::Done
-    );
-    assert_eq!(rt;
-        trace.record_follows_from(0, OPENED, None, None),
-        Reply::Done
-    );
     let steps = [
-        Step::RecordFollowsFrom(FollowsCall {
-            lane: 0,
-            moment: OPENED,
-            span: Some(span_name(0, 9)?),
-            follows: Some(span),
-        }),
         Step::TryClose(SpanCall {
             lane: 0,
             moment: OPENED,
@@ -75,12 +61,37 @@ fn spans_have_as_many_handles_as_were_taken(rt: HostRuntime) -> Result<(), Fail>
     assert_eq!(rt;
         trace.run(&steps)?.as_slice(),
         [
-            Reply::Refused(Refusal::UnknownSpan),
             Reply::Closed(false),
             Reply::Closed(true),
             Reply::Refused(Refusal::UnknownSpan),
         ]
         .as_slice()
+    );
+    Ok(())
+}
+
+#[test]
+fn spans_follow_from_others(rt: HostRuntime) -> Result<(), Fail> {
+    let alloc = rt.alloc();
+    let mut trace = set_trace(&rt, alloc, LevelFilter::INFO, fixed_time(alloc)?)?;
+    let span = made(trace.new_span(0, OPENED, OUTER, Parent::Root, &[]))?;
+    assert_eq!(rt;
+        trace.record_follows_from(0, OPENED, Some(span), Some(span)),
+        Reply::Done
+    );
+    assert_eq!(rt;
+        trace.record_follows_from(0, OPENED, None, None),
+        Reply::Done
+    );
+    let steps = [Step::RecordFollowsFrom(FollowsCall {
+        lane: 0,
+        moment: OPENED,
+        span: Some(span_name(0, 9)?),
+        follows: Some(span),
+    })];
+    assert_eq!(rt;
+        trace.run(&steps)?.as_slice(),
+        [Reply::Refused(Refusal::UnknownSpan)].as_slice()
     );
     Ok(())
 }
@@ -285,7 +296,7 @@ fn faults_of_a_folder_change_no_reply(rt: HostRuntime) -> Result<(), Fail> {
     let timer = fixed_time(alloc)?;
     let mut trace = trace_over(&rt, alloc, folder, LevelFilter::INFO, timer)?;
     assert_eq!(rt; trace.set_global_default(0), Reply::Done);
-    for (moment, failures) in [(OPENED, 0), (OPENED, 1), (NEXT_DAY, 3), (NEXT_DAY, 4)] {
+    for (moment, failures) in [(OPENED, 0), (OPENED, 1), (NEXT_DAY, 4), (NEXT_DAY, 5)] {
         let reply = trace.event(0, moment, EVENT, Parent::Root, &[]);
         assert_eq!(rt; reply, Reply::Done);
         if trace.state.parts.starved > 0 {

@@ -111,7 +111,7 @@ fn a_refusing_folder_comes_back(rt: HostRuntime) -> Result<(), Fail> {
     }
     assert_eq!(rt; refusal, Refusal::FolderRefused);
     assert_eq!(rt; outputs.len(), 1);
-    assert_eq!(rt; outputs[0].folder.failures(), 1);
+    assert_eq!(rt; outputs[0].folder.failures(), 2);
     assert_eq!(rt; outputs[0].filter, LevelFilter::INFO);
     assert!(rt; trace.folder(0).is_none());
     Ok(())
