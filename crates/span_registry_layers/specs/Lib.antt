@@ -20,13 +20,19 @@ pub use Rattle.span_registry_layers_layers.specs.Optional
 pub use Rattle.span_registry_layers_layers.specs.Functions
 pub use Rattle.span_registry_layers_layers.specs.Notices
 pub use Rattle.span_registry_layers_layers.specs.Lending
-pub use Rattle.span_registry_layers_layers.specs.Oracles
 pub use Rattle.span_registry_layers_layers.specs.Contexts
 pub use Rattle.span_registry_layers_layers.specs.Dynamic
 pub use Rattle.span_registry_layers_layers.specs.Layereds
 pub use Rattle.span_registry_layers_layers.specs.Identities
 pub use Rattle.span_registry_layers_layers.specs.Absent
 pub use Rattle.span_registry_layers_layers.specs.Several
+pub use Rattle.span_registry_layers_layers.specs.Numbering
+pub use Rattle.span_registry_layers_layers.specs.Filtereds
+pub use Rattle.span_registry_layers_layers.specs.FilteredWords
+pub use Rattle.span_registry_layers_layers.specs.Singles
+pub use Rattle.span_registry_layers_layers.specs.Firms
+pub use Rattle.span_registry_layers_layers.specs.Trees
+pub use Rattle.span_registry_layers_layers.specs.Staying
 pub use Rattle.span_registry_layers_stack.specs.Rows
 pub use Rattle.span_registry_layers_stack.specs.Sites
 pub use Rattle.span_registry_layers_stack.specs.Asked
@@ -42,6 +48,7 @@ pub use Rattle.span_registry_layers_stack.specs.Steps
 pub use Rattle.span_registry_layers_stack.specs.Caches
 pub use Rattle.span_registry_layers_stack.specs.Steadiness
 pub use Rattle.span_registry_layers_stack.specs.Numbers
+pub use Rattle.span_registry_layers_stack.specs.Soundness
 pub use Rattle.span_registry_layers_store.specs.declared.filter_map.FilterId
 pub use Rattle.span_registry_layers_store.specs.declared.filter_map.TooManyFilters
 pub use Rattle.span_registry_layers_store.specs.declared.record.SpanRecord
@@ -63,6 +70,8 @@ pub use Rattle.span_registry_layers_layers.specs.declared.filter.Filter
 pub use Rattle.span_registry_layers_layers.specs.declared.filtered.Filtered
 pub use Rattle.span_registry_layers_layers.specs.declared.layer.Layer
 pub use Rattle.span_registry_layers_layers.specs.declared.layer.layered.Layered
+pub use Rattle.span_registry_layers_layers.specs.declared.attached.AttachError
 pub use Rattle.span_registry_layers_stack.specs.declared.output.Output
 pub use Rattle.span_registry_layers_stack.specs.declared.output.StackError
+pub use Rattle.span_registry_layers_stack.specs.declared.output.StackRefusal
 pub use Rattle.span_registry_layers_stack.specs.declared.output.UnknownOutput

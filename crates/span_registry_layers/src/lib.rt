@@ -2,12 +2,13 @@
 #![tactic(auto)]
 
 pub use span_registry_layers_layers::{
-    And, CallsiteTest, Context, ContextTest, DynFilterFn, Filter, FilterExt, FilterFn, Filtered,
-    Identity, Layer, LayerExt, Layered, MetadataTest, Not, Or, dynamic_filter_fn, filter_fn,
+    And, AttachError, CallsiteTest, Context, ContextTest, DynFilterFn, Filter, FilterExt, FilterFn,
+    Filtered, Identity, Layer, LayerExt, Layered, MetadataTest, Not, Or, SubscriberExt,
+    dynamic_filter_fn, filter_fn, trees_stay_attached,
 };
 pub use span_registry_layers_stack::{
-    Output, Stack, StackError, UnknownOutput, both_answer_by_functions, dropped_events_tell_nobody,
-    level_filters_answer_by_functions, numbers_stay, verdicts_are_own,
+    Output, Stack, StackError, StackRefusal, UnknownOutput, dropped_events_tell_nobody,
+    numbers_stay, stack_registry_stays_sound, verdicts_are_own,
 };
 pub use span_registry_layers_store::{
     Data, Extensions, ExtensionsMut, FilterId, FilterMap, InsertError, LookupSpan, OutputKey,

@@ -4,6 +4,7 @@ mod filters;
 mod layers;
 mod stack;
 mod store;
+mod trees;
 
 use crate::{FilterMap, Registry};
 use std::alloc::Global;

@@ -1,3 +1,5 @@
 pub mod Boxes
 pub mod Attaching
 pub mod Loops
+pub mod Numbers
+pub mod Joining

@@ -1,13 +1,14 @@
 -- A layer that may be absent: where it is, it vetoes nothing, but its hint is that nothing passes.
-use Rattle.std.specs.Prelude.{◌≡◌, ℕ, Bool, true, Option, Some, None}
+use Rattle.std.specs.Prelude.{◌≡◌, ℕ, Bool, true, false, List, [], Option, Some, None}
 use Rattle.tracing_core.specs.InterestInner.TheVariants.{Always}
 use Rattle.tracing_core.specs.Interests.{PlainInterest}
 use Rattle.tracing_core.specs.PlainMetadata.{PlainMetadata}
 use Rattle.tracing_core.specs.PlainRequests.{PlainEvent}
 use Rattle.tracing_core.specs.Steady.{SameWord}
-use Rattle.span_registry_layers_layers.specs.Honesty.{Fair}
+use Rattle.span_registry_layers_layers.specs.Honesty.{Fair, OneAnswer}
 use Rattle.span_registry_layers_layers.specs.Looks.{View}
 use Rattle.span_registry_layers_layers.specs.Notices.{Notice}
+use Rattle.span_registry_layers_layers.specs.Numbering.{NumbersStay, no_numbers}
 use Rattle.span_registry_layers_layers.specs.declared.layer.Layer.{Ghosts}
 
 module _ {L : Type 0} (g : Ghosts L) where
@@ -46,3 +47,25 @@ module _ {L : Type 0} (g : Ghosts L) where
   absent_stays None n p t k = absurd k
   absent_stays (Some l) n None t k = absurd t
   absent_stays (Some l) n (Some m) t k = g.stays l n m t k
+
+  abbrev pub filters_of : Option L → ℕ
+  filters_of None = 0
+  filters_of (Some l) = g.filters l
+
+  abbrev pub numbers_of : Option L → List ℕ
+  numbers_of None = []
+  numbers_of (Some l) = g.numbers l
+
+  abbrev pub KeptOf : Option L → PlainMetadata → View → Bool → List Bool → Bool → Type 0
+  KeptOf None m v passes verdicts some = some ≡ false
+  KeptOf (Some l) m v passes verdicts some = g.kept l m v passes verdicts some
+
+  pub absent_numbered : (o : Option L) (n : Notice) (p : Option L) → ToldOf o n p → NumbersStay n (numbers_of o) (numbers_of p)
+  absent_numbered None n None t = no_numbers n
+  absent_numbered None n (Some m) t = absurd t
+  absent_numbered (Some l) n None t = absurd t
+  absent_numbered (Some l) n (Some m) t = g.numbered l n m t
+
+  pub absent_once : (o : Option L) → IsHonest o → OneAnswer (KeptOf o)
+  absent_once None k = absurd k
+  absent_once (Some l) k = g.once l k

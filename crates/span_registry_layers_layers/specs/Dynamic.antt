@@ -13,6 +13,10 @@ use Rattle.span_registry_layers_layers.specs.Honesty.{Fair}
 use Rattle.span_registry_layers_layers.specs.Looks.{View, view}
 use Rattle.span_registry_layers_layers.specs.declared.context.Context.{Context}
 
+-- the answer is determined by what the metadata says and the context shows
+abbrev pub IsDeterminedIn : (Bor Metadata → Bor Context → Bool → Type 0) → Type 0
+IsDeterminedIn P = (x y : Bor Metadata) (c d : Bor Context) (a b : Bool) → plain_metadata x.now ≡ plain_metadata y.now → view c.now ≡ view d.now → P x c a → P y d b → a ≡ b
+
 -- nothing above the level passes
 abbrev pub RefusesAboveIn : ℕ → (Bor Metadata → Bor Context → Bool → Type 0) → Type 0
 RefusesAboveIn top P = (x : Bor Metadata) (c : Bor Context) (b : Bool) → P x c b → top < (plain_metadata x.now).level → b ≡ false

@@ -1,6 +1,6 @@
 -- Two layers as one.
-use Rattle.std.specs.Prelude.{◌≡◌, ℕ, Bool, true, false, max, Option, Some, None, refl}
-use Rattle.std.proofs.Common.{sym, subst, arith}
+use Rattle.std.specs.Prelude.{◌≡◌, ◌||◌, ◌++◌, ℕ, Bool, true, false, List, max, Option, Some, None, refl}
+use Rattle.std.proofs.Common.{sym, ap, ◌∙◌, subst, arith}
 use Rattle.tracing_core.specs.InterestInner.TheVariants.{Never, Sometimes, Always}
 use Rattle.tracing_core.specs.Interests.{PlainInterest}
 use Rattle.tracing_core.specs.PlainMetadata.{PlainMetadata}
@@ -10,6 +10,7 @@ use Rattle.span_registry_layers_layers.specs.Combined.{Both, SaysOf, joined_word
 use Rattle.span_registry_layers_layers.specs.Honesty.{Fair}
 use Rattle.span_registry_layers_layers.specs.Looks.{View}
 use Rattle.span_registry_layers_layers.specs.Notices.{AddsFilters, Attached, Dispatched, Followed, Happened, Notice, Renamed, Spanned}
+use Rattle.span_registry_layers_layers.specs.Numbering.{NumbersStay}
 use Rattle.span_registry_layers_layers.specs.declared.layer.Layer.{Ghosts}
 use Rattle.span_registry_layers_layers.specs.declared.layer.layered.Layered.{Layered}
 
@@ -49,6 +50,10 @@ module _ {A B : PlainMetadata → View → Bool → Type 0} {S T : PlainMetadata
     below = λ m v r a. picked_below h i m.level a.0 r (f.below m v a.0 a.1) (λ e. g.below m v r (then_passed (B m v) a.0 r a.2 e)) (then_refused (B m v) a.0 r a.2);
   }
 
+-- what the filters of both say of a new span, and whether a layer of one of them is told
+abbrev pub KeptByBoth : (PlainMetadata → View → Bool → List Bool → Bool → Type 0) → (PlainMetadata → View → Bool → List Bool → Bool → Type 0) → PlainMetadata → View → Bool → List Bool → Bool → Type 0
+KeptByBoth K J m v passes verdicts some = (a : Bool) × (b : Bool) × K m v passes verdicts a × J m v passes verdicts b × (some ≡ (a || b))
+
 module _ {A B : Type 0} (g : Ghosts A) (h : Ghosts B) where
   -- both are told the same, and attached to the registry in turn
   abbrev pub ToldBoth : Layered A B → Notice → Layered A B → Type 0
@@ -80,3 +85,17 @@ module _ {A B : Type 0} (g : Ghosts A) (h : Ghosts B) where
   both_stay l (Renamed old new v) m t = stays_each l m (Renamed old new v) (Renamed old new v) t.0 t.1
   both_stay l (Dispatched handle) m t = stays_each l m (Dispatched handle) (Dispatched handle) t.0 t.1
   both_stay l (Attached x) m t = stays_each l m (Attached x) (Attached t.0) t.2 t.3
+
+  abbrev BothNumbers : Layered A B → List ℕ
+  BothNumbers l = g.numbers l.layer ++ h.numbers l.inner
+
+  joined_numbers : (l m : Layered A B) → g.numbers m.layer ≡ g.numbers l.layer → h.numbers m.inner ≡ h.numbers l.inner → BothNumbers m ≡ BothNumbers l
+  joined_numbers l m a b = ap (λ (ns : List ℕ). ns ++ h.numbers m.inner) a ∙ ap (λ (ns : List ℕ). g.numbers l.layer ++ ns) b
+
+  pub both_numbered : (l : Layered A B) (n : Notice) (m : Layered A B) → ToldBoth l n m → NumbersStay n (BothNumbers l) (BothNumbers m)
+  both_numbered l (Spanned hook) m t = joined_numbers l m (g.numbered l.layer (Spanned hook) m.layer t.0) (h.numbered l.inner (Spanned hook) m.inner t.1)
+  both_numbered l (Followed span follows v) m t = joined_numbers l m (g.numbered l.layer (Followed span follows v) m.layer t.0) (h.numbered l.inner (Followed span follows v) m.inner t.1)
+  both_numbered l (Happened e v) m t = joined_numbers l m (g.numbered l.layer (Happened e v) m.layer t.0) (h.numbered l.inner (Happened e v) m.inner t.1)
+  both_numbered l (Renamed old new v) m t = joined_numbers l m (g.numbered l.layer (Renamed old new v) m.layer t.0) (h.numbered l.inner (Renamed old new v) m.inner t.1)
+  both_numbered l (Dispatched handle) m t = joined_numbers l m (g.numbered l.layer (Dispatched handle) m.layer t.0) (h.numbered l.inner (Dispatched handle) m.inner t.1)
+  both_numbered l (Attached x) m t = tt

@@ -5,10 +5,16 @@ pub mod Optional
 pub mod Functions
 pub mod Notices
 pub mod Lending
-pub mod Oracles
 pub mod Contexts
 pub mod Dynamic
 pub mod Layereds
 pub mod Identities
 pub mod Absent
 pub mod Several
+pub mod Numbering
+pub mod Filtereds
+pub mod FilteredWords
+pub mod Singles
+pub mod Firms
+pub mod Trees
+pub mod Staying

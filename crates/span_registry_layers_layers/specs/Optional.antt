@@ -1,13 +1,13 @@
 -- A filter that may be absent: where it is, all passes.
 use Rattle.std.specs.Prelude.{◌≡◌, ℕ, Bool, true, Option, Some, None}
-use Rattle.std.proofs.Common.{sym, subst}
+use Rattle.std.proofs.Common.{sym, subst, ◌∙◌}
 use Rattle.tracing_core.specs.InterestInner.TheVariants.{Always}
 use Rattle.tracing_core.specs.Interests.{PlainInterest}
 use Rattle.tracing_core.specs.PlainMetadata.{PlainMetadata}
 use Rattle.tracing_core.specs.PlainRequests.{PlainEvent}
 use Rattle.tracing_core.specs.Steady.{InterestFits, SameWord}
 use Rattle.span_registry_layers_layers.specs.Combined.{same_word}
-use Rattle.span_registry_layers_layers.specs.Honesty.{Fair}
+use Rattle.span_registry_layers_layers.specs.Honesty.{Fair, Firm, Single}
 use Rattle.span_registry_layers_layers.specs.Looks.{Hook, View}
 use Rattle.span_registry_layers_layers.specs.declared.filter.Filter.{Ghosts}
 
@@ -43,3 +43,11 @@ module _ {F : Type 0} (g : Ghosts F) where
   pub optional_stays : (o : Option F) (h : Hook) → IsHonest o → IsHonest (after_of o h) × SameWord (SaysOf o) (SaysOf (after_of o h)) (hint_of o) (hint_of (after_of o h))
   optional_stays None h k = (tt, same_word (SaysOf None) None)
   optional_stays (Some f) h k = g.stays f h k
+
+  pub optional_single : (o : Option F) → IsHonest o → Single (AnswersOf o) (EventAnswersOf o)
+  optional_single None k = record { callsite = λ m v a b x y. x ∙ sym y; event = λ e v a b x y. x ∙ sym y }
+  optional_single (Some f) k = g.single f k
+
+  pub optional_firm : (o : Option F) → IsHonest o → Firm (SaysOf o) (hint_of o)
+  optional_firm None k = record { one = λ m i j x y. x ∙ sym y; below = λ m v s. tt }
+  optional_firm (Some f) k = g.firm f k

@@ -1,5 +1,5 @@
 -- Several layers as one: each is told, and where one refuses, nobody is.
-use Rattle.std.specs.Prelude.{◌≡◌, ◌<◌, ◌≤◌, ℕ, Bool, true, List, [], ◌∷◌, Option, Some, None, refl}
+use Rattle.std.specs.Prelude.{◌≡◌, ◌+◌, ◌++◌, ◌<◌, ◌≤◌, ℕ, Bool, true, false, List, [], ◌∷◌, Option, Some, None, refl}
 use Rattle.std.proofs.Common.{sym, ap, subst, ◌∙◌, arith, true≢false}
 use Rattle.tracing_core.specs.InterestInner.TheVariants.{Never, Sometimes, Always}
 use Rattle.tracing_core.specs.Interests.{PlainInterest}
@@ -8,9 +8,12 @@ use Rattle.tracing_core.specs.PlainRequests.{PlainEvent}
 use Rattle.tracing_core.specs.Steady.{HintFits, InterestFits, SameWord}
 use Rattle.span_registry_layers_store.specs.Registries.{RegistryValue}
 use Rattle.span_registry_layers_layers.specs.Combined.{Both, either_hint, either_interest, then_passed}
-use Rattle.span_registry_layers_layers.specs.Honesty.{Fair}
+use Rattle.span_registry_layers_layers.specs.Honesty.{Fair, OneAnswer}
 use Rattle.span_registry_layers_layers.specs.Looks.{View}
 use Rattle.span_registry_layers_layers.specs.Notices.{AddsFilters, Attached, Dispatched, Followed, Happened, Notice, Renamed, Spanned}
+use Rattle.span_registry_layers_layers.specs.Layereds.{KeptByBoth}
+use Rattle.span_registry_layers_layers.specs.Numbering.{NumbersStay}
+use Rattle.span_registry_layers_layers.specs.Singles.{both_once}
 use Rattle.span_registry_layers_layers.specs.declared.layer.Layer.{Ghosts}
 
 -- each becomes one that is so related to it
@@ -174,3 +177,41 @@ module _ {L : Type 0} (g : Ghosts L) where
   several_stay xs (Renamed old new v) ys t = honest_told (Renamed old new v) xs ys t
   several_stay xs (Dispatched handle) ys t = honest_told (Dispatched handle) xs ys t
   several_stay xs (Attached x) ys t = honest_attached x t.0 xs ys t.1
+
+  abbrev pub filters_of : List L → ℕ
+  filters_of [] = 0
+  filters_of (x ∷ xs) = g.filters x + filters_of xs
+
+  abbrev pub numbers_of : List L → List ℕ
+  numbers_of [] = []
+  numbers_of (x ∷ xs) = g.numbers x ++ numbers_of xs
+
+  -- what the filters of each say of a new span, and whether some layer is told
+  abbrev pub KeptByEach : List L → PlainMetadata → View → Bool → List Bool → Bool → Type 0
+  KeptByEach [] m v passes verdicts some = some ≡ false
+  KeptByEach (x ∷ xs) m v passes verdicts some = KeptByBoth (g.kept x) (KeptByEach xs) m v passes verdicts some
+
+  joined_numbers : (x y : L) (xs ys : List L) → g.numbers y ≡ g.numbers x → numbers_of ys ≡ numbers_of xs → numbers_of (y ∷ ys) ≡ numbers_of (x ∷ xs)
+  joined_numbers x y xs ys a b = ap (λ (ns : List ℕ). ns ++ numbers_of ys) a ∙ ap (λ (ns : List ℕ). g.numbers x ++ ns) b
+
+  same_numbers : (n : Notice) → ((x y : L) → g.told x n y → g.numbers y ≡ g.numbers x) → (xs ys : List L) → EachTold n xs ys → numbers_of ys ≡ numbers_of xs
+  same_numbers n f [] [] t = refl
+  same_numbers n f [] (y ∷ ys) t = absurd t
+  same_numbers n f (x ∷ xs) [] t = absurd t
+  same_numbers n f (x ∷ xs) (y ∷ ys) t = joined_numbers x y xs ys (f x y t.0) (same_numbers n f xs ys t.1)
+
+  pub each_numbered : (n : Notice) (xs ys : List L) → ToldEach xs n ys → NumbersStay n (numbers_of xs) (numbers_of ys)
+  each_numbered (Spanned hook) xs ys t = same_numbers (Spanned hook) (λ x y told. g.numbered x (Spanned hook) y told) xs ys t
+  each_numbered (Followed span follows v) xs ys t = same_numbers (Followed span follows v) (λ x y told. g.numbered x (Followed span follows v) y told) xs ys t
+  each_numbered (Happened e v) xs ys t = same_numbers (Happened e v) (λ x y told. g.numbered x (Happened e v) y told) xs ys t
+  each_numbered (Renamed old new v) xs ys t = same_numbers (Renamed old new v) (λ x y told. g.numbered x (Renamed old new v) y told) xs ys t
+  each_numbered (Dispatched handle) xs ys t = same_numbers (Dispatched handle) (λ x y told. g.numbered x (Dispatched handle) y told) xs ys t
+  each_numbered (Attached r) xs ys t = tt
+
+  each_once : (xs : List L) → EachWants xs → OneAnswer (KeptByEach xs)
+  each_once [] each = λ m v passes verdicts others a b x y. x ∙ sym y
+  each_once (x ∷ xs) each = both_once (g.kept x) (KeptByEach xs) (g.once x each.0) (each_once xs each.2)
+
+  pub several_once : (xs : List L) → IsHonest xs → OneAnswer (KeptByEach xs)
+  several_once [] k = absurd k
+  several_once (x ∷ xs) k = each_once (x ∷ xs) k

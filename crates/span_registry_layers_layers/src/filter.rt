@@ -5,7 +5,7 @@ ghost use Rattle.tracing_core.specs.Metadata.{plain_metadata};
 ghost use Rattle.tracing_core.specs.PlainMetadata.{PlainMetadata};
 ghost use Rattle.tracing_core.specs.PlainRequests.{PlainEvent, plain_attributes, plain_event, plain_record};
 ghost use Rattle.tracing_core.specs.Steady.{SameWord};
-ghost use Rattle.span_registry_layers_layers.specs.Honesty.{Fair};
+ghost use Rattle.span_registry_layers_layers.specs.Honesty.{Fair, Firm, Single};
 ghost use Rattle.span_registry_layers_layers.specs.Looks.{Closed, Entered, Exited, Hook, Recorded, SpanMade, View, view};
 
 mod boxed;
@@ -27,7 +27,8 @@ use tracing_core::{Attributes, Event, Id, Interest, LevelFilter, Metadata, Recor
 /// Decides which spans and events an output is told.
 ///
 /// An honest filter passes what it says it always passes, and refuses what it says it never passes and what is
-/// above its hint, wherever it is asked; no call changes what it says, or its hint, or its honesty.
+/// above its hint, wherever it is asked; asked twice of the same in the same place it answers the same; it says one thing of
+/// a callsite, and not that it always passes what is above its hint; no call changes what it says, or its hint, or its honesty.
 pub trait Filter: Drop {
     // What it may answer of a callsite, by what it may look at.
     ghost answers: { Self → PlainMetadata → View → Bool → Type 0 };
@@ -50,6 +51,10 @@ pub trait Filter: Drop {
     ghost fair: { (x : Self) → honest x → Fair (answers x) (says x) (hint x) };
 
     ghost stays: { (x : Self) (h : Hook) → honest x → honest (after x h) × SameWord (says x) (says (after x h)) (hint x) (hint (after x h)) };
+
+    ghost single: { (x : Self) → honest x → Single (answers x) (event_answers x) };
+
+    ghost firm: { (x : Self) → honest x → Firm (says x) (hint x) };
 
     /// Whether spans and events of the callsite pass, made there and then.
     fn enabled(&self, metadata: &Metadata<'_>, context: &Context<'_>) -> bool

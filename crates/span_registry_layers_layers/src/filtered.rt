@@ -1,21 +1,38 @@
 //! A layer with a filter of its own.
 ghost use Rattle.std.specs.Borrow.{sem};
-ghost use Rattle.std.specs.Prelude.{◌≡◌};
+ghost use Rattle.std.specs.Prelude.{◌≡◌, None};
 ghost use Rattle.span_registry_layers_layers.specs.Lending.{LendsFilter, LendsLayer};
 
+use span_registry_layers_store::FilterId;
+
 /// A layer that is told what its filter passes.
+///
+/// As a layer of a tree it has a number in a registry from when it is attached, and tells nobody before. The layer may
+/// have filters of its own: it is told what all filters above it pass.
 #[derive(Clone, Copy, Debug, Drop)]
 pub struct Filtered<L, F> {
-    layer: L,
-    filter: F,
+    pub(crate) layer: L,
+    pub(crate) filter: F,
+    pub(crate) id: Option<FilterId>,
 }
 
 impl<L, F> Filtered<L, F> {
     /// The layer, told what the filter passes.
     pub fn new(layer: L, filter: F) -> Filtered<L, F>
-        ensures { (result.layer ≡ layer) × (result.filter ≡ filter) }
+        ensures { (result.layer ≡ layer) × (result.filter ≡ filter) × (result.id ≡ None) }
     {
-        Filtered { layer, filter }
+        Filtered {
+            layer,
+            filter,
+            id: None,
+        }
+    }
+
+    /// The number that the filter has in a registry, where it is attached to one as a layer of a tree.
+    pub fn id(&self) -> Option<FilterId>
+        ensures { result ≡ self.now.id }
+    {
+        self.id
     }
 
     /// The filter.

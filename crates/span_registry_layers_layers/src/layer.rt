@@ -1,17 +1,19 @@
 //! What an output does with what it is told.
-ghost use Rattle.std.specs.Prelude.{◌≡◌, ℕ, Bool, Option};
+ghost use Rattle.std.specs.Prelude.{◌≡◌, ◌≤◌, ◌+◌, ℕ, Bool, false, List, [], Option, length};
 ghost use Rattle.tracing_core.specs.Interests.{PlainInterest};
 ghost use Rattle.tracing_core.specs.Metadata.{plain_metadata};
 ghost use Rattle.tracing_core.specs.PlainMetadata.{PlainMetadata};
 ghost use Rattle.tracing_core.specs.PlainRequests.{PlainEvent, plain_attributes, plain_event, plain_record};
 ghost use Rattle.tracing_core.specs.Steady.{SameWord};
-ghost use Rattle.span_registry_layers_layers.specs.Honesty.{Fair};
+ghost use Rattle.span_registry_layers_layers.specs.Honesty.{Fair, OneAnswer};
 ghost use Rattle.span_registry_layers_layers.specs.Looks.{Closed, Entered, Exited, Recorded, SpanMade, View, view};
 ghost use Rattle.span_registry_layers_layers.specs.Notices.{AddsFilters, Attached, Dispatched, Followed, Happened, Notice, Renamed, Spanned};
+ghost use Rattle.span_registry_layers_layers.specs.Numbering.{AreNumbers, NumbersStay, SameBut, SameOf, more_filters, numbers_from, room_after};
 
 mod boxed;
 mod dynamic;
 mod ext;
+mod filtered;
 mod function;
 mod identity;
 mod layered;
@@ -20,10 +22,10 @@ mod optional;
 mod several;
 
 use crate::context::Context;
-pub use ext::LayerExt;
+pub use ext::{LayerExt, SubscriberExt};
 pub use identity::Identity;
 pub use layered::Layered;
-use span_registry_layers_store::Registry;
+use span_registry_layers_store::{FilterMap, Registry};
 use tracing_core::{Attributes, Event, Id, Interest, LevelFilter, Metadata, Record, WeakDispatch};
 
 /// What an output does with the spans and events that it is told.
@@ -49,9 +51,22 @@ pub trait Layer: Drop {
     // Which values keep their word.
     ghost honest: { Self → Type 0 };
 
+    // How many filters it has.
+    ghost filters: { Self → ℕ } = { λ x. 0 };
+
+    // The numbers of those that have one.
+    ghost numbers: { Self → List ℕ } = { λ x. [] };
+
+    // What its filters may say of a new span where all filters above it say this, and whether one of its layers is told.
+    ghost kept: { Self → PlainMetadata → View → Bool → List Bool → Bool → Type 0 } = { λ x m v passes verdicts some. some ≡ passes };
+
     ghost fair: { (x : Self) → honest x → Fair (answers x) (says x) (hint x) };
 
     ghost stays: { (x : Self) (n : Notice) (y : Self) → told x n y → honest x → honest y × SameWord (says x) (says y) (hint x) (hint y) };
+
+    ghost numbered: { (x : Self) (n : Notice) (y : Self) → told x n y → NumbersStay n (numbers x) (numbers y) };
+
+    ghost once: { (x : Self) → honest x → OneAnswer (kept x) };
 
     /// A hub took the stack that it is in, and gave out this handle.
     fn on_register_dispatch(&mut self, dispatch: &WeakDispatch)
@@ -60,7 +75,27 @@ pub trait Layer: Drop {
     /// It was attached to a registry, which it may have number its filters.
     fn on_layer(&mut self, registry: &mut Registry)
         ensures told { told self.old (Attached registry.old) self.new }
-        ensures filters { AddsFilters registry.old registry.new };
+        ensures filters { AddsFilters registry.old registry.new }
+        // Its filters are numbered in turn, where there is room for all of them.
+        ensures numbers { registry.old.filters + filters self.old ≤ 64 → (registry.new ≡ more_filters (filters self.old) registry.old) × (numbers self.new ≡ numbers_from registry.old.filters (filters self.old)) };
+
+    /// How much is left of a room for filters once it has taken its own, and `None` where that is too little.
+    fn room_left(&self, room: u8) -> Option<u8>
+        ensures { result ≡ room_after room (filters self.now) };
+
+    /// Asks its filters of a new span, where all filters above it say `passes`: what was known so far with what each of
+    /// them says, and whether one of its layers is to be told.
+    fn ask_span(
+        &self,
+        metadata: &Metadata<'_>,
+        context: &Context<'_>,
+        passes: bool,
+        verdicts: FilterMap,
+    ) -> (FilterMap, bool)
+        ensures room { length result.0.passed ≡ length verdicts.passed }
+        ensures others { SameBut (numbers self.now) verdicts.passed result.0.passed }
+        // It stays said whatever other filters say.
+        ensures kept { (later : List Bool) → AreNumbers (length verdicts.passed) (numbers self.now) → SameOf (numbers self.now) result.0.passed later → kept self.now (plain_metadata metadata.now) (view context.now) passes later result.1 };
 
     /// Its interest in a callsite.
     fn register_callsite(&self, metadata: &Metadata<'_>) -> Interest

@@ -1,18 +1,22 @@
 //! Filters and layers over a registry of spans.
 #![tactic(auto)]
 
+mod attached;
 mod context;
 mod filter;
 mod filtered;
+mod laws;
 mod layer;
 
+pub use attached::AttachError;
 pub use context::Context;
 pub use filter::{
     And, CallsiteTest, ContextTest, DynFilterFn, Filter, FilterExt, FilterFn, MetadataTest, Not,
     Or, dynamic_filter_fn, filter_fn,
 };
 pub use filtered::Filtered;
-pub use layer::{Identity, Layer, LayerExt, Layered};
+pub use laws::trees_stay_attached;
+pub use layer::{Identity, Layer, LayerExt, Layered, SubscriberExt};
 
 #[cfg(test)]
 mod tests;

@@ -1,4 +1,7 @@
 //! Filters.
+mod heard;
+mod trees;
+
 use crate::{And, Context, Filter, FilterFn, MetadataTest, Not, Or, filter_fn};
 use span_registry_layers_store::Registry;
 use std::test::Fail;

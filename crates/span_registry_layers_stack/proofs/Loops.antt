@@ -29,31 +29,6 @@ module _ {A : Type 0} (R : A → A → Type 0) where
   becomes_end (x ∷ xs) [] (suc i) h n done = done
   becomes_end (x ∷ xs) (z ∷ zs) (suc i) h n done = (done.0, becomes_end xs zs i (omega arith) (omega arith) done.1)
 
-pub left_next : {A : Type 0} (old cur : List A) (i : ℕ) (y : A) → drop i cur ≡ drop i old → drop (i + 1) (set cur i y) ≡ drop (i + 1) old
-left_next old cur i y left = rw add-one (later old cur i y left)
-  where
-    later : {A : Type 0} (old cur : List A) (i : ℕ) (y : A) → drop i cur ≡ drop i old → drop (suc i) (set cur i y) ≡ drop (suc i) old
-    later [] [] zero y e = refl
-    later [] [] (suc i) y e = refl
-    later [] (z ∷ zs) zero y e = absurd (cc)
-    later [] (z ∷ zs) (suc i) y e = later_none zs i y e
-      where
-        later_none : {A : Type 0} (zs : List A) (i : ℕ) (y : A) → drop i zs ≡ [] → drop (suc i) (set zs i y) ≡ []
-        later_none [] zero y e = refl
-        later_none [] (suc i) y e = refl
-        later_none (z ∷ zs) zero y e = absurd (cc)
-        later_none (z ∷ zs) (suc i) y e = later_none zs i y e
-    later (x ∷ xs) [] zero y e = absurd (cc)
-    later (x ∷ xs) [] (suc i) y e = later_gone xs i e
-      where
-        later_gone : {A : Type 0} (xs : List A) (i : ℕ) → [] ≡ drop i xs → [] ≡ drop (suc i) xs
-        later_gone [] zero e = refl
-        later_gone [] (suc i) e = refl
-        later_gone (x ∷ xs) zero e = absurd (cc)
-        later_gone (x ∷ xs) (suc i) e = later_gone xs i e
-    later (x ∷ xs) (z ∷ zs) zero y e = tails z x zs xs e
-    later (x ∷ xs) (z ∷ zs) (suc i) y e = later xs zs i y e
-
 -- s with its first i elements changed
 abbrev pub so_far : {A : Type 0} → (A → A) → ℕ → List A → List A
 so_far f i [] = []

@@ -1,34 +1,30 @@
 -- Making spans.
-use Rattle.std.proofs.Common.{◌≡◌, ℕ, Bool, true, false, List, Option, None, Result, Ok, refl, sym, ◌∙◌, subst}
+use Rattle.std.proofs.Common.{◌≡◌, ℕ, Bool, true, false, List, Option, None, Result, Ok, refl, sym, subst}
 use Rattle.tracing_core.specs.At.{At}
 use Rattle.tracing_core.specs.PlainRequests.{PlainAttributes, explicit_parent}
 use Rattle.tracing_core.specs.RequestError.{RequestError}
 use Rattle.span_registry_layers_store.specs.Registries.{knows}
-use Rattle.span_registry_layers_store.specs.Verdicts.{all_pass}
-use Rattle.span_registry_layers_layers.specs.Oracles.{Oracle}
 use Rattle.span_registry_layers_layers.specs.declared.filter.Filter.{Ghosts}
 use Rattle.span_registry_layers_layers.specs.declared.filtered.Filtered.{Filtered}
 use Rattle.span_registry_layers_layers.specs.declared.layer.Layer.{Ghosts as LayerGhosts}
-use Rattle.span_registry_layers_stack.specs.Calls.{MakesSpan, SpanAsked, SpanCached, SpanKnown, SpanWhere}
-use Rattle.tracing_core.specs.Steady.{IsReal}
-use Rattle.span_registry_layers_stack.specs.Caches.{passes_is_asked}
-use Rattle.span_registry_layers_stack.specs.Words.{Word}
-use Rattle.span_registry_layers_stack.specs.Hearing.{verdicts_from}
-use Rattle.span_registry_layers_stack.specs.Stacks.{StackValue, cleared, passes_cached}
+use Rattle.span_registry_layers_stack.specs.Calls.{AsksUnless, MakesSpan, SpanCached, SpanKnown, SpanUnless, SpanWhere}
+use Rattle.span_registry_layers_stack.specs.Stacks.{StackValue, cleared, is_refused}
 
-module _ {L F : Type 0} (g : Ghosts F) (h : LayerGhosts L) (o : Oracle g) where
-  by_passes : (b : Bool) (a : PlainAttributes) (at : At) (s : StackValue (Filtered L F)) (r : Result (Option ℕ) RequestError) (t : StackValue (Filtered L F)) → knows s.registry (explicit_parent a.parent) ≡ true → b ≡ passes_cached g o s a.metadata at → SpanWhere g h o b a at s r t → SpanCached g h o a at s r t
-  by_passes b a at s r t known passes given =
-      subst (λ k. SpanKnown g h o k (passes_cached g o s a.metadata at) a at s r t) (sym known) (subst (λ p. SpanWhere g h o p a at s r t) passes given)
+module _ {L F : Type 0} (g : Ghosts F) (h : LayerGhosts L) where
+  unless_asked : (c : Bool) (verdicts : List Bool) (some : Bool) (a : PlainAttributes) (at : At) (s : StackValue (Filtered L F)) (r : Result (Option ℕ) RequestError) (t : StackValue (Filtered L F)) → AsksUnless g h c a.metadata at s verdicts some →
+      SpanWhere g h some a at verdicts s r t → SpanUnless g h c a at s r t
+  unless_asked true verdicts some a at s r t asked given = subst (λ b. SpanWhere g h b a at verdicts s r t) asked given
+  unless_asked false verdicts some a at s r t asked given = (verdicts, some, asked, given)
 
-  pub span_dropped : (b : Bool) (a : PlainAttributes) (at : At) (s t : StackValue (Filtered L F)) → knows s.registry (explicit_parent a.parent) ≡ true → b ≡ passes_cached g o s a.metadata at → b ≡ false → t ≡ cleared s → SpanCached g h o a at s (Ok None) t
-  span_dropped b a at s t known passes e same = by_passes false a at s (Ok None) t known (sym e ∙ passes) (refl, same)
+  by_asking : (verdicts : List Bool) (some : Bool) (a : PlainAttributes) (at : At) (s : StackValue (Filtered L F)) (r : Result (Option ℕ) RequestError) (t : StackValue (Filtered L F)) → knows s.registry (explicit_parent a.parent) ≡ true →
+      AsksUnless g h (is_refused s a.metadata) a.metadata at s verdicts some → SpanWhere g h some a at verdicts s r t → SpanCached g h a at s r t
+  by_asking verdicts some a at s r t known asked given =
+      subst (λ k. SpanKnown g h k s (SpanUnless g h (is_refused s a.metadata) a at s) r t) (sym known) (unless_asked (is_refused s a.metadata) verdicts some a at s r t asked given)
 
-  pub span_made : (b : Bool) (verdicts : List Bool) (a : PlainAttributes) (at : At) (s : StackValue (Filtered L F)) (r : Result (Option ℕ) RequestError) (t : StackValue (Filtered L F)) → knows s.registry (explicit_parent a.parent) ≡ true → b ≡ passes_cached g o s a.metadata at → b ≡ true →
-      verdicts ≡ verdicts_from g o all_pass a.metadata at s.registry s.rows → MakesSpan g h a at verdicts s r t → SpanCached g h o a at s r t
-  span_made b verdicts a at s r t known passes e same made = by_passes true a at s r t known (sym e ∙ passes) (subst (λ v. MakesSpan g h a at v s r t) same made)
+  pub span_dropped : (some : Bool) (verdicts : List Bool) (a : PlainAttributes) (at : At) (s t : StackValue (Filtered L F)) → knows s.registry (explicit_parent a.parent) ≡ true →
+      AsksUnless g h (is_refused s a.metadata) a.metadata at s verdicts some → some ≡ false → t ≡ cleared s → SpanCached g h a at s (Ok None) t
+  span_dropped some verdicts a at s t known asked e same = by_asking verdicts some a at s (Ok None) t known asked (subst (λ b. SpanWhere g h b a at verdicts s (Ok None) t) (sym e) (refl, same))
 
-  -- what is answered by what is kept is what asking every filter afresh gives
-  pub span_is_asked : (a : PlainAttributes) (at : At) (s : StackValue (Filtered L F)) (r : Result (Option ℕ) RequestError) (t : StackValue (Filtered L F)) → IsReal a.metadata → Word g s → SpanCached g h o a at s r t → SpanAsked g h o a at s r t
-  span_is_asked a at s r t real w given =
-      subst (λ p. SpanKnown g h o (knows s.registry (explicit_parent a.parent)) p a at s r t) (passes_is_asked g o s a.metadata at real w) given
+  pub span_made : (some : Bool) (verdicts : List Bool) (a : PlainAttributes) (at : At) (s : StackValue (Filtered L F)) (r : Result (Option ℕ) RequestError) (t : StackValue (Filtered L F)) → knows s.registry (explicit_parent a.parent) ≡ true →
+      AsksUnless g h (is_refused s a.metadata) a.metadata at s verdicts some → some ≡ true → MakesSpan g h a at verdicts s r t → SpanCached g h a at s r t
+  span_made some verdicts a at s r t known asked e made = by_asking verdicts some a at s r t known asked (subst (λ b. SpanWhere g h b a at verdicts s r t) (sym e) made)

@@ -1,38 +1,39 @@
 -- Why what holds of every stack does.
-use Rattle.std.proofs.Common.{◌≡◌, ◌≤◌, ◌<◌, ◌+◌, ◌||◌, ◌&&◌, ℕ, zero, suc, Bool, true, false, List, [], ◌∷◌, length, map, Some, Ok, refl, sym, ap, ◌∙◌, subst, arith, slice_get, slice_set}
+use Rattle.std.proofs.Common.{◌≡◌, ◌<◌, ◌==◌, ◌++◌, ◌||◌, ℕ, zero, suc, Bool, true, false, List, [], ◌∷◌, length, map, Some, Ok, refl, sym, ap, ◌∙◌, subst, arith, inl, inr, true≢false, slice_get, slice_set}
+use Rattle.std.proofs.lemmas.Bool.Decides.{nat_tests}
+use Rattle.std.proofs.lemmas.List.Folds.{list_any-append}
 use Rattle.tracing_core.specs.At.{At}
 use Rattle.tracing_core.specs.Calls.{DispatchRegistered, CallsiteRegistered, Asked, HintAsked, SpanMade, Recorded, FollowsRecorded, EventAsked, Told, Entered, Exited, Cloned, Dropped, CloseTried, CurrentAsked}
 use Rattle.tracing_core.specs.Kept.{Every}
 use Rattle.tracing_core.specs.PlainMetadata.{PlainMetadata}
 use Rattle.tracing_core.specs.PlainRequests.{PlainEvent, explicit_parent}
 use Rattle.span_registry_layers_store.specs.Registries.{RegistryValue, knows}
+use Rattle.span_registry_layers_store.specs.Spans.{is_member}
 use Rattle.span_registry_layers_store.specs.Verdicts.{all_pass, or_passes, passes_at}
+use Rattle.span_registry_layers_layers.specs.Combined.{Else, Then}
+use Rattle.span_registry_layers_layers.specs.Honesty.{One}
 use Rattle.span_registry_layers_layers.specs.Notices.{Happened}
-use Rattle.span_registry_layers_layers.specs.Oracles.{Oracle}
+use Rattle.span_registry_layers_layers.specs.Numbering.{AreNumbers, SameBut, SameOf}
+use Rattle.span_registry_layers_layers.proofs.Numbers.{numbers_first, numbers_second, same_first, same_self}
 use Rattle.span_registry_layers_layers.specs.declared.filter.Filter.{Ghosts}
 use Rattle.span_registry_layers_layers.specs.declared.filtered.Filtered.{Filtered}
 use Rattle.span_registry_layers_layers.specs.declared.layer.Layer.{Ghosts as LayerGhosts}
-use Rattle.span_registry_layers_stack.specs.Asked.{any_passes}
-use Rattle.span_registry_layers_stack.specs.Numbers.{DroppedTellsNobody, HasNumbers, IsNumbered, NumbersStay, VerdictsAreOwn}
-use Rattle.span_registry_layers_stack.specs.Rows.{EachBecomes, TellsEvent, TellsIf, ids_of, marked, row_passes, row_wants, view_of, with_layer}
-use Rattle.span_registry_layers_stack.specs.Hearing.{verdicts_from}
-use Rattle.span_registry_layers_stack.specs.Stacks.{StackValue, TellsAll, WhereKnown, cleared, passes_asked}
+use Rattle.span_registry_layers_stack.specs.Asked.{AsksFrom, AsksRow, SomePassesBy}
+use Rattle.span_registry_layers_stack.specs.Numbers.{DroppedTellsNobody, HasNumbers, NumbersStay, RowSaid, VerdictsAreOwn}
+use Rattle.span_registry_layers_stack.specs.Rows.{Afresh, EachBecomes, Fresh, TellsEventBy, TellsIf, filters_of, marked, numbers_of, view_of, with_layer}
+use Rattle.span_registry_layers_stack.specs.Stacks.{PassesAsked, StackValue, TellsAfresh, WhereKnown, cleared}
 use Rattle.span_registry_layers_stack.specs.Steps.{Keeps, clone_keeps, close_keeps, dispatch_keeps, enter_keeps, event_keeps, exit_keeps, follows_keeps, record_keeps, span_keeps}
 use Rattle.span_registry_layers_stack.specs.declared.row.Row.{Row}
 
-or_left : (a b : Bool) → (a || b) ≡ false → a ≡ false
-or_left true b e = absurd (cc)
-or_left false b e = refl
+apart : (m n : ℕ) → (m == n) ≡ false → m ≡ n → ⊥
+apart m n h e = grind (arith, nat_tests, h, e)
 
-or_right : (a b : Bool) → (a || b) ≡ false → b ≡ false
-or_right true b e = absurd (cc)
-or_right false b e = e
-
-other_kept : (p : List Bool) (n i : ℕ) (b : Bool) → i < n → slice_get (slice_set p n b) i ≡ slice_get p i
+other_kept : (p : List Bool) (n i : ℕ) (b : Bool) → (n ≡ i → ⊥) → slice_get (slice_set p n b) i ≡ slice_get p i
 other_kept [] n i b h = refl
-other_kept (x ∷ xs) zero i b h = absurd (omega arith)
+other_kept (x ∷ xs) zero zero b h = absurd (h refl)
+other_kept (x ∷ xs) zero (suc i) b h = refl
 other_kept (x ∷ xs) (suc n) zero b h = refl
-other_kept (x ∷ xs) (suc n) (suc i) b h = other_kept xs n i b (omega arith)
+other_kept (x ∷ xs) (suc n) (suc i) b h = other_kept xs n i b (λ e. h (ap suc e))
 
 own_put : (p : List Bool) (n : ℕ) (b : Bool) → n < length p → slice_get (slice_set p n b) n ≡ Some b
 own_put [] n b h = absurd (omega arith)
@@ -44,68 +45,107 @@ as_long [] n b = refl
 as_long (x ∷ xs) zero b = refl
 as_long (x ∷ xs) (suc n) b = ap suc (as_long xs n b)
 
-module _ {L F : Type 0} (g : Ghosts F) (o : Oracle g) (m : PlainMetadata) (at : At) (x : RegistryValue) where
-  earlier_kept : (rows : List (Row (Filtered L F))) (p : List Bool) (n i : ℕ) → IsNumbered n (ids_of rows) → i < n → slice_get (verdicts_from g o p m at x rows) i ≡ slice_get p i
-  earlier_kept [] p n i w h = refl
-  earlier_kept (row ∷ rows) p n i w h =
-      let b = row_passes g o m at x row in
-      earlier_kept rows (slice_set p row.id.index b) (n + 1) i w.1 (omega arith) ∙ ap (λ k. slice_get (slice_set p k b) i) w.0 ∙ other_kept p n i b h
+neither : (a b : Bool) → (a || b) ≡ false → (a ≡ false) × (b ≡ false)
+neither true b e = absurd (cc)
+neither false b e = (refl, e)
 
-  own_verdicts : (all rows : List (Row (Filtered L F))) (p : List Bool) (n : ℕ) → IsNumbered n (ids_of rows) → n + length (ids_of rows) ≤ length p → verdicts_from g o all_pass m at x all ≡ verdicts_from g o p m at x rows →
-      Every (λ row. passes_at (verdicts_from g o all_pass m at x all) row.id.index ≡ row_passes g o m at x row) rows
-  own_verdicts all [] p n w h e = tt
-  own_verdicts all (row ∷ rows) p n w h e =
-      let b = row_passes g o m at x row in
-      let q = slice_set p row.id.index b in
-      let put : slice_get q n ≡ Some b = ap (λ k. slice_get (slice_set p k b) n) w.0 ∙ own_put p n b (omega arith) in
-      let read : slice_get (verdicts_from g o q m at x rows) n ≡ Some b = earlier_kept rows q (n + 1) n w.1 (omega arith) ∙ put in (
-        ap (passes_at (verdicts_from g o all_pass m at x all)) w.0 ∙ ap (λ v. passes_at v n) e ∙ ap or_passes read,
-        own_verdicts all rows q (n + 1) w.1 (rw (as_long p row.id.index b) (omega arith)) e,
+no_member : (xs ys : List ℕ) (n : ℕ) → is_member (xs ++ ys) n ≡ false → (is_member xs n ≡ false) × (is_member ys n ≡ false)
+no_member xs ys n e = neither (is_member xs n) (is_member ys n) (sym (list_any-append (λ x. x == n) xs ys) ∙ e)
+
+module _ {L F : Type 0} (g : Ghosts F) (h : LayerGhosts L) (m : PlainMetadata) (at : At) (x : RegistryValue) where
+  -- other filters' answers stay
+  others_stay : (rows : List (Row (Filtered L F))) (p : List Bool) (some : Bool) (verdicts : List Bool) (result : Bool) → AsksFrom g h m at x p some rows verdicts result → SameBut (numbers_of h rows) p verdicts
+  others_stay [] p some verdicts result asked n e = ap (λ v. passes_at v n) asked.0
+  others_stay (row ∷ rows) p some verdicts result asked n e =
+      let b = asked.0 in
+      let apart_own = neither (row.id.index == n) (is_member (h.numbers row.output.layer ++ numbers_of h rows) n) e in
+      let parts = no_member (h.numbers row.output.layer) (numbers_of h rows) n apart_own.1 in
+      others_stay rows asked.1 (some || b) verdicts result asked.3 n parts.1
+      ∙ asked.2.1.1 n parts.0 ∙ ap or_passes (other_kept p row.id.index n b (apart row.id.index n apart_own.0))
+
+  long : (rows : List (Row (Filtered L F))) (p : List Bool) (row : Row (Filtered L F)) (next : List Bool) (b : Bool) → length p ≡ 64 → AsksRow g h m at x row p next b → length next ≡ 64
+  long rows p row next b e asked = asked.1.0 ∙ as_long p row.id.index b ∙ e
+
+  own_verdicts : (rows : List (Row (Filtered L F))) (p : List Bool) (some : Bool) (verdicts : List Bool) (result : Bool) → AsksFrom g h m at x p some rows verdicts result → length p ≡ 64 → AreNumbers 64 (numbers_of h rows) → Every (RowSaid g h m at x verdicts) rows
+  own_verdicts [] p some verdicts result asked e w = tt
+  own_verdicts (row ∷ rows) p some verdicts result asked e w =
+      let b = asked.0 in
+      let next = asked.1 in
+      let layer = row.output.layer in
+      let own = row.id.index in
+      let v = view_of at x row in
+      let apart_own = no_member (h.numbers layer) (numbers_of h rows) own w.1 in
+      let later = others_stay rows next (some || b) verdicts result asked.3 in
+      let below = w.0 in
+      let put : slice_get (slice_set p own b) own ≡ Some b = own_put p own b (subst (λ n. own < n) (sym e) below) in
+      let said : passes_at verdicts own ≡ b = later own apart_own.1 ∙ asked.2.1.1 own apart_own.0 ∙ ap or_passes put in
+      let size : length (slice_set p own b) ≡ 64 = as_long p own b ∙ e in
+      let numbers : AreNumbers (length (slice_set p own b)) (h.numbers layer) = subst (λ n. AreNumbers n (h.numbers layer)) (sym size) (numbers_first 64 (h.numbers layer) (numbers_of h rows) w.2) in
+      let same : SameOf (h.numbers layer) next verdicts = same_first 64 (h.numbers layer) (numbers_of h rows) next verdicts verdicts w.2 later (same_self (h.numbers layer ++ numbers_of h rows) verdicts) in
+      let heard = asked.2.1.2 in (
+        (
+          subst (g.answers row.output.filter m v) (sym said) asked.2.0,
+          (heard.0, subst (λ (answer : Bool). h.kept layer m v answer verdicts heard.0) (sym said) (heard.1 verdicts numbers same)),
+        ),
+        own_verdicts rows next (some || b) verdicts result asked.3 (long rows p row next b e asked.2) (numbers_second 64 (h.numbers layer) (numbers_of h rows) w.2),
       )
+
+fresh_one : (P : Bool → Type 0) → One P → One (Fresh P)
+fresh_one P one a b (inl x) (inl y) = one a b x y
+fresh_one P one a b (inl x) (inr y) = y.1 a x ∙ sym y.0
+fresh_one P one a b (inr x) (inl y) = x.0 ∙ sym (x.1 b y)
+fresh_one P one a b (inr x) (inr y) = x.0 ∙ sym y.0
+
+-- where nobody passes, nobody did so far
+refused_here : (p : Bool) (Q : Bool → Type 0) → Else Q p false → (p ≡ false) × Q false
+refused_here true Q w = absurd (true≢false (sym w))
+refused_here false Q w = (refl, w)
 
 module _ {L F : Type 0} (g : Ghosts F) (h : LayerGhosts L) where
   pub verdicts_own : VerdictsAreOwn g h
-  verdicts_own o m at s w =
-      let few : 0 + length (ids_of s.rows) ≤ 64 = omega (arith, w.1) in
-      own_verdicts g o m at s.registry s.rows s.rows all_pass 0 w.0 few refl
+  verdicts_own m at s verdicts some w asked = own_verdicts g h m at s.registry s.rows all_pass false verdicts some asked refl w
 
-  numbers_keep : (s t : StackValue (Filtered L F)) → Keeps g s t → HasNumbers s → HasNumbers t
-  numbers_keep s t k w = subst (λ ids. IsNumbered 0 ids × (length ids ≤ 64)) (sym k.numbers) w
+  numbers_keep : (s t : StackValue (Filtered L F)) → Keeps g h s t → HasNumbers h s → HasNumbers h t
+  numbers_keep s t k w = subst (AreNumbers 64) (sym k.numbers) w
 
   pub numbers_same : NumbersStay g h
-  numbers_same o s (DispatchRegistered dispatch) r t m w = numbers_keep s t (dispatch_keeps g h dispatch s t m) w
-  numbers_same o s (CallsiteRegistered n) r t m w = subst HasNumbers (sym m.1.1) w
-  numbers_same o s (Asked n at) r t m w = subst HasNumbers (sym m.1) w
-  numbers_same o s HintAsked r t m w = subst HasNumbers (sym m.1) w
-  numbers_same o s (SpanMade a at) r t m w = numbers_keep s t (span_keeps g h o a at s t r (m o)) w
-  numbers_same o s (Recorded id values at) r t m w = numbers_keep s t (record_keeps g h id values at s t r m) w
-  numbers_same o s (FollowsRecorded id follows at) r t m w = numbers_keep s t (follows_keeps g h id follows at s t r m) w
-  numbers_same o s (EventAsked e at) r t m w = subst HasNumbers (sym m.1) w
-  numbers_same o s (Told e at) r t m w = numbers_keep s t (event_keeps g h o e at s t r (m o)) w
-  numbers_same o s (Entered id at) r t m w = numbers_keep s t (enter_keeps g h id at s t r m) w
-  numbers_same o s (Exited id at) r t m w = numbers_keep s t (exit_keeps g h id at s t m) w
-  numbers_same o s (Cloned id at) r t m w = numbers_keep s t (clone_keeps g h id s t r m) w
-  numbers_same o s (Dropped id at) r t m w = numbers_keep s t (close_keeps g h id at s t m.0 m.1) w
-  numbers_same o s (CloseTried id at) r t m w = numbers_keep s t (close_keeps g h id at s t r m) w
-  numbers_same o s (CurrentAsked at) r t m w = subst HasNumbers (sym m.1) w
+  numbers_same s (DispatchRegistered dispatch) r t m w = numbers_keep s t (dispatch_keeps g h dispatch s t m) w
+  numbers_same s (CallsiteRegistered n) r t m w = subst (HasNumbers h) (sym m.1.1) w
+  numbers_same s (Asked n at) r t m w = subst (HasNumbers h) (sym m.1) w
+  numbers_same s HintAsked r t m w = subst (HasNumbers h) (sym m.1) w
+  numbers_same s (SpanMade a at) r t m w = numbers_keep s t (span_keeps g h a at s t r m) w
+  numbers_same s (Recorded id values at) r t m w = numbers_keep s t (record_keeps g h id values at s t r m) w
+  numbers_same s (FollowsRecorded id follows at) r t m w = numbers_keep s t (follows_keeps g h id follows at s t r m) w
+  numbers_same s (EventAsked e at) r t m w = subst (HasNumbers h) (sym m.1) w
+  numbers_same s (Told e at) r t m w = numbers_keep s t (event_keeps g h e at s t r m) w
+  numbers_same s (Entered id at) r t m w = numbers_keep s t (enter_keeps g h id at s t r m) w
+  numbers_same s (Exited id at) r t m w = numbers_keep s t (exit_keeps g h id at s t m) w
+  numbers_same s (Cloned id at) r t m w = numbers_keep s t (clone_keeps g h id s t r m) w
+  numbers_same s (Dropped id at) r t m w = numbers_keep s t (close_keeps g h id at s t m.0 m.1) w
+  numbers_same s (CloseTried id at) r t m w = numbers_keep s t (close_keeps g h id at s t r m) w
+  numbers_same s (CurrentAsked at) r t m w = subst (HasNumbers h) (sym m.1) w
 
-  untold : (o : Oracle g) (e : PlainEvent) (at : At) (x : RegistryValue) (row later : Row (Filtered L F)) → row_passes g o e.metadata at x row ≡ false → TellsEvent g h o e at x row later → later ≡ marked false row
-  untold o e at x row later quiet told =
-      let stays : told.0 ≡ row.output.layer = subst (λ b. TellsIf h (b && row_wants g o e at x row) row.output.layer (Happened e (view_of at x row)) told.0) quiet told.1 in
-      told.2 ∙ ap (λ b. marked b (with_layer told.0 row)) quiet ∙ ap (λ l. marked false (with_layer l row)) stays
+  untold : (e : PlainEvent) (at : At) (x : RegistryValue) (row later : Row (Filtered L F)) → later.passed ≡ false → TellsEventBy g h (Afresh g) e at x row later → later ≡ marked false row
+  untold e at x row later quiet told =
+      let hears : told.1.0 ≡ false = subst (λ b. Then (g.event_answers row.output.filter e (view_of at x row)) b told.1.0) quiet told.1.1 in
+      let stays : later.output.layer ≡ row.output.layer = subst (λ b. TellsIf h b row.output.layer (Happened e (view_of at x row)) later.output.layer) hears told.1.2 in
+      told.2 ∙ ap (λ b. marked b (with_layer later.output.layer row)) quiet ∙ ap (λ l. marked false (with_layer l row)) stays
 
-  all_untold : (o : Oracle g) (e : PlainEvent) (at : At) (x : RegistryValue) (rows later : List (Row (Filtered L F))) → any_passes g o e.metadata at x rows ≡ false → EachBecomes (TellsEvent g h o e at x) rows later → later ≡ map (marked false) rows
-  all_untold o e at x [] [] quiet told = refl
-  all_untold o e at x [] (l ∷ ls) quiet told = absurd told
-  all_untold o e at x (r ∷ rs) [] quiet told = absurd told
-  all_untold o e at x (r ∷ rs) (l ∷ ls) quiet told =
-      ap (λ row. row ∷ ls) (untold o e at x r l (or_left (row_passes g o e.metadata at x r) (any_passes g o e.metadata at x rs) quiet) told.0)
-      ∙ ap (λ rows. marked false r ∷ rows) (all_untold o e at x rs ls (or_right (row_passes g o e.metadata at x r) (any_passes g o e.metadata at x rs) quiet) told.1)
+  all_untold : (e : PlainEvent) (at : At) (x : RegistryValue) (rows later : List (Row (Filtered L F))) → Every (λ f. g.honest f) (filters_of rows) → SomePassesBy (Afresh g) e.metadata at x rows false →
+      EachBecomes (TellsEventBy g h (Afresh g) e at x) rows later → later ≡ map (marked false) rows
+  all_untold e at x [] [] honest quiet told = refl
+  all_untold e at x [] (l ∷ ls) honest quiet told = absurd told
+  all_untold e at x (r ∷ rs) [] honest quiet told = absurd told
+  all_untold e at x (r ∷ rs) (l ∷ ls) honest quiet told =
+      let refused = refused_here quiet.0 (SomePassesBy (Afresh g) e.metadata at x rs) quiet.2 in
+      let P = g.answers r.output.filter e.metadata (view_of at x r) in
+      let same : l.passed ≡ quiet.0 = fresh_one P ((g.single r.output.filter honest.0).callsite e.metadata (view_of at x r)) l.passed quiet.0 told.0.0 quiet.1 in
+      ap (λ row. row ∷ ls) (untold e at x r l (same ∙ refused.0) told.0) ∙ ap (λ rows. marked false r ∷ rows) (all_untold e at x rs ls honest.1 refused.1 told.1)
 
-  tells_nobody : (b : Bool) (o : Oracle g) (e : PlainEvent) (at : At) (s t : StackValue (Filtered L F)) → passes_asked g o s e.metadata at ≡ false → WhereKnown b s (TellsAll g h o e at s) (Ok tt) t → t ≡ cleared s
-  tells_nobody true o e at s t quiet given =
-      given.1.1 ∙ ap (λ (rows : List (Row (Filtered L F))). record s { rows = rows }) (all_untold o e at s.registry s.rows t.rows quiet given.1.0)
-  tells_nobody false o e at s t quiet given = absurd (cc)
+  tells_nobody : (b : Bool) (e : PlainEvent) (at : At) (s t : StackValue (Filtered L F)) → Every (λ f. g.honest f) (filters_of s.rows) → PassesAsked g s e.metadata at false → WhereKnown b s (TellsAfresh g h e at s) (Ok tt) t → t ≡ cleared s
+  tells_nobody true e at s t honest quiet given =
+      given.1.1 ∙ ap (λ (rows : List (Row (Filtered L F))). record s { rows = rows }) (all_untold e at s.registry s.rows t.rows honest quiet given.1.0)
+  tells_nobody false e at s t honest quiet given = absurd (cc)
 
   pub nobody_told : DroppedTellsNobody g h
-  nobody_told o e at s t quiet given = tells_nobody (knows s.registry (explicit_parent e.parent)) o e at s t quiet given
+  nobody_told e at s t honest quiet given = tells_nobody (knows s.registry (explicit_parent e.parent)) e at s t honest quiet given

@@ -1,51 +1,95 @@
--- What is kept is right of a new stack.
-use Rattle.std.proofs.Common.{◌≡◌, ◌≤◌, ◌+◌, ℕ, suc, Bool, true, false, nat_lt, nat_eq, if◌then◌else◌, length, [], ◌∷◌, refl, ap, arith, List, Option, Some, None, Result, Ok, Err, IfOk, sym, subst}
+-- What is kept is right of a new stack, and its filters have numbers of their own.
+use Rattle.std.proofs.Common.{◌≡◌, ◌≤◌, ◌+◌, ◌-◌, ◌++◌, ℕ, suc, Bool, true, false, nat_le, nat_eq, if◌then◌else◌, length, [], ◌∷◌, refl, ap, ◌∙◌, arith, List, Option, Some, None, Result, Ok, Err, IfOk, sym, subst}
 use Rattle.std.proofs.lemmas.Bool.Decides.{nat_tests}
+use Rattle.std.proofs.lemmas.List.{append-nil}
 use Rattle.tracing_core.specs.Kept.{Every}
+use Rattle.span_registry_layers_store.specs.Registries.{RegistryValue, new_registry}
+use Rattle.span_registry_layers_layers.specs.Numbering.{AreNumbers, more_filters, numbers_from, room_after}
 use Rattle.span_registry_layers_layers.specs.declared.filter.Filter.{Ghosts}
 use Rattle.span_registry_layers_layers.specs.declared.filtered.Filtered.{Filtered}
-use Rattle.span_registry_layers_stack.specs.New.{NewUnless, has_equal_keys, keys_of, new_refusal, new_stack, rows_from}
-use Rattle.span_registry_layers_stack.specs.Numbers.{HasNumbers, IsNumbered}
-use Rattle.span_registry_layers_stack.specs.Rows.{filters_of, ids_of}
+use Rattle.span_registry_layers_layers.specs.declared.layer.Layer.{Ghosts as LayerGhosts}
+use Rattle.span_registry_layers_layers.proofs.Numbers.{numbers_apart, numbers_joined}
+use Rattle.span_registry_layers_stack.specs.Asked.{common_hint}
+use Rattle.span_registry_layers_stack.specs.New.{NewUnless, RowsFrom, filters_in, has_equal_keys, keys_of, new_refusal}
+use Rattle.span_registry_layers_stack.specs.Numbers.{HasNumbers}
+use Rattle.span_registry_layers_stack.specs.Rows.{filters_of, numbers_of}
 use Rattle.span_registry_layers_stack.specs.Stacks.{StackValue}
 use Rattle.span_registry_layers_stack.specs.Steadiness.{hints_over}
-use Rattle.span_registry_layers_stack.specs.Words.{Word}
+use Rattle.span_registry_layers_stack.specs.Words.{Word, WordOf}
 use Rattle.span_registry_layers_stack.specs.declared.output.Output.{Output}
 use Rattle.span_registry_layers_stack.specs.declared.output.StackError.{StackError}
+use Rattle.span_registry_layers_stack.specs.declared.output.StackRefusal.{StackRefusal}
 use Rattle.span_registry_layers_stack.specs.declared.output.StackError.TheVariants.{EqualKeys, NoOutput, TooManyFilters}
+use Rattle.span_registry_layers_stack.specs.declared.row.Row.{Row}
 
-module _ {L F : Type 0} (g : Ghosts F) where
-  made_word : (outputs : List (Output (Filtered L F))) → Every (λ f. g.honest f) (filters_of (rows_from 0 outputs)) → Word g (new_stack g outputs)
-  made_word outputs honest = record { honest = honest; interests = tt; hints = hints_over g (filters_of (rows_from 0 outputs)) (Some 0) }
+module _ {L F : Type 0} (h : LayerGhosts L) (g : Ghosts F) where
+  made_word : (rows : List (Row (Filtered L F))) → Every (λ f. g.honest f) (filters_of rows) → WordOf g (filters_of rows) [] (common_hint g (Some 0) (filters_of rows))
+  made_word rows honest = record { honest = honest; interests = tt; hints = hints_over g (filters_of rows) (Some 0) }
 
-  pub new_word : (outputs : List (Output (Filtered L F))) (refusal : Option StackError) (r : Result (StackValue (Filtered L F)) StackError) → NewUnless g refusal outputs r → IfOk r (λ s. Every (λ f. g.honest f) (filters_of s.rows) → Word g s)
-  new_word outputs None (Ok s) e = subst (λ s. Every (λ f. g.honest f) (filters_of s.rows) → Word g s) (sym e) (made_word outputs)
+  pub new_word : (outputs : List (Output (Filtered L F))) (refusal : Option StackError) (r : Result (StackValue (Filtered L F)) (StackRefusal (Filtered L F))) → NewUnless h g refusal outputs r → IfOk r (λ s. Every (λ f. g.honest f) (filters_of s.rows) → Word g s)
+  new_word outputs None (Ok s) e = λ honest. subst (Word g) (sym e.1) (made_word s.rows honest)
   new_word outputs None (Err refusal) e = tt
   new_word outputs (Some refusal) (Ok s) e = absurd e
   new_word outputs (Some refusal) (Err other) e = tt
 
-numbered_from : {O : Type 0} (n : ℕ) (outputs : List (Output O)) → IsNumbered n (ids_of (rows_from n outputs))
-numbered_from n [] = tt
-numbered_from n (output ∷ outputs) = (refl, numbered_from (n + 1) outputs)
+not_many : (none fits equal : Bool) → (if none then Some NoOutput else if fits then (if equal then Some EqualKeys else None) else Some TooManyFilters) ≡ None → fits ≡ true
+not_many true fits equal e = absurd (cc)
+not_many false true equal e = refl
+not_many false false equal e = absurd (cc)
 
-as_many : {O : Type 0} (n : ℕ) (outputs : List (Output O)) → length (ids_of (rows_from n outputs)) ≡ length outputs
-as_many n [] = refl
-as_many n (output ∷ outputs) = ap suc (as_many (n + 1) outputs)
+fits_room : (count : ℕ) → nat_le count 64 ≡ true → count ≤ 64
+fits_room count e = grind (arith, nat_tests, e)
 
-not_many : (none many equal : Bool) → (if none then Some NoOutput else if many then Some TooManyFilters else if equal then Some EqualKeys else None) ≡ None → many ≡ false
-not_many true many equal e = absurd (cc)
-not_many false true equal e = absurd (cc)
-not_many false false equal e = refl
+module _ {L F : Type 0} (h : LayerGhosts L) where
+  pub few : (outputs : List (Output (Filtered L F))) → new_refusal h outputs ≡ None → filters_in h outputs ≤ 64
+  few outputs e = fits_room (filters_in h outputs) (not_many (nat_eq (length outputs) 0) (nat_le (filters_in h outputs) 64) (has_equal_keys (keys_of outputs)) e)
 
-module _ {L F : Type 0} (g : Ghosts F) where
-  few : (outputs : List (Output (Filtered L F))) → new_refusal outputs ≡ None → length outputs ≤ 64
-  few outputs e =
-      let small : nat_lt 64 (length outputs) ≡ false = not_many (nat_eq (length outputs) 0) (nat_lt 64 (length outputs)) (has_equal_keys (keys_of outputs)) e in
-      grind (arith, nat_tests, small)
+  rows_numbered : (x : RegistryValue) (outputs : List (Output (Filtered L F))) (rows : List (Row (Filtered L F))) → RowsFrom h x outputs rows → numbers_of h rows ≡ numbers_from x.filters (filters_in h outputs)
+  rows_numbered x [] [] w = refl
+  rows_numbered x [] (row ∷ rows) w = absurd w
+  rows_numbered x (output ∷ outputs) [] w = absurd w
+  rows_numbered x (output ∷ outputs) (row ∷ rows) w =
+      let count = h.filters output.output.layer in
+      let first : row.id.index ≡ x.filters = ap (λ (r : Row (Filtered L F)). r.id.index) w.0.2 in
+      let next : x.filters + suc count ≡ x.filters + 1 + count = omega arith in
+      let all : suc (count + filters_in h outputs) ≡ suc count + filters_in h outputs = omega arith in
+      let later : numbers_of h rows ≡ numbers_from (x.filters + 1 + count) (filters_in h outputs) =
+      rows_numbered (more_filters (suc count) x) outputs rows w.1 ∙ ap (λ (n : ℕ). numbers_from n (filters_in h outputs)) next in
+      ap (λ (n : ℕ). n ∷ (h.numbers row.output.layer ++ numbers_of h rows)) first
+      ∙ ap (λ ns. x.filters ∷ (ns ++ numbers_of h rows)) w.0.1
+      ∙ ap (λ ns. x.filters ∷ (numbers_from (x.filters + 1) count ++ ns)) later
+      ∙ ap (λ ns. x.filters ∷ ns) (numbers_joined (x.filters + 1) count (filters_in h outputs)) ∙ ap (numbers_from x.filters) all
 
-  pub new_numbers : (outputs : List (Output (Filtered L F))) (refusal : Option StackError) (r : Result (StackValue (Filtered L F)) StackError) → new_refusal outputs ≡ refusal → NewUnless g refusal outputs r → IfOk r HasNumbers
-  new_numbers outputs None (Ok s) none e =
-      subst HasNumbers (sym e) (numbered_from 0 outputs, subst (λ n. n ≤ 64) (sym (as_many 0 outputs)) (few outputs none))
-  new_numbers outputs None (Err refusal) none e = tt
-  new_numbers outputs (Some refusal) (Ok s) none e = absurd e
-  new_numbers outputs (Some refusal) (Err other) none e = tt
+  pub new_numbers : (g : Ghosts F) (outputs : List (Output (Filtered L F))) (refusal : Option StackError) (r : Result (StackValue (Filtered L F)) (StackRefusal (Filtered L F))) → new_refusal h outputs ≡ refusal → NewUnless h g refusal outputs r → IfOk r (HasNumbers h)
+  new_numbers g outputs None (Ok s) none e =
+      let total = filters_in h outputs in
+      let most = few outputs none in
+      subst (AreNumbers 64) (sym (rows_numbered new_registry outputs s.rows e.0)) (numbers_apart 64 0 total (omega (arith, most)))
+  new_numbers g outputs None (Err refusal) none e = tt
+  new_numbers g outputs (Some refusal) (Ok s) none e = absurd e
+  new_numbers g outputs (Some refusal) (Err other) none e = tt
+
+  -- all rows are made
+  pub rows_made : (x : RegistryValue) (all : List (Output (Filtered L F))) (y : RegistryValue) (left : List (Output (Filtered L F))) (made : List (Row (Filtered L F))) → length left ≡ 0 →
+      ((rows : List (Row (Filtered L F))) → RowsFrom h y left rows → RowsFrom h x all (made ++ rows)) → more_filters (filters_in h left) y ≡ more_filters (filters_in h all) x → RowsFrom h x all made × (y ≡ more_filters (filters_in h all) x)
+  rows_made x all y [] made none finish e =
+      let same : y.filters + 0 ≡ y.filters = omega arith in
+      (subst (RowsFrom h x all) (append-nil made) (finish [] tt), sym (ap (λ (n : ℕ). record y { filters = n }) same) ∙ e)
+  rows_made x all y (output ∷ left) made none finish e = absurd (cc)
+
+left_test : (b : Bool) (room count rest left : ℕ) → nat_le count room ≡ b → Some left ≡ (if b then Some (room - count) else None) → nat_le rest left ≡ nat_le (count + rest) room
+left_test true room count rest left e s = let same : left ≡ room - count = heads s in grind (arith, nat_tests, e, same)
+  where
+    heads : {a b : ℕ} → Some a ≡ Some b → a ≡ b
+    heads e = cc
+left_test false room count rest left e s = absurd (cc)
+
+pub left_room : (room count rest left : ℕ) → Some left ≡ room_after room count → nat_le rest left ≡ nat_le (count + rest) room
+left_room room count rest left e = left_test (nat_le count room) room count rest left refl e
+
+none_test : (b : Bool) (room count rest : ℕ) → nat_le count room ≡ b → None ≡ (if b then Some (room - count) else None) → nat_le (count + rest) room ≡ false
+none_test true room count rest e s = absurd (cc)
+none_test false room count rest e s = grind (arith, nat_tests, e)
+
+pub no_room : (room count rest : ℕ) → None ≡ room_after room count → nat_le (count + rest) room ≡ false
+no_room room count rest e = none_test (nat_le count room) room count rest refl e

@@ -1,36 +1,39 @@
 -- An output that is told of an event, or isn't.
-use Rattle.std.proofs.Common.{◌≡◌, ◌&&◌, Bool, true, false, refl, sym, ap, ◌∙◌, subst, Ok}
+use Rattle.std.proofs.Common.{◌≡◌, Bool, true, false, refl, sym, ap, ◌∙◌, subst, Ok}
 use Rattle.tracing_core.specs.At.{At}
 use Rattle.tracing_core.specs.PlainRequests.{PlainEvent, explicit_parent}
 use Rattle.span_registry_layers_store.specs.Registries.{RegistryValue, knows}
+use Rattle.span_registry_layers_layers.specs.Combined.{Then}
 use Rattle.span_registry_layers_layers.specs.Notices.{Happened}
-use Rattle.span_registry_layers_layers.specs.Oracles.{Oracle}
 use Rattle.span_registry_layers_layers.specs.declared.filter.Filter.{Ghosts}
 use Rattle.span_registry_layers_layers.specs.declared.filtered.Filtered.{Filtered}
 use Rattle.span_registry_layers_layers.specs.declared.layer.Layer.{Ghosts as LayerGhosts}
-use Rattle.span_registry_layers_stack.specs.Rows.{TellsIf, TellsEvent, row_passes, row_wants, view_of, with_layer, marked}
+use Rattle.span_registry_layers_stack.specs.Rows.{TellsIf, TellsEvent, view_of, with_layer, marked}
 use Rattle.span_registry_layers_stack.specs.Stacks.{EventCached, StackValue, TellsAll, TellsUnless, WhereKnown, is_refused}
 use Rattle.span_registry_layers_stack.specs.declared.row.Row.{Row}
 
-module _ {L F : Type 0} (g : Ghosts F) (h : LayerGhosts L) (o : Oracle g) where
+module _ {L F : Type 0} (g : Ghosts F) (h : LayerGhosts L) where
   -- passes and hears are what the filter answered of the callsite, and then of the event
-  pub heard : (e : PlainEvent) (at : At) (x : RegistryValue) (row later : Row (Filtered L F)) (passes hears : Bool) → passes ≡ row_passes g o e.metadata at x row → hears ≡ (passes && row_wants g o e at x row) → hears ≡ true →
-      h.told row.output.layer (Happened e (view_of at x row)) later.output.layer → later ≡ with_layer later.output.layer (marked passes row) → TellsEvent g h o e at x row later
-  heard e at x row later passes hears p w t told r = (
-    later.output.layer,
-    subst (λ b. TellsIf h b row.output.layer (Happened e (view_of at x row)) later.output.layer) (sym t ∙ w ∙ ap (λ b. b && row_wants g o e at x row) p) told,
-    r ∙ ap (λ b. marked b (with_layer later.output.layer row)) p,
-  )
+  pub heard : (e : PlainEvent) (at : At) (x : RegistryValue) (row later : Row (Filtered L F)) (passes hears : Bool) → g.answers row.output.filter e.metadata (view_of at x row) passes →
+      Then (g.event_answers row.output.filter e (view_of at x row)) passes hears → hears ≡ true →
+      h.told row.output.layer (Happened e (view_of at x row)) later.output.layer → later ≡ with_layer later.output.layer (marked passes row) → TellsEvent g h e at x row later
+  heard e at x row later passes hears a w t told r =
+      let mark : passes ≡ later.passed = sym (ap (λ (s : Row (Filtered L F)). s.passed) r) in (
+        subst (g.answers row.output.filter e.metadata (view_of at x row)) mark a,
+        (
+          hears,
+          subst (λ b. Then (g.event_answers row.output.filter e (view_of at x row)) b hears) mark w,
+          subst (λ b. TellsIf h b row.output.layer (Happened e (view_of at x row)) later.output.layer) (sym t) told,
+        ),
+        r ∙ ap (λ b. marked b (with_layer later.output.layer row)) mark,
+      )
 
-  pub unheard : (e : PlainEvent) (at : At) (x : RegistryValue) (row : Row (Filtered L F)) (passes hears : Bool) → passes ≡ row_passes g o e.metadata at x row → hears ≡ (passes && row_wants g o e at x row) → hears ≡ false →
-      TellsEvent g h o e at x row (marked passes row)
-  unheard e at x row passes hears p w t = (
-    row.output.layer,
-    subst (λ b. TellsIf h b row.output.layer (Happened e (view_of at x row)) row.output.layer) (sym t ∙ w ∙ ap (λ b. b && row_wants g o e at x row) p) refl,
-    ap (λ b. marked b row) p,
-  )
+  pub unheard : (e : PlainEvent) (at : At) (x : RegistryValue) (row : Row (Filtered L F)) (passes hears : Bool) → g.answers row.output.filter e.metadata (view_of at x row) passes →
+      Then (g.event_answers row.output.filter e (view_of at x row)) passes hears → hears ≡ false → TellsEvent g h e at x row (marked passes row)
+  unheard e at x row passes hears a w t =
+      (a, (hears, w, subst (λ b. TellsIf h b row.output.layer (Happened e (view_of at x row)) row.output.layer) (sym t) refl), refl)
 
-  pub event_told : (e : PlainEvent) (at : At) (s t : StackValue (Filtered L F)) → knows s.registry (explicit_parent e.parent) ≡ true → is_refused s e.metadata ≡ false → TellsAll g h o e at s t → EventCached g h o e at s (Ok tt) t
+  pub event_told : (e : PlainEvent) (at : At) (s t : StackValue (Filtered L F)) → knows s.registry (explicit_parent e.parent) ≡ true → is_refused s e.metadata ≡ false → TellsAll g h e at s t → EventCached g h e at s (Ok tt) t
   event_told e at s t known kept told =
-      subst (λ b. WhereKnown b s (TellsUnless g h o (is_refused s e.metadata) e at s) (Ok tt) t) (sym known)
-      (refl, subst (λ b. TellsUnless g h o b e at s t) (sym kept) told)
+      subst (λ b. WhereKnown b s (TellsUnless g h (is_refused s e.metadata) e at s) (Ok tt) t) (sym known)
+      (refl, subst (λ b. TellsUnless g h b e at s t) (sym kept) told)

@@ -1,5 +1,5 @@
 -- What is kept refuses only what asking refuses.
-use Rattle.std.specs.Prelude.{◌≡◌, ◌||◌, ◌&&◌, ◌⊎◌, not, ℕ, Bool, true, false, List, [], ◌∷◌, map, Option, Some, None, Result, refl}
+use Rattle.std.specs.Prelude.{◌≡◌, ◌||◌, ◌&&◌, ◌⊎◌, ℕ, Bool, true, false, List, [], ◌∷◌, map, Option, Some, None, Result, refl}
 use Rattle.std.specs.List.{list_any}
 use Rattle.std.proofs.Common.{inl, inr, ap, sym, ◌∙◌, subst, arith}
 use Rattle.tracing_core.specs.At.{At}
@@ -7,24 +7,25 @@ use Rattle.tracing_core.specs.Interests.{PlainInterest, says_never}
 use Rattle.tracing_core.specs.InterestInner.TheVariants.{Never, Sometimes, Always}
 use Rattle.tracing_core.specs.Kept.{Covers, Every}
 use Rattle.tracing_core.specs.PlainMetadata.{PlainMetadata, is_same_metadata-decides}
-use Rattle.tracing_core.specs.PlainRequests.{PlainEvent, explicit_parent}
+use Rattle.tracing_core.specs.PlainRequests.{PlainAttributes, PlainEvent, explicit_parent}
 use Rattle.tracing_core.specs.RequestError.{RequestError}
-use Rattle.tracing_core.specs.Steady.{HintFits, InterestFits, IsReal}
+use Rattle.tracing_core.specs.Steady.{HintFits, InterestFits}
 use Rattle.span_registry_layers_store.specs.Registries.{RegistryValue, knows}
+use Rattle.span_registry_layers_store.specs.Verdicts.{all_pass}
+use Rattle.span_registry_layers_layers.specs.Combined.{Else}
 use Rattle.span_registry_layers_layers.specs.Looks.{View}
-use Rattle.span_registry_layers_layers.specs.Notices.{Happened}
-use Rattle.span_registry_layers_layers.specs.Oracles.{Oracle}
 use Rattle.span_registry_layers_layers.specs.declared.filter.Filter.{Ghosts}
 use Rattle.span_registry_layers_layers.specs.declared.filtered.Filtered.{Filtered}
 use Rattle.span_registry_layers_layers.specs.declared.layer.Layer.{Ghosts as LayerGhosts}
-use Rattle.span_registry_layers_stack.specs.Asked.{any_passes}
-use Rattle.span_registry_layers_stack.specs.Rows.{EachBecomes, TellsEvent, TellsIf, filters_of, marked, row_wants, view_of}
+use Rattle.span_registry_layers_stack.specs.Asked.{AsksFrom, SomePasses, SomePassesBy}
+use Rattle.span_registry_layers_stack.specs.Calls.{SpanAfresh, SpanAsked, SpanCached, SpanKnown, SpanUnless, SpanWhere}
+use Rattle.span_registry_layers_stack.specs.Rows.{Afresh, EachBecomes, TellsEvent, TellsEventBy, filters_of, marked, view_of}
 use Rattle.span_registry_layers_stack.specs.Sites.{PlainSite, is_of, is_refused_by}
-use Rattle.span_registry_layers_stack.specs.Stacks.{EventAsked, EventCached, StackValue, TellsAll, TellsUnless, WhereKnown, is_above, is_refused, passes_asked, passes_cached}
+use Rattle.span_registry_layers_stack.specs.Stacks.{EventAsked, EventCached, PassesAsked, PassesCached, PassesUnless, StackValue, TellsAfresh, TellsUnless, WhereKnown, is_above, is_refused}
 use Rattle.span_registry_layers_stack.specs.Words.{HintOver, Knows, Word, WordOf}
 use Rattle.span_registry_layers_stack.specs.declared.row.Row.{Row}
 
-by_hint : (own kept : Option ℕ) (level : ℕ) (p : Bool) → HintFits own level p → HintOver own kept → is_above kept level ≡ true → p ≡ false
+pub by_hint : (own kept : Option ℕ) (level : ℕ) (p : Bool) → HintFits own level p → HintOver own kept → is_above kept level ≡ true → p ≡ false
 by_hint own None level p below over e = absurd (cc)
 by_hint None (Some top) level p below over e = absurd over
 by_hint (Some a) (Some top) level p below over e = below (grind arith)
@@ -32,7 +33,7 @@ by_hint (Some a) (Some top) level p below over e = below (grind arith)
 by_never : (own : PlainInterest) (p : Bool) → Covers Never own → InterestFits own p → p ≡ false
 by_never own p covers fits = rw covers at fits
 
-either_true : (a b : Bool) → (a || b) ≡ true → (a ≡ true) ⊎ (b ≡ true)
+pub either_true : (a b : Bool) → (a || b) ≡ true → (a ≡ true) ⊎ (b ≡ true)
 either_true true b e = inl refl
 either_true false b e = inr e
 
@@ -45,14 +46,18 @@ never_said Never e = refl
 never_said Sometimes e = absurd (cc)
 never_said Always e = absurd (cc)
 
-not_needed : (refused p : Bool) → (refused ≡ true → p ≡ false) → (not refused && p) ≡ p
-not_needed true p f = sym (f refl)
-not_needed false p f = refl
+neither_true : (a b : Bool) → (a || b) ≡ false → (a ≡ false) × (b ≡ false)
+neither_true true b e = absurd (cc)
+neither_true false b e = (refl, e)
 
--- a filter refuses the callsite wherever it is asked
-module _ {F : Type 0} (g : Ghosts F) (o : Oracle g) where
+else_known : (P Q : Bool → Type 0) (p r : Bool) → (P r → Q r) → Else P p r → Else Q p r
+else_known P Q true r f w = w
+else_known P Q false r f w = f w
+
+module _ {F : Type 0} (g : Ghosts F) where
+  -- a filter refuses the callsite wherever it is asked
   abbrev pub Refuses : PlainMetadata → F → Type 0
-  Refuses m f = (v : View) → o.passes f m v ≡ false
+  Refuses m f = (v : View) (b : Bool) → g.answers f m v b → b ≡ false
 
   site_known : (m : PlainMetadata) (site : PlainSite) (fs : List F) → is_refused_by m site ≡ true → Every (Knows g site.metadata site.interest) fs → Every (Knows g m Never) fs
   site_known m site fs e w =
@@ -64,78 +69,99 @@ module _ {F : Type 0} (g : Ghosts F) (o : Oracle g) where
   by_sites P here later (inl e) f k = f e
   by_sites P here later (inr e) f k = k e
 
-  never_known : (m : PlainMetadata) (fs : List F) (sites : List PlainSite) → list_any (is_refused_by m) sites ≡ true → Every (λ site. Every (Knows g site.metadata site.interest) fs) sites → Every (Knows g m Never) fs
+  pub never_known : (m : PlainMetadata) (fs : List F) (sites : List PlainSite) → list_any (is_refused_by m) sites ≡ true → Every (λ site. Every (Knows g site.metadata site.interest) fs) sites → Every (Knows g m Never) fs
   never_known m fs [] e w = absurd (cc)
   never_known m fs (site ∷ sites) e w =
       by_sites (Every (Knows g m Never) fs) (is_refused_by m site) (list_any (is_refused_by m) sites) (either_true (is_refused_by m site) (list_any (is_refused_by m) sites) e)
       (λ t. site_known m site fs t w.0) (λ later. never_known m fs sites later w.1)
 
-  pub all_below : (m : PlainMetadata) (h : Option ℕ) (fs : List F) → IsReal m → is_above h m.level ≡ true → Every (λ f. g.honest f) fs → Every (λ f. HintOver (g.hint f) h) fs → Every (Refuses m) fs
-  all_below m h [] real e a b = tt
-  all_below m h (f ∷ fs) real e a b =
-      (λ v. by_hint (g.hint f) h m.level (o.passes f m v) ((g.fair f a.0).below m v (o.passes f m v) (o.answered f m v real)) b.0 e, all_below m h fs real e a.1 b.1)
+  pub all_below : (m : PlainMetadata) (h : Option ℕ) (fs : List F) → is_above h m.level ≡ true → Every (λ f. g.honest f) fs → Every (λ f. HintOver (g.hint f) h) fs → Every (Refuses m) fs
+  all_below m h [] e a b = tt
+  all_below m h (f ∷ fs) e a b = (λ v p w. by_hint (g.hint f) h m.level p ((g.fair f a.0).below m v p w) b.0 e, all_below m h fs e a.1 b.1)
 
-  all_never : (m : PlainMetadata) (fs : List F) → IsReal m → Every (λ f. g.honest f) fs → Every (Knows g m Never) fs → Every (Refuses m) fs
-  all_never m [] real a b = tt
-  all_never m (f ∷ fs) real a b =
-      (λ v. by_never b.0.0 (o.passes f m v) b.0.2 ((g.fair f a.0).interest m v (o.passes f m v) b.0.0 (o.answered f m v real) b.0.1), all_never m fs real a.1 b.1)
+  pub all_never : (m : PlainMetadata) (fs : List F) → Every (λ f. g.honest f) fs → Every (Knows g m Never) fs → Every (Refuses m) fs
+  all_never m [] a b = tt
+  all_never m (f ∷ fs) a b = (λ v p w. by_never b.0.0 p b.0.2 ((g.fair f a.0).interest m v p b.0.0 w b.0.1), all_never m fs a.1 b.1)
 
-  pub all_refuse : (m : PlainMetadata) (h : Option ℕ) (fs : List F) (sites : List PlainSite) → IsReal m → WordOf g fs sites h → (is_above h m.level || list_any (is_refused_by m) sites) ≡ true → Every (Refuses m) fs
-  all_refuse m h fs sites real w e = each (either_true (is_above h m.level) (list_any (is_refused_by m) sites) e)
+  pub all_refuse : (m : PlainMetadata) (h : Option ℕ) (fs : List F) (sites : List PlainSite) → WordOf g fs sites h → (is_above h m.level || list_any (is_refused_by m) sites) ≡ true → Every (Refuses m) fs
+  all_refuse m h fs sites w e = each (either_true (is_above h m.level) (list_any (is_refused_by m) sites) e)
     where
       each : (is_above h m.level ≡ true) ⊎ (list_any (is_refused_by m) sites ≡ true) → Every (Refuses m) fs
-      each (inl above) = all_below m h fs real above w.honest w.hints
-      each (inr never) = all_never m fs real w.honest (never_known m fs sites never w.interests)
+      each (inl above) = all_below m h fs above w.honest w.hints
+      each (inr never) = all_never m fs w.honest (never_known m fs sites never w.interests)
 
-  pub nobody_passes : {L : Type 0} (m : PlainMetadata) (at : At) (x : RegistryValue) (rows : List (Row (Filtered L F))) → Every (Refuses m) (filters_of rows) → any_passes g o m at x rows ≡ false
-  nobody_passes m at x [] w = refl
-  nobody_passes m at x (row ∷ rows) w = rw (w.0 (view_of at x row)) (nobody_passes m at x rows w.1)
+  module _ {L : Type 0} where
+    -- where each filter refuses, nobody has to be asked
+    nobody_passes : (m : PlainMetadata) (at : At) (x : RegistryValue) (rows : List (Row (Filtered L F))) → Every (Refuses m) (filters_of rows) → SomePassesBy (Afresh g) m at x rows false
+    nobody_passes m at x [] w = refl
+    nobody_passes m at x (row ∷ rows) w = (false, inr (refl, w.0 (view_of at x row)), nobody_passes m at x rows w.1)
 
-  pub passes_is_asked : {L : Type 0} (s : StackValue (Filtered L F)) (m : PlainMetadata) (at : At) → IsReal m → Word g s → passes_cached g o s m at ≡ passes_asked g o s m at
-  passes_is_asked s m at real w =
-      not_needed (is_refused s m) (any_passes g o m at s.registry s.rows)
-      (λ e. nobody_passes m at s.registry s.rows (all_refuse m s.hint (filters_of s.rows) s.sites real w e))
+    afresh_passes : (m : PlainMetadata) (at : At) (x : RegistryValue) (rows : List (Row (Filtered L F))) (b : Bool) → SomePasses g m at x rows b → SomePassesBy (Afresh g) m at x rows b
+    afresh_passes m at x [] b w = w
+    afresh_passes m at x (row ∷ rows) b w =
+        (w.0, inl w.1, else_known (SomePasses g m at x rows) (SomePassesBy (Afresh g) m at x rows) w.0 b (afresh_passes m at x rows b) w.2)
+
+    pub passes_is_asked : (s : StackValue (Filtered L F)) (m : PlainMetadata) (at : At) (b : Bool) → Word g s → PassesCached g s m at b → PassesAsked g s m at b
+    passes_is_asked s m at b w given = unless (is_refused s m) refl given
+      where
+        unless : (c : Bool) → is_refused s m ≡ c → PassesUnless g c s m at b → PassesAsked g s m at b
+        unless true e given = subst (PassesAsked g s m at) (sym given) (nobody_passes m at s.registry s.rows (all_refuse m s.hint (filters_of s.rows) s.sites w e))
+        unless false e given = afresh_passes m at s.registry s.rows b given
+
+    all_refuse_afresh : (m : PlainMetadata) (at : At) (x : RegistryValue) (rows : List (Row (Filtered L F))) → Every (Refuses m) (filters_of rows) → Every (λ (row : Row (Filtered L F)). Afresh g row.output.filter m (view_of at x row) false) rows
+    all_refuse_afresh m at x [] w = tt
+    all_refuse_afresh m at x (row ∷ rows) w = (inr (refl, w.0 (view_of at x row)), all_refuse_afresh m at x rows w.1)
 
 where_known : {O : Type 0} (s : StackValue O) (P Q : StackValue O → Type 0) (b : Bool) (r : Result (Unit {0}) RequestError) (t : StackValue O) → (P t → Q t) → WhereKnown b s P r t → WhereKnown b s Q r t
 where_known s P Q true r t f w = (w.0, f w.1)
 where_known s P Q false r t f w = w
 
-module _ {L F : Type 0} (g : Ghosts F) (h : LayerGhosts L) (o : Oracle g) where
-  cleared_told : (e : PlainEvent) (at : At) (x : RegistryValue) (rows : List (Row (Filtered L F))) → Every (Refuses g o e.metadata) (filters_of rows) → EachBecomes (TellsEvent g h o e at x) rows (map (marked false) rows)
+module _ {L F : Type 0} (g : Ghosts F) (h : LayerGhosts L) where
+  cleared_told : (e : PlainEvent) (at : At) (x : RegistryValue) (rows : List (Row (Filtered L F))) → Every (Refuses g e.metadata) (filters_of rows) → EachBecomes (TellsEventBy g h (Afresh g) e at x) rows (map (marked false) rows)
   cleared_told e at x [] w = tt
-  cleared_told e at x (row ∷ rows) w =
-      let no = sym (w.0 (view_of at x row)) in (
-        (row.output.layer, subst (λ b. TellsIf h (b && row_wants g o e at x row) row.output.layer (Happened e (view_of at x row)) row.output.layer) no refl, ap (λ b. marked b row) no),
-        cleared_told e at x rows w.1,
-      )
+  cleared_told e at x (row ∷ rows) w = ((inr (refl, w.0 (view_of at x row)), (false, refl, refl), refl), cleared_told e at x rows w.1)
 
-  unless_told : (e : PlainEvent) (at : At) (s t : StackValue (Filtered L F)) → IsReal e.metadata → Word g s → (b : Bool) → is_refused s e.metadata ≡ b → TellsUnless g h o b e at s t → TellsAll g h o e at s t
-  unless_told e at s t real w true refused same =
+  afresh_told : (e : PlainEvent) (at : At) (x : RegistryValue) (rows later : List (Row (Filtered L F))) → EachBecomes (TellsEvent g h e at x) rows later → EachBecomes (TellsEventBy g h (Afresh g) e at x) rows later
+  afresh_told e at x [] [] w = tt
+  afresh_told e at x [] (l ∷ ls) w = absurd w
+  afresh_told e at x (r ∷ rs) [] w = absurd w
+  afresh_told e at x (r ∷ rs) (l ∷ ls) w = ((inl w.0.0, w.0.1, w.0.2), afresh_told e at x rs ls w.1)
+
+  unless_told : (e : PlainEvent) (at : At) (s t : StackValue (Filtered L F)) → Word g s → (b : Bool) → is_refused s e.metadata ≡ b → TellsUnless g h b e at s t → TellsAfresh g h e at s t
+  unless_told e at s t w true refused same =
       let rows : t.rows ≡ map (marked false) s.rows = ap (λ (x : StackValue (Filtered L F)). x.rows) same in (
-        subst (EachBecomes (TellsEvent g h o e at s.registry) s.rows) (sym rows) (cleared_told e at s.registry s.rows (all_refuse g o e.metadata s.hint (filters_of s.rows) s.sites real w refused)),
+        subst (EachBecomes (TellsEventBy g h (Afresh g) e at s.registry) s.rows) (sym rows) (cleared_told e at s.registry s.rows (all_refuse g e.metadata s.hint (filters_of s.rows) s.sites w refused)),
         same ∙ ap (λ (r : List (Row (Filtered L F))). record s { rows = r }) (sym rows),
       )
-  unless_told e at s t real w false refused told = told
+  unless_told e at s t w false refused told = (afresh_told e at s.registry s.rows t.rows told.0, told.1)
 
   -- what is answered by what is kept is what asking every filter afresh gives
-  pub event_is_asked : (e : PlainEvent) (at : At) (s : StackValue (Filtered L F)) (r : Result (Unit {0}) RequestError) (t : StackValue (Filtered L F)) → IsReal e.metadata → Word g s → EventCached g h o e at s r t → EventAsked g h o e at s r t
-  event_is_asked e at s r t real w told =
-      where_known s (TellsUnless g h o (is_refused s e.metadata) e at s) (TellsAll g h o e at s) (knows s.registry (explicit_parent e.parent)) r t (unless_told e at s t real w (is_refused s e.metadata) refl) told
+  pub event_is_asked : (e : PlainEvent) (at : At) (s : StackValue (Filtered L F)) (r : Result (Unit {0}) RequestError) (t : StackValue (Filtered L F)) → Word g s → EventCached g h e at s r t → EventAsked g h e at s r t
+  event_is_asked e at s r t w told =
+      where_known s (TellsUnless g h (is_refused s e.metadata) e at s) (TellsAfresh g h e at s) (knows s.registry (explicit_parent e.parent)) r t (unless_told e at s t w (is_refused s e.metadata) refl) told
 
-  told_filters : (e : PlainEvent) (at : At) (x : RegistryValue) (rows later : List (Row (Filtered L F))) → EachBecomes (TellsEvent g h o e at x) rows later → filters_of later ≡ filters_of rows
-  told_filters e at x [] [] w = refl
-  told_filters e at x [] (l ∷ ls) w = absurd w
-  told_filters e at x (r ∷ rs) [] w = absurd w
-  told_filters e at x (r ∷ rs) (l ∷ ls) w =
-      ap (λ (row : Row (Filtered L F)). row.output.filter ∷ filters_of ls) w.0.2 ∙ ap (λ fs. r.output.filter ∷ fs) (told_filters e at x rs ls w.1)
+  -- where nobody passed so far, each was refused
+  none_passed : (m : PlainMetadata) (at : At) (x : RegistryValue) (rows : List (Row (Filtered L F))) (passed : List Bool) (some : Bool) (verdicts : List Bool) → AsksFrom g h m at x passed some rows verdicts false →
+      (some ≡ false) × Every (λ (row : Row (Filtered L F)). Afresh g row.output.filter m (view_of at x row) false) rows
+  none_passed m at x [] passed some verdicts w = (sym w.1, tt)
+  none_passed m at x (row ∷ rows) passed some verdicts w =
+      let rest = none_passed m at x rows w.1 (some || w.0) verdicts w.3 in
+      let both = neither_true some w.0 rest.0 in
+      (both.0, (inl (subst (g.answers row.output.filter m (view_of at x row)) both.1 w.2.0), rest.1))
 
-  pub word_told : (e : PlainEvent) (at : At) (s t : StackValue (Filtered L F)) → TellsAll g h o e at s t → Word g s → Word g t
-  word_told e at s t told w =
-      subst (Word g) (sym told.1) (subst (λ fs. WordOf g fs s.sites s.hint) (sym (told_filters e at s.registry s.rows t.rows told.0)) w)
+  span_where_afresh : (some : Bool) (verdicts : List Bool) (a : PlainAttributes) (at : At) (s : StackValue (Filtered L F)) (r : Result (Option ℕ) RequestError) (t : StackValue (Filtered L F)) → AsksFrom g h a.metadata at s.registry all_pass false s.rows verdicts some →
+      SpanWhere g h some a at verdicts s r t → SpanAfresh g h a at s r t
+  span_where_afresh true verdicts a at s r t asked made = inr (verdicts, asked, made)
+  span_where_afresh false verdicts a at s r t asked dropped = inl ((none_passed a.metadata at s.registry s.rows all_pass false verdicts asked).1, dropped.0, dropped.1)
 
-  pub word_asked : (e : PlainEvent) (at : At) (s : StackValue (Filtered L F)) (r : Result (Unit {0}) RequestError) (t : StackValue (Filtered L F)) → EventAsked g h o e at s r t → Word g s → Word g t
-  word_asked e at s r t told w = after (knows s.registry (explicit_parent e.parent)) told
+  span_afresh : (a : PlainAttributes) (at : At) (s : StackValue (Filtered L F)) (r : Result (Option ℕ) RequestError) (t : StackValue (Filtered L F)) → Word g s → (b : Bool) → is_refused s a.metadata ≡ b → SpanUnless g h b a at s r t → SpanAfresh g h a at s r t
+  span_afresh a at s r t w true refused dropped =
+      inl (all_refuse_afresh g a.metadata at s.registry s.rows (all_refuse g a.metadata s.hint (filters_of s.rows) s.sites w refused), dropped.0, dropped.1)
+  span_afresh a at s r t w false refused given = span_where_afresh given.1 given.0 a at s r t given.2 given.3
+
+  pub span_is_asked : (a : PlainAttributes) (at : At) (s : StackValue (Filtered L F)) (r : Result (Option ℕ) RequestError) (t : StackValue (Filtered L F)) → Word g s → SpanCached g h a at s r t → SpanAsked g h a at s r t
+  span_is_asked a at s r t w given = known (knows s.registry (explicit_parent a.parent)) given
     where
-      after : (b : Bool) → WhereKnown b s (TellsAll g h o e at s) r t → Word g t
-      after true k = word_told e at s t k.1 w
-      after false k = subst (Word g) (sym k.1) w
+      known : (k : Bool) → SpanKnown g h k s (SpanUnless g h (is_refused s a.metadata) a at s) r t → SpanKnown g h k s (SpanAfresh g h a at s) r t
+      known true given = span_afresh a at s r t w (is_refused s a.metadata) refl given
+      known false given = given

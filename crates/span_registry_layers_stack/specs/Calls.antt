@@ -1,9 +1,11 @@
 -- What calls on spans answer, and leave of a stack.
-use Rattle.std.specs.Prelude.{◌≡◌, ℕ, Bool, true, false, List, Option, Some, None, Result, Ok, Err}
+use Rattle.std.specs.Prelude.{◌≡◌, ◌⊎◌, ℕ, Bool, true, false, List, Option, Some, None, Result, Ok, Err}
 use Rattle.tracing_core.specs.At.{At}
 use Rattle.tracing_core.specs.CurrentSpan.{CurrentSpan}
 use Rattle.tracing_core.specs.CurrentSpan.TheVariants.{Outside, Inside}
 use Rattle.tracing_core.specs.Handles.{or_refused}
+use Rattle.tracing_core.specs.Kept.{Every}
+use Rattle.tracing_core.specs.PlainMetadata.{PlainMetadata}
 use Rattle.tracing_core.specs.PlainRequests.{PlainAttributes, PlainValues, explicit_parent}
 use Rattle.tracing_core.specs.RequestError.{RequestError}
 use Rattle.tracing_core.specs.RequestError.TheVariants.{UnknownParent}
@@ -11,13 +13,14 @@ use Rattle.span_registry_layers_store.specs.Gives.{ClosesNext, EntryGives, IsSet
 use Rattle.span_registry_layers_store.specs.Registries.{RegistryValue, closing_in, current_on, knows, swept, without_entry, without_handle}
 use Rattle.span_registry_layers_store.specs.Verdicts.{all_pass}
 use Rattle.span_registry_layers_layers.specs.Looks.{Closed, Entered, Exited, Recorded, SpanMade}
-use Rattle.span_registry_layers_layers.specs.Oracles.{Oracle}
 use Rattle.span_registry_layers_layers.specs.declared.filter.Filter.{Ghosts}
 use Rattle.span_registry_layers_layers.specs.declared.filtered.Filtered.{Filtered}
 use Rattle.span_registry_layers_layers.specs.declared.layer.Layer.{Ghosts as LayerGhosts}
-use Rattle.span_registry_layers_stack.specs.Rows.{EachBecomes}
-use Rattle.span_registry_layers_stack.specs.Hearing.{ClosesEach, TellsFollows, TellsMade, TellsSpan, verdicts_from}
-use Rattle.span_registry_layers_stack.specs.Stacks.{RowsBecome, StackValue, cleared, passes_asked, passes_cached}
+use Rattle.span_registry_layers_stack.specs.Asked.{AsksFrom}
+use Rattle.span_registry_layers_stack.specs.Rows.{Afresh, EachBecomes, view_of}
+use Rattle.span_registry_layers_stack.specs.Hearing.{ClosesEach, TellsFollows, TellsMade, TellsSpan}
+use Rattle.span_registry_layers_stack.specs.Stacks.{RowsBecome, StackValue, cleared, is_refused}
+use Rattle.span_registry_layers_stack.specs.declared.row.Row.{Row}
 
 -- with another value of the registry
 abbrev pub over : {O : Type 0} → RegistryValue → StackValue O → StackValue O
@@ -92,19 +95,42 @@ module _ {L F : Type 0} (g : Ghosts F) (h : LayerGhosts L) where
   abbrev pub CloseGives : ℕ → At → StackValue (Filtered L F) → Bool → StackValue (Filtered L F) → Type 0
   CloseGives id at s r t = CloseUnless (close_refusal s.registry id) id at s r t
 
-  module _ (o : Oracle g) where
-    abbrev pub SpanWhere : Bool → PlainAttributes → At → StackValue (Filtered L F) → Result (Option ℕ) RequestError → StackValue (Filtered L F) → Type 0
-    SpanWhere true a at s r t = MakesSpan a at (verdicts_from g o all_pass a.metadata at s.registry s.rows) s r t
-    SpanWhere false a at s r t = (r ≡ Ok None) × (t ≡ cleared s)
+  abbrev pub SpanWhere : Bool → PlainAttributes → At → List Bool → StackValue (Filtered L F) → Result (Option ℕ) RequestError → StackValue (Filtered L F) → Type 0
+  SpanWhere true a at verdicts s r t = MakesSpan a at verdicts s r t
+  SpanWhere false a at verdicts s r t = (r ≡ Ok None) × (t ≡ cleared s)
 
-    abbrev pub SpanKnown : Bool → Bool → PlainAttributes → At → StackValue (Filtered L F) → Result (Option ℕ) RequestError → StackValue (Filtered L F) → Type 0
-    SpanKnown true passes a at s r t = SpanWhere passes a at s r t
-    SpanKnown false passes a at s r t = (r ≡ Err UnknownParent) × (t ≡ s)
+  -- the filters are asked: a span is made where one of the outputs' filters passes it, and each answer is kept with it; else it is dropped
+  abbrev pub SpanBy : PlainAttributes → At → StackValue (Filtered L F) → Result (Option ℕ) RequestError → StackValue (Filtered L F) → Type 0
+  SpanBy a at s r t =
+      (verdicts : List Bool) × (some : Bool) × AsksFrom g h a.metadata at s.registry all_pass false s.rows verdicts some × SpanWhere some a at verdicts s r t
 
-    -- a span is made where its named parent is open and some filter, asked afresh, passes it; else it is dropped
-    abbrev pub SpanAsked : PlainAttributes → At → StackValue (Filtered L F) → Result (Option ℕ) RequestError → StackValue (Filtered L F) → Type 0
-    SpanAsked a at s r t = SpanKnown (knows s.registry (explicit_parent a.parent)) (passes_asked g o s a.metadata at) a at s r t
+  -- each output's filter, asked afresh, refuses the callsite
+  abbrev pub AllRefuse : PlainMetadata → At → StackValue (Filtered L F) → Type 0
+  AllRefuse m at s = Every (λ (row : Row (Filtered L F)). Afresh g row.output.filter m (view_of at s.registry row) false) s.rows
 
-    -- the same, nobody asked where what is kept refuses it
-    abbrev pub SpanCached : PlainAttributes → At → StackValue (Filtered L F) → Result (Option ℕ) RequestError → StackValue (Filtered L F) → Type 0
-    SpanCached a at s r t = SpanKnown (knows s.registry (explicit_parent a.parent)) (passes_cached g o s a.metadata at) a at s r t
+  -- the same, each output's filter asked afresh: where all refuse it is dropped, and else made
+  abbrev pub SpanAfresh : PlainAttributes → At → StackValue (Filtered L F) → Result (Option ℕ) RequestError → StackValue (Filtered L F) → Type 0
+  SpanAfresh a at s r t =
+      (AllRefuse a.metadata at s × (r ≡ Ok None) × (t ≡ cleared s))
+      ⊎ ((verdicts : List Bool) × AsksFrom g h a.metadata at s.registry all_pass false s.rows verdicts true × MakesSpan a at verdicts s r t)
+
+  abbrev pub SpanUnless : Bool → PlainAttributes → At → StackValue (Filtered L F) → Result (Option ℕ) RequestError → StackValue (Filtered L F) → Type 0
+  SpanUnless true a at s r t = (r ≡ Ok None) × (t ≡ cleared s)
+  SpanUnless false a at s r t = SpanBy a at s r t
+
+  abbrev pub SpanKnown : Bool → StackValue (Filtered L F) → (Result (Option ℕ) RequestError → StackValue (Filtered L F) → Type 0) → Result (Option ℕ) RequestError → StackValue (Filtered L F) → Type 0
+  SpanKnown true s gives r t = gives r t
+  SpanKnown false s gives r t = (r ≡ Err UnknownParent) × (t ≡ s)
+
+  -- a span is made where its named parent is open and some filter, asked afresh, passes it; else it is dropped
+  abbrev pub SpanAsked : PlainAttributes → At → StackValue (Filtered L F) → Result (Option ℕ) RequestError → StackValue (Filtered L F) → Type 0
+  SpanAsked a at s r t = SpanKnown (knows s.registry (explicit_parent a.parent)) s (SpanAfresh a at s) r t
+
+  -- the same, nobody asked where what is kept refuses it
+  abbrev pub SpanCached : PlainAttributes → At → StackValue (Filtered L F) → Result (Option ℕ) RequestError → StackValue (Filtered L F) → Type 0
+  SpanCached a at s r t = SpanKnown (knows s.registry (explicit_parent a.parent)) s (SpanUnless (is_refused s a.metadata) a at s) r t
+
+  -- what the filters answer of a new span, and whether one passes it: nobody is asked where what is kept refuses it
+  abbrev pub AsksUnless : Bool → PlainMetadata → At → StackValue (Filtered L F) → List Bool → Bool → Type 0
+  AsksUnless true m at s verdicts some = some ≡ false
+  AsksUnless false m at s verdicts some = AsksFrom g h m at s.registry all_pass false s.rows verdicts some

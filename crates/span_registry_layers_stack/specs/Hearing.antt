@@ -1,17 +1,15 @@
 -- What outputs are told of spans.
-use Rattle.std.specs.Prelude.{◌≡◌, ◌&&◌, ℕ, Bool, true, false, List, [], ◌∷◌, Option, Some, slice_set, is_some}
+use Rattle.std.specs.Prelude.{◌≡◌, ◌&&◌, ℕ, Bool, true, false, List, [], ◌∷◌, Option, Some, is_some}
 use Rattle.tracing_core.specs.At.{At}
-use Rattle.tracing_core.specs.PlainMetadata.{PlainMetadata}
 use Rattle.span_registry_layers_store.specs.Gives.{ClosesNext}
 use Rattle.span_registry_layers_store.specs.Registries.{PlainSpan, RegistryValue}
 use Rattle.span_registry_layers_store.specs.Views.{seen}
 use Rattle.span_registry_layers_layers.specs.Looks.{Closed, Hook, View}
 use Rattle.span_registry_layers_layers.specs.Notices.{Dispatched, Followed, Spanned}
-use Rattle.span_registry_layers_layers.specs.Oracles.{Oracle}
 use Rattle.span_registry_layers_layers.specs.declared.filter.Filter.{Ghosts}
 use Rattle.span_registry_layers_layers.specs.declared.filtered.Filtered.{Filtered}
 use Rattle.span_registry_layers_layers.specs.declared.layer.Layer.{Ghosts as LayerGhosts}
-use Rattle.span_registry_layers_stack.specs.Rows.{EachBecomes, TellsIf, marked, row_passes, view_of, with_layer}
+use Rattle.span_registry_layers_stack.specs.Rows.{EachBecomes, TellsIf, marked, view_of, with_layer}
 use Rattle.span_registry_layers_stack.specs.declared.row.Row.{Row}
 
 -- an output sees an open span that its filter passed when it was made
@@ -56,9 +54,3 @@ module _ {L F : Type 0} (g : Ghosts F) (h : LayerGhosts L) where
   ClosesEach (s ∷ ss) at x rows y later =
       (told : List (Row (Filtered L F))) × EachBecomes (TellsSpan (Closed s.kin.id) s.kin.id at x) rows told
       × ((without : RegistryValue) × ClosesNext x s.kin.id without × ClosesEach ss at without told y later)
-
-module _ {L F : Type 0} (g : Ghosts F) (o : Oracle g) where
-  -- which filters pass a span, with these for the others: each asked afresh
-  abbrev pub verdicts_from : List Bool → PlainMetadata → At → RegistryValue → List (Row (Filtered L F)) → List Bool
-  verdicts_from passed m at x [] = passed
-  verdicts_from passed m at x (row ∷ rows) = verdicts_from (slice_set passed row.id.index (row_passes g o m at x row)) m at x rows

@@ -13,3 +13,4 @@ pub mod Steps
 pub mod Caches
 pub mod Steadiness
 pub mod Numbers
+pub mod Soundness

@@ -1,15 +1,19 @@
 -- A new stack.
-use Rattle.std.specs.Prelude.{◌≡◌, ◌<◌, ◌+◌, ◌||◌, ◌⊎◌, ℕ, nat_lt, nat_eq, Bool, false, if◌then◌else◌, List, [], ◌∷◌, length, map, Option, Some, None, Result, Ok, Err, Vec}
+use Rattle.std.specs.Prelude.{◌≡◌, ◌+◌, ◌||◌, ℕ, suc, nat_le, nat_eq, Bool, false, if◌then◌else◌, List, [], ◌∷◌, length, map, Option, Some, None, Result, Ok, Err, Vec}
 use Rattle.std.specs.Global.{Global}
 use Rattle.span_registry_layers_store.specs.Registries.{RegistryValue, new_registry}
 use Rattle.span_registry_layers_store.specs.Spans.{is_member}
+use Rattle.span_registry_layers_layers.specs.Notices.{Attached}
+use Rattle.span_registry_layers_layers.specs.Numbering.{more_filters, numbers_from}
 use Rattle.span_registry_layers_layers.specs.declared.filter.Filter.{Ghosts}
 use Rattle.span_registry_layers_layers.specs.declared.filtered.Filtered.{Filtered}
+use Rattle.span_registry_layers_layers.specs.declared.layer.Layer.{Ghosts as LayerGhosts}
 use Rattle.span_registry_layers_stack.specs.Asked.{common_hint}
 use Rattle.span_registry_layers_stack.specs.Rows.{filters_of}
-use Rattle.span_registry_layers_stack.specs.Stacks.{StackValue, with_hint}
+use Rattle.span_registry_layers_stack.specs.Stacks.{StackValue}
 use Rattle.span_registry_layers_stack.specs.declared.output.Output.{Output}
 use Rattle.span_registry_layers_stack.specs.declared.output.StackError.{StackError}
+use Rattle.span_registry_layers_stack.specs.declared.output.StackRefusal.{StackRefusal}
 use Rattle.span_registry_layers_stack.specs.declared.output.StackError.TheVariants.{OutOfMemory, NoOutput, TooManyFilters, EqualKeys}
 use Rattle.span_registry_layers_stack.specs.declared.row.Row.{Row}
 
@@ -21,38 +25,58 @@ abbrev pub has_equal_keys : List ℕ → Bool
 has_equal_keys [] = false
 has_equal_keys (key ∷ keys) = is_member keys key || has_equal_keys keys
 
--- the first of the reasons not to make a stack of these
-abbrev pub new_refusal : {O : Type 0} → List (Output O) → Option StackError
-new_refusal outputs =
-    if nat_eq (length outputs) 0 then Some NoOutput else if nat_lt 64 (length outputs) then Some TooManyFilters else if has_equal_keys (keys_of outputs) then Some EqualKeys else None
+module _ {L F : Type 0} (h : LayerGhosts L) where
+  -- how many filters the outputs have: each its own, and those in its layer
+  abbrev pub filters_in : List (Output (Filtered L F)) → ℕ
+  filters_in [] = 0
+  filters_in (output ∷ outputs) = suc (h.filters output.output.layer) + filters_in outputs
 
--- an output each, their filters numbered from this number on
-abbrev pub rows_from : {O : Type 0} → ℕ → List (Output O) → List (Row O)
-rows_from number [] = []
-rows_from number (output ∷ outputs) =
-    (record { key = output.key; id = record { index = number }; output = output.output; passed = false }) ∷ rows_from (number + 1) outputs
+  -- the first of the reasons not to make a stack of these
+  abbrev pub new_refusal : List (Output (Filtered L F)) → Option StackError
+  new_refusal outputs =
+      if nat_eq (length outputs) 0 then Some NoOutput else if nat_le (filters_in outputs) 64 then (if has_equal_keys (keys_of outputs) then Some EqualKeys else None) else Some TooManyFilters
 
--- the outputs over a registry without spans, and nothing kept
-abbrev pub bare_stack : {O : Type 0} → List (Output O) → StackValue O
-bare_stack outputs =
-    record { registry = record new_registry { filters = length outputs }; rows = rows_from 0 outputs; sites = []; hint = None }
+  -- an output's filter has the next number, and those in its layer, which is attached to the registry, the numbers after it
+  abbrev pub RowOf : RegistryValue → Output (Filtered L F) → Row (Filtered L F) → Type 0
+  RowOf x output row =
+      h.told output.output.layer (Attached (more_filters 1 x)) row.output.layer
+      × (h.numbers row.output.layer ≡ numbers_from (x.filters + 1) (h.filters output.output.layer))
+      × (row ≡ record { key = output.key; id = record { index = x.filters }; output = record output.output { layer = row.output.layer }; passed = false })
 
--- rows are made of the outputs, or there is no room, or too many filters
-abbrev pub RowsGive : {O : Type 0} → RegistryValue → List (Output O) → Result (Vec (Row O) Global) StackError → RegistryValue → Type 0
-RowsGive x outputs (Ok rows) y = (rows.items ≡ rows_from x.filters outputs) × (y ≡ record x { filters = x.filters + length outputs })
-RowsGive x outputs (Err e) y = (e ≡ OutOfMemory) ⊎ (64 < x.filters + length outputs)
+  -- so it is of all, in order
+  abbrev pub RowsFrom : RegistryValue → List (Output (Filtered L F)) → List (Row (Filtered L F)) → Type 0
+  RowsFrom x [] [] = Unit {0}
+  RowsFrom x [] (row ∷ rows) = ⊥
+  RowsFrom x (output ∷ outputs) [] = ⊥
+  RowsFrom x (output ∷ outputs) (row ∷ rows) = RowOf x output row × RowsFrom (more_filters (suc (h.filters output.output.layer)) x) outputs rows
 
-module _ {L F : Type 0} (g : Ghosts F) where
-  -- with the hint of its filters
-  abbrev pub new_stack : List (Output (Filtered L F)) → StackValue (Filtered L F)
-  new_stack outputs = with_hint (common_hint g (Some 0) (filters_of (rows_from 0 outputs))) (bare_stack outputs)
+  -- rows are made of the outputs, or these come back
+  abbrev pub RowsGive : RegistryValue → List (Output (Filtered L F)) → Result (Vec (Row (Filtered L F)) Global) (Vec (Output (Filtered L F)) Global) → RegistryValue → Type 0
+  RowsGive x outputs (Ok rows) y = RowsFrom x outputs rows.items × (y ≡ more_filters (filters_in outputs) x)
+  RowsGive x outputs (Err back) y = (back.items ≡ outputs) × (y ≡ x)
 
-  abbrev pub NewUnless : Option StackError → List (Output (Filtered L F)) → Result (StackValue (Filtered L F)) StackError → Type 0
-  NewUnless (Some refusal) outputs (Ok s) = ⊥
-  NewUnless (Some refusal) outputs (Err e) = e ≡ refusal
-  NewUnless None outputs (Ok s) = s ≡ new_stack outputs
-  NewUnless None outputs (Err e) = e ≡ OutOfMemory
+  -- the outputs over a registry without spans, and nothing kept
+  abbrev pub IsBare : List (Output (Filtered L F)) → StackValue (Filtered L F) → Type 0
+  IsBare outputs s =
+      RowsFrom new_registry outputs s.rows × (s ≡ record { registry = more_filters (filters_in outputs) new_registry; rows = s.rows; sites = []; hint = None })
 
-  -- a stack is made, unless it is refused, or there is no memory
-  abbrev pub NewGives : List (Output (Filtered L F)) → Result (StackValue (Filtered L F)) StackError → Type 0
-  NewGives outputs r = NewUnless (new_refusal outputs) outputs r
+  -- the reason for the refusal, and the outputs as they were
+  abbrev pub HandsBack : StackError → List (Output (Filtered L F)) → StackRefusal (Filtered L F) → Type 0
+  HandsBack error outputs back = (back.error ≡ error) × (back.outputs.items ≡ outputs)
+
+  module _ (g : Ghosts F) where
+    -- with the hint of its filters
+    abbrev pub IsNew : List (Output (Filtered L F)) → StackValue (Filtered L F) → Type 0
+    IsNew outputs s =
+        RowsFrom new_registry outputs s.rows
+        × (s ≡ record { registry = more_filters (filters_in outputs) new_registry; rows = s.rows; sites = []; hint = common_hint g (Some 0) (filters_of s.rows) })
+
+    abbrev pub NewUnless : Option StackError → List (Output (Filtered L F)) → Result (StackValue (Filtered L F)) (StackRefusal (Filtered L F)) → Type 0
+    NewUnless (Some refusal) outputs (Ok s) = ⊥
+    NewUnless (Some refusal) outputs (Err back) = HandsBack refusal outputs back
+    NewUnless None outputs (Ok s) = IsNew outputs s
+    NewUnless None outputs (Err back) = HandsBack OutOfMemory outputs back
+
+    -- a stack is made, unless it is refused, or there is no memory: then the outputs come back
+    abbrev pub NewGives : List (Output (Filtered L F)) → Result (StackValue (Filtered L F)) (StackRefusal (Filtered L F)) → Type 0
+    NewGives outputs r = NewUnless (new_refusal outputs) outputs r

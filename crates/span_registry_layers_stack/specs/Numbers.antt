@@ -1,42 +1,44 @@
--- Each output has a filter number of its own, so that what is kept with a span tells of each filter.
-use Rattle.std.specs.Prelude.{◌≡◌, ◌≤◌, ◌+◌, ℕ, false, List, [], ◌∷◌, length, Ok}
+-- Each filter of a stack has a number of its own, so that what is kept with a span tells of each.
+use Rattle.std.specs.Prelude.{◌≡◌, Bool, false, List, Ok}
 use Rattle.tracing_core.specs.At.{At}
 use Rattle.tracing_core.specs.Calls.{Call, ReplyTo}
 use Rattle.tracing_core.specs.Kept.{Every}
 use Rattle.tracing_core.specs.PlainMetadata.{PlainMetadata}
 use Rattle.tracing_core.specs.PlainRequests.{PlainEvent}
+use Rattle.span_registry_layers_store.specs.Registries.{RegistryValue}
 use Rattle.span_registry_layers_store.specs.Verdicts.{all_pass, passes_at}
-use Rattle.span_registry_layers_store.specs.declared.filter_map.FilterId.{FilterId}
-use Rattle.span_registry_layers_layers.specs.Oracles.{Oracle}
+use Rattle.span_registry_layers_layers.specs.Numbering.{AreNumbers}
 use Rattle.span_registry_layers_layers.specs.declared.filter.Filter.{Ghosts}
 use Rattle.span_registry_layers_layers.specs.declared.filtered.Filtered.{Filtered}
 use Rattle.span_registry_layers_layers.specs.declared.layer.Layer.{Ghosts as LayerGhosts}
+use Rattle.span_registry_layers_stack.specs.Asked.{AsksFrom}
 use Rattle.span_registry_layers_stack.specs.Moves.{Moves}
-use Rattle.span_registry_layers_stack.specs.Rows.{ids_of, row_passes}
-use Rattle.span_registry_layers_stack.specs.Hearing.{verdicts_from}
-use Rattle.span_registry_layers_stack.specs.Stacks.{EventAsked, StackValue, cleared, passes_asked}
+use Rattle.span_registry_layers_stack.specs.Rows.{filters_of, numbers_of, view_of}
+use Rattle.span_registry_layers_stack.specs.Stacks.{EventAsked, PassesAsked, StackValue, cleared}
+use Rattle.span_registry_layers_stack.specs.declared.row.Row.{Row}
 
--- the filters are numbered from this number on
-abbrev pub IsNumbered : ℕ → List FilterId → Type 0
-IsNumbered number [] = Unit {0}
-IsNumbered number (id ∷ ids) = (id.index ≡ number) × IsNumbered (number + 1) ids
-
--- from 0 on, at most 64
-abbrev pub HasNumbers : {O : Type 0} → StackValue O → Type 0
-HasNumbers s = IsNumbered 0 (ids_of s.rows) × (length (ids_of s.rows) ≤ 64)
+-- each filter, also those in the outputs' layers, has a number below 64, and no two have the same
+abbrev pub HasNumbers : {L F : Type 0} → LayerGhosts L → StackValue (Filtered L F) → Type 0
+HasNumbers h s = AreNumbers 64 (numbers_of h s.rows)
 
 module _ {L F : Type 0} (g : Ghosts F) (h : LayerGhosts L) where
   -- no call changes the numbers
   abbrev pub NumbersStay : Type 0
-  NumbersStay = (o : Oracle g) (s : StackValue (Filtered L F)) (c : Call) (r : ReplyTo c) (t : StackValue (Filtered L F)) → Moves g h s c r t → HasNumbers s → HasNumbers t
+  NumbersStay = (s : StackValue (Filtered L F)) (c : Call) (r : ReplyTo c) (t : StackValue (Filtered L F)) → Moves g h s c r t → HasNumbers h s → HasNumbers h t
 
-  -- what is kept with a new span is, of each output, what its filter answered when the span was made
+  -- what is kept with a span is, under the filter's number, an answer that it may give, and under those of the filters in the layer what they may say then
+  abbrev pub RowSaid : PlainMetadata → At → RegistryValue → List Bool → Row (Filtered L F) → Type 0
+  RowSaid m at x verdicts row =
+      g.answers row.output.filter m (view_of at x row) (passes_at verdicts row.id.index)
+      × ((heard : Bool) × h.kept row.output.layer m (view_of at x row) (passes_at verdicts row.id.index) verdicts heard)
+
+  -- so it is of each output, when a span is made
   abbrev pub VerdictsAreOwn : Type 0
   VerdictsAreOwn =
-      (o : Oracle g) (m : PlainMetadata) (at : At) (s : StackValue (Filtered L F)) → HasNumbers s →
-      Every (λ row. passes_at (verdicts_from g o all_pass m at s.registry s.rows) row.id.index ≡ row_passes g o m at s.registry row) s.rows
+      (m : PlainMetadata) (at : At) (s : StackValue (Filtered L F)) (verdicts : List Bool) (some : Bool) → HasNumbers h s → AsksFrom g h m at s.registry all_pass false s.rows verdicts some →
+      Every (RowSaid m at s.registry verdicts) s.rows
 
-  -- an event that no filter passes changes no layer and no filter
+  -- an event that no filter passes, asked afresh, changes no layer and no filter, where the filters are honest
   abbrev pub DroppedTellsNobody : Type 0
   DroppedTellsNobody =
-      (o : Oracle g) (e : PlainEvent) (at : At) (s t : StackValue (Filtered L F)) → passes_asked g o s e.metadata at ≡ false → EventAsked g h o e at s (Ok tt) t → t ≡ cleared s
+      (e : PlainEvent) (at : At) (s t : StackValue (Filtered L F)) → Every (λ f. g.honest f) (filters_of s.rows) → PassesAsked g s e.metadata at false → EventAsked g h e at s (Ok tt) t → t ≡ cleared s

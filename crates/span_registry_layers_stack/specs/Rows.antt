@@ -1,13 +1,12 @@
 -- What one output is told.
-use Rattle.std.specs.Prelude.{◌≡◌, ◌&&◌, Bool, true, false, Some, List, [], ◌∷◌, map}
+use Rattle.std.specs.Prelude.{◌≡◌, ◌⊎◌, ◌++◌, ℕ, Bool, true, false, Some, List, [], ◌∷◌, map}
 use Rattle.tracing_core.specs.At.{At}
 use Rattle.tracing_core.specs.PlainMetadata.{PlainMetadata}
 use Rattle.tracing_core.specs.PlainRequests.{PlainEvent}
 use Rattle.span_registry_layers_store.specs.Registries.{RegistryValue}
-use Rattle.span_registry_layers_store.specs.declared.filter_map.FilterId.{FilterId}
+use Rattle.span_registry_layers_layers.specs.Combined.{Then}
 use Rattle.span_registry_layers_layers.specs.Looks.{View}
 use Rattle.span_registry_layers_layers.specs.Notices.{Notice, Happened}
-use Rattle.span_registry_layers_layers.specs.Oracles.{Oracle}
 use Rattle.span_registry_layers_layers.specs.declared.filter.Filter.{Ghosts}
 use Rattle.span_registry_layers_layers.specs.declared.filtered.Filtered.{Filtered}
 use Rattle.span_registry_layers_layers.specs.declared.layer.Layer.{Ghosts as LayerGhosts}
@@ -24,12 +23,13 @@ marked passed row = record row { passed = passed }
 abbrev pub filters_of : {L F : Type 0} → List (Row (Filtered L F)) → List F
 filters_of rows = map (λ row. row.output.filter) rows
 
--- the numbers of the filters
-abbrev pub ids_of : {O : Type 0} → List (Row O) → List FilterId
-ids_of rows = map (λ row. row.id) rows
+-- the numbers of all filters: of each output its own, and those in its layer
+abbrev pub numbers_of : {L F : Type 0} → LayerGhosts L → List (Row (Filtered L F)) → List ℕ
+numbers_of h [] = []
+numbers_of h (row ∷ rows) = row.id.index ∷ (h.numbers row.output.layer ++ numbers_of h rows)
 
 -- each becomes one that is so related to it
-abbrev pub EachBecomes : {A : Type 0} → (A → A → Type 0) → List A → List A → Type 0
+abbrev pub EachBecomes : {A B : Type 0} → (A → B → Type 0) → List A → List B → Type 0
 EachBecomes R [] [] = Unit {0}
 EachBecomes R [] (y ∷ ys) = ⊥
 EachBecomes R (x ∷ xs) [] = ⊥
@@ -38,25 +38,28 @@ EachBecomes R (x ∷ xs) (y ∷ ys) = R x y × EachBecomes R xs ys
 abbrev pub with_layer : {L F : Type 0} → L → Row (Filtered L F) → Row (Filtered L F)
 with_layer layer row = record row { output = record row.output { layer = layer } }
 
-module _ {L F : Type 0} (g : Ghosts F) where
-  module _ (o : Oracle g) where
-    -- whether its filter, asked afresh, passes the callsite
-    abbrev pub row_passes : PlainMetadata → At → RegistryValue → Row (Filtered L F) → Bool
-    row_passes m at x row = o.passes row.output.filter m (view_of at x row)
+-- what may be answered; or, where nobody was asked, refusal, and each answer that may be given refuses
+abbrev pub Fresh : (Bool → Type 0) → Bool → Type 0
+Fresh P b = P b ⊎ ((b ≡ false) × ((a : Bool) → P a → a ≡ false))
 
-    -- whether its filter, asked afresh, passes the event, whose callsite it passes
-    abbrev pub row_wants : PlainEvent → At → RegistryValue → Row (Filtered L F) → Bool
-    row_wants e at x row = o.event_passes row.output.filter e (view_of at x row)
+-- whether a filter passes a callsite in a place, asked afresh
+abbrev pub Afresh : {F : Type 0} → Ghosts F → F → PlainMetadata → View → Bool → Type 0
+Afresh g f m v b = Fresh (g.answers f m v) b
 
 -- a layer is told of a notice, or stays
 abbrev pub TellsIf : {L : Type 0} → LayerGhosts L → Bool → L → Notice → L → Type 0
 TellsIf h true layer n later = h.told layer n later
 TellsIf h false layer n later = later ≡ layer
 
-module _ {L F : Type 0} (g : Ghosts F) (h : LayerGhosts L) (o : Oracle g) where
-  -- its layer is told where its filter passes the callsite and the event, and else stays; the mark is that of the callsite
+module _ {L F : Type 0} (g : Ghosts F) (h : LayerGhosts L) where
+  -- its layer is told where its filter passes the callsite, by these answers, and then the event, and else stays; the mark is what the filter answered of the callsite
+  abbrev pub TellsEventBy : (F → PlainMetadata → View → Bool → Type 0) → PlainEvent → At → RegistryValue → Row (Filtered L F) → Row (Filtered L F) → Type 0
+  TellsEventBy A e at x row later =
+      A row.output.filter e.metadata (view_of at x row) later.passed
+      × ((hears : Bool) × Then (g.event_answers row.output.filter e (view_of at x row)) later.passed hears
+      × TellsIf h hears row.output.layer (Happened e (view_of at x row)) later.output.layer)
+      × (later ≡ marked later.passed (with_layer later.output.layer row))
+
+  -- the same by an answer that its filter may give there
   abbrev pub TellsEvent : PlainEvent → At → RegistryValue → Row (Filtered L F) → Row (Filtered L F) → Type 0
-  TellsEvent e at x row later =
-      (layer : L)
-      × TellsIf h (row_passes g o e.metadata at x row && row_wants g o e at x row) row.output.layer (Happened e (view_of at x row)) layer
-      × (later ≡ marked (row_passes g o e.metadata at x row) (with_layer layer row))
+  TellsEvent e at x row later = TellsEventBy g.answers e at x row later

@@ -1,5 +1,5 @@
 -- A stack as a value, and what an event leaves of it.
-use Rattle.std.specs.Prelude.{◌≡◌, ◌||◌, ◌&&◌, not, ℕ, nat_lt, Bool, true, false, List, map, Option, Some, None, Result, Ok, Err}
+use Rattle.std.specs.Prelude.{◌≡◌, ◌||◌, ℕ, nat_lt, Bool, true, false, List, map, Option, Some, None, Result, Ok, Err}
 use Rattle.std.specs.List.{list_any}
 use Rattle.tracing_core.specs.At.{At}
 use Rattle.tracing_core.specs.Interests.{PlainInterest}
@@ -8,12 +8,11 @@ use Rattle.tracing_core.specs.PlainRequests.{PlainEvent, explicit_parent}
 use Rattle.tracing_core.specs.RequestError.{RequestError}
 use Rattle.tracing_core.specs.RequestError.TheVariants.{UnknownParent}
 use Rattle.span_registry_layers_store.specs.Registries.{RegistryValue, knows}
-use Rattle.span_registry_layers_layers.specs.Oracles.{Oracle}
 use Rattle.span_registry_layers_layers.specs.declared.filter.Filter.{Ghosts}
 use Rattle.span_registry_layers_layers.specs.declared.filtered.Filtered.{Filtered}
 use Rattle.span_registry_layers_layers.specs.declared.layer.Layer.{Ghosts as LayerGhosts}
-use Rattle.span_registry_layers_stack.specs.Asked.{any_passes}
-use Rattle.span_registry_layers_stack.specs.Rows.{EachBecomes, TellsEvent, marked}
+use Rattle.span_registry_layers_stack.specs.Asked.{SomePasses, SomePassesBy}
+use Rattle.span_registry_layers_stack.specs.Rows.{Afresh, EachBecomes, TellsEvent, TellsEventBy, marked}
 use Rattle.span_registry_layers_stack.specs.Sites.{Keeps, PlainSite, is_refused_by, plain_site}
 use Rattle.span_registry_layers_stack.specs.declared.parts.StackParts.{StackParts}
 use Rattle.span_registry_layers_stack.specs.declared.row.Row.{Row}
@@ -55,19 +54,26 @@ WhereKnown true s leaves r t = (r ≡ Ok tt) × leaves t
 WhereKnown false s leaves r t = (r ≡ Err UnknownParent) × (t ≡ s)
 
 module _ {L F : Type 0} (g : Ghosts F) where
-  module _ (o : Oracle g) where
-    -- whether some filter passes the callsite, false where what is kept refuses it
-    abbrev pub passes_cached : StackValue (Filtered L F) → PlainMetadata → At → Bool
-    passes_cached s m at = not (is_refused s m) && any_passes g o m at s.registry s.rows
+  abbrev pub PassesUnless : Bool → StackValue (Filtered L F) → PlainMetadata → At → Bool → Type 0
+  PassesUnless true s m at b = b ≡ false
+  PassesUnless false s m at b = SomePasses g m at s.registry s.rows b
 
-    -- the same, each filter asked afresh
-    abbrev pub passes_asked : StackValue (Filtered L F) → PlainMetadata → At → Bool
-    passes_asked s m at = any_passes g o m at s.registry s.rows
+  -- whether some filter passes the callsite, and false where what is kept refuses it
+  abbrev pub PassesCached : StackValue (Filtered L F) → PlainMetadata → At → Bool → Type 0
+  PassesCached s m at b = PassesUnless (is_refused s m) s m at b
 
-module _ {L F : Type 0} (g : Ghosts F) (h : LayerGhosts L) (o : Oracle g) where
-  -- each output is told, in order, where its filter, asked afresh, passes the event
+  -- the same, each filter asked afresh
+  abbrev pub PassesAsked : StackValue (Filtered L F) → PlainMetadata → At → Bool → Type 0
+  PassesAsked s m at b = SomePassesBy (Afresh g) m at s.registry s.rows b
+
+module _ {L F : Type 0} (g : Ghosts F) (h : LayerGhosts L) where
+  -- each output is told, in order, where its filter passes the event
   abbrev pub TellsAll : PlainEvent → At → StackValue (Filtered L F) → StackValue (Filtered L F) → Type 0
-  TellsAll e at s t = RowsBecome (TellsEvent g h o e at s.registry) s t
+  TellsAll e at s t = RowsBecome (TellsEvent g h e at s.registry) s t
+
+  -- the same, each filter asked afresh
+  abbrev pub TellsAfresh : PlainEvent → At → StackValue (Filtered L F) → StackValue (Filtered L F) → Type 0
+  TellsAfresh e at s t = RowsBecome (TellsEventBy g h (Afresh g) e at s.registry) s t
 
   abbrev pub TellsUnless : Bool → PlainEvent → At → StackValue (Filtered L F) → StackValue (Filtered L F) → Type 0
   TellsUnless true e at s t = t ≡ cleared s
@@ -75,7 +81,7 @@ module _ {L F : Type 0} (g : Ghosts F) (h : LayerGhosts L) (o : Oracle g) where
 
   -- an event, every filter asked afresh
   abbrev pub EventAsked : PlainEvent → At → StackValue (Filtered L F) → Result (Unit {0}) RequestError → StackValue (Filtered L F) → Type 0
-  EventAsked e at s r t = WhereKnown (knows s.registry (explicit_parent e.parent)) s (TellsAll e at s) r t
+  EventAsked e at s r t = WhereKnown (knows s.registry (explicit_parent e.parent)) s (TellsAfresh e at s) r t
 
   -- an event, nobody asked where what is kept refuses it
   abbrev pub EventCached : PlainEvent → At → StackValue (Filtered L F) → Result (Unit {0}) RequestError → StackValue (Filtered L F) → Type 0

@@ -1,8 +1,8 @@
 -- A stack of honest filters keeps its word.
-use Rattle.std.specs.Prelude.{◌≡◌, ◌↔◌, ◌||◌, ◌++◌, ℕ, Bool, true, false, if◌then◌else◌, List, [], ◌∷◌, map, Option, Some, None, refl}
+use Rattle.std.specs.Prelude.{◌≡◌, ◌↔◌, ◌⊎◌, ◌++◌, ℕ, Bool, true, false, if◌then◌else◌, List, [], ◌∷◌, map, Option, Some, None, refl}
 use Rattle.std.specs.List.{list_any}
-use Rattle.std.proofs.Common.{inl, inr, ap, sym, ◌∙◌, subst, arith}
-use Rattle.tracing_core.specs.Asking.{joined, settled}
+use Rattle.std.proofs.Common.{inl, inr, ap, sym, ◌∙◌, subst, arith, true≢false}
+use Rattle.tracing_core.specs.Asking.{joined}
 use Rattle.tracing_core.specs.At.{At}
 use Rattle.tracing_core.specs.Calls.{Call, ReplyTo, DispatchRegistered, CallsiteRegistered, Asked, HintAsked, SpanMade, Recorded, FollowsRecorded, EventAsked, Told, Entered, Exited, Cloned, Dropped, CloseTried, CurrentAsked}
 use Rattle.tracing_core.specs.Interests.{PlainInterest, common}
@@ -11,18 +11,19 @@ use Rattle.tracing_core.specs.Kept.{Covers, Every}
 use Rattle.tracing_core.specs.PlainMetadata.{PlainMetadata, is_same_metadata-decides}
 use Rattle.tracing_core.specs.Steady.{Agrees, HintFits, InterestFits, IsReal, IsRealCall, SameWord}
 use Rattle.span_registry_layers_store.specs.Registries.{RegistryValue}
-use Rattle.span_registry_layers_layers.specs.Oracles.{Oracle}
+use Rattle.span_registry_layers_layers.specs.Combined.{Either, Else}
+use Rattle.span_registry_layers_layers.specs.Honesty.{One}
 use Rattle.span_registry_layers_layers.specs.declared.filter.Filter.{Ghosts}
 use Rattle.span_registry_layers_layers.specs.declared.filtered.Filtered.{Filtered}
 use Rattle.span_registry_layers_layers.specs.declared.layer.Layer.{Ghosts as LayerGhosts}
-use Rattle.span_registry_layers_stack.specs.Asked.{any_passes, common_hint, common_interest, higher_hint, interest_from}
-use Rattle.span_registry_layers_stack.specs.Caches.{all_below, nobody_passes, passes_is_asked}
-use Rattle.span_registry_layers_stack.specs.Moves.{AnswersOf, IsSteady, Moves, SaysOf}
-use Rattle.span_registry_layers_stack.specs.Rows.{EachBecomes, filters_of, row_passes, view_of}
-use Rattle.span_registry_layers_stack.specs.Sites.{KeepsIf, PlainSite, is_of, renewed}
-use Rattle.span_registry_layers_stack.specs.Stacks.{Registers, StackValue, is_above, with_hint}
+use Rattle.span_registry_layers_stack.specs.Asked.{CommonInterest, InterestFrom, SomePasses, common_hint, higher_hint}
+use Rattle.span_registry_layers_stack.specs.Caches.{Refuses, all_below, all_never, by_hint, either_true, never_known}
+use Rattle.span_registry_layers_stack.specs.Moves.{Moves}
+use Rattle.span_registry_layers_stack.specs.Rows.{EachBecomes, filters_of, view_of}
+use Rattle.span_registry_layers_stack.specs.Sites.{KeepsIf, PlainSite, is_of, is_refused_by, renewed}
+use Rattle.span_registry_layers_stack.specs.Stacks.{PassesCached, PassesUnless, Registers, StackValue, is_above, is_refused, with_hint}
 use Rattle.span_registry_layers_stack.specs.Steps.{Keeps, Steps, clone_keeps, close_keeps, dispatch_keeps, enter_keeps, event_keeps, exit_keeps, follows_keeps, keeps_same, keeps_word, record_keeps, span_keeps}
-use Rattle.span_registry_layers_stack.specs.Words.{HintOver, Knows, Word}
+use Rattle.span_registry_layers_stack.specs.Words.{HintOver, Knows, Word, WordOf}
 use Rattle.span_registry_layers_stack.specs.declared.row.Row.{Row}
 
 covers_self : (j : PlainInterest) → Covers j j
@@ -77,22 +78,29 @@ over_more (Some a) own None w = tt
 over_more (Some a) None (Some b) w = absurd w
 over_more (Some a) (Some c) (Some b) w = omega arith
 
-fits_or : (k : PlainInterest) (p q : Bool) → InterestFits k p → (k ≡ Never → q ≡ false) → InterestFits k (p || q)
-fits_or Never p q a b = rw (a, b refl) refl
-fits_or Sometimes p q a b = tt
-fits_or Always p q a b = rw a refl
-
 fits_own : (k j : PlainInterest) (p : Bool) → Covers k j → InterestFits j p → InterestFits k p
 fits_own Never j p cv kf = rw cv at kf
 fits_own Sometimes j p cv kf = tt
 fits_own Always j p cv kf = rw cv at kf
 
-false_or : (p q : Bool) → p ≡ false → q ≡ false → (p || q) ≡ false
-false_or p q a b = rw (a, b) refl
-
 below_where : (h : Option ℕ) (level : ℕ) (p : Bool) → (is_above h level ≡ true → p ≡ false) → HintFits h level p
 below_where None level p f = tt
 below_where (Some top) level p f = λ lt. f (grind arith)
+
+-- nobody is there who always passes it
+none_always : Always ≡ Never → ⊥
+none_always e = absurd (cc)
+
+first_passes : (p b : Bool) (Q : Bool → Type 0) → p ≡ true → Else Q p b → b ≡ true
+first_passes true b Q e w = w
+first_passes false b Q e w = absurd (true≢false (sym e))
+
+else_one : (p a b : Bool) (Q : Bool → Type 0) → One Q → Else Q p a → Else Q p b → a ≡ b
+else_one true a b Q one x y = x ∙ sym y
+else_one false a b Q one x y = one a b x y
+
+either_one : (P Q : Bool → Type 0) → One P → One Q → One (Either P Q)
+either_one P Q f h a b x y = else_one x.0 a b Q h x.2 (subst (λ p. Else Q p b) (f y.0 x.0 y.1 x.1) y.2)
 
 module _ {F : Type 0} (g : Ghosts F) where
   over_start : (fs : List F) (h own : Option ℕ) → HintOver own h → HintOver own (common_hint g h fs)
@@ -112,65 +120,99 @@ module _ {F : Type 0} (g : Ghosts F) where
   hint_step (x ∷ xs) [] h w a = absurd a
   hint_step (x ∷ xs) (y ∷ ys) h w a = ap (λ own. common_hint g (higher_hint h own) ys) (a.0 w.0).1.same_hint ∙ hint_step xs ys (higher_hint h (g.hint x)) w.1 a.1
 
-  module _ (o : Oracle g) where
-    interest_step : (m : PlainMetadata) (fs gs : List F) (k : Option PlainInterest) → IsReal m → Every (λ f. g.honest f) fs → EachBecomes (Steps g) fs gs → interest_from g o m k gs ≡ interest_from g o m k fs
-    interest_step m [] [] k real w a = refl
-    interest_step m [] (y ∷ ys) k real w a = absurd a
-    interest_step m (x ∷ xs) [] k real w a = absurd a
-    interest_step m (x ∷ xs) (y ∷ ys) k real w a =
-        let same : o.interest x m ≡ o.interest y m = o.interest_right y m (o.interest x m) ((a.0 w.0).1.onward m (o.interest x m) (o.said x m real)) in
-        ap (λ j. interest_from g o m (joined k j) ys) (sym same) ∙ interest_step m xs ys (joined k (o.interest x m)) real w.1 a.1
+  interest_step : (m : PlainMetadata) (fs gs : List F) (before : Option PlainInterest) (k : PlainInterest) → Every (λ f. g.honest f) fs → EachBecomes (Steps g) fs gs → InterestFrom g m before fs k → InterestFrom g m before gs k
+  interest_step m [] [] before k w a n = n
+  interest_step m [] (y ∷ ys) before k w a n = absurd a
+  interest_step m (x ∷ xs) [] before k w a n = absurd a
+  interest_step m (x ∷ xs) (y ∷ ys) before k w a n = (n.0, (a.0 w.0).1.onward m n.0 n.1, interest_step m xs ys (joined before n.0) k w.1 a.1 n.2)
 
-    covers_start : (m : PlainMetadata) (fs : List F) (j : PlainInterest) → Covers (settled (interest_from g o m (Some j) fs)) j
-    covers_start m [] j = covers_self j
-    covers_start m (f ∷ fs) j = covers_left (settled (interest_from g o m (Some (common j (o.interest f m))) fs)) j (o.interest f m) (covers_start m fs (common j (o.interest f m)))
+  interest_back : (m : PlainMetadata) (fs gs : List F) (before : Option PlainInterest) (k : PlainInterest) → Every (λ f. g.honest f) fs → EachBecomes (Steps g) fs gs → InterestFrom g m before gs k → InterestFrom g m before fs k
+  interest_back m [] [] before k w a n = n
+  interest_back m [] (y ∷ ys) before k w a n = absurd a
+  interest_back m (x ∷ xs) [] before k w a n = absurd a
+  interest_back m (x ∷ xs) (y ∷ ys) before k w a n = (n.0, (a.0 w.0).1.back m n.0 n.1, interest_back m xs ys (joined before n.0) k w.1 a.1 n.2)
 
-    known_from : (m : PlainMetadata) (fs : List F) (k : Option PlainInterest) → IsReal m → Every (Knows g m (settled (interest_from g o m k fs))) fs
-    known_from m [] k real = tt
-    known_from m (f ∷ fs) k real =
-        let next = or_common k (o.interest f m) in
-        subst (λ j. Every (Knows g m (settled (interest_from g o m j fs))) (f ∷ fs)) (sym (joined_is k (o.interest f m)))
-        ((o.interest f m, o.said f m real, covers_last (settled (interest_from g o m (Some next) fs)) (o.interest f m) k (covers_start m fs next)), known_from m fs (Some next) real)
+  covers_start : (m : PlainMetadata) (fs : List F) (j k : PlainInterest) → InterestFrom g m (Some j) fs k → Covers k j
+  covers_start m [] j k w = subst (λ i. Covers i j) (sym w) (covers_self j)
+  covers_start m (f ∷ fs) j k w = covers_left k j w.0 (covers_start m fs (common j w.0) k w.2)
 
-    one_fits : (m : PlainMetadata) (k : PlainInterest) (f : F) (v : _) → IsReal m → g.honest f → Knows g m k f → InterestFits k (o.passes f m v)
-    one_fits m k f v real good n = fits_own k n.0 (o.passes f m v) n.2 ((g.fair f good).interest m v (o.passes f m v) n.0 (o.answered f m v real) n.1)
+  known_from : (m : PlainMetadata) (fs : List F) (before : Option PlainInterest) (k : PlainInterest) → InterestFrom g m before fs k → Every (Knows g m k) fs
+  known_from m [] before k w = tt
+  known_from m (f ∷ fs) before k w =
+      ((w.0, w.1, covers_last k w.0 before (covers_start m fs (or_common before w.0) k (subst (λ j. InterestFrom g m j fs k) (joined_is before w.0) w.2))), known_from m fs (joined before w.0) k w.2)
 
-    never_any : {L : Type 0} (m : PlainMetadata) (at : At) (x : RegistryValue) (rows : List (Row (Filtered L F))) → IsReal m → Every (λ f. g.honest f) (filters_of rows) → Every (Knows g m Never) (filters_of rows) → any_passes g o m at x rows ≡ false
-    never_any m at x [] real a b = refl
-    never_any m at x (row ∷ rows) real a b =
-        false_or (row_passes g o m at x row) (any_passes g o m at x rows) (one_fits m Never row.output.filter (view_of at x row) real a.0 b.0) (never_any m at x rows real a.1 b.1)
+  all_known : (m : PlainMetadata) (fs : List F) (k : PlainInterest) → CommonInterest g m fs k → Every (Knows g m k) fs
+  all_known m fs k w = known_from m fs None k w
 
-    any_fits : {L : Type 0} (m : PlainMetadata) (at : At) (x : RegistryValue) (k : PlainInterest) (rows : List (Row (Filtered L F))) → IsReal m → k ≡ common_interest g o m (filters_of rows) → Every (λ f. g.honest f) (filters_of rows) → Every (Knows g m k) (filters_of rows) →
-        InterestFits k (any_passes g o m at x rows)
-    any_fits m at x k [] real e a b = rw e refl
-    any_fits m at x k (row ∷ rows) real e a b =
-        fits_or k (row_passes g o m at x row) (any_passes g o m at x rows) (one_fits m k row.output.filter (view_of at x row) real a.0 b.0)
-        (λ n. never_any m at x rows real a.1 (subst (λ j. Every (Knows g m j) (filters_of rows)) n b.1))
+  module _ {L : Type 0} where
+    refused_by_all : (m : PlainMetadata) (at : At) (x : RegistryValue) (rows : List (Row (Filtered L F))) (b : Bool) → Every (Refuses g m) (filters_of rows) → SomePasses g m at x rows b → b ≡ false
+    refused_by_all m at x [] b w given = given
+    refused_by_all m at x (row ∷ rows) b w given =
+        after_refusal given.0 b (w.0 (view_of at x row) given.0 given.1) (refused_by_all m at x rows b w.1) given.2
+      where
+        after_refusal : (p b : Bool) → p ≡ false → (SomePasses g m at x rows b → b ≡ false) → Else (SomePasses g m at x rows) p b → b ≡ false
+        after_refusal true b e f given = absurd (true≢false e)
+        after_refusal false b e f given = f given
 
-  pub stack_fair : {L : Type 0} (s : StackValue (Filtered L F)) → IsSteady g s → Agrees (AnswersOf g s) (SaysOf g (filters_of s.rows)) (common_hint g (Some 0) (filters_of s.rows))
-  stack_fair s w =
-      let o = w.0 in
-      let fs = filters_of s.rows in
-      record {
-        interest = λ m at b k real a e.
-            subst (InterestFits k) (sym (a o ∙ passes_is_asked g o s m at real w.1))
-            (any_fits o m at s.registry k s.rows real (e o real) w.1.honest (subst (λ j. Every (Knows g m j) fs) (sym (e o real)) (known_from o m fs None real)));
-        below = λ m at b real a.
-            below_where (common_hint g (Some 0) fs) m.level b
-            (λ above. a o ∙ passes_is_asked g o s m at real w.1 ∙ nobody_passes g o m at s.registry s.rows (all_below g o m (common_hint g (Some 0) fs) fs real above w.1.honest (hints_over fs (Some 0))));
-      }
+    any_fits : (m : PlainMetadata) (at : At) (x : RegistryValue) (k : PlainInterest) (rows : List (Row (Filtered L F))) (b : Bool) → Every (λ f. g.honest f) (filters_of rows) → CommonInterest g m (filters_of rows) k → SomePasses g m at x rows b → InterestFits k b
+    any_fits m at x Never rows b honest says given = refused_by_all m at x rows b (all_never g m (filters_of rows) honest (all_known m (filters_of rows) Never says)) given
+    any_fits m at x Sometimes rows b honest says given = tt
+    any_fits m at x Always [] b honest says given = absurd (none_always says)
+    any_fits m at x Always (row ∷ rows) b honest says given =
+        let known = (all_known m (filters_of (row ∷ rows)) Always says).0 in
+        first_passes given.0 b (SomePasses g m at x rows)
+        (fits_own Always known.0 given.0 known.2 ((g.fair row.output.filter honest.0).interest m (view_of at x row) given.0 known.0 given.1 known.1)) given.2
 
-  -- asked twice in one place, it answers the same
-  pub stack_single : {L : Type 0} (s : StackValue (Filtered L F)) (m : PlainMetadata) (at : At) (a b : Bool) → IsReal m → IsSteady g s → AnswersOf g s m at a → AnswersOf g s m at b → a ≡ b
-  stack_single s m at a b real w x y = x w.0 ∙ sym (y w.0)
+    -- what is kept refuses nothing that every filter always passes
+    not_refused : (m : PlainMetadata) (at : At) (x : RegistryValue) (h : Option ℕ) (sites : List PlainSite) (rows : List (Row (Filtered L F))) → WordOf g (filters_of rows) sites h → CommonInterest g m (filters_of rows) Always →
+        (is_above h m.level ≡ true) ⊎ (list_any (is_refused_by m) sites ≡ true) → ⊥
+    not_refused m at x h sites [] w says e = none_always says
+    not_refused m at x h sites (row ∷ rows) w says (inl above) =
+        let f = row.output.filter in
+        let known = (all_known m (filters_of (row ∷ rows)) Always says).0 in
+        let always : g.says f m Always = subst (g.says f m) known.2 known.1 in
+        true≢false (by_hint (g.hint f) h m.level true ((g.firm f w.honest.0).below m (view_of at x row) always) w.hints.0 above)
+    not_refused m at x h sites (row ∷ rows) w says (inr never) =
+        let f = row.output.filter in
+        let known = (all_known m (filters_of (row ∷ rows)) Always says).0 in
+        let kept = (never_known g m (filters_of (row ∷ rows)) sites never w.interests).0 in
+        none_always ((g.firm f w.honest.0).one m Always Never (subst (g.says f m) known.2 known.1) (subst (g.says f m) kept.2 kept.1))
 
-  pub same_word : {L : Type 0} (s t : StackValue (Filtered L F)) → Word g s → Keeps g s t → SameWord (SaysOf g (filters_of s.rows)) (SaysOf g (filters_of t.rows)) (common_hint g (Some 0) (filters_of s.rows)) (common_hint g (Some 0) (filters_of t.rows))
-  same_word s t w k =
-      record {
-        onward = λ m j says o real. says o real ∙ ap settled (sym (interest_step o m (filters_of s.rows) (filters_of t.rows) None real w.honest k.steps));
-        back = λ m j says o real. says o real ∙ ap settled (interest_step o m (filters_of s.rows) (filters_of t.rows) None real w.honest k.steps);
-        same_hint = hint_step (filters_of s.rows) (filters_of t.rows) (Some 0) w.honest k.steps;
-      }
+    refused_fits : (s : StackValue (Filtered L F)) (m : PlainMetadata) (at : At) (k : PlainInterest) → Word g s → is_refused s m ≡ true → CommonInterest g m (filters_of s.rows) k → InterestFits k false
+    refused_fits s m at Never w e says = refl
+    refused_fits s m at Sometimes w e says = tt
+    refused_fits s m at Always w e says = absurd (not_refused m at s.registry s.hint s.sites s.rows w says (either_true (is_above s.hint m.level) (list_any (is_refused_by m) s.sites) e))
+
+    passes_fits : (s : StackValue (Filtered L F)) (m : PlainMetadata) (at : At) (b : Bool) (k : PlainInterest) → Word g s → (c : Bool) → is_refused s m ≡ c → PassesUnless g c s m at b → CommonInterest g m (filters_of s.rows) k → InterestFits k b
+    passes_fits s m at b k w true e given says = subst (InterestFits k) (sym given) (refused_fits s m at k w e says)
+    passes_fits s m at b k w false e given says = any_fits m at s.registry k s.rows b w.honest says given
+
+    passes_refused : (s : StackValue (Filtered L F)) (m : PlainMetadata) (at : At) (b : Bool) → Every (Refuses g m) (filters_of s.rows) → (c : Bool) → PassesUnless g c s m at b → b ≡ false
+    passes_refused s m at b w true given = given
+    passes_refused s m at b w false given = refused_by_all m at s.registry s.rows b w given
+
+    pub stack_fair : (s : StackValue (Filtered L F)) → Word g s → Agrees (PassesCached g s) (λ m k. CommonInterest g m (filters_of s.rows) k) (common_hint g (Some 0) (filters_of s.rows))
+    stack_fair s w =
+        let fs = filters_of s.rows in
+        record {
+          interest = λ m at b k real a e. passes_fits s m at b k w (is_refused s m) refl a e;
+          below = λ m at b real a.
+              below_where (common_hint g (Some 0) fs) m.level b
+              (λ above. passes_refused s m at b (all_below g m (common_hint g (Some 0) fs) fs above w.honest (hints_over fs (Some 0))) (is_refused s m) a);
+        }
+
+    some_one : (m : PlainMetadata) (at : At) (x : RegistryValue) (rows : List (Row (Filtered L F))) → Every (λ f. g.honest f) (filters_of rows) → One (SomePasses g m at x rows)
+    some_one m at x [] w a b p q = p ∙ sym q
+    some_one m at x (row ∷ rows) w a b p q =
+        either_one (g.answers row.output.filter m (view_of at x row)) (SomePasses g m at x rows) ((g.single row.output.filter w.0).callsite m (view_of at x row)) (some_one m at x rows w.1) a b p q
+
+    passes_one : (s : StackValue (Filtered L F)) (m : PlainMetadata) (at : At) → Word g s → (c : Bool) → One (PassesUnless g c s m at)
+    passes_one s m at w true a b p q = p ∙ sym q
+    passes_one s m at w false a b p q = some_one m at s.registry s.rows w.honest a b p q
+
+    -- asked twice in one place, it answers the same
+    pub stack_single : (s : StackValue (Filtered L F)) (m : PlainMetadata) (at : At) (a b : Bool) → IsReal m → Word g s → PassesCached g s m at a → PassesCached g s m at b → a ≡ b
+    stack_single s m at a b real w x y = passes_one s m at w (is_refused s m) a b x y
 
   -- an interest that is right is kept
   renewed_right : (b : Bool) (m : PlainMetadata) (k : PlainInterest) (fs : List F) (site : PlainSite) → is_of m site ≡ b → Every (Knows g m k) fs → Every (Knows g site.metadata site.interest) fs → Every (Knows g (renewed m k site).metadata (renewed m k site).interest) fs
@@ -193,52 +235,60 @@ module _ {F : Type 0} (g : Ghosts F) where
   sites_kept false m k fs sites later (inr e) new w =
       subst (Every (λ site. Every (Knows g site.metadata site.interest) fs)) (sym e) (every_append (λ (site : PlainSite). Every (Knows g site.metadata site.interest) fs) sites (record { metadata = m; interest = k }) w new)
 
-  pub word_registered : {L : Type 0} (o : Oracle g) (s t : StackValue (Filtered L F)) (m : PlainMetadata) (k : PlainInterest) → IsReal m → k ≡ common_interest g o m (filters_of s.rows) → Registers m k s t → Word g s → Word g t
-  word_registered o s t m k real e kept w =
+  pub word_registered : {L : Type 0} (s t : StackValue (Filtered L F)) (m : PlainMetadata) (k : PlainInterest) → CommonInterest g m (filters_of s.rows) k → Registers m k s t → Word g s → Word g t
+  word_registered s t m k says kept w =
       let fs = filters_of s.rows in
       subst (Word g) (sym kept.1)
       (record {
         honest = w.honest;
-        interests = sites_kept (list_any (is_of m) s.sites) m k fs s.sites t.sites kept.0 (subst (λ j. Every (Knows g m j) fs) (sym e) (known_from o m fs None real)) w.interests;
+        interests = sites_kept (list_any (is_of m) s.sites) m k fs s.sites t.sites kept.0 (all_known m fs k says) w.interests;
         hints = w.hints;
       })
 
-  pub stack_quiet : {L : Type 0} (s t : StackValue (Filtered L F)) (n : PlainMetadata) (place : At) (b : Bool) → t ≡ s → AnswersOf g s n place b ↔ AnswersOf g t n place b
-  stack_quiet s t n place b e = (subst (λ x. AnswersOf g x n place b) (sym e), subst (λ x. AnswersOf g x n place b) e)
+  pub stack_quiet : {L : Type 0} (s t : StackValue (Filtered L F)) (n : PlainMetadata) (place : At) (b : Bool) → t ≡ s → PassesCached g s n place b ↔ PassesCached g t n place b
+  stack_quiet s t n place b e = (subst (λ x. PassesCached g x n place b) (sym e), subst (λ x. PassesCached g x n place b) e)
 
 module _ {L F : Type 0} (g : Ghosts F) (h : LayerGhosts L) where
-  after_keeping : (s t : StackValue (Filtered L F)) → IsSteady g s → Keeps g s t →
-      IsSteady g t × SameWord (SaysOf g (filters_of s.rows)) (SaysOf g (filters_of t.rows)) (common_hint g (Some 0) (filters_of s.rows)) (common_hint g (Some 0) (filters_of t.rows))
-  after_keeping s t w k = ((w.0, keeps_word g s t k w.1), same_word g s t w.1 k)
+  abbrev SameWords : StackValue (Filtered L F) → StackValue (Filtered L F) → Type 0
+  SameWords s t = SameWord (λ m k. CommonInterest g m (filters_of s.rows) k) (λ m k. CommonInterest g m (filters_of t.rows) k) (common_hint g (Some 0) (filters_of s.rows)) (common_hint g (Some 0) (filters_of t.rows))
 
-  same_filters : (s t : StackValue (Filtered L F)) → filters_of t.rows ≡ filters_of s.rows →
-      SameWord (SaysOf g (filters_of s.rows)) (SaysOf g (filters_of t.rows)) (common_hint g (Some 0) (filters_of s.rows)) (common_hint g (Some 0) (filters_of t.rows))
+  pub same_word : (s t : StackValue (Filtered L F)) → Word g s → Keeps g h s t → SameWord (λ m k. CommonInterest g m (filters_of s.rows) k) (λ m k. CommonInterest g m (filters_of t.rows) k) (common_hint g (Some 0) (filters_of s.rows)) (common_hint g (Some 0) (filters_of t.rows))
+  same_word s t w k =
+      record {
+        onward = λ m j says. interest_step g m (filters_of s.rows) (filters_of t.rows) None j w.honest k.steps says;
+        back = λ m j says. interest_back g m (filters_of s.rows) (filters_of t.rows) None j w.honest k.steps says;
+        same_hint = hint_step g (filters_of s.rows) (filters_of t.rows) (Some 0) w.honest k.steps;
+      }
+
+  after_keeping : (s t : StackValue (Filtered L F)) → Word g s → Keeps g h s t → Word g t × SameWords s t
+  after_keeping s t w k = (keeps_word g h s t k w, same_word s t w k)
+
+  same_filters : (s t : StackValue (Filtered L F)) → filters_of t.rows ≡ filters_of s.rows → SameWords s t
   same_filters s t e =
       record {
-        onward = λ m k says. subst (λ fs. SaysOf g fs m k) (sym e) says;
-        back = λ m k says. subst (λ fs. SaysOf g fs m k) e says;
+        onward = λ m k says. subst (λ fs. CommonInterest g m fs k) (sym e) says;
+        back = λ m k says. subst (λ fs. CommonInterest g m fs k) e says;
         same_hint = ap (common_hint g (Some 0)) e;
       }
 
-  pub stack_stays : (s : StackValue (Filtered L F)) (c : Call) (r : ReplyTo c) (t : StackValue (Filtered L F)) → IsRealCall c → Moves g h s c r t → IsSteady g s →
-      IsSteady g t × SameWord (SaysOf g (filters_of s.rows)) (SaysOf g (filters_of t.rows)) (common_hint g (Some 0) (filters_of s.rows)) (common_hint g (Some 0) (filters_of t.rows))
+  pub stack_stays : (s : StackValue (Filtered L F)) (c : Call) (r : ReplyTo c) (t : StackValue (Filtered L F)) → IsRealCall c → Moves g h s c r t → Word g s → Word g t × SameWords s t
   stack_stays s (DispatchRegistered dispatch) r t real m w = after_keeping s t w (dispatch_keeps g h dispatch s t m)
   stack_stays s (CallsiteRegistered n) r t real m w =
-      ((w.0, word_registered g w.0 s t n r real (m.0 w.0) m.1 w.1), same_filters s t (ap (λ (v : StackValue (Filtered L F)). filters_of v.rows) m.1.1))
-  stack_stays s (Asked n at) r t real m w = after_keeping s t w (keeps_same g s t m.1)
+      (word_registered g s t n r m.0 m.1 w, same_filters s t (ap (λ (v : StackValue (Filtered L F)). filters_of v.rows) m.1.1))
+  stack_stays s (Asked n at) r t real m w = after_keeping s t w (keeps_same g h s t m.1)
   stack_stays s HintAsked r t real m w =
-      ((w.0, subst (Word g) (sym (m.1 ∙ ap (λ hint. with_hint hint s) m.0)) (word_hinted g s w.1)), same_filters s t (ap (λ (v : StackValue (Filtered L F)). filters_of v.rows) m.1))
-  stack_stays s (SpanMade a at) r t real m w = after_keeping s t w (span_keeps g h w.0 a at s t r (m w.0))
+      (subst (Word g) (sym (m.1 ∙ ap (λ hint. with_hint hint s) m.0)) (word_hinted g s w), same_filters s t (ap (λ (v : StackValue (Filtered L F)). filters_of v.rows) m.1))
+  stack_stays s (SpanMade a at) r t real m w = after_keeping s t w (span_keeps g h a at s t r m)
   stack_stays s (Recorded id values at) r t real m w = after_keeping s t w (record_keeps g h id values at s t r m)
   stack_stays s (FollowsRecorded id follows at) r t real m w = after_keeping s t w (follows_keeps g h id follows at s t r m)
-  stack_stays s (EventAsked e at) r t real m w = after_keeping s t w (keeps_same g s t m.1)
-  stack_stays s (Told e at) r t real m w = after_keeping s t w (event_keeps g h w.0 e at s t r (m w.0))
+  stack_stays s (EventAsked e at) r t real m w = after_keeping s t w (keeps_same g h s t m.1)
+  stack_stays s (Told e at) r t real m w = after_keeping s t w (event_keeps g h e at s t r m)
   stack_stays s (Entered id at) r t real m w = after_keeping s t w (enter_keeps g h id at s t r m)
   stack_stays s (Exited id at) r t real m w = after_keeping s t w (exit_keeps g h id at s t m)
   stack_stays s (Cloned id at) r t real m w = after_keeping s t w (clone_keeps g h id s t r m)
   stack_stays s (Dropped id at) r t real m w = after_keeping s t w (close_keeps g h id at s t m.0 m.1)
   stack_stays s (CloseTried id at) r t real m w = after_keeping s t w (close_keeps g h id at s t r m)
-  stack_stays s (CurrentAsked at) r t real m w = after_keeping s t w (keeps_same g s t m.1)
+  stack_stays s (CurrentAsked at) r t real m w = after_keeping s t w (keeps_same g h s t m.1)
 
   pub asked_stays : (s : StackValue (Filtered L F)) (m : PlainMetadata) (at : At) (r : Bool) (t : StackValue (Filtered L F)) → Moves g h s (Asked m at) r t → t ≡ s
   asked_stays s m at r t w = w.1

@@ -1,5 +1,5 @@
 -- What calls leave of the filters' word.
-use Rattle.std.specs.Prelude.{◌≡◌, ℕ, Bool, true, false, List, [], ◌∷◌, map, Option, Some, None, Result, Ok, Err, refl}
+use Rattle.std.specs.Prelude.{◌≡◌, ◌&&◌, ◌++◌, ℕ, Bool, true, false, List, [], ◌∷◌, map, Option, Some, None, Result, Ok, Err, refl}
 use Rattle.std.proofs.Common.{ap, sym, ◌∙◌, subst}
 use Rattle.tracing_core.specs.At.{At}
 use Rattle.tracing_core.specs.Interests.{PlainInterest}
@@ -9,18 +9,18 @@ use Rattle.tracing_core.specs.PlainRequests.{PlainAttributes, PlainEvent, PlainV
 use Rattle.tracing_core.specs.RequestError.{RequestError}
 use Rattle.tracing_core.specs.Steady.{SameWord}
 use Rattle.span_registry_layers_store.specs.Gives.{close_refusal}
+use Rattle.span_registry_layers_store.specs.declared.filter_map.FilterId.{FilterId}
 use Rattle.span_registry_layers_store.specs.Registries.{PlainSpan, RegistryValue, closing_in, knows, without_entry, without_handle}
-use Rattle.span_registry_layers_store.specs.Verdicts.{all_pass}
 use Rattle.span_registry_layers_layers.specs.Looks.{Closed, Entered, Exited, Hook, Recorded, SpanMade, View}
-use Rattle.span_registry_layers_layers.specs.Oracles.{Oracle}
+use Rattle.span_registry_layers_layers.specs.Notices.{Dispatched, Followed, Happened, Notice, Spanned}
 use Rattle.span_registry_layers_layers.specs.declared.filter.Filter.{Ghosts}
 use Rattle.span_registry_layers_layers.specs.declared.filtered.Filtered.{Filtered}
 use Rattle.span_registry_layers_layers.specs.declared.layer.Layer.{Ghosts as LayerGhosts}
-use Rattle.span_registry_layers_stack.specs.Calls.{CloneGives, CloseGives, CloseUnless, Closes, EnterGives, ExitGives, FollowsGives, MakesSpan, RecordGives, SpanCached, SpanKnown, WhereTaken, over}
-use Rattle.span_registry_layers_stack.specs.Rows.{EachBecomes, TellsEvent, filters_of, ids_of, marked}
+use Rattle.span_registry_layers_stack.specs.Calls.{CloneGives, CloseGives, CloseUnless, Closes, EnterGives, ExitGives, FollowsGives, MakesSpan, RecordGives, SpanCached, SpanKnown, SpanUnless, SpanWhere, WhereTaken, over}
+use Rattle.span_registry_layers_stack.specs.Rows.{EachBecomes, TellsEvent, TellsIf, filters_of, marked, numbers_of, view_of}
 use Rattle.span_registry_layers_stack.specs.Sites.{PlainSite}
-use Rattle.span_registry_layers_stack.specs.Hearing.{ClosesEach, HearsIf, TellsDispatch, TellsFollows, TellsMade, TellsSpan, sees, verdicts_from}
-use Rattle.span_registry_layers_stack.specs.Stacks.{EventCached, RowsBecome, StackValue, TellsUnless, WhereKnown, cleared, is_refused, passes_cached}
+use Rattle.span_registry_layers_stack.specs.Hearing.{ClosesEach, HearsIf, TellsDispatch, TellsFollows, TellsMade, TellsSpan, sees}
+use Rattle.span_registry_layers_stack.specs.Stacks.{EventCached, RowsBecome, StackValue, TellsUnless, WhereKnown, cleared, is_refused}
 use Rattle.span_registry_layers_stack.specs.Words.{HintOver, Knows, Word, WordOf}
 use Rattle.span_registry_layers_stack.specs.declared.row.Row.{Row}
 
@@ -51,13 +51,6 @@ module _ {F : Type 0} (g : Ghosts F) where
   each_put [] = tt
   each_put (x ∷ xs) = (stays_put x x refl, each_put xs)
 
-  -- an output's filter steps, and its number stays
-  abbrev pub Stepped : {L : Type 0} → Row (Filtered L F) → Row (Filtered L F) → Type 0
-  Stepped row later = Steps row.output.filter later.output.filter × (later.id ≡ row.id)
-
-  stepped_put : {L : Type 0} (row later : Row (Filtered L F)) → later.output.filter ≡ row.output.filter → later.id ≡ row.id → Stepped row later
-  stepped_put row later e n = (stays_put row.output.filter later.output.filter e, n)
-
   honest_step : (xs ys : List F) → EachBecomes Steps xs ys → Every (λ f. g.honest f) xs → Every (λ f. g.honest f) ys
   honest_step [] [] a w = tt
   honest_step [] (y ∷ ys) a w = absurd a
@@ -84,144 +77,171 @@ module _ {F : Type 0} (g : Ghosts F) where
   word_step sites kept xs ys a w =
       record { honest = honest_step xs ys a w.honest; interests = sites_step sites xs ys a w.honest w.interests; hints = hints_step kept xs ys a w.honest w.hints }
 
+module _ {L F : Type 0} (g : Ghosts F) (h : LayerGhosts L) where
+  -- an output's filter steps, and the numbers of its filters stay
+  abbrev pub Stepped : Row (Filtered L F) → Row (Filtered L F) → Type 0
+  Stepped row later = Steps g row.output.filter later.output.filter × (later.id ≡ row.id) × (h.numbers later.output.layer ≡ h.numbers row.output.layer)
+
+  stepped_put : (row later : Row (Filtered L F)) → later.output.filter ≡ row.output.filter → later.id ≡ row.id → h.numbers later.output.layer ≡ h.numbers row.output.layer → Stepped row later
+  stepped_put row later e n l = (stays_put g row.output.filter later.output.filter e, n, l)
+
   -- each filter stays honest and says what it said, and what is kept stays
-  pub record Keeps {L : Type 0} (s t : StackValue (Filtered L F)) : Type 0 where
-    pub steps : EachBecomes Steps (filters_of s.rows) (filters_of t.rows)
+  pub record Keeps (s t : StackValue (Filtered L F)) : Type 0 where
+    pub steps : EachBecomes (Steps g) (filters_of s.rows) (filters_of t.rows)
     pub sites : t.sites ≡ s.sites
     pub hint : t.hint ≡ s.hint
-    pub numbers : ids_of t.rows ≡ ids_of s.rows
+    pub numbers : numbers_of h t.rows ≡ numbers_of h s.rows
 
-  pub keeps_word : {L : Type 0} (s t : StackValue (Filtered L F)) → Keeps s t → Word g s → Word g t
+  pub keeps_word : (s t : StackValue (Filtered L F)) → Keeps s t → Word g s → Word g t
   keeps_word s t k w =
       subst (λ cs. WordOf g (filters_of t.rows) cs t.hint) (sym k.sites)
-      (subst (λ kept. WordOf g (filters_of t.rows) s.sites kept) (sym k.hint) (word_step s.sites s.hint (filters_of s.rows) (filters_of t.rows) k.steps w))
+      (subst (λ kept. WordOf g (filters_of t.rows) s.sites kept) (sym k.hint) (word_step g s.sites s.hint (filters_of s.rows) (filters_of t.rows) k.steps w))
 
-  pub keeps_same : {L : Type 0} (s t : StackValue (Filtered L F)) → t ≡ s → Keeps s t
-  keeps_same s t e = subst (Keeps s) (sym e) (record { steps = each_put (filters_of s.rows); sites = refl; hint = refl; numbers = refl })
+  pub keeps_same : (s t : StackValue (Filtered L F)) → t ≡ s → Keeps s t
+  keeps_same s t e = subst (Keeps s) (sym e) (record { steps = each_put g (filters_of s.rows); sites = refl; hint = refl; numbers = refl })
 
-  pub keeps_then : {L : Type 0} (s t u : StackValue (Filtered L F)) → Keeps s t → Keeps t u → Keeps s u
+  pub keeps_then : (s t u : StackValue (Filtered L F)) → Keeps s t → Keeps t u → Keeps s u
   keeps_then s t u a b =
-      record { steps = each_then (filters_of s.rows) (filters_of t.rows) (filters_of u.rows) a.steps b.steps; sites = b.sites ∙ a.sites; hint = b.hint ∙ a.hint; numbers = b.numbers ∙ a.numbers }
+      record { steps = each_then g (filters_of s.rows) (filters_of t.rows) (filters_of u.rows) a.steps b.steps; sites = b.sites ∙ a.sites; hint = b.hint ∙ a.hint; numbers = b.numbers ∙ a.numbers }
 
-  pub cleared_keeps : {L : Type 0} (s t : StackValue (Filtered L F)) → t ≡ cleared s → Keeps s t
-  cleared_keeps s t e = subst (Keeps s) (sym e) (record { steps = rows_put s.rows; sites = refl; hint = refl; numbers = same_ids s.rows })
-    where
-      rows_put : {L : Type 0} (rows : List (Row (Filtered L F))) → EachBecomes Steps (filters_of rows) (filters_of (map (marked false) rows))
-      rows_put [] = tt
-      rows_put (row ∷ rows) = (stays_put row.output.filter row.output.filter refl, rows_put rows)
+  rows_put : (rows : List (Row (Filtered L F))) → EachBecomes (Steps g) (filters_of rows) (filters_of (map (marked false) rows))
+  rows_put [] = tt
+  rows_put (row ∷ rows) = (stays_put g row.output.filter row.output.filter refl, rows_put rows)
 
-      same_ids : {L : Type 0} (rows : List (Row (Filtered L F))) → ids_of (map (marked false) rows) ≡ ids_of rows
-      same_ids [] = refl
-      same_ids (row ∷ rows) = ap (λ ids. row.id ∷ ids) (same_ids rows)
+  same_numbers : (rows : List (Row (Filtered L F))) → numbers_of h (map (marked false) rows) ≡ numbers_of h rows
+  same_numbers [] = refl
+  same_numbers (row ∷ rows) = ap (λ (ns : List ℕ). row.id.index ∷ (h.numbers row.output.layer ++ ns)) (same_numbers rows)
 
-  each_steps : {L : Type 0} (R : Row (Filtered L F) → Row (Filtered L F) → Type 0) → ((row later : Row (Filtered L F)) → R row later → Stepped row later) →
-      (rows later : List (Row (Filtered L F))) → EachBecomes R rows later → EachBecomes Steps (filters_of rows) (filters_of later)
+  pub cleared_keeps : (s t : StackValue (Filtered L F)) → t ≡ cleared s → Keeps s t
+  cleared_keeps s t e = subst (Keeps s) (sym e) (record { steps = rows_put s.rows; sites = refl; hint = refl; numbers = same_numbers s.rows })
+
+  each_steps : (R : Row (Filtered L F) → Row (Filtered L F) → Type 0) → ((row later : Row (Filtered L F)) → R row later → Stepped row later) →
+      (rows later : List (Row (Filtered L F))) → EachBecomes R rows later → EachBecomes (Steps g) (filters_of rows) (filters_of later)
   each_steps R f [] [] w = tt
   each_steps R f [] (l ∷ ls) w = absurd w
   each_steps R f (r ∷ rs) [] w = absurd w
   each_steps R f (r ∷ rs) (l ∷ ls) w = ((f r l w.0).0, each_steps R f rs ls w.1)
 
-  each_ids : {L : Type 0} (R : Row (Filtered L F) → Row (Filtered L F) → Type 0) → ((row later : Row (Filtered L F)) → R row later → Stepped row later) → (rows later : List (Row (Filtered L F))) → EachBecomes R rows later → ids_of later ≡ ids_of rows
-  each_ids R f [] [] w = refl
-  each_ids R f [] (l ∷ ls) w = absurd w
-  each_ids R f (r ∷ rs) [] w = absurd w
-  each_ids R f (r ∷ rs) (l ∷ ls) w = ap (λ id. id ∷ ids_of ls) (f r l w.0).1 ∙ ap (λ ids. r.id ∷ ids) (each_ids R f rs ls w.1)
+  each_numbers : (R : Row (Filtered L F) → Row (Filtered L F) → Type 0) → ((row later : Row (Filtered L F)) → R row later → Stepped row later) → (rows later : List (Row (Filtered L F))) → EachBecomes R rows later → numbers_of h later ≡ numbers_of h rows
+  each_numbers R f [] [] w = refl
+  each_numbers R f [] (l ∷ ls) w = absurd w
+  each_numbers R f (r ∷ rs) [] w = absurd w
+  each_numbers R f (r ∷ rs) (l ∷ ls) w =
+      ap (λ (id : FilterId). id.index ∷ (h.numbers l.output.layer ++ numbers_of h ls)) (f r l w.0).1
+      ∙ ap (λ (ns : List ℕ). r.id.index ∷ (ns ++ numbers_of h ls)) (f r l w.0).2 ∙ ap (λ (ns : List ℕ). r.id.index ∷ (h.numbers r.output.layer ++ ns)) (each_numbers R f rs ls w.1)
 
-  pub rows_keep : {L : Type 0} (x : RegistryValue) (R : Row (Filtered L F) → Row (Filtered L F) → Type 0) → ((row later : Row (Filtered L F)) → R row later → Stepped row later) → (s t : StackValue (Filtered L F)) → RowsBecome R (over x s) t → Keeps s t
-  rows_keep {L = L} x R f s t w =
-      record { steps = each_steps R f s.rows t.rows w.0; sites = ap (λ (v : StackValue (Filtered L F)). v.sites) w.1; hint = ap (λ (v : StackValue (Filtered L F)). v.hint) w.1; numbers = each_ids R f s.rows t.rows w.0 }
+  pub rows_keep : (x : RegistryValue) (R : Row (Filtered L F) → Row (Filtered L F) → Type 0) → ((row later : Row (Filtered L F)) → R row later → Stepped row later) → (s t : StackValue (Filtered L F)) → RowsBecome R (over x s) t → Keeps s t
+  rows_keep x R f s t w =
+      record { steps = each_steps R f s.rows t.rows w.0; sites = ap (λ (v : StackValue (Filtered L F)). v.sites) w.1; hint = ap (λ (v : StackValue (Filtered L F)). v.hint) w.1; numbers = each_numbers R f s.rows t.rows w.0 }
 
-module _ {L F : Type 0} (g : Ghosts F) (h : LayerGhosts L) where
-  hears_steps : (b : Bool) (hook : Hook) (row later : Row (Filtered L F)) → HearsIf g h b hook row later → Stepped g row later
-  hears_steps true hook row later w =
-      (subst (Steps g row.output.filter) (sym (ap (λ (r : Row (Filtered L F)). r.output.filter) w.1)) (g.stays row.output.filter hook), ap (λ (r : Row (Filtered L F)). r.id) w.1)
-  hears_steps false hook row later w = stepped_put g row later (ap (λ (r : Row (Filtered L F)). r.output.filter) w) (ap (λ (r : Row (Filtered L F)). r.id) w)
+  told_if : (b : Bool) (layer : L) (n : Notice) (later : L) → (h.told layer n later → h.numbers later ≡ h.numbers layer) → TellsIf h b layer n later → h.numbers later ≡ h.numbers layer
+  told_if true layer n later f w = f w
+  told_if false layer n later f w = ap h.numbers w
 
-  span_steps : (call : View → Hook) (id : ℕ) (at : At) (x : RegistryValue) (row later : Row (Filtered L F)) → TellsSpan g h call id at x row later → Stepped g row later
+  hears_steps : (b : Bool) (hook : Hook) (row later : Row (Filtered L F)) → HearsIf g h b hook row later → Stepped row later
+  hears_steps true hook row later w = (
+    subst (Steps g row.output.filter) (sym (ap (λ (r : Row (Filtered L F)). r.output.filter) w.1)) (g.stays row.output.filter hook),
+    ap (λ (r : Row (Filtered L F)). r.id) w.1,
+    h.numbered row.output.layer (Spanned hook) later.output.layer w.0,
+  )
+  hears_steps false hook row later w =
+      stepped_put row later (ap (λ (r : Row (Filtered L F)). r.output.filter) w) (ap (λ (r : Row (Filtered L F)). r.id) w) (ap (λ (r : Row (Filtered L F)). h.numbers r.output.layer) w)
+
+  span_steps : (call : View → Hook) (id : ℕ) (at : At) (x : RegistryValue) (row later : Row (Filtered L F)) → TellsSpan g h call id at x row later → Stepped row later
   span_steps call id at x row later w = hears_steps (sees x id row) (call (record { at = at; registry = x; mask = Some row.id.index })) row later w
 
-  made_steps : (call : View → Hook) (id : ℕ) (at : At) (x : RegistryValue) (row later : Row (Filtered L F)) → TellsMade g h call id at x row later → Stepped g row later
+  made_steps : (call : View → Hook) (id : ℕ) (at : At) (x : RegistryValue) (row later : Row (Filtered L F)) → TellsMade g h call id at x row later → Stepped row later
   made_steps call id at x row later w = span_steps call id at x (marked (sees x id row) row) later w
 
-  follows_steps : (id follows : ℕ) (at : At) (x : RegistryValue) (row later : Row (Filtered L F)) → TellsFollows g h id follows at x row later → Stepped g row later
-  follows_steps id follows at x row later w = stepped_put g row later (ap (λ (r : Row (Filtered L F)). r.output.filter) w.1) (ap (λ (r : Row (Filtered L F)). r.id) w.1)
+  follows_steps : (id follows : ℕ) (at : At) (x : RegistryValue) (row later : Row (Filtered L F)) → TellsFollows g h id follows at x row later → Stepped row later
+  follows_steps id follows at x row later w =
+      let notice = Followed id follows (view_of at x row) in
+      stepped_put row later (ap (λ (r : Row (Filtered L F)). r.output.filter) w.1) (ap (λ (r : Row (Filtered L F)). r.id) w.1)
+      (told_if (sees x id row && sees x follows row) row.output.layer notice later.output.layer (h.numbered row.output.layer notice later.output.layer) w.0)
 
-  dispatch_steps : (dispatch : Option ℕ) (row later : Row (Filtered L F)) → TellsDispatch g h dispatch row later → Stepped g row later
-  dispatch_steps dispatch row later w = stepped_put g row later (ap (λ (r : Row (Filtered L F)). r.output.filter) w.1) (ap (λ (r : Row (Filtered L F)). r.id) w.1)
+  dispatch_steps : (dispatch : Option ℕ) (row later : Row (Filtered L F)) → TellsDispatch g h dispatch row later → Stepped row later
+  dispatch_steps dispatch row later w =
+      stepped_put row later (ap (λ (r : Row (Filtered L F)). r.output.filter) w.1) (ap (λ (r : Row (Filtered L F)). r.id) w.1) (h.numbered row.output.layer (Dispatched dispatch) later.output.layer w.0)
 
-  pub dispatch_keeps : (dispatch : Option ℕ) (s t : StackValue (Filtered L F)) → RowsBecome (TellsDispatch g h dispatch) s t → Keeps g s t
-  dispatch_keeps dispatch s t w = rows_keep g s.registry (TellsDispatch g h dispatch) (dispatch_steps dispatch) s t w
+  pub dispatch_keeps : (dispatch : Option ℕ) (s t : StackValue (Filtered L F)) → RowsBecome (TellsDispatch g h dispatch) s t → Keeps s t
+  dispatch_keeps dispatch s t w = rows_keep s.registry (TellsDispatch g h dispatch) (dispatch_steps dispatch) s t w
 
-  taken_keeps : {A : Type 0} (s t : StackValue (Filtered L F)) (r : Result A RequestError) (leaves : StackValue (Filtered L F) → Type 0) → (leaves t → Keeps g s t) → WhereTaken r s leaves t → Keeps g s t
+  taken_keeps : {A : Type 0} (s t : StackValue (Filtered L F)) (r : Result A RequestError) (leaves : StackValue (Filtered L F) → Type 0) → (leaves t → Keeps s t) → WhereTaken r s leaves t → Keeps s t
   taken_keeps s t (Ok done) leaves f w = f w
-  taken_keeps s t (Err e) leaves f w = keeps_same g s t w
+  taken_keeps s t (Err e) leaves f w = keeps_same s t w
 
-  pub record_keeps : (id : ℕ) (values : PlainValues) (at : At) (s t : StackValue (Filtered L F)) (r : Result (Unit {0}) RequestError) → RecordGives g h id values at s r t → Keeps g s t
+  pub record_keeps : (id : ℕ) (values : PlainValues) (at : At) (s t : StackValue (Filtered L F)) (r : Result (Unit {0}) RequestError) → RecordGives g h id values at s r t → Keeps s t
   record_keeps id values at s t r w =
-      taken_keeps s t r (RowsBecome (TellsSpan g h (Recorded id values) id at s.registry) s) (rows_keep g s.registry (TellsSpan g h (Recorded id values) id at s.registry) (span_steps (Recorded id values) id at s.registry) s t) w.1
+      taken_keeps s t r (RowsBecome (TellsSpan g h (Recorded id values) id at s.registry) s) (rows_keep s.registry (TellsSpan g h (Recorded id values) id at s.registry) (span_steps (Recorded id values) id at s.registry) s t) w.1
 
-  pub follows_keeps : (id follows : ℕ) (at : At) (s t : StackValue (Filtered L F)) (r : Result (Unit {0}) RequestError) → FollowsGives g h id follows at s r t → Keeps g s t
+  pub follows_keeps : (id follows : ℕ) (at : At) (s t : StackValue (Filtered L F)) (r : Result (Unit {0}) RequestError) → FollowsGives g h id follows at s r t → Keeps s t
   follows_keeps id follows at s t r w =
-      taken_keeps s t r (RowsBecome (TellsFollows g h id follows at s.registry) s) (rows_keep g s.registry (TellsFollows g h id follows at s.registry) (follows_steps id follows at s.registry) s t) w.1
+      taken_keeps s t r (RowsBecome (TellsFollows g h id follows at s.registry) s) (rows_keep s.registry (TellsFollows g h id follows at s.registry) (follows_steps id follows at s.registry) s t) w.1
 
-  pub enter_keeps : (id : ℕ) (at : At) (s t : StackValue (Filtered L F)) (r : Result (Unit {0}) RequestError) → EnterGives g h id at s r t → Keeps g s t
+  pub enter_keeps : (id : ℕ) (at : At) (s t : StackValue (Filtered L F)) (r : Result (Unit {0}) RequestError) → EnterGives g h id at s r t → Keeps s t
   enter_keeps id at s t r w =
-      taken_keeps s t r (RowsBecome (TellsSpan g h (Entered id) id at w.0) (over w.0 s)) (rows_keep g w.0 (TellsSpan g h (Entered id) id at w.0) (span_steps (Entered id) id at w.0) s t) w.2
+      taken_keeps s t r (RowsBecome (TellsSpan g h (Entered id) id at w.0) (over w.0 s)) (rows_keep w.0 (TellsSpan g h (Entered id) id at w.0) (span_steps (Entered id) id at w.0) s t) w.2
 
   each_closes : (ss : List PlainSpan) (at : At) (x : RegistryValue) (rows : List (Row (Filtered L F))) (y : RegistryValue) (later : List (Row (Filtered L F))) → ClosesEach g h ss at x rows y later → EachBecomes (Steps g) (filters_of rows) (filters_of later)
   each_closes [] at x rows y later w = subst (λ l. EachBecomes (Steps g) (filters_of rows) (filters_of l)) (sym w.1) (each_put g (filters_of rows))
   each_closes (s ∷ ss) at x rows y later w =
-      each_then g (filters_of rows) (filters_of w.0) (filters_of later) (each_steps g (TellsSpan g h (Closed s.kin.id) s.kin.id at x) (span_steps (Closed s.kin.id) s.kin.id at x) rows w.0 w.1) (each_closes ss at w.2.0 w.0 y later w.2.2)
+      each_then g (filters_of rows) (filters_of w.0) (filters_of later) (each_steps (TellsSpan g h (Closed s.kin.id) s.kin.id at x) (span_steps (Closed s.kin.id) s.kin.id at x) rows w.0 w.1) (each_closes ss at w.2.0 w.0 y later w.2.2)
 
-  ids_closed : (ss : List PlainSpan) (at : At) (x : RegistryValue) (rows : List (Row (Filtered L F))) (y : RegistryValue) (later : List (Row (Filtered L F))) → ClosesEach g h ss at x rows y later → ids_of later ≡ ids_of rows
-  ids_closed [] at x rows y later w = ap ids_of w.1
-  ids_closed (s ∷ ss) at x rows y later w =
-      ids_closed ss at w.2.0 w.0 y later w.2.2 ∙ each_ids g (TellsSpan g h (Closed s.kin.id) s.kin.id at x) (span_steps (Closed s.kin.id) s.kin.id at x) rows w.0 w.1
+  numbers_closed : (ss : List PlainSpan) (at : At) (x : RegistryValue) (rows : List (Row (Filtered L F))) (y : RegistryValue) (later : List (Row (Filtered L F))) → ClosesEach g h ss at x rows y later → numbers_of h later ≡ numbers_of h rows
+  numbers_closed [] at x rows y later w = ap (numbers_of h) w.1
+  numbers_closed (s ∷ ss) at x rows y later w =
+      numbers_closed ss at w.2.0 w.0 y later w.2.2 ∙ each_numbers (TellsSpan g h (Closed s.kin.id) s.kin.id at x) (span_steps (Closed s.kin.id) s.kin.id at x) rows w.0 w.1
 
-  closes_keep : (at : At) (x : RegistryValue) (s t : StackValue (Filtered L F)) → Closes g h at (over x s) t → Keeps g s t
+  closes_keep : (at : At) (x : RegistryValue) (s t : StackValue (Filtered L F)) → Closes g h at (over x s) t → Keeps s t
   closes_keep at x s t w =
       record {
         steps = each_closes (closing_in x) at x s.rows t.registry t.rows w.0;
         sites = ap (λ (v : StackValue (Filtered L F)). v.sites) w.2;
         hint = ap (λ (v : StackValue (Filtered L F)). v.hint) w.2;
-        numbers = ids_closed (closing_in x) at x s.rows t.registry t.rows w.0;
+        numbers = numbers_closed (closing_in x) at x s.rows t.registry t.rows w.0;
       }
 
-  pub exit_keeps : (id : ℕ) (at : At) (s t : StackValue (Filtered L F)) → ExitGives g h id at s t → Keeps g s t
+  pub exit_keeps : (id : ℕ) (at : At) (s t : StackValue (Filtered L F)) → ExitGives g h id at s t → Keeps s t
   exit_keeps id at s t w =
       let x = without_entry s.registry at.lane id in
-      keeps_then g s w.0 t (rows_keep g x (TellsSpan g h (Exited id) id at x) (span_steps (Exited id) id at x) s w.0 w.1) (closes_keep at w.0.registry w.0 t w.2)
+      keeps_then s w.0 t (rows_keep x (TellsSpan g h (Exited id) id at x) (span_steps (Exited id) id at x) s w.0 w.1) (closes_keep at w.0.registry w.0 t w.2)
 
-  pub close_keeps : (id : ℕ) (at : At) (s t : StackValue (Filtered L F)) (r : Bool) → CloseGives g h id at s r t → Keeps g s t
+  pub close_keeps : (id : ℕ) (at : At) (s t : StackValue (Filtered L F)) (r : Bool) → CloseGives g h id at s r t → Keeps s t
   close_keeps id at s t r w = unless (close_refusal s.registry id) w
     where
-      unless : (refusal : Option RequestError) → CloseUnless g h refusal id at s r t → Keeps g s t
+      unless : (refusal : Option RequestError) → CloseUnless g h refusal id at s r t → Keeps s t
       unless None w = closes_keep at (without_handle s.registry id) s t w.1
-      unless (Some refusal) w = keeps_same g s t w.1
+      unless (Some refusal) w = keeps_same s t w.1
 
-  pub clone_keeps : (id : ℕ) (s t : StackValue (Filtered L F)) (r : Result ℕ RequestError) → CloneGives id s r t → Keeps g s t
-  clone_keeps id s t r w = subst (Keeps g s) (sym w.1) (record { steps = each_put g (filters_of s.rows); sites = refl; hint = refl; numbers = refl })
+  pub clone_keeps : (id : ℕ) (s t : StackValue (Filtered L F)) (r : Result ℕ RequestError) → CloneGives id s r t → Keeps s t
+  clone_keeps id s t r w = subst (Keeps s) (sym w.1) (record { steps = each_put g (filters_of s.rows); sites = refl; hint = refl; numbers = refl })
 
-  makes_keeps : (a : PlainAttributes) (at : At) (verdicts : List Bool) (s t : StackValue (Filtered L F)) (r : Result (Option ℕ) RequestError) → MakesSpan g h a at verdicts s r t → Keeps g s t
-  makes_keeps a at verdicts s t r (Ok id, x, taken, made) = rows_keep g x (TellsMade g h (SpanMade a id) id at x) (made_steps (SpanMade a id) id at x) s t made.1
-  makes_keeps a at verdicts s t r (Err e, x, taken, made) = keeps_same g s t made.1
+  makes_keeps : (a : PlainAttributes) (at : At) (verdicts : List Bool) (s t : StackValue (Filtered L F)) (r : Result (Option ℕ) RequestError) → MakesSpan g h a at verdicts s r t → Keeps s t
+  makes_keeps a at verdicts s t r (Ok id, x, taken, made) = rows_keep x (TellsMade g h (SpanMade a id) id at x) (made_steps (SpanMade a id) id at x) s t made.1
+  makes_keeps a at verdicts s t r (Err e, x, taken, made) = keeps_same s t made.1
 
-  module _ (o : Oracle g) where
-    pub span_keeps : (a : PlainAttributes) (at : At) (s t : StackValue (Filtered L F)) (r : Result (Option ℕ) RequestError) → SpanCached g h o a at s r t → Keeps g s t
-    span_keeps a at s t r w = known (knows s.registry (explicit_parent a.parent)) (passes_cached g o s a.metadata at) w
-      where
-        known : (k p : Bool) → SpanKnown g h o k p a at s r t → Keeps g s t
-        known true true w = makes_keeps a at (verdicts_from g o all_pass a.metadata at s.registry s.rows) s t r w
-        known true false w = cleared_keeps g s t w.1
-        known false p w = keeps_same g s t w.1
+  event_steps : (e : PlainEvent) (at : At) (x : RegistryValue) (row later : Row (Filtered L F)) → TellsEvent g h e at x row later → Stepped row later
+  event_steps e at x row later w =
+      let notice = Happened e (view_of at x row) in
+      stepped_put row later (ap (λ (r : Row (Filtered L F)). r.output.filter) w.2) (ap (λ (r : Row (Filtered L F)). r.id) w.2)
+      (told_if w.1.0 row.output.layer notice later.output.layer (h.numbered row.output.layer notice later.output.layer) w.1.2)
 
-    event_steps : (e : PlainEvent) (at : At) (x : RegistryValue) (row later : Row (Filtered L F)) → TellsEvent g h o e at x row later → Stepped g row later
-    event_steps e at x row later w = stepped_put g row later (ap (λ (r : Row (Filtered L F)). r.output.filter) w.2) (ap (λ (r : Row (Filtered L F)). r.id) w.2)
+  pub event_keeps : (e : PlainEvent) (at : At) (s t : StackValue (Filtered L F)) (r : Result (Unit {0}) RequestError) → EventCached g h e at s r t → Keeps s t
+  event_keeps e at s t r w = known (knows s.registry (explicit_parent e.parent)) (is_refused s e.metadata) w
+    where
+      known : (k b : Bool) → WhereKnown k s (TellsUnless g h b e at s) r t → Keeps s t
+      known true true w = cleared_keeps s t w.1
+      known true false w = rows_keep s.registry (TellsEvent g h e at s.registry) (event_steps e at s.registry) s t w.1
+      known false b w = keeps_same s t w.1
 
-    pub event_keeps : (e : PlainEvent) (at : At) (s t : StackValue (Filtered L F)) (r : Result (Unit {0}) RequestError) → EventCached g h o e at s r t → Keeps g s t
-    event_keeps e at s t r w = known (knows s.registry (explicit_parent e.parent)) (is_refused s e.metadata) w
-      where
-        known : (k b : Bool) → WhereKnown k s (TellsUnless g h o b e at s) r t → Keeps g s t
-        known true true w = cleared_keeps g s t w.1
-        known true false w = rows_keep g s.registry (TellsEvent g h o e at s.registry) (event_steps e at s.registry) s t w.1
-        known false b w = keeps_same g s t w.1
+  span_where : (b : Bool) (a : PlainAttributes) (at : At) (verdicts : List Bool) (s t : StackValue (Filtered L F)) (r : Result (Option ℕ) RequestError) → SpanWhere g h b a at verdicts s r t → Keeps s t
+  span_where true a at verdicts s t r w = makes_keeps a at verdicts s t r w
+  span_where false a at verdicts s t r w = cleared_keeps s t w.1
+
+  pub span_keeps : (a : PlainAttributes) (at : At) (s t : StackValue (Filtered L F)) (r : Result (Option ℕ) RequestError) → SpanCached g h a at s r t → Keeps s t
+  span_keeps a at s t r w = known (knows s.registry (explicit_parent a.parent)) (is_refused s a.metadata) w
+    where
+      known : (k b : Bool) → SpanKnown g h k s (SpanUnless g h b a at s) r t → Keeps s t
+      known true true w = cleared_keeps s t w.1
+      known true false w = span_where w.1 a at w.0 s t r w.3
+      known false b w = keeps_same s t w.1

@@ -1,11 +1,10 @@
 //! What holds of every stack.
 ghost use Rattle.span_registry_layers_stack.specs.Numbers.{DroppedTellsNobody, NumbersStay, VerdictsAreOwn};
-ghost use Rattle.span_registry_layers_layers.specs.Oracles.{Oracle};
+ghost use Rattle.span_registry_layers_stack.specs.Soundness.{NewIsSound, StackStaysSound};
 
-use span_registry_layers_layers::{And, Filter, Layer};
-use tracing_core::LevelFilter;
+use span_registry_layers_layers::{Filter, Layer};
 
-/// An event that no output's filter passes changes no layer and no filter.
+/// An event that no output's filter passes changes no layer and no filter, where the filters are honest.
 pub fn dropped_events_tell_nobody<L: Layer, F: Filter>()
     ensures { DroppedTellsNobody ⟦<F as Filter>⟧ ⟦<L as Layer>⟧ }
 {}
@@ -15,17 +14,15 @@ pub fn numbers_stay<L: Layer, F: Filter>()
     ensures { NumbersStay ⟦<F as Filter>⟧ ⟦<L as Layer>⟧ }
 {}
 
-/// What is kept with a new span is, of each output, what its filter answered when the span was made.
+/// What is kept with a new span is, of each output, what its filter answered when the span was made, and what the filters
+/// in its layer said then.
 pub fn verdicts_are_own<L: Layer, F: Filter>()
     ensures { VerdictsAreOwn ⟦<F as Filter>⟧ ⟦<L as Layer>⟧ }
 {}
 
-/// What level filters answer are functions, so a stack of them is steady while what it keeps is right.
-pub fn level_filters_answer_by_functions()
-    ensures { Oracle ⟦<LevelFilter as Filter>⟧ }
-{}
-
-/// Where two filters' answers are functions, so are those of both together.
-pub fn both_answer_by_functions<A: Filter, B: Filter>()
-    ensures { Oracle ⟦<A as Filter>⟧ → Oracle ⟦<B as Filter>⟧ → Oracle ⟦<And<A, B> as Filter>⟧ }
+/// The registry of a new stack is sound, and each call keeps it so: ids rise, parents stand before their children, and
+/// the listed spans are the open ones. So closes are told of a child before its parent.
+pub fn stack_registry_stays_sound<L: Layer, F: Filter>()
+    ensures start { NewIsSound ⟦<F as Filter>⟧ ⟦<L as Layer>⟧ }
+    ensures call { StackStaysSound ⟦<F as Filter>⟧ ⟦<L as Layer>⟧ }
 {}

@@ -12,10 +12,9 @@ mod stack;
 mod subscriber;
 
 pub use laws::{
-    both_answer_by_functions, dropped_events_tell_nobody, level_filters_answer_by_functions,
-    numbers_stay, verdicts_are_own,
+    dropped_events_tell_nobody, numbers_stay, stack_registry_stays_sound, verdicts_are_own,
 };
-pub use output::{Output, StackError, UnknownOutput};
+pub use output::{Output, StackError, StackRefusal, UnknownOutput};
 pub use stack::Stack;
 
 #[cfg(test)]

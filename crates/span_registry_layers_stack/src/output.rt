@@ -1,8 +1,9 @@
 //! Outputs that a stack is made of.
-ghost use Rattle.std.specs.Prelude.{◌≡◌};
+ghost use Rattle.std.specs.Prelude.{◌≡◌, nat_le};
 ghost use Rattle.span_registry_layers_store.specs.Spans.{is_member};
-ghost use Rattle.span_registry_layers_stack.specs.New.{has_equal_keys, keys_of, new_refusal};
+ghost use Rattle.span_registry_layers_stack.specs.New.{filters_in, has_equal_keys, keys_of, new_refusal};
 
+use span_registry_layers_layers::{Filter, Filtered, Layer};
 use span_registry_layers_store::OutputKey;
 use thiserror::Error;
 
@@ -24,12 +25,22 @@ pub enum StackError {
     /// There is no output.
     #[error("a stack has at least one output")]
     NoOutput,
-    /// There are more than 64 outputs, each with a filter.
+    /// There are more than 64 filters: each output has one, and a layer may have more.
     #[error("a stack has at most 64 filters")]
     TooManyFilters,
     /// Two outputs have the same key.
     #[error("two outputs have the same key")]
     EqualKeys,
+}
+
+/// A stack that was not made. The outputs are as they were.
+#[derive(Debug, Drop, Error)]
+#[error("{error}")]
+pub struct StackRefusal<O> {
+    /// Why it was not made.
+    pub error: StackError,
+    /// The outputs, in order.
+    pub outputs: Vec<Output<O>>,
 }
 
 /// The stack has no output at this place.
@@ -63,13 +74,29 @@ fn has_equal_keys<O>(outputs: &[Output<O>]) -> bool
     false
 }
 
+// Whether a registry takes the filters of all outputs.
+fn have_room<L: Layer, F: Filter>(outputs: &[Output<Filtered<L, F>>]) -> bool
+    ensures { result ≡ nat_le (filters_in ⟦<L as Layer>⟧ outputs.now) 64 }
+{
+    let mut room = 64;
+    let mut rest = outputs;
+    while let [first, later @ ..] = rest {
+        match first.output.room_left(room) {
+            None => return false,
+            Some(left) => room = left,
+        }
+        rest = later;
+    }
+    true
+}
+
 // Why no stack is made of these, where it isn't.
-pub(crate) fn refusal<O>(outputs: &[Output<O>]) -> Option<StackError>
-    ensures { result ≡ new_refusal outputs.now }
+pub(crate) fn refusal<L: Layer, F: Filter>(outputs: &[Output<Filtered<L, F>>]) -> Option<StackError>
+    ensures { result ≡ new_refusal ⟦<L as Layer>⟧ outputs.now }
 {
     if outputs.is_empty() {
         Some(StackError::NoOutput)
-    } else if outputs.len() > 64 {
+    } else if !have_room(outputs) {
         Some(StackError::TooManyFilters)
     } else if has_equal_keys(outputs) {
         Some(StackError::EqualKeys)

@@ -4,11 +4,10 @@ ghost use Rattle.std.specs.Option.{option_copied};
 ghost use Rattle.tracing_core.specs.Metadata.{plain_metadata};
 ghost use Rattle.tracing_core.specs.PlainRequests.{plain_event};
 ghost use Rattle.span_registry_layers_store.specs.Registries.{knows};
-ghost use Rattle.span_registry_layers_layers.specs.Oracles.{Oracle};
-ghost use Rattle.span_registry_layers_stack.specs.Asked.{common_hint, common_interest};
+ghost use Rattle.span_registry_layers_stack.specs.Asked.{CommonInterest, common_hint};
 ghost use Rattle.span_registry_layers_stack.specs.Rows.{filters_of};
 ghost use Rattle.span_registry_layers_stack.specs.Sites.{Keeps, plain_site};
-ghost use Rattle.span_registry_layers_stack.specs.Stacks.{EventCached, Registers, TellsAll, cleared, is_above, is_refused, passes_cached, plain_stack, with_hint};
+ghost use Rattle.span_registry_layers_stack.specs.Stacks.{EventCached, PassesCached, Registers, TellsAll, cleared, is_above, is_refused, plain_stack, with_hint};
 
 mod new;
 mod spans;
@@ -84,7 +83,7 @@ impl<O> StackParts<O> {
 impl<L: Layer, F: Filter> StackParts<Filtered<L, F>> {
     // Asks all filters of a callsite, and keeps what they have in common where there is room.
     pub(crate) fn register(&mut self, metadata: &Metadata<'_>) -> Interest
-        ensures answer { (o : Oracle ⟦<F as Filter>⟧) → result ≡ common_interest ⟦<F as Filter>⟧ o (plain_metadata metadata.now) (filters_of self.old.rows.items) }
+        ensures answer { CommonInterest ⟦<F as Filter>⟧ (plain_metadata metadata.now) (filters_of self.old.rows.items) result }
         ensures left { Registers (plain_metadata metadata.now) result (plain_stack self.old) (plain_stack self.new) }
     {
         let interest = ask_interest(&self.rows, metadata);
@@ -103,20 +102,20 @@ impl<L: Layer, F: Filter> StackParts<Filtered<L, F>> {
 
     // Whether some filter passes it, and false where what is kept refuses it.
     pub(crate) fn enabled(&self, metadata: &Metadata<'_>, at: At) -> bool
-        ensures { (o : Oracle ⟦<F as Filter>⟧) → result ≡ passes_cached ⟦<F as Filter>⟧ o (plain_stack self.now) (plain_metadata metadata.now) at }
+        ensures { PassesCached ⟦<F as Filter>⟧ (plain_stack self.now) (plain_metadata metadata.now) at result }
     {
         !self.refuses(metadata) && any_passes(&self.rows, metadata, &self.registry, at)
     }
 
     fn tell(&mut self, event: &Event<'_, '_>, at: At)
-        ensures { (o : Oracle ⟦<F as Filter>⟧) → TellsAll ⟦<F as Filter>⟧ ⟦<L as Layer>⟧ o (plain_event event.now) at (plain_stack self.old) (plain_stack self.new) }
+        ensures { TellsAll ⟦<F as Filter>⟧ ⟦<L as Layer>⟧ (plain_event event.now) at (plain_stack self.old) (plain_stack self.new) }
     {
         tell_event(&mut self.rows, event, &self.registry, at);
     }
 
     // Tells each output that passes the event, and asks nobody where what is kept refuses it.
     pub(crate) fn event(&mut self, event: &Event<'_, '_>, at: At) -> Result<(), RequestError>
-        ensures { (o : Oracle ⟦<F as Filter>⟧) → EventCached ⟦<F as Filter>⟧ ⟦<L as Layer>⟧ o (plain_event event.now) at (plain_stack self.old) result (plain_stack self.new) }
+        ensures { EventCached ⟦<F as Filter>⟧ ⟦<L as Layer>⟧ (plain_event event.now) at (plain_stack self.old) result (plain_stack self.new) }
     {
         if !self.knows(event.parent()) {
             return Err(RequestError::UnknownParent);

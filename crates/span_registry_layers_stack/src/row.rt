@@ -1,16 +1,17 @@
 //! One output of a stack.
-ghost use Rattle.std.specs.Prelude.{◌≡◌, ◌&&◌, false};
+ghost use Rattle.std.specs.Prelude.{◌≡◌, false};
 ghost use Rattle.tracing_core.specs.Metadata.{plain_metadata};
 ghost use Rattle.tracing_core.specs.PlainRequests.{plain_event};
+ghost use Rattle.span_registry_layers_layers.specs.Combined.{Then};
 ghost use Rattle.span_registry_layers_layers.specs.Notices.{Happened};
-ghost use Rattle.span_registry_layers_layers.specs.Oracles.{Oracle};
-ghost use Rattle.span_registry_layers_stack.specs.Rows.{TellsEvent, marked, row_passes, row_wants, view_of, with_layer};
+ghost use Rattle.span_registry_layers_stack.specs.Asked.{AsksRow};
+ghost use Rattle.span_registry_layers_stack.specs.Rows.{TellsEvent, marked, view_of, with_layer};
 ghost use Rattle.span_registry_layers_stack.specs.Swaps.{with_filter};
 
 mod spans;
 
 use span_registry_layers_layers::{Context, Filter, Filtered, Layer};
-use span_registry_layers_store::{FilterId, OutputKey, Registry};
+use span_registry_layers_store::{FilterId, FilterMap, OutputKey, Registry};
 use tracing_core::{At, Event, Interest, LevelFilter, Metadata};
 
 /// An output, its key, the number of its filter, and whether its filter passed the last request.
@@ -56,15 +57,36 @@ impl<L: Layer, F: Filter> Row<Filtered<L, F>> {
 
     // Whether its filter passes what is made of the callsite.
     pub(crate) fn passes(&self, metadata: &Metadata<'_>, registry: &Registry, at: At) -> bool
-        ensures { (o : Oracle ⟦<F as Filter>⟧) → result ≡ row_passes ⟦<F as Filter>⟧ o (plain_metadata metadata.now) at registry.now self.now }
+        ensures { F.answers self.now.output.filter (plain_metadata metadata.now) (view_of at registry.now self.now) result }
     {
         let context = Context::new(registry, at, Some(self.id));
         self.output.filter().enabled(metadata, &context)
     }
 
+    // Asks its filter of a new span, and then the filters in its layer: what was known with what they say, and whether
+    // its own passes.
+    pub(crate) fn ask_span(
+        &self,
+        metadata: &Metadata<'_>,
+        registry: &Registry,
+        at: At,
+        verdicts: FilterMap,
+    ) -> (FilterMap, bool)
+        ensures { AsksRow ⟦<F as Filter>⟧ ⟦<L as Layer>⟧ (plain_metadata metadata.now) at registry.now self.now verdicts.passed result.0.passed result.1 }
+    {
+        let passes = self.passes(metadata, registry, at);
+        let own = verdicts.with(self.id, passes);
+        let context = Context::new(registry, at, Some(self.id));
+        let (said, _heard) = self
+            .output
+            .inner()
+            .ask_span(metadata, &context, passes, own);
+        (said, passes)
+    }
+
     // Whether its filter passes the event, whose callsite it passes.
     fn wants(&self, event: &Event<'_, '_>, registry: &Registry, at: At) -> bool
-        ensures { (o : Oracle ⟦<F as Filter>⟧) → result ≡ row_wants ⟦<F as Filter>⟧ o (plain_event event.now) at registry.now self.now }
+        ensures { F.event_answers self.now.output.filter (plain_event event.now) (view_of at registry.now self.now) result }
     {
         let context = Context::new(registry, at, Some(self.id));
         self.output.filter().event_enabled(event, &context)
@@ -72,7 +94,7 @@ impl<L: Layer, F: Filter> Row<Filtered<L, F>> {
 
     // The same, where it is known what it passes of the callsite.
     fn hears(&self, passes: bool, event: &Event<'_, '_>, registry: &Registry, at: At) -> bool
-        ensures { (o : Oracle ⟦<F as Filter>⟧) → result ≡ (passes && row_wants ⟦<F as Filter>⟧ o (plain_event event.now) at registry.now self.now) }
+        ensures { Then (F.event_answers self.now.output.filter (plain_event event.now) (view_of at registry.now self.now)) passes result }
     {
         passes && self.wants(event, registry, at)
     }
@@ -88,7 +110,7 @@ impl<L: Layer, F: Filter> Row<Filtered<L, F>> {
 
     // Asks its filter of the event, and tells its layer where that passes it.
     pub(crate) fn event(&mut self, event: &Event<'_, '_>, registry: &Registry, at: At)
-        ensures { (o : Oracle ⟦<F as Filter>⟧) → TellsEvent ⟦<F as Filter>⟧ ⟦<L as Layer>⟧ o (plain_event event.now) at registry.now self.old self.new }
+        ensures { TellsEvent ⟦<F as Filter>⟧ ⟦<L as Layer>⟧ (plain_event event.now) at registry.now self.old self.new }
     {
         let passes = self.passes(event.metadata(), registry, at);
         let hears = self.hears(passes, event, registry, at);

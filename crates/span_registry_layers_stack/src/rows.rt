@@ -4,10 +4,8 @@ ghost use Rattle.tracing_core.specs.Asking.{joined, settled};
 ghost use Rattle.tracing_core.specs.Metadata.{plain_metadata};
 ghost use Rattle.tracing_core.specs.PlainRequests.{plain_event};
 ghost use Rattle.span_registry_layers_store.specs.Verdicts.{all_pass};
-ghost use Rattle.span_registry_layers_layers.specs.Oracles.{Oracle};
-ghost use Rattle.span_registry_layers_stack.specs.Asked.{any_passes, common_interest, common_hint, higher_hint};
+ghost use Rattle.span_registry_layers_stack.specs.Asked.{AsksFrom, CommonInterest, SomePasses, common_hint, higher_hint};
 ghost use Rattle.span_registry_layers_stack.specs.Rows.{EachBecomes, TellsEvent, filters_of, marked};
-ghost use Rattle.span_registry_layers_stack.specs.Hearing.{verdicts_from};
 
 mod spans;
 
@@ -26,7 +24,7 @@ pub(crate) fn tell_event<L: Layer, F: Filter>(
     registry: &Registry,
     at: At,
 )
-    ensures { (o : Oracle ⟦<F as Filter>⟧) → EachBecomes (TellsEvent ⟦<F as Filter>⟧ ⟦<L as Layer>⟧ o (plain_event event.now) at registry.now) rows.old rows.new }
+    ensures { EachBecomes (TellsEvent ⟦<F as Filter>⟧ ⟦<L as Layer>⟧ (plain_event event.now) at registry.now) rows.old rows.new }
 {
     for row in rows.iter_mut() {
         row.event(event, registry, at);
@@ -49,7 +47,7 @@ pub(crate) fn any_passes<L: Layer, F: Filter>(
     registry: &Registry,
     at: At,
 ) -> bool
-    ensures { (o : Oracle ⟦<F as Filter>⟧) → result ≡ any_passes ⟦<F as Filter>⟧ o (plain_metadata metadata.now) at registry.now rows.now }
+    ensures { SomePasses ⟦<F as Filter>⟧ (plain_metadata metadata.now) at registry.now rows.now result }
 {
     let mut rest = rows;
     while let [row, later @ ..] = rest {
@@ -61,22 +59,23 @@ pub(crate) fn any_passes<L: Layer, F: Filter>(
     false
 }
 
-// Asks each filter of a new span: which ones pass it, and whether one does.
+// Asks each filter of a new span, also those in layers: which ones pass it, and whether an output's own does.
 pub(crate) fn ask_span<L: Layer, F: Filter>(
     rows: &[Row<Filtered<L, F>>],
     metadata: &Metadata<'_>,
     registry: &Registry,
     at: At,
 ) -> (FilterMap, bool)
-    ensures verdicts { (o : Oracle ⟦<F as Filter>⟧) → result.0.passed ≡ verdicts_from ⟦<F as Filter>⟧ o all_pass (plain_metadata metadata.now) at registry.now rows.now }
-    ensures some { (o : Oracle ⟦<F as Filter>⟧) → result.1 ≡ any_passes ⟦<F as Filter>⟧ o (plain_metadata metadata.now) at registry.now rows.now }
+    ensures { AsksFrom ⟦<F as Filter>⟧ ⟦<L as Layer>⟧ (plain_metadata metadata.now) at registry.now all_pass false rows.now result.0.passed result.1 }
 {
     let mut verdicts = FilterMap::all();
     let mut some = false;
-    for row in rows {
-        let passes = row.passes(metadata, registry, at);
-        verdicts = verdicts.with(row.id, passes);
+    let mut rest = rows;
+    while let [row, later @ ..] = rest {
+        let (said, passes) = row.ask_span(metadata, registry, at, verdicts);
+        verdicts = said;
         some = some || passes;
+        rest = later;
     }
     (verdicts, some)
 }
@@ -105,11 +104,13 @@ pub(crate) fn ask_interest<L: Layer, F: Filter>(
     rows: &[Row<Filtered<L, F>>],
     metadata: &Metadata<'_>,
 ) -> Interest
-    ensures { (o : Oracle ⟦<F as Filter>⟧) → result ≡ common_interest ⟦<F as Filter>⟧ o (plain_metadata metadata.now) (filters_of rows.now) }
+    ensures { CommonInterest ⟦<F as Filter>⟧ (plain_metadata metadata.now) (filters_of rows.now) result }
 {
     let mut interest = None;
-    for row in rows {
+    let mut rest = rows;
+    while let [row, later @ ..] = rest {
         interest = join(interest, row.interest(metadata));
+        rest = later;
     }
     settle(interest)
 }

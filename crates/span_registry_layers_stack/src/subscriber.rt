@@ -10,20 +10,22 @@ use tracing_core::{
 /// filter passes: each filter is asked once, when the event is handed over.
 impl<L: Layer, F: Filter> Subscriber for Stack<Filtered<L, F>> {
     ghost use Rattle.std.specs.Prelude.{Some};
-    ghost use Rattle.span_registry_layers_stack.specs.Asked.{common_hint};
-    ghost use Rattle.span_registry_layers_stack.specs.Moves.{AnswersOf, IsSteady, Moves, SaysOf};
+    ghost use Rattle.span_registry_layers_stack.specs.Asked.{CommonInterest, common_hint};
+    ghost use Rattle.span_registry_layers_stack.specs.Moves.{Moves};
     ghost use Rattle.span_registry_layers_stack.specs.Rows.{filters_of};
+    ghost use Rattle.span_registry_layers_stack.specs.Stacks.{PassesCached};
     ghost use Rattle.span_registry_layers_stack.specs.Steadiness.{asked_stays, stack_fair, stack_quiet, stack_single, stack_stays};
+    ghost use Rattle.span_registry_layers_stack.specs.Words.{Word};
 
-    ghost answers = { λ x m at b. AnswersOf ⟦<F as Filter>⟧ x m at b };
+    ghost answers = { λ x m at b. PassesCached ⟦<F as Filter>⟧ x m at b };
 
-    ghost says = { λ x m k. SaysOf ⟦<F as Filter>⟧ (filters_of x.rows) m k };
+    ghost says = { λ x m k. CommonInterest ⟦<F as Filter>⟧ m (filters_of x.rows) k };
 
     ghost hint = { λ x. common_hint ⟦<F as Filter>⟧ (Some 0) (filters_of x.rows) };
 
     ghost moves = { λ x c r y. Moves ⟦<F as Filter>⟧ ⟦<L as Layer>⟧ x c r y };
 
-    ghost steady = { λ x. IsSteady ⟦<F as Filter>⟧ x };
+    ghost steady = { λ x. Word ⟦<F as Filter>⟧ x };
 
     ghost fair = { λ x k. stack_fair ⟦<F as Filter>⟧ x k };
 

@@ -1,15 +1,17 @@
 //! Stacks.
 
 mod calls;
+mod counting;
 mod filters;
+mod inner;
 mod journal;
 mod place;
 mod refused;
 mod through;
 
-use crate::{Output, Stack, StackError};
+use crate::{Output, Stack, StackError, StackRefusal};
 use journal::{Journal, Told};
-use span_registry_layers_layers::{Filter, Filtered};
+use span_registry_layers_layers::{Filter, Filtered, Layer};
 use span_registry_layers_store::OutputKey;
 use std::alloc::Global;
 use std::test::Fail;
@@ -46,12 +48,12 @@ fn stack_of<F: Filter>(
         .push(output_of(alloc, 2, second))
         .ok()
         .ok_or("room")?;
-    Ok(Stack::new(alloc, outputs)?)
+    Ok(Stack::new(alloc, outputs).ok().ok_or("a stack")?)
 }
 
 /// Hands over an event of this level.
-fn tell<F: Filter>(
-    stack: &mut Stack<Filtered<Journal, F>>,
+fn tell<L: Layer, F: Filter>(
+    stack: &mut Stack<Filtered<L, F>>,
     target: &str,
     level: Level,
 ) -> Result<(), RequestError> {
@@ -61,8 +63,8 @@ fn tell<F: Filter>(
 }
 
 /// Makes a span of this level under the current one.
-fn make<F: Filter>(
-    stack: &mut Stack<Filtered<Journal, F>>,
+fn make<L: Layer, F: Filter>(
+    stack: &mut Stack<Filtered<L, F>>,
     target: &str,
     level: Level,
 ) -> Result<Option<Id>, RequestError> {

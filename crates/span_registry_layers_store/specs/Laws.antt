@@ -1,5 +1,5 @@
 -- Laws of registries.
-use Rattle.std.specs.Prelude.{◌≡◌, ◌<◌, ℕ, ◌+◌, List, ◌⊎◌, [], ◌∷◌, Bool, true, false, ◌||◌, nat_lt, Option, Some, None, Result}
+use Rattle.std.specs.Prelude.{◌≡◌, ◌<◌, ℕ, ◌+◌, List, ◌⊎◌, [], ◌∷◌, map, Bool, true, false, ◌||◌, nat_lt, Option, Some, None, Result}
 use Rattle.std.specs.List.{AllByRecursion}
 use Rattle.tracing_core.specs.Parent.{Parent}
 use Rattle.tracing_core.specs.PlainMetadata.{PlainMetadata}
@@ -9,6 +9,7 @@ use Rattle.span_registry_layers_store.specs.Keeping.{InsertsSlot, RemovesSlot, R
 use Rattle.span_registry_layers_store.specs.Registries.{PlainSpan, RegistryValue, kin_in, new_registry, swept, without_entry}
 use Rattle.span_registry_layers_store.specs.Slots.{PlainSlot}
 use Rattle.span_registry_layers_store.specs.Spans.{ancestry, closed_of, has_child, is_entered, is_member, is_open, line_of, open_of}
+use Rattle.span_registry_layers_store.specs.Views.{scope_of}
 use Rattle.span_registry_layers_store.specs.declared.filter_map.FilterId.{FilterId}
 use Rattle.span_registry_layers_store.specs.declared.filter_map.TooManyFilters.{TooManyFilters}
 use Rattle.span_registry_layers_store.specs.declared.slot.InsertError.{InsertError}
@@ -81,3 +82,7 @@ StaysSound = (x : RegistryValue) → IsSound x → CallsStaySound x
 -- a line of ancestors is whole: a longer walk finds no more
 abbrev pub LineIsWhole : Type 0
 LineIsWhole = (ss : List PlainSpan) (id more : ℕ) → IsOrdered [] 0 ss → is_open kin_in ss id ≡ true → ancestry kin_in ss (id + more) (Some id) ≡ line_of kin_in ss id
+
+-- and in a sound registry each id of it is that of an open span, so that where no filter looks none is passed over
+abbrev pub LineIsShown : Type 0
+LineIsShown = (x : RegistryValue) (id : ℕ) → IsSound x → is_open kin_in x.spans id ≡ true → map (λ (s : PlainSpan). s.kin.id) (scope_of x None id) ≡ line_of kin_in x.spans id

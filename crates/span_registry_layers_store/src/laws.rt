@@ -1,6 +1,6 @@
 //! Laws of registries.
 
-ghost use Rattle.span_registry_layers_store.specs.Laws.{ClosesChildFirst, LineIsWhole, OpenIsClosedUp, OpenIsLeast, StartsSound, StaysSound};
+ghost use Rattle.span_registry_layers_store.specs.Laws.{ClosesChildFirst, LineIsShown, LineIsWhole, OpenIsClosedUp, OpenIsLeast, StartsSound, StaysSound};
 
 /// The open spans are the least set that holds each span with a handle or an entry, and the parents of its members.
 pub fn open_is_least()
@@ -20,7 +20,8 @@ pub fn registry_stays_sound()
     ensures call { StaysSound }
 {}
 
-/// The ancestors of an open span are all shown.
+/// The ancestors of an open span are all shown: a longer walk finds no more, and in a sound registry each of them is open.
 pub fn line_is_whole()
-    ensures { LineIsWhole }
+    ensures whole { LineIsWhole }
+    ensures shown { LineIsShown }
 {}

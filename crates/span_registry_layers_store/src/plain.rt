@@ -139,14 +139,15 @@ pub(crate) fn line_of(alloc: Global, spans: &[Span], id: Id) -> Result<Vec<Id>, 
 pub(crate) fn current(lane: &[Id]) -> Option<Id>
     ensures { result ≡ current lane.now }
 {
-    let mut latest = None;
-    for place in 0..lane.len() {
-        let id = lane[place];
-        if !is_member(&lane[..place], id) {
-            latest = Some(id);
+    let mut rest = lane.len();
+    while rest > 0 {
+        rest -= 1;
+        let id = lane[rest];
+        if !is_member(&lane[..rest], id) {
+            return Some(id);
         }
     }
-    latest
+    None
 }
 
 /// Takes out the last entry of an id, if there is one.

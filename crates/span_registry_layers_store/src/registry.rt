@@ -1,12 +1,12 @@
 //! The registry of spans.
 
-ghost use Rattle.std.specs.Prelude.{◌≡◌, IfOk, MatchOption, None};
+ghost use Rattle.std.specs.Prelude.{◌≡◌, ◌<◌, ◌≤◌, ◌-◌, IfNone, IfOk, IfSome, MatchOption, None};
 ghost use Rattle.std.specs.Borrow.{sem};
 ghost use Rattle.std.specs.Option.{option_map};
 ghost use Rattle.tracing_core.specs.Handles.{or_refused};
 ghost use Rattle.tracing_core.specs.PlainRequests.{plain_attributes};
 ghost use Rattle.span_registry_layers_store.specs.Copies.{CopyOf};
-ghost use Rattle.span_registry_layers_store.specs.Gives.{EntryGives, FilterGives, ForgetGives, IsNext, IsSettled, SpanGives, clone_gives, close_gives, follow_refusal, give_up_gives, open_refusal};
+ghost use Rattle.span_registry_layers_store.specs.Gives.{EntryGives, FilterGives, ForgetGives, IsNext, IsSettled, SpanGives, clone_gives, close_gives, follow_refusal, give_up_gives, most, open_refusal};
 ghost use Rattle.span_registry_layers_store.specs.Keeping.{InsertsSlot, RemovesSlot, ReplacesSlot};
 ghost use Rattle.span_registry_layers_store.specs.Lanes.{lane_at};
 ghost use Rattle.span_registry_layers_store.specs.SlotLoans.{LendsSlots, slots_of};
@@ -14,7 +14,7 @@ ghost use Rattle.span_registry_layers_store.specs.Lookups.{plain_data};
 ghost use Rattle.span_registry_layers_store.specs.Registries.{current_on, kin_in, new_registry, swept, without_entry};
 ghost use Rattle.span_registry_layers_store.specs.References.{plain_ref, ref_of};
 ghost use Rattle.span_registry_layers_store.specs.Slots.{plain_slot};
-ghost use Rattle.span_registry_layers_store.specs.Spans.{found, is_open, parent_of};
+ghost use Rattle.span_registry_layers_store.specs.Spans.{found, handles_of, is_open, parent_of};
 ghost use Rattle.span_registry_layers_store.specs.Views.{current_under, mask_of, seen};
 
 use crate::extensions::ExtensionsMut;
@@ -36,7 +36,7 @@ use tracing_core::{Attributes, Id, RequestError};
 /// A contract sees a registry as a `RegistryValue`.
 #[derive(Debug, Drop)]
 pub struct Registry {
-    parts: RegistryParts,
+    pub(crate) parts: RegistryParts,
 }
 
 impl Model for Registry {
@@ -80,6 +80,13 @@ impl Registry {
         ensures { FilterGives self.old result self.new }
     {
         self.parts.register_filter()
+    }
+
+    /// How many more filters it takes.
+    pub fn filter_room(&self) -> u8
+        ensures { result ≡ 64 - self.now.filters }
+    {
+        64u8.saturating_sub(self.parts.filters)
     }
 
     /// Makes a span with one handle, and answers its id. Its parent is the one that is named, else none, else
@@ -195,6 +202,24 @@ impl Registry {
         ensures { result ≡ is_open kin_in self.now.spans span.now }
     {
         self.parts.is_open(*span)
+    }
+
+    /// How many handles a span has, and 0 where it is not open.
+    pub fn handles_of(&self, span: &Id) -> usize
+        ensures { result ≡ handles_of kin_in self.now.spans span.now }
+    {
+        self.parts.handles_of(*span)
+    }
+
+    /// The number of the next span's id, where one is left.
+    pub fn next_id(&self) -> Option<u64>
+        ensures some { IfSome result (λ id. (id ≡ self.now.next_id) × (id ≤ most)) }
+        ensures none { IfNone result (most < self.now.next_id) }
+    {
+        match self.parts.next_id {
+            None => None,
+            Some(id) => Some(id.into_u64()),
+        }
     }
 
     /// What is kept of an open span.

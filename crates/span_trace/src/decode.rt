@@ -16,15 +16,15 @@ use members::Members;
 use serde_json::Value as Json;
 pub(crate) use setup::{CallsiteLine, LaneLine, OutputLine, Setup, SinkLine, StackLine};
 use setup::{callsite_line, lane_line, stack_line};
-use span_tracing::Step;
 use std::alloc::Global;
 use step::step_line;
+pub(crate) use step::{NamedValue, RecordLine, StepLine};
 
 /// A line of the input.
 #[derive(Debug, Drop)]
 pub(crate) enum Line {
     Setup(Setup),
-    Step(Step),
+    Step(StepLine),
 }
 
 /// Whether some number in the value, at any depth, is no whole number of 64 bits.
@@ -70,7 +70,8 @@ fn parse(alloc: Global, bytes: &[u8]) -> Result<Json, LineFault>
     }
 }
 
-/// Reads one line. Value lists name the fields of the first callsite in `setup` with the step's id.
+/// Reads one line. Value lists name the fields of the first callsite in `setup` with the step's id, those of a record the
+/// fields of any callsite.
 ///
 /// # Errors
 ///

@@ -6,6 +6,7 @@ mod fault;
 mod print;
 mod program;
 mod read;
+mod run;
 mod script;
 mod setup;
 

@@ -6,6 +6,7 @@ ghost use Rattle.span_trace.specs.Arguments.{asks_replay};
 use crate::fault::Stop;
 use crate::print::{PrintFault, write_files, write_replies};
 use crate::read::Input;
+use crate::run::run_steps;
 use crate::script::Script;
 use crate::setup::Stage;
 use span_tracing::{MemoryFolder, Reply, Trace};
@@ -50,8 +51,12 @@ fn asks_replay(arguments: &[String]) -> bool
 fn replay<R: Read>(alloc: Global, input: &mut R) -> Result<Answer, Stop> {
     let read = Input::read(alloc, input)?;
     let Script { setup, steps } = Script::read(alloc, &read)?;
-    let Stage { mut trace, folder } = Stage::set_up(alloc, setup)?;
-    let replies = trace.run(steps.as_slice())?;
+    let Stage {
+        mut trace,
+        callsites,
+        folder,
+    } = Stage::set_up(alloc, setup)?;
+    let replies = run_steps(alloc, &mut trace, callsites.as_slice(), steps)?;
     Ok(Answer {
         replies,
         trace,

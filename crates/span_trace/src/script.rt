@@ -1,16 +1,15 @@
 //! The whole input, as setup calls and the steps after them.
 
-use crate::decode::{Line, Setup, decode_line};
+use crate::decode::{Line, Setup, StepLine, decode_line};
 use crate::fault::{LineFault, Stop};
 use crate::read::Input;
-use span_tracing::Step;
 use std::alloc::Global;
 
 /// What an input asks for. The setup call of line N stands at place N - 1.
 #[derive(Debug, Drop)]
 pub(crate) struct Script {
     pub(crate) setup: Vec<Setup>,
-    pub(crate) steps: Vec<Step>,
+    pub(crate) steps: Vec<StepLine>,
 }
 
 impl Script {

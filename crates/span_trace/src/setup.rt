@@ -11,10 +11,11 @@ use span_tracing::{
 use std::alloc::{AllocError, Global};
 use tracing_core::{FieldSet, Identifier, Metadata};
 
-/// A trace that is set up, and the name under which the files of its sink are shown.
+/// A trace that is set up, its callsites' lines, and the name under which the files of its sink are shown.
 #[derive(Drop)]
 pub(crate) struct Stage {
     pub(crate) trace: Trace<MemoryFolder>,
+    pub(crate) callsites: Vec<CallsiteLine>,
     pub(crate) folder: Option<String>,
 }
 
@@ -27,6 +28,7 @@ impl Stage {
     pub(crate) fn set_up(alloc: Global, setup: Vec<Setup>) -> Result<Stage, Stop> {
         let mut stage = Stage {
             trace: Trace::new(alloc),
+            callsites: Vec::new(alloc),
             folder: None,
         };
         let mut number: u64 = 0;
@@ -42,7 +44,7 @@ impl Stage {
     fn make(&mut self, alloc: Global, call: Setup) -> Result<(), LineFault> {
         match call {
             Setup::Stack(line) => self.add_stack(alloc, line),
-            Setup::Callsite(line) => self.register(alloc, &line).map_err(LineFault::Refused),
+            Setup::Callsite(line) => self.add_callsite(alloc, line),
             Setup::Lane(line) => self.add_lane(&line).map_err(LineFault::Refused),
         }
     }
@@ -113,6 +115,11 @@ impl Stage {
             builder = builder.filename_suffix(text);
         }
         SinkSpec::Direct(builder, MemoryFolder::new(alloc))
+    }
+
+    fn add_callsite(&mut self, alloc: Global, line: CallsiteLine) -> Result<(), LineFault> {
+        self.register(alloc, &line).map_err(LineFault::Refused)?;
+        Ok(self.callsites.push(line)?)
     }
 
     fn register(&mut self, alloc: Global, line: &CallsiteLine) -> Result<(), Refusal> {

@@ -1,5 +1,5 @@
 -- A step keeps the agreement.
-use Rattle.std.proofs.Common.{◌≡◌, ℕ, List, [], ◌∷◌, ◌++◌, map, Option, Some, None, subst, refl, sym, ap, ◌∙◌}
+use Rattle.std.proofs.Common.{◌==◌, if◌then◌else◌, Bool, true, false, ◌≡◌, ℕ, List, [], ◌∷◌, ◌++◌, map, Option, Some, None, subst, refl, sym, ap, ◌∙◌}
 use Rattle.std.specs.Option.{option_map}
 use Rattle.std.proofs.lemmas.List.{append-nil, map-append}
 use Rattle.tracing_appender_rolling.specs.Contents.{Contents}
@@ -7,14 +7,17 @@ use Rattle.tracing_appender_rolling.specs.Sinks.{Handed, PlainSink}
 use Rattle.span_tracing_machine.specs.declared.fate.Fate.{Fate}
 use Rattle.span_tracing_machine.specs.declared.refusal.Refusal.{Refusal}
 use Rattle.span_tracing_machine.specs.declared.call.Reply.{Reply}
-use Rattle.span_tracing_machine.specs.PlainData.{Request, PlainStep, GlobalStep, EventStep, EnabledStep, SpanStep, FollowsFromStep, EnterStep, ExitStep, CloneStep, CloseStep}
+use Rattle.span_tracing_machine.specs.PlainData.{Request, PlainStep, GlobalStep, EventStep, EnabledStep, SpanStep, RecordStep, FollowsFromStep, EnterStep, ExitStep, CloneStep, CloseStep}
 use Rattle.span_tracing_machine.specs.Skeleton.{Skeleton, Mask}
-use Rattle.span_tracing_machine.specs.Machine.{refusal_of, reply_of, acted, after, or_same, made_at}
-use Rattle.span_tracing_machine.specs.Missed.{handed_lines, starved_by, count_missed, wants_of}
-use Rattle.span_tracing_machine.specs.State.{Plain, PlainOutput, ValueList, text_of, step_mask, mask_of, filter_of, time_of, with_values, lists_acted, offer_of, plain_offer, more_handed, plain_acted, plain_after, plain_reply}
+use Rattle.span_tracing_machine.specs.Machine.{refusal_of, reply_of, acted, after, or_same, made_at, span_place}
+use Rattle.tracing_core.specs.PlainValue.{PlainValue}
+use Rattle.span_tracing_machine.specs.declared.call.SpanName.{SpanName}
+use Rattle.span_tracing_machine.specs.FieldTexts.{FieldList, with_fields, with_lists}
+use Rattle.span_tracing_machine.specs.Missed.{given_by, handed_lines, starved_by, count_missed, wants_of}
+use Rattle.span_tracing_machine.specs.State.{Plain, PlainOutput, PlainText, list_at, with_more, with_record, ValueList, text_of, step_mask, mask_of, filter_of, time_of, with_values, lists_acted, offer_of, plain_offer, more_handed, plain_acted, plain_after, plain_reply}
 use Rattle.span_tracing.specs.declared.trace.Trace.{Trace}
 use Rattle.span_tracing.specs.Skeletons.{StateValue, plain_setting, skeleton_of, setting_of, texts_of, filter_in, time_in}
-use Rattle.span_tracing.specs.Stored.{mask_in, with_text, texts_acted, Stepped, AgreesOption, more_lines, TakesLines}
+use Rattle.span_tracing.specs.Stored.{mask_in, with_more_text, with_record_text, with_text, texts_acted, Stepped, AgreesOption, more_lines, TakesLines}
 use Rattle.span_tracing.specs.Agreement.{setting_in, Agrees, AgreesFiles, FollowsStep}
 use Rattle.span_tracing.proofs.Texts.{lists_left_plain}
 
@@ -23,17 +26,38 @@ text_made : (lists : List ValueList) (s : Skeleton) (n : Request) (fate : Fate) 
 text_made lists s n fate None = refl
 text_made lists s n fate (Some place) = sym (map-append text_of lists _)
 
+-- the text of lists and of more lists
+texts_from : (text : List ℕ) (lists more : List FieldList) → with_lists text (lists ++ more) ≡ with_lists (with_lists text lists) more
+texts_from text [] more = refl
+texts_from text (list ∷ lists) more = texts_from (with_fields text list) lists more
+
+more_if : (b : Bool) (v : ValueList) (lists : List ValueList) (more : List FieldList) (texts : List PlainText) (later : List ValueList) → texts ≡ map text_of later →
+    (if b then (record (text_of v) { bytes = with_lists (text_of v).bytes more }) ∷ map text_of lists else text_of v ∷ texts) ≡ map text_of (if b then (record v { lists = v.lists ++ more }) ∷ lists else v ∷ later)
+more_if true v lists more texts later e = ap (λ bytes. record { id = v.id; bytes = bytes } ∷ map text_of lists) (sym (texts_from [] v.lists more))
+more_if false v lists more texts later e = ap (λ ts. text_of v ∷ ts) e
+
+text_more : (lists : List ValueList) (id : ℕ) (more : List FieldList) → with_more_text (map text_of lists) id more ≡ map text_of (with_more lists id more)
+text_more [] id more = refl
+text_more (v ∷ vs) id more = more_if (v.id == id) v vs more (with_more_text (map text_of vs) id more) (with_more vs id more) (text_more vs id more)
+
+text_recorded : (s : Skeleton) (lists : List ValueList) (span : Option SpanName) (values : List (ℕ × PlainValue)) (fate : Fate) (place : Option ℕ) →
+    with_record_text (map text_of lists) s span values fate place ≡ map text_of (with_record lists s span values fate place)
+text_recorded s lists None values fate place = refl
+text_recorded s lists (Some name) values fate None = refl
+text_recorded s lists (Some name) values fate (Some place) = text_more lists name.id (given_by fate (list_at s place values))
+
 texts_kept : (s : Skeleton) (lists : List ValueList) (step : PlainStep) (mask : Mask) (fate : Fate) → texts_acted s (map text_of lists) step mask fate ≡ map text_of (lists_acted s lists step mask fate)
 unfolding texts_acted lists_acted
 texts_kept s lists (GlobalStep h) mask fate = refl
 texts_kept s lists (EventStep e) mask fate = refl
 texts_kept s lists (EnabledStep call) mask fate = refl
 texts_kept s lists (SpanStep n) mask fate = text_made lists s n fate (made_at s n.callsite Rattle.std.proofs.Common.true mask)
+texts_kept s lists (RecordStep r) mask fate = text_recorded s lists r.span r.values fate (span_place s r.span)
 texts_kept s lists (FollowsFromStep call) mask fate = refl
 texts_kept s lists (EnterStep call) mask fate = refl
-texts_kept s lists (ExitStep call) mask fate = sym (lists_left_plain call.span (acted s (ExitStep call) mask).spans lists)
+texts_kept s lists (ExitStep call) mask fate = sym (lists_left_plain call.span (acted s (ExitStep call) mask).registry.spans lists)
 texts_kept s lists (CloneStep call) mask fate = refl
-texts_kept s lists (CloseStep call) mask fate = sym (lists_left_plain call.span (acted s (CloseStep call) mask).spans lists)
+texts_kept s lists (CloseStep call) mask fate = sym (lists_left_plain call.span (acted s (CloseStep call) mask).registry.spans lists)
 
 -- what a setting says of an output
 filter_same : (output : Option PlainOutput) → filter_in (setting_in output) ≡ filter_of output

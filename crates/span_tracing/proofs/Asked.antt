@@ -1,6 +1,7 @@
 -- Asking the stack leaves it as it was.
-use Rattle.std.proofs.Common.{◌≡◌, ◌≤◌, ℕ, ◌+◌, suc, Bool, List, [], ◌∷◌, ◌++◌, length, map, false, Option, Some, None, Ok, Err, Vec, refl, sym, ap, ◌∙◌, subst, arith}
+use Rattle.std.proofs.Common.{◌≡◌, ℕ, ◌+◌, Bool, List, [], ◌∷◌, ◌++◌, length, map, false, Option, Some, None, Ok, Err, Vec, refl, sym, ap, ◌∙◌, subst}
 use Rattle.std.specs.Global.{Global}
+use Rattle.std.proofs.lemmas.List.{length-append}
 use Rattle.tracing_core.specs.Asking.{Each, Registers, Hints, RowAsked}
 use Rattle.tracing_core.specs.Calls.{Call, ReplyTo, CallsiteRegistered, HintAsked, DispatchRegistered}
 use Rattle.tracing_core.specs.Commands.{AddGives, Rebuilt, RegisterGives, RegisterGivesAt, Registered, kept_alike, living, new_row, row_of}
@@ -18,10 +19,9 @@ use Rattle.tracing_core.specs.Subscriber.{Ghosts}
 use Rattle.tracing_core.specs.Callsite.{Ghosts as SiteGhosts}
 use Rattle.tracing_core.specs.Table.{Table}
 use Rattle.span_tracing_machine.specs.Skeleton.{PlainCallsite}
-use Rattle.span_tracing_stack.specs.Lanes.{padded}
 use Rattle.span_tracing_stack.specs.Moves.{Gives, StackMoves}
 use Rattle.span_tracing_stack.specs.Stacks.{StackValue}
-use Rattle.span_tracing.specs.Skeletons.{PlainThread, filter_here, interest_by, plain_callsite, plain_thread, stack_of, stack_in, lanes_in, value_with, value_in}
+use Rattle.span_tracing.specs.Skeletons.{PlainThread, filter_here, interest_by, plain_callsite, plain_thread, stack_of, stack_in, value_with, value_in}
 use Rattle.span_tracing.specs.Sound.{IsSound, HasFirst, HasOnly, OwnsOne, KeepsCallsites, LeadsTo}
 use Rattle.span_tracing.specs.Telling.{own_metadata}
 use Rattle.span_tracing.specs.contracts.site.SiteCallsite.TheImpl.{ghosts}
@@ -34,7 +34,6 @@ use Rattle.span_tracing.proofs.Anew.{AreLent, all_asked}
 use Rattle.span_tracing.proofs.Handed.{found, same_number}
 use Rattle.span_tracing.proofs.Keeping.{IsOneAtMost, filter_of, only_one, only_filter, rebuilt_keeps, registered_keeps}
 use Rattle.span_tracing.proofs.Lists.{map_more}
-use Rattle.span_tracing.proofs.Padded.{length_map, padded_next}
 
 register_same : (x : StackValue) (m : PlainMetadata) (k : PlainInterest) (y : StackValue) → StackMoves x (CallsiteRegistered m) k y → y ≡ x
 unfolding Gives
@@ -72,7 +71,6 @@ unchanged_sound p callsites u sound is same =
     (record {
       only = sound.only;
       lanes = sound.lanes;
-      fits = sound.fits;
       hub = sound.hub;
       kept = subst (λ (cs : List Callsite). KeepsCallsites (filter_here (stack_in p)) cs p.hub) (sym is) sound.kept;
     })
@@ -108,24 +106,22 @@ module _ (g : Ghosts StackValue) (means : (x : StackValue) (c : Call) (r : Reply
   pub rebuilt_one : (h : SiteGhosts Site) (t u : Table StackValue Site) (e : Entry StackValue) → t.entries ≡ e ∷ [] → Rebuilt g h t u → u.entries ≡ (record e { lent = false }) ∷ []
   rebuilt_one h t u e one w = hints_one e u.entries 0 u.greatest (subst (λ es. Each (Hints g) 0 es u.entries u.greatest) (rows_same h t.entries w.asked t.rows u.rows w.rows ∙ one) w.hints)
 
-length_more : {A : Type 0} (xs : List A) (x : A) → length (xs ++ x ∷ []) ≡ suc (length xs)
-length_more [] x = refl
-length_more (y ∷ ys) x = ap suc (length_more ys x)
+length_more : {A : Type 0} (xs : List A) (x : A) → length (xs ++ x ∷ []) ≡ length xs + 1
+length_more xs x = length-append xs (x ∷ [])
 
 -- one lane more
-pub lane_more : (p : TraceParts) (threads : Vec Thread Global) (u : Table StackValue Site) (t : Thread) (ls : List Lane) (marks : List Bool) → IsSound p → threads.items ≡ p.threads.items ++ t ∷ [] → u ≡ record (p.hub) { lanes = ls; entered = marks } →
+pub lane_more : (p : TraceParts) (threads : Vec Thread Global) (u : Table StackValue Site) (t : Thread) (ls : List Lane) (marks : List Bool) → threads.items ≡ p.threads.items ++ t ∷ [] → u ≡ record (p.hub) { lanes = ls; entered = marks } →
     value_in (record p { threads = threads; hub = u }) ≡ record (value_in p) {
-      skeleton = record ((value_in p).skeleton) { lanes = (value_in p).skeleton.lanes ++ [] ∷ [] };
+      skeleton = record ((value_in p).skeleton) { lanes = (value_in p).skeleton.lanes + 1 };
       threads = (value_in p).threads ++ plain_thread t ∷ [];
     }
-lane_more p threads u t ls marks sound is rest =
+lane_more p threads u t ls marks is rest =
     let cs = map plain_callsite p.callsites.items in
     let ts = map plain_thread p.threads.items in
     let old = value_in p in
     ap (λ (h : Table StackValue Site). value_with cs (map plain_thread threads.items) (was_set h.global) p.starved (stack_of p.handle h.entries)) rest
     ∙ ap (λ (xs : List PlainThread). value_with cs xs (was_set p.hub.global) p.starved (stack_in p)) (ap (map plain_thread) is ∙ map_more plain_thread p.threads.items t)
-    ∙ ap (λ (lanes : List (List ℕ)). record old { skeleton = record (old.skeleton) { lanes = lanes }; threads = ts ++ plain_thread t ∷ [] })
-    (ap (λ n. padded n (lanes_in (stack_in p))) (length_more ts (plain_thread t)) ∙ padded_next (length ts) (lanes_in (stack_in p)) (rw (length_map plain_thread p.threads.items) sound.fits))
+    ∙ ap (λ (lanes : ℕ). record old { skeleton = record (old.skeleton) { lanes = lanes }; threads = ts ++ plain_thread t ∷ [] }) (length_more ts (plain_thread t))
 
 -- one callsite more
 pub callsite_more : (p : TraceParts) (callsites : Vec Callsite Global) (u : Table StackValue Site) (c : Callsite) (rows : List (Row Site)) → callsites.items ≡ p.callsites.items ++ c ∷ [] → u.entries ≡ p.hub.entries → u ≡ record (p.hub) { entries = u.entries; rows = rows } →
@@ -154,16 +150,15 @@ module _ (g : Ghosts StackValue) (means : (x : StackValue) (c : Call) (r : Reply
         record {
           only = subst (λ (h : Table StackValue Site). HasOnly p.handle h.global u.entries) (sym rest) (subst (λ es. HasOnly p.handle p.hub.global es) (sym entries) sound.only);
           lanes = ap (λ (h : Table StackValue Site). h.lanes) rest ∙ sound.lanes;
-          fits = subst (λ (es : List (Entry StackValue)). length (lanes_in (stack_of p.handle es)) ≤ length p.threads.items) (sym entries) sound.fits;
           hub = hub;
           kept = subst (λ (cs : List Callsite). KeepsCallsites (filter_here (stack_of p.handle u.entries)) cs u) (sym is) (subst (λ o. KeepsCallsites o (p.callsites.items ++ c ∷ []) u) (sym later) taken.0);
         },
         taken.1 ∙ ap (λ o. interest_by o c.level) (sym filter),
       )
 
-  -- the hub takes its first stack, which no lane is entered in yet
-  pub first_stack : (p : TraceParts) (u : Table StackValue Site) (s : StackValue) (d : Option ℕ) → IsSound p → p.handle ≡ None → s.lanes ≡ [] → AddGives g ghosts p.hub s (Ok d) u → IsSoundHub ghosts u → HasFirst p (record p { handle = Some d; hub = u }) s
-  first_stack p u s d sound none empty gives hub =
+  -- the hub takes its first stack
+  pub first_stack : (p : TraceParts) (u : Table StackValue Site) (s : StackValue) (d : Option ℕ) → IsSound p → p.handle ≡ None → AddGives g ghosts p.hub s (Ok d) u → IsSoundHub ghosts u → HasFirst p (record p { handle = Some d; hub = u }) s
+  first_stack p u s d sound none gives hub =
       let z = gives.1.0 in
       let e = living p.hub.next z in
       let before = subst (λ o. HasOnly o p.hub.global p.hub.entries) none sound.only in
@@ -186,7 +181,6 @@ module _ (g : Ghosts StackValue) (means : (x : StackValue) (c : Call) (r : Reply
         sound = record {
           only = (last, left, gives.0, (λ unset. refl), subst (λ setting. LeadsTo setting last.serial) (sym (global ∙ before.1)) tt);
           lanes = ap (λ (t : Table StackValue Site). t.lanes) rebuilt.rest ∙ sound.lanes;
-          fits = subst (λ (o : Option StackValue). length (lanes_in o) ≤ length p.threads.items) (sym stack) (subst (λ (ls : List (List ℕ)). length ls ≤ length p.threads.items) (sym empty) (omega arith));
           hub = hub;
           kept = subst (λ o. KeepsCallsites o p.callsites.items u) (sym filter) kept;
         };
@@ -207,7 +201,6 @@ module _ (g : Ghosts StackValue) (means : (x : StackValue) (c : Call) (r : Reply
   emptied p u sound unset w hub = record {
     only = (rebuilt_none (record (p.hub) { entries = [] }) u refl w, ap (λ (t : Table StackValue Site). t.global) w.rest ∙ unset);
     lanes = ap (λ (t : Table StackValue Site). t.lanes) w.rest ∙ sound.lanes;
-    fits = omega arith;
     hub = hub;
     kept = rebuilt_keeps g means hint (row_same g means ghosts) (record (p.hub) { entries = [] }) u p.callsites.items tt w sound.kept.numbers sound.kept.metadata;
   }

@@ -2,7 +2,7 @@
 use Rattle.std.proofs.Common.{◌≡◌, ℕ, ℤ, List, [], ◌∷◌, ◌++◌, true, Option, Some, None, Result, Ok, Err, IfOk, sym, ap, subst, ◌∙◌}
 use Rattle.std.specs.List.{AllByRecursion}
 use Rattle.std.specs.Option.{option_map}
-use Rattle.tracing_appender_rolling.specs.declared.moment.Moment.{Moment}
+use Rattle.tracing_appender_rolling.specs.Moment.{Moment}
 use Rattle.tracing_appender_rolling.specs.Moments.{is_moment}
 use Rattle.tracing_appender_rolling.specs.Names.{FileNames}
 use Rattle.tracing_appender_rolling.specs.Builders.{builder_names}
@@ -10,7 +10,7 @@ use Rattle.tracing_appender_rolling.specs.Contents.{Contents, bytes_at}
 use Rattle.tracing_appender_rolling.specs.Sinks.{Handed, PlainSink, period_in, period_name, file_text, period_text}
 use Rattle.tracing_appender_rolling.specs.Appenders.{KeepsKnown}
 use Rattle.tracing_appender_rolling.specs.declared.appender.RollingFileAppender.{RollingFileAppender}
-use Rattle.tracing_appender_rolling.specs.declared.fault.FileNumber.{FileNumber}
+use Rattle.tracing_appender_rolling.specs.FileNumber.{FileNumber}
 use Rattle.tracing_appender_rolling.proofs.ByPeriod.{by_period}
 use Rattle.span_tracing_machine.specs.declared.call.Reply.{Reply}
 use Rattle.span_tracing_machine.specs.PlainData.{PlainStep}

@@ -1,11 +1,16 @@
 -- What each request leaves of a trace's parts, from what the stack gives.
-use Rattle.std.proofs.Common.{◌≡◌, ℕ, ◌<◌, ◌≤◌, Bool, true, false, not, ◌&&◌, List, [], ◌∷◌, ◌++◌, length, map, get_or, Option, Some, None, Result, Ok, Err, string_bytes, refl, sym, ap, ◌∙◌, subst, arith}
-use Rattle.std.specs.Prelude.{slice_get, ◌+◌}
+use Rattle.std.proofs.Common.{◌==◌, if◌then◌else◌, ◌≡◌, ℕ, ◌<◌, ◌≤◌, Bool, true, false, not, ◌&&◌, List, [], ◌∷◌, ◌++◌, length, map, get_or, Option, Some, None, Result, Ok, Err, string_bytes, refl, sym, ap, ◌∙◌, subst, arith}
+use Rattle.std.specs.Prelude.{slice_get}
 use Rattle.std.specs.Option.{option_map}
+use Rattle.std.proofs.lemmas.Bool.{eqb-true}
 use Rattle.std.proofs.lemmas.Option.{slice_get-get_or}
 use Rattle.tracing_core.specs.At.{At}
-use Rattle.tracing_core.specs.Calls.{SpanMade, FollowsRecorded, Told, Entered, Exited, Cloned, CloseTried}
+use Rattle.tracing_core.specs.Calls.{SpanMade, Recorded, FollowsRecorded, Told, Entered, Exited, Cloned, CloseTried}
 use Rattle.tracing_core.specs.Defaults.{was_set}
+use Rattle.tracing_core.specs.FieldValue.{FieldValue}
+use Rattle.tracing_core.specs.OwnedValues.{owned_entries}
+use Rattle.tracing_core.specs.PlainRequests.{PlainValues}
+use Rattle.tracing_core.specs.Handles.{or_same as or_left}
 use Rattle.tracing_core.specs.Handing.{HubGives}
 use Rattle.tracing_core.specs.RequestError.{RequestError}
 use Rattle.tracing_core.specs.RequestError.TheVariants.{OutOfMemory, UnknownSpan, UnknownParent, IdsSpent, TooManyHandles}
@@ -13,31 +18,45 @@ use Rattle.tracing_core.specs.Subscriber.{Ghosts}
 use Rattle.tracing_core.specs.Calls.{Call, ReplyTo}
 use Rattle.tracing_core.specs.Table.{Table}
 use Rattle.span_tracing_machine.specs.declared.fate.Fate.{Fate}
-use Rattle.span_tracing_machine.specs.declared.record.SpanRecord.{SpanRecord}
-use Rattle.span_tracing_machine.specs.FieldTexts.{fields_text}
+use Rattle.span_registry_layers_store.specs.Gives as gives
+use Rattle.span_registry_layers_store.specs.Registries.{RegistryValue, kin_in, swept, with_handle, without_handle}
+use Rattle.span_registry_layers_store.specs.Registries as store
+use Rattle.span_registry_layers_store.specs.Spans.{handles_of, is_open}
+use Rattle.span_registry_layers_store.specs.Verdicts.{all_pass}
+use Rattle.span_tracing_machine.specs.FieldTexts.{FieldList, lists_text, with_lists}
 use Rattle.span_tracing_machine.specs.Missed.{given_by}
-use Rattle.span_tracing_machine.specs.Machine.{is_made, parent_refusal, lane_at, one_less, one_more, parent_id}
+use Rattle.span_tracing_machine.specs.Machine.{is_made, parent_refusal, parent_id, with_made as made_in}
 use Rattle.span_tracing_machine.specs.Skeleton.{PlainCallsite}
-use Rattle.span_tracing_machine.specs.Spans.{handles_of, is_open, open_of, without_last}
-use Rattle.span_tracing_machine.specs.State.{mask_at, event_line, name_of, fields_of}
-use Rattle.span_tracing_stack.specs.Lanes.{padded, pushed, removed}
-use Rattle.span_tracing_stack.specs.Moves.{Gives, StackMoves, SpanGives, EventGives, EntryGives, CloneGives, quiet}
-use Rattle.span_tracing_stack.specs.Stacks.{StackValue, Quiet, passes, knows_parent, line_told, span_text, with_span, with_exit, with_less}
+use Rattle.span_tracing_machine.specs.State.{PlainText, list_at, mask_at, event_line, fields_of, text_at}
+use Rattle.span_tracing_stack.specs.Moves.{Gives, RecordGives, StackMoves, TellsRecord, SpanGives, EventGives, EntryGives, CloneGives, quiet, says_closed}
+use Rattle.span_tracing_stack.specs.Stacks.{left_with as left_in, with_bytes, StackValue, Quiet, passes, knows_parent, line_told, span_text, with_span, with_exit}
 use Rattle.span_tracing.specs.Actions.{plain_request}
-use Rattle.span_tracing.specs.Left.{TellsEvent, MakesSpan, LeavesParts, with_made, with_entry, with_one, without_entry, without_one}
-use Rattle.span_tracing.specs.Skeletons.{StateValue, PlainThread, plain_callsite, plain_thread, stack_in, stack_of, skeleton_of, setting_of, filter_in, skeleton_with, value_with, value_in, spans_in, lanes_in, told_in}
-use Rattle.span_tracing.specs.Stored.{open_texts}
+use Rattle.span_tracing.specs.Left.{RecordsFields, with_recorded, TellsEvent, MakesSpan, LeavesParts, with_made, with_entry, with_one, without_entry, without_one}
+use Rattle.span_tracing.specs.Skeletons.{StateValue, PlainThread, plain_callsite, plain_thread, stack_in, stack_of, skeleton_of, setting_of, filter_in, skeleton_with, value_with, registry_in, value_in, told_in}
+use Rattle.span_tracing.specs.Stored.{with_more_text}
 use Rattle.span_tracing.specs.Sound.{IsSound}
-use Rattle.span_tracing.specs.Telling.{own_metadata, parent_of, values_of, event_of, attributes_of, place_at}
+use Rattle.span_tracing.specs.Telling.{own_metadata, parent_of, values_of, values_with, event_of, attributes_of, place_at}
 use Rattle.span_tracing.specs.declared.action.Request.{Request}
 use Rattle.span_tracing.specs.declared.callsite.Callsite.{Callsite}
 use Rattle.span_tracing.specs.declared.parts.TraceParts.{TraceParts}
 use Rattle.span_tracing.specs.declared.site.Site.{Site}
 use Rattle.span_tracing.proofs.Handed.{OneCall, one_call}
-use Rattle.span_tracing.proofs.Padded.{open_padded, pushed_padded, pushed_length, removed_padded, set_length, length_map}
-use Rattle.span_tracing.proofs.Parting.{start_same, line_same, parent_known, event_told, with_stack, has_only, stack_before, stack_after, value_before, value_after, sound_after, fits_before}
-use Rattle.span_tracing.proofs.Values.{given_same}
+use Rattle.span_tracing.proofs.Parting.{start_same, line_same, parent_known, event_told, with_stack, has_only, stack_before, stack_after, value_before, value_after, sound_after}
+use Rattle.span_tracing.proofs.Values.{all_named, given_same, owned_list}
 use Rattle.span_tracing.proofs.Lists.{slice_get_map}
+
+-- numbers that aren't equal
+not_equal : (n m : ℕ) → ¬ (n ≡ m) → (n == m) ≡ false
+not_equal n m other = by_test (n == m) refl
+  where
+    by_test : (b : Bool) → (n == m) ≡ b → (n == m) ≡ false
+    by_test true e = absurd (other (eqb-true n m e))
+    by_test false e = e
+
+-- a registry call that is refused leaves the registry
+refused_same : {A : Type 0} → (refusal : Option RequestError) (x left y : RegistryValue) (answer : A) (error : RequestError) → gives.GivesUnless refusal x answer left (Err error) y → y ≡ x
+refused_same None x left y answer error w = w.1
+refused_same (Some e) x left y answer error w = w.1
 
 or_false : (b : Bool) → (Rattle.std.proofs.Common.◌||◌ b false) ≡ b
 or_false true = refl
@@ -57,15 +76,29 @@ made_same : (x : StackValue) (c : Callsite) (r : Request) (sites : List PlainCal
 made_same x c r sites threads is_global starved place fate at =
     let names = map string_bytes c.fields.items in
     let text = span_text (values_of c r) fate in
-    let same : text ≡ fields_text names (given_by fate (plain_request r).values) = given_same names r.values.now fate in
+    let same : text ≡ lists_text (given_by fate (owned_list names r.values.now)) = given_same [] names r.values.now fate in
     let old = value_with sites threads is_global starved (Some x) in
-    let shape = λ (start : Option ℕ) (name bytes : List ℕ). record old {
-      skeleton = record (old.skeleton) { spans = x.spans ++ (record { id = x.next_id; parent = start; handles = 1 }) ∷ []; next_id = x.next_id + 1 };
-      texts = x.texts ++ (record { id = x.next_id; name = name; bytes = bytes }) ∷ [];
+    let start = parent_id x.registry r.lane r.parent in
+    let shape = λ (y : RegistryValue) (bytes : List ℕ). record old {
+      skeleton = record (old.skeleton) { registry = y };
+      texts = x.texts ++ (record { id = x.registry.next_id; bytes = bytes }) ∷ [];
     } in
-    ap (λ (start : Option ℕ). shape start (string_bytes c.name) text) (start_same x (length threads) r.lane r.parent)
-    ∙ ap (λ (bytes : List ℕ). shape (parent_id (padded (length threads) x.lanes) r.lane r.parent) (string_bytes c.name) bytes) same
-    ∙ ap (λ (o : Option PlainCallsite). shape (parent_id (padded (length threads) x.lanes) r.lane r.parent) (name_of o) (fields_text (fields_of o) (given_by fate (plain_request r).values))) (sym at)
+    let over = λ (o : Option PlainCallsite). record old {
+      skeleton = made_in old.skeleton start o;
+      texts = x.texts ++ (record { id = x.registry.next_id; bytes = lists_text (given_by fate (record { names = fields_of o; values = (plain_request r).values })) }) ∷ [];
+    } in
+    ap (λ (at_ : Option ℕ). shape (store.with_span x.registry (own_metadata c) at_ all_pass) text) (start_same x r.lane r.parent)
+    ∙ ap (λ (bytes : List ℕ). shape (store.with_span x.registry (own_metadata c) start all_pass) bytes) same
+    ∙ ap over (sym at)
+
+-- more behind the text that is there
+bytes_more : (ts : List PlainText) (id : ℕ) (more : List FieldList) → with_bytes ts id (with_lists (text_at ts id) more) ≡ with_more_text ts id more
+bytes_more [] id more = refl
+bytes_more (t ∷ ts) id more = by_test (t.id == id) refl (bytes_more ts id more)
+  where
+    by_test : (b : Bool) → (t.id == id) ≡ b → with_bytes ts id (with_lists (text_at ts id) more) ≡ with_more_text ts id more → with_bytes (t ∷ ts) id (with_lists (text_at (t ∷ ts) id) more) ≡ with_more_text (t ∷ ts) id more
+    by_test true e later = rw e refl
+    by_test false e later = rw e (ap (λ xs. t ∷ xs) later)
 
 module _ (g : Ghosts StackValue) (means : (x : StackValue) (c : Call) (r : ReplyTo c) (y : StackValue) → g.moves x c r y → StackMoves x c r y) (p : TraceParts) (u : Table StackValue Site) (dispatch : Option ℕ) (handle : p.handle ≡ Some dispatch) (sound : IsSound p) where
   abbrev new : TraceParts
@@ -106,7 +139,7 @@ module _ (g : Ghosts StackValue) (means : (x : StackValue) (c : Call) (r : Reply
       let line = told.1.1 in
       record {
         kept = value_after p u dispatch handle sound rest y one.stands ∙ ap (λ (v : StackValue). over rest (Some v)) told.2 ∙ sym old;
-        sound = sound_after p u dispatch handle sound rest x y one.stood one.stands one.moved.setting one.only (subst (λ (v : StackValue). length v.lanes ≤ length p.threads.items) (sym told.2) (fits_before p u dispatch handle sound rest x one.stood));
+        sound = sound_after p u dispatch handle sound rest x y one.stood one.stands one.moved.setting one.only;
         fate = told.1.0;
         told =
             ap told_in (stack_after p u dispatch handle sound rest y one.stands) ∙ ap (λ (v : StackValue). v.told) told.2 ∙ line
@@ -115,11 +148,11 @@ module _ (g : Ghosts StackValue) (means : (x : StackValue) (c : Call) (r : Reply
       }
 
   -- a new span
-  span_given : (x y : StackValue) (a : Rattle.tracing_core.specs.PlainRequests.PlainAttributes) (lane : ℕ) (id : Option ℕ) → SpanGives x a lane (Ok id) y → passes x a.metadata ≡ true → (id ≡ Some x.next_id) × ((fate : Fate) × (y ≡ with_span x a lane fate))
+  span_given : (x y : StackValue) (a : Rattle.tracing_core.specs.PlainRequests.PlainAttributes) (lane : ℕ) (id : Option ℕ) → SpanGives x a lane (Ok id) y → passes x a.metadata ≡ true → (id ≡ Some x.registry.next_id) × ((fate : Fate) × (y ≡ with_span x a lane fate))
   span_given x y a lane None g p = absurd (let e : true ≡ false = sym p ∙ g.1 in cc)
   span_given x y a lane (Some id) g p = (ap (λ n. Some n) g.3, g.4)
 
-  span_refused : (x y : StackValue) (a : Rattle.tracing_core.specs.PlainRequests.PlainAttributes) (lane : ℕ) (error : RequestError) → SpanGives x a lane (Err error) y → knows_parent x a.parent ≡ true → x.next_id ≤ 18446744073709551615 → y ≡ quiet x
+  span_refused : (x y : StackValue) (a : Rattle.tracing_core.specs.PlainRequests.PlainAttributes) (lane : ℕ) (error : RequestError) → SpanGives x a lane (Err error) y → knows_parent x a.parent ≡ true → x.registry.next_id ≤ 18446744073709551615 → y ≡ quiet x
   span_refused x y a lane OutOfMemory g k n = g.3
   span_refused x y a lane UnknownSpan g k n = absurd g
   span_refused x y a lane UnknownParent g k n = absurd (let e : false ≡ true = sym g.0 ∙ k in cc)
@@ -138,8 +171,8 @@ module _ (g : Ghosts StackValue) (means : (x : StackValue) (c : Call) (r : Reply
       let fate = given.1.0 in
       let left = given.1.1 in
       record {
-        sound = sound_after p u dispatch handle sound rest x y one.stood one.stands one.moved.setting one.only (subst (λ (v : StackValue). length v.lanes ≤ length p.threads.items) (sym left) (fits_before p u dispatch handle sound rest x one.stood));
-        named = given.0 ∙ ap (λ (v : StateValue). Some v.skeleton.next_id) (sym old);
+        sound = sound_after p u dispatch handle sound rest x y one.stood one.stands one.moved.setting one.only;
+        named = given.0 ∙ ap (λ (v : StateValue). Some v.skeleton.registry.next_id) (sym old);
         fate = fate;
         told = ap told_in (stack_after p u dispatch handle sound rest y one.stands) ∙ ap (λ (v : StackValue). v.told) left;
         made =
@@ -149,7 +182,7 @@ module _ (g : Ghosts StackValue) (means : (x : StackValue) (c : Call) (r : Reply
       }
 
   -- a span that isn't made for want of memory leaves the trace's state
-  pub spares : (c : Callsite) (r : Request) (error : RequestError) → HubGives g (SpanMade (attributes_of c r) (place_at r.lane r.moment)) dispatch p.hub (Err error) u → parent_refusal (skeleton_of (value_in p)) r.parent ≡ None → (skeleton_of (value_in p)).next_id ≤ 18446744073709551615 → LeavesParts p new
+  pub spares : (c : Callsite) (r : Request) (error : RequestError) → HubGives g (SpanMade (attributes_of c r) (place_at r.lane r.moment)) dispatch p.hub (Err error) u → parent_refusal (skeleton_of (value_in p)) r.parent ≡ None → (skeleton_of (value_in p)).registry.next_id ≤ 18446744073709551615 → LeavesParts p new
   unfolding Gives
   spares c r error gives parent left =
       let rest = gives.1 in
@@ -157,49 +190,86 @@ module _ (g : Ghosts StackValue) (means : (x : StackValue) (c : Call) (r : Reply
       let x = one.before in
       let y = one.after in
       let old = value_before p u dispatch handle sound rest x one.stood in
-      let same = span_refused x y (attributes_of c r) r.lane error one.moved.gives (known rest x r old parent) (subst (λ (v : StateValue). v.skeleton.next_id ≤ 18446744073709551615) old left) in (
-        sound_after p u dispatch handle sound rest x y one.stood one.stands one.moved.setting one.only (subst (λ (v : StackValue). length v.lanes ≤ length p.threads.items) (sym same) (fits_before p u dispatch handle sound rest x one.stood)),
+      let same = span_refused x y (attributes_of c r) r.lane error one.moved.gives (known rest x r old parent) (subst (λ (v : StateValue). v.skeleton.registry.next_id ≤ 18446744073709551615) old left) in (
+        sound_after p u dispatch handle sound rest x y one.stood one.stands one.moved.setting one.only,
         value_after p u dispatch handle sound rest y one.stands ∙ ap (λ (v : StackValue). over rest (Some v)) same ∙ sym old,
       )
 
-  -- an entry
-  pub enters : (id lane : ℕ) (at : At) → at.lane ≡ lane → HubGives g (Entered id at) dispatch p.hub (Ok tt) u → lane < length p.threads.items → IsSound new × (value_in new ≡ with_entry (value_in p) lane id)
+  -- the stack that stands has what the trace has
+  there_before : (rest : Rest) (x : StackValue) (id : ℕ) → stack_of (Some dispatch) p.hub.entries ≡ Some x → is_open kin_in (registry_in (stack_in p)).spans id ≡ true → is_open kin_in x.registry.spans id ≡ true
+  there_before rest x id stood there = subst (λ (o : Option StackValue). is_open kin_in (registry_in o).spans id ≡ true) (stack_before p u dispatch handle sound rest x stood) there
+
+  -- values for a span
+  record_given : (x y : StackValue) (id : ℕ) (values : PlainValues) (reply : Result (Unit {0}) RequestError) → RecordGives x id values reply y → is_open kin_in x.registry.spans id ≡ true → TellsRecord x id values y
+  record_given x y id values (Ok done) g h = g.1
+  record_given x y id values (Err OutOfMemory) g h = absurd g
+  record_given x y id values (Err UnknownSpan) g h = absurd (let e : false ≡ true = sym g.0 ∙ h in cc)
+  record_given x y id values (Err UnknownParent) g h = absurd g
+  record_given x y id values (Err IdsSpent) g h = absurd g
+  record_given x y id values (Err TooManyHandles) g h = absurd g
+
+  pub records : (c : Callsite) (values : List FieldValue) (id place : ℕ) (at : At) (reply : Result (Unit {0}) RequestError) → HubGives g (Recorded id (values_with c values) at) dispatch p.hub reply u → slice_get cs place ≡ Some (plain_callsite c) → is_open kin_in (registry_in (stack_in p)).spans id ≡ true →
+      RecordsFields p new id (list_at (skeleton_of (value_in p)) place (owned_entries values))
   unfolding Gives
-  enters id lane at is gives inside =
+  records c values id place at reply gives found there =
+      let rest = gives.1 in
+      let one = the_call (Recorded id (values_with c values) at) reply gives in
+      let x = one.before in
+      let y = one.after in
+      let old = value_before p u dispatch handle sound rest x one.stood in
+      let names = map string_bytes c.fields.items in
+      let told = record_given x y id (values_with c values) reply one.moved.gives (there_before rest x id one.stood there) in
+      let fate = told.0 in
+      let before = over rest (Some x) in
+      let texts : y.texts ≡ with_more_text x.texts id (given_by fate (owned_list names values)) =
+      told.1.2 ∙ ap (with_bytes x.texts id) (told.1.1 (all_named names values) ∙ given_same (text_at x.texts id) names values fate) ∙ bytes_more x.texts id (given_by fate (owned_list names values)) in
+      record {
+        sound = sound_after p u dispatch handle sound rest x y one.stood one.stands one.moved.setting one.only;
+        fate = fate;
+        told = ap told_in (stack_after p u dispatch handle sound rest y one.stands) ∙ ap (λ (v : StackValue). v.told) told.2;
+        made =
+            value_after p u dispatch handle sound rest y one.stands ∙ ap (λ (v : StackValue). over rest (Some v)) told.2
+            ∙ ap (λ (ts : List PlainText). record before { texts = ts }) texts
+            ∙ ap (λ (o : Option PlainCallsite). with_recorded before id (given_by fate (record { names = fields_of o; values = owned_entries values }))) (sym found)
+            ∙ ap (λ (v : StateValue). with_recorded v id (given_by fate (record { names = fields_of (slice_get cs place); values = owned_entries values }))) (sym old);
+      }
+
+  -- an entry
+  entry_given : (x y : StackValue) (id lane : ℕ) → EntryGives x id lane (Ok tt) y → is_open kin_in x.registry.spans id ≡ true → y ≡ record x { registry = store.with_entry x.registry lane id; told = Quiet }
+  entry_given x y id lane g there =
+      let refused : gives.open_refusal x.registry id ≡ None = rw there refl in
+      let given : gives.GivesUnless None x.registry tt (store.with_entry x.registry lane id) (Ok tt) y.registry =
+      subst (λ refusal. gives.GivesUnless refusal x.registry tt (store.with_entry x.registry lane id) (Ok tt) y.registry) refused g.0 in
+      g.1 ∙ ap (λ (z : RegistryValue). record x { registry = z; told = Quiet }) given.1
+
+  pub enters : (id lane : ℕ) (at : At) → at.lane ≡ lane → HubGives g (Entered id at) dispatch p.hub (Ok tt) u → is_open kin_in (registry_in (stack_in p)).spans id ≡ true → IsSound new × (value_in new ≡ with_entry (value_in p) lane id)
+  unfolding Gives
+  enters id lane at is gives there =
       let rest = gives.1 in
       let one = the_call (Entered id at) (Ok tt) gives in
       let x = one.before in
       let y = one.after in
       let old = value_before p u dispatch handle sound rest x one.stood in
-      let fits = fits_before p u dispatch handle sound rest x one.stood in
-      let left : y ≡ record x { lanes = pushed lane id x.lanes; told = Quiet } = one.moved.gives.1 ∙ ap (λ (n : ℕ). record x { lanes = pushed n id x.lanes; told = Quiet }) is in
-      let same = length_map plain_thread p.threads.items in
-      let before = over rest (Some x) in (
-        sound_after p u dispatch handle sound rest x y one.stood one.stands one.moved.setting one.only (subst (λ (v : StackValue). length v.lanes ≤ length p.threads.items) (sym left) (pushed_length (length p.threads.items) x.lanes lane id inside fits)),
+      let left : y ≡ record x { registry = store.with_entry x.registry lane id; told = Quiet } =
+      entry_given x y id at.lane one.moved.gives (there_before rest x id one.stood there) ∙ ap (λ (n : ℕ). record x { registry = store.with_entry x.registry n id; told = Quiet }) is in (
+        sound_after p u dispatch handle sound rest x y one.stood one.stands one.moved.setting one.only,
         value_after p u dispatch handle sound rest y one.stands ∙ ap (λ (v : StackValue). over rest (Some v)) left
-            ∙ ap (λ (ls : List (List ℕ)). record before { skeleton = record (before.skeleton) { lanes = ls } }) (pushed_padded count x.lanes lane id (rw same inside))
             ∙ ap (λ (v : StateValue). with_entry v lane id) (sym old),
       )
 
-  entry_refused : (x y : StackValue) (id lane : ℕ) (error : RequestError) → EntryGives x id lane (Err error) y → is_open x.spans id ≡ true → y ≡ quiet x
-  entry_refused x y id lane OutOfMemory g h = g.1
-  entry_refused x y id lane UnknownSpan g h = g.1
-  entry_refused x y id lane UnknownParent g h = absurd g
-  entry_refused x y id lane IdsSpent g h = absurd g
-  entry_refused x y id lane TooManyHandles g h = absurd g
+  entry_refused : (x y : StackValue) (id lane : ℕ) (error : RequestError) → EntryGives x id lane (Err error) y → y ≡ quiet x
+  entry_refused x y id lane error g =
+      g.1 ∙ ap (λ (z : RegistryValue). record x { registry = z; told = Quiet }) (refused_same (gives.open_refusal x.registry id) x.registry (store.with_entry x.registry lane id) y.registry tt error g.0)
 
-  there_before : (rest : Rest) (x : StackValue) (id : ℕ) → stack_of (Some dispatch) p.hub.entries ≡ Some x → is_open (spans_in (stack_in p)) id ≡ true → is_open x.spans id ≡ true
-  there_before rest x id stood there = subst (λ (o : Option StackValue). is_open (spans_in o) id ≡ true) (stack_before p u dispatch handle sound rest x stood) there
-
-  pub stays_out : (id : ℕ) (at : At) (error : RequestError) → HubGives g (Entered id at) dispatch p.hub (Err error) u → is_open (spans_in (stack_in p)) id ≡ true → LeavesParts p new
+  pub stays_out : (id : ℕ) (at : At) (error : RequestError) → HubGives g (Entered id at) dispatch p.hub (Err error) u → LeavesParts p new
   unfolding Gives
-  stays_out id at error gives there =
+  stays_out id at error gives =
       let rest = gives.1 in
       let one = the_call (Entered id at) (Err error) gives in
       let x = one.before in
       let y = one.after in
-      let same = entry_refused x y id at.lane error one.moved.gives (there_before rest x id one.stood there) in (
-        sound_after p u dispatch handle sound rest x y one.stood one.stands one.moved.setting one.only (subst (λ (v : StackValue). length v.lanes ≤ length p.threads.items) (sym same) (fits_before p u dispatch handle sound rest x one.stood)),
+      let same = entry_refused x y id at.lane error one.moved.gives in (
+        sound_after p u dispatch handle sound rest x y one.stood one.stands one.moved.setting one.only,
         value_after p u dispatch handle sound rest y one.stands ∙ ap (λ (v : StackValue). over rest (Some v)) same ∙ sym (value_before p u dispatch handle sound rest x one.stood),
       )
 
@@ -212,39 +282,33 @@ module _ (g : Ghosts StackValue) (means : (x : StackValue) (c : Call) (r : Reply
       let x = one.before in
       let y = one.after in
       let old = value_before p u dispatch handle sound rest x one.stood in
-      let fits = fits_before p u dispatch handle sound rest x one.stood in
-      let left : y ≡ quiet (with_exit x lane id) = one.moved.gives ∙ ap (λ (n : ℕ). quiet (with_exit x n id)) is in
-      let gone = removed lane id x.lanes in
-      let before = over rest (Some x) in
-      let shape = λ (ls : List (List ℕ)) (ss : List SpanRecord). record before { skeleton = record (before.skeleton) { lanes = ls; spans = ss }; texts = open_texts ss x.texts } in (
-        sound_after p u dispatch handle sound rest x y one.stood one.stands one.moved.setting one.only (subst (λ (v : StackValue). length v.lanes ≤ length p.threads.items) (sym left) (rw (set_length x.lanes lane (without_last id (lane_at x.lanes lane))) fits)),
+      let left : y ≡ quiet (with_exit x lane id) = one.moved.gives ∙ ap (λ (n : ℕ). quiet (with_exit x n id)) is in (
+        sound_after p u dispatch handle sound rest x y one.stood one.stands one.moved.setting one.only,
         value_after p u dispatch handle sound rest y one.stands ∙ ap (λ (v : StackValue). over rest (Some v)) left
-            ∙ ap (λ (ss : List SpanRecord). shape (padded count gone) ss) (sym (open_padded count gone x.spans))
-            ∙ ap (λ (ls : List (List ℕ)). shape ls (open_of ls x.spans)) (removed_padded count x.lanes lane id)
             ∙ ap (λ (v : StateValue). without_entry v lane id) (sym old),
       )
 
   -- a handle that is taken
-  clone_given : (x y : StackValue) (id : ℕ) (r : Result ℕ RequestError) → CloneGives x id r y → is_open x.spans id ≡ true → ¬ (handles_of x.spans id ≡ 18446744073709551615) → y ≡ record x { spans = one_more x.spans id; told = Quiet }
-  clone_given x y id (Ok same) g there fewer = g.2
-  clone_given x y id (Err OutOfMemory) g there fewer = absurd g
-  clone_given x y id (Err UnknownSpan) g there fewer = absurd (let e : false ≡ true = sym g.0 ∙ there in cc)
-  clone_given x y id (Err UnknownParent) g there fewer = absurd g
-  clone_given x y id (Err IdsSpent) g there fewer = absurd g
-  clone_given x y id (Err TooManyHandles) g there fewer = absurd (fewer g.1)
+  clone_given : (x y : StackValue) (id : ℕ) (r : Result ℕ RequestError) → CloneGives x id r y → is_open kin_in x.registry.spans id ≡ true → ¬ (handles_of kin_in x.registry.spans id ≡ 18446744073709551615) → y ≡ record x { registry = with_handle x.registry id; told = Quiet }
+  clone_given x y id r g there fewer =
+      let few = not_equal (handles_of kin_in x.registry.spans id) 18446744073709551615 fewer in
+      let refused : gives.clone_refusal x.registry id ≡ None = rw (there, few) refl in
+      let left : y.registry ≡ with_handle x.registry id =
+      ap (λ (w : Result ℕ RequestError × RegistryValue). w.1) g.0 ∙ ap (λ (refusal : Option RequestError). or_left refusal x.registry (with_handle x.registry id)) refused in
+      g.1 ∙ ap (λ (z : RegistryValue). record x { registry = z; told = Quiet }) left
 
-  fewer_before : (rest : Rest) (x : StackValue) (id : ℕ) → stack_of (Some dispatch) p.hub.entries ≡ Some x → ¬ (handles_of (spans_in (stack_in p)) id ≡ 18446744073709551615) → ¬ (handles_of x.spans id ≡ 18446744073709551615)
-  fewer_before rest x id stood fewer = subst (λ (o : Option StackValue). ¬ (handles_of (spans_in o) id ≡ 18446744073709551615)) (stack_before p u dispatch handle sound rest x stood) fewer
+  count_before : (rest : Rest) (x : StackValue) (id n : ℕ) → stack_of (Some dispatch) p.hub.entries ≡ Some x → ¬ (handles_of kin_in (registry_in (stack_in p)).spans id ≡ n) → ¬ (handles_of kin_in x.registry.spans id ≡ n)
+  count_before rest x id n stood other = subst (λ (o : Option StackValue). ¬ (handles_of kin_in (registry_in o).spans id ≡ n)) (stack_before p u dispatch handle sound rest x stood) other
 
-  pub clones : (id : ℕ) (at : At) (r : Result ℕ RequestError) → HubGives g (Cloned id at) dispatch p.hub r u → is_open (spans_in (stack_in p)) id ≡ true → ¬ (handles_of (spans_in (stack_in p)) id ≡ 18446744073709551615) → IsSound new × (value_in new ≡ with_one (value_in p) id)
+  pub clones : (id : ℕ) (at : At) (r : Result ℕ RequestError) → HubGives g (Cloned id at) dispatch p.hub r u → is_open kin_in (registry_in (stack_in p)).spans id ≡ true → ¬ (handles_of kin_in (registry_in (stack_in p)).spans id ≡ 18446744073709551615) → IsSound new × (value_in new ≡ with_one (value_in p) id)
   unfolding Gives
   clones id at r gives there fewer =
       let rest = gives.1 in
       let one = the_call (Cloned id at) r gives in
       let x = one.before in
       let y = one.after in
-      let same = clone_given x y id r one.moved.gives (there_before rest x id one.stood there) (fewer_before rest x id one.stood fewer) in (
-        sound_after p u dispatch handle sound rest x y one.stood one.stands one.moved.setting one.only (subst (λ (v : StackValue). length v.lanes ≤ length p.threads.items) (sym same) (fits_before p u dispatch handle sound rest x one.stood)),
+      let same = clone_given x y id r one.moved.gives (there_before rest x id one.stood there) (count_before rest x id 18446744073709551615 one.stood fewer) in (
+        sound_after p u dispatch handle sound rest x y one.stood one.stands one.moved.setting one.only,
         value_after p u dispatch handle sound rest y one.stands ∙ ap (λ (v : StackValue). over rest (Some v)) same
             ∙ ap (λ (v : StateValue). with_one v id) (sym (value_before p u dispatch handle sound rest x one.stood)),
       )
@@ -258,26 +322,31 @@ module _ (g : Ghosts StackValue) (means : (x : StackValue) (c : Call) (r : Reply
       let x = one.before in
       let y = one.after in
       let same = one.moved.gives.1 in (
-        sound_after p u dispatch handle sound rest x y one.stood one.stands one.moved.setting one.only (subst (λ (v : StackValue). length v.lanes ≤ length p.threads.items) (sym same) (fits_before p u dispatch handle sound rest x one.stood)),
+        sound_after p u dispatch handle sound rest x y one.stood one.stands one.moved.setting one.only,
         value_after p u dispatch handle sound rest y one.stands ∙ ap (λ (v : StackValue). over rest (Some v)) same ∙ sym (value_before p u dispatch handle sound rest x one.stood),
       )
 
   -- a handle that is given up
-  pub closes : (id : ℕ) (at : At) (r : Bool) → HubGives g (CloseTried id at) dispatch p.hub r u → is_open (spans_in (stack_in p)) id ≡ true → IsSound new × (value_in new ≡ without_one (value_in p) id) × (r ≡ not (is_open (skeleton_of (without_one (value_in p) id)).spans id))
+  close_given : (x : StackValue) (id : ℕ) → ¬ (handles_of kin_in x.registry.spans id ≡ 0) →
+      gives.close_gives x.registry id ≡ (Ok (gives.is_closed (swept (without_handle x.registry id)) id), swept (without_handle x.registry id))
+  close_given x id some =
+      let few = not_equal (handles_of kin_in x.registry.spans id) 0 some in
+      rw few refl
+
+  pub closes : (id : ℕ) (at : At) (r : Bool) → HubGives g (CloseTried id at) dispatch p.hub r u → ¬ (handles_of kin_in (registry_in (stack_in p)).spans id ≡ 0) →
+      IsSound new × (value_in new ≡ without_one (value_in p) id) × (r ≡ not (is_open kin_in (skeleton_of (without_one (value_in p) id)).registry.spans id))
   unfolding Gives
-  closes id at r gives there =
+  closes id at r gives some =
       let rest = gives.1 in
       let one = the_call (CloseTried id at) r gives in
       let x = one.before in
       let y = one.after in
       let old = value_before p u dispatch handle sound rest x one.stood in
-      let left : y ≡ quiet (with_less x id) = one.moved.gives.1 in
-      let before = over rest (Some x) in
-      let less = one_less x.spans id in
-      let shape = λ (ss : List SpanRecord). record before { skeleton = record (before.skeleton) { spans = ss }; texts = open_texts ss x.texts } in
-      let ended : over rest (Some y) ≡ without_one before id = ap (λ (v : StackValue). over rest (Some v)) left ∙ ap shape (sym (open_padded count x.lanes less)) in (
-        sound_after p u dispatch handle sound rest x y one.stood one.stands one.moved.setting one.only (subst (λ (v : StackValue). length v.lanes ≤ length p.threads.items) (sym left) (fits_before p u dispatch handle sound rest x one.stood)),
-        value_after p u dispatch handle sound rest y one.stands ∙ ended ∙ ap (λ (v : StateValue). without_one v id) (sym old),
-        one.moved.gives.0 ∙ ap (λ (b : Bool). b && not (is_open y.spans id)) (there_before rest x id one.stood there)
-            ∙ ap (λ (v : StateValue). not (is_open v.skeleton.spans id)) (ended ∙ ap (λ (v : StateValue). without_one v id) (sym old)),
+      let given = close_given x id (count_before rest x id 0 one.stood some) in
+      let left : y ≡ quiet (left_in (swept (without_handle x.registry id)) x) =
+      one.moved.gives.1 ∙ ap (λ (w : Result Bool RequestError × RegistryValue). quiet (left_in w.1 x)) given in (
+        sound_after p u dispatch handle sound rest x y one.stood one.stands one.moved.setting one.only,
+        value_after p u dispatch handle sound rest y one.stands ∙ ap (λ (v : StackValue). over rest (Some v)) left ∙ ap (λ (v : StateValue). without_one v id) (sym old),
+        one.moved.gives.0 ∙ ap (λ (w : Result Bool RequestError × RegistryValue). says_closed w.0) given
+            ∙ ap (λ (v : StateValue). not (is_open kin_in (skeleton_of (without_one v id)).registry.spans id)) (sym old),
       )

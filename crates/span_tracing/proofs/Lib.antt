@@ -1,7 +1,6 @@
 pub mod Anew
 pub mod Lists
 pub mod FieldNames
-pub mod Padded
 pub mod Handed
 pub mod Values
 pub mod Keeping

@@ -19,6 +19,10 @@ same_item [] n a b h e k = absurd (omega arith)
 same_item (x ∷ xs) zero a b h e k = e ∙ sym k
 same_item (x ∷ xs) (suc n) a b h e k = same_item xs n a b (omega arith) e k
 
+pub length_map : {A : Type 0} → {B : Type 0} (f : A → B) (xs : List A) → length (map f xs) ≡ length xs
+length_map f [] = refl
+length_map f (x ∷ xs) = ap suc (length_map f xs)
+
 -- the last of a list of one
 pub only_last : {A : Type 0} (xs rest : List A) (x y : A) → xs ≡ rest ++ x ∷ [] → xs ≡ y ∷ [] → (rest ≡ []) × (x ≡ y)
 only_last xs [] x y e f = (refl, cc)

@@ -3,7 +3,7 @@ use Rattle.std.proofs.Common.{◌≡◌, Option, Some, Result, Ok, Err, IfErr, s
 use Rattle.std.proofs.lemmas.Option.{same_Some}
 use Rattle.tracing_appender_rolling.specs.Appenders.{MayOpen, HandsBack}
 use Rattle.tracing_appender_rolling.specs.Contents.{Contents}
-use Rattle.tracing_appender_rolling.specs.declared.fault.FolderError.{FolderError}
+use Rattle.tracing_appender_rolling.specs.FolderError.{FolderError}
 use Rattle.span_tracing_machine.specs.declared.refusal.Refusal.TheVariants as refusals
 use Rattle.span_tracing_stack.specs.declared.setting.Setting.{Setting}
 use Rattle.span_tracing.specs.declared.output.Output.{Output}

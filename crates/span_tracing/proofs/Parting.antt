@@ -1,5 +1,5 @@
 -- What a handed call leaves of a trace's parts.
-use Rattle.std.proofs.Common.{◌≡◌, ℕ, ◌≤◌, Bool, true, false, List, length, map, Option, Some, None, Result, Ok, Err, string_bytes, refl, sym, ap, ◌∙◌, subst}
+use Rattle.std.proofs.Common.{◌≡◌, ℕ, Bool, true, false, List, map, Option, Some, None, Result, Ok, Err, string_bytes, refl, sym, ap, ◌∙◌, subst}
 use Rattle.std.specs.Prelude.{slice_get}
 use Rattle.tracing_core.specs.Defaults.{was_set}
 use Rattle.tracing_core.specs.Table.{Table}
@@ -15,12 +15,11 @@ use Rattle.span_tracing_machine.specs.FieldTexts.{fields_text}
 use Rattle.span_tracing_machine.specs.Lines.{Shown, full_line}
 use Rattle.span_tracing_machine.specs.Machine.{parent_id, parent_refusal}
 use Rattle.span_tracing_machine.specs.Skeleton.{PlainCallsite}
-use Rattle.span_tracing_machine.specs.Spans.{current}
-use Rattle.span_tracing_machine.specs.State.{event_line, target_of, fields_of, shown_span, scope_ids}
+use Rattle.span_tracing_machine.specs.State.{event_line, target_of, fields_of, from_root, shown_span}
 use Rattle.span_tracing_machine.proofs.Refusing.{second_none, none_when}
-use Rattle.span_tracing_stack.specs.Lanes.{padded}
+use Rattle.span_registry_layers_store.specs.Registries.{under}
 use Rattle.span_tracing_stack.specs.Moves.{EventGives, TellsLine}
-use Rattle.span_tracing_stack.specs.Stacks.{StackValue, PlainTold, passes, knows_parent, under, line_in, plain_time}
+use Rattle.span_tracing_stack.specs.Stacks.{StackValue, PlainTold, passes, knows_parent, line_in, plain_time}
 use Rattle.span_tracing_stack.specs.declared.setting.Setting.{Setting}
 use Rattle.span_tracing.specs.Actions.{plain_request}
 use Rattle.span_tracing.specs.Skeletons.{plain_callsite, plain_thread, filter_here, stack_of, stack_in, skeleton_with, value_with, value_in, told_in}
@@ -31,15 +30,13 @@ use Rattle.span_tracing.specs.declared.callsite.Callsite.{Callsite}
 use Rattle.span_tracing.specs.declared.parts.TraceParts.{TraceParts}
 use Rattle.span_tracing.specs.declared.site.Site.{Site}
 use Rattle.span_tracing.proofs.Keeping.{hub_alike, kept_alike, same_serials}
-use Rattle.span_tracing.proofs.Padded.{lane_at_padded}
 use Rattle.span_tracing.proofs.Values.{fields_same}
 
 -- the span that a request stands under
-pub start_same : (x : StackValue) (n lane : ℕ) (parent : Parent) → under x lane (parent_of parent) ≡ parent_id (padded n x.lanes) lane parent
-unfolding parent_id
-start_same x n lane Contextual = ap current (sym (lane_at_padded n x.lanes lane))
-start_same x n lane Root = refl
-start_same x n lane (Explicit name) = refl
+pub start_same : (x : StackValue) (lane : ℕ) (parent : Parent) → under x.registry lane (parent_of parent) ≡ parent_id x.registry lane parent
+start_same x lane Contextual = refl
+start_same x lane Root = refl
+start_same x lane (Explicit name) = refl
 
 line_of_fields : (time : Option (List ℕ)) (scope : List Shown) (target : List ℕ) (names : List (List ℕ)) (a b : List (ℕ × Rattle.tracing_core.specs.PlainValue.PlainValue)) → fields_text names a ≡ fields_text names b → full_line time scope target names a ≡ full_line time scope target names b
 unfolding full_line
@@ -50,10 +47,10 @@ pub line_same : (x : StackValue) (c : Callsite) (r : Request) (cs : List PlainCa
 unfolding event_line
 line_same x c r cs n is_global place at =
     let names = map string_bytes c.fields.items in
-    let line = λ (start : Option ℕ). full_line (plain_time x.setting.format.timer) (map (shown_span x.texts) (scope_ids x.spans start)) (string_bytes c.target) names in
-    ap (λ (start : Option ℕ). line start (values_of c r).entries) (start_same x n r.lane r.parent)
+    let line = λ (start : Option ℕ). full_line (plain_time x.setting.format.timer) (map (shown_span x.texts) (from_root x.registry start)) (string_bytes c.target) names in
+    ap (λ (start : Option ℕ). line start (values_of c r).entries) (start_same x r.lane r.parent)
     ∙ line_of_fields _ _ _ names (values_of c r).entries (plain_request r).values (fields_same names r.values.now)
-    ∙ ap (λ (o : Option PlainCallsite). full_line (plain_time x.setting.format.timer) (map (shown_span x.texts) (scope_ids x.spans (parent_id (padded n x.lanes) r.lane r.parent))) (target_of o) (fields_of o) (plain_request r).values) (sym at)
+    ∙ ap (λ (o : Option PlainCallsite). full_line (plain_time x.setting.format.timer) (map (shown_span x.texts) (from_root x.registry (parent_id x.registry r.lane r.parent))) (target_of o) (fields_of o) (plain_request r).values) (sym at)
 
 -- a parent that is not refused is open
 pub parent_known : (cs : List PlainCallsite) (n : ℕ) (is_global : Bool) (x : StackValue) (parent : Parent) → parent_refusal (skeleton_with cs n is_global (Some x)) parent ≡ None → knows_parent x (parent_of parent) ≡ true
@@ -95,18 +92,14 @@ module _ (p : TraceParts) (u : Table StackValue Site) (dispatch : Option ℕ) (h
       ∙ ap (λ (t : Table StackValue Site). value_with (map plain_callsite p.callsites.items) (map plain_thread p.threads.items) (was_set t.global) p.starved (Some y)) rest
 
   -- the stack that took the call passes what it passed
-  pub sound_after : (x y : StackValue) → stack_of (Some dispatch) p.hub.entries ≡ Some x → stack_of (Some dispatch) u.entries ≡ Some y → y.setting ≡ x.setting → HasOnly (Some dispatch) p.hub.global u.entries → length y.lanes ≤ length p.threads.items → IsSound later
-  sound_after x y stood stands same only fits =
+  pub sound_after : (x y : StackValue) → stack_of (Some dispatch) p.hub.entries ≡ Some x → stack_of (Some dispatch) u.entries ≡ Some y → y.setting ≡ x.setting → HasOnly (Some dispatch) p.hub.global u.entries → IsSound later
+  sound_after x y stood stands same only =
       let filter = ap filter_here (stack_after y stands) ∙ ap (λ (s : Setting). Some s.filter) same ∙ sym (ap filter_here (stack_before x stood)) in
       record {
         only = subst (λ h. HasOnly h u.global u.entries) (sym handle) (subst (λ (t : Table StackValue Site). HasOnly (Some dispatch) t.global u.entries) (sym rest) only);
         lanes = ap (λ (t : Table StackValue Site). t.lanes) rest ∙ sound.lanes;
-        fits = subst (λ (o : Option StackValue). length (Rattle.span_tracing.specs.Skeletons.lanes_in o) ≤ length p.threads.items) (sym (stack_after y stands)) fits;
         hub = hub_alike p.hub u rest (same_serials dispatch p.hub.global p.hub.global p.hub.entries u.entries has_only only) sound.hub;
         kept =
             subst (λ o. KeepsCallsites o p.callsites.items u) (sym filter)
             (kept_alike (filter_here (stack_in p)) p.callsites.items p.hub u (ap (λ (t : Table StackValue Site). t.rows) rest) (ap (λ (t : Table StackValue Site). t.greatest) rest) sound.kept);
       }
-
-  pub fits_before : (x : StackValue) → stack_of (Some dispatch) p.hub.entries ≡ Some x → length x.lanes ≤ length p.threads.items
-  fits_before x stood = subst (λ (o : Option StackValue). length (Rattle.span_tracing.specs.Skeletons.lanes_in o) ≤ length p.threads.items) (stack_before x stood) sound.fits

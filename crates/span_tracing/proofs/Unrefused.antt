@@ -4,22 +4,23 @@ use Rattle.std.specs.Prelude.{nat_le, nat_lt}
 use Rattle.std.specs.Option.{is_some, option_map}
 use Rattle.std.proofs.lemmas.Bool.Decides.{nat_tests}
 use Rattle.std.specs.Cmp.{unsigned_Decides}
-use Rattle.span_tracing_machine.specs.PlainData.{Request, GlobalStep, EventStep, EnabledStep, SpanStep, CloneStep}
+use Rattle.span_tracing_machine.specs.PlainData.{Request, GlobalStep, EventStep, EnabledStep, SpanStep, CloneStep, CloseStep}
 use Rattle.span_tracing_machine.specs.declared.call.EnabledCall.{EnabledCall}
 use Rattle.span_tracing_machine.specs.declared.call.Parent.{Parent}
 use Rattle.span_tracing_machine.specs.declared.call.SpanCall.{SpanCall}
 use Rattle.span_tracing_machine.specs.declared.call.SpanName.{SpanName}
-use Rattle.span_tracing_machine.specs.Spans.{handles_of, is_open}
-use Rattle.tracing_appender_rolling.specs.declared.moment.Moment.{Moment}
+use Rattle.span_registry_layers_store.specs.Registries.{kin_in}
+use Rattle.span_registry_layers_store.specs.Spans.{handles_of, is_open}
+use Rattle.tracing_appender_rolling.specs.Moment.{Moment}
 use Rattle.span_tracing_machine.specs.declared.refusal.Refusal.TheVariants.{UnknownLane, UnknownSpan, IdsSpent, TooManyHandles, GlobalSet, UnknownStack}
-use Rattle.span_tracing_machine.specs.Machine.{when, count_refusal, span_refusal, knows_stack, refusal_of, ids_refusal, parent_refusal, request_refusal, made_at, call_refusal, callsite_refusal, known_place, lane_refusal, moment_refusal}
+use Rattle.span_tracing_machine.specs.Machine.{when, count_refusal, handle_refusal, span_refusal, knows_stack, refusal_of, ids_refusal, parent_refusal, request_refusal, made_at, call_refusal, callsite_refusal, known_place, lane_refusal, moment_refusal}
 use Rattle.span_tracing_machine.specs.Skeleton.{Skeleton, Mask}
 use Rattle.span_tracing_machine.specs.State.{PlainText, event_line, handed_at, offer_of}
 use Rattle.span_tracing_machine.proofs.Refusing.{first_none, none_when, second_none}
-use Rattle.span_tracing.specs.Skeletons.{skeleton_of, value_in}
+use Rattle.span_tracing.specs.Skeletons.{plain_thread, skeleton_of, value_in}
 use Rattle.span_tracing.specs.Sound.{IsSound}
 use Rattle.span_tracing.specs.declared.parts.TraceParts.{TraceParts}
-use Rattle.span_tracing.proofs.Padded.{lanes_count}
+use Rattle.span_tracing.proofs.Lists.{length_map}
 
 pub event_parent : (s : Skeleton) (e : Request) (mask : Mask) → refusal_of s (EventStep e) mask ≡ None → parent_refusal s e.parent ≡ None
 unfolding refusal_of
@@ -36,9 +37,9 @@ not_past n h = by_test (nat_lt 18446744073709551615 n) refl h
     by_test true e h = absurd (cc)
     by_test false e h = grind (arith, nat_tests)
 
-pub span_id : (s : Skeleton) (n : Request) (mask : Mask) (place : ℕ) → refusal_of s (SpanStep n) mask ≡ None → made_at s n.callsite true mask ≡ Some place → s.next_id ≤ 18446744073709551615
+pub span_id : (s : Skeleton) (n : Request) (mask : Mask) (place : ℕ) → refusal_of s (SpanStep n) mask ≡ None → made_at s n.callsite true mask ≡ Some place → s.registry.next_id ≤ 18446744073709551615
 unfolding refusal_of
-span_id s n mask place h at = not_past s.next_id (rw at at (second_none (request_refusal s n.lane n.moment n.callsite true n.parent) _ h))
+span_id s n mask place h at = not_past s.registry.next_id (rw at at (second_none (request_refusal s n.lane n.moment n.callsite true n.parent) _ h))
 
 not_beyond : (count lane : ℕ) → when (nat_le count lane) UnknownLane ≡ None → lane < count
 not_beyond count lane h = by_test (nat_le count lane) refl h
@@ -48,14 +49,14 @@ not_beyond count lane h = by_test (nat_le count lane) refl h
     by_test false e h = grind (arith, nat_tests)
 
 pub call_lane : (p : TraceParts) (call : SpanCall) → IsSound p → call_refusal (skeleton_of (value_in p)) call ≡ None → call.lane < length p.threads.items
-call_lane p call sound h = let inside = not_beyond (length (skeleton_of (value_in p)).lanes) call.lane (first_none (lane_refusal (skeleton_of (value_in p)) call.lane) _ h) in let same = lanes_count p sound in omega (arith, inside, same)
+call_lane p call sound h = let inside = not_beyond (skeleton_of (value_in p)).lanes call.lane (first_none (lane_refusal (skeleton_of (value_in p)) call.lane) _ h) in let same = length_map plain_thread p.threads.items in omega (arith, inside, same)
 
 pub none_there : {A : Type 0} (o : Option A) → is_some o ≡ false → o ≡ None
 none_there None h = refl
 none_there (Some x) h = absurd (cc)
 
 pub request_lane : (p : TraceParts) (lane : ℕ) (moment : Moment) (number : ℕ) (is_span : Bool) (parent : Parent) → IsSound p → request_refusal (skeleton_of (value_in p)) lane moment number is_span parent ≡ None → lane < length p.threads.items
-request_lane p lane moment number is_span parent sound h = let inside = not_beyond (length (skeleton_of (value_in p)).lanes) lane (first_none (lane_refusal (skeleton_of (value_in p)) lane) _ h) in let same = lanes_count p sound in omega (arith, inside, same)
+request_lane p lane moment number is_span parent sound h = let inside = not_beyond (skeleton_of (value_in p)).lanes lane (first_none (lane_refusal (skeleton_of (value_in p)) lane) _ h) in let same = length_map plain_thread p.threads.items in omega (arith, inside, same)
 
 -- the lane of a request that isn't refused was given
 pub event_lane : (p : TraceParts) (e : Request) (mask : Mask) → IsSound p → refusal_of (skeleton_of (value_in p)) (EventStep e) mask ≡ None → e.lane < length p.threads.items
@@ -68,26 +69,26 @@ span_lane p n mask sound h = request_lane p n.lane n.moment n.callsite true n.pa
 
 pub asked_lane : (p : TraceParts) (call : EnabledCall) (mask : Mask) → IsSound p → refusal_of (skeleton_of (value_in p)) (EnabledStep call) mask ≡ None → call.lane < length p.threads.items
 unfolding refusal_of
-asked_lane p call mask sound h = let inside = not_beyond (length (skeleton_of (value_in p)).lanes) call.lane (first_none (lane_refusal (skeleton_of (value_in p)) call.lane) _ h) in let same = lanes_count p sound in omega (arith, inside, same)
+asked_lane p call mask sound h = let inside = not_beyond (skeleton_of (value_in p)).lanes call.lane (first_none (lane_refusal (skeleton_of (value_in p)) call.lane) _ h) in let same = length_map plain_thread p.threads.items in omega (arith, inside, same)
 
 -- while ids are left, none is refused for want of one
-pub ids_left : (s : Skeleton) (place : Option ℕ) → s.next_id ≤ 18446744073709551615 → ids_refusal s place ≡ None
+pub ids_left : (s : Skeleton) (place : Option ℕ) → s.registry.next_id ≤ 18446744073709551615 → ids_refusal s place ≡ None
 ids_left s None left = refl
-ids_left s (Some place) left = by_test (nat_lt 18446744073709551615 s.next_id) refl
+ids_left s (Some place) left = by_test (nat_lt 18446744073709551615 s.registry.next_id) refl
   where
-    by_test : (b : Bool) → nat_lt 18446744073709551615 s.next_id ≡ b → when b IdsSpent ≡ None
+    by_test : (b : Bool) → nat_lt 18446744073709551615 s.registry.next_id ≡ b → when b IdsSpent ≡ None
     by_test true e = absurd (grind (arith, nat_tests))
     by_test false e = refl
 
 -- the span of a call that isn't refused is open
-pub clone_there : (s : Skeleton) (call : SpanCall) (name : SpanName) → refusal_of s (CloneStep call) [] ≡ None → call.span ≡ Some name → (is_open s.spans name.id ≡ true) × ¬ (handles_of s.spans name.id ≡ 18446744073709551615)
+pub clone_there : (s : Skeleton) (call : SpanCall) (name : SpanName) → refusal_of s (CloneStep call) [] ≡ None → call.span ≡ Some name → (is_open kin_in s.registry.spans name.id ≡ true) × ¬ (handles_of kin_in s.registry.spans name.id ≡ 18446744073709551615)
 unfolding refusal_of
 clone_there s call name h is =
     let whole = first_none (call_refusal s call) (count_refusal s call.span) h in
     let on_span : span_refusal s (Some name) ≡ None = ap (span_refusal s) (sym is) ∙ second_none (moment_refusal call.moment) _ (second_none (lane_refusal s call.lane) _ whole) in
     let counted : count_refusal s (Some name) ≡ None = ap (count_refusal s) (sym is) ∙ second_none (call_refusal s call) _ h in (
-      none_when (is_open s.spans name.id) UnknownSpan (second_none (when (not (knows_stack s name.stack)) UnknownStack) _ on_span),
-      λ most. full (handles_of s.spans name.id) most counted,
+      none_when (is_open kin_in s.registry.spans name.id) UnknownSpan (second_none (when (not (knows_stack s name.stack)) UnknownStack) _ on_span),
+      λ most. full (handles_of kin_in s.registry.spans name.id) most counted,
     )
   where
     full : (n : ℕ) → n ≡ 18446744073709551615 → when (n == 18446744073709551615) TooManyHandles ≡ None → ⊥
@@ -96,6 +97,20 @@ clone_there s call name h is =
         by_test : (b : Bool) → (n == 18446744073709551615) ≡ b → when b TooManyHandles ≡ None → ⊥
         by_test true at h = cc
         by_test false at h = let same = (unsigned_Decides n 18446744073709551615).1 most in cc
+
+-- and has a handle, where one can be given up
+pub close_counted : (s : Skeleton) (call : SpanCall) (name : SpanName) → refusal_of s (CloseStep call) [] ≡ None → call.span ≡ Some name → ¬ (handles_of kin_in s.registry.spans name.id ≡ 0)
+unfolding refusal_of
+close_counted s call name h is =
+    let counted : handle_refusal s (Some name) ≡ None = ap (handle_refusal s) (sym is) ∙ second_none (call_refusal s call) _ h in
+    λ none. empty (handles_of kin_in s.registry.spans name.id) none counted
+  where
+    empty : (n : ℕ) → n ≡ 0 → when (n == 0) UnknownSpan ≡ None → ⊥
+    empty n none e = by_test (n == 0) refl e
+      where
+        by_test : (b : Bool) → (n == 0) ≡ b → when b UnknownSpan ≡ None → ⊥
+        by_test true at h = cc
+        by_test false at h = let same = (unsigned_Decides n 0).1 none in cc
 
 -- the line that an event offers where it is made
 pub offered : (s : Skeleton) (texts : List PlainText) (time : Option (List ℕ)) (e : Request) (mask : Mask) (place : ℕ) → made_at s e.callsite false mask ≡ Some place → offer_of s texts time (EventStep e) mask ≡ Some (handed_at e.moment (event_line s texts time e place))

@@ -1,7 +1,7 @@
 -- The headline: which bytes stand in which file.
 use Rattle.std.specs.Prelude.{◌≡◌, ◌<◌, List, true, Option, Some, None}
 use Rattle.std.specs.List.{AllByRecursion}
-use Rattle.tracing_appender_rolling.specs.declared.moment.Moment.{Moment}
+use Rattle.tracing_appender_rolling.specs.Moment.{Moment}
 use Rattle.tracing_appender_rolling.specs.Moments.{is_moment}
 use Rattle.tracing_appender_rolling.specs.Contents.{Contents, bytes_at}
 use Rattle.tracing_appender_rolling.specs.Sinks.{Handed, PlainSink, period_in, period_name, period_text}

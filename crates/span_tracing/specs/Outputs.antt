@@ -1,13 +1,13 @@
 -- Outputs without where they lie in memory, and what a stack of them is.
 use Rattle.std.specs.Prelude.{◌≡◌, ℕ, List, [], ◌∷◌, Option, Some, not, true}
-use Rattle.tracing_appender_rolling.specs.declared.moment.Moment.{Moment}
+use Rattle.tracing_appender_rolling.specs.Moment.{Moment}
 use Rattle.tracing_appender_rolling.specs.Moments.{is_moment}
 use Rattle.tracing_appender_rolling.specs.Names.{is_bad_name, FileNames}
 use Rattle.tracing_appender_rolling.specs.Builders.{builder_names}
 use Rattle.tracing_appender_rolling.specs.Contents.{Contents}
 use Rattle.tracing_appender_rolling.specs.Appenders.{fresh_sink, MayOpen, HandsBack}
-use Rattle.tracing_appender_rolling.specs.declared.fault.FolderError.{FolderError}
-use Rattle.tracing_appender_rolling.specs.declared.fault.FolderError.TheVariants.{Fault, OutOfMemory}
+use Rattle.tracing_appender_rolling.specs.FolderError.{FolderError}
+use Rattle.tracing_appender_rolling.specs.FolderError.TheVariants.{Fault, OutOfMemory}
 use Rattle.span_tracing_machine.specs.declared.refusal.Refusal.{Refusal}
 use Rattle.span_tracing_machine.specs.declared.refusal.Refusal.TheVariants.{BadMoment, NoOutput, BadName, FolderRefused}
 use Rattle.span_tracing_machine.specs.declared.refusal.Refusal.TheVariants as refusals

@@ -8,8 +8,7 @@ use Rattle.tracing_core.specs.InterestInner.TheVariants.{Never, Always}
 use Rattle.tracing_core.specs.Lent.{living_of}
 use Rattle.span_tracing_machine.specs.Skeleton.{Skeleton, PlainCallsite}
 use Rattle.span_tracing_machine.specs.State.{PlainText}
-use Rattle.span_tracing_machine.specs.declared.record.SpanRecord.{SpanRecord}
-use Rattle.span_tracing_stack.specs.Lanes.{padded}
+use Rattle.span_registry_layers_store.specs.Registries.{RegistryValue, new_registry}
 use Rattle.span_tracing_stack.specs.Stacks.{StackValue, PlainTold, Quiet, plain_time}
 use Rattle.span_tracing_stack.specs.declared.setting.Setting.{Setting}
 use Rattle.span_tracing.specs.declared.callsite.Callsite.{Callsite}
@@ -97,17 +96,9 @@ abbrev pub interest_in : StateValue → ℕ → PlainInterest
 interest_in v level = interest_by (filter_in (setting_of v)) level
 
 -- what a stack keeps, and where there is none what a new one would
-abbrev pub lanes_in : Option StackValue → List (List ℕ)
-lanes_in None = []
-lanes_in (Some x) = x.lanes
-
-abbrev pub spans_in : Option StackValue → List SpanRecord
-spans_in None = []
-spans_in (Some x) = x.spans
-
-abbrev pub next_in : Option StackValue → ℕ
-next_in None = 1
-next_in (Some x) = x.next_id
+abbrev pub registry_in : Option StackValue → RegistryValue
+registry_in None = new_registry
+registry_in (Some x) = x.registry
 
 abbrev pub texts_in : Option StackValue → List PlainText
 texts_in None = []
@@ -117,14 +108,13 @@ abbrev pub told_in : Option StackValue → PlainTold
 told_in None = Quiet
 told_in (Some x) = x.told
 
--- callsites and lanes of a trace over a stack; a lane that was never entered has no entries
+-- callsites and lanes of a trace over a stack
 abbrev pub skeleton_with : List PlainCallsite → ℕ → Bool → Option StackValue → Skeleton
 skeleton_with callsites lanes is_global stack =
     record {
       callsites = callsites;
-      lanes = padded lanes (lanes_in stack);
-      spans = spans_in stack;
-      next_id = next_in stack;
+      lanes = lanes;
+      registry = registry_in stack;
       has_stack = is_some stack;
       is_global = is_global;
     }
@@ -146,7 +136,7 @@ value_in p = value_with (map plain_callsite p.callsites.items) (map plain_thread
 abbrev pub new_state : StateValue
 new_state =
     record {
-      skeleton = record { callsites = []; lanes = []; spans = []; next_id = 1; has_stack = false; is_global = false };
+      skeleton = record { callsites = []; lanes = 0; registry = new_registry; has_stack = false; is_global = false };
       threads = [];
       output = None;
       texts = [];

@@ -1,7 +1,6 @@
 -- What is true of the parts of each trace.
-use Rattle.std.specs.Prelude.{◌≡◌, ◌≤◌, ℕ, List, [], ◌∷◌, length, map, replicate, Option, Some, None, unwrap_or}
+use Rattle.std.specs.Prelude.{◌≡◌, ℕ, List, [], ◌∷◌, length, map, replicate, Option, Some, None, unwrap_or}
 use Rattle.tracing_core.specs.Entry.{Entry}
-use Rattle.tracing_core.specs.Lane.{Lane}
 use Rattle.tracing_core.specs.Lane.TheVariants.{Running}
 use Rattle.tracing_core.specs.Row.{Row}
 use Rattle.tracing_core.specs.Setting.{Setting}
@@ -13,7 +12,7 @@ use Rattle.span_tracing.specs.declared.callsite.Callsite.{Callsite}
 use Rattle.span_tracing.specs.declared.parts.TraceParts.{TraceParts}
 use Rattle.span_tracing.specs.declared.site.Site.{Site}
 use Rattle.span_tracing.specs.contracts.site.SiteCallsite.TheImpl.{ghosts}
-use Rattle.span_tracing.specs.Skeletons.{filter_here, interest_by, lanes_in, stack_in}
+use Rattle.span_tracing.specs.Skeletons.{filter_here, interest_by, stack_in}
 use Rattle.span_tracing.specs.Telling.{own_metadata}
 
 -- where a default was set, it is the subscriber of the number
@@ -39,7 +38,6 @@ pub record IsSound (p : TraceParts) : Type 0 where
   pub only : HasOnly p.handle p.hub.global p.hub.entries
   -- no lane has a default of its own
   pub lanes : p.hub.lanes ≡ replicate (length p.threads.items) (Running Unset)
-  pub fits : length (lanes_in (stack_in p)) ≤ length p.threads.items
   pub hub : IsSoundHub ghosts p.hub
   pub kept : KeepsCallsites (filter_here (stack_in p)) p.callsites.items p.hub
 

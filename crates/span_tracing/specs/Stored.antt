@@ -1,20 +1,21 @@
 -- What a step does to what a trace stores.
-use Rattle.std.specs.Prelude.{◌≡◌, ℕ, List, [], ◌∷◌, ◌++◌, Option, Some, None, slice_get, filter, true, IsSome}
+use Rattle.std.specs.Prelude.{◌==◌, if◌then◌else◌, ◌≡◌, ℕ, List, [], ◌∷◌, ◌++◌, Option, Some, None, filter, true, IsSome}
 use Rattle.std.specs.Option.{option_map}
+use Rattle.tracing_core.specs.PlainValue.{PlainValue}
 use Rattle.tracing_appender_rolling.specs.Contents.{Contents}
 use Rattle.tracing_appender_rolling.specs.Sinks.{Handed, PlainSink}
 use Rattle.tracing_appender_rolling.specs.Appenders.{AgreesSink}
 use Rattle.tracing_appender_rolling.specs.declared.appender.RollingFileAppender.{RollingFileAppender}
 use Rattle.span_tracing_machine.specs.declared.fate.Fate.{Fate}
-use Rattle.span_tracing_machine.specs.declared.record.SpanRecord.{SpanRecord}
+use Rattle.span_registry_layers_store.specs.Registries.{PlainSpan, kin_in}
+use Rattle.span_registry_layers_store.specs.Spans.{is_open}
 use Rattle.span_tracing_machine.specs.declared.call.SpanName.{SpanName}
-use Rattle.span_tracing_machine.specs.PlainData.{Request, PlainStep, GlobalStep, EventStep, EnabledStep, SpanStep, FollowsFromStep, EnterStep, ExitStep, CloneStep, CloseStep}
-use Rattle.span_tracing_machine.specs.FieldTexts.{fields_text}
-use Rattle.span_tracing_machine.specs.Spans.{is_open}
+use Rattle.span_tracing_machine.specs.PlainData.{Request, PlainStep, GlobalStep, EventStep, EnabledStep, SpanStep, RecordStep, FollowsFromStep, EnterStep, ExitStep, CloneStep, CloseStep}
+use Rattle.span_tracing_machine.specs.FieldTexts.{FieldList, lists_text, with_lists}
 use Rattle.span_tracing_machine.specs.Skeleton.{Skeleton, Mask}
-use Rattle.span_tracing_machine.specs.Machine.{refusal_of, acted, after, or_same, made_at}
+use Rattle.span_tracing_machine.specs.Machine.{refusal_of, acted, after, or_same, made_at, span_place}
 use Rattle.span_tracing_machine.specs.Missed.{TextOf, given_by, wanted, wants_of, starved_by, count_missed}
-use Rattle.span_tracing_machine.specs.State.{PlainText, name_of, fields_of, step_mask}
+use Rattle.span_tracing_machine.specs.State.{PlainText, list_at, step_mask}
 use Rattle.span_tracing.specs.Skeletons.{StateValue, skeleton_of, threads_of, setting_of, texts_of, filter_in}
 
 -- the mask of a step
@@ -25,12 +26,23 @@ mask_in t step = step_mask (skeleton_of t) (filter_in (setting_of t)) step
 abbrev pub with_text : List PlainText → Skeleton → Request → Fate → Option ℕ → List PlainText
 with_text texts s n fate None = texts
 with_text texts s n fate (Some place) =
-    texts ++ (record { id = s.next_id; name = name_of (slice_get s.callsites place); bytes = fields_text (fields_of (slice_get s.callsites place)) (given_by fate n.values) }) ∷ []
+    texts ++ (record { id = s.registry.next_id; bytes = lists_text (given_by fate (list_at s place n.values)) }) ∷ []
 
-abbrev pub open_texts : List SpanRecord → List PlainText → List PlainText
-open_texts spans texts = filter (λ (t : PlainText). is_open spans t.id) texts
+-- with those of more lists in the text of the span of an id
+abbrev pub with_more_text : List PlainText → ℕ → List FieldList → List PlainText
+with_more_text [] id more = []
+with_more_text (t ∷ ts) id more = if t.id == id then (record t { bytes = with_lists t.bytes more }) ∷ ts else t ∷ with_more_text ts id more
 
-abbrev pub texts_left : Option SpanName → List SpanRecord → List PlainText → List PlainText
+-- with what was recorded of a span, at the callsite of a place; a record on no span adds nothing
+abbrev pub with_record_text : List PlainText → Skeleton → Option SpanName → List (ℕ × PlainValue) → Fate → Option ℕ → List PlainText
+with_record_text texts s None values fate place = texts
+with_record_text texts s (Some name) values fate None = texts
+with_record_text texts s (Some name) values fate (Some place) = with_more_text texts name.id (given_by fate (list_at s place values))
+
+abbrev pub open_texts : List PlainSpan → List PlainText → List PlainText
+open_texts spans texts = filter (λ (t : PlainText). is_open kin_in spans t.id) texts
+
+abbrev pub texts_left : Option SpanName → List PlainSpan → List PlainText → List PlainText
 texts_left None spans texts = texts
 texts_left (Some name) spans texts = open_texts spans texts
 
@@ -39,11 +51,12 @@ texts_acted s texts (GlobalStep handle) mask fate = texts
 texts_acted s texts (EventStep e) mask fate = texts
 texts_acted s texts (EnabledStep call) mask fate = texts
 texts_acted s texts (SpanStep n) mask fate = with_text texts s n fate (made_at s n.callsite true mask)
+texts_acted s texts (RecordStep r) mask fate = with_record_text texts s r.span r.values fate (span_place s r.span)
 texts_acted s texts (FollowsFromStep call) mask fate = texts
 texts_acted s texts (EnterStep call) mask fate = texts
-texts_acted s texts (ExitStep call) mask fate = texts_left call.span (acted s (ExitStep call) mask).spans texts
+texts_acted s texts (ExitStep call) mask fate = texts_left call.span (acted s (ExitStep call) mask).registry.spans texts
 texts_acted s texts (CloneStep call) mask fate = texts
-texts_acted s texts (CloseStep call) mask fate = texts_left call.span (acted s (CloseStep call) mask).spans texts
+texts_acted s texts (CloseStep call) mask fate = texts_left call.span (acted s (CloseStep call) mask).registry.spans texts
 
 -- a step that is not refused, whose one text or line met this fate
 pub record Acted (old new : StateValue) (step : PlainStep) (fate : Fate) : Type 0 where
@@ -86,6 +99,7 @@ TakesRoom s (GlobalStep handle) mask = ⊥
 TakesRoom s (EventStep e) mask = ⊥
 TakesRoom s (EnabledStep call) mask = ⊥
 TakesRoom s (SpanStep n) mask = IsSome (made_at s n.callsite true mask)
+TakesRoom s (RecordStep r) mask = ⊥
 TakesRoom s (FollowsFromStep call) mask = ⊥
 TakesRoom s (EnterStep call) mask = IsSome call.span
 TakesRoom s (ExitStep call) mask = ⊥

@@ -1,12 +1,13 @@
 -- Requests as the hub passes them on.
-use Rattle.std.specs.Prelude.{ℕ, length, map, string_bytes}
+use Rattle.std.specs.Prelude.{ℕ, List, length, map, string_bytes}
+use Rattle.tracing_core.specs.FieldValue.{FieldValue}
 use Rattle.tracing_core.specs.PlainMetadata.{PlainMetadata}
 use Rattle.tracing_core.specs.OwnedValues.{indexed_entries}
 use Rattle.tracing_core.specs.PlainRequests.{PlainAttributes, PlainEvent, PlainValues}
 use Rattle.tracing_core.specs.At.{At}
 use Rattle.tracing_core.specs.Parent as core
 use Rattle.tracing_core.specs.Parent.TheVariants as core_parents
-use Rattle.tracing_appender_rolling.specs.declared.moment.Moment.{Moment}
+use Rattle.tracing_appender_rolling.specs.Moment.{Moment}
 use Rattle.span_tracing_machine.specs.declared.call.Parent.{Parent}
 use Rattle.span_tracing_machine.specs.declared.call.Parent.TheVariants.{Contextual, Root, Explicit}
 use Rattle.span_tracing.specs.declared.action.Request.{Request}
@@ -22,10 +23,14 @@ parent_of Contextual = core_parents.Current
 parent_of Root = core_parents.Root
 parent_of (Explicit name) = core_parents.Explicit name.id
 
-abbrev pub values_of : Callsite → Request → PlainValues
-values_of c r =
+-- values by index, of the fields of a callsite
+abbrev pub values_with : Callsite → List FieldValue → PlainValues
+values_with c values =
     let names = map string_bytes c.fields.items in
-    record { callsite = c.number; names = names; entries = indexed_entries (length names) r.values.now }
+    record { callsite = c.number; names = names; entries = indexed_entries (length names) values }
+
+abbrev pub values_of : Callsite → Request → PlainValues
+values_of c r = values_with c r.values.now
 
 abbrev pub event_of : Callsite → Request → PlainEvent
 event_of c r = record { metadata = own_metadata c; values = values_of c r; parent = parent_of r.parent }

@@ -4,7 +4,7 @@ ghost use Rattle.std.specs.Prelude.{◌≡◌};
 ghost use Rattle.span_tracing_machine.specs.PlainData.{plain_step};
 ghost use Rattle.span_tracing.specs.Actions.{plain_action};
 
-use span_tracing_machine::{EnabledCall, FollowsCall, Parent, SpanCall, Step};
+use span_tracing_machine::{EnabledCall, FollowsCall, Parent, SpanCall, SpanName, Step};
 use tracing_appender_rolling::Moment;
 use tracing_core::FieldValue;
 
@@ -18,6 +18,15 @@ pub(crate) struct Request<'a> {
     pub(crate) values: &'a [FieldValue],
 }
 
+/// Values for a span.
+#[derive(Clone, Copy, Debug)]
+pub(crate) struct RecordRequest<'a> {
+    pub(crate) lane: usize,
+    pub(crate) moment: Moment,
+    pub(crate) span: Option<SpanName>,
+    pub(crate) values: &'a [FieldValue],
+}
+
 /// A step of a trace.
 #[derive(Clone, Copy, Debug)]
 pub(crate) enum Action<'a> {
@@ -25,6 +34,7 @@ pub(crate) enum Action<'a> {
     Event(Request<'a>),
     Enabled(EnabledCall),
     NewSpan(Request<'a>),
+    Record(RecordRequest<'a>),
     RecordFollowsFrom(FollowsCall),
     Enter(SpanCall),
     Exit(SpanCall),
@@ -52,6 +62,12 @@ pub(crate) fn action_of(step: &Step) -> Action<'_>
             callsite: span.callsite.0,
             parent: span.parent,
             values: span.values.as_slice(),
+        }),
+        Step::Record(record) => Action::Record(RecordRequest {
+            lane: record.lane,
+            moment: record.moment,
+            span: record.span,
+            values: record.values.as_slice(),
         }),
         Step::RecordFollowsFrom(call) => Action::RecordFollowsFrom(*call),
         Step::Enter(call) => Action::Enter(*call),

@@ -93,7 +93,7 @@ impl TraceParts {
         }
     }
 
-    #[tactic(auto, using(crate::proofs::Padded::lanes_count))]
+    #[tactic(auto, using(crate::proofs::Lists::length_map))]
     fn lane_refusal(&self, lane: usize) -> Option<Refusal>
         requires { IsSound self.now }
         ensures { result ≡ lane_refusal (skeleton_of (value_in self.now)) lane }
@@ -104,6 +104,7 @@ impl TraceParts {
         None
     }
 
+    #[inline(always)]
     fn request_refusal(
         &self,
         lane: usize,
@@ -298,6 +299,7 @@ impl TraceParts {
     }
 
     /// Whether the hub lets requests at a callsite through.
+    #[inline(always)]
     fn is_let_through(&mut self, lane: usize, moment: Moment, number: u64) -> bool
         requires sound { IsSound self.old }
         requires lane { lane < length self.old.threads.items }
@@ -309,6 +311,7 @@ impl TraceParts {
     }
 
     /// Where a request is made, the place of its callsite.
+    #[inline(always)]
     #[tactic(auto, using(crate::proofs::Lists::slice_get_map), unfolding(span_tracing_machine::specs::Machine::made_at))]
     pub(crate) fn made_at(
         &mut self,
@@ -362,6 +365,7 @@ impl TraceParts {
 
     /// The first refusal that a step meets. It is found by reading, but for spent ids: only a span that is
     /// made meets those.
+    #[inline(always)]
     #[tactic(auto, unfolding(span_tracing_machine::specs::Machine::refusal_of, span_tracing_machine::specs::State::step_mask))]
     pub(crate) fn refusal(&mut self, action: &Action<'_>) -> Option<Refusal>
         requires { IsSound self.old }
@@ -391,6 +395,11 @@ impl TraceParts {
                 }
                 self.ids_refusal(span)
             }
+            Action::Record(call) => self.call_refusal(SpanCall {
+                lane: call.lane,
+                moment: call.moment,
+                span: call.span,
+            }),
             Action::RecordFollowsFrom(call) => self.follows_refusal(call),
             Action::Enter(call) => self.call_refusal(*call),
             Action::Exit(call) => self.call_refusal(*call),

@@ -1,6 +1,6 @@
 //! Callsites, lanes and the stack: what setup calls add.
 
-ghost use Rattle.std.specs.Prelude.{◌≡◌, ◌++◌, ◌∷◌, [], OnErr, OnOk, IfOk, None, Some, length, map, string_bytes, true};
+ghost use Rattle.std.specs.Prelude.{◌≡◌, ◌+◌, ◌++◌, ◌∷◌, [], OnErr, OnOk, IfOk, None, Some, length, map, string_bytes, true};
 ghost use Rattle.std.specs.Option.{option_copied, option_map};
 ghost use Rattle.tracing_core.specs.Metadata.{plain_metadata};
 ghost use Rattle.span_tracing_machine.specs.State.{callsite_named};
@@ -74,9 +74,9 @@ impl TraceParts {
     ) -> Result<usize, AllocError>
         requires { IsSound self.old }
         ensures sound { IsSound self.new }
-        ensures number { IfOk result (λ lane. lane ≡ length (skeleton_of (value_in self.old)).lanes) }
+        ensures number { IfOk result (λ lane. lane ≡ (skeleton_of (value_in self.old)).lanes) }
         ensures ok { OnOk result (value_in self.new ≡ record (value_in self.old) {
-          skeleton = record (skeleton_of (value_in self.old)) { lanes = (skeleton_of (value_in self.old)).lanes ++ [] ∷ [] };
+          skeleton = record (skeleton_of (value_in self.old)) { lanes = (skeleton_of (value_in self.old)).lanes + 1 };
           threads = threads_of (value_in self.old) ++ (record { name = option_map string_bytes name; number = thread_id }) ∷ [];
         }) }
         ensures err { OnErr result (value_in self.new ≡ value_in self.old) }

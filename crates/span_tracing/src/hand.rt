@@ -1,19 +1,19 @@
 //! Requests that the hub hands to the stack.
 
 ghost use Rattle.std.specs.Prelude.{◌≡◌};
-ghost use Rattle.tracing_core.specs.Calls.{SpanMade, Told};
+ghost use Rattle.tracing_core.specs.Calls.{Recorded, SpanMade, Told};
 ghost use Rattle.tracing_core.specs.Handing.{HubGives};
 ghost use Rattle.tracing_core.specs.PlainRequests.{plain_attributes, plain_event};
-ghost use Rattle.span_tracing.specs.Telling.{attributes_of, event_of, place_at};
+ghost use Rattle.span_tracing.specs.Telling.{attributes_of, event_of, place_at, values_with};
 
-use crate::action::Request;
+use crate::action::{RecordRequest, Request};
 use crate::callsite::Callsite;
 use crate::site::Site;
 use span_tracing_machine::Parent;
 use span_tracing_stack::Stack;
 use tracing_appender_rolling::Moment;
 use tracing_core::{
-    At, Attributes, Dispatch, Event, Hub, Id, Metadata, RequestError, Subscriber, ValueSet,
+    At, Attributes, Dispatch, Event, Hub, Id, Metadata, Record, RequestError, Subscriber, ValueSet,
 };
 
 /// Where and when.
@@ -69,4 +69,19 @@ pub(crate) fn hand_span(
             hub.new_span(handle, &named, at)
         }
     }
+}
+
+/// Hands values for a span of the callsite to the stack.
+pub(crate) fn hand_record(
+    hub: &mut Hub<Stack, Site>,
+    handle: &Dispatch,
+    callsite: &Callsite,
+    id: Id,
+    call: &RecordRequest<'_>,
+) -> Result<(), RequestError>
+    ensures { HubGives ⟦<Stack as Subscriber>⟧ (Recorded id (values_with callsite.now call.now.values.now) (place_at call.now.lane call.now.moment)) handle.now hub.old result hub.new }
+{
+    let metadata = callsite.metadata();
+    let values = Record::new(metadata.fields().value_set_indexed(call.values));
+    hub.record(handle, &id, &values, at_of(call.lane, call.moment))
 }

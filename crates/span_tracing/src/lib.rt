@@ -21,8 +21,8 @@ mod trace;
 pub use output::{Output, OutputRefusal, Route, SinkSpec};
 pub use setup::StackRefusal;
 pub use span_tracing_machine::{
-    EnabledCall, EventCall, FollowsCall, NewSpanCall, Parent, Refusal, Reply, SpanCall, SpanName,
-    Step,
+    EnabledCall, EventCall, FollowsCall, NewSpanCall, Parent, RecordCall, Refusal, Reply, SpanCall,
+    SpanName, Step,
 };
 pub use span_tracing_stack::{Fields, LineFormat, OutputKey, Timer};
 pub use trace::Trace;

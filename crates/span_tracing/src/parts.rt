@@ -1,12 +1,15 @@
 //! All that a trace keeps beside its sink.
 
-ghost use Rattle.std.specs.Prelude.{◌≡◌, ◌<◌, ◌≤◌, IfNone, IfSome};
+ghost use Rattle.std.specs.Prelude.{◌≡◌, ◌<◌, ◌≤◌, IfNone, IfSome, length, map, option_and_then};
 ghost use Rattle.std.specs.Option.{option_copied};
-ghost use Rattle.span_tracing_machine.specs.Spans.{handles_of, is_open};
+ghost use Rattle.span_registry_layers_store.specs.Registries.{PlainSpan, kin_in};
+ghost use Rattle.span_registry_layers_store.specs.Spans.{found, handles_of, is_open};
+ghost use Rattle.span_tracing_machine.specs.Machine.{place_of};
 ghost use Rattle.span_tracing_stack.specs.Stacks.{line_said, is_starved};
-ghost use Rattle.span_tracing.specs.Skeletons.{spans_in, next_in, told_in};
+ghost use Rattle.span_tracing.specs.Skeletons.{plain_callsite, registry_in, told_in};
 
 use crate::callsite::Callsite;
+use crate::checks::place_of;
 use crate::site::Site;
 use span_tracing_stack::Stack;
 use std::alloc::Global;
@@ -47,7 +50,7 @@ impl TraceParts {
 
     /// Whether the span is open.
     pub(crate) fn is_open(&self, id: Id) -> bool
-        ensures { result ≡ is_open (spans_in (stack_in self.now)) id }
+        ensures { result ≡ is_open kin_in (registry_in (stack_in self.now)).spans id }
     {
         match self.stack() {
             None => false,
@@ -57,7 +60,7 @@ impl TraceParts {
 
     /// How many handles the span has, and 0 where it is not open.
     pub(crate) fn handles_of(&self, id: Id) -> usize
-        ensures { result ≡ handles_of (spans_in (stack_in self.now)) id }
+        ensures { result ≡ handles_of kin_in (registry_in (stack_in self.now)).spans id }
     {
         match self.stack() {
             None => 0,
@@ -65,10 +68,18 @@ impl TraceParts {
         }
     }
 
+    /// The place of an open span's callsite.
+    pub(crate) fn span_place(&self, id: Id) -> Option<usize>
+        ensures within { IfSome result (λ place. place < length self.now.callsites.items) }
+        ensures value { result ≡ option_and_then (λ (s : PlainSpan). place_of (map plain_callsite self.now.callsites.items) s.metadata.callsite) (found kin_in (registry_in (stack_in self.now)).spans id) }
+    {
+        place_of(self.callsites.as_slice(), self.stack()?.callsite_of(id)?)
+    }
+
     /// The next span's id, where one is left.
     pub(crate) fn coming_id(&self) -> Option<u64>
-        ensures some { IfSome result (λ id. (id ≡ next_in (stack_in self.now)) × (id ≤ 18446744073709551615)) }
-        ensures none { IfNone result (next_in (stack_in self.now) ≡ 18446744073709551616) }
+        ensures some { IfSome result (λ id. (id ≡ (registry_in (stack_in self.now)).next_id) × (id ≤ 18446744073709551615)) }
+        ensures none { IfNone result (18446744073709551615 < (registry_in (stack_in self.now)).next_id) }
     {
         match self.stack() {
             None => Some(1),

@@ -2,19 +2,20 @@
 
 ghost use Rattle.std.specs.Prelude.{◌≡◌, ◌<◌, ◌≤◌, ℕ, List, true, false, not, IfOk, OnErr, OnOk, None, map, length, slice_get};
 ghost use Rattle.tracing_appender_rolling.specs.Moments.{is_moment};
-ghost use Rattle.tracing_core.specs.PlainValue.{PlainValue};
+ghost use Rattle.span_tracing_machine.specs.FieldTexts.{FieldList};
 ghost use Rattle.span_tracing_machine.specs.Machine.{is_made, parent_refusal};
 ghost use Rattle.span_tracing_machine.specs.Missed.{given_by, handed_by};
-ghost use Rattle.span_tracing_machine.specs.Spans.{handles_of, is_open};
-ghost use Rattle.span_tracing_machine.specs.State.{handed_at, mask_at};
+ghost use Rattle.span_registry_layers_store.specs.Registries.{kin_in};
+ghost use Rattle.span_registry_layers_store.specs.Spans.{handles_of, is_open};
+ghost use Rattle.span_tracing_machine.specs.State.{handed_at, list_at, mask_at};
 ghost use Rattle.span_tracing_stack.specs.Stacks.{line_told, text_told};
-ghost use Rattle.span_tracing.specs.Actions.{plain_request};
-ghost use Rattle.span_tracing.specs.Left.{TellsEvent, SpanHanded, globally, with_entry, with_one, without_entry, without_one};
-ghost use Rattle.span_tracing.specs.Skeletons.{filter_in, plain_callsite, setting_of, skeleton_of, spans_in, stack_in, told_in, value_in};
+ghost use Rattle.span_tracing.specs.Actions.{plain_record, plain_request};
+ghost use Rattle.span_tracing.specs.Left.{RecordsFields, TellsEvent, SpanHanded, globally, with_entry, with_one, without_entry, without_one};
+ghost use Rattle.span_tracing.specs.Skeletons.{filter_in, plain_callsite, setting_of, registry_in, skeleton_of, stack_in, told_in, value_in};
 ghost use Rattle.span_tracing.specs.Stored.{TakesLines};
 
-use crate::action::Request;
-use crate::hand::{at_of, hand_event, hand_span};
+use crate::action::{RecordRequest, Request};
+use crate::hand::{at_of, hand_event, hand_record, hand_span};
 use crate::parts::TraceParts;
 use crate::sink::write_if_open;
 use span_tracing_machine::Fate;
@@ -26,6 +27,7 @@ impl TraceParts {
     ghost use Rattle.span_tracing.specs.Sound.{IsSound};
 
     /// Tells the stack of an event that passes.
+    #[inline(never)]
     pub(crate) fn tell(&mut self, event: &Request<'_>, place: usize)
         requires sound { IsSound self.old }
         requires place { place < length self.old.callsites.items }
@@ -41,6 +43,7 @@ impl TraceParts {
     }
 
     /// Hands the stack's line over; there is one unless it found no memory.
+    #[inline(never)]
     pub(crate) fn write_told<D: Folder>(
         &self,
         sink: &mut Option<RollingFileAppender<D>>,
@@ -58,7 +61,7 @@ impl TraceParts {
 
     /// What became of the text of the stack's last request.
     pub(crate) fn text_fate(&self) -> Fate
-        ensures { (fate : Fate) (values : List (ℕ × PlainValue)) → told_in (stack_in self.now) ≡ text_told fate → given_by result values ≡ given_by fate values }
+        ensures { (fate : Fate) (list : FieldList) → told_in (stack_in self.now) ≡ text_told fate → given_by result list ≡ given_by fate list }
     {
         if self.is_starved() {
             Fate::Missed
@@ -77,7 +80,7 @@ impl TraceParts {
         requires place { place < length self.old.callsites.items }
         requires parent { parent_refusal (skeleton_of (value_in self.old)) span.now.parent ≡ None }
         requires passed { is_made (mask_at (filter_in (setting_of (value_in self.old))) (slice_get (map plain_callsite self.old.callsites.items) place)) ≡ true }
-        requires left { (skeleton_of (value_in self.old)).next_id ≤ 18446744073709551615 }
+        requires left { (skeleton_of (value_in self.old)).registry.next_id ≤ 18446744073709551615 }
         ensures { SpanHanded self.old self.new (plain_request span.now) place result }
     {
         let Some(handle) = &self.handle else {
@@ -89,6 +92,20 @@ impl TraceParts {
         }
     }
 
+    /// Tells the stack of values for an open span, whose callsite stands at the place.
+    pub(crate) fn add_values(&mut self, id: Id, place: usize, call: &RecordRequest<'_>)
+        requires sound { IsSound self.old }
+        requires place { place < length self.old.callsites.items }
+        requires there { is_open kin_in (registry_in (stack_in self.old)).spans id ≡ true }
+        ensures { RecordsFields self.old self.new id (list_at (skeleton_of (value_in self.old)) place (plain_record call.now).values) }
+    {
+        let Some(handle) = &self.handle else {
+            return;
+        };
+        // The refusals were looked for, so nothing stands in its way.
+        let _told = hand_record(&mut self.hub, handle, &self.callsites[place], id, call);
+    }
+
     /// Enters an open span on a lane.
     pub(crate) fn push_entry(
         &mut self,
@@ -98,7 +115,7 @@ impl TraceParts {
     ) -> Result<(), AllocError>
         requires sound { IsSound self.old }
         requires lane { lane < length self.old.threads.items }
-        requires there { is_open (spans_in (stack_in self.old)) id ≡ true }
+        requires there { is_open kin_in (registry_in (stack_in self.old)).spans id ≡ true }
         ensures sound { IsSound self.new }
         ensures ok { OnOk result (value_in self.new ≡ with_entry (value_in self.old) lane id) }
         ensures err { OnErr result (value_in self.new ≡ value_in self.old) }
@@ -115,7 +132,7 @@ impl TraceParts {
     /// Leaves an open span on a lane.
     pub(crate) fn drop_entry(&mut self, id: Id, lane: usize, moment: Moment)
         requires sound { IsSound self.old }
-        requires there { is_open (spans_in (stack_in self.old)) id ≡ true }
+        requires there { is_open kin_in (registry_in (stack_in self.old)).spans id ≡ true }
         ensures sound { IsSound self.new }
         ensures left { value_in self.new ≡ without_entry (value_in self.old) lane id }
     {
@@ -128,8 +145,8 @@ impl TraceParts {
     /// Takes one more handle of an open span, whose count isn't the greatest.
     pub(crate) fn take_one(&mut self, id: Id, lane: usize, moment: Moment)
         requires sound { IsSound self.old }
-        requires there { is_open (spans_in (stack_in self.old)) id ≡ true }
-        requires fewer { ¬ (handles_of (spans_in (stack_in self.old)) id ≡ 18446744073709551615) }
+        requires there { is_open kin_in (registry_in (stack_in self.old)).spans id ≡ true }
+        requires fewer { ¬ (handles_of kin_in (registry_in (stack_in self.old)).spans id ≡ 18446744073709551615) }
         ensures sound { IsSound self.new }
         ensures left { value_in self.new ≡ with_one (value_in self.old) id }
     {
@@ -157,10 +174,10 @@ impl TraceParts {
     /// Gives up one handle of an open span, and answers whether the span closed.
     pub(crate) fn let_go(&mut self, id: Id, lane: usize, moment: Moment) -> bool
         requires sound { IsSound self.old }
-        requires there { is_open (spans_in (stack_in self.old)) id ≡ true }
+        requires some { ¬ (handles_of kin_in (registry_in (stack_in self.old)).spans id ≡ 0) }
         ensures sound { IsSound self.new }
         ensures left { value_in self.new ≡ without_one (value_in self.old) id }
-        ensures closed { result ≡ not (is_open (skeleton_of (without_one (value_in self.old) id)).spans id) }
+        ensures closed { result ≡ not (is_open kin_in (skeleton_of (without_one (value_in self.old) id)).registry.spans id) }
     {
         let Some(handle) = &self.handle else {
             return false;

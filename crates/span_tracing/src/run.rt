@@ -5,7 +5,7 @@ ghost use Rattle.tracing_appender_rolling.specs.Moments.{is_moment};
 ghost use Rattle.tracing_appender_rolling.specs.Sinks.{PlainSink};
 ghost use Rattle.tracing_appender_rolling.specs.Appenders.{AgreesSink};
 ghost use Rattle.tracing_core.specs.OwnedValues.{owned_entries};
-ghost use Rattle.span_tracing_machine.specs.PlainData.{plain_step, plain_steps, GlobalStep, EventStep, EnabledStep, SpanStep, FollowsFromStep, EnterStep, ExitStep, CloneStep, CloseStep};
+ghost use Rattle.span_tracing_machine.specs.PlainData.{plain_step, plain_steps, GlobalStep, EventStep, EnabledStep, SpanStep, RecordStep, FollowsFromStep, EnterStep, ExitStep, CloneStep, CloseStep};
 ghost use Rattle.span_tracing_machine.specs.Machine.{refusal_of, reply_of, or_same};
 ghost use Rattle.span_tracing_machine.specs.Missed.{handed_by, handed_lines};
 ghost use Rattle.span_tracing_machine.specs.State.{handed_at, event_line, offer_of};
@@ -13,7 +13,7 @@ ghost use Rattle.span_tracing.specs.Actions.{plain_action, plain_request};
 ghost use Rattle.span_tracing.specs.Skeletons.{skeleton_of, setting_of, texts_of, time_in};
 ghost use Rattle.span_tracing.specs.Stored.{Acted, Stepped, TakesLines, WantsRoom, mask_in, more_lines};
 
-use crate::action::{Action, Request, action_of};
+use crate::action::{Action, RecordRequest, Request, action_of};
 use crate::trace::Trace;
 use span_tracing_machine::{
     EnabledCall, Fate, FollowsCall, Parent, Refusal, Reply, SpanCall, SpanName, Step,
@@ -45,6 +45,7 @@ impl<D: Folder> Trace<D> {
     ghost use Rattle.span_tracing.specs.Headline.{HoldsOffered, NothingStarved};
 
     /// A step, with its reply.
+    #[inline(always)]
     #[tactic(auto, unfolding(span_tracing_machine::specs::Machine::answered, span_tracing_machine::specs::Machine::after, span_tracing_machine::specs::Machine::reply_of, span_tracing_machine::specs::Missed::wants_of, span_tracing_machine::specs::State::offer_of))]
     fn step_once(&mut self, action: &Action<'_>) -> StepDone
         ensures reply { result.reply ≢ Reply.Refused Refusal.OutOfMemory →
@@ -79,6 +80,10 @@ impl<D: Folder> Trace<D> {
                 },
                 Err(_) => whole(Reply::Refused(Refusal::OutOfMemory)),
             },
+            Action::Record(call) => StepDone {
+                fate: self.state.record(call),
+                reply: Reply::Done,
+            },
             Action::RecordFollowsFrom(call) => {
                 self.state.record_follows_from(call);
                 whole(Reply::Done)
@@ -100,6 +105,7 @@ impl<D: Folder> Trace<D> {
     }
 
     /// A step of the plain machine, from each plain state that the trace agrees with.
+    #[inline(always)]
     fn act(&mut self, action: &Action<'_>) -> Reply
         ensures follows { result ≢ Reply.Refused Refusal.OutOfMemory → FollowsStep D.contents self.old self.new result (plain_action action.now) }
         ensures refused { (refusal : Refusal) → result ≡ Reply.Refused refusal → value_of self.new ≡ value_of self.old }
@@ -232,6 +238,27 @@ impl<D: Folder> Trace<D> {
         ensures refused { (refusal : Refusal) → result ≡ Reply.Refused refusal → value_of self.new ≡ value_of self.old }
     {
         self.act(&Action::Exit(SpanCall { lane, moment, span }))
+    }
+
+    /// Adds values to a span's. A field is told by its place among those of the span's callsite; one that the callsite lacks
+    /// is passed over. Where the text finds no memory, these values alone are missing from it.
+    pub fn record(
+        &mut self,
+        lane: usize,
+        moment: Moment,
+        span: Option<SpanName>,
+        values: &[FieldValue],
+    ) -> Reply
+        ensures follows { FollowsStep D.contents self.old self.new result
+            (RecordStep (record { lane = lane; moment = moment; span = span; values = owned_entries values.now })) }
+        ensures refused { (refusal : Refusal) → result ≡ Reply.Refused refusal → value_of self.new ≡ value_of self.old }
+    {
+        self.act(&Action::Record(RecordRequest {
+            lane,
+            moment,
+            span,
+            values,
+        }))
     }
 
     /// Records that a span follows from another one. Nothing shows it yet. Takes no memory.

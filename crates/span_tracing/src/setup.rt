@@ -111,7 +111,7 @@ impl<D: Folder> Trace<D> {
     ///
     /// Want of memory, which leaves the trace as it was.
     pub fn thread(&mut self, name: Option<&str>, thread_id: u64) -> Result<usize, AllocError>
-        ensures number { IfOk result (λ lane. lane ≡ length (skeleton_of self.old.state).lanes) }
+        ensures number { IfOk result (λ lane. lane ≡ (skeleton_of self.old.state).lanes) }
         ensures ok { OnOk result ((p : Plain) → Agrees self.old.state p → Agrees self.new.state (with_lane p)) }
         ensures thread { OnOk result (threads_of self.new.state ≡ threads_of self.old.state ++ (record { name = option_copied name.entry; number = thread_id }) ∷ []) }
         ensures sink { self.new.sink ≡ self.old.sink }

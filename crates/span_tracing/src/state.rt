@@ -1,21 +1,21 @@
 //! All that a trace keeps beside its sink, as a value.
 
-ghost use Rattle.std.specs.Prelude.{◌≡◌, ℕ, ◌++◌, ◌∷◌, [], false, true, is_some, IfErr, IfOk, IsSome, None, Some, OnErr, OnOk, length, map, string_bytes};
+ghost use Rattle.std.specs.Prelude.{◌≡◌, ◌+◌, ℕ, ◌++◌, ◌∷◌, [], false, true, is_some, IfErr, IfOk, IsSome, None, Some, OnErr, OnOk, length, map, string_bytes};
 ghost use Rattle.std.specs.Option.{option_copied, option_map};
 ghost use Rattle.tracing_appender_rolling.specs.Appenders.{MayOpen};
 ghost use Rattle.tracing_appender_rolling.specs.Moments.{is_moment};
 ghost use Rattle.tracing_core.specs.Metadata.{plain_metadata};
 ghost use Rattle.span_tracing_machine.specs.Machine.{answered, call_refusal, made_at, refusal_of};
 ghost use Rattle.span_tracing_machine.specs.Missed.{handed_lines};
-ghost use Rattle.span_tracing_machine.specs.PlainData.{GlobalStep, EventStep, EnabledStep, SpanStep, FollowsFromStep, EnterStep, ExitStep, CloneStep, CloseStep};
+ghost use Rattle.span_tracing_machine.specs.PlainData.{on_span, GlobalStep, EventStep, EnabledStep, SpanStep, RecordStep, FollowsFromStep, EnterStep, ExitStep, CloneStep, CloseStep};
 ghost use Rattle.span_tracing_machine.specs.Skeleton.{PlainCallsite};
 ghost use Rattle.span_tracing_machine.specs.State.{callsite_named, offer_of};
-ghost use Rattle.span_tracing.specs.Actions.{plain_action, plain_request};
+ghost use Rattle.span_tracing.specs.Actions.{plain_action, plain_record, plain_request};
 ghost use Rattle.span_tracing.specs.Outputs.{setting_of as output_setting, with_output};
 ghost use Rattle.span_tracing.specs.Skeletons.{interest_in, plain_callsite, setting_of, skeleton_of, texts_of, threads_of, time_in};
 ghost use Rattle.span_tracing.specs.Stored.{Acted, TakesLines, mask_in};
 
-use crate::action::{Action, Request};
+use crate::action::{Action, RecordRequest, Request};
 use crate::callsite::Callsite;
 use crate::output::Output;
 use crate::parts::TraceParts;
@@ -78,6 +78,7 @@ impl TraceState {
     }
 
     /// The first refusal that a step meets.
+    #[inline(always)]
     pub(crate) fn refusal(&mut self, action: &Action<'_>) -> Option<Refusal>
         ensures value { result ≡ refusal_of (skeleton_of self.old) (plain_action action.now) (mask_in self.old (plain_action action.now)) }
         ensures kept { self.new ≡ self.old }
@@ -119,9 +120,9 @@ impl TraceState {
         name: Option<String>,
         thread_id: u64,
     ) -> Result<usize, AllocError>
-        ensures number { IfOk result (λ lane. lane ≡ length (skeleton_of self.old).lanes) }
+        ensures number { IfOk result (λ lane. lane ≡ (skeleton_of self.old).lanes) }
         ensures ok { OnOk result (self.new ≡ record self.old {
-          skeleton = record (skeleton_of self.old) { lanes = (skeleton_of self.old).lanes ++ [] ∷ [] };
+          skeleton = record (skeleton_of self.old) { lanes = (skeleton_of self.old).lanes + 1 };
           threads = threads_of self.old ++ (record { name = option_map string_bytes name; number = thread_id }) ∷ [];
         }) }
         ensures err { OnErr result (self.new ≡ self.old) }
@@ -157,6 +158,7 @@ impl TraceState {
     }
 
     /// An event that is not refused.
+    #[inline(always)]
     pub(crate) fn event<D: Folder>(
         &mut self,
         event: &Request<'_>,
@@ -209,6 +211,14 @@ impl TraceState {
         self.parts.exit(call)
     }
 
+    /// Values for a span, which are not refused; answers what became of its text.
+    pub(crate) fn record(&mut self, call: &RecordRequest<'_>) -> Fate
+        requires { call_refusal (skeleton_of self.old) (on_span (plain_record call.now)) ≡ None }
+        ensures { Acted self.old self.new (RecordStep (plain_record call.now)) result }
+    {
+        self.parts.record(call)
+    }
+
     /// That a span follows from another one, which is not refused.
     pub(crate) fn record_follows_from(&mut self, call: &FollowsCall)
         ensures { Acted self.old self.new (FollowsFromStep call.now) Fate.Whole }
@@ -226,7 +236,7 @@ impl TraceState {
 
     /// A handle given up that is not refused; answers whether the span closed.
     pub(crate) fn try_close(&mut self, call: &SpanCall) -> bool
-        requires { call_refusal (skeleton_of self.old) call.now ≡ None }
+        requires { refusal_of (skeleton_of self.old) (CloseStep call.now) [] ≡ None }
         ensures closed { Reply.Closed result ≡ answered (skeleton_of self.old) (CloseStep call.now) [] }
         ensures acted { Acted self.old self.new (CloseStep call.now) Fate.Whole }
     {

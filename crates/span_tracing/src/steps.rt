@@ -3,13 +3,13 @@
 ghost use Rattle.std.specs.Prelude.{◌≡◌, ◌∷◌, [], true, false, IfOk, IsSome, None, OnErr, OnOk};
 ghost use Rattle.span_tracing_machine.specs.Machine.{answered, call_refusal, made_at, refusal_of};
 ghost use Rattle.span_tracing_machine.specs.Missed.{handed_lines};
-ghost use Rattle.span_tracing_machine.specs.PlainData.{EventStep, EnabledStep, SpanStep, FollowsFromStep, EnterStep, ExitStep, CloneStep, CloseStep};
+ghost use Rattle.span_tracing_machine.specs.PlainData.{on_span, EventStep, EnabledStep, SpanStep, RecordStep, FollowsFromStep, EnterStep, ExitStep, CloneStep, CloseStep};
 ghost use Rattle.span_tracing_machine.specs.State.{offer_of};
-ghost use Rattle.span_tracing.specs.Actions.{plain_request, named_as};
+ghost use Rattle.span_tracing.specs.Actions.{plain_record, plain_request, named_as};
 ghost use Rattle.span_tracing.specs.Skeletons.{setting_of, skeleton_of, texts_of, time_in, value_in};
 ghost use Rattle.span_tracing.specs.Stored.{Acted, TakesLines, count_by, mask_in};
 
-use crate::action::Request;
+use crate::action::{RecordRequest, Request};
 use crate::parts::TraceParts;
 use span_tracing_machine::{EnabledCall, Fate, FollowsCall, Reply, SpanCall, SpanName};
 use std::alloc::AllocError;
@@ -50,6 +50,7 @@ impl TraceParts {
     }
 
     /// An event.
+    #[inline(always)]
     #[tactic(auto, unfolding(span_tracing_machine::specs::Machine::acted, span_tracing_machine::specs::Machine::answered, span_tracing_machine::specs::Missed::wanted, crate::specs::Stored::texts_acted, span_tracing_machine::specs::State::step_mask, span_tracing_machine::specs::State::offer_of))]
     pub(crate) fn event<D: Folder>(
         &mut self,
@@ -149,6 +150,26 @@ impl TraceParts {
         }
     }
 
+    /// Values for a span; answers what became of its text.
+    #[tactic(auto, unfolding(span_tracing_machine::specs::Machine::acted, span_tracing_machine::specs::Machine::answered, span_tracing_machine::specs::Missed::wanted, crate::specs::Stored::texts_acted, span_tracing_machine::specs::State::step_mask, span_tracing_machine::specs::State::offer_of))]
+    pub(crate) fn record(&mut self, call: &RecordRequest<'_>) -> Fate
+        requires sound { IsSound self.old }
+        requires unrefused { call_refusal (skeleton_of (value_in self.old)) (on_span (plain_record call.now)) ≡ None }
+        ensures sound { IsSound self.new }
+        ensures acted { Acted (value_in self.old) (value_in self.new) (RecordStep (plain_record call.now)) result }
+    {
+        let Some(name) = call.span else {
+            return Fate::Whole;
+        };
+        let Some(place) = self.span_place(name.id) else {
+            return Fate::Whole;
+        };
+        self.add_values(name.id, place, call);
+        let fate = self.text_fate();
+        self.count(fate);
+        fate
+    }
+
     /// That a span follows from another one.
     #[tactic(auto, unfolding(span_tracing_machine::specs::Machine::acted, span_tracing_machine::specs::Machine::answered, span_tracing_machine::specs::Missed::wanted, crate::specs::Stored::texts_acted, span_tracing_machine::specs::State::step_mask, span_tracing_machine::specs::State::offer_of))]
     pub(crate) fn record_follows_from(&mut self, call: &FollowsCall)
@@ -178,7 +199,7 @@ impl TraceParts {
     #[tactic(auto, unfolding(span_tracing_machine::specs::Machine::acted, span_tracing_machine::specs::Machine::answered, span_tracing_machine::specs::Missed::wanted, crate::specs::Stored::texts_acted, span_tracing_machine::specs::State::step_mask, span_tracing_machine::specs::State::offer_of))]
     pub(crate) fn try_close(&mut self, call: &SpanCall) -> bool
         requires sound { IsSound self.old }
-        requires unrefused { call_refusal (skeleton_of (value_in self.old)) call.now ≡ None }
+        requires unrefused { refusal_of (skeleton_of (value_in self.old)) (CloseStep call.now) [] ≡ None }
         ensures sound { IsSound self.new }
         ensures closed { Reply.Closed result ≡ answered (skeleton_of (value_in self.old)) (CloseStep call.now) [] }
         ensures acted { Acted (value_in self.old) (value_in self.new) (CloseStep call.now) Fate.Whole }

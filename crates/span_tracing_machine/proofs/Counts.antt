@@ -3,12 +3,14 @@ use Rattle.std.proofs.Common.{◌≡◌, ℕ, zero, suc, ◌+◌, ◌<◌, ◌�
 use Rattle.std.proofs.lemmas.Bool.Decides.{nat_tests}
 use Rattle.std.specs.Option.{option_map}
 use Rattle.tracing_appender_rolling.specs.Sinks.{Handed}
-use Rattle.span_tracing_machine.specs.PlainData.{Request, PlainStep, GlobalStep, EventStep, EnabledStep, SpanStep, FollowsFromStep, EnterStep, ExitStep, CloneStep, CloseStep}
+use Rattle.tracing_core.specs.PlainValue.{PlainValue}
+use Rattle.span_tracing_machine.specs.declared.call.SpanName.{SpanName}
+use Rattle.span_tracing_machine.specs.PlainData.{Request, PlainStep, GlobalStep, EventStep, EnabledStep, SpanStep, RecordStep, FollowsFromStep, EnterStep, ExitStep, CloneStep, CloseStep}
 use Rattle.span_tracing_machine.specs.declared.refusal.Refusal.{Refusal}
 use Rattle.span_tracing_machine.specs.Skeleton.{Skeleton, Mask}
-use Rattle.span_tracing_machine.specs.Machine.{made_at, refusal_of, or_same}
+use Rattle.span_tracing_machine.specs.Machine.{made_at, refusal_of, or_same, span_place}
 use Rattle.span_tracing_machine.specs.Missed.{Want, TextOf, LineTo, want_if, wanted, wants_of, Fate, Whole, Missed, Unwritten, first_fate, handed_by, handed_lines, count_missed, one_more, starved_by}
-use Rattle.span_tracing_machine.specs.State.{Plain, PlainText, ValueList, text_of, with_values, lists_acted, handed_at, event_line, offer_of, time_of, mask_of, more_handed, plain_acted, plain_after, missed_by}
+use Rattle.span_tracing_machine.specs.State.{Plain, PlainText, ValueList, text_of, with_values, with_record, lists_acted, handed_at, event_line, offer_of, time_of, mask_of, more_handed, plain_acted, plain_after, missed_by}
 
 -- below the greatest count one more is counted
 more_is : (n : ℕ) → n < 18446744073709551615 → one_more n ≡ suc n
@@ -75,6 +77,13 @@ values_given : (lists : List ValueList) (s : Skeleton) (n : Request) (fates : Li
 values_given lists s n fates None none = refl
 values_given lists s n fates (Some place) none = ap (λ fate. with_values lists s n fate (Some place)) (first_whole fates (TextOf 0) none)
 
+-- and so are those that are recorded
+record_given : (lists : List ValueList) (s : Skeleton) (span : Option SpanName) (values : List (ℕ × PlainValue)) (fates : List Fate) (place : Option ℕ) →
+    count_missed fates (want_if place (TextOf 0)) ≡ 0 → with_record lists s span values (first_fate fates) place ≡ with_record lists s span values Whole place
+record_given lists s None values fates place none = refl
+record_given lists s (Some name) values fates None none = refl
+record_given lists s (Some name) values fates (Some place) none = ap (λ fate. with_record lists s (Some name) values fate (Some place)) (first_whole fates (TextOf 0) none)
+
 -- a step that counted nothing leaves the value lists of one that misses nothing
 lists_given : (s : Skeleton) (lists : List ValueList) (step : PlainStep) (mask : Mask) (fates : List Fate) →
     count_missed fates (wanted s step mask) ≡ 0 → lists_acted s lists step mask (first_fate fates) ≡ lists_acted s lists step mask Whole
@@ -83,6 +92,7 @@ lists_given s lists (GlobalStep handle) mask fates none = refl
 lists_given s lists (EventStep e) mask fates none = refl
 lists_given s lists (EnabledStep call) mask fates none = refl
 lists_given s lists (SpanStep n) mask fates none = values_given lists s n fates (made_at s n.callsite true mask) none
+lists_given s lists (RecordStep r) mask fates none = record_given lists s r.span r.values fates (span_place s r.span) none
 lists_given s lists (FollowsFromStep call) mask fates none = refl
 lists_given s lists (EnterStep call) mask fates none = refl
 lists_given s lists (ExitStep call) mask fates none = refl
@@ -103,6 +113,7 @@ lines_given s texts time (GlobalStep handle) mask fates none = refl
 lines_given s texts time (EventStep e) mask fates none = line_given fates (made_at s e.callsite false mask) (λ place. handed_at e.moment (event_line s texts time e place)) none
 lines_given s texts time (EnabledStep call) mask fates none = refl
 lines_given s texts time (SpanStep n) mask fates none = refl
+lines_given s texts time (RecordStep r) mask fates none = refl
 lines_given s texts time (FollowsFromStep call) mask fates none = refl
 lines_given s texts time (EnterStep call) mask fates none = refl
 lines_given s texts time (ExitStep call) mask fates none = refl

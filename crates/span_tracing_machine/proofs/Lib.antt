@@ -3,10 +3,5 @@ pub mod Refusing
 pub mod Counts
 pub mod Runs
 pub mod Offers
-pub mod Open
-pub mod Closed
-pub mod Lanes
-pub mod Swept
 pub mod Stays
-pub mod Ancestors
 pub mod Asking

@@ -6,7 +6,7 @@ use Rattle.std.proofs.lemmas.List.{append-nil}
 use Rattle.tracing_appender_rolling.specs.Moments.{is_moment}
 use Rattle.tracing_appender_rolling.specs.Sinks.{Handed}
 use Rattle.span_tracing_machine.specs.declared.refusal.Refusal.{Refusal}
-use Rattle.span_tracing_machine.specs.PlainData.{Request, PlainStep, GlobalStep, EventStep, EnabledStep, SpanStep, FollowsFromStep, EnterStep, ExitStep, CloneStep, CloseStep}
+use Rattle.span_tracing_machine.specs.PlainData.{Request, PlainStep, GlobalStep, EventStep, EnabledStep, SpanStep, RecordStep, FollowsFromStep, EnterStep, ExitStep, CloneStep, CloseStep}
 use Rattle.span_tracing_machine.specs.Machine.{refusal_of, made_at, or_same}
 use Rattle.span_tracing_machine.specs.Missed.{Fate, first_fates, later_fates, handed_lines, starved_by}
 use Rattle.span_tracing_machine.specs.State.{Plain, PlainOutput, text_of, mask_of, time_of, handed_at, event_line, offer_of, plain_offer, more_handed, plain_acted, plain_after, plain_run, missed_by, missed_in, offered_by, offered_in}
@@ -80,6 +80,7 @@ step_fits p (GlobalStep handle) = none_offered (refusal_of p.skeleton (GlobalSte
 step_fits p (EventStep e) = event_cases p e (refusal_of p.skeleton (EventStep e) (mask_of p (EventStep e))) refl
 step_fits p (EnabledStep call) = none_offered (refusal_of p.skeleton (EnabledStep call) (mask_of p (EnabledStep call)))
 step_fits p (SpanStep n) = none_offered (refusal_of p.skeleton (SpanStep n) (mask_of p (SpanStep n)))
+step_fits p (RecordStep r) = none_offered (refusal_of p.skeleton (RecordStep r) (mask_of p (RecordStep r)))
 step_fits p (FollowsFromStep call) = none_offered (refusal_of p.skeleton (FollowsFromStep call) (mask_of p (FollowsFromStep call)))
 step_fits p (EnterStep call) = none_offered (refusal_of p.skeleton (EnterStep call) (mask_of p (EnterStep call)))
 step_fits p (ExitStep call) = none_offered (refusal_of p.skeleton (ExitStep call) (mask_of p (ExitStep call)))

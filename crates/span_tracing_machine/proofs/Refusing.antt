@@ -1,7 +1,7 @@
 -- What it means that a step is refused, or is not.
 use Rattle.std.proofs.Common.{◌≡◌, ℕ, Bool, true, false, not, Option, Some, None, refl}
 use Rattle.tracing_appender_rolling.specs.Moments.{is_moment}
-use Rattle.tracing_appender_rolling.specs.declared.moment.Moment.{Moment}
+use Rattle.tracing_appender_rolling.specs.Moment.{Moment}
 use Rattle.span_tracing_machine.specs.declared.refusal.Refusal.{Refusal}
 use Rattle.span_tracing_machine.specs.declared.refusal.Refusal.TheVariants.{UnknownStack, UnknownSpan, ForeignParent, BadMoment, OutOfMemory, UnknownLane, GlobalSet, TooManyHandles, IdsSpent}
 use Rattle.span_tracing_machine.specs.declared.call.Parent.{Parent}
@@ -10,7 +10,7 @@ use Rattle.span_tracing_machine.specs.declared.call.SpanCall.{SpanCall}
 use Rattle.span_tracing_machine.specs.declared.call.SpanName.{SpanName}
 use Rattle.span_tracing_machine.specs.declared.call.EnabledCall.{EnabledCall}
 use Rattle.span_tracing_machine.specs.declared.call.FollowsCall.{FollowsCall}
-use Rattle.span_tracing_machine.specs.PlainData.{Request, PlainStep, GlobalStep, EventStep, EnabledStep, SpanStep, FollowsFromStep, EnterStep, ExitStep, CloneStep, CloseStep}
+use Rattle.span_tracing_machine.specs.PlainData.{Request, PlainStep, on_span, GlobalStep, EventStep, EnabledStep, SpanStep, RecordStep, FollowsFromStep, EnterStep, ExitStep, CloneStep, CloseStep}
 use Rattle.span_tracing_machine.specs.Skeleton.{Skeleton, Mask}
 use Rattle.span_tracing_machine.specs.Machine.{first, when, known_place, lane_refusal, moment_refusal, callsite_refusal, parent_refusal, request_refusal, enabled_refusal, place_of, span_refusal, call_refusal, follows_refusal, stack_refusal, open_refusal, count_refusal, handle_refusal, ids_refusal, made_at, refusal_of}
 
@@ -99,6 +99,7 @@ never_memory s (GlobalStep handle) mask h = not_first _ _ (not_when _ UnknownSta
 never_memory s (EventStep e) mask h = not_request s e.lane e.moment e.callsite false e.parent h
 never_memory s (EnabledStep call) mask h = not_enabled s call h
 never_memory s (SpanStep n) mask h = not_first _ _ (not_request s n.lane n.moment n.callsite true n.parent) (not_ids s (made_at s n.callsite true mask)) h
+never_memory s (RecordStep r) mask h = not_call s (on_span r) h
 never_memory s (FollowsFromStep call) mask h = not_follows s call h
 never_memory s (EnterStep call) mask h = not_call s call h
 never_memory s (ExitStep call) mask h = not_call s call h

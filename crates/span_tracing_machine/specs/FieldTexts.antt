@@ -1,5 +1,5 @@
 -- The texts of fields, by their pieces.
-use Rattle.std.specs.Prelude.{ℕ, List, [], ◌++◌, Bool, true, false, ◌&&◌, ◌==◌, nat_eq, nat_le, if◌then◌else◌, Option, Some, None, option_and_then, codes, encode_utf8, slice_get, drop}
+use Rattle.std.specs.Prelude.{ℕ, List, [], ◌∷◌, ◌++◌, Bool, true, false, ◌&&◌, ◌==◌, nat_eq, nat_le, if◌then◌else◌, Option, Some, None, option_and_then, codes, encode_utf8, slice_get, drop}
 use Rattle.std.specs.List.{flat_map, filter_map, join_by, starts_with}
 use Rattle.std.specs.Fmt.{signed_decimal, decimal, digits}
 use Rattle.std.specs.Option.{option_map}
@@ -68,3 +68,26 @@ further false (Some piece) = codes " " ++ piece
 -- the text of a list of values, with one space between two pieces
 unfoldable pub fields_text : List (List ℕ) → List (ℕ × PlainValue) → List ℕ
 fields_text names list = join_by (λ piece. piece) (codes " ") (filter_map (given_piece names) list)
+
+-- a list of values, and the names of the fields that it is over
+pub record FieldList : Type 0 where
+  pub names : List (List ℕ)
+  pub values : List (ℕ × PlainValue)
+
+-- the space behind a text that isn't empty
+abbrev pub space_behind : List ℕ → List ℕ
+space_behind [] = []
+space_behind (b ∷ bs) = codes " "
+
+-- a text with that of one more list
+unfoldable pub with_fields : List ℕ → FieldList → List ℕ
+with_fields text list = text ++ space_behind text ++ fields_text list.names list.values
+
+-- a text with those of more lists, in order
+abbrev pub with_lists : List ℕ → List FieldList → List ℕ
+with_lists text [] = text
+with_lists text (list ∷ lists) = with_lists (with_fields text list) lists
+
+-- the text of a span: that of the list that it was made with, and of those that were recorded
+abbrev pub lists_text : List FieldList → List ℕ
+lists_text lists = with_lists [] lists

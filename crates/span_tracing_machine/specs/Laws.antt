@@ -1,37 +1,19 @@
 -- Laws of the plain machine.
-use Rattle.std.specs.Prelude.{◌≡◌, ◌<◌, ◌≤◌, ℕ, ◌+◌, List, [], ◌∷◌, ◌++◌, Bool, true, Option, Some, None}
+use Rattle.std.specs.Prelude.{◌≡◌, ◌<◌, ◌≤◌, ℕ, ◌+◌, length, List, [], ◌++◌, Bool, true, Option, Some}
 use Rattle.std.specs.List.{AllByRecursion}
 use Rattle.tracing_appender_rolling.specs.Moments.{is_moment}
 use Rattle.tracing_appender_rolling.specs.Sinks.{Handed}
-use Rattle.span_tracing_machine.specs.declared.record.SpanRecord.{SpanRecord}
+use Rattle.span_registry_layers_store.specs.Laws.{IsSound}
 use Rattle.span_tracing_machine.specs.PlainData.{PlainStep}
-use Rattle.span_tracing_machine.specs.Spans.{open_of, is_open, IsClosedUp, is_member, line_of, ancestry}
 use Rattle.span_tracing_machine.specs.Skeleton.{Skeleton, PlainCallsite, Mask}
 use Rattle.span_tracing_machine.specs.Machine.{after, known_place}
 use Rattle.span_tracing_machine.specs.Missed.{Fate, starved_by}
 use Rattle.span_tracing_machine.specs.State.{Plain, PlainOutput, mask_asked, mask_for, plain_after, plain_run, replies_of, missed_by, missed_in, more_handed, offered_in, new_plain, registered, with_lane, with_stack}
 
--- a parent, where there is one, stands among these
-abbrev pub ParentIn : List ℕ → Option ℕ → Type 0
-ParentIn ids None = Unit {0}
-ParentIn ids (Some id) = is_member ids id ≡ true
-
--- ids rise from above a number, and each span's parent stands before it or among these ids
-abbrev pub IsOrdered : List ℕ → ℕ → List SpanRecord → Type 0
-IsOrdered earlier least [] = Unit {0}
-IsOrdered earlier least (s ∷ ss) = (least < s.id) × ParentIn earlier s.parent × IsOrdered (s.id ∷ earlier) s.id ss
-
--- ids are given from above 0; ordered spans, each with a smaller id than the next one, the open ones and no others, and only open spans on lanes
+-- a sound registry, and no entries on lanes that weren't given
 pub record IsWellFormed (s : Skeleton) : Type 0 where
-  pub started : 0 < s.next_id
-  pub ordered : IsOrdered [] 0 s.spans
-  pub below : AllByRecursion (λ (x : SpanRecord). x.id < s.next_id) s.spans
-  pub all_open : open_of s.lanes s.spans ≡ s.spans
-  pub entries : AllByRecursion (λ (lane : List ℕ). AllByRecursion (λ id. is_open s.spans id ≡ true) lane) s.lanes
-
--- where spans are ordered, those that stay hold each span with a handle or an entry, and the parents of their members
-abbrev pub OpenIsClosedUp : Type 0
-OpenIsClosedUp = (lanes : List (List ℕ)) (ss : List SpanRecord) → IsOrdered [] 0 ss → IsClosedUp lanes ss (is_open (open_of lanes ss))
+  pub registry : IsSound s.registry
+  pub lanes : length s.registry.lanes ≤ s.lanes
 
 -- a new trace's skeleton is well formed, and a step keeps it so
 abbrev pub StartsWellFormed : Type 0
@@ -39,10 +21,6 @@ StartsWellFormed = IsWellFormed (new_plain.skeleton)
 
 abbrev pub StaysWellFormed : Type 0
 StaysWellFormed = (s : Skeleton) (step : PlainStep) (mask : Mask) → IsWellFormed s → IsWellFormed (after s step mask)
-
--- a span's line of ancestors is whole: a longer walk finds no more
-abbrev pub LineIsWhole : Type 0
-LineIsWhole = (ss : List SpanRecord) (id more : ℕ) → IsOrdered [] 0 ss → is_open ss id ≡ true → ancestry ss (id + more) (Some id) ≡ line_of ss id
 
 -- a count that did not stop: it grew by the number of the missed ones
 abbrev pub CountGrows : Type 0

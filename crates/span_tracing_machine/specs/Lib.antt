@@ -2,7 +2,6 @@ pub mod Refusals
 pub mod PlainData
 pub mod FieldTexts
 pub mod Lines
-pub mod Spans
 pub mod Skeleton
 pub mod Machine
 pub mod Missed

@@ -1,10 +1,15 @@
 -- The machine on skeletons: which step is refused, what it answers, and what it leaves.
-use Rattle.std.specs.Prelude.{ℕ, ◌+◌, ◌-◌, List, [], ◌∷◌, ◌++◌, length, Bool, true, false, not, ◌&&◌, ◌==◌, nat_lt, nat_le, if◌then◌else◌, Option, Some, None, slice_get, slice_set, option_and_then, unwrap_or}
+use Rattle.std.specs.Prelude.{ℕ, List, Bool, true, false, not, ◌&&◌, ◌==◌, nat_lt, nat_le, if◌then◌else◌, Option, Some, None, slice_get, option_and_then}
 use Rattle.std.specs.List.{position_from, list_any}
-use Rattle.span_tracing_machine.specs.PlainData.{PlainStep, GlobalStep, EventStep, EnabledStep, SpanStep, FollowsFromStep, EnterStep, ExitStep, CloneStep, CloseStep}
-use Rattle.tracing_appender_rolling.specs.declared.moment.Moment.{Moment}
+use Rattle.tracing_core.specs.Parent as core
+use Rattle.tracing_core.specs.Parent.TheVariants as core_parents
+use Rattle.tracing_core.specs.PlainMetadata.{PlainMetadata}
+use Rattle.span_registry_layers_store.specs.Registries.{PlainSpan, RegistryValue, kin_in, swept, under, with_entry, with_handle, with_span as with_new, without_entry, without_handle}
+use Rattle.span_registry_layers_store.specs.Spans.{found, handles_of, is_open}
+use Rattle.span_registry_layers_store.specs.Verdicts.{all_pass}
+use Rattle.span_tracing_machine.specs.PlainData.{PlainStep, on_span, GlobalStep, EventStep, EnabledStep, SpanStep, RecordStep, FollowsFromStep, EnterStep, ExitStep, CloneStep, CloseStep}
+use Rattle.tracing_appender_rolling.specs.Moment.{Moment}
 use Rattle.tracing_appender_rolling.specs.Moments.{is_moment}
-use Rattle.span_tracing_machine.specs.declared.record.SpanRecord.{SpanRecord}
 use Rattle.span_tracing_machine.specs.declared.call.SpanName.{SpanName}
 use Rattle.span_tracing_machine.specs.declared.call.Parent.{Parent}
 use Rattle.span_tracing_machine.specs.declared.call.Parent.TheVariants.{Contextual, Root, Explicit}
@@ -15,7 +20,6 @@ use Rattle.span_tracing_machine.specs.declared.call.Reply.TheVariants.{Done, Ena
 use Rattle.span_tracing_machine.specs.declared.call.SpanCall.{SpanCall}
 use Rattle.span_tracing_machine.specs.declared.call.EnabledCall.{EnabledCall}
 use Rattle.span_tracing_machine.specs.declared.call.FollowsCall.{FollowsCall}
-use Rattle.span_tracing_machine.specs.Spans.{is_open, open_of, current, without_last, handles_of}
 use Rattle.span_tracing_machine.specs.Skeleton.{Skeleton, PlainCallsite, Mask}
 
 -- the place of the callsite with an identifier
@@ -41,7 +45,7 @@ first None later = later
 first (Some refusal) later = Some refusal
 
 abbrev pub lane_refusal : Skeleton → ℕ → Option Refusal
-lane_refusal s lane = when (nat_le (length s.lanes) lane) UnknownLane
+lane_refusal s lane = when (nat_le s.lanes lane) UnknownLane
 
 abbrev pub moment_refusal : Moment → Option Refusal
 moment_refusal m = when (not (is_moment m)) BadMoment
@@ -54,6 +58,12 @@ callsite_refusal (Some place) = None
 abbrev pub knows_stack : Skeleton → ℕ → Bool
 knows_stack s stack = s.has_stack && (stack == 0)
 
+abbrev pub has_open : Skeleton → ℕ → Bool
+has_open s id = is_open kin_in s.registry.spans id
+
+abbrev pub handles_in : Skeleton → ℕ → ℕ
+handles_in s id = handles_of kin_in s.registry.spans id
+
 -- a parent stands in the reached stack and is open
 abbrev pub parent_refusal : Skeleton → Parent → Option Refusal
 parent_refusal s Contextual = None
@@ -61,7 +71,7 @@ parent_refusal s Root = None
 parent_refusal s (Explicit name) =
     first (when (not (knows_stack s name.stack)) UnknownStack)
     (first (when (not s.is_global) ForeignParent)
-    (when (not (is_open s.spans name.id)) UnknownSpan))
+    (when (not (has_open s name.id)) UnknownSpan))
 
 abbrev pub request_refusal : Skeleton → ℕ → Moment → ℕ → Bool → Parent → Option Refusal
 request_refusal s lane moment number is_span parent =
@@ -82,7 +92,7 @@ abbrev pub span_refusal : Skeleton → Option SpanName → Option Refusal
 span_refusal s None = None
 span_refusal s (Some name) =
     first (when (not (knows_stack s name.stack)) UnknownStack)
-    (when (not (is_open s.spans name.id)) UnknownSpan)
+    (when (not (has_open s name.id)) UnknownSpan)
 
 abbrev pub call_refusal : Skeleton → SpanCall → Option Refusal
 call_refusal s call = first (lane_refusal s call.lane) (first (moment_refusal call.moment) (span_refusal s call.span))
@@ -94,7 +104,7 @@ stack_refusal s (Some name) = when (not (knows_stack s name.stack)) UnknownStack
 
 abbrev pub open_refusal : Skeleton → Option SpanName → Option Refusal
 open_refusal s None = None
-open_refusal s (Some name) = when (not (is_open s.spans name.id)) UnknownSpan
+open_refusal s (Some name) = when (not (has_open s name.id)) UnknownSpan
 
 abbrev pub pair_refusal : Skeleton → Option SpanName → Option SpanName → Option Refusal
 pair_refusal s span follows =
@@ -109,11 +119,11 @@ follows_refusal s call = first (lane_refusal s call.lane) (first (moment_refusal
 -- a span's handles are counted up to the greatest number
 abbrev pub count_refusal : Skeleton → Option SpanName → Option Refusal
 count_refusal s None = None
-count_refusal s (Some name) = when (handles_of s.spans name.id == 18446744073709551615) TooManyHandles
+count_refusal s (Some name) = when (handles_in s name.id == 18446744073709551615) TooManyHandles
 
 abbrev pub handle_refusal : Skeleton → Option SpanName → Option Refusal
 handle_refusal s None = None
-handle_refusal s (Some name) = when (handles_of s.spans name.id == 0) UnknownSpan
+handle_refusal s (Some name) = when (handles_in s name.id == 0) UnknownSpan
 
 -- a request is made where some output of the reached stack passes it
 abbrev pub is_made : Mask → Bool
@@ -126,7 +136,7 @@ made_at s number is_span mask = if is_made mask then known_place s.callsites num
 -- ids are given up to 2^64 - 1
 abbrev pub ids_refusal : Skeleton → Option ℕ → Option Refusal
 ids_refusal s None = None
-ids_refusal s (Some place) = when (nat_lt 18446744073709551615 s.next_id) IdsSpent
+ids_refusal s (Some place) = when (nat_lt 18446744073709551615 s.registry.next_id) IdsSpent
 
 -- the first refusal that a step meets
 unfoldable pub refusal_of : Skeleton → PlainStep → Mask → Option Refusal
@@ -134,67 +144,68 @@ refusal_of s (GlobalStep handle) mask = first (when (not (knows_stack s handle))
 refusal_of s (EventStep e) mask = request_refusal s e.lane e.moment e.callsite false e.parent
 refusal_of s (EnabledStep call) mask = enabled_refusal s call
 refusal_of s (SpanStep n) mask = first (request_refusal s n.lane n.moment n.callsite true n.parent) (ids_refusal s (made_at s n.callsite true mask))
+refusal_of s (RecordStep r) mask = call_refusal s (on_span r)
 refusal_of s (FollowsFromStep call) mask = follows_refusal s call
 refusal_of s (EnterStep call) mask = call_refusal s call
 refusal_of s (ExitStep call) mask = call_refusal s call
 refusal_of s (CloneStep call) mask = first (call_refusal s call) (count_refusal s call.span)
 refusal_of s (CloseStep call) mask = first (call_refusal s call) (handle_refusal s call.span)
 
-abbrev pub lane_at : List (List ℕ) → ℕ → List ℕ
-lane_at lanes n = unwrap_or (slice_get lanes n) []
+-- the parent that a stack is told
+abbrev pub told_parent : Parent → core.Parent
+told_parent Contextual = core_parents.Current
+told_parent Root = core_parents.Root
+told_parent (Explicit name) = core_parents.Explicit name.id
 
 -- the span that a request stands under
-unfoldable pub parent_id : List (List ℕ) → ℕ → Parent → Option ℕ
-parent_id lanes lane Contextual = current (lane_at lanes lane)
-parent_id lanes lane Root = None
-parent_id lanes lane (Explicit name) = Some name.id
+abbrev pub parent_id : RegistryValue → ℕ → Parent → Option ℕ
+parent_id x lane parent = under x lane (told_parent parent)
 
+-- the metadata of what is made at a callsite: its fields are the callsite's own
+abbrev pub made_with : PlainCallsite → PlainMetadata
+made_with c = record (c.metadata) { callsite = c.number }
+
+-- with a span at a callsite
+abbrev pub with_made : Skeleton → Option ℕ → Option PlainCallsite → Skeleton
+with_made s parent None = s
+with_made s parent (Some c) = record s { registry = with_new s.registry (made_with c) parent all_pass }
+
+-- with a span at the callsite of a place, where it is made
 abbrev pub with_span : Skeleton → Option ℕ → Option ℕ → Skeleton
 with_span s parent None = s
-with_span s parent (Some place) = record s { spans = s.spans ++ (record { id = s.next_id; parent = parent; handles = 1 }) ∷ []; next_id = s.next_id + 1 }
+with_span s parent (Some place) = with_made s parent (slice_get s.callsites place)
 
-abbrev pub changed_lane : Skeleton → ℕ → (List ℕ → List ℕ) → Skeleton
-changed_lane s lane f = record s { lanes = slice_set s.lanes lane (f (lane_at s.lanes lane)) }
-
--- the record of an id with one handle less
-abbrev pub one_less : List SpanRecord → ℕ → List SpanRecord
-one_less [] id = []
-one_less (s ∷ ss) id = if s.id == id then (record s { handles = s.handles - 1 }) ∷ ss else s ∷ one_less ss id
-
--- the record of an id with one handle more
-abbrev pub one_more : List SpanRecord → ℕ → List SpanRecord
-one_more [] id = []
-one_more (s ∷ ss) id = if s.id == id then (record s { handles = s.handles + 1 }) ∷ ss else s ∷ one_more ss id
+-- the place of an open span's callsite
+abbrev pub span_place : Skeleton → Option SpanName → Option ℕ
+span_place s None = None
+span_place s (Some name) = option_and_then (λ (x : PlainSpan). place_of s.callsites x.metadata.callsite) (found kin_in s.registry.spans name.id)
 
 abbrev pub cloned : Skeleton → Option SpanName → Skeleton
 cloned s None = s
-cloned s (Some name) = record s { spans = one_more s.spans name.id }
+cloned s (Some name) = record s { registry = with_handle s.registry name.id }
 
--- what stays open
-abbrev pub swept : Skeleton → Skeleton
-swept s = record s { spans = open_of s.lanes s.spans }
-
-abbrev pub without_handle : Skeleton → ℕ → Skeleton
-without_handle s id = swept (record s { spans = one_less s.spans id })
-
+-- with an entry; an entered span is open
 abbrev pub entered : Skeleton → ℕ → Option SpanName → Skeleton
 entered s lane None = s
-entered s lane (Some name) = changed_lane s lane (λ ids. ids ++ name.id ∷ [])
+entered s lane (Some name) = record s { registry = with_entry s.registry lane name.id }
 
+-- without an entry, and without the spans that close
 abbrev pub left : Skeleton → ℕ → Option SpanName → Skeleton
 left s lane None = s
-left s lane (Some name) = swept (changed_lane s lane (without_last name.id))
+left s lane (Some name) = record s { registry = swept (without_entry s.registry lane name.id) }
 
+-- without a handle, and without the spans that close
 abbrev pub given_up : Skeleton → Option SpanName → Skeleton
 given_up s None = s
-given_up s (Some name) = without_handle s name.id
+given_up s (Some name) = record s { registry = swept (without_handle s.registry name.id) }
 
 -- what a step that is not refused leaves
 unfoldable pub acted : Skeleton → PlainStep → Mask → Skeleton
 acted s (GlobalStep handle) mask = record s { is_global = true }
 acted s (EventStep e) mask = s
 acted s (EnabledStep call) mask = s
-acted s (SpanStep n) mask = with_span s (parent_id s.lanes n.lane n.parent) (made_at s n.callsite true mask)
+acted s (SpanStep n) mask = with_span s (parent_id s.registry n.lane n.parent) (made_at s n.callsite true mask)
+acted s (RecordStep r) mask = s
 acted s (FollowsFromStep call) mask = s
 acted s (EnterStep call) mask = entered s call.lane call.span
 acted s (ExitStep call) mask = left s call.lane call.span
@@ -203,7 +214,7 @@ acted s (CloseStep call) mask = given_up s call.span
 
 abbrev pub new_name : Skeleton → Option ℕ → Option SpanName
 new_name s None = None
-new_name s (Some place) = Some (record { stack = 0; id = s.next_id })
+new_name s (Some place) = Some (record { stack = 0; id = s.registry.next_id })
 
 -- what a step that is not refused answers
 unfoldable pub answered : Skeleton → PlainStep → Mask → Reply
@@ -211,6 +222,7 @@ answered s (GlobalStep handle) mask = Done
 answered s (EventStep e) mask = Done
 answered s (EnabledStep call) mask = Enabled (is_made mask)
 answered s (SpanStep n) mask = Span (new_name s (made_at s n.callsite true mask))
+answered s (RecordStep r) mask = Done
 answered s (FollowsFromStep call) mask = Done
 answered s (EnterStep call) mask = Done
 answered s (ExitStep call) mask = Done
@@ -219,7 +231,7 @@ answered s (CloseStep call) mask = Closed (is_closed s call.span)
   where
     is_closed : Skeleton → Option SpanName → Bool
     is_closed s None = false
-    is_closed s (Some name) = not (is_open (without_handle s name.id).spans name.id)
+    is_closed s (Some name) = not (has_open (given_up s (Some name)) name.id)
 
 abbrev pub or_refused : Option Refusal → Reply → Reply
 or_refused None reply = reply

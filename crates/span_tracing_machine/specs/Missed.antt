@@ -1,12 +1,11 @@
 -- What a step needs memory for beside its own room, what became of it, and the count of what found none.
 use Rattle.std.specs.Prelude.{ℕ, zero, suc, ◌+◌, List, [], ◌∷◌, Bool, true, false, if◌then◌else◌, nat_lt, Option, Some, None}
-use Rattle.tracing_core.specs.PlainValue.{PlainValue}
 use Rattle.tracing_appender_rolling.specs.Sinks.{Handed}
 pub use Rattle.span_tracing_machine.specs.declared.fate.Fate.{Fate}
 pub use Rattle.span_tracing_machine.specs.declared.fate.Fate.TheVariants.{Whole, Missed, Unwritten}
-use Rattle.span_tracing_machine.specs.PlainData.{PlainStep, GlobalStep, EventStep, EnabledStep, SpanStep, FollowsFromStep, EnterStep, ExitStep, CloneStep, CloseStep}
+use Rattle.span_tracing_machine.specs.PlainData.{PlainStep, GlobalStep, EventStep, EnabledStep, SpanStep, RecordStep, FollowsFromStep, EnterStep, ExitStep, CloneStep, CloseStep}
 use Rattle.span_tracing_machine.specs.Skeleton.{Skeleton, Mask}
-use Rattle.span_tracing_machine.specs.Machine.{refusal_of, made_at, or_same}
+use Rattle.span_tracing_machine.specs.Machine.{refusal_of, made_at, or_same, span_place}
 
 -- an output's text of a span, an output's line to one of its sinks
 pub data Want : Type 0 where
@@ -23,6 +22,7 @@ wanted s (GlobalStep handle) mask = []
 wanted s (EventStep e) mask = want_if (made_at s e.callsite false mask) (LineTo 0 0)
 wanted s (EnabledStep call) mask = []
 wanted s (SpanStep n) mask = want_if (made_at s n.callsite true mask) (TextOf 0)
+wanted s (RecordStep r) mask = want_if (span_place s r.span) (TextOf 0)
 wanted s (FollowsFromStep call) mask = []
 wanted s (EnterStep call) mask = []
 wanted s (ExitStep call) mask = []
@@ -43,9 +43,9 @@ abbrev pub first_fate : List Fate → Fate
 first_fate [] = Whole
 first_fate (fate ∷ fates) = fate
 
--- a text that found no memory counts as a value list that was not given
-abbrev pub given_by : Fate → List (ℕ × PlainValue) → List (ℕ × PlainValue)
-given_by Whole values = values
+-- a value list whose text found no memory counts as one that was not given
+abbrev pub given_by : {A : Type 0} → Fate → A → List A
+given_by Whole values = values ∷ []
 given_by Missed values = []
 given_by Unwritten values = []
 

@@ -2,17 +2,17 @@
 use Rattle.std.specs.Prelude.{◌≡◌, ℕ, pos, negsuc, List, [], ◌∷◌, ◌++◌, true, false, if◌then◌else◌, Option, Some, None, codes}
 use Rattle.std.specs.Option.{option_map}
 use Rattle.std.specs.Str.{bytes_eq}
-use Rattle.tracing_appender_rolling.specs.declared.moment.Moment.{Moment}
+use Rattle.tracing_appender_rolling.specs.Moment.{Moment}
 use Rattle.tracing_appender_rolling.specs.PeriodKind.TheVariants.{Day}
 use Rattle.tracing_appender_rolling.specs.Sinks.{file_text}
 use Rattle.tracing_core.specs.PlainKind.{PlainKind}
-use Rattle.tracing_core.specs.PlainValue.{Unsigned, Text}
+use Rattle.tracing_core.specs.PlainValue.{PlainValue, Unsigned, Text}
 use Rattle.span_tracing_machine.specs.declared.call.Parent.TheVariants.{Contextual}
 use Rattle.span_tracing_machine.specs.declared.call.Reply.TheVariants.{Done, Enabled, Span, Closed, Refused}
 use Rattle.span_tracing_machine.specs.declared.refusal.Refusal.TheVariants.{UnknownCallsite, UnknownStack, UnknownSpan, BadMoment, UnknownLane}
 use Rattle.span_tracing_machine.specs.declared.call.SpanCall.{SpanCall}
 use Rattle.span_tracing_machine.specs.declared.call.SpanName.{SpanName}
-use Rattle.span_tracing_machine.specs.PlainData.{Request, PlainStep, GlobalStep, EventStep, EnabledStep, SpanStep, FollowsFromStep, EnterStep, ExitStep, CloneStep, CloseStep}
+use Rattle.span_tracing_machine.specs.PlainData.{Request, PlainStep, GlobalStep, EventStep, EnabledStep, SpanStep, RecordStep, FollowsFromStep, EnterStep, ExitStep, CloneStep, CloseStep}
 use Rattle.span_tracing_machine.specs.Lines.{line_end}
 use Rattle.span_tracing_machine.specs.Skeleton.{PlainCallsite}
 use Rattle.span_tracing_machine.specs.Missed.{Missed, Unwritten}
@@ -126,7 +126,7 @@ abbrev pub CycleReplies : Type 0
 CycleReplies = replies_of base cycle ≡ (Done ∷ Span (Some (record { stack = 0; id = 1 })) ∷ Done ∷ Closed false ∷ Done ∷ Refused UnknownSpan ∷ [])
 
 abbrev pub CycleLeft : Type 0
-CycleLeft = ((plain_run base cycle []).skeleton.spans ≡ []) × ((plain_run base cycle []).value_lists ≡ []) × ((plain_run base cycle []).skeleton.next_id ≡ 2)
+CycleLeft = ((plain_run base cycle []).skeleton.registry.spans ≡ []) × ((plain_run base cycle []).value_lists ≡ []) × ((plain_run base cycle []).skeleton.registry.next_id ≡ 2)
 
 -- a span with two handles closes at the second that is given up, and then can't be cloned
 abbrev pub clones : List PlainStep
@@ -149,6 +149,35 @@ FollowsReplies = replies_of base (GlobalStep 0 ∷ new_outer ∷ follows (named 
 -- nothing of it is kept
 abbrev pub FollowsLeaves : Type 0
 FollowsLeaves = plain_run base (GlobalStep 0 ∷ new_outer ∷ follows (named 0 1) (named 0 1) ∷ []) [] ≡ plain_run base (GlobalStep 0 ∷ new_outer ∷ []) []
+
+-- a span with two fields, one of which is given at first
+abbrev pub pair : PlainCallsite
+pair = app_callsite 7 (record { is_event = false; is_span = true; is_hint = false }) (codes "s") (codes "x" ∷ codes "y" ∷ [])
+
+abbrev pub with_pair : Plain
+with_pair = with_callsite base pair
+
+abbrev pub new_pair : List (ℕ × PlainValue) → PlainStep
+new_pair values = SpanStep (record { lane = 0; moment = at_ten; callsite = 7; parent = Contextual; values = values })
+
+abbrev pub recorded : Option SpanName → List (ℕ × PlainValue) → PlainStep
+recorded span values = RecordStep (record { lane = 0; moment = at_ten; span = span; values = values })
+
+-- the other one is recorded: it stands behind the first; a value for a field that the callsite lacks is passed over
+abbrev pub RecordedFile : Type 0
+RecordedFile = file_in (plain_run with_pair (GlobalStep 0 ∷ new_pair ((0, Unsigned 1) ∷ []) ∷ EnterStep on_one ∷ recorded (named 0 1) ((1, Unsigned 2) ∷ (2, Unsigned 3) ∷ []) ∷ m_event ∷ []) []) the_name
+    ≡ Some (Some (codes "fake time s{x=1 y=2}: app: m" ++ line_end))
+
+-- an empty record puts a space behind a text, and none behind an empty one; a record that found no memory puts nothing
+abbrev pub EmptyRecords : Type 0
+EmptyRecords = file_in (plain_run with_pair (GlobalStep 0 ∷ new_pair [] ∷ EnterStep on_one ∷ recorded (named 0 1) [] ∷ recorded (named 0 1) ((0, Unsigned 1) ∷ []) ∷ recorded (named 0 1) [] ∷ recorded (named 0 1) ((1, Unsigned 2) ∷ []) ∷ m_event ∷ [])
+    ([] ∷ [] ∷ [] ∷ [] ∷ [] ∷ [] ∷ (Missed ∷ []) ∷ [])) the_name
+    ≡ Some (Some (codes "fake time s{x=1 }: app: m" ++ line_end))
+
+-- a record is refused as other calls on spans are, and on no span it does nothing
+abbrev pub RecordReplies : Type 0
+RecordReplies = replies_of with_pair (GlobalStep 0 ∷ new_pair [] ∷ recorded (named 0 1) [] ∷ recorded (named 0 7) [] ∷ recorded (named 1 1) [] ∷ recorded None [] ∷ [])
+    ≡ (Done ∷ Span (named 0 1) ∷ Done ∷ Refused UnknownSpan ∷ Refused UnknownStack ∷ Done ∷ [])
 
 -- a DEBUG callsite of an event
 abbrev pub quiet : PlainCallsite
@@ -210,4 +239,4 @@ abbrev pub closing : List PlainStep
 closing = nested ++ ExitStep on_two ∷ ExitStep on_one ∷ CloseStep on_one ∷ CloseStep on_two ∷ []
 
 abbrev pub NestedLeft : Type 0
-NestedLeft = (plain_run (with_callsite base inner) closing []).skeleton.spans ≡ []
+NestedLeft = (plain_run (with_callsite base inner) closing []).skeleton.registry.spans ≡ []

@@ -1,38 +1,36 @@
 -- The plain machine: value lists, an output and its handed lines beside the skeleton.
 use Rattle.std.specs.Prelude.{ℕ, ◌+◌, List, [], ◌∷◌, ◌++◌, map, reverse, Bool, true, false, ◌==◌, nat_le, if◌then◌else◌, Option, Some, None, option_and_then, slice_get, filter, not, is_some}
 use Rattle.std.specs.Option.{option_map}
-use Rattle.tracing_core.specs.PlainMetadata.{is_same_metadata}
 use Rattle.tracing_core.specs.PlainValue.{PlainValue}
-use Rattle.tracing_appender_rolling.specs.declared.moment.Moment.{Moment}
+use Rattle.tracing_core.specs.PlainMetadata.{is_same_metadata}
+use Rattle.tracing_appender_rolling.specs.Moment.{Moment}
 use Rattle.tracing_appender_rolling.specs.Sinks.{Handed, PlainSink}
-use Rattle.span_tracing_machine.specs.declared.record.SpanRecord.{SpanRecord}
+use Rattle.span_registry_layers_store.specs.Registries.{PlainSpan, RegistryValue, kin_in, new_registry}
+use Rattle.span_registry_layers_store.specs.Spans.{is_open}
+use Rattle.span_registry_layers_store.specs.Views.{scope_of}
 use Rattle.span_tracing_machine.specs.declared.call.SpanName.{SpanName}
 use Rattle.span_tracing_machine.specs.declared.call.Reply.{Reply}
 use Rattle.span_tracing_machine.specs.declared.refusal.Refusal.{Refusal}
 use Rattle.span_tracing_machine.specs.declared.refusal.Refusal.TheVariants.{Taken}
-use Rattle.span_tracing_machine.specs.PlainData.{Request, PlainStep, GlobalStep, EventStep, EnabledStep, SpanStep, FollowsFromStep, EnterStep, ExitStep, CloneStep, CloseStep}
-use Rattle.span_tracing_machine.specs.FieldTexts.{fields_text}
+use Rattle.span_tracing_machine.specs.PlainData.{Request, PlainStep, GlobalStep, EventStep, EnabledStep, SpanStep, RecordStep, FollowsFromStep, EnterStep, ExitStep, CloneStep, CloseStep}
+use Rattle.span_tracing_machine.specs.FieldTexts.{FieldList, lists_text}
 use Rattle.span_tracing_machine.specs.Lines.{Shown, full_line}
-use Rattle.span_tracing_machine.specs.Spans.{line_of, is_open}
 use Rattle.span_tracing_machine.specs.Skeleton.{Skeleton, PlainCallsite, Mask}
-use Rattle.span_tracing_machine.specs.Machine.{refusal_of, reply_of, acted, after, when, place_of, known_place, made_at, parent_id, or_same}
+use Rattle.span_tracing_machine.specs.Machine.{refusal_of, reply_of, acted, after, when, place_of, known_place, made_at, parent_id, or_same, span_place}
 use Rattle.span_tracing_machine.specs.Missed.{Fate, first_fate, given_by, handed_lines, first_fates, later_fates, count_missed, wants_of}
 
--- an open span's name, and its value list over its callsite's field names
+-- an open span's value lists: the one that it was made with, then those that were recorded
 pub record ValueList : Type 0 where
   pub id : ℕ
-  pub name : List ℕ
-  pub names : List (List ℕ)
-  pub values : List (ℕ × PlainValue)
+  pub lists : List FieldList
 
--- a span's name and text, by its id
+-- a span's text, by its id
 pub record PlainText : Type 0 where
   pub id : ℕ
-  pub name : List ℕ
   pub bytes : List ℕ
 
 abbrev pub text_of : ValueList → PlainText
-text_of v = record { id = v.id; name = v.name; bytes = fields_text v.names v.values }
+text_of v = record { id = v.id; bytes = lists_text v.lists }
 
 -- an output: the greatest level that its filter passes (0 for none), its time text, its sink
 pub record PlainOutput : Type 0 where
@@ -72,6 +70,7 @@ step_mask s filter (GlobalStep handle) = []
 step_mask s filter (EventStep e) = mask_for s filter e.callsite false
 step_mask s filter (EnabledStep call) = mask_asked s filter call.callsite.0
 step_mask s filter (SpanStep n) = mask_for s filter n.callsite true
+step_mask s filter (RecordStep r) = []
 step_mask s filter (FollowsFromStep call) = []
 step_mask s filter (EnterStep call) = []
 step_mask s filter (ExitStep call) = []
@@ -85,11 +84,7 @@ filter_of output = option_map (λ (o : PlainOutput). o.filter) output
 abbrev pub mask_of : Plain → PlainStep → Mask
 mask_of p step = step_mask p.skeleton (filter_of p.output) step
 
--- names and fields of a callsite by its place
-abbrev pub name_of : Option PlainCallsite → List ℕ
-name_of None = []
-name_of (Some c) = c.metadata.name
-
+-- target and fields of a callsite by its place
 abbrev pub target_of : Option PlainCallsite → List ℕ
 target_of None = []
 target_of (Some c) = c.metadata.target
@@ -98,20 +93,24 @@ abbrev pub fields_of : Option PlainCallsite → List (List ℕ)
 fields_of None = []
 fields_of (Some c) = c.metadata.field_names
 
--- how a span of a scope is shown
-abbrev pub shown_span : List PlainText → ℕ → Shown
-shown_span [] id = record { name = []; text = [] }
-shown_span (t ∷ ts) id = if t.id == id then record { name = t.name; text = t.bytes } else shown_span ts id
+-- the text of a span, and the empty one where it has none
+abbrev pub text_at : List PlainText → ℕ → List ℕ
+text_at [] id = []
+text_at (t ∷ ts) id = if t.id == id then t.bytes else text_at ts id
 
--- the strict scope from the root: a span and its ancestors
-abbrev pub scope_ids : List SpanRecord → Option ℕ → List ℕ
-scope_ids spans None = []
-scope_ids spans (Some id) = reverse (line_of spans id)
+-- how a span of a scope is shown
+abbrev pub shown_span : List PlainText → PlainSpan → Shown
+shown_span texts span = record { name = span.metadata.name; text = text_at texts span.kin.id }
+
+-- a span and its ancestors, from the root
+abbrev pub from_root : RegistryValue → Option ℕ → List PlainSpan
+from_root x None = []
+from_root x (Some id) = reverse (scope_of x None id)
 
 -- the line of an event at the callsite of a place
 unfoldable pub event_line : Skeleton → List PlainText → Option (List ℕ) → Request → ℕ → List ℕ
 event_line s texts time e place =
-    full_line time (map (shown_span texts) (scope_ids s.spans (parent_id s.lanes e.lane e.parent)))
+    full_line time (map (shown_span texts) (from_root s.registry (parent_id s.registry e.lane e.parent)))
     (target_of (slice_get s.callsites place)) (fields_of (slice_get s.callsites place)) e.values
 
 abbrev pub handed_at : Moment → List ℕ → Handed
@@ -123,33 +122,50 @@ offer_of s texts time (GlobalStep handle) mask = None
 offer_of s texts time (EventStep e) mask = option_map (λ place. handed_at e.moment (event_line s texts time e place)) (made_at s e.callsite false mask)
 offer_of s texts time (EnabledStep call) mask = None
 offer_of s texts time (SpanStep n) mask = None
+offer_of s texts time (RecordStep r) mask = None
 offer_of s texts time (FollowsFromStep call) mask = None
 offer_of s texts time (EnterStep call) mask = None
 offer_of s texts time (ExitStep call) mask = None
 offer_of s texts time (CloneStep call) mask = None
 offer_of s texts time (CloseStep call) mask = None
 
+-- values over the fields of the callsite of a place
+abbrev pub list_at : Skeleton → ℕ → List (ℕ × PlainValue) → FieldList
+list_at s place values = record { names = fields_of (slice_get s.callsites place); values = values }
+
 -- the value lists with those of a new span
 abbrev pub with_values : List ValueList → Skeleton → Request → Fate → Option ℕ → List ValueList
 with_values lists s n fate None = lists
 with_values lists s n fate (Some place) =
-    lists ++ (record { id = s.next_id; name = name_of (slice_get s.callsites place); names = fields_of (slice_get s.callsites place); values = given_by fate n.values }) ∷ []
+    lists ++ (record { id = s.registry.next_id; lists = given_by fate (list_at s place n.values) }) ∷ []
+
+-- with more lists of the span of an id
+abbrev pub with_more : List ValueList → ℕ → List FieldList → List ValueList
+with_more [] id more = []
+with_more (v ∷ vs) id more = if v.id == id then (record v { lists = v.lists ++ more }) ∷ vs else v ∷ with_more vs id more
+
+-- with what was recorded of a span, at the callsite of a place; a record on no span adds nothing
+abbrev pub with_record : List ValueList → Skeleton → Option SpanName → List (ℕ × PlainValue) → Fate → Option ℕ → List ValueList
+with_record lists s None values fate place = lists
+with_record lists s (Some name) values fate None = lists
+with_record lists s (Some name) values fate (Some place) = with_more lists name.id (given_by fate (list_at s place values))
 
 -- a span that closed is forgotten; a call on no span closes none
-abbrev pub lists_left : Option SpanName → List SpanRecord → List ValueList → List ValueList
+abbrev pub lists_left : Option SpanName → List PlainSpan → List ValueList → List ValueList
 lists_left None spans lists = lists
-lists_left (Some name) spans lists = filter (λ (v : ValueList). is_open spans v.id) lists
+lists_left (Some name) spans lists = filter (λ (v : ValueList). is_open kin_in spans v.id) lists
 
 unfoldable pub lists_acted : Skeleton → List ValueList → PlainStep → Mask → Fate → List ValueList
 lists_acted s lists (GlobalStep handle) mask fate = lists
 lists_acted s lists (EventStep e) mask fate = lists
 lists_acted s lists (EnabledStep call) mask fate = lists
 lists_acted s lists (SpanStep n) mask fate = with_values lists s n fate (made_at s n.callsite true mask)
+lists_acted s lists (RecordStep r) mask fate = with_record lists s r.span r.values fate (span_place s r.span)
 lists_acted s lists (FollowsFromStep call) mask fate = lists
 lists_acted s lists (EnterStep call) mask fate = lists
-lists_acted s lists (ExitStep call) mask fate = lists_left call.span (acted s (ExitStep call) mask).spans lists
+lists_acted s lists (ExitStep call) mask fate = lists_left call.span (acted s (ExitStep call) mask).registry.spans lists
 lists_acted s lists (CloneStep call) mask fate = lists
-lists_acted s lists (CloseStep call) mask fate = lists_left call.span (acted s (CloseStep call) mask).spans lists
+lists_acted s lists (CloseStep call) mask fate = lists_left call.span (acted s (CloseStep call) mask).registry.spans lists
 
 abbrev pub time_of : Option PlainOutput → Option (List ℕ)
 time_of None = None
@@ -205,7 +221,7 @@ offered_in p (step ∷ steps) = offered_by p step ++ offered_in (plain_after p s
 -- the state of a new trace
 abbrev pub new_plain : Plain
 new_plain = record {
-  skeleton = record { callsites = []; lanes = []; spans = []; next_id = 1; has_stack = false; is_global = false };
+  skeleton = record { callsites = []; lanes = 0; registry = new_registry; has_stack = false; is_global = false };
   output = None;
   value_lists = [];
 }
@@ -229,7 +245,7 @@ abbrev pub registered : Plain → PlainCallsite → Plain
 registered p c = if is_some (callsite_named p.skeleton.callsites c.number) then p else with_callsite p c
 
 abbrev pub with_lane : Plain → Plain
-with_lane p = with_skeleton p (record (p.skeleton) { lanes = p.skeleton.lanes ++ [] ∷ [] })
+with_lane p = with_skeleton p (record (p.skeleton) { lanes = p.skeleton.lanes + 1 })
 
 abbrev pub with_stack : Plain → PlainOutput → Plain
 with_stack p o = record p { skeleton = record (p.skeleton) { has_stack = true }; output = Some o }

@@ -50,6 +50,16 @@ pub struct SpanCall {
     pub span: Option<SpanName>,
 }
 
+/// Values for a span, or for none. A field is told by its place among those of the span's callsite; one that the callsite
+/// lacks is passed over.
+#[derive(Debug, Drop)]
+pub struct RecordCall {
+    pub lane: usize,
+    pub moment: Moment,
+    pub span: Option<SpanName>,
+    pub values: Vec<FieldValue>,
+}
+
 /// A span that follows from another one. Where either is none, nothing is told, and the other is looked at all the same.
 #[derive(Clone, Copy, Debug, PartialEq, Eq)]
 pub struct FollowsCall {
@@ -76,6 +86,8 @@ pub enum Step {
     /// Asks whether a request would be made. It is no request, and leaves no mark.
     Enabled(EnabledCall),
     NewSpan(NewSpanCall),
+    /// Adds values to a span's.
+    Record(RecordCall),
     /// Records that a span follows from another one.
     RecordFollowsFrom(FollowsCall),
     Enter(SpanCall),

@@ -1,25 +1,17 @@
 //! Laws of the plain machine.
 
-ghost use Rattle.span_tracing_machine.specs.Spans.{OpenIsLeast};
-ghost use Rattle.span_tracing_machine.specs.Laws.{OpenIsClosedUp, StartsWellFormed, SetupStaysWellFormed, StaysWellFormed, LineIsWhole, CountGrows, CountStops, NoneMissed, NoneMissedInRun, RunHandsOffered, OffersInRange, MissedChangesNoReply, EnabledTellsMade, RunsCompose};
+ghost use Rattle.span_tracing_machine.specs.Laws.{StartsWellFormed, SetupStaysWellFormed, StaysWellFormed, CountGrows, CountStops, NoneMissed, NoneMissedInRun, RunHandsOffered, OffersInRange, MissedChangesNoReply, EnabledTellsMade, RunsCompose};
 
-/// The open spans are the least set that holds each span with a handle or an entry, and the parents of its members.
-pub fn open_is_least()
-    ensures least { OpenIsLeast }
-    ensures closed_up { OpenIsClosedUp }
-{}
+use span_registry_layers_store::registry_stays_sound;
 
-/// Setup calls and steps keep a skeleton well formed: ids rise, parents stand before their children, and the listed spans are the open ones.
+/// Setup calls and steps keep a skeleton well formed: its registry is sound, and only lanes that were given have entries.
 pub fn stays_well_formed()
     ensures start { StartsWellFormed }
     ensures setup { SetupStaysWellFormed }
     ensures step { StaysWellFormed }
-{}
-
-/// A span's ancestors are all shown.
-pub fn line_is_whole()
-    ensures { LineIsWhole }
-{}
+{
+    registry_stays_sound();
+}
 
 /// The count of what found no memory grows by its number and stops at the greatest one.
 pub fn starved_counts()

@@ -1,6 +1,6 @@
 //! Worked rows: what the plain machine gives for a few runs, found by computing.
 
-ghost use Rattle.span_tracing_machine.specs.Rows.{StoredRunReplies, StoredRunFile, BytesAtOpening, EmptyReplies, EmptyFile, TooEarlyReplies, TooEarlyFile, MissedText, MissedLine, UnwrittenLine, CloneReplies, CycleReplies, CycleLeft, EnabledReplies, EnabledRefusals, EnabledLeaves, FollowsLeaves, FollowsReplies, HintReplies, NestedFile, NestedLeft};
+ghost use Rattle.span_tracing_machine.specs.Rows.{StoredRunReplies, StoredRunFile, BytesAtOpening, EmptyReplies, EmptyFile, TooEarlyReplies, TooEarlyFile, MissedText, MissedLine, UnwrittenLine, CloneReplies, CycleReplies, CycleLeft, EnabledReplies, EnabledRefusals, EnabledLeaves, FollowsLeaves, FollowsReplies, HintReplies, NestedFile, NestedLeft, EmptyRecords, RecordReplies, RecordedFile};
 
 /// A span, an event in it, and the file's one line.
 pub fn row_stored_run()
@@ -41,6 +41,13 @@ pub fn row_span_cycle()
 /// A span with two handles closes at the second that is given up.
 pub fn row_clones()
     ensures { CloneReplies }
+{}
+
+/// What is recorded on a span stands in its text, behind what was there.
+pub fn row_records()
+    ensures file { RecordedFile }
+    ensures empty { EmptyRecords }
+    ensures replies { RecordReplies }
 {}
 
 /// That a span follows from another one is refused by stacks, then by spans, and nothing of it is kept.

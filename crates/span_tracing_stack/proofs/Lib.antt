@@ -1,8 +1,6 @@
-pub mod Lines
-pub mod Entries
-pub mod Closing
 pub mod Lists
 pub mod Texts
-pub mod Padding
+pub mod Adding
+pub mod Showing
 pub mod Writing
 pub mod Giving

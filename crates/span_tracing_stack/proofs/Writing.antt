@@ -1,8 +1,8 @@
 -- A visit that writes the values' pieces.
-use Rattle.std.proofs.Common.{◌≡◌, ℕ, zero, suc, ◌+◌, ◌<◌, ◌≤◌, if◌then◌else◌, List, [], ◌∷◌, ◌++◌, Bool, true, false, ◌&&◌, Option, Some, None, is_none, Result, Ok, Err, OnOk, length, drop, codes, string_bytes, refl, sym, ap, ◌∙◌, append_assoc, add-one, arith}
+use Rattle.std.proofs.Common.{subst, ◌≡◌, ℕ, zero, suc, ◌+◌, ◌<◌, ◌≤◌, if◌then◌else◌, List, [], ◌∷◌, ◌++◌, Bool, true, false, ◌&&◌, Option, Some, None, is_none, Result, Ok, Err, OnOk, length, drop, codes, string_bytes, refl, sym, ap, ◌∙◌, append_assoc, add-one, arith}
 use Rattle.std.specs.Prelude.{nat_lt, slice_index_or, String}
 use Rattle.std.specs.Global.{Global}
-use Rattle.std.specs.List.{join_by, filter_map, flat_map, cons_option}
+use Rattle.std.specs.List.{AllByRecursion, join_by, filter_map, flat_map, cons_option}
 use Rattle.std.proofs.lemmas.List.{append-nil}
 use Rattle.std.proofs.lemmas.Bool.Decides.{nat_tests}
 use Rattle.std.proofs.lemmas.Option.{slice_get-get_or, slice_get_past}
@@ -13,6 +13,8 @@ use Rattle.span_tracing_machine.specs.FieldTexts.{given_piece, value_piece, furt
 use Rattle.span_tracing_stack.specs.Counted.{count_to}
 use Rattle.span_tracing_stack.specs.Written.{Writes, piece_of}
 use Rattle.span_tracing_stack.specs.declared.fields.FieldsWriter.{FieldsWriter}
+use Rattle.span_tracing_stack.specs.declared.fields.Reach.{Reach}
+use Rattle.span_tracing_stack.specs.declared.fields.Reach.TheVariants.{All, UpTo}
 
 -- the pieces one after another
 abbrev pub later : Bool → List (List ℕ) → List (ℕ × PlainValue) → List ℕ
@@ -50,8 +52,8 @@ piece_past : (names : List (List ℕ)) (place : ℕ) (value : PlainValue) → le
 piece_past names place value h = rw (slice_get_past names place h) refl
 
 -- what stands for a value is its piece of the text, whether its set has a name for it or not
-piece_at : (callsite : ℕ) (names : List (List ℕ)) (place : ℕ) (value : PlainValue) (field : PlainField) → IsFieldAt callsite names place field → piece_of (length names) field value ≡ given_piece names (place, value)
-piece_at callsite names place value field is = by_test (nat_lt field.index (length names)) refl
+piece_at : (callsite : ℕ) (names : List (List ℕ)) (last : Option ℕ) (place : ℕ) (value : PlainValue) (field : PlainField) → count_to last ≡ length names → IsFieldAt callsite names place field → piece_of (UpTo last) field value ≡ given_piece names (place, value)
+piece_at callsite names last place value field count is = rw count (by_test (nat_lt field.index (length names)) refl)
   where
     by_test : (b : Bool) → nat_lt field.index (length names) ≡ b → (if b then value_piece field.name value else None) ≡ given_piece names (place, value)
     by_test true e =
@@ -63,26 +65,42 @@ piece_at callsite names place value field is = by_test (nat_lt field.index (leng
         let beyond : length names ≤ place = grind (arith, nat_tests) in
         sym (piece_past names place value beyond)
 
+-- each entry has the piece of the text that is written of it
+abbrev pub Reads : Reach → ℕ → List (List ℕ) → List (ℕ × PlainValue) → Type 0
+Reads reach callsite names [] = Unit {0}
+Reads reach callsite names (e ∷ es) = ((field : PlainField) → IsFieldAt callsite names e.0 field → piece_of reach field e.1 ≡ given_piece names e) × Reads reach callsite names es
+
+-- up to the last field of the set
+pub reads_set : (callsite : ℕ) (names : List (List ℕ)) (last : Option ℕ) (es : List (ℕ × PlainValue)) → count_to last ≡ length names → Reads (UpTo last) callsite names es
+reads_set callsite names last [] count = tt
+reads_set callsite names last (e ∷ es) count = (λ field is. piece_at callsite names last e.0 e.1 field count is, reads_set callsite names last es count)
+
+-- all, where each is a field of the set
+pub reads_named : (callsite : ℕ) (names : List (List ℕ)) (es : List (ℕ × PlainValue)) → AllByRecursion (λ (e : ℕ × PlainValue). e.0 < length names) es → Reads All callsite names es
+reads_named callsite names [] w = tt
+reads_named callsite names (e ∷ es) w =
+    (λ field is. piece_within names e.0 e.1 field.name w.0 (is.is_named w.0), reads_named callsite names es w.1)
+
 ok_again : {E : Type 0} {P Q : Type 0} (r : Result (Unit {0}) E) → OnOk r P → (P → Q) → OnOk r Q
 ok_again (Ok x) p f = f p
 ok_again (Err e) p f = tt
 
 -- a visit writes them one after another
-pub visited : {E : Type 0} {callsite : ℕ} {names : List (List ℕ)} {entries : List (ℕ × PlainValue)} {before after : FieldsWriter} {answer : Result (Unit {0}) E} → Visits (λ (b : FieldsWriter) (field : PlainField) (value : PlainValue) (r : Result (Unit {0}) E) (a : FieldsWriter). Writes b field value r a) callsite names entries before answer after → count_to before.last ≡ length names → OnOk answer (string_bytes after.out ≡ string_bytes before.out ++ later before.is_first names entries)
-visited {before = before} all_taken count = sym (append-nil (string_bytes before.out))
-visited (refused field is t) count = tt
-visited {callsite = callsite} {names = names} {before = before} {after = after} {answer = answer} (taken {place = place} {value = value} {entries = es} {next = next} field is t rest) count =
-    ok_again answer (visited rest (ap count_to t.2 ∙ count))
+pub visited : {E : Type 0} {callsite : ℕ} {names : List (List ℕ)} {entries : List (ℕ × PlainValue)} {before after : FieldsWriter} {answer : Result (Unit {0}) E} → Visits (λ (b : FieldsWriter) (field : PlainField) (value : PlainValue) (r : Result (Unit {0}) E) (a : FieldsWriter). Writes b field value r a) callsite names entries before answer after → Reads before.reach callsite names entries → OnOk answer (string_bytes after.out ≡ string_bytes before.out ++ later before.is_first names entries)
+visited {before = before} all_taken reads = sym (append-nil (string_bytes before.out))
+visited (refused field is t) reads = tt
+visited {callsite = callsite} {names = names} {before = before} {after = after} {answer = answer} (taken {place = place} {value = value} {entries = es} {next = next} field is t rest) reads =
+    ok_again answer (visited rest (subst (λ reach. Reads reach callsite names es) (sym t.2) reads.1))
     (λ (more : string_bytes after.out ≡ string_bytes next.out ++ later next.is_first names es).
-    let same = ap (λ (n : ℕ). piece_of n field value) count ∙ piece_at callsite names place value field is in
+    let same = reads.0 field is in
     more ∙ ap (λ (b : Bool). string_bytes next.out ++ later b names es) (t.1 ∙ ap (λ (o : Option (List ℕ)). before.is_first && is_none o) same)
     ∙ ap (λ (text : List ℕ). text ++ later (before.is_first && is_none (given_piece names (place, value))) names es) (t.0 ∙ ap (λ (o : Option (List ℕ)). string_bytes before.out ++ further before.is_first o) same)
     ∙ append_assoc (string_bytes before.out) (further before.is_first (given_piece names (place, value))) (later (before.is_first && is_none (given_piece names (place, value))) names es))
 
 -- a visit that began with this text
-pub visited_from : {E : Type 0} {callsite : ℕ} {names : List (List ℕ)} {entries : List (ℕ × PlainValue)} {before after : FieldsWriter} (answer : Result (Unit {0}) E) (text : String Global) → before.out ≡ text → before.is_first ≡ true → count_to before.last ≡ length names → Visits (λ (b : FieldsWriter) (field : PlainField) (value : PlainValue) (r : Result (Unit {0}) E) (a : FieldsWriter). Writes b field value r a) callsite names entries before answer after → OnOk answer (string_bytes after.out ≡ string_bytes text ++ fields_text names entries)
-visited_from {names = names} {entries = entries} {before = before} {after = after} answer text is first count w =
-    ok_again answer (visited w count)
+pub visited_from : {E : Type 0} {callsite : ℕ} {names : List (List ℕ)} {entries : List (ℕ × PlainValue)} {before after : FieldsWriter} (answer : Result (Unit {0}) E) (text : String Global) → before.out ≡ text → before.is_first ≡ true → Reads before.reach callsite names entries → Visits (λ (b : FieldsWriter) (field : PlainField) (value : PlainValue) (r : Result (Unit {0}) E) (a : FieldsWriter). Writes b field value r a) callsite names entries before answer after → OnOk answer (string_bytes after.out ≡ string_bytes text ++ fields_text names entries)
+visited_from {names = names} {entries = entries} {before = before} {after = after} answer text is first reads w =
+    ok_again answer (visited w reads)
     (λ (written : string_bytes after.out ≡ string_bytes before.out ++ later before.is_first names entries).
     written
     ∙ ap (λ (b : Bool). string_bytes before.out ++ later b names entries) first

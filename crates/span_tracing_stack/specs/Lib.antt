@@ -1,6 +1,6 @@
-pub mod Lanes
 pub mod Shown
 pub mod Stacks
+pub mod Recording
 pub mod Moves
 pub mod Steadiness
 pub mod Counted

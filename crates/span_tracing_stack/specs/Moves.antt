@@ -1,24 +1,25 @@
 -- What a call of a stack may answer and leave.
-use Rattle.std.specs.Prelude.{◌≡◌, ◌<◌, ◌≤◌, ℕ, zero, suc, Bool, true, false, ◌&&◌, not, Option, Some, None, Result, Ok, Err}
+use Rattle.std.specs.Prelude.{◌≡◌, ◌<◌, ◌≤◌, ℕ, Bool, true, false, Option, Some, None, Result, Ok, Err}
 use Rattle.tracing_core.specs.Calls.{Call, ReplyTo, DispatchRegistered, CallsiteRegistered, Asked, HintAsked, SpanMade, Recorded, FollowsRecorded, EventAsked, Told, Entered, Exited, Cloned, Dropped, CloseTried, CurrentAsked}
-use Rattle.tracing_core.specs.PlainRequests.{PlainAttributes, PlainEvent}
+use Rattle.tracing_core.specs.PlainRequests.{PlainAttributes, PlainEvent, PlainValues}
 use Rattle.tracing_core.specs.RequestError.{RequestError}
 use Rattle.tracing_core.specs.RequestError.TheVariants.{OutOfMemory, UnknownSpan, UnknownParent, IdsSpent, TooManyHandles}
 use Rattle.tracing_core.specs.CurrentSpan.{CurrentSpan}
 use Rattle.tracing_core.specs.CurrentSpan.TheVariants.{Outside, Inside}
-use Rattle.span_tracing_machine.specs.Machine.{lane_at}
+use Rattle.span_registry_layers_store.specs.Gives as store
+use Rattle.span_registry_layers_store.specs.Registries.{current_on, kin_in}
+use Rattle.span_registry_layers_store.specs.Spans.{is_open}
 use Rattle.span_tracing_machine.specs.declared.fate.Fate.{Fate}
-use Rattle.span_tracing_machine.specs.Spans.{current, handles_of, is_open}
-use Rattle.span_tracing_stack.specs.Lanes.{pushed}
-use Rattle.span_tracing_stack.specs.Stacks.{StackValue, PlainTold, Quiet, passes, own_interest, knows_parent, line_in, line_told, with_span, with_exit, with_less, one_more}
+use Rattle.span_tracing_stack.specs.Recording.{AddsFields}
+use Rattle.span_tracing_stack.specs.Stacks.{text_told, StackValue, PlainTold, Quiet, passes, own_interest, knows_parent, left_with, line_in, line_told, with_span, with_exit}
 
 -- a refusal leaves the stack but for what it last told
 abbrev pub quiet : StackValue → StackValue
 quiet x = record x { told = Quiet }
 
--- the greatest id, and the greatest count of a span's handles
-abbrev pub greatest : ℕ
-greatest = 18446744073709551615
+-- another registry, and else only what was last told
+abbrev pub registry_left : StackValue → StackValue → StackValue
+registry_left x y = record x { registry = y.registry; told = Quiet }
 
 -- the line is told, or that it found no memory
 abbrev pub TellsLine : StackValue → PlainEvent → ℕ → PlainTold → Type 0
@@ -28,14 +29,14 @@ TellsLine x e lane told = (fate : Fate) × (told ≡ line_told fate (line_in x e
 abbrev pub SpanGives : StackValue → PlainAttributes → ℕ → Result (Option ℕ) RequestError → StackValue → Type 0
 SpanGives x a lane (Ok None) y = (knows_parent x a.parent ≡ true) × (passes x a.metadata ≡ false) × (y ≡ quiet x)
 SpanGives x a lane (Ok (Some id)) y =
-    (knows_parent x a.parent ≡ true) × (passes x a.metadata ≡ true) × (x.next_id ≤ greatest) × (id ≡ x.next_id)
+    (knows_parent x a.parent ≡ true) × (passes x a.metadata ≡ true) × (x.registry.next_id ≤ store.most) × (id ≡ x.registry.next_id)
     × ((fate : Fate) × (y ≡ with_span x a lane fate))
 SpanGives x a lane (Err OutOfMemory) y =
-    (knows_parent x a.parent ≡ true) × (passes x a.metadata ≡ true) × (x.next_id ≤ greatest) × (y ≡ quiet x)
+    (knows_parent x a.parent ≡ true) × (passes x a.metadata ≡ true) × (x.registry.next_id ≤ store.most) × (y ≡ quiet x)
 SpanGives x a lane (Err UnknownSpan) y = ⊥
 SpanGives x a lane (Err UnknownParent) y = (knows_parent x a.parent ≡ false) × (y ≡ quiet x)
 SpanGives x a lane (Err IdsSpent) y =
-    (knows_parent x a.parent ≡ true) × (passes x a.metadata ≡ true) × (greatest < x.next_id) × (y ≡ quiet x)
+    (knows_parent x a.parent ≡ true) × (passes x a.metadata ≡ true) × (store.most < x.registry.next_id) × (y ≡ quiet x)
 SpanGives x a lane (Err TooManyHandles) y = ⊥
 
 -- an event that the filter passes has its line, or misses it alone
@@ -52,28 +53,39 @@ EventGives x e lane (Err UnknownParent) y = (knows_parent x e.parent ≡ false) 
 EventGives x e lane (Err IdsSpent) y = ⊥
 EventGives x e lane (Err TooManyHandles) y = ⊥
 
--- an open span is entered
+-- what was recorded of an open span stands in its text, or that misses it alone
+abbrev pub TellsRecord : StackValue → ℕ → PlainValues → StackValue → Type 0
+TellsRecord x id values y =
+    (fate : Fate) × AddsFields x.texts id values fate y.texts × (y ≡ record x { texts = y.texts; told = text_told fate })
+
+abbrev pub RecordGives : StackValue → ℕ → PlainValues → Result (Unit {0}) RequestError → StackValue → Type 0
+RecordGives x id values (Ok done) y = (is_open kin_in x.registry.spans id ≡ true) × TellsRecord x id values y
+RecordGives x id values (Err OutOfMemory) y = ⊥
+RecordGives x id values (Err UnknownSpan) y = (is_open kin_in x.registry.spans id ≡ false) × (y ≡ quiet x)
+RecordGives x id values (Err UnknownParent) y = ⊥
+RecordGives x id values (Err IdsSpent) y = ⊥
+RecordGives x id values (Err TooManyHandles) y = ⊥
+
+-- an open span is entered, where there is memory
 abbrev pub EntryGives : StackValue → ℕ → ℕ → Result (Unit {0}) RequestError → StackValue → Type 0
-EntryGives x id lane (Ok done) y = (is_open x.spans id ≡ true) × (y ≡ record x { lanes = pushed lane id x.lanes; told = Quiet })
-EntryGives x id lane (Err OutOfMemory) y = (is_open x.spans id ≡ true) × (y ≡ quiet x)
-EntryGives x id lane (Err UnknownSpan) y = (is_open x.spans id ≡ false) × (y ≡ quiet x)
-EntryGives x id lane (Err UnknownParent) y = ⊥
-EntryGives x id lane (Err IdsSpent) y = ⊥
-EntryGives x id lane (Err TooManyHandles) y = ⊥
+EntryGives x id lane r y = store.EntryGives x.registry lane id r y.registry × (y ≡ registry_left x y)
 
 -- an open span has one handle more
 abbrev pub CloneGives : StackValue → ℕ → Result ℕ RequestError → StackValue → Type 0
-CloneGives x id (Ok same) y = (same ≡ id) × (is_open x.spans id ≡ true) × (y ≡ record x { spans = one_more x.spans id; told = Quiet })
-CloneGives x id (Err OutOfMemory) y = ⊥
-CloneGives x id (Err UnknownSpan) y = (is_open x.spans id ≡ false) × (y ≡ quiet x)
-CloneGives x id (Err UnknownParent) y = ⊥
-CloneGives x id (Err IdsSpent) y = ⊥
-CloneGives x id (Err TooManyHandles) y = (is_open x.spans id ≡ true) × (handles_of x.spans id ≡ greatest) × (y ≡ quiet x)
+CloneGives x id r y = ((r, y.registry) ≡ store.clone_gives x.registry id) × (y ≡ registry_left x y)
+
+-- a handle of a span is given up, and what closes is forgotten with its text
+abbrev pub closed_left : StackValue → ℕ → StackValue
+closed_left x id = left_with (store.close_gives x.registry id).1 x
+
+-- whether a close that is not refused closed its span
+abbrev pub says_closed : Result Bool RequestError → Bool
+says_closed (Ok closed) = closed
+says_closed (Err e) = false
 
 abbrev pub inside : Option ℕ → CurrentSpan
 inside None = Outside
-inside (Some zero) = Outside
-inside (Some (suc id)) = Inside (suc id)
+inside (Some id) = Inside id
 
 -- what a call answers and leaves
 unfoldable pub Gives : StackValue → (c : Call) → ReplyTo c → StackValue → Type 0
@@ -82,16 +94,16 @@ Gives x (CallsiteRegistered m) r y = (r ≡ own_interest x m) × (y ≡ x)
 Gives x (Asked m at) r y = (r ≡ passes x m) × (y ≡ x)
 Gives x HintAsked r y = (r ≡ Some x.setting.filter) × (y ≡ x)
 Gives x (SpanMade a at) r y = SpanGives x a at.lane r y
-Gives x (Recorded span values at) r y = (r ≡ Ok tt) × (y ≡ x)
+Gives x (Recorded span values at) r y = RecordGives x span values r y
 Gives x (FollowsRecorded span follows at) r y = (r ≡ Ok tt) × (y ≡ x)
 Gives x (EventAsked e at) r y = (r ≡ true) × (y ≡ x)
 Gives x (Told e at) r y = EventGives x e at.lane r y
 Gives x (Entered id at) r y = EntryGives x id at.lane r y
 Gives x (Exited id at) r y = y ≡ quiet (with_exit x at.lane id)
 Gives x (Cloned id at) r y = CloneGives x id r y
-Gives x (Dropped id at) r y = y ≡ quiet (with_less x id)
-Gives x (CloseTried id at) r y = (r ≡ (is_open x.spans id && not (is_open y.spans id))) × (y ≡ quiet (with_less x id))
-Gives x (CurrentAsked at) r y = (r ≡ inside (current (lane_at x.lanes at.lane))) × (y ≡ x)
+Gives x (Dropped id at) r y = y ≡ quiet (closed_left x id)
+Gives x (CloseTried id at) r y = (r ≡ says_closed (store.close_gives x.registry id).0) × (y ≡ quiet (closed_left x id))
+Gives x (CurrentAsked at) r y = (r ≡ inside (current_on x.registry at.lane)) × (y ≡ x)
 
 -- a call leaves the setting
 pub record StackMoves (x : StackValue) (c : Call) (r : ReplyTo c) (y : StackValue) : Type 0 where

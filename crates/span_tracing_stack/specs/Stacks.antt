@@ -1,23 +1,21 @@
 -- A stack as a value: what it keeps without where it lies in memory, and what its last request came to.
-use Rattle.std.specs.Prelude.{ℕ, ◌+◌, ◌==◌, nat_le, List, [], ◌∷◌, ◌++◌, Bool, true, false, if◌then◌else◌, map, Option, Some, None, string_bytes}
-use Rattle.std.specs.List.{filter}
+use Rattle.std.specs.Prelude.{ℕ, ◌<◌, length, ◌==◌, nat_le, List, [], ◌∷◌, ◌++◌, Bool, true, false, if◌then◌else◌, map, Option, Some, None, string_bytes}
+use Rattle.std.specs.List.{AllByRecursion, filter}
 use Rattle.tracing_core.specs.PlainMetadata.{PlainMetadata}
+use Rattle.tracing_core.specs.PlainValue.{PlainValue}
 use Rattle.tracing_core.specs.PlainRequests.{PlainAttributes, PlainEvent, PlainValues, explicit_parent}
 use Rattle.tracing_core.specs.Interests.{PlainInterest}
 use Rattle.tracing_core.specs.InterestInner.TheVariants.{Never, Always}
 use Rattle.tracing_core.specs.Parent.{Parent}
-use Rattle.tracing_core.specs.Parent.TheVariants.{Root, Current, Explicit}
-use Rattle.span_tracing_machine.specs.declared.record.SpanRecord.{SpanRecord}
-use Rattle.span_tracing_machine.specs.FieldTexts.{fields_text}
+use Rattle.span_registry_layers_store.specs.Registries.{PlainSpan, RegistryValue, kin_in, knows, new_registry, swept, under, with_span as with_new, without_entry}
+use Rattle.span_registry_layers_store.specs.Spans.{is_open}
+use Rattle.span_registry_layers_store.specs.Verdicts.{all_pass}
+use Rattle.span_tracing_machine.specs.FieldTexts.{FieldList, lists_text}
 use Rattle.span_tracing_machine.specs.Lines.{full_line}
-use Rattle.span_tracing_machine.specs.Machine.{lane_at, one_less}
-pub use Rattle.span_tracing_machine.specs.Machine.{one_more}
 use Rattle.span_tracing_machine.specs.declared.fate.Fate.{Fate}
 use Rattle.span_tracing_machine.specs.declared.fate.Fate.TheVariants.{Whole, Missed, Unwritten}
 use Rattle.span_tracing_machine.specs.Missed.{given_by}
-use Rattle.span_tracing_machine.specs.Spans.{current, is_open, open_of}
-use Rattle.span_tracing_machine.specs.State.{PlainText, shown_span, scope_ids}
-use Rattle.span_tracing_stack.specs.Lanes.{plain_lanes, removed}
+use Rattle.span_tracing_machine.specs.State.{PlainText, from_root, shown_span}
 use Rattle.span_tracing_stack.specs.declared.format.Timer.{Timer}
 use Rattle.span_tracing_stack.specs.declared.format.Timer.TheVariants.{FixedText, Absent}
 use Rattle.span_tracing_stack.specs.declared.setting.Setting.{Setting}
@@ -37,23 +35,15 @@ plain_told told.Nothing line = Quiet
 plain_told told.Missed line = Starved
 plain_told told.Line line = Says line
 
--- entries by lane, open spans in order of making, the next id (past the greatest one where all are given), the output's setting,
--- names and texts of open spans, and what the last request came to
+-- the registry of spans, the output's setting, texts of open spans, and what the last request came to
 pub record StackValue : Type 0 where
-  pub lanes : List (List ℕ)
-  pub spans : List SpanRecord
-  pub next_id : ℕ
+  pub registry : RegistryValue
   pub setting : Setting
   pub texts : List PlainText
   pub told : PlainTold
 
--- the number of the next id
-abbrev pub next_number : Option ℕ → ℕ
-next_number None = 18446744073709551616
-next_number (Some id) = id
-
 abbrev pub plain_text : SpanText → PlainText
-plain_text t = record { id = t.id; name = string_bytes t.name; bytes = string_bytes t.text }
+plain_text t = record { id = t.id; bytes = string_bytes t.text }
 
 abbrev pub plain_time : Timer → Option (List ℕ)
 plain_time (FixedText text) = Some (string_bytes text)
@@ -63,9 +53,7 @@ plain_time Absent = None
 abbrev pub plain_state : StackState → PlainTold → StackValue
 plain_state s told =
     record {
-      lanes = plain_lanes s.lanes.items;
-      spans = s.spans.items;
-      next_id = next_number s.next_id;
+      registry = s.registry;
       setting = s.setting;
       texts = map plain_text s.texts.items;
       told = told;
@@ -73,7 +61,7 @@ plain_state s told =
 
 -- a stack with no span and no entry
 abbrev pub new_stack : Setting → StackValue
-new_stack setting = record { lanes = []; spans = []; next_id = 1; setting = setting; texts = []; told = Quiet }
+new_stack setting = record { registry = new_registry; setting = setting; texts = []; told = Quiet }
 
 -- the filter passes a level at most itself
 abbrev pub passes : StackValue → PlainMetadata → Bool
@@ -82,37 +70,31 @@ passes x m = nat_le m.level x.setting.filter
 abbrev pub own_interest : StackValue → PlainMetadata → PlainInterest
 own_interest x m = if passes x m then Always else Never
 
--- whether a request stands under the current span
-abbrev pub is_contextual : Parent → Bool
-is_contextual Root = false
-is_contextual Current = true
-is_contextual (Explicit id) = false
-
--- the current span of a lane, or the one that was named, if any
-abbrev pub start_of : List (List ℕ) → ℕ → Bool → Option ℕ → Option ℕ
-start_of lanes lane true named = current (lane_at lanes lane)
-start_of lanes lane false named = named
-
--- the span that a request stands under
-abbrev pub under : StackValue → ℕ → Parent → Option ℕ
-under x lane parent = start_of x.lanes lane (is_contextual parent) (explicit_parent parent)
-
 -- a parent that is named is open
-abbrev pub is_known : List SpanRecord → Option ℕ → Bool
-is_known spans None = true
-is_known spans (Some id) = is_open spans id
-
 abbrev pub knows_parent : StackValue → Parent → Bool
-knows_parent x parent = is_known x.spans (explicit_parent parent)
+knows_parent x parent = knows x.registry (explicit_parent parent)
+
+-- values over the fields of their set
+abbrev pub fields_in : PlainValues → FieldList
+fields_in values = record { names = values.names; values = values.entries }
 
 -- the text of a new span, where it found memory or not; a value past the names of its set is passed over
 abbrev pub span_text : PlainValues → Fate → List ℕ
-span_text values fate = fields_text values.names (given_by fate values.entries)
+span_text values fate = lists_text (given_by fate (fields_in values))
+
+-- each value is one of a field of the set
+abbrev pub AllNamed : PlainValues → Type 0
+AllNamed values = AllByRecursion (λ (e : ℕ × PlainValue). e.0 < length values.names) values.entries
+
+-- with another text of a span, where it has one
+abbrev pub with_bytes : List PlainText → ℕ → List ℕ → List PlainText
+with_bytes [] id bytes = []
+with_bytes (t ∷ ts) id bytes = if t.id == id then (record t { bytes = bytes }) ∷ ts else t ∷ with_bytes ts id bytes
 
 -- the line of an event
 abbrev pub line_in : StackValue → PlainEvent → ℕ → List ℕ
 line_in x e lane =
-    full_line (plain_time x.setting.format.timer) (map (shown_span x.texts) (scope_ids x.spans (under x lane e.parent)))
+    full_line (plain_time x.setting.format.timer) (map (shown_span x.texts) (from_root x.registry (under x.registry lane e.parent)))
     e.metadata.target e.values.names e.values.entries
 
 -- what is told of a text or a line by whether it found memory
@@ -130,32 +112,22 @@ text_told Unwritten = Starved
 abbrev pub with_span : StackValue → PlainAttributes → ℕ → Fate → StackValue
 with_span x a lane fate =
     record x {
-      spans = x.spans ++ (record { id = x.next_id; parent = under x lane a.parent; handles = 1 }) ∷ [];
-      next_id = x.next_id + 1;
-      texts = x.texts ++ (record { id = x.next_id; name = a.metadata.name; bytes = span_text a.values fate }) ∷ [];
+      registry = with_new x.registry a.metadata (under x.registry lane a.parent) all_pass;
+      texts = x.texts ++ (record { id = x.registry.next_id; bytes = span_text a.values fate }) ∷ [];
       told = text_told fate;
     }
 
 -- the texts of open spans
-abbrev pub open_texts : List SpanRecord → List PlainText → List PlainText
-open_texts spans texts = filter (λ (t : PlainText). is_open spans t.id) texts
+abbrev pub open_texts : List PlainSpan → List PlainText → List PlainText
+open_texts spans texts = filter (λ (t : PlainText). is_open kin_in spans t.id) texts
 
--- without the spans that closed, and without their texts
-abbrev pub swept_with : List (List ℕ) → List SpanRecord → StackValue → StackValue
-swept_with lanes spans x =
-    record x {
-      lanes = lanes;
-      spans = open_of lanes spans;
-      texts = open_texts (open_of lanes spans) x.texts;
-    }
+-- with another registry, and without the texts of spans that aren't open there
+abbrev pub left_with : RegistryValue → StackValue → StackValue
+left_with y x = record x { registry = y; texts = open_texts y.spans x.texts }
 
--- without the last entry of a span on a lane
+-- without the last entry of a span on a lane, and without the spans that closed
 abbrev pub with_exit : StackValue → ℕ → ℕ → StackValue
-with_exit x lane id = swept_with (removed lane id x.lanes) x.spans x
-
--- with one handle of a span less
-abbrev pub with_less : StackValue → ℕ → StackValue
-with_less x id = swept_with x.lanes (one_less x.spans id) x
+with_exit x lane id = left_with (swept (without_entry x.registry lane id)) x
 
 -- the line that was told, and whether a text or a line found no memory
 abbrev pub line_said : PlainTold → Option (List ℕ)

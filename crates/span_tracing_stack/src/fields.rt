@@ -4,12 +4,13 @@ ghost use Rattle.std.specs.Prelude.{◌≡◌, ◌++◌, OnOk, string_bytes, ℕ
 ghost use Rattle.tracing_core.specs.DebugText.{plain_debug};
 ghost use Rattle.tracing_core.specs.Iter.{fields_left};
 ghost use Rattle.tracing_core.specs.PlainField.{fields_named};
-ghost use Rattle.tracing_core.specs.PlainRequests.{plain_attributes, plain_event};
-ghost use Rattle.span_tracing_machine.specs.FieldTexts.{sanitized_char, sanitized, is_message, plain_name, label, text_value, debug_piece, fields_text};
-ghost use Rattle.span_tracing_stack.specs.Counted.{count_to};
+ghost use Rattle.tracing_core.specs.PlainRequests.{plain_attributes, plain_event, plain_record};
+ghost use Rattle.span_tracing_machine.specs.FieldTexts.{sanitized_char, sanitized, is_message, plain_name, label, text_value, debug_piece, fields_text, space_behind, with_fields};
+ghost use Rattle.span_tracing_stack.specs.Counted.{count_to, reaches};
+ghost use Rattle.span_tracing_stack.specs.Stacks.{AllNamed, fields_in};
 
 use std::alloc::{AllocError, Global};
-use tracing_core::{Attributes, DebugText, Event, Field, Iter, Visit};
+use tracing_core::{Attributes, DebugText, Event, Field, Iter, Record, Visit};
 
 #[tactic(auto, unfolding(span_tracing_machine::specs::FieldTexts::sanitized_char))]
 fn push_sanitized_char(out: &mut String, c: char) -> Result<(), AllocError>
@@ -103,13 +104,23 @@ fn is_shown(value: &DebugText<'_>) -> bool
     )
 }
 
-// Whether a place is past the last one.
-fn is_past(place: usize, last: Option<usize>) -> bool
-    ensures { result ≡ not (nat_lt place (count_to last)) }
+/// Which fields are written.
+#[derive(Clone, Copy, Debug)]
+enum Reach {
+    /// Each one that comes.
+    All,
+    /// Those up to a place, and none where there is no place.
+    UpTo(Option<usize>),
+}
+
+// Whether the field of a place is passed over.
+fn is_past(place: usize, reach: Reach) -> bool
+    ensures { result ≡ not (reaches reach place) }
 {
-    match last {
-        None => true,
-        Some(last) => last < place,
+    match reach {
+        Reach::All => false,
+        Reach::UpTo(None) => true,
+        Reach::UpTo(Some(last)) => last < place,
     }
 }
 
@@ -118,8 +129,8 @@ fn is_past(place: usize, last: Option<usize>) -> bool
 pub(crate) struct FieldsWriter {
     out: String,
     is_first: bool,
-    // The place of the last field of the values' set, where it has any: a field past it is passed over.
-    last: Option<usize>,
+    // A field past the last one of the values' set is passed over.
+    reach: Reach,
 }
 
 impl Visit for FieldsWriter {
@@ -133,7 +144,7 @@ impl Visit for FieldsWriter {
 
     #[tactic(auto, unfolding(span_tracing_machine::specs::FieldTexts::value_piece))]
     fn record_debug(&mut self, field: &Field<'_>, value: &DebugText<'_>) -> Result<(), AllocError> {
-        if is_past(field.index(), self.last) || !is_shown(value) {
+        if is_past(field.index(), self.reach) || !is_shown(value) {
             return Ok(());
         }
         if !self.is_first {
@@ -168,7 +179,7 @@ pub(crate) fn push_event(
     let mut writer = FieldsWriter {
         out: std::mem::replace(out, String::new(alloc)),
         is_first: true,
-        last: last_of(event.fields()),
+        reach: Reach::UpTo(last_of(event.fields())),
     };
     let written = event.record(&mut writer);
     *out = writer.out;
@@ -183,8 +194,32 @@ pub(crate) fn text_of(alloc: Global, attributes: &Attributes<'_, '_>) -> Result<
     let mut writer = FieldsWriter {
         out: String::new(alloc),
         is_first: true,
-        last: last_of(attributes.fields().iter()),
+        reach: Reach::UpTo(last_of(attributes.fields().iter())),
     };
     attributes.record(&mut writer)?;
+    Ok(writer.out)
+}
+
+// The space behind a text that isn't empty.
+fn space_behind(alloc: Global, text: &str) -> Result<String, AllocError>
+    ensures { IfOk result (λ space. string_bytes space ≡ space_behind text.now) }
+{
+    if text.is_empty() {
+        return Ok(String::new(alloc));
+    }
+    String::from_str(alloc, " ")
+}
+
+/// What the fields of a record put behind a text: their text, after a space where that one isn't empty.
+pub(crate) fn more_of(alloc: Global, text: &str, values: &Record<'_>) -> Result<String, AllocError>
+    ensures { let values = plain_record values.now in
+        AllNamed values → IfOk result (λ more. text.now ++ string_bytes more ≡ with_fields text.now (fields_in values)) }
+{
+    let mut writer = FieldsWriter {
+        out: space_behind(alloc, text)?,
+        is_first: true,
+        reach: Reach::All,
+    };
+    values.record(&mut writer)?;
     Ok(writer.out)
 }

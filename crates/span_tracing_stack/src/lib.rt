@@ -3,12 +3,10 @@
 
 mod fields;
 mod format;
-mod lanes;
 mod line;
 mod setting;
 mod stack;
 mod state;
-mod store;
 mod subscriber;
 mod text;
 mod told;

@@ -4,9 +4,13 @@ ghost use Rattle.std.specs.Prelude.{◌≡◌, ◌++◌, ◌∷◌, [], OnOk, st
 ghost use Rattle.std.specs.Option.{option_copied};
 ghost use Rattle.std.specs.List.{flat_map};
 ghost use Rattle.span_tracing_machine.specs.Lines.{time_piece, shown_piece, scope_piece};
-ghost use Rattle.span_tracing_stack.specs.Shown.{shown_of};
+ghost use Rattle.span_tracing_stack.specs.Shown.{shown_in, shown_of};
+ghost use Rattle.span_tracing_stack.specs.Stacks.{plain_text};
 
+use crate::text::{SpanText, shown_at};
+use span_registry_layers_store::Registry;
 use std::alloc::AllocError;
+use tracing_core::Id;
 
 /// A span of an event's scope, by its name and its stored text.
 #[derive(Clone, Copy, Drop)]
@@ -27,14 +31,19 @@ fn push_shown(out: &mut String, span: &ShownSpan<'_>) -> Result<(), AllocError>
     out.push(':')
 }
 
-fn push_scope(out: &mut String, scope: &[ShownSpan<'_>]) -> Result<(), AllocError>
-    ensures { OnOk result (string_bytes out.new ≡ string_bytes out.old ++ scope_piece (map shown_of scope.now)) }
+fn push_scope(
+    out: &mut String,
+    registry: &Registry,
+    texts: &[SpanText],
+    ids: &[Id],
+) -> Result<(), AllocError>
+    ensures { OnOk result (string_bytes out.new ≡ string_bytes out.old ++ scope_piece (map (shown_in registry.now (map plain_text texts.now)) ids.now)) }
 {
-    if scope.is_empty() {
+    if ids.is_empty() {
         return Ok(());
     }
-    for span in scope {
-        push_shown(out, span)?;
+    for id in ids {
+        push_shown(out, &shown_at(registry, texts, *id))?;
     }
     out.push(' ')
 }
@@ -49,18 +58,20 @@ fn push_time(out: &mut String, time: Option<&str>) -> Result<(), AllocError>
     Ok(())
 }
 
-/// Appends what stands before the fields of an event: time, scope from the root, target.
+/// Appends what stands before the fields of an event: time, the spans of these ids, target.
 pub(crate) fn push_head(
     out: &mut String,
     time: Option<&str>,
-    scope: &[ShownSpan<'_>],
+    registry: &Registry,
+    texts: &[SpanText],
+    ids: &[Id],
     target: &str,
 ) -> Result<(), AllocError>
     ensures { OnOk result (string_bytes out.new ≡ string_bytes out.old
-        ++ (time_piece (option_copied time.entry) ++ scope_piece (map shown_of scope.now) ++ target.now ++ codes ": ")) }
+        ++ (time_piece (option_copied time.entry) ++ scope_piece (map (shown_in registry.now (map plain_text texts.now)) ids.now) ++ target.now ++ codes ": ")) }
 {
     push_time(out, time)?;
-    push_scope(out, scope)?;
+    push_scope(out, registry, texts, ids)?;
     out.push_str(target)?;
     out.push_str(": ")
 }

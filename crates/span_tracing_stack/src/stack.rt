@@ -1,27 +1,29 @@
 //! A stack.
 
 ghost use Rattle.std.specs.Prelude.{◌≡◌, ◌<◌, ◌≤◌, IfNone, IfSome, string_bytes};
-ghost use Rattle.std.specs.Option.{option_copied};
-ghost use Rattle.span_tracing_machine.specs.Spans.{is_open, handles_of};
+ghost use Rattle.std.specs.Option.{option_copied, option_map};
+ghost use Rattle.span_registry_layers_store.specs.Registries.{PlainSpan, kin_in};
+ghost use Rattle.span_registry_layers_store.specs.Spans.{found, handles_of, is_open};
 ghost use Rattle.span_tracing_stack.specs.Stacks.{new_stack, line_said, is_starved};
 
 use crate::setting::Setting;
 use crate::state::StackState;
-use crate::store::{handles_of, is_open};
 use crate::told::Told;
+use span_registry_layers_store::Registry;
 use std::alloc::Global;
 use std::marker::Model;
 use tracing_core::{Id, LevelFilter};
 
-/// Keeps open spans and lane stacks, and writes the lines of the events that its filter passes.
+/// A registry of spans, and the lines of the events that its filter passes.
 ///
 /// A contract sees a stack as a `StackValue`.
 #[derive(Debug, Drop)]
 pub struct Stack {
     pub(crate) state: StackState,
     pub(crate) told: Told,
-    // The last line; its room is used again.
+    // The last line, and the ids of its spans; their room is used again.
     pub(crate) line: String,
+    pub(crate) ids: Vec<Id>,
 }
 
 impl Model for Stack {
@@ -42,13 +44,12 @@ impl Stack {
             state: StackState {
                 alloc,
                 setting,
-                lanes: Vec::new(alloc),
-                spans: Vec::new(alloc),
-                next_id: Id::from_u64(1),
+                registry: Registry::new(alloc),
                 texts: Vec::new(alloc),
             },
             told: Told::Nothing,
             line,
+            ids: Vec::new(alloc),
         }
     }
 
@@ -70,27 +71,34 @@ impl Stack {
 
     /// Whether the span is open.
     pub fn is_open(&self, id: Id) -> bool
-        ensures { result ≡ is_open self.now.spans id }
+        ensures { result ≡ is_open kin_in self.now.registry.spans id }
     {
-        is_open(self.state.spans.as_slice(), id.into_u64())
+        self.state.registry.is_open(&id)
     }
 
     /// How many handles the span has, and 0 where it is not open.
     pub fn handles_of(&self, id: Id) -> usize
-        ensures { result ≡ handles_of self.now.spans id }
+        ensures { result ≡ handles_of kin_in self.now.registry.spans id }
     {
-        handles_of(self.state.spans.as_slice(), id.into_u64())
+        self.state.registry.handles_of(&id)
+    }
+
+    /// The number of the identifier of an open span's callsite.
+    pub fn callsite_of(&self, id: Id) -> Option<u64>
+        ensures { result ≡ option_map (λ (s : PlainSpan). s.metadata.callsite) (found kin_in self.now.registry.spans id) }
+    {
+        match self.state.registry.span(&id) {
+            None => None,
+            Some(span) => Some(span.fields().callsite().0),
+        }
     }
 
     /// The next span's id, where one is left.
     pub fn next_id(&self) -> Option<u64>
-        ensures some { IfSome result (λ id. (id ≡ self.now.next_id) × (id ≤ 18446744073709551615)) }
-        ensures none { IfNone result (self.now.next_id ≡ 18446744073709551616) }
+        ensures some { IfSome result (λ id. (id ≡ self.now.registry.next_id) × (id ≤ 18446744073709551615)) }
+        ensures none { IfNone result (18446744073709551615 < self.now.registry.next_id) }
     {
-        match self.state.next_id {
-            None => None,
-            Some(id) => Some(id.into_u64()),
-        }
+        self.state.registry.next_id()
     }
 
     /// The line of the last request, where it was an event that passed and whose line found memory.

@@ -75,20 +75,25 @@ impl Subscriber for Stack {
         if !self.state.wants(attributes.metadata()) {
             return Ok(None);
         }
-        let Some(id) = self.state.next_id else {
+        if self.state.registry.next_id().is_none() {
             return Err(RequestError::IdsSpent);
-        };
-        match self.state.make_span(id, attributes, at.lane) {
-            Ok(fate) => {
-                self.told = Told::of_text(fate);
-                Ok(Some(id))
+        }
+        match self.state.make_span(attributes, at.lane) {
+            Ok(made) => {
+                self.told = Told::of_text(made.fate);
+                Ok(Some(made.id))
             }
             Err(_) => Err(RequestError::OutOfMemory),
         }
     }
 
-    // Values that are recorded later are not kept yet.
-    fn record(&mut self, _span: &Id, _values: &Record<'_>, _at: At) -> Result<(), RequestError> {
+    fn record(&mut self, span: &Id, values: &Record<'_>, _at: At) -> Result<(), RequestError> {
+        self.told = Told::Nothing;
+        if !self.state.is_known(Some(span)) {
+            return Err(RequestError::UnknownSpan);
+        }
+        let fate = self.state.record(*span, values);
+        self.told = Told::of_text(fate);
         Ok(())
     }
 
@@ -113,33 +118,35 @@ impl Subscriber for Stack {
         if !self.state.wants(event.metadata()) {
             return Ok(());
         }
-        self.told = self.state.tell(&mut self.line, event, at.lane);
+        self.told = self
+            .state
+            .tell(&mut self.line, &mut self.ids, event, at.lane);
         Ok(())
     }
 
     fn enter(&mut self, span: &Id, at: At) -> Result<(), RequestError> {
         self.told = Told::Nothing;
-        self.state.enter(at.lane, span.into_u64())
+        self.state.enter(at.lane, span)
     }
 
     fn exit(&mut self, span: &Id, at: At) {
         self.told = Told::Nothing;
-        self.state.leave(at.lane, span.into_u64());
+        self.state.leave(at.lane, span);
     }
 
     fn clone_span(&mut self, span: &Id, _at: At) -> Result<Id, RequestError> {
         self.told = Told::Nothing;
-        self.state.take_one(*span)
+        self.state.take_one(span)
     }
 
     fn drop_span(&mut self, span: Id, _at: At) {
         self.told = Told::Nothing;
-        self.state.let_go(span.into_u64());
+        let _closed = self.state.close(span);
     }
 
     fn try_close(&mut self, span: Id, _at: At) -> bool {
         self.told = Told::Nothing;
-        self.state.close(span.into_u64())
+        self.state.close(span)
     }
 
     fn current_span(&mut self, at: At) -> CurrentSpan {

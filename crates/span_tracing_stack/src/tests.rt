@@ -2,7 +2,6 @@
 
 mod entries;
 mod handles;
-mod ids;
 mod lines;
 mod place;
 mod serving;

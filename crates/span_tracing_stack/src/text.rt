@@ -1,46 +1,93 @@
 //! The texts of open spans.
 
-ghost use Rattle.std.specs.Prelude.{◌≡◌, map};
-ghost use Rattle.span_tracing_machine.specs.State.{shown_span};
-ghost use Rattle.span_tracing_stack.specs.Shown.{shown_of};
-ghost use Rattle.span_tracing_stack.specs.Stacks.{plain_text, open_texts};
+ghost use Rattle.std.specs.Prelude.{◌≡◌, map, string_bytes};
+ghost use Rattle.tracing_core.specs.PlainRequests.{plain_record};
+ghost use Rattle.span_tracing_machine.specs.FieldTexts.{with_lists};
+ghost use Rattle.span_tracing_machine.specs.Missed.{given_by};
+ghost use Rattle.span_tracing_machine.specs.State.{text_at};
+ghost use Rattle.span_tracing_stack.specs.Recording.{AddsFields};
+ghost use Rattle.span_tracing_stack.specs.Shown.{shown_in, shown_of};
+ghost use Rattle.span_tracing_stack.specs.Stacks.{AllNamed, fields_in, plain_text, open_texts};
 
+use crate::fields::more_of;
 use crate::line::ShownSpan;
-use crate::store::is_open;
-use span_tracing_machine::SpanRecord;
+use span_registry_layers_store::Registry;
+use span_tracing_machine::Fate;
+use std::alloc::Global;
+use tracing_core::{Id, Record};
 
-/// The name and the text of an open span.
+/// The text of an open span.
 #[derive(Debug, Drop)]
 pub(crate) struct SpanText {
-    pub(crate) id: u64,
-    pub(crate) name: String,
+    pub(crate) id: Id,
     pub(crate) text: String,
 }
 
-pub(crate) fn shown_at(texts: &[SpanText], id: u64) -> ShownSpan<'_>
-    ensures { shown_of result ≡ shown_span (map plain_text texts.now) id }
+fn text_at(texts: &[SpanText], id: Id) -> &str
+    ensures { result.now ≡ text_at (map plain_text texts.now) id }
 {
     for stored in texts {
         if stored.id == id {
-            return ShownSpan {
-                name: stored.name.as_str(),
-                text: stored.text.as_str(),
-            };
+            return stored.text.as_str();
         }
     }
-    ShownSpan { name: "", text: "" }
+    ""
+}
+
+/// How the span of an id is shown; where it is not open nothing is.
+pub(crate) fn shown_at<'a>(registry: &'a Registry, texts: &'a [SpanText], id: Id) -> ShownSpan<'a>
+    ensures { shown_of result ≡ shown_in registry.now (map plain_text texts.now) id }
+{
+    match registry.span(&id) {
+        None => ShownSpan { name: "", text: "" },
+        Some(span) => ShownSpan {
+            name: span.name(),
+            text: text_at(texts, span.id()),
+        },
+    }
 }
 
 /// Drops the texts of spans that are not open.
 #[tactic(auto, using(crate::proofs::Texts::left_end, crate::proofs::Texts::left_start))]
-pub(crate) fn drop_texts(texts: &mut Vec<SpanText>, spans: &[SpanRecord])
-    ensures { map plain_text texts.new.items ≡ open_texts spans.now (map plain_text texts.old.items) }
+pub(crate) fn drop_texts(texts: &mut Vec<SpanText>, registry: &Registry)
+    ensures { map plain_text texts.new.items ≡ open_texts registry.now.spans (map plain_text texts.old.items) }
 {
     let mut rest = texts.len();
     while rest > 0 {
         rest -= 1;
-        if !is_open(spans, texts[rest].id) {
+        if !registry.is_open(&texts[rest].id) {
             let _text = texts.remove(rest);
         }
     }
+}
+
+// Puts the fields of a record behind a text, which stays as it is where there is no memory.
+fn append(alloc: Global, text: &mut String, values: &Record<'_>) -> Fate
+    ensures { let values = plain_record values.now in
+        AllNamed values → string_bytes text.new ≡ with_lists (string_bytes text.old) (given_by result (fields_in values)) }
+{
+    match more_of(alloc, text.as_str(), values) {
+        Ok(more) => match text.push_str(more.as_str()) {
+            Ok(()) => Fate::Whole,
+            Err(_) => Fate::Missed,
+        },
+        Err(_) => Fate::Missed,
+    }
+}
+
+/// Puts the fields of a record behind the text of a span, where it has one, and answers what became of them.
+pub(crate) fn add_fields(
+    alloc: Global,
+    texts: &mut Vec<SpanText>,
+    id: Id,
+    values: &Record<'_>,
+) -> Fate
+    ensures { AddsFields (map plain_text texts.old.items) id (plain_record values.now) result (map plain_text texts.new.items) }
+{
+    for place in 0..texts.len() {
+        if texts[place].id == id {
+            return append(alloc, &mut texts[place].text, values);
+        }
+    }
+    Fate::Whole
 }

@@ -1,60 +1,189 @@
 -- One turn of a step, and its end.
-use Rattle.std.proofs.Common.{◌≡◌, ℕ, suc, ◌+◌, ◌-◌, ◌<◌, List, [], ◌∷◌, length, refl, ap, subst, sym, ◌∙◌, arith, Option, Some, Result, Ok, Err}
-use Rattle.tracing_appender_rolling.specs.declared.moment.Moment.{Moment}
-use Rattle.tracing_appender_rolling.specs.declared.fault.FileNumber.{FileNumber}
-use Rattle.tracing_appender_rolling.specs.declared.fault.FolderError.{FolderError}
+use Rattle.std.proofs.Common.{◌≡◌, Bool, true, false, cond, ℕ, ℤ, suc, ◌+◌, ◌-◌, ◌<◌, List, [], ◌∷◌, ◌++◌, length, inl, inr, refl, ap, subst, sym, ◌∙◌, append_assoc, arith, Option, Some, Result, Ok, Err}
+use Rattle.std.proofs.lemmas.List.{append-nil}
+use Rattle.tracing_appender_rolling.specs.Moment.{Moment}
+use Rattle.tracing_appender_rolling.specs.Moments.{period_at, end_of, is_due, latest_of}
+use Rattle.tracing_appender_rolling.specs.FileNumber.{FileNumber}
+use Rattle.tracing_appender_rolling.specs.FolderError.{FolderError}
+use Rattle.tracing_appender_rolling.specs.FolderError.TheVariants.{Fault, OutOfMemory}
+use Rattle.tracing_appender_rolling.specs.declared.faults.Faults.{Faults}
 use Rattle.tracing_appender_rolling.specs.declared.appender.RollingFileAppender.{RollingFileAppender}
 use Rattle.tracing_appender_rolling.specs.Names.{FileNames}
-use Rattle.tracing_appender_rolling.specs.Contents.{Contents}
-use Rattle.tracing_appender_rolling.specs.Sinks.{PlainSink, with_handed}
+use Rattle.tracing_appender_rolling.specs.Contents.{Contents, listing}
+use Rattle.tracing_appender_rolling.specs.Sinks.{PlainSink, running_moment, with_handed}
 use Rattle.tracing_appender_rolling.specs.Looks.{Held}
-use Rattle.tracing_appender_rolling.specs.Tries.{IsKnown}
-use Rattle.tracing_appender_rolling.specs.Writes.{Wrote}
-use Rattle.tracing_appender_rolling.specs.Handing.{HandedOver}
+use Rattle.tracing_appender_rolling.specs.Appenders.{AgreesSink, Holds, running_period}
+use Rattle.tracing_appender_rolling.specs.Handing.{HandsTo, HandsLine}
+use Rattle.tracing_appender_rolling.specs.Remaining.{PrunedSink, AgreesLeft, HandsLeft, IsRemovedAt, IsOpenIn, OpensAfter, without, with_line}
+use Rattle.tracing_appender_rolling.proofs.Files.{running_more}
+use Rattle.tracing_appender_rolling.proofs.Handover.{opens_stay}
+use Rattle.tracing_appender_rolling.proofs.PeriodFacts.{latest_not_due}
+use Rattle.tracing_appender_rolling.proofs.Starving.{starved_known}
 use Rattle.tracing_appender_queue.specs.Queue.{Queue, after_take}
+use Rattle.tracing_appender_batch.specs.declared.step.Written.{Written}
 use Rattle.tracing_appender_batch.specs.Batches.{line_next, lines_in, queue_in}
-use Rattle.tracing_appender_batch.specs.Steps.{with_lines, LineTo, LinesTo, HandsOne}
+use Rattle.tracing_appender_batch.specs.Steps.{is_missed, is_whole, answer_of, missed_in, last_whole, with_lines, with_left, LineTo, LinesTo, HandsOne, HandsAll, HoldsFlushed, LinesLeft}
 use Rattle.tracing_appender_batch.proofs.Cutting.{lines_step, queue_step}
 
 less : (k t : ℕ) → t < k → k - t ≡ suc (k - (t + 1))
 less k t lt = omega (arith, lt)
 
 module _ (k t : ℕ) (lt : t < k) (q : Queue) (line : List ℕ) (next : line_next q ≡ Some line) where
-  pub lines_turn : lines_in (k - t) q ≡ line ∷ lines_in (k - (t + 1)) (after_take q)
+  lines_turn : lines_in (k - t) q ≡ line ∷ lines_in (k - (t + 1)) (after_take q)
   lines_turn = ap (λ n. lines_in n q) (less k t lt) ∙ lines_step (k - (t + 1)) q (Some line) next
 
   pub queue_turn : queue_in (k - t) q ≡ queue_in (k - (t + 1)) (after_take q)
   queue_turn = ap (λ n. queue_in n q) (less k t lt) ∙ queue_step (k - (t + 1)) q (Some line) next
 
-  pub count_turn : t + length (lines_in (k - t) q) ≡ (t + 1) + length (lines_in (k - (t + 1)) (after_take q))
-  count_turn = ap (λ xs. t + length xs) lines_turn ∙ omega arith
+  -- the lines so far, and those that are left
+  pub done_turn : (r : Queue) (slice : List ℕ) (all done : List (List ℕ)) → r ≡ after_take q → slice ≡ line → all ≡ done ++ lines_in (k - t) q → all ≡ (done ++ slice ∷ []) ++ lines_in (k - (t + 1)) r
+  done_turn r slice all done left same so =
+      so
+      ∙ ap (λ (xs : List (List ℕ)). done ++ xs) lines_turn
+      ∙ ap (λ (l : List ℕ). done ++ l ∷ lines_in (k - (t + 1)) (after_take q)) (sym same)
+      ∙ ap (λ (p : Queue). done ++ slice ∷ lines_in (k - (t + 1)) p) (sym left)
+      ∙ sym (append_assoc done (slice ∷ []) (lines_in (k - (t + 1)) r))
 
-  module _ (r : Queue) (left : r ≡ after_take q) (slice : List ℕ) (same : slice ≡ line) (m : Moment) where
-    pub agrees_turn : (s u : PlainSink) (all : List (List ℕ)) → with_lines s all m ≡ with_lines u (lines_in (k - t) q) m → with_lines s all m ≡ with_lines (with_handed u (record { line = slice; moment = m })) (lines_in (k - (t + 1)) r) m
-    agrees_turn s u all so =
-        so
-        ∙ ap (λ xs. with_lines u xs m) lines_turn
-        ∙ ap (λ (l : List ℕ). with_lines (with_handed u (record { line = l; moment = m })) (lines_in (k - (t + 1)) (after_take q)) m) (sym same)
-        ∙ ap (λ (p : Queue). with_lines (with_handed u (record { line = slice; moment = m })) (lines_in (k - (t + 1)) p) m) (sym left)
-
-    pub handed_turn : (names : FileNames) (middle further next : Held) → LineTo names m middle slice further → LinesTo names m further (lines_in (k - (t + 1)) r) next → LinesTo names m middle (lines_in (k - t) q) next
-    handed_turn names middle further next one rest =
-        subst (λ (xs : List (List ℕ)). LinesTo names m middle xs next) (sym lines_turn)
-        (further, subst (λ (l : List ℕ). LineTo names m middle l further) same one, subst (λ (p : Queue). LinesTo names m further (lines_in (k - (t + 1)) p) next) left rest)
+pub length_turn : (done : List (List ℕ)) (line : List ℕ) (t : ℕ) → length done ≡ t → length (done ++ line ∷ []) ≡ t + 1
+length_turn [] line t e = omega (arith, e)
+length_turn (l ∷ ls) line t e = let rest = length_turn ls line (length ls) refl in let size : suc (length ls) ≡ t = e in ap suc rest ∙ omega (arith, size)
 
 -- no line is left to take
 pub ended : (n : ℕ) (q : Queue) → n ≡ 0 → lines_in n q ≡ []
 ended n q e = ap (λ m. lines_in m q) e
 
--- a line that was handed over leaves known contents
-wrote_known : (c : Contents) (file : FileNumber) (bytes : List ℕ) (r : Result (Unit {0}) FolderError) (after : Option Contents) → Wrote c file bytes r after → IsKnown after
-wrote_known c file bytes (Ok done) after w = (w.contents, w.is)
-wrote_known c file bytes (Err e) after w = (w.1.contents, w.1.is)
+pub all_done : (all done rest : List (List ℕ)) → all ≡ done ++ rest → rest ≡ [] → all ≡ done
+all_done all done rest e none = e ∙ ap (λ (xs : List (List ℕ)). done ++ xs) none ∙ append-nil done
 
-pub hands_one : {D : Type 0} (contents : D → Option Contents) (names : FileNames) (m : Moment) (h : Held) (line : List ℕ) (r : Result (Unit {0}) FolderError) (a : RollingFileAppender D) → HandedOver names m h line r a.boundary a.current a.faults (contents a.folder) → HandsOne contents names m h line a
-hands_one contents names m h line r a over =
-    let known = wrote_known over.seen.contents over.seen.current line r (contents a.folder) over.writes in (
+-- one more line
+lines_added : (s : PlainSink) (done : List (List ℕ)) (line : List ℕ) (m : Moment) → with_lines s (done ++ line ∷ []) m ≡ with_handed (with_lines s done m) (record { line = line; moment = m })
+lines_added s [] line m = refl
+lines_added s (l ∷ ls) line m = lines_added (with_handed s (record { line = l; moment = m })) ls line m
+
+fates_added : (names : FileNames) (m : Moment) (h : Held) (done : List (List ℕ)) (fates : List Written) (middle next : Held) (line : List ℕ) (fate : Written) → LinesTo names m h done fates middle → LineTo names m middle line fate next → LinesTo names m h (done ++ line ∷ []) (fates ++ fate ∷ []) next
+fates_added names m h [] [] middle next line fate so one = (next, subst (λ (x : Held). LineTo names m x line fate next) so one, refl)
+fates_added names m h [] (f ∷ fs) middle next line fate so one = absurd so
+fates_added names m h (l ∷ ls) [] middle next line fate so one = absurd so
+fates_added names m h (l ∷ ls) (f ∷ fs) middle next line fate (further, first, rest) one = (further, first, fates_added names m further ls fs middle next line fate rest one)
+
+missed_first : (b : Bool) → cond b (suc 0) 0 ≡ 0 + cond b 1 0
+missed_first true = refl
+missed_first false = refl
+
+missed_behind : (b : Bool) (n k : ℕ) (more : ℕ) → more ≡ n + k → cond b (suc more) more ≡ cond b (suc n) n + k
+missed_behind true n k more e = omega (arith, e)
+missed_behind false n k more e = e
+
+missed_added : (fates : List Written) (fate : Written) → missed_in (fates ++ fate ∷ []) ≡ missed_in fates + cond (is_missed fate) 1 0
+missed_added [] fate = missed_first (is_missed fate)
+missed_added (f ∷ fs) fate = missed_behind (is_missed f) (missed_in fs) (cond (is_missed fate) 1 0) (missed_in (fs ++ fate ∷ [])) (missed_added fs fate)
+
+pub counts_missed : (b : Bool) (missed more : ℕ) → b ≡ true → more ≡ missed + 1 → more ≡ missed + cond b 1 0
+counts_missed true missed more is e = e
+counts_missed false missed more is e = cc
+
+pub counts_fed : (b : Bool) (missed more : ℕ) → b ≡ false → more ≡ missed → more ≡ missed + cond b 1 0
+counts_fed true missed more is e = cc
+counts_fed false missed more is e = omega (arith, e)
+
+whole_added : (before : Bool) (fates : List Written) (fate : Written) → last_whole before (fates ++ fate ∷ []) ≡ is_whole fate
+whole_added before [] fate = refl
+whole_added before (f ∷ fs) fate = whole_added (is_whole f) fs fate
+
+-- the moment of the last line is no later than the latest seen
+running_last : (s : PlainSink) (line : List ℕ) (lines : List (List ℕ)) (m : Moment) → (r : Moment) × (running_moment (with_lines s (line ∷ lines) m).opened (with_lines s (line ∷ lines) m).handed ≡ latest_of r m)
+running_last s line [] m = (running_moment s.opened s.handed, running_more s.opened s.handed (record { line = line; moment = m }))
+running_last s line (l ∷ ls) m = running_last (with_handed s (record { line = line; moment = m })) l ls m
+
+not_due_again : (s : PlainSink) (line : List ℕ) (lines : List (List ℕ)) (m : Moment) → is_due (end_of (with_lines s (line ∷ lines) m).names.kind (running_period (with_lines s (line ∷ lines) m))) m.seconds ≡ false
+not_due_again s line lines m =
+    let t = with_lines s (line ∷ lines) m in
+    let r = running_last s line lines m in
+    subst (λ (x : Moment). is_due (end_of t.names.kind (period_at t.names.kind x)) m.seconds ≡ false) (sym r.1) (latest_not_due t.names.kind r.0 m)
+
+-- what the lines so far left
+module _ {D : Type 0} (contents : D → Option Contents) (names : FileNames) (m : Moment) where
+  abbrev pub HandedSoFar : Held → List (List ℕ) → ℕ → Bool → RollingFileAppender D → Type 0
+  HandedSoFar h done missed whole b =
+      (fates : List Written) × (middle : Held) × LinesTo names m h done fates middle × (missed ≡ missed_in fates) × (whole ≡ last_whole false fates) × Holds contents b middle
+
+  abbrev pub LeftSoFar : PrunedSink → List (List ℕ) → Contents → RollingFileAppender D → RollingFileAppender D → Type 0
+  LeftSoFar p [] c a b = b ≡ a
+  LeftSoFar p (line ∷ lines) c a b = LinesLeft contents p (line ∷ lines) m c a b
+
+  pub record SoFar (a b : RollingFileAppender D) (missed : ℕ) (whole : Bool) (done : List (List ℕ)) : Type 0 where
+    pub agrees : missed ≡ 0 → (s : PlainSink) → AgreesSink contents a s → AgreesSink contents b (with_lines s done m)
+    pub handed : (h : Held) → Holds contents a h → HandedSoFar h done missed whole b
+    pub left : missed ≡ 0 → (c : Contents) (p : PrunedSink) → contents a.folder ≡ Some c → AgreesLeft contents a p → LeftSoFar p done c a b
+
+  pub none_so_far : (a : RollingFileAppender D) → SoFar a a 0 false []
+  none_so_far a = record { agrees = λ none s agrees. agrees; handed = λ h holds. ([], h, refl, refl, refl, holds); left = λ none c p is agrees. refl }
+
+  none_missed : (b : Bool) (missed more : ℕ) → more ≡ missed + cond b 1 0 → more ≡ 0 → (missed ≡ 0) × (b ≡ false)
+  none_missed true missed more e none = absurd (omega (arith, e, none))
+  none_missed false missed more e none = (omega (arith, e, none), refl)
+
+  left_added : (a b next : RollingFileAppender D) (done : List (List ℕ)) (line : List ℕ) (c : Contents) (p : PrunedSink) → contents a.folder ≡ Some c → AgreesLeft contents a p → LeftSoFar p done c a b → ((d : Contents) (q : PrunedSink) → contents b.folder ≡ Some d → AgreesLeft contents b q → HandsLeft contents q line m d b next) → LeftSoFar p (done ++ line ∷ []) c a next
+  left_added a b next [] line c p is agrees same one =
+      let h = one c p (ap (λ (x : RollingFileAppender D). contents x.folder) same ∙ is) (subst (λ (x : RollingFileAppender D). AgreesLeft contents x p) (sym same) agrees) in (
+        h.0,
+        h.1,
+        h.2,
+        h.3 ∙ ap (λ (x : RollingFileAppender D). x.faults) same,
+        subst (λ (f : FileNumber). OpensAfter (is_due (end_of p.sink.names.kind (running_period p.sink)) m.seconds) f next.current c.open_files (contents next.folder)) (ap (λ (x : RollingFileAppender D). x.current) same) h.4,
+      )
+  left_added a b next (l ∷ ls) line c p is agrees (removed, gone, left, counts, opens) one =
+      let q = with_left (without removed p) (l ∷ ls) m in
+      let h = one left.0 q left.1 left in
+      let none : h.0 ≡ [] = subst (λ due. IsRemovedAt due q.sink.names (listing left.0) h.0) (not_due_again (without removed p).sink l ls m) h.1 in
+      let open_on = subst (λ due. OpensAfter due b.current next.current left.0.open_files (contents next.folder)) (not_due_again (without removed p).sink l ls m) h.4 in
+      let stay = λ (fs : List ℕ) (there : IsOpenIn (contents b.folder) fs). let same : left.0.open_files ≡ fs = subst (λ (o : Option Contents). IsOpenIn o fs) left.1 there in subst (IsOpenIn (contents next.folder)) same open_on.0 in
+      let kept = subst (λ (gone : List (List ℕ)). AgreesLeft contents next (with_line (without gone q) line m)) none h.2 in
+      (removed, gone, subst (λ (s : PlainSink). AgreesLeft contents next (record (without removed p) { sink = s })) (sym (lines_added (without removed p).sink (l ∷ ls) line m)) kept, h.3 ∙ counts, opens_stay (is_due (end_of p.sink.names.kind (running_period p.sink)) m.seconds) a.current b.current next.current c.open_files (contents b.folder) (contents next.folder) open_on.1 stay opens)
+
+  -- one turn
+  pub turn : (a b next : RollingFileAppender D) (missed more : ℕ) (whole : Bool) (done : List (List ℕ)) (line : List ℕ) (fate : Written) → SoFar a b missed whole done → more ≡ missed + cond (is_missed fate) 1 0 →
+      (is_missed fate ≡ false → (s : PlainSink) → AgreesSink contents b s → AgreesSink contents next (with_handed s (record { line = line; moment = m }))) →
+      ((h : Held) → Holds contents b h → HandsOne contents names m h line fate next) →
+      (is_missed fate ≡ false → (d : Contents) (q : PrunedSink) → contents b.folder ≡ Some d → AgreesLeft contents b q → HandsLeft contents q line m d b next) →
+      SoFar a next more (is_whole fate) (done ++ line ∷ [])
+  turn a b next missed more whole done line fate so count agrees handed left = record {
+    agrees = λ none s start.
+        let before = none_missed (is_missed fate) missed more count none in
+        subst (AgreesSink contents next) (sym (lines_added s done line m)) (agrees before.1 (with_lines s done m) (so.agrees before.0 s start));
+    handed = λ h holds.
+        let (fates, middle, lines, missed_is, whole_is, held) = so.handed h holds in
+        let (further, one, there) = handed middle held in
+        (fates ++ fate ∷ [], further, fates_added names m h done fates middle further line fate lines one, count ∙ ap (λ n. n + cond (is_missed fate) 1 0) missed_is ∙ sym (missed_added fates fate), sym (whole_added false fates fate), there);
+    left = λ none c p is start.
+        let before = none_missed (is_missed fate) missed more count none in
+        left_added a b next done line c p is start (so.left before.0 c p is start) (left before.1);
+  }
+
+  -- the end
+  pub left_ends : (a b next : RollingFileAppender D) (done : List (List ℕ)) (c : Contents) (p : PrunedSink) → AgreesLeft contents a p → LeftSoFar p done c a b → ((q : PrunedSink) → AgreesLeft contents b q → AgreesLeft contents next q) → next.faults ≡ b.faults → next.current ≡ b.current → ((fs : List ℕ) → IsOpenIn (contents b.folder) fs → IsOpenIn (contents next.folder) fs) → LinesLeft contents p done m c a next
+  left_ends a b next [] c p agrees same flush counts current stay = (flush p (subst (λ (x : RollingFileAppender D). AgreesLeft contents x p) (sym same) agrees), counts ∙ ap (λ (x : RollingFileAppender D). x.faults) same)
+  left_ends a b next (l ∷ ls) c p agrees (removed, gone, left, kept, opens) flush counts current stay =
+      (removed, gone, flush (with_left (without removed p) (l ∷ ls) m) left, counts ∙ kept, opens_stay (is_due (end_of p.sink.names.kind (running_period p.sink)) m.seconds) a.current b.current next.current c.open_files (contents b.folder) (contents next.folder) current stay opens)
+
+  pub handed_ends : (h : Held) (done all : List (List ℕ)) (missed : ℕ) (whole : Bool) (b next : RollingFileAppender D) → all ≡ done → HandedSoFar h done missed whole b → ((x : Held) → Holds contents b x → HoldsFlushed contents whole x next) → HandsAll contents names m h all missed next
+  handed_ends h done all missed whole b next is (fates, middle, lines, missed_is, whole_is, held) flush =
+      (fates, middle, subst (λ (xs : List (List ℕ)). LinesTo names m h xs fates middle) (sym is) lines, missed_is, subst (λ w. HoldsFlushed contents w middle next) whole_is (flush middle held))
+
+-- a line that was handed over leaves known contents
+abbrev IsKnown : Option Contents → Type 0
+IsKnown after = (d : Contents) × (after ≡ Some d)
+
+hands_known : (names : FileNames) (m : Moment) (h : Held) (line : List ℕ) (r : Result (Unit {0}) FolderError) (b : Option ℤ) (f : FileNumber) (l : Faults) (after : Option Contents) → HandsTo names m h line r b f l after → IsKnown after
+hands_known names m h line (Ok done) b f l after over = (over.writes.left.contents, over.writes.left.is)
+hands_known names m h line (Err (Fault fault)) b f l after over = (over.writes.left.contents, over.writes.left.is)
+hands_known names m h line (Err OutOfMemory) b f l after (inl missed) = starved_known names m h.faults h.contents after missed.left
+hands_known names m h line (Err OutOfMemory) b f l after (inr over) = (over.writes.left.contents, over.writes.left.is)
+
+pub hands_one : {D : Type 0} (contents : D → Option Contents) (names : FileNames) (m : Moment) (h : Held) (line : List ℕ) (fate : Written) (a : RollingFileAppender D) → HandsLine contents names m h line (answer_of fate) a → HandsOne contents names m h line fate a
+hands_one contents names m h line fate a over =
+    let known = hands_known names m h line (answer_of fate) a.boundary a.current a.faults (contents a.folder) over in (
       record { boundary = a.boundary; current = a.current; faults = a.faults; contents = known.0 },
-      (r, subst (λ (o : Option Contents). HandedOver names m h line r a.boundary a.current a.faults o) known.1 over),
+      subst (λ (o : Option Contents). HandsTo names m h line (answer_of fate) a.boundary a.current a.faults o) known.1 over,
       record { folder = known.1; until = refl; open_file = refl; counts = refl },
     )

@@ -1,47 +1,114 @@
 -- What lines that are handed over one after another leave.
-use Rattle.std.specs.Prelude.{◌≡◌, ℕ, Bool, true, false, List, [], ◌∷◌, ◌++◌, Option, Some, Result, ◌⊎◌}
-use Rattle.tracing_appender_rolling.specs.declared.moment.Moment.{Moment}
-use Rattle.tracing_appender_rolling.specs.declared.fault.FolderError.{FolderError}
+use Rattle.std.specs.Prelude.{◌≡◌, ℕ, suc, Bool, true, false, if◌then◌else◌, List, [], ◌∷◌, ◌++◌, Option, Some, Result, Ok, Err}
+use Rattle.tracing_appender_rolling.specs.Moment.{Moment}
+use Rattle.tracing_appender_rolling.specs.FolderError.{FolderError}
+use Rattle.tracing_appender_rolling.specs.FolderError.TheVariants.{Fault, OutOfMemory}
 use Rattle.tracing_appender_rolling.specs.declared.appender.RollingFileAppender.{RollingFileAppender}
 use Rattle.tracing_appender_rolling.specs.Names.{FileNames}
-use Rattle.tracing_appender_rolling.specs.Contents.{Contents, called}
+use Rattle.tracing_appender_rolling.specs.Moments.{end_of, is_due}
+use Rattle.tracing_appender_rolling.specs.Contents.{Contents, IsSound, called, listing}
 use Rattle.tracing_appender_rolling.specs.Sinks.{PlainSink, with_handed}
 use Rattle.tracing_appender_rolling.specs.Looks.{Held}
-use Rattle.tracing_appender_rolling.specs.Appenders.{Holds}
-use Rattle.tracing_appender_rolling.specs.Handing.{HandedOver}
+use Rattle.tracing_appender_rolling.specs.Appenders.{Holds, running_period}
+use Rattle.tracing_appender_rolling.specs.Handing.{HandsTo}
+use Rattle.tracing_appender_rolling.specs.Remaining.{PrunedSink, AgreesLeft, IsRemovedAt, OpensAfter, without}
 use Rattle.tracing_appender_batch.specs.declared.step.Written.{Written}
 use Rattle.tracing_appender_batch.specs.declared.step.Written.TheVariants.{Whole, Failed, Missed}
 
+-- what became of a line: its writes took all of it, a fault ended them, or there was no memory
+abbrev pub is_whole : Written → Bool
+is_whole Whole = true
+is_whole (Failed fault) = false
+is_whole Missed = false
+
 abbrev pub is_missed : Written → Bool
 is_missed Whole = false
-is_missed Failed = false
+is_missed (Failed fault) = false
 is_missed Missed = true
+
+abbrev pub answer_of : Written → Result (Unit {0}) FolderError
+answer_of Whole = Ok tt
+answer_of (Failed fault) = Err (Fault fault)
+answer_of Missed = Err OutOfMemory
+
+abbrev pub missed_in : List Written → ℕ
+missed_in [] = 0
+missed_in (fate ∷ fates) = if is_missed fate then suc (missed_in fates) else missed_in fates
+
+-- whether the last line was written whole, or what is given where there is none
+abbrev pub last_whole : Bool → List Written → Bool
+last_whole before [] = before
+last_whole before (fate ∷ fates) = last_whole (is_whole fate) fates
 
 -- a sink with these lines more, all handed over at one moment
 abbrev pub with_lines : PlainSink → List (List ℕ) → Moment → PlainSink
 with_lines s [] m = s
 with_lines s (line ∷ lines) m = with_lines (with_handed s (record { line = line; moment = m })) lines m
 
--- a line was handed over: its writes were answered so
-abbrev pub LineTo : FileNames → Moment → Held → List ℕ → Held → Type 0
-LineTo names m h line next = (result : Result (Unit {0}) FolderError) × HandedOver names m h line result next.boundary next.current next.faults (Some next.contents)
+-- a line was handed over, and this became of it
+abbrev pub LineTo : FileNames → Moment → Held → List ℕ → Written → Held → Type 0
+LineTo names m h line fate next = HandsTo names m h line (answer_of fate) next.boundary next.current next.faults (Some next.contents)
 
--- lines one after another
-abbrev pub LinesTo : FileNames → Moment → Held → List (List ℕ) → Held → Type 0
-LinesTo names m h [] next = next ≡ h
-LinesTo names m h (line ∷ lines) next = (middle : Held) × LineTo names m h line middle × LinesTo names m middle lines next
+-- lines one after another, and what became of each
+abbrev pub LinesTo : FileNames → Moment → Held → List (List ℕ) → List Written → Held → Type 0
+LinesTo names m h [] [] next = next ≡ h
+LinesTo names m h [] (fate ∷ fates) next = ⊥
+LinesTo names m h (line ∷ lines) [] next = ⊥
+LinesTo names m h (line ∷ lines) (fate ∷ fates) next = (middle : Held) × LineTo names m h line fate middle × LinesTo names m middle lines fates next
 
-abbrev pub HandsOne : {D : Type 0} → (D → Option Contents) → FileNames → Moment → Held → List ℕ → RollingFileAppender D → Type 0
-HandsOne contents names m h line a = (next : Held) × LineTo names m h line next × Holds contents a next
+abbrev pub HandsOne : {D : Type 0} → (D → Option Contents) → FileNames → Moment → Held → List ℕ → Written → RollingFileAppender D → Type 0
+HandsOne contents names m h line fate a = (next : Held) × LineTo names m h line fate next × Holds contents a next
 
--- a flush, whatever it answered, or none
-abbrev pub HoldsFlushed : {D : Type 0} → (D → Option Contents) → Held → RollingFileAppender D → Type 0
-HoldsFlushed contents h a = Holds contents a h ⊎ Holds contents a (record h { contents = called h.contents })
+-- a flush, whatever it answered
+abbrev pub flushed : Held → Held
+flushed h = record h { contents = called h.contents }
 
--- all lines were handed over, one after another, and the file perhaps flushed
-abbrev pub HandsAll : {D : Type 0} → (D → Option Contents) → FileNames → Moment → Held → List (List ℕ) → RollingFileAppender D → Type 0
-HandsAll contents names m h lines a = (next : Held) × LinesTo names m h lines next × HoldsFlushed contents next a
+-- a flush after a last line that was written whole, and none else
+abbrev pub flushed_if : Bool → Held → Held
+flushed_if whole h = if whole then flushed h else h
+
+abbrev pub HoldsFlushed : {D : Type 0} → (D → Option Contents) → Bool → Held → RollingFileAppender D → Type 0
+HoldsFlushed contents true h a = Holds contents a (flushed h)
+HoldsFlushed contents false h a = Holds contents a h
+
+-- all lines were handed over, one after another; so many of them found no memory, and the file was flushed after a last one that was written whole
+abbrev pub HandsAll : {D : Type 0} → (D → Option Contents) → FileNames → Moment → Held → List (List ℕ) → ℕ → RollingFileAppender D → Type 0
+HandsAll contents names m h lines missed a =
+    (fates : List Written) × (last : Held) × LinesTo names m h lines fates last × (missed ≡ missed_in fates) × HoldsFlushed contents (last_whole false fates) last a
+
+-- a sink whose retention may remove files, with these lines more
+abbrev pub with_left : PrunedSink → List (List ℕ) → Moment → PrunedSink
+with_left p lines m = record p { sink = with_lines p.sink lines m }
+
+-- retention removed its names before the first line, where the moment lay past the latest period seen, and then all lines were handed over; nothing was lost
+abbrev pub LinesLeft : {D : Type 0} → (D → Option Contents) → PrunedSink → List (List ℕ) → Moment → Contents → RollingFileAppender D → RollingFileAppender D → Type 0
+LinesLeft contents p [] m c a b = AgreesLeft contents b p × (b.faults ≡ a.faults)
+LinesLeft contents p (line ∷ lines) m c a b =
+    (removed : List (List ℕ)) × IsRemovedAt (is_due (end_of p.sink.names.kind (running_period p.sink)) m.seconds) p.sink.names (listing c) removed
+    × AgreesLeft contents b (with_left (without removed p) (line ∷ lines) m) × (b.faults ≡ a.faults)
+    × OpensAfter (is_due (end_of p.sink.names.kind (running_period p.sink)) m.seconds) a.current b.current c.open_files (contents b.folder)
 
 -- lines of two steps at one moment are those of one
 abbrev pub SinksMayBeCut : Type 0
 SinksMayBeCut = (s : PlainSink) (first second : List (List ℕ)) (m : Moment) → with_lines (with_lines s first m) second m ≡ with_lines s (first ++ second) m
+
+-- these stand for the same: file, end of the period, count of faults, and the folder but for its coming calls
+pub record IsAlike (h k : Held) : Type 0 where
+  pub until : h.boundary ≡ k.boundary
+  pub open_file : h.current ≡ k.current
+  pub counts : h.faults ≡ k.faults
+  pub files : h.contents.files ≡ k.contents.files
+  pub links : h.contents.links ≡ k.contents.links
+  pub open_files : h.contents.open_files ≡ k.contents.open_files
+
+-- all were written whole
+abbrev pub AllWhole : List Written → Type 0
+AllWhole [] = Unit {0}
+AllWhole (fate ∷ fates) = (fate ≡ Whole) × AllWhole fates
+
+-- where the second of two steps at one moment finds a folder that refuses nothing and takes each write whole, and no memory is refused to it, both leave the same folder
+-- and counts as one step
+abbrev pub FoldersMayBeCut : Type 0
+FoldersMayBeCut = (names : FileNames) (m : Moment) (h middle last : Held) (first second : List (List ℕ)) (one two : List Written) → IsSound middle.contents → AllWhole two →
+    LinesTo names m h first one middle → LinesTo names m (flushed_if (last_whole false one) middle) second two last →
+    (end : Held) × LinesTo names m h (first ++ second) (one ++ two) end × IsAlike (flushed_if (last_whole false (one ++ two)) end) (flushed_if (last_whole false two) last)

@@ -1,16 +1,18 @@
 //! A worker step.
 
-ghost use Rattle.std.specs.Prelude.{◌≡◌, ◌≤◌, true, false, length};
+ghost use Rattle.std.specs.Prelude.{◌≡◌, ◌≤◌, ℕ, List, Some, true, false, length};
+ghost use Rattle.tracing_appender_rolling.specs.Contents.{Contents};
 ghost use Rattle.tracing_appender_rolling.specs.Moments.{is_moment};
 ghost use Rattle.tracing_appender_rolling.specs.Builders.{builder_names};
 ghost use Rattle.tracing_appender_rolling.specs.Looks.{Held};
 ghost use Rattle.tracing_appender_rolling.specs.Sinks.{PlainSink, with_handed};
 ghost use Rattle.tracing_appender_rolling.specs.Appenders.{AgreesSink, Holds};
+ghost use Rattle.tracing_appender_rolling.specs.Remaining.{PrunedSink, AgreesLeft, HandsLeft, IsOpenIn};
 ghost use Rattle.tracing_appender_batch.specs.Batches.{lines_in, queue_in, close_if, Next};
-ghost use Rattle.tracing_appender_batch.specs.Steps.{with_lines, is_missed, HandsOne, HandsAll, HoldsFlushed};
+ghost use Rattle.tracing_appender_batch.specs.Steps.{with_lines, is_missed, is_whole, HandsOne, HandsAll, HoldsFlushed, LinesLeft};
 
 use tracing_appender_queue::{QueueState, Taken};
-use tracing_appender_rolling::{Folder, FolderError, Moment, RollingFileAppender};
+use tracing_appender_rolling::{Folder, FolderError, FolderFault, Moment, RollingFileAppender};
 
 /// How many lines a step took, and how many of these found no memory.
 #[derive(Clone, Copy, Debug, PartialEq, Eq)]
@@ -23,7 +25,7 @@ pub struct Batched {
 #[derive(Clone, Copy, Debug, PartialEq, Eq)]
 enum Written {
     Whole,
-    Failed,
+    Failed(FolderFault),
     Missed,
 }
 
@@ -32,8 +34,17 @@ impl Written {
         ensures { result ≡ is_missed self }
     {
         match self {
-            Written::Whole | Written::Failed => false,
+            Written::Whole | Written::Failed(_) => false,
             Written::Missed => true,
+        }
+    }
+
+    fn is_whole(self) -> bool
+        ensures { result ≡ is_whole self }
+    {
+        match self {
+            Written::Whole => true,
+            Written::Failed(_) | Written::Missed => false,
         }
     }
 }
@@ -68,23 +79,29 @@ fn write_line<D: Folder>(
     requires { is_moment moment ≡ true }
     ensures agrees { is_missed result ≡ false → (s : PlainSink) → AgreesSink D.contents appender.old s →
         AgreesSink D.contents appender.new (with_handed s (record { line = line.now; moment = moment })) }
-    ensures handed { is_missed result ≡ false → (h : Held) → Holds D.contents appender.old h →
-        HandsOne D.contents (builder_names appender.old.builder) moment h line.now appender.new }
+    ensures handed { (h : Held) → Holds D.contents appender.old h →
+        HandsOne D.contents (builder_names appender.old.builder) moment h line.now result appender.new }
+    ensures left { is_missed result ≡ false → (c : Contents) (p : PrunedSink) → D.contents appender.old.folder ≡ Some c → AgreesLeft D.contents appender.old p →
+        HandsLeft D.contents p line.now moment c appender.old appender.new }
     ensures names { builder_names appender.new.builder ≡ builder_names appender.old.builder }
 {
     match appender.write_all_at(line, moment) {
         Ok(()) => Written::Whole,
-        Err(FolderError::Fault(_)) => Written::Failed,
+        Err(FolderError::Fault(fault)) => Written::Failed(fault),
         Err(FolderError::OutOfMemory) => Written::Missed,
     }
 }
 
-fn flush_if<D: Folder>(appender: &mut RollingFileAppender<D>, last: Written)
+fn flush_if<D: Folder>(appender: &mut RollingFileAppender<D>, whole: bool)
     ensures agrees { (s : PlainSink) → AgreesSink D.contents appender.old s → AgreesSink D.contents appender.new s }
+    ensures left { (p : PrunedSink) → AgreesLeft D.contents appender.old p → AgreesLeft D.contents appender.new p }
+    ensures faults { appender.new.faults ≡ appender.old.faults }
+    ensures current { appender.new.current ≡ appender.old.current }
+    ensures opens { (files : List ℕ) → IsOpenIn (D.contents appender.old.folder) files → IsOpenIn (D.contents appender.new.folder) files }
     ensures names { builder_names appender.new.builder ≡ builder_names appender.old.builder }
-    ensures flushed { (h : Held) → Holds D.contents appender.old h → HoldsFlushed D.contents h appender.new }
+    ensures flushed { (h : Held) → Holds D.contents appender.old h → HoldsFlushed D.contents whole h appender.new }
 {
-    if last == Written::Whole {
+    if whole {
         let _ = appender.flush();
     }
 }
@@ -102,25 +119,30 @@ pub fn batch<D: Folder>(
     ensures queue { queue.new ≡ queue_in k queue.old }
     ensures taken { result.taken ≡ length (lines_in k queue.old) }
     ensures missed { result.missed ≤ result.taken }
+    ensures names { builder_names appender.new.builder ≡ builder_names appender.old.builder }
     ensures agrees { (s : PlainSink) → AgreesSink D.contents appender.old s → result.missed ≡ 0 →
         AgreesSink D.contents appender.new (with_lines s (lines_in k queue.old) moment) }
-    ensures handed { (h : Held) → Holds D.contents appender.old h → result.missed ≡ 0 →
-        HandsAll D.contents (builder_names appender.old.builder) moment h (lines_in k queue.old) appender.new }
+    ensures handed { (h : Held) → Holds D.contents appender.old h →
+        HandsAll D.contents (builder_names appender.old.builder) moment h (lines_in k queue.old) result.missed appender.new }
+    // over a folder that refuses nothing, with retention or a link too
+    ensures left { result.missed ≡ 0 → (c : Contents) (p : PrunedSink) → D.contents appender.old.folder ≡ Some c → AgreesLeft D.contents appender.old p →
+        LinesLeft D.contents p (lines_in k queue.old) moment c appender.old appender.new }
 {
     let mut taken = 0;
     let mut missed = 0;
-    let mut last = Written::Failed;
+    let mut whole = false;
     while taken < k {
         let Some(line) = next_line(queue) else {
             break;
         };
-        last = write_line(appender, line.as_slice(), moment);
-        if last.is_missed() {
+        let fate = write_line(appender, line.as_slice(), moment);
+        if fate.is_missed() {
             missed += 1;
         }
+        whole = fate.is_whole();
         taken += 1;
     }
     close_at_mark(queue);
-    flush_if(appender, last);
+    flush_if(appender, whole);
     Batched { taken, missed }
 }

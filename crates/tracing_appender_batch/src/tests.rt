@@ -92,7 +92,7 @@ fn a_failing_write_loses_its_rest_alone(rt: HostRuntime) -> Result<(), Fail> {
     // opened at call 1; the write of the first line takes a byte at call 2 and is refused at call 3
     let refused = Vec::from_slice(alloc, &[3])?;
     let short = Vec::from_slice(alloc, &[2])?;
-    let folder = FaultyFolder::new(MemoryFolder::new(alloc), refused).with_short_writes(short);
+    let folder = FaultyFolder::new(MemoryFolder::new(alloc), refused).with_short_writes(short, 1);
     let prefix = String::from_str(alloc, "p")?;
     let mut appender = RollingFileAppender::new(
         alloc,
@@ -113,6 +113,37 @@ fn a_failing_write_loses_its_rest_alone(rt: HostRuntime) -> Result<(), Fail> {
     );
     assert_eq!(rt; appender.faults().writes, 1);
     assert!(rt; holds(appender.folder().inner(), "p.2025-02-17", b"ab\n")?);
+    Ok(())
+}
+
+#[test]
+fn a_step_with_a_limit_and_a_link_may_be_cut(rt: HostRuntime) -> Result<(), Fail> {
+    let alloc = rt.alloc();
+    for first in 0..=2 {
+        let mut queue = QueueState::new(alloc, 3, true)?;
+        let prefix = String::from_str(alloc, "p")?;
+        let link = String::from_str(alloc, "latest")?;
+        let mut appender = Builder::new()
+            .rotation(Rotation::DAILY)
+            .filename_prefix(prefix)
+            .max_log_files(1)
+            .latest_symlink(link)
+            .build(alloc, MemoryFolder::new(alloc), MONDAY)
+            .map_err(|refusal| refusal.error)?;
+        assert!(rt; offer(alloc, &mut queue, "a\n")?);
+        assert!(rt; offer(alloc, &mut queue, "b\n")?);
+        let one = batch(&mut queue, &mut appender, first, TUESDAY);
+        let rest = if first < 2 { 2 - first } else { 0 };
+        let two = batch(&mut queue, &mut appender, rest, TUESDAY);
+        assert_eq!(rt; one.taken, first);
+        assert_eq!(rt; two.taken, rest);
+        assert_eq!(rt; appender.folder().files()?.len(), 1);
+        assert!(rt; holds(appender.folder(), "p.2025-02-18", b"a\nb\n")?);
+        assert_eq!(rt;
+            appender.folder().link_target("latest"),
+            Some("p.2025-02-18")
+        );
+    }
     Ok(())
 }
 

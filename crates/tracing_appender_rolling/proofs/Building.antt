@@ -1,27 +1,27 @@
 -- Links, refused buildings, and lines whose write was answered.
-use Rattle.std.proofs.Common.{◌≡◌, ℕ, ℤ, List, true, false, ap, sym, subst, refl, [], ◌∙◌, ◌&&◌, Option, Some, None, Result, Ok, Err, IfSome}
+use Rattle.std.proofs.Common.{◌≡◌, ℕ, ℤ, List, true, false, ap, sym, subst, refl, [], ◌∙◌, ◌&&◌, Option, Some, None, Result, Ok, Err, IfSome, inr}
 use Rattle.std.specs.Prelude.{Bool, OnOk, IfErr, IfNone, is_some, nat_lt}
 use Rattle.std.proofs.lemmas.Option.{same_Some}
 use Rattle.tracing_appender_dates.specs.Days.{is_second}
 use Rattle.tracing_appender_dates.specs.Names as dated
-use Rattle.tracing_appender_rolling.specs.declared.moment.Moment.{Moment}
-use Rattle.tracing_appender_rolling.specs.declared.fault.FolderError.{FolderError}
-use Rattle.tracing_appender_rolling.specs.declared.fault.FolderError.TheVariants.{Fault, OutOfMemory}
-use Rattle.tracing_appender_rolling.specs.declared.fault.FolderFault.{FolderFault}
-use Rattle.tracing_appender_rolling.specs.declared.fault.InitContext.{InitContext}
-use Rattle.tracing_appender_rolling.specs.declared.fault.FileNumber.{FileNumber}
+use Rattle.tracing_appender_folders.specs.declared.moment.Moment.{Moment}
+use Rattle.tracing_appender_folders.specs.declared.fault.FolderError.{FolderError}
+use Rattle.tracing_appender_folders.specs.declared.fault.FolderError.TheVariants.{Fault, OutOfMemory}
+use Rattle.tracing_appender_folders.specs.declared.fault.FolderFault.{FolderFault}
+use Rattle.tracing_appender_rolling.specs.declared.init.InitContext.{InitContext}
+use Rattle.tracing_appender_folders.specs.declared.fault.FileNumber.{FileNumber}
 use Rattle.tracing_appender_rolling.specs.declared.faults.Faults.{Faults}
 use Rattle.tracing_appender_rolling.specs.declared.appender.RollingFileAppender.{RollingFileAppender}
-use Rattle.tracing_appender_rolling.specs.Moments.{period_at, is_due}
+use Rattle.tracing_appender_folders.specs.Moments.{period_at, is_due}
 use Rattle.tracing_appender_rolling.specs.Names.{FileNames, file_name, is_bad_name, HasBadLink, HasGoodLink}
-use Rattle.tracing_appender_rolling.specs.Contents.{Contents, Gives, written}
-use Rattle.tracing_appender_rolling.specs.Appenders.{AgreesSink, KeepsKnown, FailedAt, LooksAt}
-use Rattle.tracing_appender_rolling.specs.Builds.{Explains, build_error}
-use Rattle.tracing_appender_rolling.specs.Looks.{Held, LookedTo}
+use Rattle.tracing_appender_folders.specs.Contents.{Contents, Gives, written}
+use Rattle.tracing_appender_rolling.specs.Appenders.{AgreesSink, KeepsKnown, FailedAt, LooksAt, MayOpen, HandsBack}
+use Rattle.tracing_appender_rolling.specs.Builds.{Explains, ToldBuild, build_error}
+use Rattle.tracing_appender_rolling.specs.Looks.{Held, IsHeld, LookedTo, LookMissed, Starved, Switches}
 use Rattle.tracing_appender_rolling.specs.Faults.{after_write, unit_of}
 use Rattle.tracing_appender_rolling.specs.Builders.{builder_names}
 use Rattle.tracing_appender_rolling.specs.Sinks.{PlainSink, with_handed}
-use Rattle.tracing_appender_rolling.specs.Tries.{IsKnown}
+use Rattle.tracing_appender_rolling.specs.Telling.{ToldError}
 use Rattle.tracing_appender_rolling.specs.Writes.{WritesAll}
 use Rattle.tracing_appender_rolling.specs.Handing.{HandedOver, HandsLine, WrittenOnce, WritesOnce, is_starved}
 use Rattle.tracing_appender_rolling.proofs.PeriodFacts.{moment_second, name_is}
@@ -36,11 +36,18 @@ module _ (names : FileNames) (link : List ℕ) (is : names.latest ≡ Some link)
   link_good None h e = λ m is_m same.
       h m.seconds (moment_second m is_m) (same_Some link (file_name names m.seconds (period_at names.kind m)) (sym is ∙ same) ∙ sym (name_is names m.seconds))
 
-pub explained : {D : Type 0} (contents : D → Option Contents) (names : FileNames) (folder : D) (m : Moment) (context : InitContext) (e : FolderError) (back : D) → is_bad_name names ≡ false → HasGoodLink names → ((c : Contents) → contents folder ≡ Some c → FailedAt names m c context e (contents back)) → Explains contents names folder m (build_error context e) back
-explained contents names folder m context (Fault fault) back name link failed = (name, link, failed)
-explained contents names folder m context OutOfMemory back name link failed = (name, link)
+pub explained : {D : Type 0} (contents : D → Option Contents) (names : FileNames) (folder : D) (m : Moment) (context : InitContext) (e : FolderError) (back : D) → is_bad_name names ≡ false → HasGoodLink names → ((c : Contents) → contents folder ≡ Some c → FailedAt names m c context e (contents back)) → ((c : Contents) → contents folder ≡ Some c → MayOpen (Some c) names → (e ≡ OutOfMemory) × HandsBack c names (contents back)) → Explains contents names folder m (build_error context e) back
+explained contents names folder m context (Fault fault) back name link failed known = (name, link, failed)
+explained contents names folder m context OutOfMemory back name link failed known = (name, link, record { left = failed; handed_back = λ c is may. (known c is may).1 })
+
+pub told_build : (n m : ℕ) (context : InitContext) (e : FolderError) → ToldError n e m → ToldBuild n (build_error context e) m
+told_build n m context (Fault fault) told = told
+told_build n m context OutOfMemory told = told
 
 -- known contents stay known
+abbrev IsKnown : Option Contents → Type 0
+IsKnown after = (d : Contents) × (after ≡ Some d)
+
 looked_known : (b : Bool) (names : FileNames) (m : Moment) (h : Held) (boundary : Option ℤ) (current : FileNumber) (f : Faults) (after : Option Contents) → LookedTo b names m h boundary current f after → IsKnown after
 looked_known true names m h boundary current f after is = (_, is.held.folder)
 looked_known false names m h boundary current f after is = (_, is.folder)
@@ -48,7 +55,7 @@ looked_known false names m h boundary current f after is = (_, is.folder)
 hands_line : {D : Type 0} (contents : D → Option Contents) (names : FileNames) (m : Moment) (h : Held) (bytes : List ℕ) (r : Result (Unit {0}) FolderError) (a : RollingFileAppender D) → HandedOver names m h bytes r a.boundary a.current a.faults (contents a.folder) → HandsLine contents names m h bytes r a
 hands_line contents names m h bytes (Ok done) a handed = handed
 hands_line contents names m h bytes (Err (Fault fault)) a handed = handed
-hands_line contents names m h bytes (Err OutOfMemory) a handed = tt
+hands_line contents names m h bytes (Err OutOfMemory) a handed = inr handed
 
 pub hands : {D : Type 0} (contents : D → Option Contents) (names : FileNames) (m : Moment) (h : Held) (bytes : List ℕ) (r : Result (Unit {0}) FolderError) (a b : RollingFileAppender D) → LooksAt contents names m h a → b ≡ record a { folder = b.folder; faults = b.faults } → b.faults ≡ after_write a.faults r → WritesAll (contents a.folder) a.current bytes r (contents b.folder) → HandsLine contents names m h bytes r b
 hands contents names m h bytes r a b looks still counted writes =
@@ -77,7 +84,14 @@ once contents names m h bytes r a b seen looked still counted answered left = re
 writes_known : {D : Type 0} (contents : D → Option Contents) (names : FileNames) (m : Moment) (h : Held) (bytes : List ℕ) (r : Result ℕ FolderError) (a b : RollingFileAppender D) (seen : Contents) → LookedTo (is_due h.boundary m.seconds) names m h a.boundary a.current a.faults (Some seen) → b ≡ record a { folder = b.folder; faults = b.faults } → b.faults ≡ after_write a.faults (unit_of r) → Gives (λ c. written c a.current bytes) (Some seen) r (contents b.folder) → WritesOnce contents names m h bytes r b
 writes_known contents names m h bytes (Ok n) a b seen looked still counted gives = once contents names m h bytes (Ok n) a b seen looked still counted gives.0 gives.1
 writes_known contents names m h bytes (Err (Fault fault)) a b seen looked still counted gives = once contents names m h bytes (Err (Fault fault)) a b seen looked still counted gives.0 gives.1
-writes_known contents names m h bytes (Err OutOfMemory) a b seen looked still counted gives = tt
+writes_known contents names m h bytes (Err OutOfMemory) a b seen looked still counted gives = inr (record {
+  seen = record { boundary = a.boundary; current = a.current; faults = a.faults; contents = seen };
+  looked = looked;
+  boundary_same = ap (λ (x : RollingFileAppender _). x.boundary) still;
+  current_same = ap (λ (x : RollingFileAppender _). x.current) still;
+  counted = counted;
+  left = gives;
+})
 
 pub writes_once : {D : Type 0} (contents : D → Option Contents) (names : FileNames) (m : Moment) (h : Held) (bytes : List ℕ) (r : Result ℕ FolderError) (a b : RollingFileAppender D) → LooksAt contents names m h a → b ≡ record a { folder = b.folder; faults = b.faults } → b.faults ≡ after_write a.faults (unit_of r) → Gives (λ c. written c a.current bytes) (contents a.folder) r (contents b.folder) → WritesOnce contents names m h bytes r b
 writes_once contents names m h bytes r a b looks still counted gives =
@@ -99,3 +113,15 @@ line_agrees contents bytes m s (Ok done) a b fed agrees ok unfaulted writes = ok
 line_agrees contents bytes m s (Err OutOfMemory) a b fed agrees ok unfaulted writes = cc
 line_agrees contents bytes m s (Err (Fault fault)) a b fed agrees ok unfaulted writes =
     unfaulted_known contents bytes fault b (with_handed s (record { line = bytes; moment = m })) a.current (contents a.folder) writes (λ c is. (unfaulted c (with_handed s (record { line = []; moment = m })) is agrees).1)
+
+-- a look that found no memory
+pub look_missed : (E : Type 0) (names : FileNames) (m : Moment) (h : Held) (known after : Option Contents) (boundary b : Option ℤ) (current f : FileNumber) (faults l : Faults) (e : E) → IsHeld known boundary current faults h → is_due boundary m.seconds ≡ true → Switches {E = E} names m boundary current faults known (Err e) b f l after → b ≡ boundary → f ≡ current → l ≡ faults → LookMissed names m h b f l after
+look_missed E names m h known after boundary b current f faults l e held due switched same_b same_f same_l =
+    let starved = subst (λ (o : Option Contents). Switches {E = E} names m boundary current faults o (Err e) b f l after) held.folder switched in
+    record {
+      due = ap (λ (x : Option ℤ). is_due x m.seconds) (sym held.until) ∙ due;
+      until = same_b ∙ held.until;
+      open_file = same_f ∙ held.open_file;
+      counts = same_l ∙ held.counts;
+      left = subst (λ (x : Faults). Starved names m x h.contents after) held.counts starved;
+    }

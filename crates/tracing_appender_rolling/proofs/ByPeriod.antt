@@ -5,8 +5,8 @@ use Rattle.std.specs.Ordering.{int_eq}
 use Rattle.std.specs.Str.{bytes_eq}
 use Rattle.std.proofs.lemmas.Bool.Decides.{Decides-int_eq}
 use Rattle.std.proofs.lemmas.Slice.Eq.{bytes_eq-Decides}
-use Rattle.tracing_appender_rolling.specs.declared.moment.Moment.{Moment}
-use Rattle.tracing_appender_rolling.specs.Moments.{is_moment, is_earlier, latest_of, period_at}
+use Rattle.tracing_appender_folders.specs.declared.moment.Moment.{Moment}
+use Rattle.tracing_appender_folders.specs.Moments.{is_moment, is_earlier, latest_of, period_at}
 use Rattle.tracing_appender_rolling.specs.Names.{FileNames, file_name}
 use Rattle.tracing_appender_rolling.specs.Sinks.{Handed, Placed, placed, lies_in, is_in, period_in, period_name, file_text, FilesByPeriod}
 use Rattle.tracing_appender_rolling.proofs.Apart.{names_apart}

@@ -6,20 +6,20 @@ use Rattle.std.proofs.lemmas.List.{append-nil}
 use Rattle.std.proofs.lemmas.List.Folds.{list_any-append}
 use Rattle.std.proofs.lemmas.List.Elements.{filter-append}
 use Rattle.std.proofs.lemmas.List.Concat.{flat_map-append}
-use Rattle.tracing_appender_rolling.specs.declared.moment.Moment.{Moment}
-use Rattle.tracing_appender_rolling.specs.Moments.{latest_of, period_at}
+use Rattle.tracing_appender_folders.specs.declared.moment.Moment.{Moment}
+use Rattle.tracing_appender_folders.specs.Moments.{latest_of, period_at}
 use Rattle.tracing_appender_rolling.specs.Names.{FileNames, file_name}
 use Rattle.tracing_appender_rolling.specs.Sinks.{PlainSink, Handed, Placed, placed, running_moment, with_handed, lies_in, period_in, period_name, file_text}
-use Rattle.tracing_appender_rolling.proofs.Content.{after_line}
+use Rattle.tracing_appender_folders.proofs.Content.{after_line}
 
 pub running_more : (seen : Moment) (hs : List Handed) (h : Handed) → running_moment seen (hs ++ h ∷ []) ≡ latest_of (running_moment seen hs) h.moment
 running_more seen [] h = refl
 running_more seen (k ∷ ks) h = running_more (latest_of seen k.moment) ks h
 
-abbrev placed_at : Moment → Handed → Placed
+abbrev pub placed_at : Moment → Handed → Placed
 placed_at seen h = record { line = h.line; running = latest_of seen h.moment }
 
-placed_more : (seen : Moment) (hs : List Handed) (h : Handed) → placed seen (hs ++ h ∷ []) ≡ placed seen hs ++ placed_at (running_moment seen hs) h ∷ []
+pub placed_more : (seen : Moment) (hs : List Handed) (h : Handed) → placed seen (hs ++ h ∷ []) ≡ placed seen hs ++ placed_at (running_moment seen hs) h ∷ []
 placed_more seen [] h = refl
 placed_more seen (k ∷ ks) h = ap (λ xs. placed_at seen k ∷ xs) (placed_more (latest_of seen k.moment) ks h)
 

@@ -18,37 +18,37 @@ use Rattle.tracing_appender_dates.specs.Days.{is_second}
 use Rattle.tracing_appender_dates.specs.Periods.{period_of, first_second}
 use Rattle.tracing_appender_dates.specs.Stamps.{stamp, or_itself}
 use Rattle.tracing_appender_dates.proofs.Order.{rise}
-use Rattle.tracing_appender_rolling.specs.declared.moment.Moment.{Moment}
-use Rattle.tracing_appender_rolling.specs.Moments.{is_moment, is_earlier, latest_of, period_at}
+use Rattle.tracing_appender_folders.specs.declared.moment.Moment.{Moment}
+use Rattle.tracing_appender_folders.specs.Moments.{is_moment, is_earlier, latest_of, period_at}
 use Rattle.tracing_appender_rolling.specs.Names.{FileNames, joined, file_name}
 use Rattle.tracing_appender_rolling.specs.Sinks.{Handed, Placed, PlainSink, placed, placed_lines, period_in, period_name, lies_in, was_opened, file_text}
-use Rattle.tracing_appender_rolling.specs.Reading.{IsAmong, FilesReadInOrder}
+use Rattle.tracing_appender_rolling.specs.Reading.{IsAmong, FilesReadInOrder, OwnFilesReadInOrder}
 use Rattle.tracing_appender_rolling.proofs.Files.{filter_none}
 use Rattle.tracing_appender_rolling.proofs.PeriodFacts.{moment_second, earlier_seconds}
 use Rattle.tracing_appender_rolling.proofs.ByPeriod.{later_is}
 use Rattle.tracing_appender_rolling.proofs.Whole.{opened_at}
 
-abbrev order : List ℕ → List ℕ → Ordering
+abbrev pub order : List ℕ → List ℕ → Ordering
 order = slice_cmp nat_cmp
 
-abbrev line_in : Placed → List ℕ
+abbrev pub line_in : Placed → List ℕ
 line_in x = x.line
 
-not_below_self : (n : List ℕ) → order n n ≡ Less → ⊥
+pub not_below_self : (n : List ℕ) → order n n ≡ Less → ⊥
 not_below_self n less = false≢true (ap is_eq (sym less) ∙ is_eq-slice_cmp n n ∙ (bytes_eq-Decides n n).1 refl)
 
 -- the same or later in byte order
-abbrev NotAfter : List ℕ → List ℕ → Type 0
+abbrev pub NotAfter : List ℕ → List ℕ → Type 0
 NotAfter n m = (n ≡ m) ⊎ (order n m ≡ Less)
 
 differs : (n m : List ℕ) → (n ≡ m → ⊥) → bytes_eq n m ≡ false
 differs n m apart = false_from_ne_true (bytes_eq n m) (λ e. apart ((bytes_eq-Decides n m).0 e))
 
 module _ (key : Placed → List ℕ) where
-  abbrev has : List ℕ → Placed → Bool
+  abbrev pub has : List ℕ → Placed → Bool
   has n x = bytes_eq (key x) n
 
-  abbrev text_at : List Placed → List ℕ → List ℕ
+  abbrev pub text_at : List Placed → List ℕ → List ℕ
   text_at xs n = flat_map line_in (filter (has n) xs)
 
   abbrev Rising : List Placed → Type 0
@@ -105,7 +105,7 @@ module _ (key : Placed → List ℕ) where
   read_all (x ∷ xs) names up rising all = insert x xs names up all.0 rising.0 ∙ ap (λ t. x.line ++ t) (read_all xs names up rising.1 all.1)
 
 -- running moments never fall, and names rise with them
-monotone : (kind : PeriodKind) (s t : ℤ) → s ≤ℤ t → period_of kind s ≤ℤ period_of kind t
+pub monotone : (kind : PeriodKind) (s t : ℤ) → s ≤ℤ t → period_of kind s ≤ℤ period_of kind t
 monotone Minute s t le = omega (arith, signed_arith, le)
 monotone Hour s t le = omega (arith, signed_arith, le)
 monotone Day s t le = omega (arith, signed_arith, le)
@@ -119,7 +119,7 @@ less_by_kind Day prefix suffix opened s t is_s is_t lt = rise Day prefix suffix 
 less_by_kind Week prefix suffix opened s t is_s is_t lt = rise Week prefix suffix s t is_s is_t lt
 less_by_kind Whole prefix suffix opened s t is_s is_t lt = absurd (omega (arith, signed_arith, lt))
 
-not_after : (names : FileNames) (opened : ℤ) (a b : Moment) → is_moment a ≡ true → is_moment b ≡ true → a.seconds ≤ℤ b.seconds → NotAfter (file_name names opened (period_at names.kind a)) (file_name names opened (period_at names.kind b))
+pub not_after : (names : FileNames) (opened : ℤ) (a b : Moment) → is_moment a ≡ true → is_moment b ≡ true → a.seconds ≤ℤ b.seconds → NotAfter (file_name names opened (period_at names.kind a)) (file_name names opened (period_at names.kind b))
 unfolding file_name
 not_after names opened a b is_a is_b le = by_case (int_le (period_at names.kind b) (period_at names.kind a)) refl
   where
@@ -130,7 +130,7 @@ not_after names opened a b is_a is_b le = by_case (int_le (period_at names.kind 
     by_case true e = inl (ap (file_name names opened) (omega (arith, signed_arith, e, more)))
     by_case false e = inr (less_by_kind names.kind names.prefix names.suffix opened a.seconds b.seconds (moment_second a is_a) (moment_second b is_b) (omega (arith, signed_arith, e)))
 
-later_seconds : (a b : Moment) → a.seconds ≤ℤ (latest_of a b).seconds
+pub later_seconds : (a b : Moment) → a.seconds ≤ℤ (latest_of a b).seconds
 later_seconds a b = by_case (is_earlier a b) refl
   where
     by_case : (t : Bool) → is_earlier a b ≡ t → a.seconds ≤ℤ (cond t b a).seconds
@@ -154,7 +154,7 @@ names_after : (names : FileNames) (opened r : Moment) (xs : List Placed) → is_
 names_after names opened r [] is all = tt
 names_after names opened r (y ∷ ys) is all = (not_after names opened.seconds r y.running is all.0.1 all.0.0, names_after names opened r ys is all.1)
 
-rising : (names : FileNames) (opened seen : Moment) (hs : List Handed) → is_moment seen ≡ true → AllByRecursion (λ (h : Handed). is_moment h.moment ≡ true) hs → Rising (key_in names opened) (placed seen hs)
+pub rising : (names : FileNames) (opened seen : Moment) (hs : List Handed) → is_moment seen ≡ true → AllByRecursion (λ (h : Handed). is_moment h.moment ≡ true) hs → Rising (key_in names opened) (placed seen hs)
 rising names opened seen [] is all = tt
 rising names opened seen (h ∷ hs) is all =
     let r = latest_of seen h.moment in
@@ -163,7 +163,7 @@ rising names opened seen (h ∷ hs) is all =
     (names_after names opened r (placed r hs) next (all_later r.seconds r hs le next all.1), rising names opened r hs next all.1)
 
 -- each line's file is among the names
-all_among : (s : PlainSink) (names : List (List ℕ)) → ((name : List ℕ) → was_opened s name ≡ true → IsAmong name names) → (before xs : List Placed) → placed_lines s ≡ before ++ xs → AllByRecursion (λ x. IsAmong (key_in s.names s.opened x) names) xs
+pub all_among : (s : PlainSink) (names : List (List ℕ)) → ((name : List ℕ) → was_opened s name ≡ true → IsAmong name names) → (before xs : List Placed) → placed_lines s ≡ before ++ xs → AllByRecursion (λ x. IsAmong (key_in s.names s.opened x) names) xs
 all_among s names covers before [] e = tt
 all_among s names covers before (x ∷ xs) e =
     (covers (key_in s.names s.opened x) (opened_at s before xs x e), all_among s names covers (before ++ x ∷ []) xs (e ∙ sym (append_assoc before (x ∷ []) xs)))
@@ -173,7 +173,7 @@ second_false : (a b : Bool) → (a || b) ≡ false → b ≡ false
 second_false true b e = cc
 second_false false b e = e
 
-read_one : (s : PlainSink) (name : List ℕ) → unwrap_or (s.found name) [] ≡ [] → unwrap_or (file_text s name) [] ≡ flat_map line_in (filter (lies_in s.names s.opened name) (placed_lines s))
+pub read_one : (s : PlainSink) (name : List ℕ) → unwrap_or (s.found name) [] ≡ [] → unwrap_or (file_text s name) [] ≡ flat_map line_in (filter (lies_in s.names s.opened name) (placed_lines s))
 unfolding file_text
 read_one s name empty = by_case (was_opened s name) refl
   where
@@ -185,16 +185,19 @@ read_one s name empty = by_case (was_opened s name) refl
     by_case false e =
         empty ∙ sym (ap (flat_map line_in) (filter_none (lies_in s.names s.opened name) (placed_lines s) (second_false (bytes_eq (period_name s (period_in s s.opened)) name) (list_any (lies_in s.names s.opened name) (placed_lines s)) e)))
 
-read_each : (f g : List ℕ → List ℕ) → ((n : List ℕ) → f n ≡ g n) → (names : List (List ℕ)) → flat_map f names ≡ flat_map g names
-read_each f g same [] = refl
-read_each f g same (n ∷ ns) = ap (λ t. t ++ flat_map f ns) (same n) ∙ ap (λ t. g n ++ t) (read_each f g same ns)
+pub read_each : (f g : List ℕ → List ℕ) (names : List (List ℕ)) → ((n : List ℕ) → IsAmong n names → f n ≡ g n) → flat_map f names ≡ flat_map g names
+read_each f g [] same = refl
+read_each f g (n ∷ ns) same = ap (λ t. t ++ flat_map f ns) (same n (inl refl)) ∙ ap (λ t. g n ++ t) (read_each f g ns (λ m there. same m (inr there)))
 
-all_lines : (seen : Moment) (hs : List Handed) → flat_map line_in (placed seen hs) ≡ flat_map (λ (h : Handed). h.line) hs
+pub all_lines : (seen : Moment) (hs : List Handed) → flat_map line_in (placed seen hs) ≡ flat_map (λ (h : Handed). h.line) hs
 all_lines seen [] = refl
 all_lines seen (h ∷ hs) = ap (λ t. h.line ++ t) (all_lines (latest_of seen h.moment) hs)
 
 pub in_order : FilesReadInOrder
 in_order s names is_o all empty up covers =
-    read_each (λ (name : List ℕ). unwrap_or (file_text s name) []) (λ (name : List ℕ). flat_map line_in (filter (lies_in s.names s.opened name) (placed_lines s))) (λ name. read_one s name (empty name)) names
+    read_each (λ (name : List ℕ). unwrap_or (file_text s name) []) (λ (name : List ℕ). flat_map line_in (filter (lies_in s.names s.opened name) (placed_lines s))) names (λ name there. read_one s name (empty name there))
     ∙ read_all (key_in s.names s.opened) (placed_lines s) names up (rising s.names s.opened s.opened s.handed is_o all) (all_among s names covers [] (placed_lines s) refl)
     ∙ all_lines s.opened s.handed
+
+pub own_in_order : OwnFilesReadInOrder
+own_in_order s names is_o all empty up covers own = in_order s names is_o all (λ name there. empty name (own name there)) up covers

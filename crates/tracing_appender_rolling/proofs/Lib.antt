@@ -1,13 +1,7 @@
 pub mod PeriodFacts
 pub mod Apart
-pub mod Content
 pub mod Files
-pub mod Openings
 pub mod ByPeriod
-pub mod Named
-pub mod Wrapped
-pub mod Listing
-pub mod Puts
 pub mod Writing
 pub mod Rising
 pub mod Removing
@@ -17,3 +11,13 @@ pub mod Building
 pub mod Whole
 pub mod InOrder
 pub mod Sparing
+pub mod Starving
+pub mod Retaining
+pub mod Leading
+pub mod Newest
+pub mod Lasting
+pub mod Beginning
+pub mod Handover
+pub mod Suffix
+pub mod Oldest
+pub mod Aging

@@ -12,8 +12,8 @@ use Rattle.tracing_appender_dates.specs.Days.{is_second}
 use Rattle.tracing_appender_dates.specs.Periods.{period_of, first_second}
 use Rattle.tracing_appender_dates.specs.Stamps.{stamp, or_itself}
 use Rattle.tracing_appender_dates.specs.Names as dated
-use Rattle.tracing_appender_rolling.specs.declared.moment.Moment.{Moment}
-use Rattle.tracing_appender_rolling.specs.Moments.{period_at, end_of, is_due, is_earlier, latest_of, is_moment}
+use Rattle.tracing_appender_folders.specs.declared.moment.Moment.{Moment}
+use Rattle.tracing_appender_folders.specs.Moments.{period_at, end_of, is_due, is_earlier, latest_of, is_moment}
 use Rattle.tracing_appender_rolling.specs.Names.{FileNames, joined, file_name}
 
 first_holds : (p q : Bool) → (p && q) ≡ true → p ≡ true
@@ -46,6 +46,27 @@ beyond Hour r s e = omega (arith, signed_arith, e)
 beyond Day r s e = omega (arith, signed_arith, e)
 beyond Week r s e = omega (arith, signed_arith, e)
 beyond Whole r s e = cc
+
+-- a moment lies before the end of the period of the later of it and another
+latest_seconds : (r m : Moment) → m.seconds ≤ℤ (latest_of r m).seconds
+latest_seconds r m = by_case (is_earlier r m) refl
+  where
+    not_earlier : (t : Bool) → int_le m.seconds r.seconds ≡ t → cond t (int_le r.seconds m.seconds && nat_lt r.nanoseconds m.nanoseconds) true ≡ false → m.seconds ≤ℤ r.seconds
+    not_earlier true h f = omega (arith, signed_arith, h)
+    not_earlier false h f = cc
+
+    by_case : (b : Bool) → is_earlier r m ≡ b → m.seconds ≤ℤ (cond b m r).seconds
+    by_case true e = omega (arith, signed_arith)
+    by_case false e = not_earlier (int_le m.seconds r.seconds) refl e
+
+pub latest_not_due : (kind : PeriodKind) (r m : Moment) → is_due (end_of kind (period_at kind (latest_of r m))) m.seconds ≡ false
+latest_not_due kind r m =
+    let le = latest_seconds r m in
+    false_from_ne_true (is_due (end_of kind (period_at kind (latest_of r m))) m.seconds) (λ e. let more = beyond kind (latest_of r m).seconds m.seconds e in omega (arith, signed_arith, le, more))
+
+pub own_not_due : (kind : PeriodKind) (m : Moment) → is_due (end_of kind (period_at kind m)) m.seconds ≡ false
+own_not_due kind m =
+    false_from_ne_true (is_due (end_of kind (period_at kind m)) m.seconds) (λ e. let more = beyond kind m.seconds m.seconds e in omega (arith, signed_arith, more))
 
 -- a moment before the end of the greatest one's period leaves that period
 pub same_period : (kind : PeriodKind) (r m : Moment) → is_due (end_of kind (period_at kind r)) m.seconds ≡ false → period_at kind (latest_of r m) ≡ period_at kind r

@@ -1,15 +1,16 @@
 -- Candidates one after another, and removals one after another.
-use Rattle.std.proofs.Common.{◌≡◌, ℕ, ◌+◌, ◌<◌, ℤ, List, [], ◌∷◌, ◌++◌, length, map, take, get_or, refl, ap, subst, sym, ◌∙◌, Option, Some, None, Result, Ok, Err}
+use Rattle.std.proofs.Common.{◌≡◌, ℕ, ◌+◌, ◌<◌, ℤ, List, [], ◌∷◌, ◌++◌, length, map, take, drop, get_or, append_assoc, refl, ap, subst, sym, ◌∙◌, Option, Some, None, Result, Ok, Err}
 use Rattle.std.specs.List.{filter}
-use Rattle.std.proofs.lemmas.List.{take_more, map-append}
+use Rattle.std.proofs.lemmas.List.{take_more, map-append, take-append-drop}
 use Rattle.std.proofs.lemmas.List.Elements.{filter-append}
-use Rattle.tracing_appender_rolling.specs.declared.moment.Moment.{Moment}
-use Rattle.tracing_appender_rolling.specs.declared.fault.Entry.{Entry}
+use Rattle.tracing_appender_folders.specs.declared.moment.Moment.{Moment}
+use Rattle.tracing_appender_folders.specs.declared.fault.Entry.{Entry}
 use Rattle.tracing_appender_rolling.specs.declared.faults.Faults.{Faults}
 use Rattle.tracing_appender_rolling.specs.declared.retention.Candidate.{Candidate}
 use Rattle.tracing_appender_rolling.specs.Names.{FileNames}
-use Rattle.tracing_appender_rolling.specs.Contents.{Contents, Listed}
-use Rattle.tracing_appender_rolling.specs.Listings.{listed_of}
+use Rattle.tracing_appender_folders.specs.Contents.{Contents, Gives, Listed, called, removed}
+use Rattle.tracing_appender_folders.specs.declared.fault.FolderError.TheVariants.{OutOfMemory}
+use Rattle.tracing_appender_folders.specs.Listings.{listed_of}
 use Rattle.tracing_appender_rolling.specs.Retention.{PlainCandidate, candidate_of, with_candidate, made_of, Tells, IsAdded, IsCandidates, goes}
 use Rattle.tracing_appender_rolling.specs.Pruning.{doomed_of, removed_all, Removes, LeftAt}
 
@@ -42,7 +43,16 @@ removed_both (x ∷ xs) ys at = removed_both xs ys _
 
 module _ (E : Type 0) (xs ys : List (List ℕ)) (f g : Faults) where
   known_then : (c d : Contents) (r : Result Faults E) (after : Option Contents) → LeftAt (removed_all xs (f, c)) g (Some d) → Removes ys g (Some d) r after → Removes (xs ++ ys) f (Some c) r after
-  known_then c d (Err e) after left more = more
+  known_then c d (Err e) after (count, there) more =
+      let here : d ≡ (removed_all xs (f, c)).1 = cc in
+      let at : (g, d) ≡ removed_all xs (f, c) = ap (λ k. (k, d)) count ∙ ap (λ k. ((removed_all xs (f, c)).0, k)) here in
+      record {
+        before = xs ++ more.before;
+        name = more.name;
+        behind = more.behind;
+        are = ap (λ (zs : List (List ℕ)). xs ++ zs) more.are ∙ sym (append_assoc xs more.before (more.name ∷ more.behind));
+        left = more.left ∙ ap (λ p. Some (called (removed_all more.before p).1)) at ∙ sym (ap (λ p. Some (called p.1)) (removed_both xs more.before (f, c)));
+      }
   known_then c d (Ok h) after (count, there) more =
       let here : d ≡ (removed_all xs (f, c)).1 = cc in
       let at : (g, d) ≡ removed_all xs (f, c) = ap (λ k. (k, d)) count ∙ ap (λ k. ((removed_all xs (f, c)).0, k)) here in
@@ -72,3 +82,39 @@ removes_next E limit all i d f g h known middle after lt left next =
     let cs = map candidate_of all in
     subst (λ (names : List (List ℕ)). Removes {E = E} names f known (Ok h) after) (sym (doomed_more limit cs all i d lt))
     (removes_then E (doomed_of limit cs (map candidate_of (take i all))) (doomed_of limit cs (candidate_of (get_or all i d) ∷ [])) f g known middle after (Ok h) left next)
+
+-- a removal that found no memory
+pub stops_at : (E : Type 0) (name : List ℕ) (f : Faults) (known after : Option Contents) (e : E) → Gives (λ c. removed c name) known (Err OutOfMemory) after → Removes {E = E} (name ∷ []) f known (Err e) after
+stops_at E name f None after e left = left
+stops_at E name f (Some c) after e left = record { before = []; name = name; behind = []; are = refl; left = left }
+
+stops_more : (E : Type 0) (xs ys : List (List ℕ)) (f : Faults) (known after : Option Contents) (e : E) → Removes {E = E} xs f known (Err e) after → Removes {E = E} (xs ++ ys) f known (Err e) after
+stops_more E xs ys f None after e left = left
+stops_more E xs ys f (Some c) after e stops = record {
+  before = stops.before;
+  name = stops.name;
+  behind = stops.behind ++ ys;
+  are = ap (λ (zs : List (List ℕ)). zs ++ ys) stops.are ∙ append_assoc stops.before (stops.name ∷ stops.behind) ys;
+  left = stops.left;
+}
+
+doomed_both : (limit : ℕ) (cs : List PlainCandidate) (xs ys : List Candidate) → doomed_of limit cs (map candidate_of (xs ++ ys)) ≡ doomed_of limit cs (map candidate_of xs) ++ doomed_of limit cs (map candidate_of ys)
+doomed_both limit cs xs ys =
+    ap (doomed_of limit cs) (map-append candidate_of xs ys)
+    ∙ ap (map (λ (x : PlainCandidate). x.name)) (filter-append (goes limit cs) (map candidate_of xs) (map candidate_of ys))
+    ∙ map-append (λ (x : PlainCandidate). x.name) (filter (goes limit cs) (map candidate_of xs)) (filter (goes limit cs) (map candidate_of ys))
+
+pub removes_stop : (E : Type 0) (limit : ℕ) (all : List Candidate) (i : ℕ) (d : Candidate) (f g : Faults) (known middle after : Option Contents) (e : E) → i < length all →
+    Removes {E = E} (doomed_of limit (map candidate_of all) (map candidate_of (take i all))) f known (Ok g) middle →
+    Removes {E = E} (doomed_of limit (map candidate_of all) (candidate_of (get_or all i d) ∷ [])) g middle (Err e) after →
+    Removes {E = E} (doomed_of limit (map candidate_of all) (map candidate_of all)) f known (Err e) after
+removes_stop E limit all i d f g known middle after e lt left next =
+    let cs = map candidate_of all in
+    let first = doomed_of limit cs (map candidate_of (take (i + 1) all)) in
+    let rest = doomed_of limit cs (map candidate_of (drop (i + 1) all)) in
+    let here : Removes {E = E} first f known (Err e) after =
+    subst (λ (names : List (List ℕ)). Removes {E = E} names f known (Err e) after) (sym (doomed_more limit cs all i d lt))
+    (removes_then E (doomed_of limit cs (map candidate_of (take i all))) (doomed_of limit cs (candidate_of (get_or all i d) ∷ [])) f g known middle after (Err e) left next) in
+    subst (λ (names : List (List ℕ)). Removes {E = E} names f known (Err e) after)
+    (sym (doomed_both limit cs (take (i + 1) all) (drop (i + 1) all)) ∙ ap (λ (xs : List Candidate). doomed_of limit cs (map candidate_of xs)) (take-append-drop (i + 1) all))
+    (stops_more E first rest f known after e here)

@@ -1,15 +1,17 @@
 -- The loop that writes until all bytes are taken.
-use Rattle.std.proofs.Common.{◌≡◌, ℕ, zero, suc, ◌+◌, ◌<◌, ◌≤◌, List, [], ◌∷◌, ◌++◌, length, take, drop, min, refl, ap, subst, ◌∙◌, sym, arith, Option, Some, None, Result, Ok, Err}
-use Rattle.std.proofs.lemmas.List.{take_all, length-drop, append_assoc}
+use Rattle.std.proofs.Common.{◌≡◌, ℕ, zero, suc, ◌+◌, ◌<◌, ◌≤◌, ◌-◌, List, [], ◌∷◌, ◌++◌, length, take, drop, min, inl, inr, refl, ap, subst, ◌∙◌, sym, arith, Option, Some, None, Result, Ok, Err}
+use Rattle.std.specs.Prelude.{◌⊎◌}
+use Rattle.std.proofs.Math.Nat.{eq-or-lt_of_le}
+use Rattle.std.proofs.lemmas.List.{take_all, length-take, length-drop, append_assoc}
 use Rattle.std.proofs.Math.Seq.{take-add}
-use Rattle.tracing_appender_rolling.specs.declared.fault.FileNumber.{FileNumber}
-use Rattle.tracing_appender_rolling.specs.declared.fault.FolderFault.{FolderFault}
-use Rattle.tracing_appender_rolling.specs.declared.fault.FolderFault.TheVariants.{Refused}
-use Rattle.tracing_appender_rolling.specs.declared.fault.FolderError.{FolderError}
-use Rattle.tracing_appender_rolling.specs.declared.fault.FolderError.TheVariants.{Fault, OutOfMemory}
-use Rattle.tracing_appender_rolling.specs.Contents.{Contents, Kept, Answer, Gives, IsSound, Outcome, Done, Refuses, Short, appended, written, write_plain, taken, refusal, if_refused, called}
-use Rattle.tracing_appender_rolling.specs.Writes.{Left, Wrote, WritesAll}
-use Rattle.tracing_appender_rolling.proofs.Content.{appended-nil}
+use Rattle.tracing_appender_folders.specs.declared.fault.FileNumber.{FileNumber}
+use Rattle.tracing_appender_folders.specs.declared.fault.FolderFault.{FolderFault}
+use Rattle.tracing_appender_folders.specs.declared.fault.FolderFault.TheVariants.{WriteZero}
+use Rattle.tracing_appender_folders.specs.declared.fault.FolderError.{FolderError}
+use Rattle.tracing_appender_folders.specs.declared.fault.FolderError.TheVariants.{Fault, OutOfMemory}
+use Rattle.tracing_appender_folders.specs.Contents.{Contents, Kept, Answer, Gives, IsSound, Outcome, Done, Refuses, Short, appended, written, write_plain, taken, refusal, if_refused, called}
+use Rattle.tracing_appender_rolling.specs.Writes.{Left, taken_by, Takes, FailsWith, WroteSome, Wrote, WritesAll}
+use Rattle.tracing_appender_folders.proofs.Content.{appended-nil}
 
 -- a second part at the same place
 appended_twice : (fs : List Kept) (i : ℕ) (a b : List ℕ) → appended (appended fs i a) i b ≡ appended fs i (a ++ b)
@@ -23,49 +25,73 @@ take_length (suc m) [] = refl
 take_length (suc m) (x ∷ xs) = ap (λ (r : List ℕ). x ∷ r) (take_length m xs)
 
 -- one write that took so many
-record Took (d e : Contents) (file : FileNumber) (part : List ℕ) (n : ℕ) : Type 0 where
+pub record Took (d e : Contents) (file : FileNumber) (part : List ℕ) (n : ℕ) : Type 0 where
   pub files : e.files ≡ appended d.files file.index (take n part)
   pub links : e.links ≡ d.links
-  pub sound : IsSound d → IsSound e
-  pub all : IsSound d → n ≡ length part
+  pub opens : e.open_files ≡ d.open_files
+  pub count : n ≡ taken (d.coming 0) (length part)
+  pub none : n ≡ 0 → 0 < length part → FailsWith (d.coming 0) (Fault WriteZero)
+  pub next : (k : ℕ) → e.coming k ≡ d.coming (suc k)
 
 -- one that failed
-record Failed (d e : Contents) : Type 0 where
+record Failed (d e : Contents) (f : FolderFault) : Type 0 where
   pub files : e.files ≡ d.files
   pub links : e.links ≡ d.links
-  pub sound : IsSound d → ⊥
+  pub opens : e.open_files ≡ d.open_files
+  pub fails : FailsWith (d.coming 0) (Fault f)
+  pub next : (k : ℕ) → e.coming k ≡ d.coming (suc k)
 
 abbrev answer_of : Contents → FileNumber → List ℕ → Outcome → Answer ℕ
-answer_of d file part o = if_refused o (refusal Refused d) (write_plain file (take (taken o (length part)) part) d)
+answer_of d file part o = if_refused o (λ f. refusal f d) (write_plain file (take (taken o (length part)) part) d)
 
 same_part : (d : Contents) (file : FileNumber) (part : List ℕ) (m n : ℕ) → length (take m part) ≡ n → appended d.files file.index (take m part) ≡ appended d.files file.index (take n part)
 same_part d file part m n e = ap (appended d.files file.index) (sym (take_length m part) ∙ ap (λ k. take k part) e)
 
-took : (d : Contents) (file : FileNumber) (part : List ℕ) (n : ℕ) (o : Outcome) → d.coming 0 ≡ o → (answer_of d file part o).0 ≡ Ok n → Took d (answer_of d file part o).1 file part n
-took d file part n Refuses is told = cc
+short_count : (most : ℕ) (part : List ℕ) → length (take (min most (length part)) part) ≡ min most (length part)
+short_count most part = length-take (min most (length part)) part ∙ omega arith
+
+no_most : (most n len : ℕ) → n ≡ min most len → n ≡ 0 → 0 < len → most ≡ 0
+no_most zero n len count none some = refl
+no_most (suc m) n len count none some = absurd (omega (arith, count, none, some))
+
+pub took : (d : Contents) (file : FileNumber) (part : List ℕ) (n : ℕ) (o : Outcome) → d.coming 0 ≡ o → (answer_of d file part o).0 ≡ Ok n → Took d (answer_of d file part o).1 file part n
+took d file part n (Refuses f) is told = cc
 took d file part n Done is told =
-    let count : length (take (length part) part) ≡ n = cc in
+    let size : length (take (length part) part) ≡ n = cc in
     let le : length part ≤ length part = omega arith in
-    record { files = same_part d file part (length part) n count; links = refl; sound = λ s k. s (suc k); all = λ s. sym count ∙ ap length (take_all (length part) part le) }
-took d file part n Short is told =
-    let count : length (take (min 1 (length part)) part) ≡ n = cc in
-    record { files = same_part d file part (min 1 (length part)) n count; links = refl; sound = λ s k. s (suc k); all = λ s. absurd (never (s 0)) }
-  where
-    never : d.coming 0 ≡ Done → ⊥
-    never done = let e : Short ≡ Done = sym is ∙ done in cc
+    let all : n ≡ length part = sym size ∙ ap length (take_all (length part) part le) in
+    record {
+      files = same_part d file part (length part) n size;
+      links = refl;
+      opens = refl;
+      count = all ∙ sym (ap (λ (o : Outcome). taken o (length part)) is);
+      none = λ zero_taken some. absurd (omega (arith, all, zero_taken, some));
+      next = λ k. refl;
+    }
+took d file part n (Short most) is told =
+    let size : length (take (min most (length part)) part) ≡ n = cc in
+    let count : n ≡ min most (length part) = sym size ∙ short_count most part in
+    record {
+      files = same_part d file part (min most (length part)) n size;
+      links = refl;
+      opens = refl;
+      count = count ∙ sym (ap (λ (o : Outcome). taken o (length part)) is);
+      none = λ zero_taken some. subst (λ (o : Outcome). FailsWith o (Fault WriteZero)) (sym is) (no_most most n (length part) count zero_taken some, refl);
+      next = λ k. refl;
+    }
 
-failed : (d : Contents) (file : FileNumber) (part : List ℕ) (f : FolderFault) (o : Outcome) → d.coming 0 ≡ o → (answer_of d file part o).0 ≡ Err (Fault f) → Failed d (answer_of d file part o).1
+failed : (d : Contents) (file : FileNumber) (part : List ℕ) (f : FolderFault) (o : Outcome) → d.coming 0 ≡ o → (answer_of d file part o).0 ≡ Err (Fault f) → Failed d (answer_of d file part o).1 f
 failed d file part f Done is told = cc
-failed d file part f Short is told = cc
-failed d file part f Refuses is told = record { files = refl; links = refl; sound = λ s. never (s 0) }
-  where
-    never : d.coming 0 ≡ Done → ⊥
-    never done = let e : Refuses ≡ Done = sym is ∙ done in cc
+failed d file part f (Short most) is told = cc
+failed d file part f (Refuses g) is told =
+    let same : f ≡ g = cc in
+    record { files = refl; links = refl; opens = refl; fails = subst (λ (o : Outcome). FailsWith o (Fault f)) (sym is) same; next = λ k. refl }
 
--- what stands after so many bytes; a folder that refuses nothing takes all at the first write
+-- what stands after so many bytes
 pub record Part (c : Contents) (file : FileNumber) (bytes : List ℕ) (from : ℕ) (now : Option Contents) : Type 0 where
-  pub left : Left c (appended c.files file.index (take from bytes)) now
-  pub whole : IsSound c → 0 < from → from ≡ length bytes
+  pub writes : ℕ
+  pub left : Left c (appended c.files file.index (take from bytes)) writes now
+  pub takes : Takes c writes (length bytes) from
 
 pub record Going (start : Option Contents) (file : FileNumber) (bytes : List ℕ) (from : ℕ) (now : Option Contents) : Type 0 where
   pub unknown : start ≡ None → now ≡ None
@@ -75,8 +101,9 @@ pub begins : (start : Option Contents) (file : FileNumber) (bytes : List ℕ) �
 begins start file bytes = record {
   unknown = λ e. e;
   known = λ c e. record {
-    left = record { contents = c; is = e; files_are = sym (appended-nil c.files file.index); links_stay = refl; still_sound = λ s. s };
-    whole = λ s h. absurd (omega arith);
+    writes = 0;
+    left = record { contents = c; is = e; files_are = sym (appended-nil c.files file.index); links_stay = refl; open_stay = refl; comes = λ k. ap c.coming (let same : k ≡ 0 + k = omega arith in same) };
+    takes = record { some = λ i lt. absurd (omega (arith, lt)); sum = refl };
   };
 }
 
@@ -88,16 +115,35 @@ unknown_gives : (file : FileNumber) (part : List ℕ) (r : Result ℕ FolderErro
 unknown_gives file part (Ok n) before after e gives = subst (λ (o : Option Contents). Gives (λ x. written x file part) o (Ok n) after) e gives
 unknown_gives file part (Err f) before after e gives = subst (λ (o : Option Contents). Gives (λ x. written x file part) o (Err f) after) e gives
 
--- a write within the bytes is the first
-zero_from : (from n : ℕ) → (0 < from → from ≡ n) → from < n → from ≡ 0
-zero_from zero n whole more = refl
-zero_from (suc k) n whole more = let some : 0 < suc k = omega arith in let end = whole some in absurd (omega (arith, end, more))
+-- one write that takes some more
+takes_more : (c : Contents) (writes len from n : ℕ) → Takes c writes len from → n ≡ taken (c.coming writes) (len - from) → 0 < n → Takes c (suc writes) len (from + n)
+takes_more c writes len from n takes count some = record {
+  some = λ i lt. by_case i (eq-or-lt_of_le (let le : i ≤ writes = omega (arith, lt) in le));
+  sum = ap (λ k. k + taken (c.coming writes) (len - k)) takes.sum ∙ ap (λ k. from + k) (sym count);
+}
+  where
+    last : 0 < taken (c.coming writes) (len - taken_by c writes len)
+    last = subst (λ k. 0 < taken (c.coming writes) (len - k)) (sym takes.sum) (subst (λ k. 0 < k) count some)
+
+    by_case : (i : ℕ) → (i ≡ writes) ⊎ (i < writes) → 0 < taken (c.coming i) (len - taken_by c i len)
+    by_case i (inl same) = subst (λ j. 0 < taken (c.coming j) (len - taken_by c j len)) (sym same) last
+    by_case i (inr less) = takes.some i less
 
 module _ (start : Option Contents) (file : FileNumber) (bytes : List ℕ) (from : ℕ) (before after : Option Contents) (going : Going start file bytes from before) (more : from < length bytes) (part : List ℕ) (is : part ≡ drop from bytes) where
+  rest : length part ≡ length bytes - from
+  rest = ap length is ∙ length-drop from bytes
+
   at_known : (c : Contents) (e : start ≡ Some c) (r : Result ℕ FolderError) → Gives (λ x. written x file part) before r after → Gives (λ x. written x file part) (Some (going.known c e).left.contents) r after
   at_known c e r gives = subst (λ (o : Option Contents). Gives (λ x. written x file part) o r after) (going.known c e).left.is gives
 
-  left_after : (c : Contents) (e : start ≡ Some c) (n : ℕ) → (d : Contents) → after ≡ Some d → Took (going.known c e).left.contents d file part n → Left c (appended c.files file.index (take (from + n) bytes)) after
+  -- the next call
+  first_here : (c : Contents) (e : start ≡ Some c) → (going.known c e).left.contents.coming 0 ≡ c.coming (going.known c e).writes
+  first_here c e = (going.known c e).left.comes 0 ∙ ap c.coming (let same : (going.known c e).writes + 0 ≡ (going.known c e).writes = omega arith in same)
+
+  later_here : (c : Contents) (e : start ≡ Some c) (k : ℕ) → (going.known c e).left.contents.coming (suc k) ≡ c.coming (suc (going.known c e).writes + k)
+  later_here c e k = (going.known c e).left.comes (suc k) ∙ ap c.coming (let same : (going.known c e).writes + suc k ≡ suc (going.known c e).writes + k = omega arith in same)
+
+  left_after : (c : Contents) (e : start ≡ Some c) (n : ℕ) → (d : Contents) → after ≡ Some d → Took (going.known c e).left.contents d file part n → Left c (appended c.files file.index (take (from + n) bytes)) (suc (going.known c e).writes) after
   left_after c e n d gave t =
       let l = (going.known c e).left in
       let both : take from bytes ++ take n part ≡ take (from + n) bytes = ap (λ (p : List ℕ). take from bytes ++ take n p) is ∙ sym (take-add from n bytes) in
@@ -106,49 +152,118 @@ module _ (start : Option Contents) (file : FileNumber) (bytes : List ℕ) (from 
         is = gave;
         files_are = t.files ∙ ap (λ (fs : List Kept). appended fs file.index (take n part)) l.files_are ∙ appended_twice c.files file.index (take from bytes) (take n part) ∙ ap (appended c.files file.index) both;
         links_stay = t.links ∙ l.links_stay;
-        still_sound = λ s. t.sound (l.still_sound s);
+        open_stay = t.opens ∙ l.open_stay;
+        comes = λ k. t.next k ∙ later_here c e k;
       }
 
   took_here : (c : Contents) (e : start ≡ Some c) (n : ℕ) (gives : Gives (λ x. written x file part) before (Ok n) after) → Took (going.known c e).left.contents (written (going.known c e).left.contents file part).1 file part n
   took_here c e n gives = let d = (going.known c e).left.contents in took d file part n (d.coming 0) refl (at_known c e (Ok n) gives).0
 
-  part_after : (c : Contents) (e : start ≡ Some c) (n : ℕ) → Gives (λ x. written x file part) before (Ok n) after → Part c file bytes (from + n) after
-  part_after c e n gives =
-      let l = (going.known c e).left in
+  count_here : (c : Contents) (e : start ≡ Some c) (n : ℕ) → n ≡ taken ((going.known c e).left.contents.coming 0) (length part) → n ≡ taken (c.coming (going.known c e).writes) (length bytes - from)
+  count_here c e n count = count ∙ ap (λ (o : Outcome). taken o (length part)) (first_here c e) ∙ ap (taken (c.coming (going.known c e).writes)) rest
+
+  part_after : (c : Contents) (e : start ≡ Some c) (n : ℕ) → 0 < n → Gives (λ x. written x file part) before (Ok n) after → Part c file bytes (from + n) after
+  part_after c e n some gives =
+      let p = going.known c e in
       let t = took_here c e n gives in
       record {
-        left = left_after c e n (written l.contents file part).1 (at_known c e (Ok n) gives).1 t;
-        whole = λ s h. let all = t.all (l.still_sound s) in omega (arith, all, ap length is, length-drop from bytes, more);
+        writes = suc p.writes;
+        left = left_after c e n (written p.left.contents file part).1 (at_known c e (Ok n) gives).1 t;
+        takes = takes_more c p.writes (length bytes) from n p.takes (count_here c e n t.count) some;
       }
 
-  pub goes : (n : ℕ) → Gives (λ x. written x file part) before (Ok n) after → Going start file bytes (from + n) after
-  goes n gives = record {
+  pub goes : (n : ℕ) → 0 < n → Gives (λ x. written x file part) before (Ok n) after → Going start file bytes (from + n) after
+  goes n some gives = record {
     unknown = λ e. unknown_gives file part (Ok n) before after (going.unknown e) gives;
-    known = λ c e. part_after c e n gives;
+    known = λ c e. part_after c e n some gives;
   }
 
-  -- a write that took nothing is of no sound folder
-  pub ends_zero : (f : FolderError) → Gives (λ x. written x file part) before (Ok 0) after → WritesAll start file bytes (Err f) after
-  ends_zero f gives =
-      by_start start file bytes (Err f) after (λ e. unknown_gives file part (Ok 0) before after (going.unknown e) gives)
-      (λ c e. (from + 0, (part_after c e 0 gives).left, λ s. absurd (let all = (took_here c e 0 gives).all ((going.known c e).left.still_sound s) in omega (arith, all, ap length is, length-drop from bytes, more))))
+  -- a write that took none
+  zero_known : (c : Contents) (e : start ≡ Some c) → Gives (λ x. written x file part) before (Ok 0) after → WroteSome c file bytes (Fault WriteZero) after
+  zero_known c e gives =
+      let p = going.known c e in
+      let t = took_here c e 0 gives in
+      let nothing : from + 0 ≡ from = omega arith in
+      let some : 0 < length part = omega (arith, rest, more) in
+      record {
+        writes = p.writes;
+        count = from;
+        left = subst (λ k. Left c (appended c.files file.index (take k bytes)) (suc p.writes) after) nothing (left_after c e 0 (written p.left.contents file part).1 (at_known c e (Ok 0) gives).1 t);
+        takes = p.takes;
+        less = more;
+        fails = subst (λ (o : Outcome). FailsWith o (Fault WriteZero)) (first_here c e) (t.none refl some);
+      }
 
-  err_known : (c : Contents) (e : start ≡ Some c) (f : FolderError) → Gives (λ x. written x file part) (Some (going.known c e).left.contents) (Err f) after → Wrote c file bytes (Err f) after
+  pub ends_zero : Gives (λ x. written x file part) before (Ok 0) after → WritesAll start file bytes (Err (Fault WriteZero)) after
+  ends_zero gives =
+      by_start start file bytes (Err (Fault WriteZero)) after (λ e. unknown_gives file part (Ok 0) before after (going.unknown e) gives) (λ c e. zero_known c e gives)
+
+  err_known : (c : Contents) (e : start ≡ Some c) (f : FolderError) → Gives (λ x. written x file part) (Some (going.known c e).left.contents) (Err f) after → WroteSome c file bytes f after
   err_known c e OutOfMemory gave =
-      let l = (going.known c e).left in
-      (from, record { contents = called l.contents; is = gave; files_are = l.files_are; links_stay = l.links_stay; still_sound = λ s k. l.still_sound s (suc k) }, λ s. (refl, zero_from from (length bytes) ((going.known c e).whole s) more))
+      let p = going.known c e in
+      record {
+        writes = p.writes;
+        count = from;
+        left = record { contents = called p.left.contents; is = gave; files_are = p.left.files_are; links_stay = p.left.links_stay; open_stay = p.left.open_stay; comes = later_here c e };
+        takes = p.takes;
+        less = more;
+        fails = tt;
+      }
   err_known c e (Fault f) gave =
-      let l = (going.known c e).left in
-      let d = l.contents in
+      let p = going.known c e in
+      let d = p.left.contents in
       let g = failed d file part f (d.coming 0) refl gave.0 in
-      (from, record { contents = (written d file part).1; is = gave.1; files_are = g.files ∙ l.files_are; links_stay = g.links ∙ l.links_stay; still_sound = λ s. absurd (g.sound (l.still_sound s)) }, λ s. absurd (g.sound (l.still_sound s)))
+      record {
+        writes = p.writes;
+        count = from;
+        left = record {
+          contents = (written d file part).1;
+          is = gave.1;
+          files_are = g.files ∙ p.left.files_are;
+          links_stay = g.links ∙ p.left.links_stay;
+          open_stay = g.opens ∙ p.left.open_stay;
+          comes = λ k. g.next k ∙ later_here c e k;
+        };
+        takes = p.takes;
+        less = more;
+        fails = subst (λ (o : Outcome). FailsWith o (Fault f)) (first_here c e) g.fails;
+      }
 
   pub ends_err : (f : FolderError) → Gives (λ x. written x file part) before (Err f) after → WritesAll start file bytes (Err f) after
   ends_err f gives =
       by_start start file bytes (Err f) after (λ e. unknown_gives file part (Err f) before after (going.unknown e) gives)
       (λ c e. err_known c e f (at_known c e (Err f) gives))
 
-pub ends : (start : Option Contents) (file : FileNumber) (bytes : List ℕ) (from : ℕ) (now : Option Contents) (done : Unit {0}) → Going start file bytes from now → length bytes ≤ from → WritesAll start file bytes (Ok done) now
-ends start file bytes from now done going le =
+pub ends : (start : Option Contents) (file : FileNumber) (bytes : List ℕ) (from : ℕ) (now : Option Contents) (done : Unit {0}) → Going start file bytes from now → from ≡ length bytes → WritesAll start file bytes (Ok done) now
+ends start file bytes from now done going all =
     by_start start file bytes (Ok done) now going.unknown
-    (λ c e. subst (λ (b : List ℕ). Left c (appended c.files file.index b) now) (take_all from bytes le) (going.known c e).left)
+    (λ c e.
+    let p = going.known c e in
+    let le : length bytes ≤ from = omega (arith, all) in
+    record {
+      writes = p.writes;
+      left = subst (λ (b : List ℕ). Left c (appended c.files file.index b) p.writes now) (take_all from bytes le) p.left;
+      takes = subst (Takes c p.writes (length bytes)) all p.takes;
+    })
+
+-- a folder that refuses nothing goes on so
+pub still_sound : {c : Contents} {files : List Kept} {calls : ℕ} {after : Option Contents} (l : Left c files calls after) → IsSound c → IsSound l.contents
+still_sound {calls = calls} l sound n = l.comes n ∙ sound (calls + n)
+
+pub no_fault : (d : Contents) (file : FileNumber) (part : List ℕ) (f : FolderFault) → IsSound d → (written d file part).0 ≡ Err (Fault f) → ⊥
+no_fault d file part f sound told = subst (λ (o : Outcome). FailsWith o (Fault f)) (sound 0) (failed d file part f (d.coming 0) refl told).fails
+
+-- it fails for want of memory alone, at the first write
+pub sound_fails : (c : Contents) (file : FileNumber) (bytes : List ℕ) (e : FolderError) (after : Option Contents) → IsSound c → (w : WroteSome c file bytes e after) → (e ≡ OutOfMemory) × (w.count ≡ 0)
+sound_fails c file bytes e after sound w =
+    (starved e (subst (λ (o : Outcome). FailsWith o e) (sound w.writes) w.fails), none w.writes w.takes.sum)
+  where
+    starved : (e : FolderError) → FailsWith Done e → e ≡ OutOfMemory
+    starved OutOfMemory fails = refl
+    starved (Fault fault) fails = absurd fails
+
+    none : (writes : ℕ) → taken_by c writes (length bytes) ≡ w.count → w.count ≡ 0
+    none zero sum = sym sum
+    none (suc n) sum =
+        let whole : taken_by c n (length bytes) + (length bytes - taken_by c n (length bytes)) ≡ w.count = sym (ap (λ (o : Outcome). taken_by c n (length bytes) + taken o (length bytes - taken_by c n (length bytes))) (sound n)) ∙ sum in
+        absurd (omega (arith, whole, w.less))

@@ -1,21 +1,23 @@
 -- What a rolling file keeps of its sink.
-use Rattle.std.specs.Prelude.{◌≡◌, ℕ, ℤ, List, [], false, Option, Some, None, Ok, Err}
-use Rattle.tracing_appender_rolling.specs.declared.moment.Moment.{Moment}
-use Rattle.tracing_appender_rolling.specs.declared.fault.FileNumber.{FileNumber}
-use Rattle.tracing_appender_rolling.specs.declared.fault.FolderError.{FolderError}
-use Rattle.tracing_appender_rolling.specs.declared.fault.FolderError.TheVariants.{Fault, OutOfMemory}
-use Rattle.tracing_appender_rolling.specs.declared.fault.FolderFault.{FolderFault}
-use Rattle.tracing_appender_rolling.specs.declared.fault.InitContext.{InitContext}
+use Rattle.std.specs.Prelude.{◌≡◌, ℕ, ℤ, List, [], true, false, Option, Some, None, Result, Ok, Err}
+use Rattle.tracing_appender_folders.specs.declared.moment.Moment.{Moment}
+use Rattle.tracing_appender_folders.specs.declared.fault.FileNumber.{FileNumber}
+use Rattle.tracing_appender_folders.specs.declared.fault.FolderError.{FolderError}
+use Rattle.tracing_appender_folders.specs.declared.fault.FolderError.TheVariants.{Fault, OutOfMemory}
+use Rattle.tracing_appender_folders.specs.declared.fault.FolderFault.{FolderFault}
+use Rattle.tracing_appender_rolling.specs.declared.init.InitContext.{InitContext}
 use Rattle.tracing_appender_rolling.specs.declared.faults.Faults.{Faults}
+use Rattle.tracing_appender_rolling.specs.declared.init.InitFailure.{InitFailure}
+use Rattle.tracing_appender_rolling.specs.declared.appender.Opened.{Opened}
 use Rattle.tracing_appender_rolling.specs.declared.appender.RollingFileAppender.{RollingFileAppender}
-use Rattle.tracing_appender_rolling.specs.Moments.{end_of, is_due}
+use Rattle.tracing_appender_folders.specs.Moments.{is_moment, period_at, end_of, is_due}
 use Rattle.tracing_appender_rolling.specs.Names.{FileNames, file_name}
 use Rattle.tracing_appender_rolling.specs.Builders.{builder_names}
-use Rattle.tracing_appender_rolling.specs.Contents.{Contents, IsSound, file_named, link_named, bytes_at}
+use Rattle.tracing_appender_folders.specs.Contents.{Contents, IsSound, file_named, link_named, bytes_at}
 use Rattle.tracing_appender_rolling.specs.Faults.{no_faults}
 use Rattle.tracing_appender_rolling.specs.Pruning.{Pruned}
 use Rattle.tracing_appender_rolling.specs.Tries.{failure}
-use Rattle.tracing_appender_rolling.specs.Looks.{Held, IsHeld, LookedTo, end_at, try_at}
+use Rattle.tracing_appender_rolling.specs.Looks.{Held, IsHeld, LookedTo, LookMissed, Starved, end_at, try_at}
 use Rattle.tracing_appender_rolling.specs.Sinks.{PlainSink, running_moment, period_in, period_name, file_text}
 
 -- the period of the latest moment seen
@@ -34,7 +36,7 @@ pub record Keeps (c : Contents) (names : FileNames) (boundary : Option ℤ) (cur
   pub all : KeepsAll s.names
   pub boundary_same : boundary ≡ end_of s.names.kind (running_period s)
   pub sound : IsSound c
-  pub unlinked : (period : ℤ) → link_named (period_name s period) c.links ≡ false
+  pub unlinked : (m : Moment) → is_moment m ≡ true → link_named (period_name s (period_in s m)) c.links ≡ false
   pub current_same : file_named (period_name s (running_period s)) c.files ≡ Some current.index
   pub files : (name : List ℕ) → bytes_at c.files name ≡ file_text s name
 
@@ -54,6 +56,10 @@ Holds contents a h = IsHeld (contents a.folder) a.boundary a.current a.faults h
 abbrev pub LooksAt : {D : Type 0} → (D → Option Contents) → FileNames → Moment → Held → RollingFileAppender D → Type 0
 LooksAt contents names m h a = LookedTo (is_due h.boundary m.seconds) names m h a.boundary a.current a.faults (contents a.folder)
 
+-- a look at that moment found no memory
+abbrev pub MissesAt : {D : Type 0} → (D → Option Contents) → FileNames → Moment → Held → RollingFileAppender D → Type 0
+MissesAt contents names m h a = LookMissed names m h a.boundary a.current a.faults (contents a.folder)
+
 -- the appender stands where retention and the try at that moment left the folder
 pub record IsOpenedAt (names : FileNames) (m : Moment) (c : Contents) (current : FileNumber) (boundary : Option ℤ) (faults : Faults) (after : Option Contents) : Type 0 where
   pub pruned : Contents
@@ -65,7 +71,7 @@ pub record IsOpenedAt (names : FileNames) (m : Moment) (c : Contents) (current :
 abbrev pub IsOpened : {D : Type 0} → (D → Option Contents) → FileNames → Moment → Contents → RollingFileAppender D → Type 0
 IsOpened contents names m c a = IsOpenedAt names m c a.current a.boundary a.faults (contents a.folder)
 
--- the try at that moment failed so, and left the folder so; of want of memory nothing more is said
+-- the try at that moment failed so, and left the folder so
 pub record FailedTry (names : FileNames) (m : Moment) (c : Contents) (context : InitContext) (fault : FolderFault) (after : Option Contents) : Type 0 where
   pub counted : Faults
   pub pruned : Contents
@@ -73,15 +79,28 @@ pub record FailedTry (names : FileNames) (m : Moment) (c : Contents) (context : 
   pub answered : (try_at names m pruned).0 ≡ Err (failure context (Fault fault))
   pub left : after ≡ Some (try_at names m pruned).1
 
+-- or there was no memory
 abbrev pub FailedAt : FileNames → Moment → Contents → InitContext → FolderError → Option Contents → Type 0
-FailedAt names m c context OutOfMemory after = Unit {0}
+FailedAt names m c context OutOfMemory after = Starved names m no_faults c after
 FailedAt names m c context (Fault fault) after = FailedTry names m c context fault after
+
+abbrev pub BeginsKnown : FileNames → Moment → Contents → Result Opened InitFailure → Option Contents → Type 0
+BeginsKnown names m c (Ok o) after = IsOpenedAt names m c o.file (end_at names m) o.faults after
+BeginsKnown names m c (Err f) after = FailedAt names m c f.context f.error after
+
+-- contents that aren't known stay so
+abbrev pub Begins : FileNames → Moment → Option Contents → Result Opened InitFailure → Option Contents → Type 0
+Begins names m None result after = after ≡ None
+Begins names m (Some c) result after = BeginsKnown names m c result after
 
 -- a folder that a sink may be opened over: it refuses nothing, and no link stands under a name of a log file; the sink keeps all files; nothing is asked of a
 -- folder whose contents aren't known
 abbrev pub MayOpen : Option Contents → FileNames → Type 0
 MayOpen None names = Unit {0}
-MayOpen (Some c) names = IsSound c × ((opened period : ℤ) → link_named (file_name names opened period) c.links ≡ false) × KeepsAll names
+MayOpen (Some c) names =
+    IsSound c
+    × ((opened m : Moment) → is_moment opened ≡ true → is_moment m ≡ true → link_named (file_name names opened.seconds (period_at names.kind m)) c.links ≡ false)
+    × KeepsAll names
 
 -- the folder comes back: the same bytes under each name, and a sink may be opened over it again
 abbrev pub HandsBack : Contents → FileNames → Option Contents → Type 0

@@ -1,9 +1,9 @@
 -- How faults are counted; a count stops at the greatest number.
 use Rattle.std.specs.Prelude.{◌+◌, ◌-◌, ◌^◌, min, Some, None, Result, Ok, Err}
 use Rattle.tracing_appender_rolling.specs.declared.faults.Faults.{Faults}
-use Rattle.tracing_appender_rolling.specs.declared.fault.FolderFault.{FolderFault}
-use Rattle.tracing_appender_rolling.specs.declared.fault.FolderError.{FolderError}
-use Rattle.tracing_appender_rolling.specs.declared.fault.FolderError.TheVariants.{Fault, OutOfMemory}
+use Rattle.tracing_appender_folders.specs.declared.fault.FolderFault.{FolderFault}
+use Rattle.tracing_appender_folders.specs.declared.fault.FolderError.{FolderError}
+use Rattle.tracing_appender_folders.specs.declared.fault.FolderError.TheVariants.{Fault, OutOfMemory}
 
 abbrev pub no_faults : Faults
 no_faults = record { switches = 0; retentions = 0; writes = 0; last = None }

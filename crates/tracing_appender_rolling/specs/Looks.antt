@@ -1,17 +1,16 @@
 -- A look at a moment, whatever the folder refuses.
-use Rattle.std.specs.Prelude.{◌≡◌, ℕ, ℤ, List, Bool, true, false, Option, Some, None, Result, Ok, Err}
-use Rattle.tracing_appender_rolling.specs.declared.moment.Moment.{Moment}
+use Rattle.std.specs.Prelude.{◌≡◌, ◌⊎◌, ℤ, List, ℕ, Bool, true, false, Option, Some, None, Result, Ok, Err}
+use Rattle.tracing_appender_folders.specs.declared.moment.Moment.{Moment}
 use Rattle.tracing_appender_rolling.specs.declared.faults.Faults.{Faults}
-use Rattle.tracing_appender_rolling.specs.declared.fault.FileNumber.{FileNumber}
-use Rattle.tracing_appender_rolling.specs.declared.fault.FolderError.{FolderError}
-use Rattle.tracing_appender_rolling.specs.declared.fault.FolderError.TheVariants.{Fault, OutOfMemory}
-use Rattle.tracing_appender_rolling.specs.Moments.{period_at, end_of}
+use Rattle.tracing_appender_folders.specs.declared.fault.FileNumber.{FileNumber}
+use Rattle.tracing_appender_folders.specs.declared.fault.FolderError.{FolderError}
+use Rattle.tracing_appender_folders.specs.declared.fault.FolderError.TheVariants.{Fault, OutOfMemory}
+use Rattle.tracing_appender_folders.specs.Moments.{period_at, end_of, is_due}
 use Rattle.tracing_appender_rolling.specs.Names.{FileNames, file_name}
-use Rattle.tracing_appender_rolling.specs.Contents.{Contents, called}
+use Rattle.tracing_appender_folders.specs.Contents.{Contents, closed}
 use Rattle.tracing_appender_rolling.specs.Faults.{after_switch}
-use Rattle.tracing_appender_rolling.specs.Pruning.{Pruned}
-use Rattle.tracing_appender_rolling.specs.Tries.{Tried, opened_linked}
-use Rattle.tracing_appender_rolling.specs.Writes.{Left}
+use Rattle.tracing_appender_rolling.specs.Pruning.{Pruned, Unpruned}
+use Rattle.tracing_appender_rolling.specs.Tries.{Tried, MissedFile, opened_linked}
 
 -- an appender over a folder whose contents are known
 pub record Held : Type 0 where
@@ -46,7 +45,7 @@ failed_by h c OutOfMemory = record h { contents = c }
 
 -- a try that succeeded closes the old file, whatever that answers
 abbrev pub tried : Held → Tried → Held
-tried h (Ok file, c) = record h { current = file; contents = called c }
+tried h (Ok file, c) = record h { current = file; contents = (closed c h.current).1 }
 tried h (Err f, c) = failed_by h c f.error
 
 -- Retention leaves a count of faults and contents; then the moment's period is tried, and is the last one that was.
@@ -61,19 +60,32 @@ abbrev pub LookedTo : Bool → FileNames → Moment → Held → Option ℤ → 
 LookedTo true names m h boundary current faults after = SwitchedTo names m h boundary current faults after
 LookedTo false names m h boundary current faults after = IsHeld after boundary current faults h
 
--- what is left where some call found no memory: without a limit and a link files and links are as before
-abbrev pub Starved : Option ℕ → Option (List ℕ) → Contents → Option Contents → Type 0
-Starved None None c after = Left c c.files after
-Starved (Some limit) latest c after = (d : Contents) × (after ≡ Some d)
-Starved None (Some link) c after = (d : Contents) × (after ≡ Some d)
+-- retention came to its end, and then the try found no memory
+pub record StarvedTry (names : FileNames) (m : Moment) (f : Faults) (c : Contents) (after : Option Contents) : Type 0 where
+  pub counted : Faults
+  pub pruned : Contents
+  pub retention : Pruned names f c counted pruned
+  pub missed : MissedFile names.latest (name_at names m) pruned after
+
+-- what is left where there was no memory: the name found none, and the folder wasn't asked; or retention, or the try
+abbrev pub Starved : FileNames → Moment → Faults → Contents → Option Contents → Type 0
+Starved names m f c after = (after ≡ Some c) ⊎ (Unpruned names f c after ⊎ StarvedTry names m f c after)
 
 -- the switch left the one or the other
 abbrev pub SwitchedKnown : {E : Type 0} → FileNames → Moment → Held → Result (Unit {0}) E → Option ℤ → FileNumber → Faults → Option Contents → Type 0
 SwitchedKnown names m h (Ok done) boundary current faults after = SwitchedTo names m h boundary current faults after
-SwitchedKnown names m h (Err e) boundary current faults after = Starved names.limit names.latest h.contents after
+SwitchedKnown names m h (Err e) boundary current faults after = Starved names m h.faults h.contents after
 
 -- contents that aren't known stay so
 abbrev pub Switches : {E : Type 0} → FileNames → Moment → Option ℤ → FileNumber → Faults → Option Contents → Result (Unit {0}) E → Option ℤ → FileNumber → Faults → Option Contents → Type 0
 Switches names m boundary current faults None result b f l after = after ≡ None
 Switches names m boundary current faults (Some c) result b f l after =
     SwitchedKnown names m (record { boundary = boundary; current = current; faults = faults; contents = c }) result b f l after
+
+-- a look that found no memory: it was due, and boundary, file and counts are as they were
+pub record LookMissed (names : FileNames) (m : Moment) (h : Held) (boundary : Option ℤ) (current : FileNumber) (faults : Faults) (after : Option Contents) : Type 0 where
+  pub due : is_due h.boundary m.seconds ≡ true
+  pub until : boundary ≡ h.boundary
+  pub open_file : current ≡ h.current
+  pub counts : faults ≡ h.faults
+  pub left : Starved names m h.faults h.contents after

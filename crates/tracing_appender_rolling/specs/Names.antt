@@ -7,8 +7,8 @@ use Rattle.tracing_appender_dates.specs.declared.period.PeriodKind.TheVariants.{
 use Rattle.tracing_appender_dates.specs.Periods.{first_second}
 use Rattle.tracing_appender_dates.specs.Stamps.{stamp, or_itself}
 use Rattle.tracing_appender_dates.specs.Names.{around, lasting_name}
-use Rattle.tracing_appender_rolling.specs.declared.moment.Moment.{Moment}
-use Rattle.tracing_appender_rolling.specs.Moments.{is_moment, period_at}
+use Rattle.tracing_appender_folders.specs.declared.moment.Moment.{Moment}
+use Rattle.tracing_appender_folders.specs.Moments.{is_moment, period_at}
 
 -- how long a file's period is, what stands before and after the date in its name, how many files are kept, and the name of a link to the latest one
 pub record FileNames : Type 0 where

@@ -1,10 +1,10 @@
 -- What retention removes, whatever the folder refuses.
-use Rattle.std.specs.Prelude.{◌≡◌, ℕ, List, [], ◌∷◌, map, Option, Some, None, Result, Ok, Err}
+use Rattle.std.specs.Prelude.{◌≡◌, ◌⊎◌, ℕ, List, [], ◌∷◌, ◌++◌, map, Option, Some, None, Result, Ok, Err}
 use Rattle.std.specs.List.{filter}
 use Rattle.tracing_appender_rolling.specs.declared.faults.Faults.{Faults}
-use Rattle.tracing_appender_rolling.specs.declared.fault.FolderError.TheVariants.{Fault, OutOfMemory}
+use Rattle.tracing_appender_folders.specs.declared.fault.FolderError.TheVariants.{Fault, OutOfMemory}
 use Rattle.tracing_appender_rolling.specs.Names.{FileNames}
-use Rattle.tracing_appender_rolling.specs.Contents.{Contents, Answer, Listed, removed, names_listed}
+use Rattle.tracing_appender_folders.specs.Contents.{Contents, Answer, Listed, called, removed, names_listed}
 use Rattle.tracing_appender_rolling.specs.Faults.{after_retention}
 use Rattle.tracing_appender_rolling.specs.Retention.{PlainCandidate, IsCandidates, goes}
 
@@ -31,11 +31,19 @@ removed_all (name ∷ names) at = removed_all names (after_removal at.0 (removed
 abbrev pub LeftAt : Faults × Contents → Faults → Option Contents → Type 0
 LeftAt at f after = (f ≡ at.0) × (after ≡ Some at.1)
 
+-- the names before one were removed in turn, and the removal of that one found no memory
+pub record Stops (names : List (List ℕ)) (f : Faults) (c : Contents) (after : Option Contents) : Type 0 where
+  pub before : List (List ℕ)
+  pub name : List ℕ
+  pub behind : List (List ℕ)
+  pub are : names ≡ before ++ name ∷ behind
+  pub left : after ≡ Some (called (removed_all before (f, c)).1)
+
 -- the names were removed in turn, or some removal found no memory. Contents that aren't known stay so.
 abbrev pub Removes : {E : Type 0} → List (List ℕ) → Faults → Option Contents → Result Faults E → Option Contents → Type 0
 Removes names f None result after = after ≡ None
 Removes names f (Some c) (Ok left) after = LeftAt (removed_all names (f, c)) left after
-Removes names f (Some c) (Err e) after = (d : Contents) × (after ≡ Some d)
+Removes names f (Some c) (Err e) after = Stops names f c after
 
 -- a listing that was refused is counted, and nothing goes; after one that wasn't go the candidates that retention says
 abbrev pub PrunedAfter : FileNames → ℕ → Faults → Answer (List Listed) → Faults → Contents → Type 0
@@ -52,12 +60,19 @@ PrunedBy (Some limit) names f c left d = PrunedAfter names limit f (names_listed
 abbrev pub Pruned : FileNames → Faults → Contents → Faults → Contents → Type 0
 Pruned names f c left d = PrunedBy names.limit names f c left d
 
--- what is left where some call found no memory: without a limit nothing was asked
-abbrev pub Unpruned : Option ℕ → Contents → Option Contents → Type 0
-Unpruned None c after = after ≡ Some c
-Unpruned (Some limit) c after = (d : Contents) × (after ≡ Some d)
+-- what is left where there was no memory: without a limit nothing wants any; with one the listing found none, or what it is read with, or one of the removals
+abbrev pub UnprunedAfter : FileNames → ℕ → Faults → Answer (List Listed) → Option Contents → Type 0
+UnprunedAfter names limit f (Ok listing, c) after = (cs : List PlainCandidate) × IsCandidates names listing cs × Stops (doomed limit cs) f c after
+UnprunedAfter names limit f (Err e, c) after = ⊥
+
+abbrev pub UnprunedBy : Option ℕ → FileNames → Faults → Contents → Option Contents → Type 0
+UnprunedBy None names f c after = ⊥
+UnprunedBy (Some limit) names f c after = (after ≡ Some (called c)) ⊎ UnprunedAfter names limit f (names_listed c) after
+
+abbrev pub Unpruned : FileNames → Faults → Contents → Option Contents → Type 0
+Unpruned names f c after = UnprunedBy names.limit names f c after
 
 abbrev pub Prunes : {E : Type 0} → FileNames → Faults → Option Contents → Result Faults E → Option Contents → Type 0
 Prunes names f None result after = after ≡ None
 Prunes names f (Some c) (Ok left) after = (d : Contents) × Pruned names f c left d × (after ≡ Some d)
-Prunes names f (Some c) (Err e) after = Unpruned names.limit c after
+Prunes names f (Some c) (Err e) after = Unpruned names f c after

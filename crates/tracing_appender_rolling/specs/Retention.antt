@@ -6,11 +6,11 @@ use Rattle.std.specs.Ordering.{nat_cmp, is_lt}
 use Rattle.tracing_appender_dates.specs.Days.{is_date, day_at}
 use Rattle.tracing_appender_dates.specs.Stamps.{stamp, stamped}
 use Rattle.tracing_appender_dates.specs.Names.{around}
-use Rattle.tracing_appender_rolling.specs.declared.moment.Moment.{Moment}
+use Rattle.tracing_appender_folders.specs.declared.moment.Moment.{Moment}
 use Rattle.tracing_appender_rolling.specs.declared.retention.Candidate.{Candidate}
-use Rattle.tracing_appender_rolling.specs.Moments.{is_earlier}
+use Rattle.tracing_appender_folders.specs.Moments.{is_earlier}
 use Rattle.tracing_appender_rolling.specs.Names.{FileNames}
-use Rattle.tracing_appender_rolling.specs.Contents.{Listed}
+use Rattle.tracing_appender_folders.specs.Contents.{Listed}
 
 abbrev pub begins : Option (List ℕ) → List ℕ → Bool
 begins None name = true

@@ -1,13 +1,13 @@
 -- A try to open a file and to link it, whatever the folder refuses.
-use Rattle.std.specs.Prelude.{◌≡◌, List, ℕ, Option, Some, None, Result, Ok, Err}
-use Rattle.tracing_appender_rolling.specs.declared.fault.FolderError.{FolderError}
-use Rattle.tracing_appender_rolling.specs.declared.fault.FolderError.TheVariants.{Fault, OutOfMemory}
-use Rattle.tracing_appender_rolling.specs.declared.fault.InitContext.{InitContext}
-use Rattle.tracing_appender_rolling.specs.declared.fault.InitContext.TheVariants.{Directory, File, Link}
-use Rattle.tracing_appender_rolling.specs.declared.fault.InitFailure.{InitFailure}
-use Rattle.tracing_appender_rolling.specs.declared.fault.FileNumber.{FileNumber}
-use Rattle.tracing_appender_rolling.specs.Contents.{Contents, Answer, opened, nothing, linked, called}
-use Rattle.tracing_appender_rolling.specs.Writes.{Left}
+use Rattle.std.specs.Prelude.{◌≡◌, ◌⊎◌, List, ℕ, Option, Some, None, Result, Ok, Err}
+use Rattle.tracing_appender_folders.specs.declared.fault.FolderError.{FolderError}
+use Rattle.tracing_appender_folders.specs.declared.fault.FolderError.TheVariants.{Fault, OutOfMemory}
+use Rattle.tracing_appender_rolling.specs.declared.init.InitContext.{InitContext}
+use Rattle.tracing_appender_rolling.specs.declared.init.InitContext.TheVariants.{Directory, File, Link}
+use Rattle.tracing_appender_rolling.specs.declared.init.InitFailure.{InitFailure}
+use Rattle.tracing_appender_folders.specs.declared.fault.FileNumber.{FileNumber}
+use Rattle.tracing_appender_folders.specs.Contents.{Contents, Answer, called, opened, nothing, linked, closed}
+use Rattle.tracing_appender_rolling.specs.Writes.{Unchanged}
 
 -- what a try answers, and what it leaves
 abbrev pub Tried : Type 0
@@ -40,7 +40,7 @@ opened_twice name c = after_opening name (opened c name)
 -- a link that failed closes the file, whatever that answers
 abbrev pub after_link : FileNumber → Answer (Unit {0}) → Tried
 after_link file (Ok done, c) = (Ok file, c)
-after_link file (Err e, c) = (Err (failure Link e), called c)
+after_link file (Err e, c) = (Err (failure Link e), (closed c file).1)
 
 abbrev pub linked_to : List ℕ → List ℕ → FileNumber → Contents → Tried
 linked_to link name file c = after_link file (linked c link name)
@@ -54,10 +54,6 @@ abbrev pub opened_linked : Option (List ℕ) → List ℕ → Contents → Tried
 opened_linked None name c = opened_twice name c
 opened_linked (Some link) name c = after_file link name (opened_twice name c)
 
--- known contents, whatever they are
-abbrev pub IsKnown : Option Contents → Type 0
-IsKnown after = (d : Contents) × (after ≡ Some d)
-
 -- The try answered and left the contents as said, or some call of it found no memory; then `missed` holds of what is left. Contents that aren't known stay so.
 abbrev pub MissesOr : (Option Contents → Type 0) → Tried → InitFailure → FolderError → Option Contents → Type 0
 MissesOr missed tried f OutOfMemory after = missed after
@@ -67,16 +63,25 @@ abbrev pub Gave : (Option Contents → Type 0) → Tried → Result FileNumber I
 Gave missed tried (Ok file) after = (tried.0 ≡ Ok file) × (after ≡ Some tried.1)
 Gave missed tried (Err f) after = MissesOr missed tried f f.error after
 
--- an opening that found no memory left files and links as they were
-abbrev pub TriesOpening : (Contents → Tried) → Option Contents → Result FileNumber InitFailure → Option Contents → Type 0
-TriesOpening call None result after = after ≡ None
-TriesOpening call (Some c) result after = Gave (Left c c.files) (call c) result after
+abbrev pub Tries : (Contents → Option Contents → Type 0) → (Contents → Tried) → Option Contents → Result FileNumber InitFailure → Option Contents → Type 0
+Tries missed call None result after = after ≡ None
+Tries missed call (Some c) result after = Gave (missed c) (call c) result after
 
--- of a link that found no memory nothing more is said
-abbrev pub TriesLinking : (Contents → Tried) → Option Contents → Result FileNumber InitFailure → Option Contents → Type 0
-TriesLinking call None result after = after ≡ None
-TriesLinking call (Some c) result after = Gave IsKnown (call c) result after
+-- a link that found no memory closes the file that was opened, whatever that answers
+abbrev pub Unlinked : FileNumber → Contents → Option Contents → Type 0
+Unlinked file c after = after ≡ Some (closed (called c) file).1
+
+-- the file was opened, and then the link found no memory
+pub record OpenedUnlinked (name : List ℕ) (c : Contents) (after : Option Contents) : Type 0 where
+  pub file : FileNumber
+  pub middle : Contents
+  pub opened : opened_twice name c ≡ (Ok file, middle)
+  pub left : Unlinked file middle after
+
+-- what a try leaves that found no memory: all as it was, or, where there is a link, the file that was opened closed again
+abbrev pub MissedFile : Option (List ℕ) → List ℕ → Contents → Option Contents → Type 0
+MissedFile None name c after = Unchanged c after
+MissedFile (Some link) name c after = Unchanged c after ⊎ OpenedUnlinked name c after
 
 abbrev pub TriesFile : Option (List ℕ) → List ℕ → Option Contents → Result FileNumber InitFailure → Option Contents → Type 0
-TriesFile None name before result after = TriesOpening (opened_twice name) before result after
-TriesFile (Some link) name before result after = TriesLinking (opened_linked (Some link) name) before result after
+TriesFile latest name before result after = Tries (MissedFile latest name) (opened_linked latest name) before result after

@@ -1,23 +1,60 @@
 -- Writes until all bytes are taken.
-use Rattle.std.specs.Prelude.{◌≡◌, ℕ, List, Option, Some, None, Result, Ok, Err, take}
-use Rattle.tracing_appender_rolling.specs.declared.fault.FolderError.{FolderError}
-use Rattle.tracing_appender_rolling.specs.declared.fault.FolderError.TheVariants.{OutOfMemory}
-use Rattle.tracing_appender_rolling.specs.declared.fault.FileNumber.{FileNumber}
-use Rattle.tracing_appender_rolling.specs.Contents.{Contents, Kept, IsSound, appended}
+use Rattle.std.specs.Prelude.{◌≡◌, ◌<◌, ◌+◌, ◌-◌, ℕ, zero, suc, List, Option, Some, None, Result, Ok, Err, length, take}
+use Rattle.tracing_appender_folders.specs.declared.fault.FolderError.{FolderError}
+use Rattle.tracing_appender_folders.specs.declared.fault.FolderError.TheVariants.{Fault, OutOfMemory}
+use Rattle.tracing_appender_folders.specs.declared.fault.FolderFault.TheVariants.{WriteZero}
+use Rattle.tracing_appender_folders.specs.declared.fault.FileNumber.{FileNumber}
+use Rattle.tracing_appender_folders.specs.Contents.{Contents, Kept, Outcome, Done, Refuses, Short, appended, taken}
 
--- these files, and the links as before; a folder that refuses nothing goes on so
-pub record Left (c : Contents) (files : List Kept) (after : Option Contents) : Type 0 where
+-- these files, and links and open files as before, after so many calls
+pub record Left (c : Contents) (files : List Kept) (calls : ℕ) (after : Option Contents) : Type 0 where
   pub contents : Contents
   pub is : after ≡ Some contents
   pub files_are : contents.files ≡ files
   pub links_stay : contents.links ≡ c.links
-  pub still_sound : IsSound c → IsSound contents
+  pub open_stay : contents.open_files ≡ c.open_files
+  pub comes : (n : ℕ) → contents.coming n ≡ c.coming (calls + n)
 
--- all bytes stand at the end of the file, or, where a write failed, so many of the first; a folder that refuses nothing takes all, or finds no memory and takes none
+-- some calls changed nothing
+pub record Unchanged (c : Contents) (after : Option Contents) : Type 0 where
+  pub calls : ℕ
+  pub left : Left c c.files calls after
+
+-- how many of so many bytes the first coming writes take, so many of them, where each is handed what those before it left
+abbrev pub taken_by : Contents → ℕ → ℕ → ℕ
+taken_by c zero len = 0
+taken_by c (suc n) len = taken_by c n len + taken (c.coming n) (len - taken_by c n len)
+
+-- the first coming writes, so many of them, take some bytes each, and of so many bytes that many in all
+pub record Takes (c : Contents) (writes len all : ℕ) : Type 0 where
+  pub some : (n : ℕ) → n < writes → 0 < taken (c.coming n) (len - taken_by c n len)
+  pub sum : taken_by c writes len ≡ all
+
+-- what a write of some bytes fails with: its refusal's fault, or a fault of its own where it takes none; want of memory may come at any write
+abbrev pub FailsWith : Outcome → FolderError → Type 0
+FailsWith o OutOfMemory = Unit {0}
+FailsWith (Refuses refusal) (Fault fault) = fault ≡ refusal
+FailsWith (Short most) (Fault fault) = (most ≡ 0) × (fault ≡ WriteZero)
+FailsWith Done (Fault fault) = ⊥
+
+-- the coming writes took all bytes, and these stand at the end of the file
+pub record WroteAll (c : Contents) (file : FileNumber) (bytes : List ℕ) (after : Option Contents) : Type 0 where
+  pub writes : ℕ
+  pub left : Left c (appended c.files file.index bytes) writes after
+  pub takes : Takes c writes (length bytes) (length bytes)
+
+-- a write failed, and what those before it took, which isn't all, stands at the end of the file
+pub record WroteSome (c : Contents) (file : FileNumber) (bytes : List ℕ) (e : FolderError) (after : Option Contents) : Type 0 where
+  pub writes : ℕ
+  pub count : ℕ
+  pub left : Left c (appended c.files file.index (take count bytes)) (suc writes) after
+  pub takes : Takes c writes (length bytes) count
+  pub less : count < length bytes
+  pub fails : FailsWith (c.coming writes) e
+
 abbrev pub Wrote : Contents → FileNumber → List ℕ → Result (Unit {0}) FolderError → Option Contents → Type 0
-Wrote c file bytes (Ok done) after = Left c (appended c.files file.index bytes) after
-Wrote c file bytes (Err e) after =
-    (k : ℕ) × Left c (appended c.files file.index (take k bytes)) after × (IsSound c → (e ≡ OutOfMemory) × (k ≡ 0))
+Wrote c file bytes (Ok done) after = WroteAll c file bytes after
+Wrote c file bytes (Err e) after = WroteSome c file bytes e after
 
 -- contents that aren't known stay so
 abbrev pub WritesAll : Option Contents → FileNumber → List ℕ → Result (Unit {0}) FolderError → Option Contents → Type 0

@@ -2,23 +2,25 @@
 
 ghost use Rattle.std.specs.Prelude.{◌≡◌, ◌≤◌, List, [], Option, Some, None, IfOk, IfErr, OnOk, OnErr, Ok, true, false, length, drop, string_bytes};
 ghost use Rattle.std.specs.Option.{option_map};
-ghost use Rattle.tracing_appender_rolling.specs.Moments.{is_moment, period_at, end_of, is_due};
-ghost use Rattle.tracing_appender_rolling.specs.Contents.{Contents};
+ghost use Rattle.tracing_appender_folders.specs.Moments.{is_moment, period_at, end_of, is_due};
+ghost use Rattle.tracing_appender_folders.specs.Contents.{Contents};
 ghost use Rattle.tracing_appender_rolling.specs.Names.{file_name};
 ghost use Rattle.tracing_appender_rolling.specs.Builders.{builder_names};
 ghost use Rattle.tracing_appender_rolling.specs.Sinks.{PlainSink, with_handed};
 ghost use Rattle.tracing_appender_rolling.specs.Tries.{TriesFile};
 ghost use Rattle.tracing_appender_rolling.specs.Writes.{WritesAll};
-ghost use Rattle.tracing_appender_rolling.specs.Telling.{Counts, ToldError, ToldWrites};
+ghost use Rattle.tracing_appender_rolling.specs.Telling.{Counts, ToldAll, ToldError, ToldTry};
+ghost use Rattle.tracing_appender_rolling.specs.Faults.{no_faults};
+ghost use Rattle.tracing_appender_rolling.specs.Appenders.{Begins};
+ghost use Rattle.tracing_appender_rolling.specs.Remaining.{MayKeep, OpensLeft};
 
 use crate::builder::Builder;
-use crate::fault::{FileNumber, FolderError, FolderFault, InitContext};
 use crate::faults::Faults;
-use crate::folder::Folder;
-use crate::moment::Moment;
+use crate::init::{InitContext, InitFailure};
 use crate::opening::open_linked;
 use crate::retention::prune;
 use std::alloc::{AllocError, Global};
+use tracing_appender_folders::{FileNumber, Folder, FolderError, FolderFault, Moment};
 
 /// Why a file could not be opened, with what was handed in: the folder as the calls until then left it.
 #[derive(Drop)]
@@ -27,6 +29,13 @@ pub struct OpenRefusal<D> {
     pub error: FolderError,
     pub builder: Builder,
     pub folder: D,
+}
+
+/// A file that was opened after retention, and what retention lost.
+#[derive(Clone, Copy, Debug)]
+pub(crate) struct Opened {
+    file: FileNumber,
+    faults: Faults,
 }
 
 /// A log file over a folder, which changes when a moment passes the end of the file's period.
@@ -42,9 +51,10 @@ pub struct RollingFileAppender<D> {
 }
 
 impl<D: Folder> RollingFileAppender<D> {
-    ghost use Rattle.tracing_appender_rolling.specs.Appenders.{AgreesSink, Holds, LooksAt, IsOpened, FailedAt, MayOpen, HandsBack, fresh_sink};
+    ghost use Rattle.tracing_appender_rolling.specs.Appenders.{AgreesSink, Holds, LooksAt, MissesAt, IsOpened, FailedAt, MayOpen, HandsBack, fresh_sink};
     ghost use Rattle.tracing_appender_rolling.specs.Looks.{Held, Switches};
-    ghost use Rattle.tracing_appender_rolling.specs.Faults.{no_faults, after_write};
+    ghost use Rattle.tracing_appender_rolling.specs.Faults.{after_write};
+    ghost use Rattle.tracing_appender_rolling.specs.Remaining.{PrunedSink, AgreesLeft, HandsLeft, with_line};
 
     /// Opens the file of the moment's period, after retention. Names are not looked at.
     ///
@@ -70,34 +80,22 @@ impl<D: Folder> RollingFileAppender<D> {
         // without a fault of the folder only want of memory is told
         ensures known { (c : Contents) → D.contents folder ≡ Some c → MayOpen (Some c) (builder_names builder) →
             IfErr result (λ refusal. (refusal.error ≡ FolderError.OutOfMemory) × HandsBack c (builder_names builder) (D.contents refusal.folder)) }
+        // over a folder that refuses nothing, with retention or a link too
+        ensures left { (c : Contents) → D.contents folder ≡ Some c → MayKeep c (builder_names builder) →
+            IfOk result (λ appender. OpensLeft D.contents (builder_names builder) moment c appender) }
+        ensures starved { (c : Contents) → D.contents folder ≡ Some c → MayKeep c (builder_names builder) → IfErr result (λ refusal. refusal.error ≡ FolderError.OutOfMemory) }
         ensures back { IfErr result (λ refusal. builder_names refusal.builder ≡ builder_names builder) }
         ensures counted { IfOk result (λ appender. Counts (D.failed folder) no_faults appender.faults (D.failed appender.folder)) }
         ensures told { IfErr result (λ refusal. ToldError (D.failed folder) refusal.error (D.failed refusal.folder)) }
     {
-        let Ok(name) = builder.name_at(alloc, moment) else {
-            return Err(OpenRefusal {
-                context: InitContext::File,
-                error: FolderError::OutOfMemory,
-                builder,
-                folder,
-            });
-        };
-        let Ok(faults) = prune(alloc, &builder, &mut folder, Faults::none()) else {
-            return Err(OpenRefusal {
-                context: InitContext::File,
-                error: FolderError::OutOfMemory,
-                builder,
-                folder,
-            });
-        };
-        match open_linked(&mut folder, name.as_str(), &builder.latest) {
-            Ok(current) => Ok(RollingFileAppender {
+        match open_first(alloc, &builder, &mut folder, moment) {
+            Ok(opened) => Ok(RollingFileAppender {
                 alloc,
                 boundary: builder.rotation.next_date(moment),
                 builder,
                 folder,
-                current,
-                faults,
+                current: opened.file,
+                faults: opened.faults,
             }),
             Err(failure) => Err(OpenRefusal {
                 context: failure.context,
@@ -131,10 +129,15 @@ impl<D: Folder> RollingFileAppender<D> {
         ensures err { OnErr result ((s : PlainSink) → AgreesSink D.contents self.old s → AgreesSink D.contents self.new s) }
         ensures looked { (h : Held) → Holds D.contents self.old h →
             OnOk result (LooksAt D.contents (builder_names self.old.builder) moment h self.new) }
+        ensures missed { (h : Held) → Holds D.contents self.old h →
+            OnErr result (MissesAt D.contents (builder_names self.old.builder) moment h self.new) }
         ensures early { is_due self.old.boundary moment.seconds ≡ false → (result ≡ Ok tt) × (self.new ≡ self.old) }
         ensures still { OnErr result (record self.new { folder = self.old.folder } ≡ self.old) }
         ensures unfaulted { (c : Contents) (s : PlainSink) → D.contents self.old.folder ≡ Some c → AgreesSink D.contents self.old s →
             self.new.faults ≡ self.old.faults }
+        // over a folder that refuses nothing, with retention or a link too
+        ensures left { OnOk result ((c : Contents) (p : PrunedSink) → D.contents self.old.folder ≡ Some c → AgreesLeft D.contents self.old p →
+            HandsLeft D.contents p [] moment c self.old self.new) }
         ensures names { builder_names self.new.builder ≡ builder_names self.old.builder }
         ensures counted { Counts (D.failed self.old.folder) self.old.faults self.new.faults (D.failed self.new.folder) }
     {
@@ -191,8 +194,10 @@ impl<D: Folder> RollingFileAppender<D> {
         ensures still { self.new ≡ record self.old { folder = self.new.folder; faults = self.new.faults } }
         ensures unfaulted { (c : Contents) (s : PlainSink) → D.contents self.old.folder ≡ Some c → AgreesSink D.contents self.old s →
             (self.new.faults ≡ self.old.faults) × IfErr result (λ e. e ≡ FolderError.OutOfMemory) }
+        ensures left { OnOk result ((p : PrunedSink) (m : Moment) → AgreesLeft D.contents self.old (with_line p [] m) → AgreesLeft D.contents self.new (with_line p bytes.now m)) }
+        ensures starved { IfErr result (λ e. (p : PrunedSink) → AgreesLeft D.contents self.old p → (e ≡ FolderError.OutOfMemory) × AgreesLeft D.contents self.new p) }
         ensures names { builder_names self.new.builder ≡ builder_names self.old.builder }
-        ensures told { ToldWrites (D.failed self.old.folder) result (D.failed self.new.folder) }
+        ensures told { ToldAll (D.failed self.old.folder) result (length bytes.now) (D.failed self.new.folder) }
     {
         let outcome = write_all(&mut self.folder, self.current, bytes);
         self.faults = self.faults.after_write(outcome);
@@ -221,10 +226,39 @@ impl<D: Folder> RollingFileAppender<D> {
     }
 }
 
+/// The file of the moment's period, opened after retention.
+fn open_first<D: Folder>(
+    alloc: Global,
+    builder: &Builder,
+    folder: &mut D,
+    moment: Moment,
+) -> Result<Opened, InitFailure>
+    requires { is_moment moment ≡ true }
+    ensures begins { Begins (builder_names builder.now) moment (D.contents folder.old) result (D.contents folder.new) }
+    ensures faults { (builder_names builder.now).limit ≡ None → IfOk result (λ opened. opened.faults ≡ no_faults) }
+    ensures counted { IfOk result (λ opened. Counts (D.failed folder.old) no_faults opened.faults (D.failed folder.new)) }
+    ensures told { ToldTry (D.failed folder.old) result (D.failed folder.new) }
+{
+    let starved = InitFailure {
+        context: InitContext::File,
+        error: FolderError::OutOfMemory,
+    };
+    let Ok(name) = builder.name_at(alloc, moment) else {
+        return Err(starved);
+    };
+    let Ok(faults) = prune(alloc, builder, folder, Faults::none()) else {
+        return Err(starved);
+    };
+    match open_linked(folder, name.as_str(), &builder.latest) {
+        Ok(file) => Ok(Opened { file, faults }),
+        Err(failure) => Err(failure),
+    }
+}
+
 /// Writes until all bytes are taken.
 fn write_all<D: Folder>(folder: &mut D, file: FileNumber, bytes: &[u8]) -> Result<(), FolderError>
     ensures written { WritesAll (D.contents folder.old) file bytes.now result (D.contents folder.new) }
-    ensures told { ToldWrites (D.failed folder.old) result (D.failed folder.new) }
+    ensures told { ToldAll (D.failed folder.old) result (length bytes.now) (D.failed folder.new) }
 {
     let mut from = 0;
     while from < bytes.len() {

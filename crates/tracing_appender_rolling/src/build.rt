@@ -2,18 +2,17 @@
 
 ghost use Rattle.std.specs.Prelude.{◌≡◌, true, string_bytes};
 ghost use Rattle.tracing_appender_dates.specs.declared.period.PeriodKind.TheVariants.{Minute, Hour, Day, Week, Whole};
-ghost use Rattle.tracing_appender_rolling.specs.Moments.{is_moment};
+ghost use Rattle.tracing_appender_folders.specs.Moments.{is_moment};
 ghost use Rattle.tracing_appender_rolling.specs.Builders.{builder_names, plain_names, prefixed_names, kind_of};
 ghost use Rattle.tracing_appender_rolling.specs.Builds.{Builds, build_error};
 
 use crate::appender::{OpenRefusal, RollingFileAppender};
 use crate::builder::Builder;
-use crate::fault::{FolderError, InitContext, InitError};
-use crate::folder::Folder;
-use crate::moment::Moment;
+use crate::init::{InitContext, InitError};
 use crate::rotation::Rotation;
 use std::alloc::Global;
 use thiserror::Error;
+use tracing_appender_folders::{Folder, FolderError, Moment};
 
 /// Why an appender was not built.
 #[derive(Clone, Copy, Debug, PartialEq, Eq, Error)]
@@ -61,7 +60,7 @@ impl Builder {
         moment: Moment,
     ) -> Result<RollingFileAppender<D>, BuildRefusal<D>>
         requires { is_moment moment ≡ true }
-        ensures { Builds D.contents (builder_names self) folder moment result }
+        ensures { Builds D.contents D.failed (builder_names self) folder moment result }
     {
         if self.has_bad_name() {
             return Err(BuildRefusal {
@@ -109,7 +108,7 @@ impl<D: Folder> RollingFileAppender<D> {
         moment: Moment,
     ) -> Result<RollingFileAppender<D>, BuildRefusal<D>>
         requires { is_moment moment ≡ true }
-        ensures { Builds D.contents (prefixed_names (kind_of rotation) (string_bytes prefix)) folder moment result }
+        ensures { Builds D.contents D.failed (prefixed_names (kind_of rotation) (string_bytes prefix)) folder moment result }
     {
         Builder::new()
             .rotation(rotation)
@@ -130,7 +129,7 @@ pub fn minutely<D: Folder>(
     moment: Moment,
 ) -> Result<RollingFileAppender<D>, BuildRefusal<D>>
     requires { is_moment moment ≡ true }
-    ensures { Builds D.contents (prefixed_names Minute (string_bytes prefix)) folder moment result }
+    ensures { Builds D.contents D.failed (prefixed_names Minute (string_bytes prefix)) folder moment result }
 {
     RollingFileAppender::new(alloc, Rotation::MINUTELY, folder, prefix, moment)
 }
@@ -147,7 +146,7 @@ pub fn hourly<D: Folder>(
     moment: Moment,
 ) -> Result<RollingFileAppender<D>, BuildRefusal<D>>
     requires { is_moment moment ≡ true }
-    ensures { Builds D.contents (prefixed_names Hour (string_bytes prefix)) folder moment result }
+    ensures { Builds D.contents D.failed (prefixed_names Hour (string_bytes prefix)) folder moment result }
 {
     RollingFileAppender::new(alloc, Rotation::HOURLY, folder, prefix, moment)
 }
@@ -164,7 +163,7 @@ pub fn daily<D: Folder>(
     moment: Moment,
 ) -> Result<RollingFileAppender<D>, BuildRefusal<D>>
     requires { is_moment moment ≡ true }
-    ensures { Builds D.contents (prefixed_names Day (string_bytes prefix)) folder moment result }
+    ensures { Builds D.contents D.failed (prefixed_names Day (string_bytes prefix)) folder moment result }
 {
     RollingFileAppender::new(alloc, Rotation::DAILY, folder, prefix, moment)
 }
@@ -181,7 +180,7 @@ pub fn weekly<D: Folder>(
     moment: Moment,
 ) -> Result<RollingFileAppender<D>, BuildRefusal<D>>
     requires { is_moment moment ≡ true }
-    ensures { Builds D.contents (prefixed_names Week (string_bytes prefix)) folder moment result }
+    ensures { Builds D.contents D.failed (prefixed_names Week (string_bytes prefix)) folder moment result }
 {
     RollingFileAppender::new(alloc, Rotation::WEEKLY, folder, prefix, moment)
 }
@@ -198,7 +197,7 @@ pub fn never<D: Folder>(
     moment: Moment,
 ) -> Result<RollingFileAppender<D>, BuildRefusal<D>>
     requires { is_moment moment ≡ true }
-    ensures { Builds D.contents (prefixed_names Whole (string_bytes prefix)) folder moment result }
+    ensures { Builds D.contents D.failed (prefixed_names Whole (string_bytes prefix)) folder moment result }
 {
     RollingFileAppender::new(alloc, Rotation::NEVER, folder, prefix, moment)
 }

@@ -2,7 +2,8 @@
 
 ghost use Rattle.tracing_appender_rolling.specs.Names.{NamesDiffer};
 ghost use Rattle.tracing_appender_rolling.specs.Sinks.{FilesByPeriod};
-ghost use Rattle.tracing_appender_rolling.specs.Reading.{LinesStandWhole, FilesReadInOrder, RetentionSpares};
+ghost use Rattle.tracing_appender_rolling.specs.Reading.{LinesStandWhole, FilesReadInOrder, OwnFilesReadInOrder, LeftFilesReadInOrder, LinesKeepOldest, OldestGoFirst, OldestStayGone, RetentionSpares};
+ghost use Rattle.tracing_appender_rolling.specs.Remaining.{LeftByPeriod};
 
 /// Different periods have different file names.
 pub fn names_differ()
@@ -14,17 +15,33 @@ pub fn files_by_period()
     ensures { FilesByPeriod }
 {}
 
-/// A handed line stands whole in the file of its period, and in no other.
+/// A handed line stands whole in the file of its period, and no other file depends on it.
 pub fn lines_stand_whole()
     ensures { LinesStandWhole }
 {}
 
 /// Files that were empty at the opening, read in byte order of their names, are the handed lines in order.
 pub fn files_read_in_order()
-    ensures { FilesReadInOrder }
+    ensures all { FilesReadInOrder }
+    ensures own { OwnFilesReadInOrder }
+{}
+
+/// Retention takes older files before newer ones. Where it did so, and files were empty at their opening, those that it left, read in byte
+/// order of their names, are the last handed lines in order.
+pub fn left_files_read_in_order()
+    ensures oldest { OldestGoFirst }
+    ensures stays { OldestStayGone }
+    ensures lines { LinesKeepOldest }
+    ensures reads { LeftFilesReadInOrder }
 {}
 
 /// Whatever a folder refuses, retention leaves the bytes of every file that it doesn't remove.
 pub fn retention_spares_others()
     ensures { RetentionSpares }
+{}
+
+/// Where files are removed or a link is kept, each period's file that retention left holds what its opening found and then that period's
+/// lines.
+pub fn left_files_by_period()
+    ensures { LeftByPeriod }
 {}

@@ -1,21 +1,20 @@
 //! Lines that are handed over at moments.
 
-ghost use Rattle.std.specs.Prelude.{◌≡◌, ◌≤◌, [], IfOk, OnErr, true, false, length};
-ghost use Rattle.tracing_appender_rolling.specs.Moments.{is_moment};
+ghost use Rattle.std.specs.Prelude.{◌≡◌, ◌≤◌, [], Some, IfOk, IfErr, OnOk, OnErr, true, false, length, take};
+ghost use Rattle.tracing_appender_folders.specs.Moments.{is_moment};
 ghost use Rattle.tracing_appender_rolling.specs.Builders.{builder_names};
-ghost use Rattle.tracing_appender_rolling.specs.Contents.{Gives, nothing, written};
+ghost use Rattle.tracing_appender_folders.specs.Contents.{Contents, Gives, failures_after, nothing, written};
 ghost use Rattle.tracing_appender_rolling.specs.Faults.{after_write, unit_of};
-ghost use Rattle.tracing_appender_rolling.specs.Telling.{Counts, CountsLine, ToldWrites};
+ghost use Rattle.tracing_appender_rolling.specs.Telling.{Counts, CountsLine, ToldCall, ToldWrites};
 ghost use Rattle.tracing_appender_rolling.specs.Sinks.{PlainSink, with_handed};
 
 use crate::appender::RollingFileAppender;
-use crate::fault::FolderError;
-use crate::folder::Folder;
-use crate::moment::Moment;
+use tracing_appender_folders::{Folder, FolderError, Moment};
 
 impl<D: Folder> RollingFileAppender<D> {
     ghost use Rattle.tracing_appender_rolling.specs.Appenders.{AgreesSink, Holds};
     ghost use Rattle.tracing_appender_rolling.specs.Looks.{Held};
+    ghost use Rattle.tracing_appender_rolling.specs.Remaining.{PrunedSink, AgreesLeft, HandsLeft, with_line};
     ghost use Rattle.tracing_appender_rolling.specs.Handing.{HandsLine, WritesOnce, Misses, is_starved};
 
     /// Looks at the moment, also for no bytes, and writes until all bytes are taken. A fault loses the rest, and is counted.
@@ -29,9 +28,13 @@ impl<D: Folder> RollingFileAppender<D> {
             AgreesSink D.contents self.new (with_handed s (record { line = bytes.now; moment = moment })) }
         ensures err { OnErr result ((s : PlainSink) → AgreesSink D.contents self.old s → Misses D.contents s moment self.new) }
         ensures handed { (h : Held) → Holds D.contents self.old h → HandsLine D.contents (builder_names self.old.builder) moment h bytes.now result self.new }
+        // over a folder that refuses nothing, with retention or a link too
+        ensures left { OnOk result ((c : Contents) (p : PrunedSink) → D.contents self.old.folder ≡ Some c → AgreesLeft D.contents self.old p →
+            HandsLeft D.contents p bytes.now moment c self.old self.new) }
+        ensures starved { IfErr result (λ e. (p : PrunedSink) → AgreesLeft D.contents self.old p → e ≡ FolderError.OutOfMemory) }
         ensures names { builder_names self.new.builder ≡ builder_names self.old.builder }
-        ensures told { ToldWrites (D.failed self.old.folder) result (D.failed self.new.folder) }
-        ensures counted { CountsLine (D.failed self.old.folder) self.old.faults self.new.faults result (D.failed self.new.folder) }
+        ensures told { ToldWrites (D.failed self.old.folder) result (length bytes.now) (D.failed self.new.folder) }
+        ensures counted { CountsLine (D.failed self.old.folder) self.old.faults self.new.faults result (length bytes.now) (D.failed self.new.folder) }
     {
         self.look(moment)?;
         self.push(bytes)
@@ -46,8 +49,15 @@ impl<D: Folder> RollingFileAppender<D> {
         requires { is_moment moment ≡ true }
         ensures bound { IfOk result (λ n. n ≤ length bytes.now) }
         ensures written { (h : Held) → Holds D.contents self.old h → WritesOnce D.contents (builder_names self.old.builder) moment h bytes.now result self.new }
+        ensures agrees { IfOk result (λ n. (s : PlainSink) → AgreesSink D.contents self.old s →
+            AgreesSink D.contents self.new (with_handed s (record { line = take n bytes.now; moment = moment }))) }
+        ensures missed { OnErr result ((s : PlainSink) → AgreesSink D.contents self.old s → Misses D.contents s moment self.new) }
+        // over a folder that refuses nothing, with retention or a link too
+        ensures left { IfOk result (λ n. (c : Contents) (p : PrunedSink) → D.contents self.old.folder ≡ Some c → AgreesLeft D.contents self.old p →
+            HandsLeft D.contents p (take n bytes.now) moment c self.old self.new) }
+        ensures starved { IfErr result (λ e. (p : PrunedSink) → AgreesLeft D.contents self.old p → e ≡ FolderError.OutOfMemory) }
         ensures names { builder_names self.new.builder ≡ builder_names self.old.builder }
-        ensures told { ToldWrites (D.failed self.old.folder) result (D.failed self.new.folder) }
+        ensures told { ToldCall (D.failed self.old.folder) result (D.failed self.new.folder) }
         ensures counted { Counts (D.failed self.old.folder) self.old.faults self.new.faults (D.failed self.new.folder) }
     {
         self.look(moment)?;
@@ -59,8 +69,15 @@ impl<D: Folder> RollingFileAppender<D> {
         ensures bound { IfOk result (λ n. n ≤ length bytes.now) }
         ensures gives { Gives (λ c. written c self.old.current bytes.now) (D.contents self.old.folder) result (D.contents self.new.folder) }
         ensures faults { self.new.faults ≡ after_write self.old.faults (unit_of result) }
+        ensures agrees { IfOk result (λ n. (s : PlainSink) (m : Moment) → AgreesSink D.contents self.old (with_handed s (record { line = []; moment = m })) →
+            AgreesSink D.contents self.new (with_handed s (record { line = take n bytes.now; moment = m }))) }
+        ensures missed { OnErr result ((s : PlainSink) → AgreesSink D.contents self.old s → AgreesSink D.contents self.new s) }
+        ensures left { IfOk result (λ n. (p : PrunedSink) (m : Moment) → AgreesLeft D.contents self.old (with_line p [] m) →
+            AgreesLeft D.contents self.new (with_line p (take n bytes.now) m)) }
+        ensures starved { IfErr result (λ e. (p : PrunedSink) → AgreesLeft D.contents self.old p →
+            (e ≡ FolderError.OutOfMemory) × AgreesLeft D.contents self.new p) }
         ensures still { self.new ≡ record self.old { folder = self.new.folder; faults = self.new.faults } }
-        ensures told { ToldWrites (D.failed self.old.folder) result (D.failed self.new.folder) }
+        ensures told { ToldCall (D.failed self.old.folder) result (D.failed self.new.folder) }
         ensures counted { Counts (D.failed self.old.folder) self.old.faults self.new.faults (D.failed self.new.folder) }
     {
         match self.folder.write(self.current, bytes) {
@@ -80,7 +97,9 @@ impl<D: Folder> RollingFileAppender<D> {
     pub fn flush(&mut self) -> Result<(), FolderError>
         ensures gives { Gives nothing (D.contents self.old.folder) result (D.contents self.new.folder) }
         ensures still { self.new ≡ record self.old { folder = self.new.folder } }
+        ensures counted { D.failed self.new.folder ≡ failures_after (D.failed self.old.folder) result }
         ensures agrees { (s : PlainSink) → AgreesSink D.contents self.old s → AgreesSink D.contents self.new s }
+        ensures left { (p : PrunedSink) → AgreesLeft D.contents self.old p → AgreesLeft D.contents self.new p }
     {
         self.folder.flush(self.current)
     }

@@ -2,15 +2,16 @@
 
 ghost use Rattle.std.specs.Prelude.{◌≡◌, string_bytes};
 ghost use Rattle.std.specs.Option.{option_map};
-ghost use Rattle.tracing_appender_rolling.specs.Tries.{TriesOpening, TriesLinking, TriesFile, made_again, opened_twice, linked_to, opened_linked};
+ghost use Rattle.tracing_appender_rolling.specs.Tries.{Tries, TriesFile, Unlinked, made_again, opened_twice, linked_to};
 ghost use Rattle.tracing_appender_rolling.specs.Telling.{ToldTry};
+ghost use Rattle.tracing_appender_rolling.specs.Writes.{Unchanged};
 
-use crate::fault::{FileNumber, FolderError, InitContext, InitFailure};
-use crate::folder::Folder;
+use crate::init::{InitContext, InitFailure};
+use tracing_appender_folders::{FileNumber, Folder, FolderError};
 
 /// Opens a file. Where that is refused, the directories are made and it is tried once more.
 fn open_twice<D: Folder>(folder: &mut D, name: &str) -> Result<FileNumber, InitFailure>
-    ensures tries { TriesOpening (opened_twice name.now) (D.contents folder.old) result (D.contents folder.new) }
+    ensures tries { Tries Unchanged (opened_twice name.now) (D.contents folder.old) result (D.contents folder.new) }
     ensures told { ToldTry (D.failed folder.old) result (D.failed folder.new) }
 {
     match folder.open_append(name) {
@@ -25,7 +26,7 @@ fn open_twice<D: Folder>(folder: &mut D, name: &str) -> Result<FileNumber, InitF
 
 /// Makes the directories and opens a file.
 fn open_made<D: Folder>(folder: &mut D, name: &str) -> Result<FileNumber, InitFailure>
-    ensures tries { TriesOpening (made_again name.now) (D.contents folder.old) result (D.contents folder.new) }
+    ensures tries { Tries Unchanged (made_again name.now) (D.contents folder.old) result (D.contents folder.new) }
     ensures told { ToldTry (D.failed folder.old) result (D.failed folder.new) }
 {
     if let Err(error) = folder.create_dirs() {
@@ -50,7 +51,7 @@ fn link_file<D: Folder>(
     link: &str,
     name: &str,
 ) -> Result<FileNumber, InitFailure>
-    ensures tries { TriesLinking (linked_to link.now name.now file) (D.contents folder.old) result (D.contents folder.new) }
+    ensures tries { Tries (Unlinked file) (linked_to link.now name.now file) (D.contents folder.old) result (D.contents folder.new) }
     ensures told { ToldTry (D.failed folder.old) result (D.failed folder.new) }
 {
     match folder.link(link, name) {

@@ -3,18 +3,16 @@
 ghost use Rattle.std.specs.Prelude.{◌≡◌, ◌≤◌, [], ◌∷◌, None, Ok, IfOk, OnOk, map, length, string_bytes};
 ghost use Rattle.std.specs.Option.{option_map};
 ghost use Rattle.tracing_appender_rolling.specs.Builders.{builder_names};
-ghost use Rattle.tracing_appender_rolling.specs.Listings.{listed_of};
+ghost use Rattle.tracing_appender_folders.specs.Listings.{listed_of};
 ghost use Rattle.tracing_appender_rolling.specs.Retention.{Tells, made_of, begins, ends, is_before, before_count, goes, IsAdded, IsCandidates, candidate_of};
 ghost use Rattle.tracing_appender_rolling.specs.Pruning.{Removes, Prunes, doomed, doomed_of};
 ghost use Rattle.tracing_appender_rolling.specs.Telling.{CountsOk};
 
 use crate::builder::Builder;
-use crate::fault::{Entry, FolderError};
 use crate::faults::Faults;
-use crate::folder::Folder;
-use crate::moment::Moment;
 use std::alloc::{AllocError, Global};
 use tracing_appender_dates::read_name;
+use tracing_appender_folders::{Entry, Folder, FolderError, Moment};
 
 /// A file that retention may remove, with the moment from which it counts.
 #[derive(Clone, Copy, Debug)]

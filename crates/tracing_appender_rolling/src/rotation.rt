@@ -2,10 +2,10 @@
 
 ghost use Rattle.std.specs.Prelude.{◌≡◌, true};
 ghost use Rattle.tracing_appender_dates.specs.Periods.{first_second};
-ghost use Rattle.tracing_appender_rolling.specs.Moments.{is_moment, period_at, end_of};
+ghost use Rattle.tracing_appender_folders.specs.Moments.{is_moment, period_at, end_of};
 
-use crate::moment::Moment;
 use tracing_appender_dates::PeriodKind;
+use tracing_appender_folders::Moment;
 
 /// How often a log file changes. Periods are those of UTC time.
 #[derive(Clone, Copy, Debug, PartialEq, Eq)]

@@ -1,9 +1,8 @@
 //! Names, days, a folder that fails, and each call once.
 
 ghost use Rattle.std.specs.Prelude.{◌≡◌, true};
-ghost use Rattle.tracing_appender_rolling.specs.Moments.{is_moment};
+ghost use Rattle.tracing_appender_folders.specs.Moments.{is_moment};
 
-mod folders;
 mod rolling;
 mod system;
 

@@ -14,6 +14,8 @@ impl Layer for Counter {
     ghost use Rattle.tracing_core.specs.InterestInner.TheVariants.{Always};
     ghost use Rattle.span_registry_layers.specs.Combined.{same_word};
     ghost use Rattle.span_registry_layers.specs.Identities.{idle_fair};
+    ghost use Rattle.span_registry_layers.specs.Numbering.{no_numbers};
+    ghost use Rattle.span_registry_layers.specs.Singles.{leaf_once};
 
     ghost answers = { λ x m v b. b ≡ true };
 
@@ -31,12 +33,30 @@ impl Layer for Counter {
 
     ghost stays = { λ x n y t _. (tt, same_word (λ m k. k ≡ Always) None) };
 
+    ghost numbered = { λ x n y t. no_numbers n };
+
+    ghost once = { λ x k. leaf_once };
+
     fn on_register_dispatch(&mut self, _dispatch: &WeakDispatch) {
         self.told = self.told.wrapping_add(1);
     }
 
     fn on_layer(&mut self, _registry: &mut Registry) {
         self.told = self.told.wrapping_add(1);
+    }
+
+    fn room_left(&self, room: u8) -> Option<u8> {
+        Some(room)
+    }
+
+    fn ask_span(
+        &self,
+        _metadata: &Metadata<'_>,
+        _context: &Context<'_>,
+        passes: bool,
+        verdicts: FilterMap,
+    ) -> (FilterMap, bool) {
+        (verdicts, passes)
     }
 
     fn register_callsite(&self, _metadata: &Metadata<'_>) -> Interest {

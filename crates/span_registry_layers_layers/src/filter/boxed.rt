@@ -21,6 +21,10 @@ impl Filter for Box<dyn Filter> {
 
     ghost stays = { λ b h k. (Filter-box b).stays b.value h k };
 
+    ghost single = { λ b k. (Filter-box b).single b.value k };
+
+    ghost firm = { λ b k. (Filter-box b).firm b.value k };
+
     fn enabled(&self, metadata: &Metadata<'_>, context: &Context<'_>) -> bool {
         (**self).enabled(metadata, context)
     }

@@ -1,6 +1,8 @@
 //! Filters made of other filters.
 ghost use Rattle.std.specs.Prelude.{◌≡◌, None, true};
 ghost use Rattle.span_registry_layers_layers.specs.Combined.{both_hints, both_interests, either_hint, either_interest, turned_interest};
+ghost use Rattle.span_registry_layers_layers.specs.Firms.{both_firm, either_firm, turned_firm};
+ghost use Rattle.span_registry_layers_layers.specs.Singles.{both_single, either_single, turned_single};
 
 use crate::context::Context;
 use crate::filter::Filter;
@@ -74,6 +76,10 @@ impl<A: Filter, B: Filter> Filter for And<A, B> {
 
     ghost stays = { λ f h k. ((((A.stays f.a h k.0).0, (B.stays f.b h k.1).0)), joined_word both_interests both_hints (A.stays f.a h k.0).1 (B.stays f.b h k.1).1) };
 
+    ghost single = { λ f k. both_single (A.single f.a k.0) (B.single f.b k.1) };
+
+    ghost firm = { λ f k. both_firm (A.firm f.a k.0) (B.firm f.b k.1) };
+
     fn enabled(&self, metadata: &Metadata<'_>, context: &Context<'_>) -> bool {
         self.a.enabled(metadata, context) && self.b.enabled(metadata, context)
     }
@@ -140,6 +146,10 @@ impl<A: Filter, B: Filter> Filter for Or<A, B> {
 
     ghost stays = { λ f h k. ((((A.stays f.a h k.0).0, (B.stays f.b h k.1).0)), joined_word either_interest either_hint (A.stays f.a h k.0).1 (B.stays f.b h k.1).1) };
 
+    ghost single = { λ f k. either_single (A.single f.a k.0) (B.single f.b k.1) };
+
+    ghost firm = { λ f k. either_firm (A.firm f.a k.0) (B.firm f.b k.1) };
+
     fn enabled(&self, metadata: &Metadata<'_>, context: &Context<'_>) -> bool {
         self.a.enabled(metadata, context) || self.b.enabled(metadata, context)
     }
@@ -205,6 +215,10 @@ impl<A: Filter> Filter for Not<A> {
     ghost fair = { λ f k. turned_fair (A.fair f.a k) };
 
     ghost stays = { λ f h k. ((A.stays f.a h k).0, turned_word (A.stays f.a h k).1) };
+
+    ghost single = { λ f k. turned_single (A.single f.a k) };
+
+    ghost firm = { λ f k. turned_firm (A.firm f.a k) };
 
     fn enabled(&self, metadata: &Metadata<'_>, context: &Context<'_>) -> bool {
         !self.a.enabled(metadata, context)

@@ -1,8 +1,10 @@
 //! A stored closure that looks at the context, as a filter.
 ghost use Rattle.std.specs.Prelude.{◌≡◌, IfSome, IsSome, None, Some, true};
 ghost use Rattle.span_registry_layers_layers.specs.Combined.{same_word};
-ghost use Rattle.span_registry_layers_layers.specs.Dynamic.{AnswersIn, CallsitesFit, RefusesAboveHintIn, RefusesAboveIn, SaysIn, dynamic_fair};
-ghost use Rattle.span_registry_layers_layers.specs.Honesty.{Fair};
+ghost use Rattle.span_registry_layers_layers.specs.Dynamic.{AnswersIn, CallsitesFit, IsDeterminedIn, RefusesAboveHintIn, RefusesAboveIn, SaysIn, dynamic_fair};
+ghost use Rattle.span_registry_layers_layers.specs.Firms.{CallsitesAreFirm, dynamic_firm};
+ghost use Rattle.span_registry_layers_layers.specs.Honesty.{Fair, Firm};
+ghost use Rattle.span_registry_layers_layers.specs.Singles.{dynamic_single};
 
 use crate::context::Context;
 use crate::filter::Filter;
@@ -31,11 +33,13 @@ pub struct DynFilterFn {
 }
 
 impl DynFilterFn {
-    /// Asks the closure, and knows no most verbose level. It keeps its word, since it says nothing of callsites.
+    /// Asks the closure, and knows no most verbose level. It says nothing of callsites, so it keeps its word where the
+    /// closure's answer is determined by what the metadata says and the context shows.
     pub fn new(enabled: ContextTest) -> DynFilterFn
         requires { ContextTest.IsAlwaysCallable enabled }
         ensures kept { (result.enabled ≡ enabled) × (result.callsite_enabled ≡ None) × (result.max_level_hint ≡ None) }
         ensures honest { Fair (AnswersIn (ContextTest.post result.enabled)) (SaysIn (λ s. CallsiteTest.post s.closure) result.callsite_enabled result.max_level_hint) result.max_level_hint }
+        ensures firm { Firm (SaysIn (λ s. CallsiteTest.post s.closure) result.callsite_enabled result.max_level_hint) result.max_level_hint }
     {
         DynFilterFn {
             enabled,
@@ -44,12 +48,13 @@ impl DynFilterFn {
         }
     }
 
-    /// The same with a most verbose level, above which the closure has to refuse. It keeps its word where what
-    /// is said of callsites fits what the closure answers.
+    /// The same with a most verbose level, above which the closure has to refuse. It keeps its word where the closure's
+    /// answer is so determined, and what is said of callsites is one thing, fits it and agrees with the hint.
     pub fn with_max_level_hint(self, hint: LevelFilter) -> DynFilterFn
         requires { RefusesAboveIn hint (ContextTest.post self.enabled) }
         ensures kept { (result.enabled ≡ self.enabled) × (result.callsite_enabled ≡ self.callsite_enabled) × (result.max_level_hint ≡ Some hint) }
         ensures honest { CallsitesFit (ContextTest.post self.enabled) (λ s. CallsiteTest.post s.closure) self.callsite_enabled → Fair (AnswersIn (ContextTest.post result.enabled)) (SaysIn (λ s. CallsiteTest.post s.closure) result.callsite_enabled result.max_level_hint) result.max_level_hint }
+        ensures firm { CallsitesAreFirm (λ s. CallsiteTest.post s.closure) self.callsite_enabled (Some hint) → Firm (SaysIn (λ s. CallsiteTest.post s.closure) result.callsite_enabled result.max_level_hint) result.max_level_hint }
     {
         let DynFilterFn {
             enabled,
@@ -63,12 +68,13 @@ impl DynFilterFn {
         }
     }
 
-    /// The same with a closure that says what the interest in a callsite is. It keeps its word where that fits
-    /// what the filter answers.
+    /// The same with a closure that says what the interest in a callsite is. It keeps its word where the filter's answer
+    /// is so determined, and what the closure says is one thing, fits it and agrees with the hint.
     pub fn with_callsite_filter(self, callsite_enabled: CallsiteTest) -> DynFilterFn
         requires { CallsiteTest.IsAlwaysCallable callsite_enabled }
         ensures kept { (result.enabled ≡ self.enabled) × IfSome result.callsite_enabled (λ s. s.closure ≡ callsite_enabled) × IsSome result.callsite_enabled × (result.max_level_hint ≡ self.max_level_hint) }
         ensures honest { RefusesAboveHintIn self.max_level_hint (ContextTest.post self.enabled) → CallsitesFit (ContextTest.post self.enabled) (λ s. CallsiteTest.post s.closure) result.callsite_enabled → Fair (AnswersIn (ContextTest.post result.enabled)) (SaysIn (λ s. CallsiteTest.post s.closure) result.callsite_enabled result.max_level_hint) result.max_level_hint }
+        ensures firm { CallsitesAreFirm (λ s. CallsiteTest.post s.closure) result.callsite_enabled self.max_level_hint → Firm (SaysIn (λ s. CallsiteTest.post s.closure) result.callsite_enabled result.max_level_hint) result.max_level_hint }
     {
         let DynFilterFn {
             enabled,
@@ -104,11 +110,15 @@ impl Filter for DynFilterFn {
 
     ghost after = { λ f h. f };
 
-    ghost honest = { λ f. Fair (AnswersIn (ContextTest.post f.enabled)) (SaysIn (λ s. CallsiteTest.post s.closure) f.callsite_enabled f.max_level_hint) f.max_level_hint };
+    ghost honest = { λ f. Fair (AnswersIn (ContextTest.post f.enabled)) (SaysIn (λ s. CallsiteTest.post s.closure) f.callsite_enabled f.max_level_hint) f.max_level_hint × IsDeterminedIn (ContextTest.post f.enabled) × Firm (SaysIn (λ s. CallsiteTest.post s.closure) f.callsite_enabled f.max_level_hint) f.max_level_hint };
 
-    ghost fair = { λ f k. k };
+    ghost fair = { λ f k. k.0 };
 
     ghost stays = { λ f h k. (k, same_word (SaysIn (λ s. CallsiteTest.post s.closure) f.callsite_enabled f.max_level_hint) f.max_level_hint) };
+
+    ghost single = { λ f k. dynamic_single (ContextTest.post f.enabled) k.1 };
+
+    ghost firm = { λ f k. k.2 };
 
     fn enabled(&self, metadata: &Metadata<'_>, context: &Context<'_>) -> bool {
         (self.enabled)(metadata, context)

@@ -1,8 +1,10 @@
 //! A stored closure as a filter.
 ghost use Rattle.std.specs.Prelude.{◌≡◌, None, Some, true};
 ghost use Rattle.span_registry_layers_layers.specs.Combined.{same_word};
+ghost use Rattle.span_registry_layers_layers.specs.Firms.{closure_firm};
 ghost use Rattle.span_registry_layers_layers.specs.Functions.{AnswersBy, IsDetermined, RefusesAbove, SaysBy, function_fair};
 ghost use Rattle.span_registry_layers_layers.specs.Honesty.{Fair};
+ghost use Rattle.span_registry_layers_layers.specs.Singles.{closure_single};
 
 use crate::context::Context;
 use crate::filter::Filter;
@@ -66,11 +68,15 @@ impl Filter for FilterFn {
 
     ghost after = { λ f h. f };
 
-    ghost honest = { λ f. Fair (AnswersBy (MetadataTest.post f.enabled)) (SaysBy (MetadataTest.post f.enabled)) f.max_level_hint };
+    ghost honest = { λ f. Fair (AnswersBy (MetadataTest.post f.enabled)) (SaysBy (MetadataTest.post f.enabled)) f.max_level_hint × IsDetermined (MetadataTest.post f.enabled) };
 
-    ghost fair = { λ f k. k };
+    ghost fair = { λ f k. k.0 };
 
     ghost stays = { λ f h k. (k, same_word (SaysBy (MetadataTest.post f.enabled)) f.max_level_hint) };
+
+    ghost single = { λ f k. closure_single (MetadataTest.post f.enabled) k.1 };
+
+    ghost firm = { λ f k. closure_firm (MetadataTest.post f.enabled) f.max_level_hint k.1 k.0 };
 
     fn enabled(&self, metadata: &Metadata<'_>, _context: &Context<'_>) -> bool {
         (self.enabled)(metadata)

@@ -1,6 +1,8 @@
 //! A level filter as a filter.
 ghost use Rattle.std.specs.Prelude.{◌≡◌, Some, nat_le, refl, true};
 ghost use Rattle.span_registry_layers_layers.specs.Combined.{level_fair, level_interest, same_word};
+ghost use Rattle.span_registry_layers_layers.specs.Firms.{level_firm};
+ghost use Rattle.span_registry_layers_layers.specs.Singles.{function_single};
 
 use crate::context::Context;
 use crate::filter::Filter;
@@ -23,6 +25,10 @@ impl Filter for LevelFilter {
     ghost fair = { λ f _. level_fair f };
 
     ghost stays = { λ f h _. (tt, same_word (λ m k. k ≡ level_interest f m.level) (Some f)) };
+
+    ghost single = { λ f _. function_single (λ m v. nat_le m.level f) };
+
+    ghost firm = { λ f _. level_firm f };
 
     fn enabled(&self, metadata: &Metadata<'_>, _context: &Context<'_>) -> bool {
         self.passes(*metadata.level())

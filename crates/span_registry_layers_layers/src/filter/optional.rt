@@ -23,6 +23,10 @@ impl<F: Filter> Filter for Option<F> {
 
     ghost stays = { optional.optional_stays ⟦<F as Filter>⟧ };
 
+    ghost single = { optional.optional_single ⟦<F as Filter>⟧ };
+
+    ghost firm = { optional.optional_firm ⟦<F as Filter>⟧ };
+
     fn enabled(&self, metadata: &Metadata<'_>, context: &Context<'_>) -> bool {
         match self {
             None => true,

@@ -2,10 +2,11 @@
 ghost use Rattle.std.proofs.Common.{subst, sym};
 ghost use Rattle.std.specs.Prelude.{◌≡◌};
 ghost use Rattle.tracing_core.specs.Steady.{SameWord};
+ghost use Rattle.span_registry_layers_layers.specs.Numbering.{NumbersStay};
 
 use crate::context::Context;
 use crate::layer::Layer;
-use span_registry_layers_store::Registry;
+use span_registry_layers_store::{FilterMap, Registry};
 use tracing_core::{Attributes, Event, Id, Interest, LevelFilter, Metadata, Record, WeakDispatch};
 
 /// The box does and answers what the layer in it does.
@@ -22,9 +23,19 @@ impl Layer for Box<dyn Layer> {
 
     ghost honest = { λ b. (Layer-box b).honest b.value };
 
+    ghost filters = { λ b. (Layer-box b).filters b.value };
+
+    ghost numbers = { λ b. (Layer-box b).numbers b.value };
+
+    ghost kept = { λ b. (Layer-box b).kept b.value };
+
     ghost fair = { λ b k. (Layer-box b).fair b.value k };
 
     ghost stays = { λ b n c t k. subst (λ z. (Layer-box z).honest z.value × SameWord ((Layer-box b).says b.value) ((Layer-box z).says z.value) ((Layer-box b).hint b.value) ((Layer-box z).hint z.value)) (sym t.2) ((Layer-box b).stays b.value n t.0 t.1 k) };
+
+    ghost numbered = { λ b n c t. subst (λ z. NumbersStay n ((Layer-box b).numbers b.value) ((Layer-box z).numbers z.value)) (sym t.2) ((Layer-box b).numbered b.value n t.0 t.1) };
+
+    ghost once = { λ b k. (Layer-box b).once b.value k };
 
     fn on_register_dispatch(&mut self, dispatch: &WeakDispatch) {
         (**self).on_register_dispatch(dispatch)
@@ -32,6 +43,20 @@ impl Layer for Box<dyn Layer> {
 
     fn on_layer(&mut self, registry: &mut Registry) {
         (**self).on_layer(registry)
+    }
+
+    fn room_left(&self, room: u8) -> Option<u8> {
+        (**self).room_left(room)
+    }
+
+    fn ask_span(
+        &self,
+        metadata: &Metadata<'_>,
+        context: &Context<'_>,
+        passes: bool,
+        verdicts: FilterMap,
+    ) -> (FilterMap, bool) {
+        (**self).ask_span(metadata, context, passes, verdicts)
     }
 
     fn register_callsite(&self, metadata: &Metadata<'_>) -> Interest {

@@ -5,11 +5,13 @@ ghost use Rattle.tracing_core.specs.Steady.{SameWord};
 ghost use Rattle.span_registry_layers_layers.specs.Combined.{same_word};
 ghost use Rattle.span_registry_layers_layers.specs.Functions.{AnswersBy, SaysBy};
 ghost use Rattle.span_registry_layers_layers.specs.Honesty.{Fair};
+ghost use Rattle.span_registry_layers_layers.specs.Numbering.{no_numbers};
+ghost use Rattle.span_registry_layers_layers.specs.Singles.{leaf_once};
 
 use crate::context::Context;
 use crate::filter::{Filter, FilterFn, MetadataTest};
 use crate::layer::Layer;
-use span_registry_layers_store::Registry;
+use span_registry_layers_store::{FilterMap, Registry};
 use tracing_core::{Attributes, Event, Id, Interest, LevelFilter, Metadata, Record, WeakDispatch};
 
 /// Nobody is told of what the closure refuses.
@@ -30,9 +32,27 @@ impl Layer for FilterFn {
 
     ghost stays = { λ x n y t k. subst (λ z. Fair (AnswersBy (MetadataTest.post z.enabled)) (SaysBy (MetadataTest.post z.enabled)) z.max_level_hint × SameWord (SaysBy (MetadataTest.post x.enabled)) (SaysBy (MetadataTest.post z.enabled)) x.max_level_hint z.max_level_hint) (sym t) (k, same_word (SaysBy (MetadataTest.post x.enabled)) x.max_level_hint) };
 
+    ghost numbered = { λ x n y t. no_numbers n };
+
+    ghost once = { λ x k. leaf_once };
+
     fn on_register_dispatch(&mut self, _dispatch: &WeakDispatch) {}
 
     fn on_layer(&mut self, _registry: &mut Registry) {}
+
+    fn room_left(&self, room: u8) -> Option<u8> {
+        Some(room)
+    }
+
+    fn ask_span(
+        &self,
+        _metadata: &Metadata<'_>,
+        _context: &Context<'_>,
+        passes: bool,
+        verdicts: FilterMap,
+    ) -> (FilterMap, bool) {
+        (verdicts, passes)
+    }
 
     fn register_callsite(&self, metadata: &Metadata<'_>) -> Interest {
         Filter::callsite_enabled(self, metadata)

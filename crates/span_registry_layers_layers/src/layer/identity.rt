@@ -3,10 +3,12 @@ ghost use Rattle.std.specs.Prelude.{◌≡◌, None, true};
 ghost use Rattle.tracing_core.specs.InterestInner.TheVariants.{Always};
 ghost use Rattle.span_registry_layers_layers.specs.Combined.{same_word};
 ghost use Rattle.span_registry_layers_layers.specs.Identities.{idle_fair};
+ghost use Rattle.span_registry_layers_layers.specs.Numbering.{no_numbers};
+ghost use Rattle.span_registry_layers_layers.specs.Singles.{leaf_once};
 
 use crate::context::Context;
 use crate::layer::Layer;
-use span_registry_layers_store::Registry;
+use span_registry_layers_store::{FilterMap, Registry};
 use tracing_core::{Attributes, Event, Id, Interest, LevelFilter, Metadata, Record, WeakDispatch};
 
 /// A layer that does nothing with what it is told, and vetoes nothing.
@@ -37,9 +39,27 @@ impl Layer for Identity {
 
     ghost stays = { λ x n y t _. (tt, same_word (λ m k. k ≡ Always) None) };
 
+    ghost numbered = { λ x n y t. no_numbers n };
+
+    ghost once = { λ x k. leaf_once };
+
     fn on_register_dispatch(&mut self, _dispatch: &WeakDispatch) {}
 
     fn on_layer(&mut self, _registry: &mut Registry) {}
+
+    fn room_left(&self, room: u8) -> Option<u8> {
+        Some(room)
+    }
+
+    fn ask_span(
+        &self,
+        _metadata: &Metadata<'_>,
+        _context: &Context<'_>,
+        passes: bool,
+        verdicts: FilterMap,
+    ) -> (FilterMap, bool) {
+        (verdicts, passes)
+    }
 
     fn register_callsite(&self, _metadata: &Metadata<'_>) -> Interest {
         Interest::always()

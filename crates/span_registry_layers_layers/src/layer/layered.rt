@@ -4,7 +4,7 @@ ghost use Rattle.span_registry_layers_layers.specs.Layereds.{picked_hint, picked
 
 use crate::context::Context;
 use crate::layer::Layer;
-use span_registry_layers_store::Registry;
+use span_registry_layers_store::{FilterMap, Registry};
 use tracing_core::{Attributes, Event, Id, Interest, LevelFilter, Metadata, Record, WeakDispatch};
 
 /// A layer over an inner one, or over a registry.
@@ -12,8 +12,8 @@ use tracing_core::{Attributes, Event, Id, Interest, LevelFilter, Metadata, Recor
 /// Both layers are told; the outer one is asked first, and where one refuses, nobody is told.
 #[derive(Clone, Copy, Debug, Drop)]
 pub struct Layered<L, I> {
-    layer: L,
-    inner: I,
+    pub(crate) layer: L,
+    pub(crate) inner: I,
 }
 
 impl<L, I> Layered<L, I> {
@@ -23,12 +23,28 @@ impl<L, I> Layered<L, I> {
     {
         Layered { layer, inner }
     }
+
+    /// The outer layer.
+    pub fn layer(&self) -> &L
+        ensures { result.now ≡ self.now.layer }
+    {
+        &self.layer
+    }
+
+    /// The inner layer, or the registry.
+    pub fn inner(&self) -> &I
+        ensures { result.now ≡ self.now.inner }
+    {
+        &self.inner
+    }
 }
 
 impl<L: Layer, I: Layer> Layer for Layered<L, I> {
+    ghost use Rattle.std.specs.Prelude.{◌+◌, ◌++◌};
     ghost use Rattle.span_registry_layers_layers.specs.Combined.{Both, SaysOf};
     ghost use Rattle.span_registry_layers_layers.specs.Layereds as layereds;
-    ghost use Rattle.span_registry_layers_layers.specs.Layereds.{layered_fair, picked_hint, picked_interest};
+    ghost use Rattle.span_registry_layers_layers.specs.Singles.{both_once};
+    ghost use Rattle.span_registry_layers_layers.specs.Layereds.{KeptByBoth, layered_fair, picked_hint, picked_interest};
 
     ghost answers = { λ l m v r. Both (L.answers l.layer m v) (I.answers l.inner m v) r };
 
@@ -42,9 +58,19 @@ impl<L: Layer, I: Layer> Layer for Layered<L, I> {
 
     ghost honest = { layereds.BothHonest ⟦<L as Layer>⟧ ⟦<I as Layer>⟧ };
 
+    ghost filters = { λ l. L.filters l.layer + I.filters l.inner };
+
+    ghost numbers = { λ l. L.numbers l.layer ++ I.numbers l.inner };
+
+    ghost kept = { λ l. KeptByBoth (L.kept l.layer) (I.kept l.inner) };
+
     ghost fair = { λ l k. layered_fair (L.fair l.layer k.0) (I.fair l.inner k.1) };
 
     ghost stays = { layereds.both_stay ⟦<L as Layer>⟧ ⟦<I as Layer>⟧ };
+
+    ghost numbered = { layereds.both_numbered ⟦<L as Layer>⟧ ⟦<I as Layer>⟧ };
+
+    ghost once = { λ l k. both_once (L.kept l.layer) (I.kept l.inner) (L.once l.layer k.0) (I.once l.inner k.1) };
 
     fn on_register_dispatch(&mut self, dispatch: &WeakDispatch) {
         self.layer.on_register_dispatch(dispatch);
@@ -54,6 +80,25 @@ impl<L: Layer, I: Layer> Layer for Layered<L, I> {
     fn on_layer(&mut self, registry: &mut Registry) {
         self.layer.on_layer(registry);
         self.inner.on_layer(registry);
+    }
+
+    fn room_left(&self, room: u8) -> Option<u8> {
+        match self.layer.room_left(room) {
+            None => None,
+            Some(left) => self.inner.room_left(left),
+        }
+    }
+
+    fn ask_span(
+        &self,
+        metadata: &Metadata<'_>,
+        context: &Context<'_>,
+        passes: bool,
+        verdicts: FilterMap,
+    ) -> (FilterMap, bool) {
+        let (verdicts, outer) = self.layer.ask_span(metadata, context, passes, verdicts);
+        let (verdicts, inner) = self.inner.ask_span(metadata, context, passes, verdicts);
+        (verdicts, outer || inner)
     }
 
     fn register_callsite(&self, metadata: &Metadata<'_>) -> Interest {

@@ -3,10 +3,12 @@ ghost use Rattle.std.proofs.Common.{subst, sym};
 ghost use Rattle.std.specs.Prelude.{◌≡◌, Some, nat_le, true};
 ghost use Rattle.tracing_core.specs.Steady.{SameWord};
 ghost use Rattle.span_registry_layers_layers.specs.Combined.{level_fair, level_interest, same_word};
+ghost use Rattle.span_registry_layers_layers.specs.Numbering.{no_numbers};
+ghost use Rattle.span_registry_layers_layers.specs.Singles.{leaf_once};
 
 use crate::context::Context;
 use crate::layer::Layer;
-use span_registry_layers_store::Registry;
+use span_registry_layers_store::{FilterMap, Registry};
 use tracing_core::{Attributes, Event, Id, Interest, LevelFilter, Metadata, Record, WeakDispatch};
 
 /// Nobody is told of what is more verbose than the level.
@@ -27,9 +29,27 @@ impl Layer for LevelFilter {
 
     ghost stays = { λ x n y t k. subst (λ z. Unit {0} × SameWord (λ m k. k ≡ level_interest x m.level) (λ m k. k ≡ level_interest z m.level) (Some x) (Some z)) (sym t) (tt, same_word (λ m k. k ≡ level_interest x m.level) (Some x)) };
 
+    ghost numbered = { λ x n y t. no_numbers n };
+
+    ghost once = { λ x k. leaf_once };
+
     fn on_register_dispatch(&mut self, _dispatch: &WeakDispatch) {}
 
     fn on_layer(&mut self, _registry: &mut Registry) {}
+
+    fn room_left(&self, room: u8) -> Option<u8> {
+        Some(room)
+    }
+
+    fn ask_span(
+        &self,
+        _metadata: &Metadata<'_>,
+        _context: &Context<'_>,
+        passes: bool,
+        verdicts: FilterMap,
+    ) -> (FilterMap, bool) {
+        (verdicts, passes)
+    }
 
     fn register_callsite(&self, metadata: &Metadata<'_>) -> Interest {
         if self.passes(*metadata.level()) {

@@ -1,7 +1,7 @@
 //! A layer that may be absent.
 use crate::context::Context;
 use crate::layer::Layer;
-use span_registry_layers_store::Registry;
+use span_registry_layers_store::{FilterMap, Registry};
 use tracing_core::{Attributes, Event, Id, Interest, LevelFilter, Metadata, Record, WeakDispatch};
 
 /// Where it is absent it vetoes nothing, but its hint is that it passes nothing: an absent layer doesn't keep its
@@ -21,9 +21,19 @@ impl<L: Layer> Layer for Option<L> {
 
     ghost honest = { absent.IsHonest ⟦<L as Layer>⟧ };
 
+    ghost filters = { absent.filters_of ⟦<L as Layer>⟧ };
+
+    ghost numbers = { absent.numbers_of ⟦<L as Layer>⟧ };
+
+    ghost kept = { absent.KeptOf ⟦<L as Layer>⟧ };
+
     ghost fair = { absent.absent_fair ⟦<L as Layer>⟧ };
 
     ghost stays = { absent.absent_stays ⟦<L as Layer>⟧ };
+
+    ghost numbered = { absent.absent_numbered ⟦<L as Layer>⟧ };
+
+    ghost once = { absent.absent_once ⟦<L as Layer>⟧ };
 
     fn on_register_dispatch(&mut self, dispatch: &WeakDispatch) {
         match self {
@@ -36,6 +46,26 @@ impl<L: Layer> Layer for Option<L> {
         match self {
             None => {}
             Some(layer) => layer.on_layer(registry),
+        }
+    }
+
+    fn room_left(&self, room: u8) -> Option<u8> {
+        match self {
+            None => Some(room),
+            Some(layer) => layer.room_left(room),
+        }
+    }
+
+    fn ask_span(
+        &self,
+        metadata: &Metadata<'_>,
+        context: &Context<'_>,
+        passes: bool,
+        verdicts: FilterMap,
+    ) -> (FilterMap, bool) {
+        match self {
+            None => (verdicts, false),
+            Some(layer) => layer.ask_span(metadata, context, passes, verdicts),
         }
     }
 

@@ -1,17 +1,18 @@
 //! Several layers as one.
-ghost use Rattle.std.specs.Prelude.{◌≡◌};
+ghost use Rattle.std.specs.Prelude.{◌≡◌, ◌≤◌, ◌+◌, Bool, List, length};
 ghost use Rattle.tracing_core.specs.Metadata.{plain_metadata};
 ghost use Rattle.tracing_core.specs.PlainRequests.{plain_attributes, plain_event, plain_record};
 ghost use Rattle.tracing_core.specs.InterestInner.TheVariants.{Never};
 ghost use Rattle.span_registry_layers_layers.specs.Looks.{Closed, Entered, Exited, Recorded, SpanMade, view};
 ghost use Rattle.span_registry_layers_layers.specs.Notices.{AddsFilters, Attached, Dispatched, Followed, Happened, Renamed, Spanned};
-ghost use Rattle.span_registry_layers_layers.specs.Several.{AllAnswer, AllAnswerEvents, EachTold, SaysFrom, ToldEach, hint_from};
+ghost use Rattle.span_registry_layers_layers.specs.Several.{AllAnswer, AllAnswerEvents, EachTold, KeptByEach, SaysFrom, ToldEach, filters_of, hint_from, numbers_of};
 ghost use Rattle.std.specs.Prelude.{Some};
+ghost use Rattle.span_registry_layers_layers.specs.Numbering.{AreNumbers, SameBut, SameOf, more_filters, numbers_from, room_after};
 
 use crate::context::Context;
 use crate::filter::{either_hint, either_interest};
 use crate::layer::Layer;
-use span_registry_layers_store::Registry;
+use span_registry_layers_store::{FilterMap, Registry};
 use tracing_core::{Attributes, Event, Id, Interest, LevelFilter, Metadata, Record, WeakDispatch};
 
 /// Each layer is told, and where one refuses, nobody is. They keep their word where there is one, and each of them
@@ -33,9 +34,19 @@ impl<L: Layer> Layer for Vec<L> {
 
     ghost honest = { λ v. several.IsHonest ⟦<L as Layer>⟧ v.items };
 
+    ghost filters = { λ v. several.filters_of ⟦<L as Layer>⟧ v.items };
+
+    ghost numbers = { λ v. several.numbers_of ⟦<L as Layer>⟧ v.items };
+
+    ghost kept = { λ v. several.KeptByEach ⟦<L as Layer>⟧ v.items };
+
     ghost fair = { λ v k. several.several_fair ⟦<L as Layer>⟧ v.items k };
 
     ghost stays = { λ v n w t k. several.several_stay ⟦<L as Layer>⟧ v.items n w.items t k };
+
+    ghost numbered = { λ v n w t. several.each_numbered ⟦<L as Layer>⟧ n v.items w.items t };
+
+    ghost once = { λ v k. several.several_once ⟦<L as Layer>⟧ v.items k };
 
     fn on_register_dispatch(&mut self, dispatch: &WeakDispatch) {
         tell_dispatch(self.as_mut_slice(), dispatch);
@@ -43,6 +54,20 @@ impl<L: Layer> Layer for Vec<L> {
 
     fn on_layer(&mut self, registry: &mut Registry) {
         attach(self.as_mut_slice(), registry);
+    }
+
+    fn room_left(&self, room: u8) -> Option<u8> {
+        joined_room(self.as_slice(), room)
+    }
+
+    fn ask_span(
+        &self,
+        metadata: &Metadata<'_>,
+        context: &Context<'_>,
+        passes: bool,
+        verdicts: FilterMap,
+    ) -> (FilterMap, bool) {
+        ask_each(self.as_slice(), metadata, context, passes, verdicts)
     }
 
     fn register_callsite(&self, metadata: &Metadata<'_>) -> Interest {
@@ -127,6 +152,41 @@ fn all_event_enabled<L: Layer>(layers: &[L], event: &Event<'_, '_>, context: &Co
     true
 }
 
+// How much is left of a room for filters once each has taken its own.
+fn joined_room<L: Layer>(layers: &[L], room: u8) -> Option<u8>
+    ensures { result ≡ room_after room (filters_of ⟦<L as Layer>⟧ layers.now) }
+{
+    match layers {
+        [] => Some(room),
+        [layer, later @ ..] => match layer.room_left(room) {
+            None => None,
+            Some(left) => joined_room(later, left),
+        },
+    }
+}
+
+// Asks the filters of each in turn of a new span.
+fn ask_each<L: Layer>(
+    layers: &[L],
+    metadata: &Metadata<'_>,
+    context: &Context<'_>,
+    passes: bool,
+    verdicts: FilterMap,
+) -> (FilterMap, bool)
+    ensures room { length result.0.passed ≡ length verdicts.passed }
+    ensures others { SameBut (numbers_of ⟦<L as Layer>⟧ layers.now) verdicts.passed result.0.passed }
+    ensures kept { (later : List Bool) → AreNumbers (length verdicts.passed) (numbers_of ⟦<L as Layer>⟧ layers.now) → SameOf (numbers_of ⟦<L as Layer>⟧ layers.now) result.0.passed later → KeptByEach ⟦<L as Layer>⟧ layers.now (plain_metadata metadata.now) (view context.now) passes later result.1 }
+{
+    match layers {
+        [] => (verdicts, false),
+        [layer, later @ ..] => {
+            let (verdicts, first) = layer.ask_span(metadata, context, passes, verdicts);
+            let (verdicts, some) = ask_each(later, metadata, context, passes, verdicts);
+            (verdicts, first || some)
+        }
+    }
+}
+
 // The highest interest, and never where there is no layer.
 fn joined_interest<L: Layer>(layers: &[L], metadata: &Metadata<'_>) -> Interest
     ensures { SaysFrom ⟦<L as Layer>⟧ Never layers.now (plain_metadata metadata.now) result }
@@ -164,6 +224,7 @@ fn tell_dispatch<L: Layer>(layers: &mut [L], dispatch: &WeakDispatch)
 fn attach<L: Layer>(layers: &mut [L], registry: &mut Registry)
     ensures each { ToldEach ⟦<L as Layer>⟧ layers.old (Attached registry.old) layers.new }
     ensures filters { AddsFilters registry.old registry.new }
+    ensures numbers { registry.old.filters + filters_of ⟦<L as Layer>⟧ layers.old ≤ 64 → (registry.new ≡ more_filters (filters_of ⟦<L as Layer>⟧ layers.old) registry.old) × (numbers_of ⟦<L as Layer>⟧ layers.new ≡ numbers_from registry.old.filters (filters_of ⟦<L as Layer>⟧ layers.old)) }
 {
     for layer in layers.iter_mut() {
         layer.on_layer(registry);

@@ -1,14 +1,11 @@
 //! Calls on the spans of a stack.
-ghost use Rattle.std.specs.Prelude.{◌≡◌, true};
+ghost use Rattle.std.specs.Prelude.{◌≡◌};
 ghost use Rattle.tracing_core.specs.Metadata.{plain_metadata};
 ghost use Rattle.tracing_core.specs.PlainRequests.{plain_attributes, plain_record};
 ghost use Rattle.span_registry_layers_store.specs.Registries.{kin_in};
 ghost use Rattle.span_registry_layers_store.specs.Spans.{is_open};
-ghost use Rattle.span_registry_layers_store.specs.Verdicts.{all_pass};
-ghost use Rattle.span_registry_layers_layers.specs.Oracles.{Oracle};
-ghost use Rattle.span_registry_layers_stack.specs.Calls.{CloneGives, CloseGives, Closes, ClosesOne, EnterGives, ExitGives, FollowsGives, MakesSpan, RecordGives, SpanCached, current_in};
-ghost use Rattle.span_registry_layers_stack.specs.Hearing.{verdicts_from};
-ghost use Rattle.span_registry_layers_stack.specs.Stacks.{passes_cached, plain_stack};
+ghost use Rattle.span_registry_layers_stack.specs.Calls.{AsksUnless, CloneGives, CloseGives, Closes, ClosesOne, EnterGives, ExitGives, FollowsGives, MakesSpan, RecordGives, SpanCached, current_in};
+ghost use Rattle.span_registry_layers_stack.specs.Stacks.{is_refused, plain_stack};
 
 use crate::parts::StackParts;
 use crate::rows::ask_span;
@@ -114,8 +111,7 @@ impl<L: Layer, F: Filter> StackParts<Filtered<L, F>> {
 
     // Which filters pass a new span, and whether one does: nobody is asked where what is kept refuses it.
     fn ask_span(&self, metadata: &Metadata<'_>, at: At) -> (FilterMap, bool)
-        ensures verdicts { (o : Oracle ⟦<F as Filter>⟧) → result.1 ≡ true → result.0.passed ≡ verdicts_from ⟦<F as Filter>⟧ o all_pass (plain_metadata metadata.now) at self.now.registry self.now.rows.items }
-        ensures some { (o : Oracle ⟦<F as Filter>⟧) → result.1 ≡ passes_cached ⟦<F as Filter>⟧ o (plain_stack self.now) (plain_metadata metadata.now) at }
+        ensures { AsksUnless ⟦<F as Filter>⟧ ⟦<L as Layer>⟧ (is_refused (plain_stack self.now) (plain_metadata metadata.now)) (plain_metadata metadata.now) at (plain_stack self.now) result.0.passed result.1 }
     {
         if self.refuses(metadata) {
             (FilterMap::all(), false)
@@ -144,7 +140,7 @@ impl<L: Layer, F: Filter> StackParts<Filtered<L, F>> {
         attributes: &Attributes<'_, '_>,
         at: At,
     ) -> Result<Option<Id>, RequestError>
-        ensures { (o : Oracle ⟦<F as Filter>⟧) → SpanCached ⟦<F as Filter>⟧ ⟦<L as Layer>⟧ o (plain_attributes attributes.now) at (plain_stack self.old) result (plain_stack self.new) }
+        ensures { SpanCached ⟦<F as Filter>⟧ ⟦<L as Layer>⟧ (plain_attributes attributes.now) at (plain_stack self.old) result (plain_stack self.new) }
     {
         if !self.knows(attributes.parent()) {
             return Err(RequestError::UnknownParent);

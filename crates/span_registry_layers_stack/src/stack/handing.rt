@@ -2,12 +2,11 @@
 ghost use Rattle.std.specs.Prelude.{◌≡◌, Some};
 ghost use Rattle.tracing_core.specs.Metadata.{plain_metadata};
 ghost use Rattle.tracing_core.specs.PlainRequests.{plain_attributes, plain_event, plain_record};
-ghost use Rattle.span_registry_layers_layers.specs.Oracles.{Oracle};
-ghost use Rattle.span_registry_layers_stack.specs.Asked.{common_hint, common_interest};
+ghost use Rattle.span_registry_layers_stack.specs.Asked.{CommonInterest, common_hint};
 ghost use Rattle.span_registry_layers_stack.specs.Calls.{CloneGives, CloseGives, EnterGives, ExitGives, FollowsGives, RecordGives, SpanCached, current_in};
 ghost use Rattle.span_registry_layers_stack.specs.Rows.{filters_of};
 ghost use Rattle.span_registry_layers_stack.specs.Hearing.{TellsDispatch};
-ghost use Rattle.span_registry_layers_stack.specs.Stacks.{EventCached, Registers, RowsBecome, passes_cached, with_hint};
+ghost use Rattle.span_registry_layers_stack.specs.Stacks.{EventCached, PassesCached, Registers, RowsBecome, with_hint};
 
 use crate::stack::Stack;
 use span_registry_layers_layers::{Filter, Filtered, Layer};
@@ -38,7 +37,7 @@ impl<L: Layer, F: Filter> Stack<Filtered<L, F>> {
     }
 
     pub(crate) fn ask_interest(&mut self, metadata: &Metadata<'_>) -> Interest
-        ensures answer { (o : Oracle ⟦<F as Filter>⟧) → result ≡ common_interest ⟦<F as Filter>⟧ o (plain_metadata metadata.now) (filters_of self.old.rows) }
+        ensures answer { CommonInterest ⟦<F as Filter>⟧ (plain_metadata metadata.now) (filters_of self.old.rows) result }
         ensures left { Registers (plain_metadata metadata.now) result self.old self.new }
     {
         self.parts.register(metadata)
@@ -52,13 +51,13 @@ impl<L: Layer, F: Filter> Stack<Filtered<L, F>> {
     }
 
     pub(crate) fn some_passes(&self, metadata: &Metadata<'_>, at: At) -> bool
-        ensures { (o : Oracle ⟦<F as Filter>⟧) → result ≡ passes_cached ⟦<F as Filter>⟧ o self.now (plain_metadata metadata.now) at }
+        ensures { PassesCached ⟦<F as Filter>⟧ self.now (plain_metadata metadata.now) at result }
     {
         self.parts.enabled(metadata, at)
     }
 
     pub(crate) fn hand_event(&mut self, event: &Event<'_, '_>, at: At) -> Result<(), RequestError>
-        ensures { (o : Oracle ⟦<F as Filter>⟧) → EventCached ⟦<F as Filter>⟧ ⟦<L as Layer>⟧ o (plain_event event.now) at self.old result self.new }
+        ensures { EventCached ⟦<F as Filter>⟧ ⟦<L as Layer>⟧ (plain_event event.now) at self.old result self.new }
     {
         self.parts.event(event, at)
     }
@@ -68,7 +67,7 @@ impl<L: Layer, F: Filter> Stack<Filtered<L, F>> {
         attributes: &Attributes<'_, '_>,
         at: At,
     ) -> Result<Option<Id>, RequestError>
-        ensures { (o : Oracle ⟦<F as Filter>⟧) → SpanCached ⟦<F as Filter>⟧ ⟦<L as Layer>⟧ o (plain_attributes attributes.now) at self.old result self.new }
+        ensures { SpanCached ⟦<F as Filter>⟧ ⟦<L as Layer>⟧ (plain_attributes attributes.now) at self.old result self.new }
     {
         self.parts.new_span(attributes, at)
     }

@@ -1,9 +1,11 @@
 //! Reading a stack.
-ghost use Rattle.std.specs.Prelude.{◌≡◌, slice_get};
+ghost use Rattle.std.specs.Prelude.{◌≡◌, IfOk, slice_get};
 ghost use Rattle.std.specs.Option.{option_map};
+ghost use Rattle.span_registry_layers_store.specs.Copies.{CopyOf};
 
 use crate::stack::Stack;
-use span_registry_layers_store::Registry;
+use span_registry_layers_store::{Registry, RegistryTable};
+use std::alloc::AllocError;
 
 impl<O> Stack<O> {
     /// The spans and the entries of lanes.
@@ -11,6 +13,17 @@ impl<O> Stack<O> {
         ensures { result.now ≡ self.now.registry }
     {
         &self.parts.registry
+    }
+
+    /// A copy of the open spans and of the lanes' entries.
+    ///
+    /// # Errors
+    ///
+    /// Want of memory.
+    pub fn table(&self) -> Result<RegistryTable, AllocError>
+        ensures { IfOk result (λ copy. CopyOf self.now.registry copy) }
+    {
+        self.parts.registry.table()
     }
 
     /// The output at this place, counted from 0.

@@ -1,11 +1,10 @@
 //! Calls on the spans of a stack.
 ghost use Rattle.std.specs.Prelude.{◌≡◌};
 ghost use Rattle.tracing_core.specs.PlainRequests.{plain_attributes, plain_record};
-ghost use Rattle.span_registry_layers_layers.specs.Oracles.{Oracle};
 ghost use Rattle.span_registry_layers_stack.specs.Calls.{CloneGives, CloseGives, EnterGives, ExitGives, FollowsGives, RecordGives, SpanAsked, SpanCached, current_in};
 ghost use Rattle.span_registry_layers_stack.specs.Words.{Word};
 
-use crate::stack::{Stack, is_real};
+use crate::stack::Stack;
 use span_registry_layers_layers::{Filter, Filtered, Layer};
 use tracing_core::{At, Attributes, CurrentSpan, Id, Record, RequestError};
 
@@ -31,12 +30,11 @@ impl<L: Layer, F: Filter> Stack<Filtered<L, F>> {
         attributes: &Attributes<'_, '_>,
         at: At,
     ) -> Result<Option<Id>, RequestError>
-        ensures exact { (o : Oracle ⟦<F as Filter>⟧) → SpanCached ⟦<F as Filter>⟧ ⟦<L as Layer>⟧ o (plain_attributes attributes.now) at self.old result self.new }
+        ensures exact { SpanCached ⟦<F as Filter>⟧ ⟦<L as Layer>⟧ (plain_attributes attributes.now) at self.old result self.new }
         // While what is kept is right, this is asking every filter afresh, and what is kept stays right.
-        ensures asking { (o : Oracle ⟦<F as Filter>⟧) → Word ⟦<F as Filter>⟧ self.old → SpanAsked ⟦<F as Filter>⟧ ⟦<L as Layer>⟧ o (plain_attributes attributes.now) at self.old result self.new }
-        ensures kept { (o : Oracle ⟦<F as Filter>⟧) → Word ⟦<F as Filter>⟧ self.old → Word ⟦<F as Filter>⟧ self.new }
+        ensures asking { Word ⟦<F as Filter>⟧ self.old → SpanAsked ⟦<F as Filter>⟧ ⟦<L as Layer>⟧ (plain_attributes attributes.now) at self.old result self.new }
+        ensures kept { Word ⟦<F as Filter>⟧ self.old → Word ⟦<F as Filter>⟧ self.new }
     {
-        is_real(attributes.metadata());
         self.hand_span(attributes, at)
     }
 

@@ -4,9 +4,11 @@ ghost use Rattle.std.proofs.Common.{sym, subst};
 ghost use Rattle.tracing_core.specs.InterestInner.TheVariants.{Always};
 ghost use Rattle.tracing_core.specs.Steady.{InterestFits};
 ghost use Rattle.span_registry_layers_layers.specs.Combined.{same_word};
+ghost use Rattle.span_registry_layers_layers.specs.Numbering.{no_numbers};
+ghost use Rattle.span_registry_layers_layers.specs.Singles.{leaf_once};
 
 use span_registry_layers_layers::{Context, Layer};
-use span_registry_layers_store::Registry;
+use span_registry_layers_store::{FilterMap, Registry};
 use std::alloc::Global;
 use tracing_core::{Attributes, Event, Id, Interest, LevelFilter, Metadata, Record, WeakDispatch};
 
@@ -62,11 +64,29 @@ impl Layer for Journal {
 
     ghost stays = { λ x n y t k. (tt, same_word (λ m j. j ≡ Always) None) };
 
+    ghost numbered = { λ x n y t. no_numbers n };
+
+    ghost once = { λ x k. leaf_once };
+
     fn on_register_dispatch(&mut self, _dispatch: &WeakDispatch) {
         self.note(Told::Taken, 0);
     }
 
     fn on_layer(&mut self, _registry: &mut Registry) {}
+
+    fn room_left(&self, room: u8) -> Option<u8> {
+        Some(room)
+    }
+
+    fn ask_span(
+        &self,
+        _metadata: &Metadata<'_>,
+        _context: &Context<'_>,
+        passes: bool,
+        verdicts: FilterMap,
+    ) -> (FilterMap, bool) {
+        (verdicts, passes)
+    }
 
     fn register_callsite(&self, _metadata: &Metadata<'_>) -> Interest {
         Interest::always()

@@ -1,32 +1,39 @@
 // What is refused, and leaves a stack as it was.
 use super::*;
 
-#[test]
-fn a_stack_wants_outputs_with_keys_of_their_own(rt: HostRuntime) -> Result<(), Fail> {
-    let alloc = rt.alloc();
-    let none: Vec<Output<Filtered<Journal, LevelFilter>>> = Vec::new(alloc);
-    assert!(rt; matches!(Stack::new(alloc, none), Err(StackError::NoOutput)));
-    let mut equal = Vec::new(alloc);
-    equal
-        .push(output_of(alloc, 1, LevelFilter::INFO))
-        .ok()
-        .ok_or("room")?;
-    equal
-        .push(output_of(alloc, 2, LevelFilter::INFO))
-        .ok()
-        .ok_or("room")?;
-    equal
-        .push(output_of(alloc, 1, LevelFilter::INFO))
-        .ok()
-        .ok_or("room")?;
-    assert!(rt; matches!(Stack::new(alloc, equal), Err(StackError::EqualKeys)));
-    let mut many = Vec::new(alloc);
-    for key in 0..65 {
-        many.push(output_of(alloc, key, LevelFilter::INFO))
+/// Why no stack was made of outputs with these keys, which come back in order.
+fn refused(alloc: Global, keys: &[u32]) -> Result<StackError, Fail> {
+    let mut outputs = Vec::new(alloc);
+    for key in keys {
+        outputs
+            .push(output_of(alloc, *key, LevelFilter::INFO))
             .ok()
             .ok_or("room")?;
     }
-    assert!(rt; matches!(Stack::new(alloc, many), Err(StackError::TooManyFilters)));
+    let Err(StackRefusal { error, outputs }) = Stack::new(alloc, outputs) else {
+        return Err("a refusal")?;
+    };
+    if outputs.len() != keys.len() {
+        return Err("outputs are lost")?;
+    }
+    for place in 0..outputs.len() {
+        if outputs[place].key.0 != keys[place] {
+            return Err("outputs are not in order")?;
+        }
+    }
+    Ok(error)
+}
+
+#[test]
+fn a_stack_wants_outputs_with_keys_of_their_own(rt: HostRuntime) -> Result<(), Fail> {
+    let alloc = rt.alloc();
+    assert!(rt; refused(alloc, &[])? == StackError::NoOutput);
+    assert!(rt; refused(alloc, &[1, 2, 1])? == StackError::EqualKeys);
+    let mut keys = [0; 65];
+    for key in 0..65 {
+        keys[key] = key as u32;
+    }
+    assert!(rt; refused(alloc, &keys)? == StackError::TooManyFilters);
     Ok(())
 }
 
@@ -40,7 +47,7 @@ fn a_stack_has_room_for_64_outputs(rt: HostRuntime) -> Result<(), Fail> {
             .ok()
             .ok_or("room")?;
     }
-    let mut stack = Stack::new(alloc, outputs)?;
+    let mut stack = Stack::new(alloc, outputs).ok().ok_or("a stack")?;
     tell(&mut stack, "app", Level::INFO)?;
     assert!(rt; was_told(&stack, 63, &[(Told::Happened, 0)]));
     Ok(())

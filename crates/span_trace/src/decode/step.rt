@@ -5,14 +5,51 @@ use crate::decode::setup::{CallsiteLine, Setup};
 use crate::fault::LineFault;
 use serde_json::Value as Json;
 use span_tracing::{
-    EnabledCall, EventCall, FieldValue, FollowsCall, NewSpanCall, OwnedValue, Parent, SpanCall,
-    SpanName, Step,
+    EnabledCall, EventCall, FieldValue, FollowsCall, Moment, NewSpanCall, OwnedValue, Parent,
+    SpanCall, SpanName, Step,
 };
 use std::alloc::Global;
 use tracing_core::{Id, Identifier};
 
+/// A step, as far as its line tells it.
+#[derive(Debug, Drop)]
+pub(crate) enum StepLine {
+    /// All of it.
+    Whole(Step),
+    /// Values whose fields are named: their places are known once the span's callsite is.
+    Record(RecordLine),
+}
+
+/// Values for a span.
+#[derive(Debug, Drop)]
+pub(crate) struct RecordLine {
+    pub(crate) lane: usize,
+    pub(crate) moment: Moment,
+    pub(crate) span: Option<SpanName>,
+    pub(crate) values: Vec<NamedValue>,
+}
+
+/// A value and the name of its field.
+#[derive(Debug, Drop)]
+pub(crate) struct NamedValue {
+    pub(crate) name: String,
+    pub(crate) value: OwnedValue,
+}
+
 /// The step of that name.
 pub(crate) fn step_line(
+    alloc: Global,
+    setup: &[Setup],
+    name: &str,
+    members: Members<'_>,
+) -> Result<StepLine, LineFault> {
+    match name {
+        "record" => Ok(StepLine::Record(record_line(alloc, setup, members)?)),
+        _ => Ok(StepLine::Whole(whole_step(alloc, setup, name, members)?)),
+    }
+}
+
+fn whole_step(
     alloc: Global,
     setup: &[Setup],
     name: &str,
@@ -66,6 +103,20 @@ fn new_span_call(
         callsite: Identifier(id),
         parent: parent_of(members)?,
         values: field_values(alloc, first_callsite(setup, id), members.list("values")?)?,
+    })
+}
+
+fn record_line(
+    alloc: Global,
+    setup: &[Setup],
+    members: Members<'_>,
+) -> Result<RecordLine, LineFault> {
+    members.only(&["do", "lane", "moment", "span", "values"])?;
+    Ok(RecordLine {
+        lane: members.size("lane")?,
+        moment: members.moment()?,
+        span: span_or_none(members.get("span")?)?,
+        values: named_values(alloc, setup, members.list("values")?)?,
     })
 }
 
@@ -153,6 +204,35 @@ fn field_values(
         })?;
     }
     Ok(values)
+}
+
+/// A list of names and values. Each name has to be that of a field of some callsite.
+fn named_values(
+    alloc: Global,
+    setup: &[Setup],
+    list: &[Json],
+) -> Result<Vec<NamedValue>, LineFault> {
+    let mut values = Vec::new(alloc);
+    for entry in list {
+        let (first, second) = pair(entry)?;
+        let name = owned_text(alloc, first)?;
+        if !setup.iter().any(|line| declares(line, name.as_str())) {
+            return Err(LineFault::NotReadable);
+        }
+        values.push(NamedValue {
+            name,
+            value: value_of(alloc, second)?,
+        })?;
+    }
+    Ok(values)
+}
+
+/// Whether the line is a callsite with a field of that name.
+fn declares(line: &Setup, name: &str) -> bool {
+    match line {
+        Setup::Callsite(callsite) => callsite.field_index(name).is_some(),
+        Setup::Stack(_) | Setup::Lane(_) => false,
+    }
 }
 
 fn field_named(callsite: Option<&CallsiteLine>, name: &str) -> Option<usize> {

@@ -21,12 +21,56 @@ const CLOSE: &str = r#"{"do":"try_close","lane":0,"moment":[1739786460,0],"span"
 
 const CLONE: &str = r#"{"do":"clone_span","lane":0,"moment":[1739786460,0],"span":[0,1]}"#;
 
-const REPLIES: [Row<'static>; 12] = [
+const REPLIES: [Row<'static>; 14] = [
     Row {
         steps: &[DEFAULT, NEW_SPAN, ENTER, EVENT],
         replies: &[r#""done""#, r#"{"span":[0,1]}"#, r#""done""#, r#""done""#],
         status: 0,
         text: r"fake time outer{x=42}: app: hi n=3\n",
+    },
+    Row {
+        steps: &[
+            DEFAULT,
+            r#"{"do":"new_span","lane":0,"moment":[1739786460,0],"callsite":1,"values":[]}"#,
+            ENTER,
+            r#"{"do":"record","lane":0,"moment":[1739786460,0],"span":[0,1],"values":[["n",7],["x",1],["message","m"]]}"#,
+            r#"{"do":"record","lane":0,"moment":[1739786460,0],"span":[0,1],"values":[["x",null],["x",2]]}"#,
+            EVENT,
+        ],
+        replies: &[
+            r#""done""#,
+            r#"{"span":[0,1]}"#,
+            r#""done""#,
+            r#""done""#,
+            r#""done""#,
+            r#""done""#,
+        ],
+        status: 0,
+        text: r"fake time outer{x=1 x=2}: app: hi n=3\n",
+    },
+    Row {
+        steps: &[
+            DEFAULT,
+            r#"{"do":"record","lane":0,"moment":[1739786460,0],"span":[0,1],"values":[["x",1]]}"#,
+            NEW_SPAN,
+            r#"{"do":"record","lane":0,"moment":[1739786460,0],"span":null,"values":[["x",1]]}"#,
+            r#"{"do":"record","lane":0,"moment":[1739786460,0],"span":[1,1],"values":[["x",1]]}"#,
+            r#"{"do":"record","lane":1,"moment":[1739786460,0],"span":[1,1],"values":[["x",1]]}"#,
+            CLOSE,
+            r#"{"do":"record","lane":0,"moment":[1739786460,0],"span":[0,1],"values":[["x",1]]}"#,
+        ],
+        replies: &[
+            r#""done""#,
+            r#"{"refused":4}"#,
+            r#"{"span":[0,1]}"#,
+            r#""done""#,
+            r#"{"refused":2}"#,
+            r#"{"refused":23}"#,
+            r#"{"closed":true}"#,
+            r#"{"refused":4}"#,
+        ],
+        status: 1,
+        text: "",
     },
     Row {
         steps: &[EVENT, NEW_SPAN, ENTER],

@@ -8,7 +8,7 @@ use std::process::Abort;
 use std::test::Fail;
 
 /// Whole lines.
-const LINES: [&str; 26] = [
+const LINES: [&str; 31] = [
     "",
     " ",
     "null",
@@ -28,7 +28,12 @@ const LINES: [&str; 26] = [
     r#"{"do":"enabled","lane":0,"moment":[0,0]}"#,
     r#"{"do":"enabled","lane":0,"moment":[0,0],"callsite":null}"#,
     r#"{"do":"enabled","lane":0,"moment":[0,0],"callsite":1,"values":[]}"#,
-    r#"{"do":"record","lane":0,"moment":[0,0],"span":[0,1],"values":[]}"#,
+    r#"{"do":"record","lane":0,"moment":[0,0],"span":[0,1]}"#,
+    r#"{"do":"record","lane":0,"moment":[0,0],"values":[]}"#,
+    r#"{"do":"record","lane":0,"moment":[0,0],"span":[0,1],"values":[["z",1]]}"#,
+    r#"{"do":"record","lane":0,"moment":[0,0],"span":[0,1],"values":[["x",true]]}"#,
+    r#"{"do":"record","lane":0,"moment":[0,0],"span":[0,1],"values":[[0,1]]}"#,
+    r#"{"do":"record","lane":0,"moment":[0,0],"span":[0,1],"callsite":1,"values":[]}"#,
     r#"{"do":"swap_filter","lane":0,"moment":[0,0],"span":[0,1]}"#,
     r#"{"do":"work","moment":[0,0],"sink":0,"lines":9}"#,
     r#"{"do":"set_default","lane":0,"handle":0}"#,

@@ -1,7 +1,7 @@
 //! Each step once, and each refusal of a step.
 
 use super::*;
-use crate::{EnabledCall, EventCall, FollowsCall, NewSpanCall, Parent, SpanCall, Step};
+use crate::{EnabledCall, EventCall, FollowsCall, NewSpanCall, Parent, RecordCall, SpanCall, Step};
 
 #[test]
 fn each_step_answers(rt: HostRuntime) -> Result<(), Fail> {
@@ -64,6 +64,49 @@ fn spans_have_as_many_handles_as_were_taken(rt: HostRuntime) -> Result<(), Fail>
             Reply::Closed(false),
             Reply::Closed(true),
             Reply::Refused(Refusal::UnknownSpan),
+        ]
+        .as_slice()
+    );
+    Ok(())
+}
+
+#[test]
+fn values_are_recorded_on_spans(rt: HostRuntime) -> Result<(), Fail> {
+    let alloc = rt.alloc();
+    let mut trace = set_trace(&rt, alloc, LevelFilter::INFO, fixed_time(alloc)?)?;
+    let span = made(trace.new_span(0, OPENED, OUTER, Parent::Root, &[]))?;
+    let values = [number_field(0, 1)];
+    assert_eq!(rt; trace.record(0, OPENED, Some(span), &values), Reply::Done);
+    assert_eq!(rt; trace.record(0, OPENED, None, &values), Reply::Done);
+    let unknown = Some(span_name(0, 9)?);
+    let refused = Reply::Refused(Refusal::UnknownSpan);
+    assert_eq!(rt; trace.record(0, OPENED, unknown, &values), refused);
+    let steps = [
+        Step::Record(RecordCall {
+            lane: 9,
+            moment: TOO_EARLY,
+            span: Some(span_name(1, 1)?),
+            values: vec![in alloc; number_field(0, 2)]?,
+        }),
+        Step::Record(RecordCall {
+            lane: 0,
+            moment: TOO_EARLY,
+            span: Some(span_name(1, 1)?),
+            values: Vec::new(alloc),
+        }),
+        Step::Record(RecordCall {
+            lane: 0,
+            moment: OPENED,
+            span: Some(span_name(1, 1)?),
+            values: Vec::new(alloc),
+        }),
+    ];
+    assert_eq!(rt;
+        trace.run(&steps)?.as_slice(),
+        [
+            Reply::Refused(Refusal::UnknownLane),
+            Reply::Refused(Refusal::BadMoment),
+            Reply::Refused(Refusal::UnknownStack),
         ]
         .as_slice()
     );

@@ -49,6 +49,29 @@ fn an_event_in_a_span_is_a_line(rt: HostRuntime) -> Result<(), Fail> {
 }
 
 #[test]
+fn recorded_values_stand_behind_the_first(rt: HostRuntime) -> Result<(), Fail> {
+    let alloc = rt.alloc();
+    let mut trace = set_trace(&rt, alloc, LevelFilter::INFO, Timer::Absent)?;
+    let first = [text_field(alloc, 0, "a")?];
+    let inner = made(trace.new_span(0, OPENED, INNER, Parent::Root, &first))?;
+    assert_eq!(rt; answered(trace.enter(0, OPENED, Some(inner)))?, Reply::Done);
+    let later = [text_field(alloc, 1, "b")?, number_field(2, 7)];
+    assert_eq!(rt; trace.record(1, OPENED, Some(inner), &later), Reply::Done);
+    say(&rt, &mut trace, OPENED, Parent::Contextual, "one")?;
+    assert_eq!(rt; trace.record(0, OPENED, Some(inner), &[]), Reply::Done);
+    say(&rt, &mut trace, OPENED, Parent::Contextual, "two")?;
+    if trace.state.parts.starved > 0 {
+        return Err("want of memory".into());
+    }
+    has_file(
+        &rt,
+        &trace,
+        TODAY,
+        "inner{type=\"a\" text=\"b\"}: app: one\ninner{type=\"a\" text=\"b\" }: app: two\n",
+    )
+}
+
+#[test]
 fn bytes_at_opening_are_kept(rt: HostRuntime) -> Result<(), Fail> {
     let alloc = rt.alloc();
     let mut folder = MemoryFolder::new(alloc);

@@ -1,11 +1,11 @@
 //! Rotations, retention, links, and builders that are refused.
 
 ghost use Rattle.std.specs.Prelude.{◌≡◌, IfOk, true};
-ghost use Rattle.tracing_appender_rolling.specs.Moments.{is_moment};
+ghost use Rattle.tracing_appender_folders.specs.Moments.{is_moment};
 
 use crate::{
-    BuildError, Builder, FaultyFolder, Folder, MemoryFolder, Moment, RollingFileAppender, Rotation,
-    daily, hourly, minutely, never, weekly,
+    BuildError, Builder, FaultyFolder, Folder, FolderError, FolderFault, InitContext, InitError,
+    MemoryFolder, Moment, RollingFileAppender, Rotation, daily, hourly, minutely, never, weekly,
 };
 use std::alloc::{AllocError, Global};
 use std::test::Fail;
@@ -333,5 +333,71 @@ fn each_call_is_refused_in_turn(rt: HostRuntime) -> Result<(), Fail> {
         assert_eq!(rt; told, if passed { 0 } else { 1 });
     }
     assert_eq!(rt; script(alloc, 13)?, (0, 0));
+    Ok(())
+}
+
+/// A daily appender over a folder whose writes with the numbers take at most so many bytes. The opening is call 1.
+fn slowed(
+    alloc: Global,
+    short: &[u64],
+    most: usize,
+) -> Result<RollingFileAppender<FaultyFolder>, Fail> {
+    let short = Vec::from_slice(alloc, short)?;
+    let inner = MemoryFolder::new(alloc);
+    let folder = FaultyFolder::new(inner, Vec::new(alloc)).with_short_writes(short, most);
+    let prefix = String::from_str(alloc, "t")?;
+    Ok(daily(alloc, folder, prefix, FEBRUARY).map_err(|refusal| refusal.error)?)
+}
+
+#[test]
+fn short_writes_go_on_until_one_takes_nothing(rt: HostRuntime) -> Result<(), Fail> {
+    let alloc = rt.alloc();
+    let mut half = slowed(alloc, &[2, 3], 3)?;
+    half.write_all_at(b"abcdefgh", FEBRUARY)?;
+    assert!(rt; holds(half.folder().inner(), "t.2020-02-01", b"abcdefgh")?);
+    assert_eq!(rt; half.faults().writes, 0);
+    let mut none = slowed(alloc, &[3], 0)?;
+    none.write_all_at(b"ab", FEBRUARY)?;
+    let zero = FolderError::Fault(FolderFault::WriteZero);
+    assert_eq!(rt; none.write_all_at(b"cd", FEBRUARY), Err(zero));
+    none.write_all_at(b"ef", FEBRUARY)?;
+    assert!(rt; holds(none.folder().inner(), "t.2020-02-01", b"abef")?);
+    assert_eq!(rt; none.faults().writes, 1);
+    assert_eq!(rt; none.faults().last, Some(FolderFault::WriteZero));
+    assert_eq!(rt; none.folder().failures(), 0);
+    let mut once = slowed(alloc, &[2, 3], 0)?;
+    assert_eq!(rt; once.write_at(b"ab", FEBRUARY)?, 0);
+    once.write_all_at(b"", FEBRUARY)?;
+    assert_eq!(rt; once.faults().writes, 0);
+    Ok(())
+}
+
+#[test]
+fn faults_are_told_as_the_folder_tells_them(rt: HostRuntime) -> Result<(), Fail> {
+    let alloc = rt.alloc();
+    let refused = Vec::from_slice(alloc, &[1, 3])?;
+    let folder = FaultyFolder::new(MemoryFolder::new(alloc), refused).with_fault(
+        FolderFault::NotFound,
+    );
+    match named(alloc, Rotation::DAILY, "t", "")?.build(alloc, folder, FEBRUARY) {
+        Ok(_) => return Err("built".into()),
+        Err(refusal) => {
+            let error = InitError {
+                context: InitContext::File,
+                source: FolderFault::NotFound,
+            };
+            assert_eq!(rt; refusal.error, BuildError::Init(error));
+            assert_eq!(rt; refusal.folder.failures(), 2);
+        }
+    }
+    let refused = Vec::from_slice(alloc, &[2])?;
+    let folder = FaultyFolder::new(MemoryFolder::new(alloc), refused).with_fault(
+        FolderFault::Unsupported,
+    );
+    let prefix = String::from_str(alloc, "t")?;
+    let mut appender = daily(alloc, folder, prefix, FEBRUARY).map_err(|refusal| refusal.error)?;
+    let fault = FolderError::Fault(FolderFault::Unsupported);
+    assert_eq!(rt; appender.write_all_at(b"a", FEBRUARY), Err(fault));
+    assert_eq!(rt; appender.faults().last, Some(FolderFault::Unsupported));
     Ok(())
 }

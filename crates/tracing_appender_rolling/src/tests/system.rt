@@ -1,10 +1,10 @@
 //! Files over a folder of the system.
 
 ghost use Rattle.std.specs.Prelude.{◌≡◌, true};
-ghost use Rattle.tracing_appender_rolling.specs.Moments.{is_moment};
+ghost use Rattle.tracing_appender_folders.specs.Moments.{is_moment};
 
 use crate::{
-    BuildError, Builder, DiskFolder, FolderFault, InitContext, InitError, Moment, Rotation,
+    BuildError, Builder, DiskFolder, Folder, FolderFault, InitContext, InitError, Moment, Rotation,
 };
 use std::alloc::{AllocError, Global};
 use std::fs;
@@ -120,5 +120,53 @@ fn a_file_in_the_folders_place_refuses(rt: HostRuntime) -> Result<(), Fail> {
         },
     }
     fs::remove_file(&rt, "taken")?;
+    Ok(())
+}
+
+/// In `/proc` nobody can make a file, root neither, so this is a folder that can only be read.
+#[test]
+fn a_folder_that_can_only_be_read_refuses(rt: HostRuntime) -> Result<(), Fail> {
+    let alloc = rt.alloc();
+    let folder = DiskFolder::new(rt, String::from_str(alloc, "/proc")?);
+    match hourly_files(alloc)?.build(alloc, folder, FEBRUARY) {
+        Ok(_) => return Err("built".into()),
+        Err(refused) => {
+            let error = BuildError::Init(InitError {
+                context: InitContext::File,
+                source: FolderFault::NotFound,
+            });
+            assert_eq!(rt; refused.error, error);
+            // the opening was tried twice, and the directories stood
+            assert_eq!(rt; refused.folder.failures(), 2);
+        }
+    }
+    Ok(())
+}
+
+/// A file takes the place of the folder, so the next period's file can't be opened: the old one goes on.
+#[test]
+fn a_folder_that_goes_away_keeps_the_old_file(rt: HostRuntime) -> Result<(), Fail> {
+    let alloc = rt.alloc();
+    let folder = DiskFolder::new(rt, String::from_str(alloc, "moving")?);
+    let mut appender = hourly_files(alloc)?
+        .build(alloc, folder, FEBRUARY)
+        .map_err(|refusal| refusal.error)?;
+    fs::rename(&rt, "moving", "moved")?;
+    fs::write(&rt, "moving", b"")?;
+    appender.write_all_at(b"a\n", ELEVEN)?;
+    let faults = appender.faults();
+    assert_eq!(rt; faults.switches, 1);
+    // a listing was refused too, and one before the folder was made
+    assert_eq!(rt; faults.retentions, 2);
+    fs::remove_file(&rt, "moving")?;
+    appender.write_all_at(b"b\n", ELEVEN)?;
+    let old = fs::read(&rt, "moved/t.2020-02-01-10")?;
+    assert_eq!(rt; old.as_slice(), b"a\nb\n".as_slice());
+    appender.write_all_at(b"c\n", NOON)?;
+    let third = fs::read(&rt, "moving/t.2020-02-01-12")?;
+    assert_eq!(rt; third.as_slice(), b"c\n".as_slice());
+    assert_eq!(rt; appender.faults().switches, 1);
+    fs::remove_dir_all(&rt, "moving")?;
+    fs::remove_dir_all(&rt, "moved")?;
     Ok(())
 }

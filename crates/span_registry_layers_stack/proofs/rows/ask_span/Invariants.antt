@@ -1,14 +1,13 @@
-use Rattle.std.proofs.Common.{◌≡◌, ◌||◌, drop}
+use Rattle.std.proofs.Common.{Bool, List, false, length}
 use Rattle.tracing_core.specs.Metadata.{plain_metadata}
 use Rattle.span_registry_layers_store.specs.Verdicts.{all_pass}
-use Rattle.span_registry_layers_layers.specs.Oracles.{Oracle}
-use Rattle.span_registry_layers_stack.specs.Asked.{any_passes}
-use Rattle.span_registry_layers_stack.specs.Hearing.{verdicts_from}
+use Rattle.span_registry_layers_stack.specs.Asked.{AsksFrom}
 use Rattle.span_registry_layers_stack.proofs.rows.ask_span.Given as goal
 
-abbrev pub invariant-loop-row : goal.invariant-loop-row
-invariant-loop-row g l =
-    record {
-      verdicts : (o : Oracle g.F.Filter) → verdicts_from g.F.Filter o l.verdicts.passed (plain_metadata l.metadata) l.at l.registry (drop l.row-index l.rows) ≡ verdicts_from g.F.Filter o all_pass (plain_metadata l.metadata) l.at l.registry l.fn.rows;
-      some : (o : Oracle g.F.Filter) → (l.some || any_passes g.F.Filter o (plain_metadata l.metadata) l.at l.registry (drop l.row-index l.rows)) ≡ any_passes g.F.Filter o (plain_metadata l.metadata) l.at l.registry l.fn.rows;
-    }
+abbrev pub invariant-loop-rest : goal.invariant-loop-rest
+invariant-loop-rest g l =
+    (verdicts : List Bool) (some : Bool) → AsksFrom g.F.Filter g.L.Layer (plain_metadata l.metadata) l.at l.registry l.verdicts.passed l.some l.rest verdicts some →
+    AsksFrom g.F.Filter g.L.Layer (plain_metadata l.metadata) l.at l.registry all_pass false l.fn.rows verdicts some
+
+abbrev pub decreases-loop-rest : goal.decreases-loop-rest
+decreases-loop-rest g l = length l.rest

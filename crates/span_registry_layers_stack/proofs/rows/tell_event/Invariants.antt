@@ -1,12 +1,11 @@
 use Rattle.std.proofs.Common.{◌≡◌, take, drop}
 use Rattle.tracing_core.specs.PlainRequests.{plain_event}
-use Rattle.span_registry_layers_layers.specs.Oracles.{Oracle}
 use Rattle.span_registry_layers_stack.specs.Rows.{EachBecomes, TellsEvent}
 use Rattle.span_registry_layers_stack.proofs.rows.tell_event.Given as goal
 
 abbrev pub invariant-loop-row : goal.invariant-loop-row
 invariant-loop-row g l =
     record {
-      done : (o : Oracle g.F.Filter) → EachBecomes (TellsEvent g.F.Filter g.L.Layer o (plain_event l.event) l.at l.registry) (take l.row-index l.fn.rows) (take l.row-index l.rows);
+      done : EachBecomes (TellsEvent g.F.Filter g.L.Layer (plain_event l.event) l.at l.registry) (take l.row-index l.fn.rows) (take l.row-index l.rows);
       left : drop l.row-index l.rows ≡ drop l.row-index l.fn.rows;
     }

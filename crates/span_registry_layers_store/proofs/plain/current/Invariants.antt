@@ -1,6 +1,12 @@
-use Rattle.std.proofs.Common.{◌≡◌, take, reverse}
+use Rattle.std.proofs.Common.{◌≡◌, ◌≤◌, length, reverse, take}
 use Rattle.span_registry_layers_store.specs.Spans.{latest}
 use Rattle.span_registry_layers_store.proofs.plain.current.Given as goal
 
-abbrev pub invariant-loop-place : goal.invariant-loop-place
-invariant-loop-place l = l.latest ≡ latest (reverse (take l.place l.lane))
+abbrev pub invariant-loop-rest : goal.invariant-loop-rest
+invariant-loop-rest l = record {
+  within : l.rest ≤ length l.lane;
+  left : latest (reverse (take l.rest l.lane)) ≡ latest (reverse l.lane);
+}
+
+abbrev pub decreases-loop-rest : goal.decreases-loop-rest
+decreases-loop-rest l = l.rest

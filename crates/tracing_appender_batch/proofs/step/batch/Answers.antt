@@ -1,15 +1,30 @@
-use Rattle.std.proofs.Common.{arith, ◌∙◌, sym, ap, subst, ◌≡◌, false, refl, [], length, ◌+◌, ◌-◌}
+use Rattle.std.proofs.Common.{arith, ◌∙◌, sym, ap, subst, cond, ◌≡◌, refl, ℕ, List, [], ◌∷◌, ◌++◌, length, ◌+◌, ◌-◌}
 use Rattle.tracing_appender_rolling.specs.Builders.{builder_names}
 use Rattle.tracing_appender_rolling.specs.Names.{FileNames}
-use Rattle.tracing_appender_rolling.specs.Sinks.{with_handed}
-use Rattle.tracing_appender_rolling.specs.Appenders.{AgreesSink}
-use Rattle.tracing_appender_queue.specs.Queue.{Queue}
+use Rattle.tracing_appender_rolling.specs.Looks.{Held}
+use Rattle.tracing_appender_rolling.specs.Appenders.{AgreesSink, Holds}
 use Rattle.tracing_appender_batch.specs.Batches.{lines_in, queue_in}
-use Rattle.tracing_appender_batch.specs.Steps.{is_missed, with_lines, LinesTo, HandsOne}
+use Rattle.tracing_appender_batch.specs.Steps.{is_missed, with_lines, LinesLeft, HandsOne}
 use Rattle.tracing_appender_batch.proofs.Cutting.{lines_none}
-use Rattle.tracing_appender_batch.proofs.Stepping.{queue_turn, count_turn, agrees_turn, handed_turn, ended}
+use Rattle.tracing_appender_batch.proofs.Stepping.{SoFar, queue_turn, done_turn, length_turn, turn, none_so_far, counts_missed, counts_fed, ended, all_done, left_ends, handed_ends}
 use Rattle.tracing_appender_batch.proofs.step.batch.Goals as goal
 use Rattle.tracing_appender_batch.proofs.step.batch.Goals.{then-is_missed, else-is_missed, else-loop-taken-test, then-loop-taken-test+in_default}
+
+pub loop-taken-init : goal.loop-taken-init
+loop-taken-init g c =
+    let all : c.args.k ≡ c.args.k - 0 = omega arith in
+    record {
+      within = omega arith;
+      few = omega arith;
+      names = refl;
+      queued = ap (λ n. queue_in n c.args.queue.now) all;
+      so_far = (
+        [],
+        ap (λ n. lines_in n c.args.queue.now) all,
+        refl,
+        none_so_far g.D.Folder.contents (builder_names c.args.appender.now.builder) c.args.moment c.args.appender.now,
+      );
+    }
 
 pub loop-taken-preserved : goal.loop-taken-preserved
 loop-taken-preserved g c =
@@ -18,47 +33,69 @@ loop-taken-preserved g c =
     let q = c.loop-taken.queue in
     let r = c.next_line.new.queue in
     let line = c.in-Some.line.items in
+    let slice = c.as_slice.result.now in
     let next = c.in-Some.ensures.0 in
     let left = c.in-Some.ensures.1 in
     let lt = c.loop-taken-test.true in
     let names = builder_names c.args.appender.now.builder in
+    let fate = c.write_line-fate.result in
+    let contents = g.D.Folder.contents in
+    let (done, lines, count, so) = c.loop-taken.invariant.so_far in
+    let handed = subst (λ (n : FileNames). (h : Held) → Holds contents c.loop-taken.appender h → HandsOne contents n c.args.moment h slice fate c.write_line-fate.new.appender) c.loop-taken.invariant.names c.write_line-fate.ensures.handed in
+    let missed : c.if-is_missed.missed ≡ c.loop-taken.missed + cond (is_missed fate) 1 0 =
+    elim c.if-is_missed.branch [
+      | then-is_missed b ↦ counts_missed (is_missed fate) c.loop-taken.missed _ (sym c.is_missed.ensures ∙ b.if-is_missed.true) b.missed-is
+      | else-is_missed b ↦ counts_fed (is_missed fate) c.loop-taken.missed _ (sym c.is_missed.ensures ∙ b.if-is_missed.false) b.missed-is
+    ] in
     record {
       within = omega arith;
       few = elim c.if-is_missed.branch [ then-is_missed b ↦ omega arith | else-is_missed b ↦ omega arith ];
-      names = c.write_line-last.ensures.names ∙ c.loop-taken.invariant.names;
+      names = c.write_line-fate.ensures.names ∙ c.loop-taken.invariant.names;
       queued = c.loop-taken.invariant.queued ∙ queue_turn k t lt q line next ∙ ap (queue_in (k - (t + 1))) (sym left);
-      counted = c.loop-taken.invariant.counted ∙ count_turn k t lt q line next ∙ ap (λ (p : Queue). (t + 1) + length (lines_in (k - (t + 1)) p)) (sym left);
-      agrees = λ s start none.
-          let before : c.loop-taken.missed ≡ 0 = elim c.if-is_missed.branch [ then-is_missed b ↦ absurd (omega arith) | else-is_missed b ↦ omega arith ] in
-          let fed : is_missed c.write_line-last.result ≡ false = elim c.if-is_missed.branch [ then-is_missed b ↦ absurd (omega arith) | else-is_missed b ↦ sym c.is_missed.ensures ∙ b.if-is_missed.false ] in
-          let so = c.loop-taken.invariant.agrees s start before in (
-            with_handed so.0 (record { line = c.as_slice.result.now; moment = c.args.moment }),
-            c.write_line-last.ensures.agrees fed so.0 so.1,
-            agrees_turn k t lt q line next r left c.as_slice.result.now c.as_slice.ensures.value c.args.moment s so.0 (lines_in k c.args.queue.now) so.2,
-          );
-      handed = λ h holds none.
-          let before : c.loop-taken.missed ≡ 0 = elim c.if-is_missed.branch [ then-is_missed b ↦ absurd (omega arith) | else-is_missed b ↦ omega arith ] in
-          let fed : is_missed c.write_line-last.result ≡ false = elim c.if-is_missed.branch [ then-is_missed b ↦ absurd (omega arith) | else-is_missed b ↦ sym c.is_missed.ensures ∙ b.if-is_missed.false ] in
-          let so = c.loop-taken.invariant.handed h holds before in
-          let wrote = subst (λ (n : FileNames). HandsOne g.D.Folder.contents n c.args.moment so.0 c.as_slice.result.now c.write_line-last.new.appender) c.loop-taken.invariant.names (c.write_line-last.ensures.handed fed so.0 so.1) in (
-            wrote.0,
-            wrote.2,
-            λ last rest. so.2 last (handed_turn k t lt q line next r left c.as_slice.result.now c.as_slice.ensures.value c.args.moment names so.0 wrote.0 last wrote.1 rest),
-          );
+      so_far = (
+        done ++ slice ∷ [],
+        done_turn k t lt q line next r slice (lines_in k c.args.queue.now) done left c.as_slice.ensures.value lines,
+        length_turn done slice t count,
+        subst (λ w. SoFar contents names c.args.moment c.args.appender.now c.write_line-fate.new.appender c.if-is_missed.missed w (done ++ slice ∷ [])) (sym c.is_whole-whole.ensures)
+            (turn contents names c.args.moment c.args.appender.now c.loop-taken.appender c.write_line-fate.new.appender c.loop-taken.missed c.if-is_missed.missed c.loop-taken.whole done slice fate so
+            missed
+            c.write_line-fate.ensures.agrees handed c.write_line-fate.ensures.left),
+      );
     }
 
-pub returns-clause-agrees : goal.returns-clause-agrees
-returns-clause-agrees g c = λ s start none.
-    let so = c.loop-taken.invariant.agrees s start none in
+pub returns-clause-taken : goal.returns-clause-taken
+returns-clause-taken g c =
+    let (done, lines, count, so) = c.loop-taken.invariant.so_far in
     let n = c.args.k - c.loop-taken.taken in
     let q = c.loop-taken.queue in
-    let done : lines_in n q ≡ [] = elim c.loop-taken-test.branch [ else-loop-taken-test w ↦ ended n q (omega (arith, w.loop-taken-test.false)) | then-loop-taken-test+in_default w ↦ lines_none n q w.in_default.ensures.0 ] in
-    subst (λ t. AgreesSink g.D.Folder.contents c.flush_if.new.appender t) (sym (so.2 ∙ ap (λ xs. with_lines so.0 xs c.args.moment) done)) (c.flush_if.ensures.agrees so.0 so.1)
+    let none : lines_in n q ≡ [] = elim c.loop-taken-test.branch [ else-loop-taken-test w ↦ ended n q (omega (arith, w.loop-taken-test.false)) | then-loop-taken-test+in_default w ↦ lines_none n q w.in_default.ensures.0 ] in
+    let all = all_done (lines_in c.args.k c.args.queue.now) done (lines_in n q) lines none in
+    sym count ∙ ap length (sym all)
+
+pub returns-clause-agrees : goal.returns-clause-agrees
+returns-clause-agrees g c = λ s start missed.
+    let (done, lines, count, so) = c.loop-taken.invariant.so_far in
+    let n = c.args.k - c.loop-taken.taken in
+    let q = c.loop-taken.queue in
+    let none : lines_in n q ≡ [] = elim c.loop-taken-test.branch [ else-loop-taken-test w ↦ ended n q (omega (arith, w.loop-taken-test.false)) | then-loop-taken-test+in_default w ↦ lines_none n q w.in_default.ensures.0 ] in
+    let all = all_done (lines_in c.args.k c.args.queue.now) done (lines_in n q) lines none in
+    subst (λ (xs : List (List ℕ)). AgreesSink g.D.Folder.contents c.flush_if.new.appender (with_lines s xs c.args.moment)) (sym all) (c.flush_if.ensures.agrees (with_lines s done c.args.moment) (so.agrees missed s start))
 
 pub returns-clause-handed : goal.returns-clause-handed
-returns-clause-handed g c = λ h holds none.
-    let so = c.loop-taken.invariant.handed h holds none in
+returns-clause-handed g c = λ h holds.
+    let (done, lines, count, so) = c.loop-taken.invariant.so_far in
     let n = c.args.k - c.loop-taken.taken in
     let q = c.loop-taken.queue in
-    let done : lines_in n q ≡ [] = elim c.loop-taken-test.branch [ else-loop-taken-test w ↦ ended n q (omega (arith, w.loop-taken-test.false)) | then-loop-taken-test+in_default w ↦ lines_none n q w.in_default.ensures.0 ] in
-    (so.0, so.2 so.0 (subst (λ xs. LinesTo (builder_names c.args.appender.now.builder) c.args.moment so.0 xs so.0) (sym done) refl), c.flush_if.ensures.flushed so.0 so.1)
+    let none : lines_in n q ≡ [] = elim c.loop-taken-test.branch [ else-loop-taken-test w ↦ ended n q (omega (arith, w.loop-taken-test.false)) | then-loop-taken-test+in_default w ↦ lines_none n q w.in_default.ensures.0 ] in
+    let all = all_done (lines_in c.args.k c.args.queue.now) done (lines_in n q) lines none in
+    handed_ends g.D.Folder.contents (builder_names c.args.appender.now.builder) c.args.moment h done (lines_in c.args.k c.args.queue.now) c.loop-taken.missed c.loop-taken.whole c.loop-taken.appender c.flush_if.new.appender all (so.handed h holds) c.flush_if.ensures.flushed
+
+pub returns-clause-left : goal.returns-clause-left
+returns-clause-left g c = λ missed d p is start.
+    let (done, lines, count, so) = c.loop-taken.invariant.so_far in
+    let n = c.args.k - c.loop-taken.taken in
+    let q = c.loop-taken.queue in
+    let none : lines_in n q ≡ [] = elim c.loop-taken-test.branch [ else-loop-taken-test w ↦ ended n q (omega (arith, w.loop-taken-test.false)) | then-loop-taken-test+in_default w ↦ lines_none n q w.in_default.ensures.0 ] in
+    let all = all_done (lines_in c.args.k c.args.queue.now) done (lines_in n q) lines none in
+    subst (λ (xs : List (List ℕ)). LinesLeft g.D.Folder.contents p xs c.args.moment d c.args.appender.now c.flush_if.new.appender) (sym all)
+    (left_ends g.D.Folder.contents (builder_names c.args.appender.now.builder) c.args.moment c.args.appender.now c.loop-taken.appender c.flush_if.new.appender done d p start (so.left missed d p is start) c.flush_if.ensures.left c.flush_if.ensures.faults c.flush_if.ensures.current c.flush_if.ensures.opens)

@@ -1,9 +1,6 @@
-use Rattle.std.proofs.Common.{arith, ap, ◌≤◌, length}
+use Rattle.std.proofs.Common.{◌≡◌, arith, ap, refl, ◌∙◌, length}
 use Rattle.std.proofs.lemmas.List.{length-drop}
 use Rattle.std.proofs.lemmas.Result.{err_from_is_err_and}
-use Rattle.tracing_appender_rolling.specs.declared.fault.FolderError.TheVariants.{Fault}
-use Rattle.tracing_appender_rolling.specs.declared.fault.FolderFault.TheVariants.{WriteZero}
-use Rattle.tracing_appender_rolling.proofs.Rising.{keeps_self, keeps_same}
 use Rattle.tracing_appender_rolling.proofs.Writing.{begins, goes, ends_zero, ends_err, ends}
 use Rattle.tracing_appender_rolling.proofs.appender.write_all.Goals as goal
 
@@ -11,7 +8,7 @@ pub loop-from-init : goal.loop-from-init
 loop-from-init g c = record {
   within = omega arith;
   going = begins (g.D.Folder.contents c.args.folder.now) c.args.file c.args.bytes.now;
-  kept = keeps_self (g.D.Folder.failed c.args.folder.now);
+  kept = refl;
 }
 
 pub returns-in_err-taken-clause-written : goal.returns-in_err-taken-clause-written
@@ -21,16 +18,16 @@ returns-in_err-taken-clause-written g c =
 
 pub returns-then-taken-eq0-clause-written : goal.returns-then-taken-eq0-clause-written
 returns-then-taken-eq0-clause-written g c =
-    ends_zero (g.D.Folder.contents c.args.folder.now) c.args.file c.args.bytes.now c.loop-from.from _ _ c.loop-from.invariant.going c.loop-from-test.true c.rest_of.result.now c.rest_of.ensures (Fault WriteZero) (rw c.if-taken-eq0.true at c.in_ok-taken.ensures.gives)
+    ends_zero (g.D.Folder.contents c.args.folder.now) c.args.file c.args.bytes.now c.loop-from.from _ _ c.loop-from.invariant.going c.loop-from-test.true c.rest_of.result.now c.rest_of.ensures (rw c.if-taken-eq0.true at c.in_ok-taken.ensures.gives)
 
 pub loop-from-preserved : goal.loop-from-preserved
 loop-from-preserved g c = record {
   within = omega (arith, length-drop c.loop-from.from c.args.bytes.now, c.in_ok-taken.ensures.bound, ap length c.rest_of.ensures);
-  going = goes (g.D.Folder.contents c.args.folder.now) c.args.file c.args.bytes.now c.loop-from.from _ _ c.loop-from.invariant.going c.loop-from-test.true c.rest_of.result.now c.rest_of.ensures c.in_ok-taken.taken c.in_ok-taken.ensures.gives;
-  kept = keeps_same (g.D.Folder.failed c.args.folder.now) (g.D.Folder.failed c.loop-from.folder) (g.D.Folder.failed c.write.new.self) c.loop-from.invariant.kept c.in_ok-taken.ensures.failures;
+  going = goes (g.D.Folder.contents c.args.folder.now) c.args.file c.args.bytes.now c.loop-from.from _ _ c.loop-from.invariant.going c.loop-from-test.true c.rest_of.result.now c.rest_of.ensures c.in_ok-taken.taken (omega (arith, c.if-taken-eq0.false)) c.in_ok-taken.ensures.gives;
+  kept = c.in_ok-taken.ensures.failures ∙ c.loop-from.invariant.kept;
 }
 
 pub returns-clause-written : goal.returns-clause-written
 returns-clause-written g c =
-    let le : length c.args.bytes.now ≤ c.loop-from.from = omega arith in
-    ends (g.D.Folder.contents c.args.folder.now) c.args.file c.args.bytes.now c.loop-from.from (g.D.Folder.contents c.loop-from.folder) tt c.loop-from.invariant.going le
+    let all : c.loop-from.from ≡ length c.args.bytes.now = omega (arith, c.loop-from.invariant.within) in
+    ends (g.D.Folder.contents c.args.folder.now) c.args.file c.args.bytes.now c.loop-from.from (g.D.Folder.contents c.loop-from.folder) tt c.loop-from.invariant.going all

@@ -1,5 +1,4 @@
-use Rattle.std.proofs.Common.{length, ◌-◌, ◌≤◌}
-use Rattle.tracing_appender_rolling.specs.Telling.{Keeps}
+use Rattle.std.proofs.Common.{◌≡◌, length, ◌-◌, ◌≤◌}
 use Rattle.tracing_appender_rolling.proofs.Writing.{Going}
 use Rattle.tracing_appender_rolling.proofs.appender.write_all.Given as goal
 
@@ -7,7 +6,7 @@ abbrev pub invariant-loop-from : goal.invariant-loop-from
 invariant-loop-from g l = record {
   within : l.from ≤ length l.bytes;
   going : Going (g.D.Folder.contents l.fn.folder) l.file l.bytes l.from (g.D.Folder.contents l.folder);
-  kept : Keeps (g.D.Folder.failed l.fn.folder) (g.D.Folder.failed l.folder);
+  kept : g.D.Folder.failed l.folder ≡ g.D.Folder.failed l.fn.folder;
 }
 
 abbrev pub decreases-loop-from : goal.decreases-loop-from

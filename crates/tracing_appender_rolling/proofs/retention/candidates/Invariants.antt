@@ -1,6 +1,6 @@
 use Rattle.std.proofs.Common.{map, take}
 use Rattle.tracing_appender_rolling.specs.Builders.{builder_names}
-use Rattle.tracing_appender_rolling.specs.Listings.{listed_of}
+use Rattle.tracing_appender_folders.specs.Listings.{listed_of}
 use Rattle.tracing_appender_rolling.specs.Retention.{IsCandidates, candidate_of}
 use Rattle.tracing_appender_rolling.proofs.retention.candidates.Given as goal
 

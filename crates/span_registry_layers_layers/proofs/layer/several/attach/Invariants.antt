@@ -1,6 +1,7 @@
 use Rattle.std.proofs.Common.{◌≡◌, take, drop}
 use Rattle.span_registry_layers_layers.specs.Notices.{AddsFilters}
 use Rattle.span_registry_layers_layers.specs.Several.{AttachedEach}
+use Rattle.span_registry_layers_layers.proofs.Attaching.{Numbered, PassedOn}
 use Rattle.span_registry_layers_layers.proofs.layer.several.attach.Given as goal
 
 abbrev pub invariant-loop-layer : goal.invariant-loop-layer
@@ -9,4 +10,5 @@ invariant-loop-layer g l =
       done : AttachedEach g.L.Layer l.fn.registry (take l.layer-index l.fn.layers) (take l.layer-index l.layers) l.registry;
       left : drop l.layer-index l.layers ≡ drop l.layer-index l.fn.layers;
       more : AddsFilters l.fn.registry l.registry;
+      numbers : PassedOn (Numbered g.L.Layer) l.fn.registry (take l.layer-index l.fn.layers) (take l.layer-index l.layers) l.registry;
     }

@@ -6,9 +6,9 @@ use Rattle.span_registry_layers_stack.proofs.Telling.{event_told}
 use Rattle.span_registry_layers_stack.proofs.parts.StackParts+Filtered+L+F.event.Goals as goal
 
 pub returns-else-refuses : goal.returns-else-refuses
-returns-else-refuses g c o =
+returns-else-refuses g c =
     let s = c.args.self.now in
-    event_told g.F.Filter g.L.Layer o (plain_event c.args.event.now) c.args.at (plain_stack s) (plain_stack c.tell.new.self)
+    event_told g.F.Filter g.L.Layer (plain_event c.args.event.now) c.args.at (plain_stack s) (plain_stack c.tell.new.self)
     (ap (knows s.registry) (sym c.parent.ensures) ∙ sym c.knows.ensures ∙ c.if-not-knows.false)
     (ap (is_refused (plain_stack s)) (sym c.metadata.ensures.plain) ∙ sym c.refuses.ensures ∙ c.if-refuses.false)
-    (c.tell.ensures o)
+    c.tell.ensures

@@ -5,9 +5,9 @@ use Rattle.span_registry_layers_stack.specs.Rows.{EachBecomes, TellsEvent}
 use Rattle.span_registry_layers_stack.proofs.parts.StackParts+Filtered+L+F.tell.Goals as goal
 
 pub returns : goal.returns
-returns g c o =
+returns g c =
     let s = c.args.self.now in
     let u = c.tell_event.new.rows in
-    let R = TellsEvent g.F.Filter g.L.Layer o (plain_event c.args.event.now) c.args.at s.registry in
+    let R = TellsEvent g.F.Filter g.L.Layer (plain_event c.args.event.now) c.args.at s.registry in
     let whole : take s.rows.len (u ++ drop (length u) s.rows.items) ≡ u = with_items_is s.rows u (omega arith) in
-    (subst (EachBecomes R s.rows.items) (sym whole) (subst (λ rows. EachBecomes R rows u) c.deref_mut.ensures.value (c.tell_event.ensures o)), refl)
+    (subst (EachBecomes R s.rows.items) (sym whole) (subst (λ rows. EachBecomes R rows u) c.deref_mut.ensures.value c.tell_event.ensures), refl)

@@ -1,13 +1,17 @@
-use Rattle.std.proofs.Common.{◌≡◌, ◌+◌, ◌++◌, length}
-use Rattle.span_registry_layers_stack.specs.New.{rows_from}
+use Rattle.std.proofs.Common.{◌≡◌, ◌≤◌, ◌+◌, ◌++◌, List, length, vec_capacity}
+use Rattle.span_registry_layers_layers.specs.Numbering.{more_filters}
+use Rattle.span_registry_layers_layers.specs.declared.filtered.Filtered.{Filtered}
+use Rattle.span_registry_layers_stack.specs.New.{RowsFrom, filters_in}
+use Rattle.span_registry_layers_stack.specs.declared.row.Row.{Row}
 use Rattle.span_registry_layers_stack.proofs.parts.new.rows_of.Given as goal
 
 abbrev pub invariant-loop-left : goal.invariant-loop-left
 invariant-loop-left g l =
     record {
-      made : l.rows.items ++ rows_from l.registry.filters l.left.items ≡ rows_from l.fn.registry.filters l.fn.outputs.items;
-      same : l.registry ≡ record l.fn.registry { filters = l.registry.filters };
-      count : l.registry.filters + length l.left.items ≡ l.fn.registry.filters + length l.fn.outputs.items;
+      made : (rows : List (Row (Filtered g.row.L.Denot g.row.F.Denot))) → RowsFrom g.L.Layer l.registry l.left.items rows → RowsFrom g.L.Layer l.fn.registry l.fn.outputs.items (l.rows.items ++ rows);
+      all : more_filters (filters_in g.L.Layer l.left.items) l.registry ≡ more_filters (filters_in g.L.Layer l.fn.outputs.items) l.fn.registry;
+      few : l.registry.filters + filters_in g.L.Layer l.left.items ≤ 64;
+      room : length l.rows.items + length l.left.items ≤ vec_capacity l.rows;
     }
 
 abbrev pub decreases-loop-left : goal.decreases-loop-left

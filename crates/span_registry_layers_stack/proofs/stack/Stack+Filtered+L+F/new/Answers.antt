@@ -4,7 +4,7 @@ use Rattle.span_registry_layers_stack.proofs.Starting.{new_numbers, new_word}
 use Rattle.span_registry_layers_stack.proofs.stack.Stack+Filtered+L+F.new.Goals as goal
 
 pub returns-clause-numbers : goal.returns-clause-numbers
-returns-clause-numbers g c = new_numbers g.F.Filter c.args.outputs.items (new_refusal c.args.outputs.items) c.build.result refl c.build.ensures
+returns-clause-numbers g c = new_numbers g.L.Layer g.F.Filter c.args.outputs.items (new_refusal g.L.Layer c.args.outputs.items) c.build.result refl c.build.ensures
 
 pub returns-clause-kept : goal.returns-clause-kept
-returns-clause-kept g c = new_word g.F.Filter c.args.outputs.items (new_refusal c.args.outputs.items) c.build.result c.build.ensures
+returns-clause-kept g c = new_word g.L.Layer g.F.Filter c.args.outputs.items (new_refusal g.L.Layer c.args.outputs.items) c.build.result c.build.ensures

@@ -1,4 +1,4 @@
-use Rattle.std.proofs.Common.{ap, sym, refl, subst, Option, ℕ, None, Err, ◌∙◌, ◌++◌, ◌∷◌, [], ◌≡◌}
+use Rattle.std.proofs.Common.{ap, sym, refl, subst, Option, ℕ, Err, ◌∙◌, ◌++◌, ◌∷◌, []}
 use Rattle.tracing_core.specs.Commands.{RegisterGives, row_of}
 use Rattle.span_tracing_machine.specs.Skeleton.{PlainCallsite}
 use Rattle.span_tracing_stack.specs.contracts.subscriber.StackSubscriber.TheImpl.{ghosts}

@@ -1,11 +1,11 @@
 use Rattle.std.proofs.Common.{sym, ◌∙◌, ap, ◌≡◌, Some}
 use Rattle.span_tracing_machine.specs.declared.refusal.Refusal.TheVariants.{OutOfMemory}
-use Rattle.span_tracing_machine.specs.Machine.{refusal_of, call_refusal}
+use Rattle.span_tracing_machine.specs.Machine.{refusal_of}
 use Rattle.span_tracing_machine.specs.PlainData.{GlobalStep}
 use Rattle.span_tracing.specs.Actions.{plain_action}
 use Rattle.span_tracing.specs.Skeletons.{skeleton_of}
 use Rattle.span_tracing.specs.Stored.{mask_in}
-use Rattle.span_tracing_machine.proofs.Refusing.{first_none, never_memory}
+use Rattle.span_tracing_machine.proofs.Refusing.{never_memory}
 use Rattle.span_tracing.proofs.Unrefused.{global_first, global_there}
 use Rattle.span_tracing.proofs.trace.Trace.step_once.Goals as goal
 
@@ -32,7 +32,7 @@ exit-requires g c = rw (c.refusal.ensures.kept) (sym (rw (c.in_default.is, c.in-
 
 pub try_close-requires : goal.try_close-requires
 unfolding refusal_of
-try_close-requires g c = rw (c.refusal.ensures.kept) (first_none (call_refusal (skeleton_of c.args.self.now.state) c.in-TryClose.call) _ (sym (rw (c.in_default.is, c.in-TryClose.is) at c.refusal.ensures.value)))
+try_close-requires g c = rw (c.refusal.ensures.kept) (sym (rw (c.in_default.is, c.in-TryClose.is) at c.refusal.ensures.value))
 
 pub set_global-requires-clause-there : goal.set_global-requires-clause-there
 set_global-requires-clause-there g c =
@@ -47,3 +47,7 @@ set_global-requires-clause-first g c =
 pub clone_span-requires : goal.clone_span-requires
 unfolding refusal_of
 clone_span-requires g c = rw (c.refusal.ensures.kept) (sym (rw (c.in_default.is, c.in-CloneSpan.is) at c.refusal.ensures.value))
+
+pub record-requires : goal.record-requires
+unfolding refusal_of
+record-requires g c = rw (c.refusal.ensures.kept) (sym (rw (c.in_default.is, c.in-Record.is) at c.refusal.ensures.value))

@@ -1,7 +1,8 @@
-use Rattle.std.proofs.Common.{ap, sym, ◌∙◌, nat_le, string_bytes, arith}
+use Rattle.std.proofs.Common.{◌≡◌, ap, sym, ◌∙◌, nat_le, string_bytes, arith, is_some, not, true, false}
+use Rattle.std.proofs.lemmas.Grind.{common_steps}
+use Rattle.span_tracing_stack.proofs.Lists.{there_if, when_none}
 use Rattle.tracing_core.specs.PlainMetadata.{PlainMetadata}
 use Rattle.tracing_core.specs.PlainRequests.{plain_attributes}
-use Rattle.span_tracing_stack.specs.Stacks.{next_number}
 use Rattle.span_tracing_stack.proofs.Giving.{unknown_parent, dropped, spent, no_room, made}
 use Rattle.span_tracing_stack.proofs.subscriber.StackSubscriber.new_span.Goals as goal
 
@@ -14,26 +15,31 @@ returns-then-not-wants c =
     (rw (← c.parent.ensures, ← c.is_known.ensures) c.if-not-is_known.false)
     (ap (λ (m : PlainMetadata). nat_le m.level c.self.inside.state.setting.filter) (sym c.metadata.ensures.plain) ∙ sym c.wants.ensures ∙ c.if-not-wants.true))
 
-pub returns-in_default : goal.returns-in_default
-returns-in_default c =
+pub returns-then-is_none : goal.returns-then-is_none
+returns-then-is_none c =
+    let none : is_some c.next_id.result ≡ false = grind (arith, common_steps) in
     rw (← c.self.view_is) (spent _ (plain_attributes c.args.attributes.now) c.args.at
     (rw (← c.parent.ensures, ← c.is_known.ensures) c.if-not-is_known.false)
     (ap (λ (m : PlainMetadata). nat_le m.level c.self.inside.state.setting.filter) (sym c.metadata.ensures.plain) ∙ sym c.wants.ensures ∙ c.if-not-wants.false)
-    (rw (c.in_default.is) (omega arith)))
+    (when_none c.next_id.result c.next_id.ensures.none (ap not none)))
 
 pub returns-in-Ok : goal.returns-in-Ok
 returns-in-Ok c =
     let s = c.self.inside.state in
-    rw (← c.self.view_is, c.of_text-self-inside.ensures (string_bytes c.self.inside.line)) (made _ _ (plain_attributes c.args.attributes.now) c.args.at c.in-Some.id c.in-Ok.fate
+    let some : is_some c.next_id.result ≡ true = grind (arith, common_steps) in
+    let left = there_if c.next_id.result c.next_id.ensures.some (ap not some) in
+    rw (← c.self.view_is, c.of_text-self-inside.ensures (string_bytes c.self.inside.line)) (made _ _ (plain_attributes c.args.attributes.now) c.args.at c.in-Ok.made.id c.in-Ok.made.fate
     (rw (← c.parent.ensures, ← c.is_known.ensures) c.if-not-is_known.false)
     (ap (λ (m : PlainMetadata). nat_le m.level s.setting.filter) (sym c.metadata.ensures.plain) ∙ sym c.wants.ensures ∙ c.if-not-wants.false)
-    (rw (c.in-Some.is) c.make_span.ensures.fits)
-    (sym (ap next_number c.in-Some.is))
-    c.in-Ok.ensures.ok)
+    (omega (arith, left.1.0, left.1.1))
+    c.in-Ok.ensures.ok.0
+    c.in-Ok.ensures.ok.1)
 
 pub returns-in-Err : goal.returns-in-Err
 returns-in-Err c =
+    let some : is_some c.next_id.result ≡ true = grind (arith, common_steps) in
+    let left = there_if c.next_id.result c.next_id.ensures.some (ap not some) in
     rw (← c.self.view_is) (no_room _ _ (plain_attributes c.args.attributes.now) c.args.at
     (rw (← c.parent.ensures, ← c.is_known.ensures) c.if-not-is_known.false)
     (ap (λ (m : PlainMetadata). nat_le m.level c.self.inside.state.setting.filter) (sym c.metadata.ensures.plain) ∙ sym c.wants.ensures ∙ c.if-not-wants.false)
-    (rw (c.in-Some.is) c.make_span.ensures.fits) c.in-Err.ensures.err)
+    (omega (arith, left.1.0, left.1.1)) c.in-Err.ensures.err)

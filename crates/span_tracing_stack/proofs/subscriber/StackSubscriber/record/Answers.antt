@@ -1,6 +1,14 @@
+use Rattle.std.proofs.Common.{ap, string_bytes}
 use Rattle.tracing_core.specs.PlainRequests.{plain_record}
-use Rattle.span_tracing_stack.proofs.Giving.{recorded}
+use Rattle.span_tracing_stack.specs.Stacks.{StackValue, text_told}
+use Rattle.span_tracing_stack.proofs.Giving.{recorded, unrecorded}
 use Rattle.span_tracing_stack.proofs.subscriber.StackSubscriber.record.Goals as goal
 
+pub returns-then-not-is_known : goal.returns-then-not-is_known
+returns-then-not-is_known c = rw (← c.self.view_is) (unrecorded _ c.args.span.now (plain_record c.args.values.now) c.args._at (rw (← c.is_known.ensures) c.if-not-is_known.true))
+
 pub returns : goal.returns
-returns c = recorded c.args.self.now c.args._span.now (plain_record c.args._values.now) c.args._at
+returns c =
+    rw (← c.self.view_is, c.of_text-self-inside.ensures (string_bytes c.self.inside.line)) (recorded _ _ c.args.span.now (plain_record c.args.values.now) c.args._at c.record-fate.result
+    (rw (← c.is_known.ensures) c.if-not-is_known.false) c.record-fate.ensures.texts
+    (ap (λ (v : StackValue). record v { told = text_told c.record-fate.result }) c.record-fate.ensures.rest))

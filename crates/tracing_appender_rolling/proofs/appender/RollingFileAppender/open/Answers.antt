@@ -1,15 +1,15 @@
-use Rattle.std.proofs.Common.{◌∙◌, subst, Ok, Option}
-use Rattle.std.specs.declared.alloc.AllocError.{AllocError}
-use Rattle.tracing_appender_rolling.specs.Contents.{Contents}
-use Rattle.tracing_appender_rolling.specs.Tries.{TriesFile}
-use Rattle.tracing_appender_rolling.proofs.Switching.{pruned_same}
 use Rattle.tracing_appender_rolling.specs.Builders.{builder_names}
-use Rattle.tracing_appender_rolling.proofs.Keeping.{build_keeps}
+use Rattle.tracing_appender_rolling.proofs.Beginning.{begins_keeps, begins_left, begins_starved}
 use Rattle.tracing_appender_rolling.proofs.appender.RollingFileAppender.open.Goals as goal
 
-pub returns-in-Ok-open_linked-clause-opens : goal.returns-in-Ok-open_linked-clause-opens
-returns-in-Ok-open_linked-clause-opens g c = λ may.
-    let names = builder_names c.args.builder in
-    build_keeps (g.D.Folder.contents c.args.folder) (g.D.Folder.contents c.open_linked.new.folder) names c.args.moment c.in-Ok-open_linked.current c.as_str.result.now c.next_date.result (c.as_str.ensures.value ∙ c.in-Ok.ensures) c.next_date.ensures may
-    (subst (λ (o : Option Contents). TriesFile names.latest c.as_str.result.now o (Ok c.in-Ok-open_linked.current) (g.D.Folder.contents c.open_linked.new.folder))
-    (pruned_same AllocError names c.none.result c.in-Ok-prune.faults (g.D.Folder.contents c.args.folder) (g.D.Folder.contents c.prune.new.folder) may c.in-Ok-prune.ensures.pruned) c.in-Ok-open_linked.ensures.tries)
+pub returns-in-Ok-clause-opens : goal.returns-in-Ok-clause-opens
+returns-in-Ok-clause-opens g c = λ may.
+    begins_keeps (g.D.Folder.contents c.args.folder) (g.D.Folder.contents c.open_first.new.folder) (builder_names c.args.builder) c.args.moment c.in-Ok.opened c.next_date.result c.next_date.ensures c.requires may c.in-Ok.ensures.begins
+
+pub returns-in-Ok-clause-left : goal.returns-in-Ok-clause-left
+returns-in-Ok-clause-left g c = λ d is may.
+    begins_left (g.D.Folder.contents c.args.folder) (g.D.Folder.contents c.open_first.new.folder) (builder_names c.args.builder) c.args.moment c.in-Ok.opened c.next_date.result d is c.next_date.ensures c.requires may c.in-Ok.ensures.begins
+
+pub returns-in-Err-clause-starved : goal.returns-in-Err-clause-starved
+returns-in-Err-clause-starved g c = λ d is may.
+    begins_starved (g.D.Folder.contents c.args.folder) (g.D.Folder.contents c.open_first.new.folder) (builder_names c.args.builder) c.args.moment c.in-Err.failure d is c.requires may c.in-Err.ensures.begins

@@ -1,5 +1,6 @@
 use Rattle.tracing_appender_rolling.specs.Builders.{builder_names}
 use Rattle.tracing_appender_rolling.proofs.Keeping.{push_ok, push_err}
+use Rattle.tracing_appender_rolling.proofs.Handover.{push_hands, push_starves}
 use Rattle.tracing_appender_rolling.proofs.appender.RollingFileAppender.push.Goals as goal
 
 pub returns-clause-ok : goal.returns-clause-ok
@@ -10,4 +11,14 @@ returns-clause-ok g c =
 pub returns-clause-err : goal.returns-clause-err
 returns-clause-err g c =
     push_err (g.D.Folder.contents c.args.self.now.folder) (g.D.Folder.contents c.write_all-outcome.new.folder) (builder_names c.args.self.now.builder)
+    c.args.self.now.boundary c.args.self.now.current c.args.bytes.now c.write_all-outcome.result c.write_all-outcome.ensures.written
+
+pub returns-clause-left : goal.returns-clause-left
+returns-clause-left g c =
+    push_hands (g.D.Folder.contents c.args.self.now.folder) (g.D.Folder.contents c.write_all-outcome.new.folder) (builder_names c.args.self.now.builder)
+    c.args.self.now.boundary c.args.self.now.current c.args.bytes.now c.write_all-outcome.result c.write_all-outcome.ensures.written
+
+pub returns-clause-starved : goal.returns-clause-starved
+returns-clause-starved g c =
+    push_starves (g.D.Folder.contents c.args.self.now.folder) (g.D.Folder.contents c.write_all-outcome.new.folder) (builder_names c.args.self.now.builder)
     c.args.self.now.boundary c.args.self.now.current c.args.bytes.now c.write_all-outcome.result c.write_all-outcome.ensures.written

@@ -4,4 +4,4 @@ use Rattle.span_registry_layers_stack.specs.Stacks.{EventCached, plain_stack}
 use Rattle.span_registry_layers_stack.proofs.stack.handing.Stack+Filtered+L+F.hand_event.Goals as goal
 
 pub returns : goal.returns
-returns g c o = subst (λ s. EventCached g.F.Filter g.L.Layer o (plain_event c.args.event.now) c.args.at s c.event.result (plain_stack c.event.new.self)) c.self.view_is (c.event.ensures o)
+returns g c = subst (λ s. EventCached g.F.Filter g.L.Layer (plain_event c.args.event.now) c.args.at s c.event.result (plain_stack c.event.new.self)) c.self.view_is c.event.ensures

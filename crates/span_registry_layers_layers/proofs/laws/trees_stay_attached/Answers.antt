@@ -1,0 +1,5 @@
+use Rattle.span_registry_layers_layers.specs.Staying.{stay_attached}
+use Rattle.span_registry_layers_layers.proofs.laws.trees_stay_attached.Goals as goal
+
+pub returns : goal.returns
+returns g c = stay_attached g.L.Layer

@@ -1,0 +1,99 @@
+-- A layer below a filter keeps its word and its numbers.
+use Rattle.std.specs.Prelude.{◌≡◌, ◌&&◌, ℕ, Bool, true, false, List, Option, Some, None}
+use Rattle.std.proofs.Common.{sym, ap, subst, ◌∙◌}
+use Rattle.tracing_core.specs.InterestInner.TheVariants.{Always}
+use Rattle.tracing_core.specs.Steady.{SameWord}
+use Rattle.span_registry_layers_store.specs.declared.filter_map.FilterId.{FilterId}
+use Rattle.span_registry_layers_layers.specs.Combined.{same_word}
+use Rattle.span_registry_layers_layers.specs.Filtereds.{Attaches, BothKeep, FilteredKept, FilteredTold, KeptAt, KeptUnder, HearsIf, LayerToldIf, ToldAlone, ToldAt, ToldUnder, hook_is_seen, hook_under, is_seen, numbers_in, own_number, under}
+use Rattle.span_registry_layers_layers.specs.Honesty.{OneAnswer}
+use Rattle.span_registry_layers_layers.specs.Looks.{Hook}
+use Rattle.span_registry_layers_layers.specs.Notices.{Attached, Dispatched, Followed, Happened, Notice, Renamed, Spanned}
+use Rattle.span_registry_layers_layers.specs.Numbering.{NumbersStay}
+use Rattle.span_registry_layers_layers.specs.Singles.{then_one}
+use Rattle.span_registry_layers_layers.specs.declared.filter.Filter.{Ghosts}
+use Rattle.span_registry_layers_layers.specs.declared.filtered.Filtered.{Filtered}
+use Rattle.span_registry_layers_layers.specs.declared.layer.Layer.{Ghosts as LayerGhosts}
+
+module _ {L F : Type 0} (g : Ghosts F) (h : LayerGhosts L) where
+  both_keep : (x y : Filtered L F) → y.filter ≡ x.filter → h.honest y.layer → BothKeep g h x → BothKeep g h y
+  both_keep x y e k both = (subst g.honest (sym e) both.0, k)
+
+  if_keeps : (b : Bool) (x : Filtered L F) (n : Notice) (y : Filtered L F) → LayerToldIf g h b x n y → BothKeep g h x → BothKeep g h y
+  if_keeps true x n y w both = both_keep x y (ap (λ (z : Filtered L F). z.filter) w.1) (h.stays x.layer n y.layer w.0 both.1).0 both
+  if_keeps false x n y w both = subst (BothKeep g h) (sym w) both
+
+  hears_keeps : (b : Bool) (x : Filtered L F) (hook : Hook) (y : Filtered L F) → HearsIf g h b x hook y → BothKeep g h x → BothKeep g h y
+  hears_keeps true x hook y w both =
+      (subst g.honest (sym (ap (λ (z : Filtered L F). z.filter) w.1)) (g.stays x.filter hook both.0).0, (h.stays x.layer (Spanned hook) y.layer w.0 both.1).0)
+  hears_keeps false x hook y w both = subst (BothKeep g h) (sym w) both
+
+  under_keeps : (i : FilterId) (x : Filtered L F) (n : Notice) (y : Filtered L F) → ToldUnder g h i x n y → Attaches g h x n y → BothKeep g h x → BothKeep g h y
+  under_keeps i x (Spanned hook) y w a both = hears_keeps (hook_is_seen i.index hook) x (hook_under i.index hook) y w both
+  under_keeps i x (Followed span follows v) y w a both = if_keeps (is_seen (under i.index v) span && is_seen (under i.index v) follows) x (Followed span follows (under i.index v)) y w both
+  under_keeps i x (Happened e v) y w a both = if_keeps w.0 x (Happened e (under i.index v)) y w.2 both
+  under_keeps i x (Renamed old new v) y w a both = if_keeps (is_seen (under i.index v) old) x (Renamed old new (under i.index v)) y w both
+  under_keeps i x (Dispatched handle) y w a both = if_keeps true x (Dispatched handle) y w both
+  under_keeps i x (Attached r) y w a both = both_keep x y (ap (λ (z : Filtered L F). z.filter) a.3) (h.stays x.layer (Attached a.0) y.layer a.2 both.1).0 both
+
+  alone_keeps : (x : Filtered L F) (n : Notice) (y : Filtered L F) → ToldAlone g h x n y → Attaches g h x n y → BothKeep g h x → BothKeep g h y
+  alone_keeps x (Spanned hook) y w a both = subst (BothKeep g h) (sym w) both
+  alone_keeps x (Followed span follows v) y w a both = subst (BothKeep g h) (sym w) both
+  alone_keeps x (Happened e v) y w a both = subst (BothKeep g h) (sym w) both
+  alone_keeps x (Renamed old new v) y w a both = subst (BothKeep g h) (sym w) both
+  alone_keeps x (Dispatched handle) y w a both = if_keeps true x (Dispatched handle) y w both
+  alone_keeps x (Attached r) y w a both = both_keep x y (ap (λ (z : Filtered L F). z.filter) a.3) (h.stays x.layer (Attached a.0) y.layer a.2 both.1).0 both
+
+  at_keeps : (i : Option FilterId) (x : Filtered L F) (n : Notice) (y : Filtered L F) → ToldAt g h i x n y → Attaches g h x n y → BothKeep g h x → BothKeep g h y
+  at_keeps None x n y w a both = alone_keeps x n y w a both
+  at_keeps (Some i) x n y w a both = under_keeps i x n y w a both
+
+  pub filtered_stays : (x : Filtered L F) (n : Notice) (y : Filtered L F) → FilteredTold g h x n y → BothKeep g h x → BothKeep g h y × SameWord (λ m k. k ≡ Always) (λ m k. k ≡ Always) None None
+  filtered_stays x n y w both = (at_keeps x.id x n y w.0 w.1 both, same_word (λ m k. k ≡ Always) None)
+
+  same_numbers : (x y : Filtered L F) → y.id ≡ x.id → h.numbers y.layer ≡ h.numbers x.layer → numbers_in g h y ≡ numbers_in g h x
+  same_numbers x y e f = ap (λ (i : Option FilterId). own_number i (h.numbers y.layer)) e ∙ ap (λ (ns : List ℕ). own_number x.id ns) f
+
+  if_same : (b : Bool) (x : Filtered L F) (n : Notice) (y : Filtered L F) → (h.told x.layer n y.layer → h.numbers y.layer ≡ h.numbers x.layer) → LayerToldIf g h b x n y → numbers_in g h y ≡ numbers_in g h x
+  if_same true x n y f w = same_numbers x y (ap (λ (z : Filtered L F). z.id) w.1) (f w.0)
+  if_same false x n y f w = ap (numbers_in g h) w
+
+  hears_same : (b : Bool) (x : Filtered L F) (hook : Hook) (y : Filtered L F) → HearsIf g h b x hook y → numbers_in g h y ≡ numbers_in g h x
+  hears_same true x hook y w = same_numbers x y (ap (λ (z : Filtered L F). z.id) w.1) (h.numbered x.layer (Spanned hook) y.layer w.0)
+  hears_same false x hook y w = ap (numbers_in g h) w
+
+  under_same : (i : FilterId) (x : Filtered L F) (n : Notice) (y : Filtered L F) → ToldUnder g h i x n y → NumbersStay n (numbers_in g h x) (numbers_in g h y)
+  under_same i x (Spanned hook) y w = hears_same (hook_is_seen i.index hook) x (hook_under i.index hook) y w
+  under_same i x (Followed span follows v) y w =
+      if_same (is_seen (under i.index v) span && is_seen (under i.index v) follows) x (Followed span follows (under i.index v)) y (h.numbered x.layer (Followed span follows (under i.index v)) y.layer) w
+  under_same i x (Happened e v) y w = if_same w.0 x (Happened e (under i.index v)) y (h.numbered x.layer (Happened e (under i.index v)) y.layer) w.2
+  under_same i x (Renamed old new v) y w = if_same (is_seen (under i.index v) old) x (Renamed old new (under i.index v)) y (h.numbered x.layer (Renamed old new (under i.index v)) y.layer) w
+  under_same i x (Dispatched handle) y w = if_same true x (Dispatched handle) y (h.numbered x.layer (Dispatched handle) y.layer) w
+  under_same i x (Attached r) y w = tt
+
+  alone_same : (x : Filtered L F) (n : Notice) (y : Filtered L F) → ToldAlone g h x n y → NumbersStay n (numbers_in g h x) (numbers_in g h y)
+  alone_same x (Spanned hook) y w = ap (numbers_in g h) w
+  alone_same x (Followed span follows v) y w = ap (numbers_in g h) w
+  alone_same x (Happened e v) y w = ap (numbers_in g h) w
+  alone_same x (Renamed old new v) y w = ap (numbers_in g h) w
+  alone_same x (Dispatched handle) y w = if_same true x (Dispatched handle) y (h.numbered x.layer (Dispatched handle) y.layer) w
+  alone_same x (Attached r) y w = tt
+
+  at_same : (i : Option FilterId) (x : Filtered L F) (n : Notice) (y : Filtered L F) → ToldAt g h i x n y → NumbersStay n (numbers_in g h x) (numbers_in g h y)
+  at_same None x n y w = alone_same x n y w
+  at_same (Some i) x n y w = under_same i x n y w
+
+  pub filtered_numbered : (x : Filtered L F) (n : Notice) (y : Filtered L F) → FilteredTold g h x n y → NumbersStay n (numbers_in g h x) (numbers_in g h y)
+  filtered_numbered x n y w = at_same x.id x n y w.0
+
+  under_once : (i : FilterId) (x : Filtered L F) → BothKeep g h x → OneAnswer (KeptUnder g h i x)
+  under_once i x both m v passes verdicts others a b p q =
+      let own = then_one (g.answers x.filter m (under i.index v)) passes p.0 q.0 ((g.single x.filter both.0).callsite m (under i.index v)) p.1 q.1 in
+      h.once x.layer both.1 m (under i.index v) q.0 verdicts others a b (subst (λ o. h.kept x.layer m (under i.index v) o verdicts a) own p.3) q.3
+
+  at_once : (i : Option FilterId) (x : Filtered L F) → BothKeep g h x → OneAnswer (KeptAt g h i x)
+  at_once None x both = λ m v passes verdicts others a b p q. p ∙ sym q
+  at_once (Some i) x both = under_once i x both
+
+  pub filtered_once : (x : Filtered L F) → BothKeep g h x → OneAnswer (FilteredKept g h x)
+  filtered_once x both = at_once x.id x both

@@ -1,0 +1,151 @@
+// A filter that counts how often it is asked: a stack that keeps a refusal asks nobody.
+ghost use Rattle.std.specs.Prelude.{◌≡◌, nat_le, true};
+ghost use Rattle.tracing_core.specs.Interests.{PlainInterest};
+ghost use Rattle.span_registry_layers_layers.specs.Combined.{level_fair, level_interest, same_word};
+ghost use Rattle.span_registry_layers_layers.specs.Firms.{level_firm};
+ghost use Rattle.span_registry_layers_layers.specs.Singles.{function_single};
+
+use super::*;
+use span_registry_layers_layers::Context;
+use std::cell::Cell;
+use tracing_core::{Interest, Subscriber};
+
+/// Passes what is at most as verbose as a level, which it tells as its hint where it is to.
+#[derive(Drop)]
+struct Counting {
+    level: LevelFilter,
+    asked: Cell<u64>,
+}
+
+impl Counting {
+    fn new(level: LevelFilter) -> Counting {
+        Counting {
+            level,
+            asked: Cell::new(0),
+        }
+    }
+}
+
+impl Filter for Counting {
+    ghost use Rattle.std.specs.Prelude.{Some};
+    ghost use Rattle.span_registry_layers_layers.specs.Combined.{level_fair, level_interest, same_word};
+
+    ghost answers = { λ f m v b. b ≡ nat_le m.level f.level };
+
+    ghost event_answers = { λ f e v b. b ≡ true };
+
+    ghost says = { λ f m k. k ≡ level_interest f.level m.level };
+
+    ghost hint = { λ f. Some f.level };
+
+    ghost after = { λ f h. f };
+
+    ghost honest = { λ f. Unit {0} };
+
+    ghost fair = { λ f _. level_fair f.level };
+
+    ghost stays = { λ f h _. (tt, same_word (λ m k. k ≡ level_interest f.level m.level) (Some f.level)) };
+
+    ghost single = { λ f _. function_single (λ m v. nat_le m.level f.level) };
+
+    ghost firm = { λ f _. level_firm f.level };
+
+    fn enabled(&self, metadata: &Metadata<'_>, _context: &Context<'_>) -> bool {
+        self.asked.set(self.asked.get().wrapping_add(1));
+        self.level.passes(*metadata.level())
+    }
+
+    fn callsite_enabled(&self, metadata: &Metadata<'_>) -> Interest {
+        if self.level.passes(*metadata.level()) {
+            Interest::always()
+        } else {
+            Interest::never()
+        }
+    }
+
+    fn event_enabled(&self, _event: &Event<'_, '_>, _context: &Context<'_>) -> bool {
+        true
+    }
+
+    fn max_level_hint(&self) -> Option<LevelFilter> {
+        Some(self.level)
+    }
+
+    fn on_new_span(
+        &mut self,
+        _attributes: &Attributes<'_, '_>,
+        _span: &Id,
+        _context: &Context<'_>,
+    ) {}
+
+    fn on_record(&mut self, _span: &Id, _values: &Record<'_>, _context: &Context<'_>) {}
+
+    fn on_enter(&mut self, _span: &Id, _context: &Context<'_>) {}
+
+    fn on_exit(&mut self, _span: &Id, _context: &Context<'_>) {}
+
+    fn on_close(&mut self, _span: &Id, _context: &Context<'_>) {}
+}
+
+/// A stack of one output with a filter that counts.
+fn counted(alloc: Global, level: LevelFilter) -> Result<Stack<Filtered<Journal, Counting>>, Fail> {
+    let mut outputs = Vec::new(alloc);
+    outputs
+        .push(output_of(alloc, 1, Counting::new(level)))
+        .ok()
+        .ok_or("room")?;
+    Ok(Stack::new(alloc, outputs).ok().ok_or("a stack")?)
+}
+
+/// How often the filter was asked.
+fn asked(stack: &Stack<Filtered<Journal, Counting>>) -> u64 {
+    match stack.output(0) {
+        None => 0,
+        Some(output) => output.filter().asked.get(),
+    }
+}
+
+#[test]
+fn a_kept_hint_is_asked_in_the_place_of_filters(rt: HostRuntime) -> Result<(), Fail> {
+    let mut stack = counted(rt.alloc(), LevelFilter::INFO)?;
+    tell(&mut stack, "app", Level::DEBUG)?;
+    assert!(rt; asked(&stack) == 0 && make(&mut stack, "app", Level::TRACE)?.is_none());
+    assert!(rt; asked(&stack) == 0);
+    tell(&mut stack, "app", Level::INFO)?;
+    assert!(rt; asked(&stack) == 1 && was_told(&stack, 0, &[(Told::Happened, 0)]));
+    Ok(())
+}
+
+#[test]
+fn a_kept_refusal_is_asked_in_the_place_of_filters(rt: HostRuntime) -> Result<(), Fail> {
+    let mut stack = counted(rt.alloc(), LevelFilter::INFO)?;
+    let fields = FieldSet::new(&NAMES, Identifier(7));
+    let metadata = Metadata::new(
+        "e",
+        "app",
+        Level::DEBUG,
+        None,
+        None,
+        None,
+        fields,
+        Kind::EVENT,
+    );
+    assert!(rt; stack.register_callsite(&metadata).is_never() && asked(&stack) == 0);
+    match stack.stack_mut(0) {
+        None => {}
+        Some(output) => output.filter_mut().level = LevelFilter::INFO,
+    }
+    // Nothing is kept of an output that was lent.
+    tell(&mut stack, "app", Level::DEBUG)?;
+    assert!(rt; asked(&stack) == 1);
+    assert!(rt; stack.register_callsite(&metadata).is_never() && asked(&stack) == 1);
+    tell(&mut stack, "app", Level::DEBUG)?;
+    assert!(rt; asked(&stack) == 1);
+    tell(&mut stack, "other", Level::DEBUG)?;
+    assert!(rt; asked(&stack) == 2 && was_told(&stack, 0, &[]));
+    let mut filter = Counting::new(LevelFilter::DEBUG);
+    stack.swap_filter(0, &mut filter)?;
+    tell(&mut stack, "app", Level::DEBUG)?;
+    assert!(rt; asked(&stack) == 1 && was_told(&stack, 0, &[(Told::Happened, 0)]));
+    Ok(())
+}

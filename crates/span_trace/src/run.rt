@@ -1,0 +1,109 @@
+//! The steps of a script, run on a trace.
+
+use crate::decode::{CallsiteLine, NamedValue, RecordLine, StepLine};
+use span_tracing::{FieldValue, MemoryFolder, RecordCall, Reply, SpanName, Step, Trace};
+use std::alloc::{AllocError, Global};
+
+/// The replies so far, and which callsite each span is of.
+#[derive(Debug, Drop)]
+struct Told {
+    replies: Vec<Reply>,
+    /// The callsites of the spans that were made. Ids are given in order from 1, so that of span N stands at place N - 1.
+    sites: Vec<u64>,
+}
+
+impl Told {
+    /// Runs the steps, which are then done.
+    fn run(
+        &mut self,
+        trace: &mut Trace<MemoryFolder>,
+        steps: &mut Vec<Step>,
+    ) -> Result<(), AllocError> {
+        let replies = trace.run(steps.as_slice())?;
+        for (step, reply) in steps.iter().zip(replies.iter()) {
+            if let (Step::NewSpan(span), Reply::Span(Some(_))) = (step, reply) {
+                self.sites.push(span.callsite.0)?;
+            }
+        }
+        self.replies.extend_from_slice(replies.as_slice())?;
+        steps.clear();
+        Ok(())
+    }
+
+    /// The callsite of a span that was made.
+    fn site_of(&self, span: Option<SpanName>) -> Option<u64> {
+        let place = span?.id.into_u64().checked_sub(1)? as usize;
+        self.sites.get(place).copied()
+    }
+}
+
+/// Runs the steps in order. Before a record those so far are run, since their replies tell the callsite of its span.
+pub(crate) fn run_steps(
+    alloc: Global,
+    trace: &mut Trace<MemoryFolder>,
+    callsites: &[CallsiteLine],
+    lines: Vec<StepLine>,
+) -> Result<Vec<Reply>, AllocError> {
+    let mut told = Told {
+        replies: Vec::new(alloc),
+        sites: Vec::new(alloc),
+    };
+    let mut steps = Vec::new(alloc);
+    for line in lines {
+        match line {
+            StepLine::Whole(step) => steps.push(step)?,
+            StepLine::Record(record) => {
+                told.run(trace, &mut steps)?;
+                let callsite = callsite_of(callsites, told.site_of(record.span));
+                steps.push(Step::Record(record_call(alloc, callsite, record)?))?;
+            }
+        }
+    }
+    told.run(trace, &mut steps)?;
+    Ok(told.replies)
+}
+
+/// The first callsite of that id.
+fn callsite_of(callsites: &[CallsiteLine], id: Option<u64>) -> Option<&CallsiteLine> {
+    let id = id?;
+    callsites.iter().find(|line| line.id == id)
+}
+
+fn record_call(
+    alloc: Global,
+    callsite: Option<&CallsiteLine>,
+    record: RecordLine,
+) -> Result<RecordCall, AllocError> {
+    let RecordLine {
+        lane,
+        moment,
+        span,
+        values,
+    } = record;
+    Ok(RecordCall {
+        lane,
+        moment,
+        span,
+        values: values_at(alloc, callsite, values)?,
+    })
+}
+
+/// The values of the callsite's fields. One whose field the callsite lacks is passed over, and so are all where there is no
+/// callsite: such a record is refused, or is on no span.
+fn values_at(
+    alloc: Global,
+    callsite: Option<&CallsiteLine>,
+    values: Vec<NamedValue>,
+) -> Result<Vec<FieldValue>, AllocError> {
+    let mut placed = Vec::new(alloc);
+    let Some(callsite) = callsite else {
+        return Ok(placed);
+    };
+    for named in values {
+        let NamedValue { name, value } = named;
+        if let Some(field) = callsite.field_index(name.as_str()) {
+            placed.push(FieldValue { field, value })?;
+        }
+    }
+    Ok(placed)
+}

@@ -1,0 +1,33 @@
+-- Benches by their names, and the words that ask for one.
+use Rattle.std.specs.Prelude.{ℕ, List, [], ◌∷◌, Bool, true, false, ◌&&◌, codes, is_some, Option, Some, None, if◌then◌else◌}
+use Rattle.std.specs.Str.{bytes_eq}
+use Rattle.span_trace_bench.specs.declared.bench.Bench.{Bench}
+use Rattle.span_trace_bench.specs.declared.bench.Bench.TheVariants.{DirectMemory, DirectFile, Never, Refused, Depth64, Open10k, SpanCycle, SpanCycle10k, Open}
+
+abbrev pub name_of : Bench → List ℕ
+name_of DirectMemory = codes "direct_memory"
+name_of DirectFile = codes "direct_file"
+name_of Never = codes "never"
+name_of Refused = codes "refused"
+name_of Depth64 = codes "depth64"
+name_of Open10k = codes "open10k"
+name_of SpanCycle = codes "span_cycle"
+name_of SpanCycle10k = codes "span_cycle10k"
+name_of Open = codes "open"
+
+abbrev pub all_benches : List Bench
+all_benches = DirectMemory ∷ DirectFile ∷ Never ∷ Refused ∷ Depth64 ∷ Open10k ∷ SpanCycle ∷ SpanCycle10k ∷ Open ∷ []
+
+abbrev pub named_in : List Bench → List ℕ → Option Bench
+named_in [] name = None
+named_in (bench ∷ more) name = if bytes_eq name (name_of bench) then Some bench else named_in more name
+
+-- the bench of that name
+abbrev pub bench_named : List ℕ → Option Bench
+bench_named name = named_in all_benches name
+
+-- whether the words ask for all sums, or name a bench, a count and a file
+abbrev pub asks_bench : List (List ℕ) → Bool
+asks_bench [] = true
+asks_bench (word ∷ name ∷ count ∷ file ∷ []) = bytes_eq word (codes "bench") && is_some (bench_named name)
+asks_bench other = false

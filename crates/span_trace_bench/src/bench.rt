@@ -1,0 +1,108 @@
+//! What is timed, by name.
+
+ghost use Rattle.std.specs.Prelude.{◌≡◌, IfSome};
+ghost use Rattle.std.specs.Option.{option_map};
+ghost use Rattle.span_trace_bench.specs.Names.{name_of, bench_named};
+
+use crate::fault::Fault;
+use crate::stage::{DETAIL, EVENT, NOISE, Stage};
+use span_tracing::Folder;
+
+/// A bench.
+#[derive(Clone, Copy, Debug, PartialEq, Eq)]
+pub enum Bench {
+    /// Events in a span, to a folder that only counts.
+    DirectMemory,
+    /// Events in a span, to a folder of the system.
+    DirectFile,
+    /// Events of a callsite in which nobody is interested.
+    Never,
+    /// Events of a callsite that the filter refuses.
+    Refused,
+    /// Events in 64 spans, each inside the one before.
+    Depth64,
+    /// Events in a span, with 10,000 other spans open, or fewer where no time is taken.
+    Open10k,
+    /// A span opened, entered, left and closed.
+    SpanCycle,
+    /// The same with 10,000 other spans open.
+    SpanCycle10k,
+    /// Spans opened and left open.
+    Open,
+}
+
+/// The benches that need no folder of the system.
+pub(crate) const IN_MEMORY: [Bench; 8] = [
+    Bench::DirectMemory,
+    Bench::Never,
+    Bench::Refused,
+    Bench::Depth64,
+    Bench::Open10k,
+    Bench::SpanCycle,
+    Bench::SpanCycle10k,
+    Bench::Open,
+];
+
+impl Bench {
+    /// The bench of a name.
+    pub fn named(name: &str) -> Option<Bench>
+        ensures { result ≡ bench_named name.now }
+    {
+        match name {
+            "direct_memory" => Some(Bench::DirectMemory),
+            "direct_file" => Some(Bench::DirectFile),
+            "never" => Some(Bench::Never),
+            "refused" => Some(Bench::Refused),
+            "depth64" => Some(Bench::Depth64),
+            "open10k" => Some(Bench::Open10k),
+            "span_cycle" => Some(Bench::SpanCycle),
+            "span_cycle10k" => Some(Bench::SpanCycle10k),
+            "open" => Some(Bench::Open),
+            _ => None,
+        }
+    }
+
+    /// The bench's name.
+    pub fn name(self) -> &'static str
+        ensures { result.now ≡ name_of self }
+    {
+        match self {
+            Bench::DirectMemory => "direct_memory",
+            Bench::DirectFile => "direct_file",
+            Bench::Never => "never",
+            Bench::Refused => "refused",
+            Bench::Depth64 => "depth64",
+            Bench::Open10k => "open10k",
+            Bench::SpanCycle => "span_cycle",
+            Bench::SpanCycle10k => "span_cycle10k",
+            Bench::Open => "open",
+        }
+    }
+
+    /// Opens the spans that are open before the time begins: `many` beside the others, where the bench has many.
+    pub(crate) fn prepare<D: Folder>(self, stage: &mut Stage<D>, many: u64) -> Result<(), Fault> {
+        match self {
+            Bench::Depth64 => stage.nest(64),
+            Bench::Open10k => {
+                stage.scatter(many)?;
+                stage.nest(1)
+            }
+            Bench::SpanCycle10k => stage.scatter(many),
+            Bench::SpanCycle => Ok(()),
+            Bench::Open => Ok(()),
+            _ => stage.nest(1),
+        }
+    }
+
+    /// Makes the calls that are timed.
+    pub(crate) fn run<D: Folder>(self, stage: &mut Stage<D>, count: u64) -> Result<(), Fault> {
+        match self {
+            Bench::Never => stage.tell(DETAIL, count),
+            Bench::Refused => stage.tell(NOISE, count),
+            Bench::SpanCycle => stage.cycle(count),
+            Bench::SpanCycle10k => stage.cycle(count),
+            Bench::Open => stage.scatter(count),
+            _ => stage.tell(EVENT, count),
+        }
+    }
+}

@@ -1,0 +1,47 @@
+//! Times calls of a trace, by name, or shows what they hand over.
+#![tactic(auto)]
+
+mod bench;
+mod counting;
+mod fault;
+mod program;
+mod stage;
+
+pub use bench::Bench;
+pub use program::main_with;
+
+#[cfg(test)]
+mod tests;
+
+use std::alloc::AllocError;
+use std::io::ErrorKind;
+use std::process::ExitCode;
+use std::{env, io};
+
+/// The words behind the program's name; none where some word is no text.
+fn words_of(rt: &HostRuntime) -> Result<Vec<String>, AllocError> {
+    let mut words = Vec::new(rt.alloc());
+    match env::args(rt) {
+        Ok(all) => {
+            for word in all.skip(1) {
+                words.push(word)?;
+            }
+        }
+        Err(error) if error.kind() == ErrorKind::OutOfMemory => return Err(AllocError),
+        Err(_) => {}
+    }
+    Ok(words)
+}
+
+fn main(rt: HostRuntime) -> ExitCode {
+    let Ok(words) = words_of(&rt) else {
+        return ExitCode::from(4);
+    };
+    let status = main_with(
+        &rt,
+        words.as_slice(),
+        &mut io::writer(&rt),
+        &mut rt.stderr(),
+    );
+    ExitCode::from(status)
+}

@@ -1,0 +1,147 @@
+//! The program over any runtime and outputs.
+
+ghost use Rattle.std.specs.Prelude.{◌≡◌, ◌≤◌, Err, map, string_bytes, false};
+ghost use Rattle.span_trace_bench.specs.Names.{asks_bench};
+
+use crate::bench::{Bench, IN_MEMORY};
+use crate::counting::CountingFolder;
+use crate::fault::Fault;
+use crate::stage::Stage;
+use span_tracing::Folder;
+use std::alloc::Global;
+use std::io::Write;
+use std::rt::{Clock, Files};
+use std::time::Instant;
+use tracing_appender_rolling::DiskFolder;
+
+/// How often a bench's calls are made where only sums are shown.
+const SMALL: u64 = 3;
+
+/// How many other spans are open in the benches that have many, where their time is taken.
+const MANY: u64 = 10_000;
+
+/// The same where only sums are shown.
+const FEW: u64 = 100;
+
+/// The folder of a file's path, and the file's name.
+fn parts_of(path: &str) -> (&str, &str) {
+    match path.rsplit_once('/') {
+        Some(("", name)) => ("/", name),
+        Some((folder, name)) => (folder, name),
+        None => (".", path),
+    }
+}
+
+/// The nanoseconds that a bench's calls take.
+fn time_over<R: Clock, D: Folder>(
+    rt: &R,
+    alloc: Global,
+    bench: Bench,
+    count: u64,
+    folder: D,
+    prefix: &str,
+) -> Result<u128, Fault> {
+    let mut stage = Stage::new(alloc, folder, prefix)?;
+    bench.prepare(&mut stage, MANY)?;
+    let start = Instant::now(rt)?;
+    bench.run(&mut stage, count)?;
+    Ok(start.elapsed(rt)?.as_nanos())
+}
+
+/// Times a bench, and writes its name, the count, and twice the nanoseconds: no call leaves work behind.
+fn write_time<R: Files + Clock + AllocGlobal + Clone + Drop, W: Write>(
+    rt: &R,
+    bench: Bench,
+    count: u64,
+    file: &str,
+    output: &mut W,
+) -> Result<(), Fault> {
+    let alloc = rt.alloc();
+    let (path, prefix) = parts_of(file);
+    let nanoseconds = if bench == Bench::DirectFile {
+        let folder = DiskFolder::new(rt.clone()?, String::from_str(alloc, path)?);
+        time_over(rt, alloc, bench, count, folder, prefix)?
+    } else {
+        let folder = CountingFolder::new(alloc);
+        time_over(rt, alloc, bench, count, folder, prefix)?
+    };
+    let name = bench.name();
+    writeln!(output, "{name} {count} {nanoseconds} {nanoseconds}")?;
+    Ok(())
+}
+
+/// Makes a bench's calls a few times, and writes its name, the bytes and the lines that were handed over, and how many
+/// spans were made.
+fn write_sum<W: Write>(alloc: Global, bench: Bench, output: &mut W) -> Result<(), Fault> {
+    let folder = CountingFolder::new(alloc);
+    let mut stage = Stage::new(alloc, folder, "sums")?;
+    bench.prepare(&mut stage, FEW)?;
+    bench.run(&mut stage, SMALL)?;
+    let Some(counted) = stage.trace.folder(0) else {
+        return Err(Fault::OddReply);
+    };
+    let name = bench.name();
+    let bytes = counted.bytes;
+    let lines = counted.writes;
+    let spans = stage.spans;
+    writeln!(output, "{name} {bytes} {lines} {spans}")?;
+    Ok(())
+}
+
+fn write_sums<W: Write>(alloc: Global, output: &mut W) -> Result<(), Fault> {
+    for bench in IN_MEMORY {
+        write_sum(alloc, bench, output)?;
+    }
+    Ok(())
+}
+
+/// Does what the words ask for.
+fn answer<R: Files + Clock + AllocGlobal + Clone + Drop, W: Write>(
+    rt: &R,
+    words: &[String],
+    output: &mut W,
+) -> Result<(), Fault>
+    ensures { asks_bench (map string_bytes words.now) ≡ false → (result ≡ Err Fault.Usage) × (output.new ≡ output.old) }
+{
+    match words {
+        [] => write_sums(rt.alloc(), output),
+        [word, name, count, file] if word.as_str() == "bench" => {
+            let Some(bench) = Bench::named(name.as_str()) else {
+                return Err(Fault::Usage);
+            };
+            let Ok(count) = count.as_str().parse::<u64>() else {
+                return Err(Fault::Usage);
+            };
+            write_time(rt, bench, count, file.as_str(), output)
+        }
+        _ => Err(Fault::Usage),
+    }
+}
+
+/// Runs the program on its words, and gives its status.
+///
+/// The words `bench NAME COUNT FILE` time a bench; no words show what each bench that needs no folder of the system
+/// hands over.
+///
+/// 0: done. 1: the trace refused a call. 2: the words are other ones, or the name is no bench's. 3: a call answered
+/// oddly. 4: there was no memory. 5: the clock or the output refused.
+pub fn main_with<R: Files + Clock + AllocGlobal + Clone + Drop, W: Write, E: Write>(
+    rt: &R,
+    words: &[String],
+    output: &mut W,
+    errors: &mut E,
+) -> u8
+    ensures range { result ≤ 5 }
+
+    // Other words are answered with the usage alone.
+    ensures usage { asks_bench (map string_bytes words.now) ≡ false → result ≡ 2 }
+    ensures quiet { asks_bench (map string_bytes words.now) ≡ false → output.new ≡ output.old }
+{
+    match answer(rt, words, output) {
+        Ok(()) => 0,
+        Err(fault) => {
+            fault.tell(errors);
+            fault.status()
+        }
+    }
+}

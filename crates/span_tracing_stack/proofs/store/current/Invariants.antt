@@ -1,6 +1,0 @@
-use Rattle.std.proofs.Common.{◌≡◌, take, reverse}
-use Rattle.span_tracing_machine.specs.Spans.{latest}
-use Rattle.span_tracing_stack.proofs.store.current.Given as goal
-
-abbrev pub invariant-loop-place : goal.invariant-loop-place
-invariant-loop-place l = l.latest ≡ latest (reverse (take l.place l.lane))

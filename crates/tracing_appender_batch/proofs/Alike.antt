@@ -1,0 +1,151 @@
+-- Two steps at one moment leave the folder of one.
+use Rattle.std.proofs.Common.{◌≡◌, Bool, true, false, ℕ, ℤ, zero, suc, ◌+◌, ◌-◌, ◌<◌, List, [], ◌∷◌, ◌++◌, length, refl, ap, subst, sym, ◌∙◌, Option, Some, Ok, Err}
+use Rattle.tracing_appender_rolling.specs.Moment.{Moment}
+use Rattle.tracing_appender_rolling.specs.Moments.{is_due}
+use Rattle.tracing_appender_rolling.specs.FolderError.{FolderError}
+use Rattle.tracing_appender_rolling.specs.Names.{FileNames}
+use Rattle.tracing_appender_rolling.specs.Contents.{Contents, Kept, Outcome, IsSound, appended, taken}
+use Rattle.tracing_appender_rolling.specs.Looks.{Held, IsHeld, LookedTo, tried, failed_by, end_at, try_at}
+use Rattle.tracing_appender_rolling.specs.Tries.{Tried}
+use Rattle.tracing_appender_rolling.specs.FolderError.TheVariants.{Fault, OutOfMemory}
+use Rattle.tracing_appender_rolling.specs.Writes.{taken_by, Takes, WroteAll}
+use Rattle.tracing_appender_rolling.proofs.PeriodFacts.{own_not_due}
+use Rattle.tracing_appender_batch.specs.declared.step.Written.{Written}
+use Rattle.tracing_appender_batch.specs.declared.step.Written.TheVariants.{Whole, Failed, Missed}
+use Rattle.tracing_appender_batch.specs.Steps.{is_whole, last_whole, LineTo, LinesTo, flushed, flushed_if, IsAlike, AllWhole, FoldersMayBeCut}
+
+alike_self : (h : Held) → IsAlike h h
+alike_self h = record { until = refl; open_file = refl; counts = refl; files = refl; links = refl; open_files = refl }
+
+-- flushes change nothing but the coming calls
+alike_flushed : (a b : Bool) (h k : Held) → IsAlike h k → IsAlike (flushed_if a h) (flushed_if b k)
+alike_flushed true true h k x = record { until = x.until; open_file = x.open_file; counts = x.counts; files = x.files; links = x.links; open_files = x.open_files }
+alike_flushed true false h k x = record { until = x.until; open_file = x.open_file; counts = x.counts; files = x.files; links = x.links; open_files = x.open_files }
+alike_flushed false true h k x = record { until = x.until; open_file = x.open_file; counts = x.counts; files = x.files; links = x.links; open_files = x.open_files }
+alike_flushed false false h k x = x
+
+lines_both : (names : FileNames) (m : Moment) (h middle last : Held) (xs ys : List (List ℕ)) (one two : List Written) → LinesTo names m h xs one middle → LinesTo names m middle ys two last → LinesTo names m h (xs ++ ys) (one ++ two) last
+lines_both names m h middle last [] ys [] two so more = subst (λ (x : Held). LinesTo names m x ys two last) so more
+lines_both names m h middle last [] ys (f ∷ fs) two so more = absurd so
+lines_both names m h middle last (x ∷ xs) ys [] two so more = absurd so
+lines_both names m h middle last (x ∷ xs) ys (f ∷ fs) two (next, first, rest) more = (next, first, lines_both names m next middle last xs ys fs two rest more)
+
+-- behind a line that was written whole the moment is not due
+tried_until : (h : Held) (t : Tried) → (tried h t).boundary ≡ h.boundary
+tried_until h (Ok file, c) = refl
+tried_until h (Err f, c) = failed_until f.error
+  where
+    failed_until : (e : FolderError) → (failed_by h c e).boundary ≡ h.boundary
+    failed_until OutOfMemory = refl
+    failed_until (Fault fault) = refl
+
+looked_not_due : (due : Bool) (names : FileNames) (m : Moment) (h seen : Held) → is_due h.boundary m.seconds ≡ due → LookedTo due names m h seen.boundary seen.current seen.faults (Some seen.contents) → is_due seen.boundary m.seconds ≡ false
+looked_not_due false names m h seen early held = ap (λ (b : Option ℤ). is_due b m.seconds) held.until ∙ early
+looked_not_due true names m h seen due is =
+    ap (λ (b : Option ℤ). is_due b m.seconds) (is.held.until ∙ tried_until (record { boundary = end_at names m; current = h.current; faults = is.counted; contents = is.pruned }) (try_at names m is.pruned)) ∙ own_not_due names.kind m
+
+line_not_due : (names : FileNames) (m : Moment) (h next : Held) (line : List ℕ) (fate : Written) → is_whole fate ≡ true → LineTo names m h line fate next → is_due next.boundary m.seconds ≡ false
+line_not_due names m h next line Whole whole over =
+    ap (λ (b : Option ℤ). is_due b m.seconds) over.boundary_same ∙ looked_not_due (is_due h.boundary m.seconds) names m h over.seen refl over.looked
+line_not_due names m h next line (Failed fault) whole over = cc
+line_not_due names m h next line Missed whole over = cc
+
+lines_not_due : (names : FileNames) (m : Moment) (before : Bool) (h last : Held) (lines : List (List ℕ)) (fates : List Written) → (before ≡ true → is_due h.boundary m.seconds ≡ false) → last_whole before fates ≡ true → LinesTo names m h lines fates last → is_due last.boundary m.seconds ≡ false
+lines_not_due names m before h last [] [] early whole so = ap (λ (x : Held). is_due x.boundary m.seconds) so ∙ early whole
+lines_not_due names m before h last [] (f ∷ fs) early whole so = absurd so
+lines_not_due names m before h last (l ∷ ls) [] early whole so = absurd so
+lines_not_due names m before h last (l ∷ ls) (f ∷ fs) early whole (next, first, rest) =
+    lines_not_due names m (is_whole f) next last ls fs (λ is. line_not_due names m h next l f is first) whole rest
+
+-- writes that take all over another folder that refuses nothing
+taken_same : (c d : Contents) → IsSound c → IsSound d → (writes len : ℕ) → taken_by c writes len ≡ taken_by d writes len
+taken_same c d sound_c sound_d zero len = refl
+taken_same c d sound_c sound_d (suc n) len =
+    ap (λ k. k + taken (c.coming n) (len - k)) (taken_same c d sound_c sound_d n len)
+    ∙ ap (λ (o : Outcome). taken_by d n len + taken o (len - taken_by d n len)) (sound_c n ∙ sym (sound_d n))
+
+takes_same : (c d : Contents) → IsSound c → IsSound d → (writes len all : ℕ) → Takes c writes len all → Takes d writes len all
+takes_same c d sound_c sound_d writes len all t = record {
+  some = λ n lt.
+      subst (λ (o : Outcome). 0 < taken o (len - taken_by d n len)) (sound_c n ∙ sym (sound_d n)) (subst (λ k. 0 < taken (c.coming n) (len - k)) (taken_same c d sound_c sound_d n len) (t.some n lt));
+  sum = sym (taken_same c d sound_c sound_d writes len) ∙ t.sum;
+}
+
+-- what is handed to the one, handed to one that is alike
+record Also (names : FileNames) (m : Moment) (other last : Held) (lines : List (List ℕ)) (fates : List Written) : Type 0 where
+  pub end : Held
+  pub lines_to : LinesTo names m other lines fates end
+  pub alike : IsAlike end last
+
+module _ (names : FileNames) (m : Moment) where
+  record AlsoOne (other next : Held) (line : List ℕ) : Type 0 where
+    pub end : Held
+    pub over : LineTo names m other line Whole end
+    pub alike : IsAlike end next
+    pub sound : IsSound end.contents
+    pub next_sound : IsSound next.contents
+    pub early : is_due end.boundary m.seconds ≡ false
+    pub next_early : is_due next.boundary m.seconds ≡ false
+
+  also_one : (h other next : Held) (line : List ℕ) → IsAlike other h → IsSound other.contents → IsSound h.contents → is_due other.boundary m.seconds ≡ false → is_due h.boundary m.seconds ≡ false → LineTo names m h line Whole next → AlsoOne other next line
+  also_one h other next line alike sound_o sound_h early_o early_h over =
+      let seen = over.seen in
+      let held : IsHeld (Some seen.contents) seen.boundary seen.current seen.faults h = subst (λ due. LookedTo due names m h seen.boundary seen.current seen.faults (Some seen.contents)) early_h over.looked in
+      let c = other.contents in
+      let same : seen.contents ≡ h.contents = cc (held.folder) in
+      let w = subst (λ (d : Contents). WroteAll d seen.current line (Some next.contents)) same over.writes in
+      let left : Contents = record { files = appended c.files other.current.index line; links = c.links; open_files = c.open_files; coming = λ n. c.coming (w.writes + n) } in
+      let kept : next.contents ≡ w.left.contents = cc (w.left.is) in
+      let file : seen.current ≡ other.current = held.open_file ∙ sym alike.open_file in
+      record {
+        end = record { boundary = other.boundary; current = other.current; faults = other.faults; contents = left };
+        over = record {
+          seen = other;
+          looked = subst (λ due. LookedTo due names m other other.boundary other.current other.faults (Some other.contents)) (sym early_o) (record { folder = refl; until = refl; open_file = refl; counts = refl });
+          boundary_same = refl;
+          current_same = refl;
+          counted = refl;
+          writes = record {
+            writes = w.writes;
+            left = record { contents = left; is = refl; files_are = refl; links_stay = refl; open_stay = refl; comes = λ n. refl };
+            takes = takes_same h.contents c sound_h sound_o w.writes (length line) (length line) w.takes;
+          };
+        };
+        alike = record {
+          until = alike.until ∙ sym held.until ∙ sym over.boundary_same;
+          open_file = sym file ∙ sym over.current_same;
+          counts = alike.counts ∙ sym held.counts ∙ sym over.counted;
+          files =
+              ap (λ (fs : List Kept). appended fs other.current.index line) alike.files
+              ∙ ap (λ f. appended h.contents.files f line) (ap (λ f. f.index) (sym file))
+              ∙ sym w.left.files_are
+              ∙ ap (λ (d : Contents). d.files) (sym kept);
+          links = alike.links ∙ sym w.left.links_stay ∙ ap (λ (d : Contents). d.links) (sym kept);
+          open_files = alike.open_files ∙ sym w.left.open_stay ∙ ap (λ (d : Contents). d.open_files) (sym kept);
+        };
+        sound = λ n. sound_o (w.writes + n);
+        next_sound = λ n. ap (λ (d : Contents). d.coming n) kept ∙ w.left.comes n ∙ sound_h (w.writes + n);
+        early = early_o;
+        next_early = ap (λ (b : Option ℤ). is_due b m.seconds) (over.boundary_same ∙ held.until) ∙ early_h;
+      }
+
+  also : (h other last : Held) (lines : List (List ℕ)) (fates : List Written) → IsAlike other h → IsSound other.contents → IsSound h.contents → is_due other.boundary m.seconds ≡ false → is_due h.boundary m.seconds ≡ false → AllWhole fates → LinesTo names m h lines fates last → Also names m other last lines fates
+  also h other last [] [] alike sound_o sound_h early_o early_h whole so = record { end = other; lines_to = refl; alike = subst (IsAlike other) (sym so) alike }
+  also h other last [] (f ∷ fs) alike sound_o sound_h early_o early_h whole so = absurd so
+  also h other last (l ∷ ls) [] alike sound_o sound_h early_o early_h whole so = absurd so
+  also h other last (l ∷ ls) (f ∷ fs) alike sound_o sound_h early_o early_h (is, whole) (next, first, rest) =
+      let one = also_one h other next l alike sound_o sound_h early_o early_h (subst (λ (x : Written). LineTo names m h l x next) is first) in
+      let more = also next one.end last ls fs one.alike one.sound one.next_sound one.early one.next_early whole rest in
+      record { end = more.end; lines_to = (one.end, subst (λ (x : Written). LineTo names m other l x one.end) (sym is) one.over, more.lines_to); alike = more.alike }
+
+cut_by : (names : FileNames) (m : Moment) (h middle last : Held) (first second : List (List ℕ)) (one two : List Written) (b : Bool) → last_whole false one ≡ b → IsSound middle.contents → AllWhole two → LinesTo names m h first one middle → LinesTo names m (flushed_if b middle) second two last →
+    (end : Held) × LinesTo names m h (first ++ second) (one ++ two) end × IsAlike (flushed_if (last_whole false (one ++ two)) end) (flushed_if (last_whole false two) last)
+cut_by names m h middle last first second one two false is sound whole so more =
+    (last, lines_both names m h middle last first second one two so more, alike_flushed (last_whole false (one ++ two)) (last_whole false two) last last (alike_self last))
+cut_by names m h middle last first second one two true is sound whole so more =
+    let early = lines_not_due names m false h middle first one (λ no. cc) is so in
+    let a = also names m (flushed middle) middle last second two (alike_flushed false true middle middle (alike_self middle)) sound (λ n. sound (suc n)) early early whole more in
+    (a.end, lines_both names m h middle a.end first second one two so a.lines_to, alike_flushed (last_whole false (one ++ two)) (last_whole false two) a.end last a.alike)
+
+pub folders_cut : FoldersMayBeCut
+folders_cut names m h middle last first second one two sound whole so more = cut_by names m h middle last first second one two (last_whole false one) refl sound whole so more

@@ -1,0 +1,135 @@
+-- A folder that keeps another's files and links and has a plan of its own.
+use Rattle.std.specs.Prelude.{is_some}
+use Rattle.std.proofs.Common.{◌≡◌, ℕ, suc, Bool, true, false, List, refl, ap, subst, ◌∙◌, sym, arith, cond, Some, None, Option, Result, Ok, Err, min, set}
+use Rattle.std.proofs.Math.Path.{fun_ext}
+use Rattle.tracing_appender_folders.specs.declared.fault.FolderFault.{FolderFault}
+use Rattle.tracing_appender_folders.specs.declared.fault.FolderFault.TheVariants.{Refused}
+use Rattle.tracing_appender_folders.specs.declared.fault.FolderError.{FolderError}
+use Rattle.tracing_appender_folders.specs.declared.fault.FolderError.TheVariants.{Fault, OutOfMemory}
+use Rattle.tracing_appender_folders.specs.declared.fault.FileNumber.{FileNumber}
+use Rattle.tracing_appender_folders.specs.Contents.{Contents, Kept, Outcome, if_refused, Done, Refuses, Short, Answer, Gives, called, taken, unless_refused, refusal, open_plain, open_at, write_plain, remove_plain, remove_at, close_plain, nothing_plain, list_plain, link_plain, links_with, link_place, file_named, link_named}
+use Rattle.tracing_appender_folders.specs.Faulty.{Plan, number_after, outcome_of, has_number}
+use Rattle.tracing_appender_folders.specs.Memory.{memory_contents}
+use Rattle.tracing_appender_folders.specs.declared.memory.MemoryFolder.{MemoryFolder}
+
+-- these files and links under a plan
+abbrev pub planned : (ℕ → Outcome) → Contents → Contents
+planned g c = record { files = c.files; links = c.links; open_files = c.open_files; coming = g }
+
+abbrev pub later : (ℕ → Outcome) → ℕ → Outcome
+later g n = g (suc n)
+
+-- a call answers and leaves the same whatever the plan
+abbrev pub IgnoresPlan : {T : Type 0} → (Contents → Answer T) → Type 0
+IgnoresPlan call = (c : Contents) (g : ℕ → Outcome) → call (planned g c) ≡ ((call c).0, planned (later g) (call c).1)
+
+open_ignores_at : (name : List ℕ) (c : Contents) (g : ℕ → Outcome) (found : Option ℕ) → open_at (planned g c) name found ≡ ((open_at c name found).0, planned (later g) (open_at c name found).1)
+open_ignores_at name c g None = refl
+open_ignores_at name c g (Some place) = refl
+
+open_ignores_link : (name : List ℕ) (c : Contents) (g : ℕ → Outcome) (linked : Bool) → cond linked (refusal Refused (planned g c)) (open_at (planned g c) name (file_named name c.files)) ≡ ((cond linked (refusal Refused c) (open_at c name (file_named name c.files))).0, planned (later g) (cond linked (refusal Refused c) (open_at c name (file_named name c.files))).1)
+open_ignores_link name c g true = refl
+open_ignores_link name c g false = open_ignores_at name c g (file_named name c.files)
+
+pub open_ignores : (name : List ℕ) → IgnoresPlan (open_plain name)
+open_ignores name c g = open_ignores_link name c g (link_named name c.links)
+
+pub write_ignores : (file : FileNumber) (bytes : List ℕ) → IgnoresPlan (write_plain file bytes)
+write_ignores file bytes c g = refl
+
+remove_ignores_at : (c : Contents) (g : ℕ → Outcome) (found : Option ℕ) → remove_at (planned g c) found ≡ ((remove_at c found).0, planned (later g) (remove_at c found).1)
+remove_ignores_at c g None = refl
+remove_ignores_at c g (Some place) = refl
+
+pub remove_ignores : (name : List ℕ) → IgnoresPlan (remove_plain name)
+remove_ignores name c g = remove_ignores_at c g (file_named name c.files)
+
+abbrev link_at : Contents → List (List ℕ × List ℕ) → Bool → Answer (Unit {0})
+link_at c links taken = cond taken (refusal Refused c) (Ok tt, record (called c) { links = links })
+
+link_ignores_at : (c : Contents) (g : ℕ → Outcome) (links : List (List ℕ × List ℕ)) (taken : Bool) → link_at (planned g c) links taken ≡ ((link_at c links taken).0, planned (later g) (link_at c links taken).1)
+link_ignores_at c g links true = refl
+link_ignores_at c g links false = refl
+
+pub link_ignores : (name target : List ℕ) → IgnoresPlan (link_plain name target)
+link_ignores name target c g = link_ignores_at c g (links_with c.links (link_place name c.links) (name, target)) (is_some (file_named name c.files))
+
+pub close_ignores : (file : FileNumber) → IgnoresPlan (close_plain file)
+close_ignores file c g = refl
+
+pub nothing_ignores : IgnoresPlan nothing_plain
+nothing_ignores c g = refl
+
+-- the plan of a folder in memory
+abbrev pub whole_plan : ℕ → Outcome
+whole_plan n = Done
+
+abbrev pub plain : {T : Type 0} → (Contents → Answer T) → Contents → Answer T
+plain call c = unless_refused c (call c)
+
+module _ {T : Type 0} (call : Contents → Answer T) (ignores : IgnoresPlan call) (inner after : Contents) (g : ℕ → Outcome) where
+  answer_planned : (call (planned g inner)).0 ≡ (call (planned whole_plan inner)).0
+  answer_planned = ap (λ (a : Answer T). a.0) (ignores inner g) ∙ sym (ap (λ (a : Answer T). a.0) (ignores inner whole_plan))
+
+  after_planned : planned whole_plan after ≡ (call (planned whole_plan inner)).1 → planned (later g) after ≡ (call (planned g inner)).1
+  after_planned e = ap (planned (later g)) (e ∙ ap (λ (a : Answer T). a.1) (ignores inner whole_plan)) ∙ sym (ap (λ (a : Answer T). a.1) (ignores inner g))
+
+  -- what a call gives over the inner folder it gives under a plan
+  pub gives_planned : (r : Result T FolderError) → Gives (plain call) (Some (planned whole_plan inner)) r (Some (planned whole_plan after)) → Gives (λ _. call (planned g inner)) (Some (planned g inner)) r (Some (planned (later g) after))
+  gives_planned (Ok v) (answer, left) = (answer_planned ∙ answer, ap Some (after_planned cc))
+  gives_planned (Err (Fault f)) (answer, left) = (answer_planned ∙ answer, ap Some (after_planned cc))
+  gives_planned (Err OutOfMemory) left = let e : planned whole_plan after ≡ planned whole_plan inner = cc in ap Some (ap (planned (later g)) e)
+
+-- the plan of a faulty folder, one call later
+pub plan_later : (plan : Plan) (calls : ℕ) → (λ n. outcome_of plan (number_after (number_after calls 0) n)) ≡ later (λ n. outcome_of plan (number_after calls n))
+plan_later plan calls = fun_ext (λ n. ap (outcome_of plan) (same_number n))
+  where
+    same_number : (n : ℕ) → number_after (number_after calls 0) n ≡ number_after calls (suc n)
+    same_number n = omega arith
+
+-- a planned refusal
+pub gives_refused : {T : Type 0} (call : Contents → Answer T) (c after : Contents) (fault told : FolderFault) → told ≡ fault → c.coming 0 ≡ Refuses fault → after ≡ called c → Gives (plain call) (Some c) (Err (Fault told)) (Some after)
+gives_refused call c after fault told same refused left = (
+  ap (λ o. (if_refused o (λ f. refusal f c) (call c)).0) refused ∙ ap (λ (f : FolderFault). Err (Fault f)) (sym same),
+  ap Some left ∙ ap Some (sym (ap (λ o. (if_refused o (λ f. refusal f c) (call c)).1) refused)),
+)
+
+-- a call that isn't refused
+passed_at : {X : Type 0} (x : FolderFault → X) (y : X) (fault : FolderFault) (most : ℕ) (short : Bool) → if_refused (cond false (Refuses fault) (cond short (Short most) Done)) x y ≡ y
+passed_at x y fault most true = refl
+passed_at x y fault most false = refl
+
+pub gives_passed : {T : Type 0} (call : Contents → Answer T) (c after : Contents) (plan : Plan) (n : ℕ) (r : Result T FolderError) → c.coming 0 ≡ outcome_of plan n → has_number plan.refused n ≡ false → Gives (λ _. call c) (Some c) r (Some after) → Gives (plain call) (Some c) r (Some after)
+gives_passed {T} call c after plan n r first free gives =
+    let open_way : plain call c ≡ call c =
+    ap (λ o. if_refused o (λ f. refusal f c) (call c)) (first ∙ ap (λ b. cond b (Refuses plan.fault) (cond (has_number plan.short n) (Short plan.most) Done)) free)
+    ∙ passed_at (λ f. refusal f c) (call c) plan.fault plan.most (has_number plan.short n) in
+    subst (λ (a : Answer T). Gives (λ _. a) (Some c) r (Some after)) (sym open_way) gives
+
+-- under another name for the same call
+pub gives_same : {T : Type 0} (call other : Contents → Answer T) (c : Contents) (after : Option Contents) (r : Result T FolderError) → call c ≡ other c → Gives call (Some c) r after → Gives other (Some c) r after
+gives_same {T} call other c after r e gives = subst (λ (a : Answer T). Gives (λ _. a) (Some c) r after) e gives
+
+-- a call of a faulty folder that isn't refused
+pub faulty_gives : {T : Type 0} (call : Contents → Answer T) (ignores : IgnoresPlan call) (m asked after : MemoryFolder) (plan : Plan) (calls : ℕ) (r : Result T FolderError) → has_number plan.refused (number_after calls 0) ≡ false → asked ≡ m → Gives (plain call) (Some (memory_contents asked)) r (Some (memory_contents after)) → Gives (plain call) (Some (planned (λ n. outcome_of plan (number_after calls n)) (memory_contents m))) r (Some (planned (λ n. outcome_of plan (number_after (number_after calls 0) n)) (memory_contents after)))
+faulty_gives call ignores m asked after plan calls r free same gives =
+    let outcomes : ℕ → Outcome = λ n. outcome_of plan (number_after calls n) in
+    subst (λ (g : ℕ → Outcome). Gives (plain call) (Some (planned outcomes (memory_contents m))) r (Some (planned g (memory_contents after)))) (sym (plan_later plan calls))
+    (gives_passed call (planned outcomes (memory_contents m)) (planned (later outcomes) (memory_contents after)) plan (number_after calls 0) r refl free
+    (gives_planned call ignores (memory_contents m) (memory_contents after) outcomes r (subst (λ (x : MemoryFolder). Gives (plain call) (Some (memory_contents x)) r (Some (memory_contents after))) same gives)))
+
+-- how much a write takes that isn't refused
+taken_at : (fault : FolderFault) (most len : ℕ) (short : Bool) → taken (cond false (Refuses fault) (cond short (Short most) Done)) len ≡ cond short (min most len) len
+taken_at fault most len true = refl
+taken_at fault most len false = refl
+
+pub taken_free : (plan : Plan) (n len : ℕ) → has_number plan.refused n ≡ false → taken (outcome_of plan n) len ≡ cond (has_number plan.short n) (min plan.most len) len
+taken_free plan n len free = ap (λ b. taken (cond b (Refuses plan.fault) (cond (has_number plan.short n) (Short plan.most) Done)) len) free ∙ taken_at plan.fault plan.most len (has_number plan.short n)
+
+pub list_ignores : IgnoresPlan list_plain
+list_ignores c g = refl
+
+-- a link in the place of another, in a folder that refuses nothing of itself
+pub linked_over : (files : List Kept) (open_files : List ℕ) (links after : List (List ℕ × List ℕ)) (name target : List ℕ) (place : ℕ) → is_some (file_named name files) ≡ false → Some place ≡ link_place name links → after ≡ set links place (name, target) → ((link_plain name target (record { files = files; links = links; open_files = open_files; coming = whole_plan })).0 ≡ Ok tt) × (Some (record { files = files; links = after; open_files = open_files; coming = whole_plan }) ≡ Some (link_plain name target (record { files = files; links = links; open_files = open_files; coming = whole_plan })).1)
+linked_over files open_files links after name target place free found is =
+    rw (free, ← found) (refl, ap (λ (ls : List (List ℕ × List ℕ)). Some (record { files = files; links = ls; open_files = open_files; coming = whole_plan })) is)

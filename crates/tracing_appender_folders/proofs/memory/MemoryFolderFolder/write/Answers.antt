@@ -1,0 +1,31 @@
+use Rattle.std.proofs.Common.{sym, arith, ap, ◌≤◌, length, Some, Ok, List}
+use Rattle.std.proofs.lemmas.List.{length-map, take_all}
+use Rattle.tracing_appender_folders.specs.Contents.{Kept}
+use Rattle.tracing_appender_folders.specs.Memory.{memory_contents}
+use Rattle.std.proofs.lemmas.Result.{err_from_is_err_and}
+use Rattle.tracing_appender_folders.proofs.Named.{appended-kept, appended_past, kept-set}
+use Rattle.tracing_appender_folders.proofs.memory.MemoryFolderFolder.write.Goals as goal
+
+pub returns-in_err-extend_from_slice-clause-gives : goal.returns-in_err-extend_from_slice-clause-gives
+returns-in_err-extend_from_slice-clause-gives c =
+    let p = err_from_is_err_and c.from_residual.result c.from_residual.ensures.1 in
+    let before = memory_contents c.args.self.now in
+    rw (p.1, p.2) (ap (λ (fs : List Kept). Some (record before { files = fs }))
+    (kept-set c.args.self.now.files.items c.args.file.index c.index_mut.result.now _ (omega arith) c.index_mut.ensures.value (rw c.in_err-extend_from_slice.ensures.items)))
+
+pub returns-in_ok-extend_from_slice-clause-gives : goal.returns-in_ok-extend_from_slice-clause-gives
+returns-in_ok-extend_from_slice-clause-gives c =
+    let le : length c.args.bytes.now ≤ length c.args.bytes.now = omega arith in
+    let whole = take_all (length c.args.bytes.now) c.args.bytes.now le in
+    let before = memory_contents c.args.self.now in (
+      ap Ok (ap length whole),
+      ap (λ (fs : List Kept). Some (record before { files = fs }))
+          (appended-kept c.args.self.now.files.items c.args.file.index c.index_mut.result.now _ _ (omega arith) c.index_mut.ensures.value (rw (c.in_ok-extend_from_slice.ensures.items, take_all))),
+    )
+
+pub returns-else-file-len-clause-gives : goal.returns-else-file-len-clause-gives
+returns-else-file-len-clause-gives c =
+    let le : length c.args.bytes.now ≤ length c.args.bytes.now = omega arith in
+    let whole = take_all (length c.args.bytes.now) c.args.bytes.now le in
+    let before = memory_contents c.args.self.now in
+    (ap Ok (ap length whole), ap (λ (fs : List Kept). Some (record before { files = fs })) (sym (appended_past _ _ _ (rw length-map (omega arith)))))

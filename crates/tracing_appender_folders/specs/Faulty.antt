@@ -1,0 +1,35 @@
+-- A folder in memory that refuses the calls with some numbers with a fault, and cuts writes with some others short.
+use Rattle.std.specs.Prelude.{ℕ, ◌+◌, ◌-◌, ◌^◌, min, Bool, List, if◌then◌else◌, ◌==◌}
+use Rattle.std.specs.List.{list_any}
+use Rattle.tracing_appender_folders.specs.declared.fault.FolderFault.{FolderFault}
+use Rattle.tracing_appender_folders.specs.declared.faulty.FaultyFolder.{FaultyFolder}
+use Rattle.tracing_appender_folders.specs.Contents.{Contents, Outcome, Done, Refuses, Short}
+use Rattle.tracing_appender_folders.specs.Memory.{memory_contents}
+
+abbrev pub has_number : List ℕ → ℕ → Bool
+has_number numbers n = list_any (λ m. m == n) numbers
+
+-- the numbers of the calls that are refused, with which fault, and those of the writes that take at most so many bytes
+pub record Plan : Type 0 where
+  pub refused : List ℕ
+  pub fault : FolderFault
+  pub short : List ℕ
+  pub most : ℕ
+
+-- what becomes of the call with this number
+abbrev pub outcome_of : Plan → ℕ → Outcome
+outcome_of plan n = if has_number plan.refused n then Refuses plan.fault else (if has_number plan.short n then Short plan.most else Done)
+
+-- the number of a coming call; calls are numbered from 1, and the counter stops at the greatest
+abbrev pub number_after : ℕ → ℕ → ℕ
+number_after calls n = min (calls + n + 1) (2 ^ 64 - 1)
+
+-- these files and links, where so many calls were made and coming ones have the next numbers
+abbrev pub under_plan : Contents → Plan → ℕ → Contents
+under_plan c plan calls = record c { coming = λ n. outcome_of plan (number_after calls n) }
+
+abbrev pub plan_of : FaultyFolder → Plan
+plan_of f = record { refused = f.refused.items; fault = f.fault; short = f.short.items; most = f.most }
+
+abbrev pub faulty_contents : FaultyFolder → Contents
+faulty_contents f = under_plan (memory_contents f.inner) (plan_of f) f.calls

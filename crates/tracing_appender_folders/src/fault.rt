@@ -1,0 +1,62 @@
+//! Why a folder refuses a call.
+
+ghost use Rattle.std.specs.Prelude.{◌≡◌};
+ghost use Rattle.tracing_appender_folders.specs.declared.fault.FolderError.TheVariants.{OutOfMemory};
+
+use crate::moment::Moment;
+use std::alloc::{AllocError, AllocFailed};
+use thiserror::Error;
+
+/// A folder's refusal of a call.
+#[derive(Clone, Copy, Debug, PartialEq, Eq, Error)]
+pub enum FolderFault {
+    #[error("refused")]
+    Refused,
+    #[error("not found")]
+    NotFound,
+    #[error("unsupported")]
+    Unsupported,
+    #[error("write took no bytes")]
+    WriteZero,
+}
+
+/// What a folder's call answers where it did nothing: a fault, or want of memory.
+#[derive(Clone, Copy, Debug, PartialEq, Eq, Error)]
+pub enum FolderError {
+    #[error("{0}")]
+    Fault(FolderFault),
+    #[error("out of memory")]
+    OutOfMemory,
+}
+
+impl From<AllocError> for FolderError {
+    ghost from_gives = { λ _ e. e ≡ OutOfMemory };
+
+    fn from(_: AllocError) -> FolderError {
+        FolderError::OutOfMemory
+    }
+}
+
+impl<T: Drop> From<AllocFailed<T>> for FolderError {
+    ghost from_gives = { λ _ e. e ≡ OutOfMemory };
+
+    fn from(_: AllocFailed<T>) -> FolderError {
+        FolderError::OutOfMemory
+    }
+}
+
+/// An opened file of a folder.
+#[derive(Clone, Copy, Debug, PartialEq, Eq)]
+pub struct FileNumber {
+    pub index: usize,
+}
+
+/// A name in a folder.
+#[derive(Debug, Drop)]
+pub struct Entry {
+    pub name: String,
+    /// Whether it stands for a plain file.
+    pub plain: bool,
+    /// When the file was made, where that is known.
+    pub created: Option<Moment>,
+}

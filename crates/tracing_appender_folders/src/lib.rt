@@ -1,0 +1,20 @@
+//! Folders of files, as their users see them: one in memory, one that refuses calls, and one of the system.
+#![tactic(auto)]
+
+mod disk;
+mod entries;
+mod fault;
+mod faulty;
+mod folder;
+mod memory;
+mod moment;
+
+pub use disk::DiskFolder;
+pub use fault::{Entry, FileNumber, FolderError, FolderFault};
+pub use faulty::FaultyFolder;
+pub use folder::Folder;
+pub use memory::{FileEntry, MemoryFolder};
+pub use moment::{BadMoment, Moment};
+
+#[cfg(test)]
+mod tests;

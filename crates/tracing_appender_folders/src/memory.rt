@@ -1,0 +1,270 @@
+//! A folder in memory.
+
+ghost use Rattle.std.specs.Prelude.{◌≡◌, ◌+◌, ◌-◌, ◌^◌, ℕ, List, Some, None, true, map, min, OnOk, OnErr, IfOk, IfSome, IfNone, if◌then◌else◌};
+ghost use Rattle.std.specs.Str.{bytes_eq};
+ghost use Rattle.tracing_appender_folders.specs.Contents.{file_named, bytes_at, link_place, listing};
+
+use crate::entries::add_entry;
+use crate::fault::{Entry, FileNumber, FolderError, FolderFault};
+use crate::folder::Folder;
+use crate::moment::Moment;
+use std::alloc::{AllocError, Global};
+
+/// A file that was ever made in a folder in memory.
+#[derive(Debug, Drop)]
+pub struct MemoryFile {
+    name: String,
+    stands: bool,
+    created: Option<Moment>,
+    bytes: Vec<u8>,
+}
+
+/// A file's name and bytes.
+#[derive(Clone, Copy, Debug)]
+pub struct FileEntry<'a> {
+    pub name: &'a str,
+    pub bytes: &'a [u8],
+}
+
+/// A link to a name.
+#[derive(Debug, Drop)]
+pub struct MemoryLink {
+    name: String,
+    target: String,
+}
+
+/// A folder whose files lie in memory. It refuses to open a link, to remove what isn't there, and to put a link in a file's place.
+#[derive(Debug, Drop)]
+pub struct MemoryFolder {
+    pub(crate) alloc: Global,
+    files: Vec<MemoryFile>,
+    links: Vec<MemoryLink>,
+    /// The numbers of the files that are open.
+    open_files: Vec<usize>,
+    failures: u64,
+}
+
+impl MemoryFolder {
+    ghost use Rattle.tracing_appender_folders.specs.Memory.{memory_contents, nothing_there, put_at, target_at};
+    ghost use Rattle.tracing_appender_folders.specs.Entries.{FilesListed};
+    ghost use Rattle.tracing_appender_folders.specs.Listings.{listed_of};
+
+    /// A folder with no files.
+    pub fn new(alloc: Global) -> MemoryFolder
+        ensures contents { memory_contents result ≡ nothing_there }
+        ensures failures { result.failures ≡ 0 }
+    {
+        MemoryFolder {
+            alloc,
+            files: Vec::new(alloc),
+            links: Vec::new(alloc),
+            open_files: Vec::new(alloc),
+            failures: 0,
+        }
+    }
+
+    /// Puts a file under a name, in place of one that stood there. Nothing else changes.
+    ///
+    /// # Errors
+    ///
+    /// Want of memory; nothing is changed.
+    pub fn put(
+        &mut self,
+        name: &str,
+        bytes: &[u8],
+        created: Option<Moment>,
+    ) -> Result<(), AllocError>
+        ensures ok { OnOk result ((q : List ℕ) → bytes_at (memory_contents self.new).files q ≡
+            (if bytes_eq name.now q then Some bytes.now else bytes_at (memory_contents self.old).files q)) }
+        ensures place { OnOk result ((memory_contents self.new).files ≡ put_at (memory_contents self.old).files (file_named name.now (memory_contents self.old).files)
+            (record { name = name.now; stands = true; created = created; bytes = bytes.now })) }
+        ensures err { OnErr result (memory_contents self.new ≡ memory_contents self.old) }
+        ensures links { (memory_contents self.new).links ≡ (memory_contents self.old).links }
+        ensures open_files { (memory_contents self.new).open_files ≡ (memory_contents self.old).open_files }
+        ensures failures { self.new.failures ≡ self.old.failures }
+    {
+        let file = MemoryFile {
+            name: String::from_str(self.alloc, name)?,
+            stands: true,
+            created,
+            bytes: Vec::from_slice(self.alloc, bytes)?,
+        };
+        match self.place_of(name) {
+            Some(place) => self.files[place] = file,
+            None => self.files.push(file)?,
+        }
+        Ok(())
+    }
+
+    /// The files that stand, in byte order of their names.
+    ///
+    /// # Errors
+    ///
+    /// Want of memory.
+    pub fn files(&self) -> Result<Vec<FileEntry<'_>>, AllocError>
+        ensures { IfOk result (λ entries. FilesListed (memory_contents self.now) entries.items) }
+    {
+        let mut entries = Vec::new(self.alloc);
+        for file in &self.files {
+            if file.stands {
+                let entry = FileEntry {
+                    name: file.name.as_str(),
+                    bytes: file.bytes.as_slice(),
+                };
+                add_entry(&mut entries, entry)?;
+            }
+        }
+        Ok(entries)
+    }
+
+    /// The name that a link leads to.
+    pub fn link_target(&self, name: &str) -> Option<&str>
+        ensures some { IfSome result (λ target. target_at (memory_contents self.now).links name.now ≡ Some target.now) }
+        ensures none { IfNone result (target_at (memory_contents self.now).links name.now ≡ None) }
+    {
+        for link in &self.links {
+            if link.name.as_str() == name {
+                return Some(link.target.as_str());
+            }
+        }
+        None
+    }
+
+    /// The names of files that stand, and of links.
+    fn entries(&self) -> Result<Vec<Entry>, AllocError>
+        ensures { IfOk result (λ all. map listed_of all.items ≡ listing (memory_contents self.now)) }
+    {
+        let mut all = Vec::new(self.alloc);
+        for file in &self.files {
+            if file.stands {
+                all.push(Entry {
+                    name: file.name.clone()?,
+                    plain: true,
+                    created: file.created,
+                })?;
+            }
+        }
+        for link in &self.links {
+            all.push(Entry {
+                name: link.name.clone()?,
+                plain: false,
+                created: None,
+            })?;
+        }
+        Ok(all)
+    }
+
+    /// Counts a fault.
+    fn refuse(&mut self, fault: FolderFault) -> FolderError
+        ensures result { result ≡ FolderError.Fault fault }
+        ensures same { memory_contents self.new ≡ memory_contents self.old }
+        ensures count { self.new.failures ≡ min (self.old.failures + 1) (2 ^ 64 - 1) }
+    {
+        self.failures = self.failures.saturating_add(1);
+        FolderError::Fault(fault)
+    }
+
+    fn place_of_link(&self, name: &str) -> Option<usize>
+        ensures { result ≡ link_place name.now (memory_contents self.now).links }
+    {
+        for (place, link) in self.links.iter().enumerate() {
+            if link.name.as_str() == name {
+                return Some(place);
+            }
+        }
+        None
+    }
+
+    fn place_of(&self, name: &str) -> Option<usize>
+        ensures { result ≡ file_named name.now (memory_contents self.now).files }
+    {
+        for (place, file) in self.files.iter().enumerate() {
+            if file.stands && file.name.as_str() == name {
+                return Some(place);
+            }
+        }
+        None
+    }
+}
+
+impl Folder for MemoryFolder {
+    ghost use Rattle.std.specs.Prelude.{Some};
+    ghost use Rattle.tracing_appender_folders.specs.Memory.{memory_contents};
+
+    ghost contents = { λ m. Some (memory_contents m) };
+
+    ghost failed = { λ m. m.failures };
+
+    fn open_append(&mut self, name: &str) -> Result<FileNumber, FolderError> {
+        if self.place_of_link(name).is_some() {
+            return Err(self.refuse(FolderFault::Refused));
+        }
+        self.open_files.reserve(1)?;
+        if let Some(index) = self.place_of(name) {
+            self.open_files.push_reserved(index);
+            return Ok(FileNumber { index });
+        }
+        let index = self.files.len();
+        self.files.push(MemoryFile {
+            name: String::from_str(self.alloc, name)?,
+            stands: true,
+            created: None,
+            bytes: Vec::new(self.alloc),
+        })?;
+        self.open_files.push_reserved(index);
+        Ok(FileNumber { index })
+    }
+
+    fn close_file(&mut self, file: FileNumber) -> Result<(), FolderError> {
+        self.open_files.retain(|number| *number != file.index);
+        Ok(())
+    }
+
+    fn write(&mut self, file: FileNumber, bytes: &[u8]) -> Result<usize, FolderError> {
+        if file.index < self.files.len() {
+            self.files[file.index].bytes.extend_from_slice(bytes)?;
+        }
+        Ok(bytes.len())
+    }
+
+    fn create_dirs(&mut self) -> Result<(), FolderError> {
+        Ok(())
+    }
+
+    fn flush(&mut self, _file: FileNumber) -> Result<(), FolderError> {
+        Ok(())
+    }
+
+    fn list(&mut self) -> Result<Vec<Entry>, FolderError> {
+        Ok(self.entries()?)
+    }
+
+    fn remove(&mut self, name: &str) -> Result<(), FolderError> {
+        match self.place_of(name) {
+            Some(place) => {
+                self.files[place].stands = false;
+                Ok(())
+            }
+            None => Err(self.refuse(FolderFault::NotFound)),
+        }
+    }
+
+    fn link(&mut self, name: &str, target: &str) -> Result<(), FolderError> {
+        if self.place_of(name).is_some() {
+            return Err(self.refuse(FolderFault::Refused));
+        }
+        let link = MemoryLink {
+            name: String::from_str(self.alloc, name)?,
+            target: String::from_str(self.alloc, target)?,
+        };
+        match self.place_of_link(name) {
+            Some(place) => self.links[place] = link,
+            None => self.links.push(link)?,
+        }
+        Ok(())
+    }
+
+    fn failures(&self) -> u64 {
+        self.failures
+    }
+}

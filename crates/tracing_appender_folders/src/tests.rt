@@ -1,0 +1,209 @@
+//! Folders in memory, with faults, and of the system.
+
+use crate::{
+    BadMoment, DiskFolder, Entry, FaultyFolder, FileNumber, Folder, FolderError, FolderFault,
+    MemoryFolder, Moment,
+};
+use std::alloc::{AllocError, Global};
+use std::fs;
+use std::test::Fail;
+
+const REFUSED: FolderError = FolderError::Fault(FolderFault::Refused);
+
+const NOT_FOUND: FolderError = FolderError::Fault(FolderFault::NotFound);
+
+/// Whether an entry of that name is listed, and whether it is a plain file.
+fn listed(entries: &[Entry], name: &str) -> Option<bool> {
+    for entry in entries {
+        if entry.name.as_str() == name {
+            return Some(entry.plain);
+        }
+    }
+    None
+}
+
+fn numbers(alloc: Global, list: &[u64]) -> Result<Vec<u64>, AllocError> {
+    Vec::from_slice(alloc, list)
+}
+
+/// Each call once; tells how many were refused.
+fn refusals<D: Folder>(folder: &mut D) -> usize {
+    let mut refused = 0;
+    let mut file = FileNumber { index: 0 };
+    if folder.create_dirs().is_err() {
+        refused += 1;
+    }
+    match folder.open_append("a") {
+        Ok(number) => file = number,
+        Err(_) => refused += 1,
+    }
+    if folder.write(file, b"one").is_err() {
+        refused += 1;
+    }
+    if folder.flush(file).is_err() {
+        refused += 1;
+    }
+    if folder.link("latest", "a").is_err() {
+        refused += 1;
+    }
+    if folder.list().is_err() {
+        refused += 1;
+    }
+    if folder.close_file(file).is_err() {
+        refused += 1;
+    }
+    refused
+}
+
+#[test]
+fn moments_are_in_range(rt: HostRuntime) -> Result<(), Fail> {
+    let first = Moment::new(-62_135_596_800, 0)?;
+    assert_eq!(rt; first.seconds, -62_135_596_800);
+    assert_eq!(rt; Moment::new(0, 1_000_000_000), Err(BadMoment));
+    assert_eq!(rt; Moment::new(253_370_764_800, 0), Err(BadMoment));
+    Ok(())
+}
+
+#[test]
+fn a_file_outlives_its_name(rt: HostRuntime) -> Result<(), Fail> {
+    let alloc = rt.alloc();
+    let mut folder = MemoryFolder::new(alloc);
+    let file = folder.open_append("a")?;
+    assert_eq!(rt; folder.write(file, b"one")?, 3);
+    folder.remove("a")?;
+    assert_eq!(rt; folder.write(file, b"two")?, 3);
+    assert_eq!(rt; folder.files()?.len(), 0);
+    assert_eq!(rt; folder.open_append("a")?.index, 1);
+    assert_eq!(rt; folder.remove("b"), Err(NOT_FOUND));
+    assert_eq!(rt; folder.failures(), 1);
+    Ok(())
+}
+
+#[test]
+fn links_give_way_to_links(rt: HostRuntime) -> Result<(), Fail> {
+    let alloc = rt.alloc();
+    let mut folder = MemoryFolder::new(alloc);
+    folder.put("a", b"1", None)?;
+    folder.link("latest", "b")?;
+    folder.link("latest", "a")?;
+    assert_eq!(rt; folder.link_target("latest"), Some("a"));
+    assert_eq!(rt; folder.link_target("a"), None);
+    assert_eq!(rt; folder.link("a", "latest"), Err(REFUSED));
+    assert!(rt; folder.open_append("latest").is_err());
+    let entries = folder.list()?;
+    assert_eq!(rt; entries.len(), 2);
+    assert_eq!(rt; listed(entries.as_slice(), "a"), Some(true));
+    assert_eq!(rt; listed(entries.as_slice(), "latest"), Some(false));
+    assert_eq!(rt; folder.failures(), 2);
+    Ok(())
+}
+
+#[test]
+fn each_call_is_refused_in_turn(rt: HostRuntime) -> Result<(), Fail> {
+    let alloc = rt.alloc();
+    for number in 1..=7 {
+        let refused = numbers(alloc, &[number])?;
+        let mut folder = FaultyFolder::new(MemoryFolder::new(alloc), refused);
+        assert_eq!(rt; refusals(&mut folder), 1);
+        assert_eq!(rt; folder.failures(), 1);
+    }
+    let mut sound = FaultyFolder::new(MemoryFolder::new(alloc), Vec::new(alloc));
+    assert_eq!(rt; refusals(&mut sound), 0);
+    assert_eq!(rt; sound.failures(), 0);
+    let files = sound.inner().files()?;
+    assert_eq!(rt; files.len(), 1);
+    assert_eq!(rt; files[0].bytes, b"one".as_slice());
+    Ok(())
+}
+
+#[test]
+fn a_short_write_takes_one_byte(rt: HostRuntime) -> Result<(), Fail> {
+    let alloc = rt.alloc();
+    let refused = numbers(alloc, &[4])?;
+    let short = numbers(alloc, &[2])?;
+    let mut folder = FaultyFolder::new(MemoryFolder::new(alloc), refused).with_short_writes(
+        short, 1,
+    );
+    let file = folder.open_append("a")?;
+    assert_eq!(rt; folder.write(file, b"one")?, 1);
+    assert_eq!(rt; folder.write(file, b"two")?, 3);
+    assert_eq!(rt; folder.write(file, b"three"), Err(REFUSED));
+    assert_eq!(rt; folder.remove("a"), Ok(()));
+    assert_eq!(rt; folder.failures(), 1);
+    Ok(())
+}
+
+#[test]
+fn a_write_takes_half_or_nothing(rt: HostRuntime) -> Result<(), Fail> {
+    let alloc = rt.alloc();
+    let short = numbers(alloc, &[2, 3])?;
+    let inner = MemoryFolder::new(alloc);
+    let mut half = FaultyFolder::new(inner, Vec::new(alloc)).with_short_writes(short, 3);
+    let file = half.open_append("a")?;
+    assert_eq!(rt; half.write(file, b"abcdef")?, 3);
+    assert_eq!(rt; half.write(file, b"gh")?, 2);
+    let files = half.inner().files()?;
+    assert_eq!(rt; files.len(), 1);
+    assert_eq!(rt; files[0].bytes, b"abcgh".as_slice());
+    let short = numbers(alloc, &[2])?;
+    let inner = MemoryFolder::new(alloc);
+    let mut none = FaultyFolder::new(inner, Vec::new(alloc)).with_short_writes(short, 0);
+    let file = none.open_append("a")?;
+    assert_eq!(rt; none.write(file, b"abcdef")?, 0);
+    assert_eq!(rt; none.write(file, b"gh")?, 2);
+    // a write that took nothing is no fault of the folder
+    assert_eq!(rt; none.failures(), 0);
+    let files = none.inner().files()?;
+    assert_eq!(rt; files.len(), 1);
+    assert_eq!(rt; files[0].bytes, b"gh".as_slice());
+    Ok(())
+}
+
+#[test]
+fn calls_are_refused_with_the_fault_that_was_set(rt: HostRuntime) -> Result<(), Fail> {
+    let alloc = rt.alloc();
+    let refused = numbers(alloc, &[1, 3])?;
+    let mut folder = FaultyFolder::new(MemoryFolder::new(alloc), refused).with_fault(
+        FolderFault::NotFound,
+    );
+    assert_eq!(rt; folder.open_append("a"), Err(NOT_FOUND));
+    let file = folder.open_append("a")?;
+    assert_eq!(rt; folder.write(file, b"one"), Err(NOT_FOUND));
+    assert_eq!(rt; folder.failures(), 2);
+    Ok(())
+}
+
+#[test]
+fn a_folder_of_the_system_keeps_files(rt: HostRuntime) -> Result<(), Fail> {
+    let alloc = rt.alloc();
+    let path = String::from_str(alloc, "logs/deep")?;
+    let mut folder = DiskFolder::new(rt, path);
+    assert_eq!(rt; folder.open_append("a"), Err(NOT_FOUND));
+    folder.create_dirs()?;
+    folder.create_dirs()?;
+    let first = folder.open_append("a")?;
+    assert_eq!(rt; folder.write(first, b"one\n")?, 4);
+    folder.flush(first)?;
+    folder.close_file(first)?;
+    assert_eq!(rt; folder.write(first, b"lost"), Err(NOT_FOUND));
+    let again = folder.open_append("a")?;
+    assert_eq!(rt; folder.write(again, b"two\n")?, 4);
+    let bytes = fs::read(&rt, "logs/deep/a")?;
+    assert_eq!(rt; bytes.as_slice(), b"one\ntwo\n".as_slice());
+    let entries = folder.list()?;
+    assert_eq!(rt; entries.len(), 1);
+    assert_eq!(rt; listed(entries.as_slice(), "a"), Some(true));
+    folder.remove("a")?;
+    assert_eq!(rt; folder.remove("a"), Err(NOT_FOUND));
+    assert_eq!(rt; folder.write(again, b"three\n")?, 6);
+    assert_eq!(rt; folder.list()?.len(), 0);
+    let link = Err(FolderError::Fault(FolderFault::Unsupported));
+    assert_eq!(rt; folder.link("latest", "a"), link);
+    assert_eq!(rt; folder.failures(), 4);
+    fs::remove_dir_all(&rt, "logs")?;
+    assert!(rt; folder.list().is_err());
+    folder.create_dirs()?;
+    assert_eq!(rt; folder.list()?.len(), 0);
+    fs::remove_dir_all(&rt, "logs")?;
+    Ok(())
+}

@@ -1,0 +1,213 @@
+-- What is left where a call found no memory.
+use Rattle.std.proofs.Common.{◌≡◌, ℕ, ℤ, suc, ◌+◌, List, Bool, true, false, if◌then◌else◌, refl, ap, subst, ◌∙◌, sym, arith, inl, inr, Option, Some, None, Result, Ok, Err}
+use Rattle.tracing_appender_folders.specs.declared.moment.Moment.{Moment}
+use Rattle.tracing_appender_folders.specs.declared.fault.FileNumber.{FileNumber}
+use Rattle.tracing_appender_folders.specs.declared.fault.FolderFault.{FolderFault}
+use Rattle.tracing_appender_folders.specs.declared.fault.FolderFault.TheVariants.{Refused}
+use Rattle.tracing_appender_folders.specs.declared.fault.FolderError.{FolderError}
+use Rattle.tracing_appender_folders.specs.declared.fault.FolderError.TheVariants.{Fault, OutOfMemory}
+use Rattle.tracing_appender_folders.specs.Contents.{Contents, Answer, Gives, Outcome, Done, Refuses, Short, Listed, called, if_refused, refusal, file_named, link_named, open_at, open_plain, opened, nothing, nothing_plain, list_plain, names_listed}
+use Rattle.tracing_appender_rolling.specs.declared.faults.Faults.{Faults}
+use Rattle.tracing_appender_rolling.specs.declared.init.InitContext.TheVariants.{Directory, File}
+use Rattle.tracing_appender_rolling.specs.declared.init.InitFailure.{InitFailure}
+use Rattle.tracing_appender_rolling.specs.Names.{FileNames}
+use Rattle.tracing_appender_rolling.specs.Faults.{no_faults}
+use Rattle.tracing_appender_rolling.specs.Writes.{Unchanged}
+use Rattle.tracing_appender_rolling.specs.Retention.{PlainCandidate, IsCandidates}
+use Rattle.tracing_appender_rolling.specs.Pruning.{Pruned, Removes, UnprunedAfter, UnprunedBy, Prunes, doomed}
+use Rattle.tracing_appender_rolling.specs.Tries.{Tried, Tries, TriesFile, MissedFile, MissesOr, Gave, failure, after_dirs, made_again, after_opening, last_opening, opened_twice}
+use Rattle.tracing_appender_rolling.specs.Looks.{Switches, Starved, StarvedTry, name_at, try_at}
+use Rattle.tracing_appender_rolling.specs.Appenders.{Begins, FailedAt}
+
+-- calls that changed nothing
+pub unchanged_called : (c : Contents) (after : Option Contents) → after ≡ Some (called c) → Unchanged c after
+unchanged_called c after left = record {
+  calls = 1;
+  left = record { contents = called c; is = left; files_are = refl; links_stay = refl; open_stay = refl; comes = λ n. ap c.coming (let same : suc n ≡ 1 + n = omega arith in same) };
+}
+
+pub unchanged_then : (c : Contents) (after : Option Contents) → Unchanged (called c) after → Unchanged c after
+unchanged_then c after u = record {
+  calls = suc u.calls;
+  left = record {
+    contents = u.left.contents;
+    is = u.left.is;
+    files_are = u.left.files_are;
+    links_stay = u.left.links_stay;
+    open_stay = u.left.open_stay;
+    comes = λ n. u.left.comes n ∙ ap c.coming (let same : suc (u.calls + n) ≡ suc u.calls + n = omega arith in same);
+  };
+}
+
+-- an opening that was refused changes nothing
+refused_at : (c : Contents) (name : List ℕ) (fault : FolderFault) (found : Option ℕ) → (open_at c name found).0 ≡ Err (Fault fault) → (open_at c name found).1 ≡ called c
+refused_at c name fault None told = cc
+refused_at c name fault (Some place) told = cc
+
+refused_plain : (c : Contents) (name : List ℕ) (fault : FolderFault) (linked : Bool) → (if linked then refusal Refused c else open_at c name (file_named name c.files)).0 ≡ Err (Fault fault) → (if linked then refusal Refused c else open_at c name (file_named name c.files)).1 ≡ called c
+refused_plain c name fault true told = refl
+refused_plain c name fault false told = refused_at c name fault (file_named name c.files) told
+
+refused_by : (c : Contents) (name : List ℕ) (fault : FolderFault) (o : Outcome) → (if_refused o (λ e. refusal e c) (open_plain name c)).0 ≡ Err (Fault fault) → (if_refused o (λ e. refusal e c) (open_plain name c)).1 ≡ called c
+refused_by c name fault (Refuses e) told = refl
+refused_by c name fault Done told = refused_plain c name fault (link_named name c.links) told
+refused_by c name fault (Short most) told = refused_plain c name fault (link_named name c.links) told
+
+opening_refused : (c : Contents) (name : List ℕ) (fault : FolderFault) → (opened c name).0 ≡ Err (Fault fault) → (opened c name).1 ≡ called c
+opening_refused c name fault told = refused_by c name fault (c.coming 0) told
+
+nothing_by : (c : Contents) (o : Outcome) → (if_refused o (λ e. refusal e c) (nothing_plain c)).1 ≡ called c
+nothing_by c (Refuses e) = refl
+nothing_by c Done = refl
+nothing_by c (Short most) = refl
+
+pub nothing_leaves : (c : Contents) → (nothing c).1 ≡ called c
+nothing_leaves c = nothing_by c (c.coming 0)
+
+-- the making of directories
+dirs_fault : (name : List ℕ) (a : Answer (Unit {0})) (fault : FolderFault) → a.0 ≡ Err (Fault fault) → after_dirs name a ≡ (Err (failure Directory (Fault fault)), a.1)
+dirs_fault name (Ok done, c) fault told = cc
+dirs_fault name (Err e, c) fault told = let same : e ≡ Fault fault = cc in ap (λ (x : FolderError). (Err (failure Directory x), c)) same
+
+dirs_done : (name : List ℕ) (a : Answer (Unit {0})) (done : Unit {0}) → a.0 ≡ Ok done → after_dirs name a ≡ last_opening (opened a.1 name)
+dirs_done name (Ok d, c) done told = refl
+dirs_done name (Err e, c) done told = cc
+
+pub dirs_err : (name : List ℕ) (known after : Option Contents) (e : FolderError) → Gives nothing known (Err e) after → Tries Unchanged (made_again name) known (Err (failure Directory e)) after
+dirs_err name None after e left = left
+dirs_err name (Some c) after OutOfMemory left = unchanged_called c after left
+dirs_err name (Some c) after (Fault fault) (answer, left) =
+    let is = dirs_fault name (nothing c) fault answer in (ap (λ (t : Tried). t.0) is, left ∙ sym (ap (λ (t : Tried). Some t.1) is))
+
+-- the second opening
+last_fault : (a : Answer FileNumber) (fault : FolderFault) → a.0 ≡ Err (Fault fault) → last_opening a ≡ (Err (failure File (Fault fault)), a.1)
+last_fault (Ok file, c) fault told = cc
+last_fault (Err e, c) fault told = let same : e ≡ Fault fault = cc in ap (λ (x : FolderError). (Err (failure File x), c)) same
+
+last_err : (name : List ℕ) (c : Contents) (done : Unit {0}) (after : Option Contents) (e : FolderError) → (nothing c).0 ≡ Ok done → Gives (λ x. opened x name) (Some (nothing c).1) (Err e) after → Gave (Unchanged c) (made_again name c) (Err (failure File e)) after
+last_err name c done after OutOfMemory told left =
+    unchanged_then c after (unchanged_called (called c) after (left ∙ ap (λ (d : Contents). Some (called d)) (nothing_leaves c)))
+last_err name c done after (Fault fault) told (answer, left) =
+    let is = dirs_done name (nothing c) done told ∙ last_fault (opened (nothing c).1 name) fault answer in
+    (ap (λ (t : Tried). t.0) is, left ∙ sym (ap (λ (t : Tried). Some t.1) is))
+
+pub made_err : (name : List ℕ) (known middle after : Option Contents) (done : Unit {0}) (e : FolderError) → Gives nothing known (Ok done) middle → Gives (λ c. opened c name) middle (Err e) after → Tries Unchanged (made_again name) known (Err (failure File e)) after
+made_err name None middle after done OutOfMemory none left = subst (λ (o : Option Contents). Gives (λ c. opened c name) o (Err OutOfMemory) after) none left
+made_err name None middle after done (Fault fault) none left = subst (λ (o : Option Contents). Gives (λ c. opened c name) o (Err (Fault fault)) after) none left
+made_err name (Some c) middle after done e (told, made) left =
+    last_err name c done after e told (subst (λ (o : Option Contents). Gives (λ x. opened x name) o (Err e) after) made left)
+
+-- the first opening
+opening_fault : (name : List ℕ) (a : Answer FileNumber) (fault : FolderFault) → a.0 ≡ Err (Fault fault) → after_opening name a ≡ made_again name a.1
+opening_fault name (Ok file, c) fault told = cc
+opening_fault name (Err e, c) fault told = refl
+
+gave_then : (t : Tried) (missed also : Option Contents → Type 0) (r : Result FileNumber InitFailure) (after : Option Contents) → (missed after → also after) → Gave missed t r after → Gave also t r after
+gave_then t missed also (Ok file) after more gave = gave
+gave_then t missed also (Err f) after more gave = by_error f.error gave
+  where
+    by_error : (e : FolderError) → MissesOr missed t f e after → MissesOr also t f e after
+    by_error OutOfMemory misses = more misses
+    by_error (Fault fault) answered = answered
+
+pub twice_again : (name : List ℕ) (known middle after : Option Contents) (fault : FolderFault) (r : Result FileNumber InitFailure) → Gives (λ c. opened c name) known (Err (Fault fault)) middle → Tries Unchanged (made_again name) middle r after → Tries Unchanged (opened_twice name) known r after
+twice_again name None middle after fault r none tries = subst (λ (o : Option Contents). Tries Unchanged (made_again name) o r after) none tries
+twice_again name (Some c) middle after fault r (told, left) tries =
+    let gave = subst (λ (o : Option Contents). Tries Unchanged (made_again name) o r after) left tries in
+    let same = opening_refused c name fault told in
+    subst (λ (t : Tried). Gave (Unchanged c) t r after) (sym (opening_fault name (opened c name) fault told))
+    (gave_then (made_again name (opened c name).1) (Unchanged (opened c name).1) (Unchanged c) r after (λ u. unchanged_then c after (subst (λ (d : Contents). Unchanged d after) same u)) gave)
+
+pub twice_starved : (name : List ℕ) (known after : Option Contents) (f : InitFailure) → f.error ≡ OutOfMemory → Gives (λ c. opened c name) known (Err OutOfMemory) after → Tries Unchanged (opened_twice name) known (Err f) after
+twice_starved name None after f starved left = left
+twice_starved name (Some c) after f starved left = subst (λ (e : FolderError). MissesOr (Unchanged c) (opened_twice name c) f e after) (sym starved) (unchanged_called c after left)
+
+-- retention
+listed_by : (c : Contents) (o : Outcome) → (if_refused o (λ e. refusal e c) (list_plain c)).1 ≡ called c
+listed_by c (Refuses e) = refl
+listed_by c Done = refl
+listed_by c (Short most) = refl
+
+module _ (E : Type 0) (names : FileNames) (limit : ℕ) (f : Faults) (e : E) (limited : names.limit ≡ Some limit) where
+  unpruned : (c : Contents) (after : Option Contents) → UnprunedBy (Some limit) names f c after → Prunes {E = E} names f (Some c) (Err e) after
+  unpruned c after u = subst (λ (n : Option ℕ). UnprunedBy n names f c after) (sym limited) u
+
+  pub prune_unlisted : (known after : Option Contents) → Gives names_listed known (Err OutOfMemory) after → Prunes {E = E} names f known (Err e) after
+  prune_unlisted None after left = left
+  prune_unlisted (Some c) after left = unpruned c after (inl left)
+
+  pub prune_unread : (known after : Option Contents) (listing : List Listed) → Gives names_listed known (Ok listing) after → Prunes {E = E} names f known (Err e) after
+  prune_unread None after listing left = left
+  prune_unread (Some c) after listing (told, left) = unpruned c after (inl (left ∙ ap (λ (d : Contents). Some d) (listed_by c (c.coming 0))))
+
+  pub prune_stops : (known middle after : Option Contents) (listing : List Listed) (cs : List PlainCandidate) → Gives names_listed known (Ok listing) middle → IsCandidates names listing cs → Removes {E = E} (doomed limit cs) f middle (Err e) after → Prunes {E = E} names f known (Err e) after
+  prune_stops None middle after listing cs none are stops = subst (λ (o : Option Contents). Removes {E = E} (doomed limit cs) f o (Err e) after) none stops
+  prune_stops (Some c) middle after listing cs (told, left) are stops =
+      let is : names_listed c ≡ (Ok listing, (names_listed c).1) = ap (λ (r : Result (List Listed) FolderError). (r, (names_listed c).1)) told in
+      unpruned c after (inr (subst (λ (a : Answer (List Listed)). UnprunedAfter names limit f a after) (sym is) (cs, are, subst (λ (o : Option Contents). Removes {E = E} (doomed limit cs) f o (Err e) after) left stops)))
+
+-- a try behind retention
+missed_try : (names : FileNames) (m : Moment) (f g : Faults) (c d : Contents) (middle after : Option Contents) (name : List ℕ) (failed : InitFailure) → name ≡ name_at names m → failed.error ≡ OutOfMemory → Pruned names f c g d → middle ≡ Some d → TriesFile names.latest name middle (Err failed) after → StarvedTry names m f c after
+missed_try names m f g c d middle after name failed is starved pruned left tries =
+    let gave = subst (λ (o : Option Contents). TriesFile names.latest (name_at names m) o (Err failed) after) left (subst (λ (n : List ℕ). TriesFile names.latest n middle (Err failed) after) is tries) in
+    record {
+      counted = g;
+      pruned = d;
+      retention = pruned;
+      missed = subst (λ (e : FolderError). MissesOr (MissedFile names.latest (name_at names m) d) (try_at names m d) failed e after) starved gave;
+    }
+
+-- a switch
+module _ (E F : Type 0) (names : FileNames) (m : Moment) (boundary end : Option ℤ) (current file : FileNumber) (f l : Faults) where
+  pub switch_unnamed : (e : E) (known : Option Contents) → Switches {E = E} names m boundary current f known (Err e) end file l known
+  switch_unnamed e None = refl
+  switch_unnamed e (Some c) = inl refl
+
+  pub switch_unpruned : (e : E) (x : F) (known after : Option Contents) → Prunes {E = F} names f known (Err x) after → Switches {E = E} names m boundary current f known (Err e) end file l after
+  switch_unpruned e x None after left = left
+  switch_unpruned e x (Some c) after left = inr (inl left)
+
+  pub switch_untried : (e : E) (g : Faults) (known middle after : Option Contents) (name : List ℕ) (failed : InitFailure) → name ≡ name_at names m → failed.error ≡ OutOfMemory → Prunes {E = F} names f known (Ok g) middle → TriesFile names.latest name middle (Err failed) after → Switches {E = E} names m boundary current f known (Err e) end file l after
+  switch_untried e g None middle after name failed is starved none tries = subst (λ (o : Option Contents). TriesFile names.latest name o (Err failed) after) none tries
+  switch_untried e g (Some c) middle after name failed is starved (d, pruned, left) tries = inr (inr (missed_try names m f g c d middle after name failed is starved pruned left tries))
+
+-- a building
+module _ (E : Type 0) (names : FileNames) (m : Moment) where
+  pub begins_unnamed : (failed : InitFailure) (known : Option Contents) → failed.error ≡ OutOfMemory → Begins names m known (Err failed) known
+  begins_unnamed failed None starved = refl
+  begins_unnamed failed (Some c) starved = subst (λ (e : FolderError). FailedAt names m c failed.context e (Some c)) (sym starved) (inl refl)
+
+  pub begins_unpruned : (failed : InitFailure) (x : E) (known after : Option Contents) → failed.error ≡ OutOfMemory → Prunes {E = E} names no_faults known (Err x) after → Begins names m known (Err failed) after
+  begins_unpruned failed x None after starved left = left
+  begins_unpruned failed x (Some c) after starved left = subst (λ (e : FolderError). FailedAt names m c failed.context e after) (sym starved) (inr (inl left))
+
+  begins_by : (g : Faults) (c : Contents) (middle after : Option Contents) (name : List ℕ) (failed : InitFailure) (e : FolderError) → failed.error ≡ e → name ≡ name_at names m → Prunes {E = E} names no_faults (Some c) (Ok g) middle → TriesFile names.latest name middle (Err failed) after → FailedAt names m c failed.context e after
+  begins_by g c middle after name failed OutOfMemory is_e is (p, pruned, left) tries = inr (inr (missed_try names m no_faults g c p middle after name failed is is_e pruned left tries))
+  begins_by g c middle after name failed (Fault fault) is_e is (p, pruned, left) tries =
+      let gave = subst (λ (o : Option Contents). TriesFile names.latest (name_at names m) o (Err failed) after) left (subst (λ (n : List ℕ). TriesFile names.latest n middle (Err failed) after) is tries) in
+      let told = subst (λ (x : FolderError). MissesOr (MissedFile names.latest (name_at names m) p) (try_at names m p) failed x after) is_e gave in
+      record { counted = g; pruned = p; retention = pruned; answered = told.0 ∙ ap (λ (x : FolderError). Err (failure failed.context x)) is_e; left = told.1 }
+
+  pub begins_untried : (g : Faults) (known middle after : Option Contents) (name : List ℕ) (failed : InitFailure) → name ≡ name_at names m → Prunes {E = E} names no_faults known (Ok g) middle → TriesFile names.latest name middle (Err failed) after → Begins names m known (Err failed) after
+  begins_untried g None middle after name failed is none tries = subst (λ (o : Option Contents). TriesFile names.latest name o (Err failed) after) none tries
+  begins_untried g (Some c) middle after name failed is pruned tries = begins_by g c middle after name failed failed.error refl is pruned tries
+
+-- known contents stay known
+pub starved_known : (names : FileNames) (m : Moment) (f : Faults) (c : Contents) (after : Option Contents) → Starved names m f c after → (d : Contents) × (after ≡ Some d)
+starved_known names m f c after (inl same) = (c, same)
+starved_known names m f c after (inr (inl u)) = by_limit names.limit u
+  where
+    by_listing : (limit : ℕ) (a : Answer (List Listed)) → UnprunedAfter names limit f a after → (d : Contents) × (after ≡ Some d)
+    by_listing limit (Ok listing, x) (cs, are, stops) = (_, stops.left)
+    by_listing limit (Err e, x) u = absurd u
+
+    by_limit : (limit : Option ℕ) → UnprunedBy limit names f c after → (d : Contents) × (after ≡ Some d)
+    by_limit None u = absurd u
+    by_limit (Some limit) (inl left) = (called c, left)
+    by_limit (Some limit) (inr u) = by_listing limit (names_listed c) u
+starved_known names m f c after (inr (inr t)) = by_latest names.latest t.missed
+  where
+    by_latest : (latest : Option (List ℕ)) → MissedFile latest (name_at names m) t.pruned after → (d : Contents) × (after ≡ Some d)
+    by_latest None u = (u.left.contents, u.left.is)
+    by_latest (Some link) (inl u) = (u.left.contents, u.left.is)
+    by_latest (Some link) (inr u) = (_, u.left)
