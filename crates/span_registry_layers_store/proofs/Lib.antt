@@ -4,6 +4,7 @@ pub mod Lines
 pub mod Entries
 pub mod Padding
 pub mod Placing
+pub mod Rising
 pub mod Closing
 pub mod Mapped
 pub mod Handles

@@ -12,7 +12,7 @@ found_else : (b c : Bool) (x : Span) (o : Option Span) → (b || c) ≡ false �
 found_else true c x o h k = absurd (true≢false h)
 found_else false c x o h k = k h
 
-found_none : (xs : List Span) (id : ℕ) → is_open kin_of xs id ≡ false → found kin_of xs id ≡ None
+pub found_none : (xs : List Span) (id : ℕ) → is_open kin_of xs id ≡ false → found kin_of xs id ≡ None
 found_none [] id h = refl
 found_none (x ∷ xs) id h = found_else (x.kin.id == id) (is_open kin_of xs id) x (found kin_of xs id) h (found_none xs id)
 

@@ -4,6 +4,7 @@ pub mod Verdicts
 pub mod OwnedMetadatas
 pub mod Places
 pub mod Registries
+pub mod Rising
 pub mod Gives
 pub mod Slots
 pub mod Keeping

@@ -11,6 +11,8 @@ ghost use Rattle.span_registry_layers_store.specs.Gives.{EntryGives, FilterGives
 ghost use Rattle.span_registry_layers_store.specs.Lanes.{lane_at};
 ghost use Rattle.span_registry_layers_store.specs.SlotLoans.{IsSpanToLend};
 ghost use Rattle.span_registry_layers_store.specs.OwnedMetadatas.{owned_plain};
+ghost use Rattle.span_registry_layers_store.specs.Places.{kin_of};
+ghost use Rattle.span_registry_layers_store.specs.Rising.{IsRising, Rises};
 ghost use Rattle.span_registry_layers_store.specs.Registries.{current_on, kin_in, knows, next_number, plain_registry, plain_span, swept, under, with_span, without_entry};
 ghost use Rattle.span_registry_layers_store.specs.Spans.{found, handles_of, is_open, parent_of};
 ghost use Rattle.span_registry_layers_store.specs.Views.{IsFoundAt, current_under, entry_seen, latest_seen, mask_of, seen, sees};
@@ -74,6 +76,7 @@ fn is_seen(span: &Span, filter: Option<FilterId>) -> bool
 
 // The place of the span of an id, and the end where it is not open.
 pub(crate) fn place_to_lend(spans: &[Span], id: Id) -> usize
+    requires { Rises kin_of 0 spans.now }
     ensures { IsSpanToLend spans.now id result }
 {
     match place_of(spans, id) {
@@ -125,6 +128,7 @@ impl RegistryParts {
     /// Whether a span is open.
     #[tactic(auto, using(crate::proofs::Mapped::open_mapped))]
     pub(crate) fn is_open(&self, id: Id) -> bool
+        requires { IsRising (plain_registry self.now) }
         ensures { result ≡ is_open kin_in (plain_registry self.now).spans id }
     {
         is_open(self.spans.as_slice(), id)
@@ -133,12 +137,14 @@ impl RegistryParts {
     /// How many handles a span has, and 0 where it is not open.
     #[tactic(auto, using(crate::proofs::Mapped::handles_mapped))]
     pub(crate) fn handles_of(&self, id: Id) -> usize
+        requires { IsRising (plain_registry self.now) }
         ensures { result ≡ handles_of kin_in (plain_registry self.now).spans id }
     {
         handles_of(self.spans.as_slice(), id)
     }
 
     fn place_of(&self, id: Id) -> Option<usize>
+        requires { IsRising (plain_registry self.now) }
         ensures { MatchOption result (found kin_in (plain_registry self.now).spans id ≡ None) (λ place. IsFoundAt self.now.spans.items id place) }
     {
         place_of(self.spans.as_slice(), id)
@@ -146,6 +152,7 @@ impl RegistryParts {
 
     /// The span of an id, where it is open and the filter passed it.
     pub(crate) fn find(&self, id: Id, filter: Option<FilterId>) -> Option<&Span>
+        requires { IsRising (plain_registry self.now) }
         ensures { option_map (λ s. plain_span s.now) result ≡ seen (plain_registry self.now) (mask_of filter) id }
     {
         match self.place_of(id) {
@@ -163,7 +170,8 @@ impl RegistryParts {
 
     // The span of the entry at the place, where it is seen and no earlier entry has its id.
     fn entry_seen(&self, lane: &[Id], place: usize, filter: Option<FilterId>) -> Option<&Span>
-        requires { place < length lane.now }
+        requires rising { IsRising (plain_registry self.now) }
+        requires within { place < length lane.now }
         ensures { option_map (λ s. plain_span s.now) result ≡ entry_seen (plain_registry self.now) (mask_of filter) (take place lane.now) (get_or lane.now place 0) }
     {
         let id = lane[place];
@@ -175,6 +183,7 @@ impl RegistryParts {
 
     // The span of the last such entry.
     fn latest_seen(&self, lane: &[Id], filter: Option<FilterId>) -> Option<&Span>
+        requires { IsRising (plain_registry self.now) }
         ensures { option_map (λ s. plain_span s.now) result ≡ latest_seen (plain_registry self.now) (mask_of filter) (reverse lane.now) }
     {
         let mut rest = lane.len();
@@ -189,6 +198,7 @@ impl RegistryParts {
 
     /// The span that a lane is in, as the filter sees it.
     pub(crate) fn current_under(&self, lane: u64, filter: Option<FilterId>) -> Option<&Span>
+        requires { IsRising (plain_registry self.now) }
         ensures { option_map (λ s. plain_span s.now) result ≡ current_under (plain_registry self.now) (mask_of filter) lane }
     {
         self.latest_seen(self.lane(lane), filter)
@@ -197,6 +207,7 @@ impl RegistryParts {
     /// The parent of a span, where it is open and has one.
     #[tactic(auto, using(crate::proofs::Mapped::parent_mapped))]
     pub(crate) fn above(&self, id: Id) -> Option<Id>
+        requires { IsRising (plain_registry self.now) }
         ensures { result ≡ parent_of kin_in (plain_registry self.now).spans id }
     {
         parent_of(self.spans.as_slice(), id)
@@ -204,6 +215,7 @@ impl RegistryParts {
 
     // Whether the parent is open, where one is named.
     fn knows_parent(&self, attributes: &Attributes<'_, '_>) -> bool
+        requires { IsRising (plain_registry self.now) }
         ensures { result ≡ knows (plain_registry self.now) (explicit_parent (plain_attributes attributes.now).parent) }
     {
         match attributes.parent() {
@@ -262,6 +274,7 @@ impl RegistryParts {
         lane: u64,
         passed: FilterMap,
     ) -> Result<Id, RequestError>
+        requires { IsRising (plain_registry self.old) }
         ensures { let a = plain_attributes attributes.now in SpanGives (plain_registry self.old) a.metadata a.parent lane passed.passed result (plain_registry self.new) }
     {
         if !self.knows_parent(attributes) {
@@ -279,6 +292,7 @@ impl RegistryParts {
 
     /// Whether a span is open.
     pub(crate) fn record(&self, id: Id) -> Result<(), RequestError>
+        requires { IsRising (plain_registry self.now) }
         ensures { result ≡ or_refused (open_refusal (plain_registry self.now) id) tt }
     {
         if self.is_open(id) {
@@ -290,6 +304,7 @@ impl RegistryParts {
 
     /// Whether both spans are open.
     pub(crate) fn record_follows_from(&self, id: Id, follows: Id) -> Result<(), RequestError>
+        requires { IsRising (plain_registry self.now) }
         ensures { result ≡ or_refused (follow_refusal (plain_registry self.now) id follows) tt }
     {
         if self.is_open(id) && self.is_open(follows) {
@@ -315,6 +330,7 @@ impl RegistryParts {
 
     /// Adds an entry of a span on a lane.
     pub(crate) fn enter(&mut self, id: Id, lane: u64) -> Result<(), RequestError>
+        requires { IsRising (plain_registry self.old) }
         ensures { EntryGives (plain_registry self.old) lane id result (plain_registry self.new) }
     {
         if !self.is_open(id) {
@@ -335,6 +351,7 @@ impl RegistryParts {
 
     /// Counts one more handle of a span.
     pub(crate) fn take_one(&mut self, id: Id) -> Result<Id, RequestError>
+        requires { IsRising (plain_registry self.old) }
         ensures { (result, plain_registry self.new) ≡ clone_gives (plain_registry self.old) id }
     {
         let Some(place) = place_of(self.spans.as_slice(), id) else {
@@ -349,6 +366,7 @@ impl RegistryParts {
 
     /// Counts one handle of a span less.
     pub(crate) fn give_up(&mut self, id: Id) -> Result<(), RequestError>
+        requires { IsRising (plain_registry self.old) }
         ensures { (result, plain_registry self.new) ≡ give_up_gives (plain_registry self.old) id }
     {
         let Some(place) = place_of(self.spans.as_slice(), id) else {
@@ -375,6 +393,7 @@ impl RegistryParts {
     pub(crate) fn forget(&mut self) -> Option<Id>
         ensures gives { ForgetGives (plain_registry self.old) result (plain_registry self.new) }
         ensures fewer { IfSome result (λ _. length self.new.spans.items < length self.old.spans.items) }
+        ensures rising { IsRising (plain_registry self.old) → IsRising (plain_registry self.new) }
     {
         match closing(self.spans.as_slice(), self.lanes.as_slice()) {
             None => None,
@@ -402,6 +421,7 @@ impl RegistryParts {
 
     /// Gives up one handle of a span, and answers whether it closed.
     pub(crate) fn try_close(&mut self, id: Id) -> Result<bool, RequestError>
+        requires { IsRising (plain_registry self.old) }
         ensures { (result, plain_registry self.new) ≡ close_gives (plain_registry self.old) id }
     {
         self.give_up(id)?;

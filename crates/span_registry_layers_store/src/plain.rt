@@ -1,13 +1,13 @@
 //! Open spans as a list in order of making, searched afresh at each question.
-ghost use Rattle.std.specs.Prelude.{true, false, ◌≡◌, ◌<◌, ◌+◌, length, drop, IfOk, MatchOption};
+ghost use Rattle.std.specs.Prelude.{true, false, ◌≡◌, ◌<◌, ◌+◌, length, drop, MatchOption};
 ghost use Rattle.span_registry_layers_store.specs.Lanes.{plain_lanes};
-ghost use Rattle.span_registry_layers_store.specs.Spans.{AllStay, ClosesNext, current, handles_of, has_child, is_member, is_open, is_parent, line_of, parent_of, stays, without_last};
+ghost use Rattle.span_registry_layers_store.specs.Spans.{AllStay, ClosesNext, current, handles_of, has_child, is_member, is_open, is_parent, parent_of, stays, without_last};
 ghost use Rattle.span_registry_layers_store.specs.Places.{IsPlace, kin_of, kin_at};
+ghost use Rattle.span_registry_layers_store.specs.Rising.{Rises};
 
 use crate::lanes::is_entered;
 use crate::record::SpanRecord;
 use crate::span::Span;
-use std::alloc::{AllocError, Global};
 use tracing_core::Id;
 
 pub(crate) fn is_member(ids: &[Id], id: Id) -> bool
@@ -16,32 +16,31 @@ pub(crate) fn is_member(ids: &[Id], id: Id) -> bool
     ids.iter().any(|entry| entry.into_u64() == id.into_u64())
 }
 
-/// The place of a span, where it is open.
+/// The place of a span, where it is open. It is looked for by halves.
 pub(crate) fn place_of(spans: &[Span], id: Id) -> Option<usize>
+    requires { Rises kin_of 0 spans.now }
     ensures { MatchOption result (is_open kin_of spans.now id ≡ false) (λ place. IsPlace spans.now id place) }
 {
-    for place in 0..spans.len() {
-        if spans[place].kin.id.into_u64() == id.into_u64() {
-            return Some(place);
-        }
+    match spans.binary_search_by_key(&id.into_u64(), |span| span.kin.id.into_u64()) {
+        Ok(place) => Some(place),
+        Err(_) => None,
     }
-    None
 }
 
 /// The kinship of a span, where it is open.
 fn kin_of(spans: &[Span], id: Id) -> Option<SpanRecord>
+    requires { Rises kin_of 0 spans.now }
     ensures { result ≡ kin_at spans.now id }
 {
-    for span in spans {
-        if span.kin.id.into_u64() == id.into_u64() {
-            return Some(span.kin);
-        }
+    match place_of(spans, id) {
+        None => None,
+        Some(place) => Some(spans[place].kin),
     }
-    None
 }
 
 /// The parent of a span, where it is open and has one.
 pub(crate) fn parent_of(spans: &[Span], id: Id) -> Option<Id>
+    requires { Rises kin_of 0 spans.now }
     ensures { result ≡ parent_of kin_of spans.now id }
 {
     match kin_of(spans, id) {
@@ -52,6 +51,7 @@ pub(crate) fn parent_of(spans: &[Span], id: Id) -> Option<Id>
 
 /// How many handles a span has, and 0 for an id that is not open.
 pub(crate) fn handles_of(spans: &[Span], id: Id) -> usize
+    requires { Rises kin_of 0 spans.now }
     ensures { result ≡ handles_of kin_of spans.now id }
 {
     match kin_of(spans, id) {
@@ -62,11 +62,10 @@ pub(crate) fn handles_of(spans: &[Span], id: Id) -> usize
 
 /// Whether a span is open.
 pub(crate) fn is_open(spans: &[Span], id: Id) -> bool
+    requires { Rises kin_of 0 spans.now }
     ensures { result ≡ is_open kin_of spans.now id }
 {
-    spans
-        .iter()
-        .any(|span| span.kin.id.into_u64() == id.into_u64())
+    place_of(spans, id).is_some()
 }
 
 fn is_parent(id: Id, parent: Option<Id>) -> bool
@@ -114,24 +113,6 @@ pub(crate) fn closing(spans: &[Span], lanes: &[Vec<Id>]) -> Option<usize>
         }
     }
     None
-}
-
-/// An id and its ancestors, the nearest first.
-pub(crate) fn line_of(alloc: Global, spans: &[Span], id: Id) -> Result<Vec<Id>, AllocError>
-    ensures { IfOk result (λ line. line.items ≡ line_of kin_of spans.now id) }
-{
-    let mut line = Vec::new(alloc);
-    let mut at = Some(id);
-    for _step in 0..id.into_u64() {
-        match at {
-            None => return Ok(line),
-            Some(here) => {
-                line.push(here)?;
-                at = parent_of(spans, here);
-            }
-        }
-    }
-    Ok(line)
 }
 
 /// A lane's current span: its last entry that is no duplicate.

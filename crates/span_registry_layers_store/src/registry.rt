@@ -41,10 +41,14 @@ pub struct Registry {
 
 impl Model for Registry {
     ghost use Rattle.span_registry_layers_store.specs.Registries.{RegistryValue, plain_registry};
+    ghost use Rattle.span_registry_layers_store.specs.Rising.{IsRising};
 
     ghost Value = { RegistryValue };
 
     ghost view = { λ r. plain_registry r.parts };
+
+    // Ids are given in order, and the spans that close leave the others where they are.
+    ghost invariant = { λ r. IsRising (plain_registry r.parts) };
 }
 
 impl Registry {

@@ -4,6 +4,7 @@ use Rattle.span_registry_layers_store.specs.Registries.{PlainSpan, plain_registr
 use Rattle.span_registry_layers_store.proofs.Handles.{give_up_none, give_up_some, handles_there, less_there, no_handles}
 use Rattle.span_registry_layers_store.specs.Places.{kin_of}
 use Rattle.span_registry_layers_store.specs.Spans.{is_open}
+use Rattle.span_registry_layers_store.proofs.Rising.{rising_slice}
 use Rattle.span_registry_layers_store.proofs.parts.RegistryParts.give_up.Goals as goal
 
 pub returns-in_default : goal.returns-in_default
@@ -25,3 +26,6 @@ returns c =
     let s = c.index.result.now in
     ap (λ (ss : List PlainSpan). (Ok tt, record (plain_registry c.args.self.now) { spans = ss })) (less_there spans c.args.id c.in-Some.place c.index_mut.result.now p c.index_mut.ensures.value)
     ∙ sym (give_up_some (plain_registry c.args.self.now) c.args.id s.kin.handles (handles_there spans c.args.id c.in-Some.place s p c.index.ensures) c.if-index-eq0.false)
+
+pub place_of-requires : goal.place_of-requires
+place_of-requires c = rising_slice c.args.self.now c.as_slice.result.now c.as_slice.ensures.value c.requires

@@ -5,6 +5,7 @@ use Rattle.span_registry_layers_store.proofs.Handles.{clone_full, clone_more, cl
 use Rattle.span_registry_layers_store.proofs.Mapped.{open_mapped}
 use Rattle.span_registry_layers_store.specs.Places.{kin_of}
 use Rattle.span_registry_layers_store.specs.Spans.{is_open}
+use Rattle.span_registry_layers_store.proofs.Rising.{rising_slice}
 use Rattle.span_registry_layers_store.proofs.parts.RegistryParts.take_one.Goals as goal
 
 pub returns-in_default : goal.returns-in_default
@@ -26,3 +27,6 @@ returns c =
     let s = c.index.result.now in
     ap (λ (ss : List PlainSpan). (Ok c.args.id, record (plain_registry c.args.self.now) { spans = ss })) (more_there spans c.args.id c.in-Some.place c.index_mut.result.now p c.index_mut.ensures.value)
     ∙ sym (clone_more (plain_registry c.args.self.now) c.args.id s.kin.handles (is_there spans c.args.id c.in-Some.place s p c.index.ensures) (handles_there spans c.args.id c.in-Some.place s p c.index.ensures) c.if-index.false)
+
+pub place_of-requires : goal.place_of-requires
+place_of-requires c = rising_slice c.args.self.now c.as_slice.result.now c.as_slice.ensures.value c.requires
