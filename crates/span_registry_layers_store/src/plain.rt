@@ -1,9 +1,9 @@
 //! Open spans as a list in order of making, searched afresh at each question.
-ghost use Rattle.std.specs.Prelude.{true, false, ◌≡◌, ◌<◌, ◌+◌, length, drop, MatchOption};
+ghost use Rattle.std.specs.Prelude.{true, false, ◌≡◌, ◌<◌, ◌+◌, length, drop, IfSome, MatchOption};
 ghost use Rattle.span_registry_layers_store.specs.Lanes.{plain_lanes};
 ghost use Rattle.span_registry_layers_store.specs.Spans.{AllStay, ClosesNext, current, handles_of, has_child, is_member, is_open, is_parent, parent_of, stays, without_last};
 ghost use Rattle.span_registry_layers_store.specs.Places.{IsPlace, kin_of, kin_at};
-ghost use Rattle.span_registry_layers_store.specs.Rising.{Rises};
+ghost use Rattle.span_registry_layers_store.specs.Rising.{HasId, Rises};
 
 use crate::lanes::is_entered;
 use crate::record::SpanRecord;
@@ -16,11 +16,28 @@ pub(crate) fn is_member(ids: &[Id], id: Id) -> bool
     ids.iter().any(|entry| entry.into_u64() == id.into_u64())
 }
 
-/// The place of a span, where it is open. It is looked for by halves.
+/// A place where the span of an id stands, if the spans after it have the ids that follow.
+fn place_from_end(spans: &[Span], id: Id) -> Option<usize>
+    ensures { IfSome result (λ place. HasId spans.now id place) }
+{
+    let last = spans.last()?;
+    let back = last.kin.id.into_u64().checked_sub(id.into_u64())?;
+    let place = (spans.len() - 1).checked_sub(usize::try_from(back).ok()?)?;
+    if spans[place].kin.id.into_u64() == id.into_u64() {
+        Some(place)
+    } else {
+        None
+    }
+}
+
+/// The place of a span, where it is open. Ids of late spans often follow one another; else it is looked for by halves.
 pub(crate) fn place_of(spans: &[Span], id: Id) -> Option<usize>
     requires { Rises kin_of 0 spans.now }
     ensures { MatchOption result (is_open kin_of spans.now id ≡ false) (λ place. IsPlace spans.now id place) }
 {
+    if let Some(place) = place_from_end(spans, id) {
+        return Some(place);
+    }
     match spans.binary_search_by_key(&id.into_u64(), |span| span.kin.id.into_u64()) {
         Ok(place) => Some(place),
         Err(_) => None,
