@@ -1,5 +1,6 @@
 pub mod Lists
 pub mod Texts
+pub mod Rising
 pub mod Adding
 pub mod Showing
 pub mod Writing

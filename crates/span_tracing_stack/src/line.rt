@@ -4,6 +4,7 @@ ghost use Rattle.std.specs.Prelude.{◌≡◌, ◌++◌, ◌∷◌, [], OnOk, st
 ghost use Rattle.std.specs.Option.{option_copied};
 ghost use Rattle.std.specs.List.{flat_map};
 ghost use Rattle.span_tracing_machine.specs.Lines.{time_piece, shown_piece, scope_piece};
+ghost use Rattle.span_tracing_stack.specs.Rising.{Rises};
 ghost use Rattle.span_tracing_stack.specs.Shown.{shown_in, shown_of};
 ghost use Rattle.span_tracing_stack.specs.Stacks.{plain_text};
 
@@ -37,6 +38,7 @@ fn push_scope(
     texts: &[SpanText],
     ids: &[Id],
 ) -> Result<(), AllocError>
+    requires { Rises 0 (map plain_text texts.now) }
     ensures { OnOk result (string_bytes out.new ≡ string_bytes out.old ++ scope_piece (map (shown_in registry.now (map plain_text texts.now)) ids.now)) }
 {
     if ids.is_empty() {
@@ -67,6 +69,7 @@ pub(crate) fn push_head(
     ids: &[Id],
     target: &str,
 ) -> Result<(), AllocError>
+    requires { Rises 0 (map plain_text texts.now) }
     ensures { OnOk result (string_bytes out.new ≡ string_bytes out.old
         ++ (time_piece (option_copied time.entry) ++ scope_piece (map (shown_in registry.now (map plain_text texts.now)) ids.now) ++ target.now ++ codes ": ")) }
 {

@@ -27,12 +27,16 @@ pub struct Stack {
 }
 
 impl Model for Stack {
-    ghost use Rattle.std.specs.Prelude.{string_bytes};
-    ghost use Rattle.span_tracing_stack.specs.Stacks.{StackValue, plain_state, plain_told};
+    ghost use Rattle.std.specs.Prelude.{map, string_bytes};
+    ghost use Rattle.span_tracing_stack.specs.Rising.{AreRising};
+    ghost use Rattle.span_tracing_stack.specs.Stacks.{StackValue, plain_state, plain_told, plain_text};
 
     ghost Value = { StackValue };
 
     ghost view = { λ s. plain_state s.state (plain_told s.told (string_bytes s.line)) };
+
+    // A text is stored with its span, whose id is the next one.
+    ghost invariant = { λ s. AreRising (map plain_text s.state.texts.items) s.state.registry.next_id };
 }
 
 impl Stack {

@@ -12,6 +12,7 @@ ghost use Rattle.span_tracing_machine.specs.Lines.{full_line};
 ghost use Rattle.span_tracing_machine.specs.State.{from_root, shown_span};
 ghost use Rattle.span_tracing_stack.specs.Moves.{CloneGives, EntryGives, TellsLine, closed_left, inside, says_closed};
 ghost use Rattle.span_tracing_stack.specs.Recording.{AddsFields};
+ghost use Rattle.span_tracing_stack.specs.Rising.{Rises};
 ghost use Rattle.span_tracing_stack.specs.Shown.{id_of};
 ghost use Rattle.span_tracing_stack.specs.Stacks.{PlainTold, Quiet, plain_state, plain_text, plain_time, plain_told, span_text, text_told, with_exit, with_span};
 
@@ -152,6 +153,7 @@ impl StackState {
         event: &Event<'_, '_>,
         start: Option<Id>,
     ) -> Result<(), AllocError>
+        requires { Rises 0 (map plain_text self.now.texts.items) }
         ensures { let e = plain_event event.now in OnOk result (string_bytes line.new
             ≡ full_line (plain_time self.now.setting.format.timer) (map (shown_span (map plain_text self.now.texts.items)) (from_root self.now.registry start))
             e.metadata.target e.values.names e.values.entries) }
@@ -230,6 +232,7 @@ impl StackState {
         event: &Event<'_, '_>,
         lane: u64,
     ) -> Told
+        requires { Rises 0 (map plain_text self.now.texts.items) }
         ensures { TellsLine (plain_state self.now Quiet) (plain_event event.now) lane (plain_told result (string_bytes line.new)) }
     {
         let start = self.parent_of(lane, event);

@@ -1,11 +1,12 @@
 //! The texts of open spans.
 
-ghost use Rattle.std.specs.Prelude.{◌≡◌, map, string_bytes};
+ghost use Rattle.std.specs.Prelude.{◌≡◌, [], IfSome, MatchOption, map, string_bytes};
 ghost use Rattle.tracing_core.specs.PlainRequests.{plain_record};
 ghost use Rattle.span_tracing_machine.specs.FieldTexts.{with_lists};
 ghost use Rattle.span_tracing_machine.specs.Missed.{given_by};
 ghost use Rattle.span_tracing_machine.specs.State.{text_at};
 ghost use Rattle.span_tracing_stack.specs.Recording.{AddsFields};
+ghost use Rattle.span_tracing_stack.specs.Rising.{HasId, Rises};
 ghost use Rattle.span_tracing_stack.specs.Shown.{shown_in, shown_of};
 ghost use Rattle.span_tracing_stack.specs.Stacks.{AllNamed, fields_in, plain_text, open_texts};
 
@@ -23,19 +24,47 @@ pub(crate) struct SpanText {
     pub(crate) text: String,
 }
 
+/// A place where the text of a span stands, if the texts after it are of the ids that follow.
+fn place_from_end(texts: &[SpanText], id: Id) -> Option<usize>
+    ensures { IfSome result (λ place. HasId texts.now id place) }
+{
+    let last = texts.last()?;
+    let back = last.id.into_u64().checked_sub(id.into_u64())?;
+    let place = (texts.len() - 1).checked_sub(usize::try_from(back).ok()?)?;
+    if texts[place].id.into_u64() == id.into_u64() {
+        Some(place)
+    } else {
+        None
+    }
+}
+
+/// The place of the text of a span. Ids of late spans often follow one another; else it is looked for by halves.
+fn place_of(texts: &[SpanText], id: Id) -> Option<usize>
+    requires { Rises 0 (map plain_text texts.now) }
+    ensures { MatchOption result (text_at (map plain_text texts.now) id ≡ []) (λ place. HasId texts.now id place) }
+{
+    if let Some(place) = place_from_end(texts, id) {
+        return Some(place);
+    }
+    match texts.binary_search_by_key(&id.into_u64(), |stored| stored.id.into_u64()) {
+        Ok(place) => Some(place),
+        Err(_) => None,
+    }
+}
+
 fn text_at(texts: &[SpanText], id: Id) -> &str
+    requires { Rises 0 (map plain_text texts.now) }
     ensures { result.now ≡ text_at (map plain_text texts.now) id }
 {
-    for stored in texts {
-        if stored.id == id {
-            return stored.text.as_str();
-        }
+    match place_of(texts, id) {
+        Some(place) => texts[place].text.as_str(),
+        None => "",
     }
-    ""
 }
 
 /// How the span of an id is shown; where it is not open nothing is.
 pub(crate) fn shown_at<'a>(registry: &'a Registry, texts: &'a [SpanText], id: Id) -> ShownSpan<'a>
+    requires { Rises 0 (map plain_text texts.now) }
     ensures { shown_of result ≡ shown_in registry.now (map plain_text texts.now) id }
 {
     match registry.span(&id) {

@@ -4,6 +4,8 @@ use Rattle.span_tracing_stack.proofs.Lists.{there_if, when_none}
 use Rattle.tracing_core.specs.PlainMetadata.{PlainMetadata}
 use Rattle.tracing_core.specs.PlainRequests.{plain_attributes}
 use Rattle.span_tracing_stack.proofs.Giving.{unknown_parent, dropped, spent, no_room, made}
+use Rattle.span_tracing_stack.specs.Stacks.{Quiet, plain_state, text_told}
+use Rattle.span_tracing_stack.proofs.Rising.{made_rising}
 use Rattle.span_tracing_stack.proofs.subscriber.StackSubscriber.new_span.Goals as goal
 
 pub returns-then-not-is_known : goal.returns-then-not-is_known
@@ -43,3 +45,6 @@ returns-in-Err c =
     (rw (← c.parent.ensures, ← c.is_known.ensures) c.if-not-is_known.false)
     (ap (λ (m : PlainMetadata). nat_le m.level c.self.inside.state.setting.filter) (sym c.metadata.ensures.plain) ∙ sym c.wants.ensures ∙ c.if-not-wants.false)
     (omega (arith, left.1.0, left.1.1)) c.in-Err.ensures.err)
+
+pub invariant_of-self-in-Ok : goal.invariant_of-self-in-Ok
+invariant_of-self-in-Ok c = made_rising (plain_state c.self.inside.state Quiet) (plain_state c.make_span.new.self (text_told c.in-Ok.made.fate)) (plain_attributes c.args.attributes.now) c.args.at.lane c.in-Ok.made.fate c.in-Ok.ensures.ok.1 c.self.invariant

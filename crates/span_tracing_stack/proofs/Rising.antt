@@ -1,0 +1,161 @@
+-- Texts whose ids rise, and a search by halves among them.
+use Rattle.std.proofs.Common.{◌≡◌, inl, inr, ℕ, zero, suc, ◌+◌, ◌<◌, ◌≤◌, ◌==◌, List, [], ◌∷◌, ◌++◌, length, map, Bool, true, false, if◌then◌else◌, slice_index_or, string_bytes, Option, Some, None, Result, Ok, Err, refl, sym, ap, ◌∙◌, subst, arith}
+use Rattle.std.specs.List.{AllByRecursion, filter}
+use Rattle.std.specs.List.Sorted.{IsBinarySearchResult, IsNonDecreasingBy}
+use Rattle.std.specs.Ordering.{nat_cmp, ordering_index}
+use Rattle.std.proofs.lemmas.Bool.{cases_lt}
+use Rattle.std.proofs.lemmas.Bool.Decides.{nat_tests}
+use Rattle.std.proofs.lemmas.Cmp.{ranked}
+use Rattle.tracing_core.specs.Handles.{or_same}
+use Rattle.tracing_core.specs.RequestError.{RequestError}
+use Rattle.span_registry_layers_store.specs.Gives.{EntryGives, GivesUnless, clone_gives, clone_refusal, close_gives, close_refusal, open_refusal}
+use Rattle.span_registry_layers_store.specs.Registries.{PlainSpan, RegistryValue, swept, with_entry, with_handle, without_handle}
+use Rattle.span_tracing_machine.specs.State.{PlainText, text_at}
+use Rattle.span_tracing_stack.specs.Rising.{AreRising, HasId, Rises}
+use Rattle.tracing_core.specs.PlainRequests.{PlainAttributes, PlainValues}
+use Rattle.span_tracing_machine.specs.declared.fate.Fate.{Fate}
+use Rattle.span_tracing_stack.specs.Moves.{closed_left}
+use Rattle.span_tracing_stack.specs.Recording.{AddsFields}
+use Rattle.span_tracing_stack.specs.Stacks.{StackValue, open_texts, plain_text, with_bytes, with_exit, with_span}
+use Rattle.span_tracing_stack.specs.declared.text.SpanText.{SpanText}
+
+differs : (a b : ℕ) → (a ≡ b → ⊥) → (a == b) ≡ false
+differs a b h = grind (arith, nat_tests, h)
+
+rises_from : (low least : ℕ) (ts : List PlainText) → low ≤ least → Rises least ts → Rises low ts
+rises_from low least [] le rise = tt
+rises_from low least (t ∷ ts) le rise = (omega (arith, le, rise.0), rise.1)
+
+-- none lies below the least
+least_below : (least : ℕ) (ts : List SpanText) (place : ℕ) (d : SpanText) → Rises least (map plain_text ts) → place < length ts → least ≤ (slice_index_or ts place d).id
+least_below least [] place d rise within = absurd (omega arith)
+least_below least (t ∷ ts) zero d rise within = rise.0
+least_below least (t ∷ ts) (suc place) d rise within = let later = least_below (t.id + 1) ts place d rise.1 (omega arith) in omega (arith, rise.0, later)
+
+-- a later one is no lower
+later_above : (least : ℕ) (ts : List SpanText) (i j : ℕ) (d : SpanText) → Rises least (map plain_text ts) → i ≤ j → j < length ts → (slice_index_or ts i d).id ≤ (slice_index_or ts j d).id
+later_above least [] i j d rise le within = absurd (omega arith)
+later_above least (t ∷ ts) zero zero d rise le within = omega arith
+later_above least (t ∷ ts) zero (suc j) d rise le within = let later = least_below (t.id + 1) ts j d rise.1 (omega arith) in omega (arith, later)
+later_above least (t ∷ ts) (suc i) zero d rise le within = absurd (omega arith)
+later_above least (t ∷ ts) (suc i) (suc j) d rise le within = later_above (t.id + 1) ts i j d rise.1 (omega arith) (omega arith)
+
+-- the text of the place that has the id
+pub text_there : (least : ℕ) (ts : List SpanText) (id place : ℕ) (d : SpanText) → Rises least (map plain_text ts) → HasId ts id place → string_bytes (slice_index_or ts place d).text ≡ text_at (map plain_text ts) id
+text_there least [] id place d rise has = absurd (let within = has.0 in omega arith)
+text_there least (t ∷ ts) id zero d rise has = let here : (t.id == id) ≡ true = (let same = has.1 t in grind (arith, nat_tests)) in rw here refl
+text_there least (t ∷ ts) id (suc place) d rise has =
+    let above = least_below (t.id + 1) ts place t rise.1 (let within = has.0 in omega arith) in
+    let there = has.1 t in
+    rw (differs t.id id (λ same. omega (arith, above, there, same))) (text_there (t.id + 1) ts id place d rise.1 (let within = has.0 in omega arith, has.1))
+
+none_there : (ts : List SpanText) (id : ℕ) → ((place : ℕ) (d : SpanText) → place < length ts → (slice_index_or ts place d).id ≡ id → ⊥) → text_at (map plain_text ts) id ≡ []
+none_there [] id others = refl
+none_there (t ∷ ts) id others = rw (differs t.id id (others 0 t (omega arith))) (none_there ts id (λ place d within. others (suc place) d (omega arith)))
+
+comparisons_rise : (ts : List SpanText) (id : ℕ) → Rises 0 (map plain_text ts) → IsNonDecreasingBy (λ (t : SpanText). ordering_index (nat_cmp t.id id)) ts
+comparisons_rise ts id rise i j d le within = let ids = later_above 0 ts i j d rise le within in grind (arith, nat_tests, ids)
+
+-- what a search by halves finds
+pub searched_there : (ts : List SpanText) (id place : ℕ) → place < length ts → IsBinarySearchResult (λ (t : SpanText). nat_cmp t.id id) ts (Ok place) → HasId ts id place
+searched_there ts id place within equal = (within, λ d. ranked _ id _ (sym (equal d)))
+
+pub searched_none : (ts : List SpanText) (id place : ℕ) → Rises 0 (map plain_text ts) → IsBinarySearchResult (λ (t : SpanText). nat_cmp t.id id) ts (Err place) → text_at (map plain_text ts) id ≡ []
+searched_none ts id place rise parted =
+    let sides = parted (comparisons_rise ts id rise) in
+    none_there ts id (λ k d within same. elim (cases_lt k place) [
+      | inl before ↦ let less : (slice_index_or ts k d).id < id = ranked _ id _ (sym (sides.0 k d (omega arith) before)) in omega (arith, less, same)
+      | inr after ↦ let more : id < (slice_index_or ts k d).id = ranked _ id _ (sym (sides.1 k d after within)) in omega (arith, more, same)
+    ])
+
+-- one more text, above all others
+rises_more : (least : ℕ) (ts : List PlainText) (t : PlainText) → least ≤ t.id → AllByRecursion (λ (x : PlainText). x.id < t.id) ts → Rises least ts → Rises least (ts ++ t ∷ [])
+rises_more least [] t le below rise = (le, tt)
+rises_more least (x ∷ xs) t le below rise = (rise.0, rises_more (x.id + 1) xs t (omega (arith, below.0)) below.1 rise.1)
+
+below_more : (next : ℕ) (ts : List PlainText) (t : PlainText) → t.id ≡ next → AllByRecursion (λ (x : PlainText). x.id < next) ts → AllByRecursion (λ (x : PlainText). x.id < next + 1) (ts ++ t ∷ [])
+below_more next [] t is below = (omega (arith, is), tt)
+below_more next (x ∷ xs) t is below = (let low = below.0 in omega arith, below_more next xs t is below.1)
+
+pub more_rising : (texts : List PlainText) (t : PlainText) (next : ℕ) → t.id ≡ next → AreRising texts next → AreRising (texts ++ t ∷ []) (next + 1)
+more_rising texts t next is rising = record {
+  rise = rises_more 0 texts t (omega arith) (subst (λ n. AllByRecursion (λ (x : PlainText). x.id < n) texts) (sym is) rising.below) rising.rise;
+  below = below_more next texts t is rising.below;
+}
+
+-- without those of closed spans
+if_rises : (b : Bool) (least : ℕ) (t : PlainText) (left : List PlainText) → least ≤ t.id → Rises (t.id + 1) left → Rises least (if b then t ∷ left else left)
+if_rises true least t left le rise = (le, rise)
+if_rises false least t left le rise = rises_from least (t.id + 1) left (omega (arith, le)) rise
+
+rises_open : (keep : PlainText → Bool) (least : ℕ) (ts : List PlainText) → Rises least ts → Rises least (filter keep ts)
+rises_open keep least [] rise = tt
+rises_open keep least (t ∷ ts) rise = if_rises (keep t) least t (filter keep ts) rise.0 (rises_open keep (t.id + 1) ts rise.1)
+
+if_below : (b : Bool) (next : ℕ) (t : PlainText) (left : List PlainText) → t.id < next → AllByRecursion (λ (x : PlainText). x.id < next) left → AllByRecursion (λ (x : PlainText). x.id < next) (if b then t ∷ left else left)
+if_below true next t left low below = (low, below)
+if_below false next t left low below = below
+
+below_open : (keep : PlainText → Bool) (next : ℕ) (ts : List PlainText) → AllByRecursion (λ (x : PlainText). x.id < next) ts → AllByRecursion (λ (x : PlainText). x.id < next) (filter keep ts)
+below_open keep next [] below = tt
+below_open keep next (t ∷ ts) below = if_below (keep t) next t (filter keep ts) below.0 (below_open keep next ts below.1)
+
+pub open_rising : (spans : List PlainSpan) (texts : List PlainText) (next : ℕ) → AreRising texts next → AreRising (open_texts spans texts) next
+open_rising spans texts next rising = record { rise = rises_open _ 0 texts rising.rise; below = below_open _ next texts rising.below }
+
+-- with another text of a span
+if_bytes : (b : Bool) (least : ℕ) (t : PlainText) (ts later : List PlainText) (bytes : List ℕ) → Rises least (t ∷ ts) → Rises (t.id + 1) later → Rises least (if b then (record t { bytes = bytes }) ∷ ts else t ∷ later)
+if_bytes true least t ts later bytes rise others = rise
+if_bytes false least t ts later bytes rise others = (rise.0, others)
+
+rises_bytes : (least : ℕ) (ts : List PlainText) (id : ℕ) (bytes : List ℕ) → Rises least ts → Rises least (with_bytes ts id bytes)
+rises_bytes least [] id bytes rise = tt
+rises_bytes least (t ∷ ts) id bytes rise = if_bytes (t.id == id) least t ts (with_bytes ts id bytes) bytes rise (rises_bytes (t.id + 1) ts id bytes rise.1)
+
+if_low : (b : Bool) (next : ℕ) (t : PlainText) (ts later : List PlainText) (bytes : List ℕ) → AllByRecursion (λ (x : PlainText). x.id < next) (t ∷ ts) → AllByRecursion (λ (x : PlainText). x.id < next) later → AllByRecursion (λ (x : PlainText). x.id < next) (if b then (record t { bytes = bytes }) ∷ ts else t ∷ later)
+if_low true next t ts later bytes below others = below
+if_low false next t ts later bytes below others = (below.0, others)
+
+below_bytes : (next : ℕ) (ts : List PlainText) (id : ℕ) (bytes : List ℕ) → AllByRecursion (λ (x : PlainText). x.id < next) ts → AllByRecursion (λ (x : PlainText). x.id < next) (with_bytes ts id bytes)
+below_bytes next [] id bytes below = tt
+below_bytes next (t ∷ ts) id bytes below = if_low (t.id == id) next t ts (with_bytes ts id bytes) bytes below (below_bytes next ts id bytes below.1)
+
+pub bytes_rising : (texts : List PlainText) (next id : ℕ) (bytes : List ℕ) → AreRising texts next → AreRising (with_bytes texts id bytes) next
+bytes_rising texts next id bytes rising = record { rise = rises_bytes 0 texts id bytes rising.rise; below = below_bytes next texts id bytes rising.below }
+
+-- calls that make no span leave the next id
+pub next_entered : (x y : RegistryValue) (lane id : ℕ) (r : Result (Unit {0}) RequestError) → EntryGives x lane id r y → y.next_id ≡ x.next_id
+next_entered x y lane id r gives = entered (open_refusal x id) r gives
+  where
+    entered : (o : Option RequestError) (a : Result (Unit {0}) RequestError) → GivesUnless o x tt (with_entry x lane id) a y → y.next_id ≡ x.next_id
+    entered (Some refusal) a g = ap (λ (z : RegistryValue). z.next_id) g.1
+    entered None (Ok done) g = ap (λ (z : RegistryValue). z.next_id) g.1
+    entered None (Err e) g = ap (λ (z : RegistryValue). z.next_id) g.1
+
+next_same : (o : Option RequestError) (x y : RegistryValue) → y.next_id ≡ x.next_id → (or_same o x y).next_id ≡ x.next_id
+next_same None x y same = same
+next_same (Some refusal) x y same = refl
+
+pub next_cloned : (x y : RegistryValue) (id : ℕ) (r : Result ℕ RequestError) → (r, y) ≡ clone_gives x id → y.next_id ≡ x.next_id
+next_cloned x y id r gives = ap (λ (p : Result ℕ RequestError × RegistryValue). p.1.next_id) gives ∙ next_same (clone_refusal x id) x (with_handle x id) refl
+
+pub next_closed : (x : RegistryValue) (id : ℕ) → (close_gives x id).1.next_id ≡ x.next_id
+next_closed x id = next_same (close_refusal x id) x (swept (without_handle x id)) refl
+
+-- the texts of a stack rise
+abbrev pub TextsRise : StackValue → Type 0
+TextsRise x = AreRising x.texts x.registry.next_id
+
+pub closed_rising : (x y : StackValue) (id : ℕ) → y ≡ closed_left x id → TextsRise x → TextsRise y
+closed_rising x y id is rising =
+    let z = (close_gives x.registry id).1 in
+    rw is (subst (λ n. AreRising (open_texts z.spans x.texts) n) (sym (next_closed x.registry id)) (open_rising z.spans x.texts x.registry.next_id rising))
+
+pub left_rising : (x y : StackValue) (lane id : ℕ) → y ≡ with_exit x lane id → TextsRise x → TextsRise y
+left_rising x y lane id is rising = rw is (open_rising _ x.texts x.registry.next_id rising)
+
+pub made_rising : (x y : StackValue) (a : PlainAttributes) (lane : ℕ) (fate : Fate) → y ≡ with_span x a lane fate → TextsRise x → TextsRise y
+made_rising x y a lane fate is rising = rw is (more_rising x.texts _ x.registry.next_id refl rising)
+
+pub recorded_rising : (x y : StackValue) (id : ℕ) (values : PlainValues) (fate : Fate) (texts : List PlainText) → AddsFields x.texts id values fate texts → y ≡ record x { texts = texts } → TextsRise x → TextsRise y
+recorded_rising x y id values fate texts adds is rising = rw (is, adds.2) (bytes_rising x.texts x.registry.next_id id adds.0 rising)

@@ -1,0 +1,10 @@
+use Rattle.std.proofs.Common.{sym, ap, ◌∙◌, string_bytes}
+use Rattle.span_tracing_stack.specs.declared.text.SpanText.{SpanText}
+use Rattle.span_tracing_stack.proofs.Rising.{text_there}
+use Rattle.span_tracing_stack.proofs.text.text_at.Goals as goal
+
+pub returns-in-Some : goal.returns-in-Some
+returns-in-Some c = c.as_str.ensures.value ∙ text_there 0 c.args.texts.now c.args.id c.in-Some.place c.index-texts-place.result c.requires c.in-Some.ensures
+
+pub returns-in-None : goal.returns-in-None
+returns-in-None c = sym c.in-None.ensures
