@@ -6,6 +6,7 @@ use Rattle.tracing_appender_folders.specs.declared.fault.FolderError.TheVariants
 use Rattle.tracing_appender_folders.specs.declared.fault.FolderFault.{FolderFault}
 use Rattle.tracing_appender_folders.specs.declared.fault.FolderFault.TheVariants.{WriteZero}
 use Rattle.tracing_appender_rolling.specs.declared.init.InitFailure.{InitFailure}
+use Rattle.tracing_appender_rolling.specs.Faults.{after_retention}
 
 -- a folder's count doesn't fall, unless it stands at the greatest number
 abbrev pub Keeps : ℕ → ℕ → Type 0
@@ -31,6 +32,11 @@ Counts n old new m = Keeps n m × ((new ≡ old) ⊎ Rises n m)
 abbrev pub CountsOk : {E : Type 0} → ℕ → Faults → Result Faults E → ℕ → Type 0
 CountsOk n old (Ok new) m = Counts n old new m
 CountsOk n old (Err e) m = Keeps n m
+
+-- a removal, or none: a fault raises both counts by one, and without one both are as they were; want of memory is no fault
+abbrev pub CountsOnce : {E : Type 0} → ℕ → Faults → Result Faults E → ℕ → Type 0
+CountsOnce n old (Ok new) m = ((new ≡ old) × (m ≡ n)) ⊎ ((fault : FolderFault) × (new ≡ after_retention old fault) × (m ≡ min (n + 1) (2 ^ 64 - 1)))
+CountsOnce n old (Err e) m = m ≡ n
 
 -- an answer of one write of the folder
 abbrev pub ToldCall : {T : Type 0} → ℕ → Result T FolderError → ℕ → Type 0

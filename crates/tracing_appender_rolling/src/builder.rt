@@ -137,6 +137,10 @@ impl Builder {
 }
 
 impl Default for Builder {
+    ghost use Rattle.tracing_appender_rolling.specs.Builders.{builder_names, plain_names};
+
+    ghost is_default = { λ b. builder_names b ≡ plain_names };
+
     fn default() -> Builder {
         Builder::new()
     }

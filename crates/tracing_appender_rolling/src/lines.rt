@@ -1,11 +1,11 @@
 //! Lines that are handed over at moments.
 
 ghost use Rattle.std.specs.Prelude.{◌≡◌, ◌≤◌, [], Some, IfOk, IfErr, OnOk, OnErr, true, false, length, take};
-ghost use Rattle.tracing_appender_folders.specs.Moments.{is_moment};
+ghost use Rattle.tracing_appender_folders.specs.Moments.{is_moment, is_due};
 ghost use Rattle.tracing_appender_rolling.specs.Builders.{builder_names};
 ghost use Rattle.tracing_appender_folders.specs.Contents.{Contents, Gives, failures_after, nothing, written};
 ghost use Rattle.tracing_appender_rolling.specs.Faults.{after_write, unit_of};
-ghost use Rattle.tracing_appender_rolling.specs.Telling.{Counts, CountsLine, ToldCall, ToldWrites};
+ghost use Rattle.tracing_appender_rolling.specs.Telling.{Counts, CountsLine, ToldAll, ToldCall, ToldWrites};
 ghost use Rattle.tracing_appender_rolling.specs.Sinks.{PlainSink, with_handed};
 
 use crate::appender::RollingFileAppender;
@@ -34,6 +34,8 @@ impl<D: Folder> RollingFileAppender<D> {
         ensures starved { IfErr result (λ e. (p : PrunedSink) → AgreesLeft D.contents self.old p → e ≡ FolderError.OutOfMemory) }
         ensures names { builder_names self.new.builder ≡ builder_names self.old.builder }
         ensures told { ToldWrites (D.failed self.old.folder) result (length bytes.now) (D.failed self.new.folder) }
+        // within the period of the last try the folder is asked for writes alone
+        ensures early { is_due self.old.boundary moment.seconds ≡ false → ToldAll (D.failed self.old.folder) result (length bytes.now) (D.failed self.new.folder) }
         ensures counted { CountsLine (D.failed self.old.folder) self.old.faults self.new.faults result (length bytes.now) (D.failed self.new.folder) }
     {
         self.look(moment)?;
@@ -58,6 +60,8 @@ impl<D: Folder> RollingFileAppender<D> {
         ensures starved { IfErr result (λ e. (p : PrunedSink) → AgreesLeft D.contents self.old p → e ≡ FolderError.OutOfMemory) }
         ensures names { builder_names self.new.builder ≡ builder_names self.old.builder }
         ensures told { ToldCall (D.failed self.old.folder) result (D.failed self.new.folder) }
+        // within the period of the last try the folder is asked for the write alone
+        ensures early { is_due self.old.boundary moment.seconds ≡ false → D.failed self.new.folder ≡ failures_after (D.failed self.old.folder) result }
         ensures counted { Counts (D.failed self.old.folder) self.old.faults self.new.faults (D.failed self.new.folder) }
     {
         self.look(moment)?;
@@ -69,6 +73,7 @@ impl<D: Folder> RollingFileAppender<D> {
         ensures bound { IfOk result (λ n. n ≤ length bytes.now) }
         ensures gives { Gives (λ c. written c self.old.current bytes.now) (D.contents self.old.folder) result (D.contents self.new.folder) }
         ensures faults { self.new.faults ≡ after_write self.old.faults (unit_of result) }
+        ensures failures { D.failed self.new.folder ≡ failures_after (D.failed self.old.folder) result }
         ensures agrees { IfOk result (λ n. (s : PlainSink) (m : Moment) → AgreesSink D.contents self.old (with_handed s (record { line = []; moment = m })) →
             AgreesSink D.contents self.new (with_handed s (record { line = take n bytes.now; moment = m }))) }
         ensures missed { OnErr result ((s : PlainSink) → AgreesSink D.contents self.old s → AgreesSink D.contents self.new s) }

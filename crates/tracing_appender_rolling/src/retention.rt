@@ -6,7 +6,7 @@ ghost use Rattle.tracing_appender_rolling.specs.Builders.{builder_names};
 ghost use Rattle.tracing_appender_folders.specs.Listings.{listed_of};
 ghost use Rattle.tracing_appender_rolling.specs.Retention.{Tells, made_of, begins, ends, is_before, before_count, goes, IsAdded, IsCandidates, candidate_of};
 ghost use Rattle.tracing_appender_rolling.specs.Pruning.{Removes, Prunes, doomed, doomed_of};
-ghost use Rattle.tracing_appender_rolling.specs.Telling.{CountsOk};
+ghost use Rattle.tracing_appender_rolling.specs.Telling.{CountsOk, CountsOnce};
 
 use crate::builder::Builder;
 use crate::faults::Faults;
@@ -130,6 +130,7 @@ fn is_doomed(all: &[Candidate<'_>], candidate: &Candidate<'_>, limit: usize) -> 
 /// Removes a file. A fault is counted.
 fn remove_file<D: Folder>(folder: &mut D, name: &str, faults: Faults) -> Result<Faults, AllocError>
     ensures removes { Removes (name.now ∷ []) faults (D.contents folder.old) result (D.contents folder.new) }
+    ensures once { CountsOnce (D.failed folder.old) faults result (D.failed folder.new) }
     ensures told { CountsOk (D.failed folder.old) faults result (D.failed folder.new) }
 {
     match folder.remove(name) {
@@ -148,6 +149,7 @@ fn remove_if_doomed<D: Folder>(
     faults: Faults,
 ) -> Result<Faults, AllocError>
     ensures removes { Removes (doomed_of limit (map candidate_of all.now) (candidate_of candidate.now ∷ [])) faults (D.contents folder.old) result (D.contents folder.new) }
+    ensures once { CountsOnce (D.failed folder.old) faults result (D.failed folder.new) }
     ensures told { CountsOk (D.failed folder.old) faults result (D.failed folder.new) }
 {
     if !is_doomed(all, candidate, limit) {

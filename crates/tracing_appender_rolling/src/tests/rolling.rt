@@ -124,6 +124,38 @@ fn all_rotations_have_names(rt: HostRuntime) -> Result<(), Fail> {
 }
 
 #[test]
+fn a_prefix_or_a_suffix_stands_alone(rt: HostRuntime) -> Result<(), Fail> {
+    let alloc = rt.alloc();
+    let prefix = first_name(
+        alloc,
+        named(alloc, Rotation::DAILY, "my_prefix", "")?,
+        MONDAY,
+    )?;
+    assert_eq!(rt; prefix.as_str(), "my_prefix.2025-02-17");
+    let suffix = first_name(alloc, named(alloc, Rotation::DAILY, "", "log")?, MONDAY)?;
+    assert_eq!(rt; suffix.as_str(), "2025-02-17.log");
+    let minute = first_name(alloc, named(alloc, Rotation::MINUTELY, "", "log")?, MONDAY)?;
+    assert_eq!(rt; minute.as_str(), "2025-02-17-10-01.log");
+    Ok(())
+}
+
+#[test]
+fn a_builder_starts_without_a_link(rt: HostRuntime) -> Result<(), Fail> {
+    let alloc = rt.alloc();
+    let builder = RollingFileAppender::<MemoryFolder>::builder();
+    assert!(rt; !builder.has_bad_name());
+    assert!(rt; !builder.has_bad_link());
+    let name = first_name(alloc, builder, MONDAY)?;
+    assert_eq!(rt; name.as_str(), "2025-02-17");
+    let link = String::from_str(alloc, "p.2020-02-01-10")?;
+    let hour = named(alloc, Rotation::HOURLY, "p", "")?.latest_symlink(link);
+    assert!(rt; hour.has_bad_link());
+    let day = hour.rotation(Rotation::DAILY);
+    assert!(rt; !day.has_bad_link());
+    Ok(())
+}
+
+#[test]
 fn names_at_both_ends(rt: HostRuntime) -> Result<(), Fail> {
     let alloc = rt.alloc();
     let day = first_name(
@@ -291,9 +323,31 @@ fn bad_names_and_links_are_refused(rt: HostRuntime) -> Result<(), Fail> {
     Ok(())
 }
 
+/// What the calls of a script told, and what was counted.
+#[derive(Clone, Copy, Debug, PartialEq, Eq)]
+struct Told {
+    building: bool,
+    first: bool,
+    second: bool,
+    flush: bool,
+    switches: usize,
+    retentions: usize,
+    writes: usize,
+}
+
+const NOTHING: Told = Told {
+    building: false,
+    first: false,
+    second: false,
+    flush: false,
+    switches: 0,
+    retentions: 0,
+    writes: 0,
+};
+
 /// Builds with retention and a link, writes twice at one hour's distance, and flushes; the call with the number is refused. Answers
 /// the folder's count, and what was told or counted.
-fn script(alloc: Global, number: u64) -> Result<(u64, usize), Fail> {
+fn script(alloc: Global, number: u64) -> Result<(u64, Told), Fail> {
     let mut inner = MemoryFolder::new(alloc);
     inner.put("t.2020-01-01-00", b"old", None)?;
     let refused = Vec::from_slice(alloc, &[number])?;
@@ -303,22 +357,63 @@ fn script(alloc: Global, number: u64) -> Result<(u64, usize), Fail> {
         .max_log_files(1)
         .latest_symlink(link);
     match builder.build(alloc, folder, FEBRUARY) {
-        Err(refused) => Ok((refused.folder.failures(), 1)),
+        Err(refused) => Ok((
+            refused.folder.failures(),
+            Told {
+                building: true,
+                ..NOTHING
+            },
+        )),
         Ok(mut appender) => {
-            let mut told = 0;
-            if appender.write_all_at(b"a", FEBRUARY).is_err() {
-                told += 1;
-            }
-            if appender.write_all_at(b"b", later(3_600)?).is_err() {
-                told += 1;
-            }
-            if appender.flush().is_err() {
-                told += 1;
-            }
+            let first = appender.write_all_at(b"a", FEBRUARY).is_err();
+            let second = appender.write_all_at(b"b", later(3_600)?).is_err();
+            let flush = appender.flush().is_err();
             let faults = appender.faults();
-            let counted = faults.switches.saturating_add(faults.retentions);
-            Ok((appender.folder().failures(), counted.saturating_add(told)))
+            let told = Told {
+                building: false,
+                first,
+                second,
+                flush,
+                switches: faults.switches,
+                retentions: faults.retentions,
+                writes: faults.writes,
+            };
+            Ok((appender.folder().failures(), told))
         }
+    }
+}
+
+/// What is told or counted where the call with that number is refused. A first opening is tried again, and what a close answers is
+/// passed over.
+fn expected(number: u64) -> Told {
+    match number {
+        1 | 2 | 6 | 7 => Told {
+            retentions: 1,
+            ..NOTHING
+        },
+        4 => Told {
+            building: true,
+            ..NOTHING
+        },
+        5 => Told {
+            first: true,
+            writes: 1,
+            ..NOTHING
+        },
+        9 => Told {
+            switches: 1,
+            ..NOTHING
+        },
+        11 => Told {
+            second: true,
+            writes: 1,
+            ..NOTHING
+        },
+        12 => Told {
+            flush: true,
+            ..NOTHING
+        },
+        _ => NOTHING,
     }
 }
 
@@ -326,13 +421,50 @@ fn script(alloc: Global, number: u64) -> Result<(u64, usize), Fail> {
 fn each_call_is_refused_in_turn(rt: HostRuntime) -> Result<(), Fail> {
     let alloc = rt.alloc();
     for number in 1..=12 {
-        let (failures, told) = script(alloc, number)?;
-        assert_eq!(rt; failures, 1);
-        // a first opening is tried again, and what a close answers is passed over
-        let passed = number == 3 || number == 8 || number == 10;
-        assert_eq!(rt; told, if passed { 0 } else { 1 });
+        assert_eq!(rt; script(alloc, number)?, (1, expected(number)));
     }
-    assert_eq!(rt; script(alloc, 13)?, (0, 0));
+    assert_eq!(rt; script(alloc, 13)?, (0, NOTHING));
+    Ok(())
+}
+
+/// A refused opening is tried again after the directories were made, and then only in the next period.
+#[test]
+fn an_opening_is_tried_twice_in_a_period(rt: HostRuntime) -> Result<(), Fail> {
+    let alloc = rt.alloc();
+    // opened at call 1; call 2 is the next hour's first opening, call 3 makes the directories, call 4 opens again
+    let refused = Vec::from_slice(alloc, &[2, 4])?;
+    let folder = FaultyFolder::new(MemoryFolder::new(alloc), refused);
+    let prefix = String::from_str(alloc, "t")?;
+    let mut appender = hourly(alloc, folder, prefix, FEBRUARY).map_err(|refusal| refusal.error)?;
+    appender.write_all_at(b"a", later(3_600)?)?;
+    assert_eq!(rt; appender.faults().switches, 1);
+    assert_eq!(rt; appender.folder().failures(), 2);
+    appender.write_all_at(b"b", later(3_660)?)?;
+    assert_eq!(rt; appender.faults().switches, 1);
+    appender.write_all_at(b"c", later(7_200)?)?;
+    assert_eq!(rt; appender.faults().switches, 1);
+    assert_eq!(rt; appender.folder().failures(), 2);
+    let files = appender.folder().inner();
+    assert_eq!(rt; files.files()?.len(), 2);
+    assert!(rt; holds(files, "t.2020-02-01-10", b"ab")?);
+    assert!(rt; holds(files, "t.2020-02-01-12", b"c")?);
+    Ok(())
+}
+
+#[test]
+fn a_refused_write_is_told_and_counted(rt: HostRuntime) -> Result<(), Fail> {
+    let alloc = rt.alloc();
+    let refused = Vec::from_slice(alloc, &[2])?;
+    let folder = FaultyFolder::new(MemoryFolder::new(alloc), refused);
+    let prefix = String::from_str(alloc, "t")?;
+    let mut appender = daily(alloc, folder, prefix, FEBRUARY).map_err(|refusal| refusal.error)?;
+    let fault = FolderError::Fault(FolderFault::Refused);
+    assert_eq!(rt; appender.write_at(b"a", FEBRUARY), Err(fault));
+    assert_eq!(rt; appender.faults().writes, 1);
+    assert_eq!(rt; appender.folder().failures(), 1);
+    assert_eq!(rt; appender.write_at(b"bc", FEBRUARY)?, 2);
+    assert_eq!(rt; appender.faults().writes, 1);
+    assert!(rt; holds(appender.folder().inner(), "t.2020-02-01", b"bc")?);
     Ok(())
 }
 
