@@ -4,7 +4,8 @@ use Rattle.tracing_appender_rolling.specs.Moment.{Moment}
 use Rattle.tracing_appender_rolling.specs.Moments.{is_due}
 use Rattle.tracing_appender_rolling.specs.FolderError.{FolderError}
 use Rattle.tracing_appender_rolling.specs.Names.{FileNames}
-use Rattle.tracing_appender_rolling.specs.Contents.{Contents, Kept, Outcome, IsSound, appended, taken}
+use Rattle.tracing_appender_rolling.specs.FileNumber.{FileNumber}
+use Rattle.tracing_appender_rolling.specs.Contents.{Contents, Kept, Outcome, IsSound, appended, taken, called, if_refused, refusal, flush_plain}
 use Rattle.tracing_appender_rolling.specs.Looks.{Held, IsHeld, LookedTo, tried, failed_by, end_at, try_at}
 use Rattle.tracing_appender_rolling.specs.Tries.{Tried}
 use Rattle.tracing_appender_rolling.specs.FolderError.TheVariants.{Fault, OutOfMemory}
@@ -12,17 +13,34 @@ use Rattle.tracing_appender_rolling.specs.Writes.{taken_by, Takes, WroteAll}
 use Rattle.tracing_appender_rolling.proofs.PeriodFacts.{own_not_due}
 use Rattle.tracing_appender_batch.specs.declared.step.Written.{Written}
 use Rattle.tracing_appender_batch.specs.declared.step.Written.TheVariants.{Whole, Failed, Missed}
-use Rattle.tracing_appender_batch.specs.Steps.{is_whole, last_whole, LineTo, LinesTo, flushed, flushed_if, IsAlike, AllWhole, FoldersMayBeCut}
+use Rattle.tracing_appender_batch.specs.Steps.{is_whole, last_whole, LineTo, LinesTo, with_flush, flushed_if, IsAlike, AllWhole, FoldersMayBeCut}
 
 alike_self : (h : Held) → IsAlike h h
-alike_self h = record { until = refl; open_file = refl; counts = refl; files = refl; links = refl; open_files = refl }
+alike_self h = record { until = refl; open_file = refl; counts = refl; files = refl; links = refl; open_files = refl; dirs = refl; flushes = refl }
 
--- flushes change nothing but the coming calls
-alike_flushed : (a b : Bool) (h k : Held) → IsAlike h k → IsAlike (flushed_if a h) (flushed_if b k)
-alike_flushed true true h k x = record { until = x.until; open_file = x.open_file; counts = x.counts; files = x.files; links = x.links; open_files = x.open_files }
-alike_flushed true false h k x = record { until = x.until; open_file = x.open_file; counts = x.counts; files = x.files; links = x.links; open_files = x.open_files }
-alike_flushed false true h k x = record { until = x.until; open_file = x.open_file; counts = x.counts; files = x.files; links = x.links; open_files = x.open_files }
-alike_flushed false false h k x = x
+-- the same, whatever was flushed last
+record IsNear (h k : Held) : Type 0 where
+  pub until : h.boundary ≡ k.boundary
+  pub open_file : h.current ≡ k.current
+  pub counts : h.faults ≡ k.faults
+  pub files : h.contents.files ≡ k.contents.files
+  pub links : h.contents.links ≡ k.contents.links
+  pub open_files : h.contents.open_files ≡ k.contents.open_files
+  pub dirs : h.contents.has_dirs ≡ k.contents.has_dirs
+
+-- a flush that isn't refused
+abbrev flush_done : Held → Held
+flush_done h = record h { contents = record (called h.contents) { last_flushed = Some h.current.index } }
+
+flush_sound : (h : Held) → IsSound h.contents → with_flush h ≡ flush_done h
+flush_sound h sound = ap (λ (o : Outcome). record h { contents = (if_refused o (λ f. refusal f h.contents) (flush_plain h.current h.contents)).1 }) (sound 0)
+
+-- it makes alike what was flushed otherwise before
+near_flushed : (h k : Held) → IsNear h k → IsSound h.contents → IsSound k.contents → IsAlike (with_flush h) (with_flush k)
+near_flushed h k x sound_h sound_k =
+    let done : IsAlike (flush_done h) (flush_done k) =
+    record { until = x.until; open_file = x.open_file; counts = x.counts; files = x.files; links = x.links; open_files = x.open_files; dirs = x.dirs; flushes = ap (λ (f : FileNumber). Some f.index) x.open_file } in
+    subst (λ (y : Held). IsAlike y (with_flush k)) (sym (flush_sound h sound_h)) (subst (IsAlike (flush_done h)) (sym (flush_sound k sound_k)) done)
 
 lines_both : (names : FileNames) (m : Moment) (h middle last : Held) (xs ys : List (List ℕ)) (one two : List Written) → LinesTo names m h xs one middle → LinesTo names m middle ys two last → LinesTo names m h (xs ++ ys) (one ++ two) last
 lines_both names m h middle last [] ys [] two so more = subst (λ (x : Held). LinesTo names m x ys two last) so more
@@ -75,28 +93,30 @@ takes_same c d sound_c sound_d writes len all t = record {
 record Also (names : FileNames) (m : Moment) (other last : Held) (lines : List (List ℕ)) (fates : List Written) : Type 0 where
   pub end : Held
   pub lines_to : LinesTo names m other lines fates end
-  pub alike : IsAlike end last
+  pub near : IsNear end last
+  pub sound : IsSound end.contents
+  pub last_sound : IsSound last.contents
 
 module _ (names : FileNames) (m : Moment) where
   record AlsoOne (other next : Held) (line : List ℕ) : Type 0 where
     pub end : Held
     pub over : LineTo names m other line Whole end
-    pub alike : IsAlike end next
+    pub near : IsNear end next
     pub sound : IsSound end.contents
     pub next_sound : IsSound next.contents
     pub early : is_due end.boundary m.seconds ≡ false
     pub next_early : is_due next.boundary m.seconds ≡ false
 
-  also_one : (h other next : Held) (line : List ℕ) → IsAlike other h → IsSound other.contents → IsSound h.contents → is_due other.boundary m.seconds ≡ false → is_due h.boundary m.seconds ≡ false → LineTo names m h line Whole next → AlsoOne other next line
-  also_one h other next line alike sound_o sound_h early_o early_h over =
+  also_one : (h other next : Held) (line : List ℕ) → IsNear other h → IsSound other.contents → IsSound h.contents → is_due other.boundary m.seconds ≡ false → is_due h.boundary m.seconds ≡ false → LineTo names m h line Whole next → AlsoOne other next line
+  also_one h other next line near sound_o sound_h early_o early_h over =
       let seen = over.seen in
       let held : IsHeld (Some seen.contents) seen.boundary seen.current seen.faults h = subst (λ due. LookedTo due names m h seen.boundary seen.current seen.faults (Some seen.contents)) early_h over.looked in
       let c = other.contents in
       let same : seen.contents ≡ h.contents = cc (held.folder) in
       let w = subst (λ (d : Contents). WroteAll d seen.current line (Some next.contents)) same over.writes in
-      let left : Contents = record { files = appended c.files other.current.index line; links = c.links; open_files = c.open_files; coming = λ n. c.coming (w.writes + n) } in
+      let left : Contents = record { files = appended c.files other.current.index line; links = c.links; open_files = c.open_files; has_dirs = c.has_dirs; last_flushed = c.last_flushed; coming = λ n. c.coming (w.writes + n) } in
       let kept : next.contents ≡ w.left.contents = cc (w.left.is) in
-      let file : seen.current ≡ other.current = held.open_file ∙ sym alike.open_file in
+      let file : seen.current ≡ other.current = held.open_file ∙ sym near.open_file in
       record {
         end = record { boundary = other.boundary; current = other.current; faults = other.faults; contents = left };
         over = record {
@@ -107,21 +127,22 @@ module _ (names : FileNames) (m : Moment) where
           counted = refl;
           writes = record {
             writes = w.writes;
-            left = record { contents = left; is = refl; files_are = refl; links_stay = refl; open_stay = refl; comes = λ n. refl };
+            left = record { contents = left; is = refl; files_are = refl; links_stay = refl; open_stay = refl; dirs_are = refl; flush_stays = refl; comes = λ n. refl };
             takes = takes_same h.contents c sound_h sound_o w.writes (length line) (length line) w.takes;
           };
         };
-        alike = record {
-          until = alike.until ∙ sym held.until ∙ sym over.boundary_same;
+        near = record {
+          until = near.until ∙ sym held.until ∙ sym over.boundary_same;
           open_file = sym file ∙ sym over.current_same;
-          counts = alike.counts ∙ sym held.counts ∙ sym over.counted;
+          counts = near.counts ∙ sym held.counts ∙ sym over.counted;
           files =
-              ap (λ (fs : List Kept). appended fs other.current.index line) alike.files
+              ap (λ (fs : List Kept). appended fs other.current.index line) near.files
               ∙ ap (λ f. appended h.contents.files f line) (ap (λ f. f.index) (sym file))
               ∙ sym w.left.files_are
               ∙ ap (λ (d : Contents). d.files) (sym kept);
-          links = alike.links ∙ sym w.left.links_stay ∙ ap (λ (d : Contents). d.links) (sym kept);
-          open_files = alike.open_files ∙ sym w.left.open_stay ∙ ap (λ (d : Contents). d.open_files) (sym kept);
+          links = near.links ∙ sym w.left.links_stay ∙ ap (λ (d : Contents). d.links) (sym kept);
+          open_files = near.open_files ∙ sym w.left.open_stay ∙ ap (λ (d : Contents). d.open_files) (sym kept);
+          dirs = near.dirs ∙ sym w.left.dirs_are ∙ ap (λ (d : Contents). d.has_dirs) (sym kept);
         };
         sound = λ n. sound_o (w.writes + n);
         next_sound = λ n. ap (λ (d : Contents). d.coming n) kept ∙ w.left.comes n ∙ sound_h (w.writes + n);
@@ -129,23 +150,68 @@ module _ (names : FileNames) (m : Moment) where
         next_early = ap (λ (b : Option ℤ). is_due b m.seconds) (over.boundary_same ∙ held.until) ∙ early_h;
       }
 
-  also : (h other last : Held) (lines : List (List ℕ)) (fates : List Written) → IsAlike other h → IsSound other.contents → IsSound h.contents → is_due other.boundary m.seconds ≡ false → is_due h.boundary m.seconds ≡ false → AllWhole fates → LinesTo names m h lines fates last → Also names m other last lines fates
-  also h other last [] [] alike sound_o sound_h early_o early_h whole so = record { end = other; lines_to = refl; alike = subst (IsAlike other) (sym so) alike }
-  also h other last [] (f ∷ fs) alike sound_o sound_h early_o early_h whole so = absurd so
-  also h other last (l ∷ ls) [] alike sound_o sound_h early_o early_h whole so = absurd so
-  also h other last (l ∷ ls) (f ∷ fs) alike sound_o sound_h early_o early_h (is, whole) (next, first, rest) =
-      let one = also_one h other next l alike sound_o sound_h early_o early_h (subst (λ (x : Written). LineTo names m h l x next) is first) in
-      let more = also next one.end last ls fs one.alike one.sound one.next_sound one.early one.next_early whole rest in
-      record { end = more.end; lines_to = (one.end, subst (λ (x : Written). LineTo names m other l x one.end) (sym is) one.over, more.lines_to); alike = more.alike }
+  also : (h other last : Held) (lines : List (List ℕ)) (fates : List Written) → IsNear other h → IsSound other.contents → IsSound h.contents → is_due other.boundary m.seconds ≡ false → is_due h.boundary m.seconds ≡ false → AllWhole fates → LinesTo names m h lines fates last → Also names m other last lines fates
+  also h other last [] [] near sound_o sound_h early_o early_h whole so =
+      record { end = other; lines_to = refl; near = subst (IsNear other) (sym so) near; sound = sound_o; last_sound = subst (λ (x : Held). IsSound x.contents) (sym so) sound_h }
+  also h other last [] (f ∷ fs) near sound_o sound_h early_o early_h whole so = absurd so
+  also h other last (l ∷ ls) [] near sound_o sound_h early_o early_h whole so = absurd so
+  also h other last (l ∷ ls) (f ∷ fs) near sound_o sound_h early_o early_h (is, whole) (next, first, rest) =
+      let one = also_one h other next l near sound_o sound_h early_o early_h (subst (λ (x : Written). LineTo names m h l x next) is first) in
+      let more = also next one.end last ls fs one.near one.sound one.next_sound one.early one.next_early whole rest in
+      record {
+        end = more.end;
+        lines_to = (one.end, subst (λ (x : Written). LineTo names m other l x one.end) (sym is) one.over, more.lines_to);
+        near = more.near;
+        sound = more.sound;
+        last_sound = more.last_sound;
+      }
 
-cut_by : (names : FileNames) (m : Moment) (h middle last : Held) (first second : List (List ℕ)) (one two : List Written) (b : Bool) → last_whole false one ≡ b → IsSound middle.contents → AllWhole two → LinesTo names m h first one middle → LinesTo names m (flushed_if b middle) second two last →
+-- the last line of two parts
+whole_both : (before : Bool) (one two : List Written) → last_whole before (one ++ two) ≡ last_whole (last_whole before one) two
+whole_both before [] two = refl
+whole_both before (f ∷ fs) two = whole_both (is_whole f) fs two
+
+all_whole : (before : Bool) (fates : List Written) → before ≡ true → AllWhole fates → last_whole before fates ≡ true
+all_whole before [] is whole = is
+all_whole before (f ∷ fs) is (first, whole) = all_whole (is_whole f) fs (ap is_whole first) whole
+
+-- both ways end alike where one more flush is made or left out in both
+abbrev Cut : FileNames → Moment → Held → List (List ℕ) → List (List ℕ) → List Written → List Written → Held → Type 0
+Cut names m h first second one two last =
     (end : Held) × LinesTo names m h (first ++ second) (one ++ two) end × IsAlike (flushed_if (last_whole false (one ++ two)) end) (flushed_if (last_whole false two) last)
-cut_by names m h middle last first second one two false is sound whole so more =
-    (last, lines_both names m h middle last first second one two so more, alike_flushed (last_whole false (one ++ two)) (last_whole false two) last last (alike_self last))
-cut_by names m h middle last first second one two true is sound whole so more =
+
+ends_by : (one two : List Written) (end last : Held) (a b : Bool) → last_whole false (one ++ two) ≡ a → last_whole false two ≡ b → IsAlike (flushed_if a end) (flushed_if b last) → IsAlike (flushed_if (last_whole false (one ++ two)) end) (flushed_if (last_whole false two) last)
+ends_by one two end last a b is_a is_b alike =
+    subst (λ x. IsAlike (flushed_if x end) (flushed_if (last_whole false two) last)) (sym is_a) (subst (λ x. IsAlike (flushed_if a end) (flushed_if x last)) (sym is_b) alike)
+
+-- behind a first part whose last line was written whole
+cut_flushed : (names : FileNames) (m : Moment) (h middle last : Held) (first second : List (List ℕ)) (one two : List Written) → last_whole false one ≡ true → IsSound middle.contents → AllWhole two → LinesTo names m h first one middle → LinesTo names m (with_flush middle) second two last → Cut names m h first second one two last
+cut_flushed names m h middle last first [] one [] is sound whole so more = (
+  middle,
+  lines_both names m h middle middle first [] one [] so refl,
+  ends_by one [] middle last true false (whole_both false one [] ∙ is) refl (subst (IsAlike (with_flush middle)) (sym more) (alike_self (with_flush middle))),
+)
+cut_flushed names m h middle last first [] one (f ∷ fs) is sound whole so more = absurd more
+cut_flushed names m h middle last first (l ∷ ls) one [] is sound whole so more = absurd more
+cut_flushed names m h middle last first (l ∷ ls) one (f ∷ fs) is sound whole so more =
     let early = lines_not_due names m false h middle first one (λ no. cc) is so in
-    let a = also names m (flushed middle) middle last second two (alike_flushed false true middle middle (alike_self middle)) sound (λ n. sound (suc n)) early early whole more in
-    (a.end, lines_both names m h middle a.end first second one two so a.lines_to, alike_flushed (last_whole false (one ++ two)) (last_whole false two) a.end last a.alike)
+    let flush = flush_sound middle sound in
+    let near = subst (IsNear middle) (sym flush) (record { until = refl; open_file = refl; counts = refl; files = refl; links = refl; open_files = refl; dirs = refl }) in
+    let still : IsSound (with_flush middle).contents = subst (λ (x : Held). IsSound x.contents) (sym flush) (λ n. sound (suc n)) in
+    let a = also names m (with_flush middle) middle last (l ∷ ls) (f ∷ fs) near sound still early early whole more in
+    let all = all_whole (is_whole f) fs (ap is_whole whole.0) whole.1 in (
+      a.end,
+      lines_both names m h middle a.end first (l ∷ ls) one (f ∷ fs) so a.lines_to,
+      ends_by one (f ∷ fs) a.end last true true (whole_both false one (f ∷ fs) ∙ all) all (near_flushed a.end last a.near a.sound a.last_sound),
+    )
+
+cut_by : (names : FileNames) (m : Moment) (h middle last : Held) (first second : List (List ℕ)) (one two : List Written) (b : Bool) → last_whole false one ≡ b → IsSound middle.contents → AllWhole two → LinesTo names m h first one middle → LinesTo names m (flushed_if b middle) second two last → Cut names m h first second one two last
+cut_by names m h middle last first second one two false is sound whole so more = (
+  last,
+  lines_both names m h middle last first second one two so more,
+  ends_by one two last last (last_whole false two) (last_whole false two) (whole_both false one two ∙ ap (λ b. last_whole b two) is) refl (alike_self (flushed_if (last_whole false two) last)),
+)
+cut_by names m h middle last first second one two true is sound whole so more = cut_flushed names m h middle last first second one two is sound whole so more
 
 pub folders_cut : FoldersMayBeCut
 folders_cut names m h middle last first second one two sound whole so more = cut_by names m h middle last first second one two (last_whole false one) refl sound whole so more

@@ -1,5 +1,5 @@
 -- Steps that are cut in two, and the lines that they take.
-use Rattle.std.proofs.Common.{◌≡◌, ℕ, zero, suc, ◌+◌, ◌≤◌, Bool, true, false, List, [], ◌∷◌, ◌++◌, length, take, refl, ap, sym, ◌∙◌, arith, cond, Option, Some, None, IfSome}
+use Rattle.std.proofs.Common.{◌≡◌, ℕ, zero, suc, ◌+◌, Bool, true, false, List, [], ◌∷◌, ◌++◌, take, refl, ap, sym, ◌∙◌, arith, cond, Option, Some, None}
 use Rattle.std.proofs.Math.Dec.{eqb-suc-zero}
 use Rattle.tracing_appender_rolling.specs.Sinks.{with_handed}
 use Rattle.tracing_appender_queue.specs.Queue.{Queue, at_head, one_less, mark_next, line_taken, closed, first_taken, after_take}
@@ -94,14 +94,14 @@ one_more k q m l ls rest e h f more =
 not_head : (n : ℕ) → at_head (Some (suc n)) ≡ false
 not_head n = eqb-suc-zero n
 
-firsts : (k : ℕ) (q : Queue) (m : Option ℕ) (ls : List (List ℕ)) → q.mark ≡ m → q.queued ≡ ls → IfSome m (λ n. n ≤ length ls) → lines_in k q ≡ take k (before_mark m ls)
-firsts zero q m ls e f le = refl
-firsts (suc k) q None [] e f le = lines_none (suc k) q (next_is q None [] e f)
-firsts (suc k) q None (l ∷ ls) e f le = one_more k q None l ls (take k ls) e refl f (firsts k (line_taken q ls) None ls (ap one_less e) refl tt)
-firsts (suc k) q (Some zero) ls e f le = lines_none (suc k) q (next_is q (Some zero) ls e f)
-firsts (suc k) q (Some (suc n)) [] e f le = absurd (omega (arith, le))
-firsts (suc k) q (Some (suc n)) (l ∷ ls) e f le =
-    one_more k q (Some (suc n)) l ls (take k (take n ls)) e (not_head n) f (firsts k (line_taken q ls) (Some n) ls (ap one_less e ∙ ap Some (omega arith)) refl (omega (arith, le)))
+firsts : (k : ℕ) (q : Queue) (m : Option ℕ) (ls : List (List ℕ)) → q.mark ≡ m → q.queued ≡ ls → lines_in k q ≡ take k (before_mark m ls)
+firsts zero q m ls e f = refl
+firsts (suc k) q None [] e f = lines_none (suc k) q (next_is q None [] e f)
+firsts (suc k) q None (l ∷ ls) e f = one_more k q None l ls (take k ls) e refl f (firsts k (line_taken q ls) None ls (ap one_less e) refl)
+firsts (suc k) q (Some zero) ls e f = lines_none (suc k) q (next_is q (Some zero) ls e f)
+firsts (suc k) q (Some (suc n)) [] e f = lines_none (suc k) q (next_is q (Some (suc n)) [] e f ∙ ap (λ b. cond b None None) (not_head n))
+firsts (suc k) q (Some (suc n)) (l ∷ ls) e f =
+    one_more k q (Some (suc n)) l ls (take k (take n ls)) e (not_head n) f (firsts k (line_taken q ls) (Some n) ls (ap one_less e ∙ ap Some (omega arith)) refl)
 
 pub first_lines : FirstLines
-first_lines k q le = firsts k q q.mark q.queued refl refl le
+first_lines k q = firsts k q q.mark q.queued refl refl

@@ -1,3 +1,4 @@
 pub mod Cutting
 pub mod Stepping
 pub mod Alike
+pub mod Ends

@@ -6,7 +6,7 @@ use Rattle.tracing_appender_rolling.specs.FolderError.TheVariants.{Fault, OutOfM
 use Rattle.tracing_appender_rolling.specs.declared.appender.RollingFileAppender.{RollingFileAppender}
 use Rattle.tracing_appender_rolling.specs.Names.{FileNames}
 use Rattle.tracing_appender_rolling.specs.Moments.{end_of, is_due}
-use Rattle.tracing_appender_rolling.specs.Contents.{Contents, IsSound, called, listing}
+use Rattle.tracing_appender_rolling.specs.Contents.{Contents, IsSound, flushed, listing}
 use Rattle.tracing_appender_rolling.specs.Sinks.{PlainSink, with_handed}
 use Rattle.tracing_appender_rolling.specs.Looks.{Held}
 use Rattle.tracing_appender_rolling.specs.Appenders.{Holds, running_period}
@@ -59,16 +59,16 @@ LinesTo names m h (line ∷ lines) (fate ∷ fates) next = (middle : Held) × Li
 abbrev pub HandsOne : {D : Type 0} → (D → Option Contents) → FileNames → Moment → Held → List ℕ → Written → RollingFileAppender D → Type 0
 HandsOne contents names m h line fate a = (next : Held) × LineTo names m h line fate next × Holds contents a next
 
--- a flush, whatever it answered
-abbrev pub flushed : Held → Held
-flushed h = record h { contents = called h.contents }
+-- the current file was flushed, or that was refused
+abbrev pub with_flush : Held → Held
+with_flush h = record h { contents = (flushed h.contents h.current).1 }
 
 -- a flush after a last line that was written whole, and none else
 abbrev pub flushed_if : Bool → Held → Held
-flushed_if whole h = if whole then flushed h else h
+flushed_if whole h = if whole then with_flush h else h
 
 abbrev pub HoldsFlushed : {D : Type 0} → (D → Option Contents) → Bool → Held → RollingFileAppender D → Type 0
-HoldsFlushed contents true h a = Holds contents a (flushed h)
+HoldsFlushed contents true h a = Holds contents a (with_flush h)
 HoldsFlushed contents false h a = Holds contents a h
 
 -- all lines were handed over, one after another; so many of them found no memory, and the file was flushed after a last one that was written whole
@@ -92,6 +92,11 @@ LinesLeft contents p (line ∷ lines) m c a b =
 abbrev pub SinksMayBeCut : Type 0
 SinksMayBeCut = (s : PlainSink) (first second : List (List ℕ)) (m : Moment) → with_lines (with_lines s first m) second m ≡ with_lines s (first ++ second) m
 
+-- from one state the same lines at one moment have the same fates and one end, where no memory is refused
+abbrev pub StepsHaveOneEnd : Type 0
+StepsHaveOneEnd = (names : FileNames) (m : Moment) (h last other : Held) (lines : List (List ℕ)) (one two : List Written) → missed_in one ≡ 0 → missed_in two ≡ 0 →
+    LinesTo names m h lines one last → LinesTo names m h lines two other → (one ≡ two) × (last ≡ other)
+
 -- these stand for the same: file, end of the period, count of faults, and the folder but for its coming calls
 pub record IsAlike (h k : Held) : Type 0 where
   pub until : h.boundary ≡ k.boundary
@@ -100,6 +105,8 @@ pub record IsAlike (h k : Held) : Type 0 where
   pub files : h.contents.files ≡ k.contents.files
   pub links : h.contents.links ≡ k.contents.links
   pub open_files : h.contents.open_files ≡ k.contents.open_files
+  pub dirs : h.contents.has_dirs ≡ k.contents.has_dirs
+  pub flushes : h.contents.last_flushed ≡ k.contents.last_flushed
 
 -- all were written whole
 abbrev pub AllWhole : List Written → Type 0

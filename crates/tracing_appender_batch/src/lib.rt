@@ -4,7 +4,7 @@
 mod laws;
 mod step;
 
-pub use laws::{batches_may_be_cut, first_lines_are_taken};
+pub use laws::{batches_may_be_cut, first_lines_are_taken, steps_have_one_end};
 pub use step::{Batched, batch};
 
 #[cfg(test)]

@@ -56,6 +56,7 @@ fn lines_go_to_the_file_of_the_step(rt: HostRuntime) -> Result<(), Fail> {
             missed: 0
         }
     );
+    assert_eq!(rt; appender.folder().last_flushed(), Some(1));
     let second = batch(&mut queue, &mut appender, 9, MONDAY);
     assert_eq!(rt; second.taken, 1);
     assert!(rt; holds(appender.folder(), "p.2025-02-17", b"")?);
@@ -112,6 +113,7 @@ fn a_failing_write_loses_its_rest_alone(rt: HostRuntime) -> Result<(), Fail> {
         }
     );
     assert_eq!(rt; appender.faults().writes, 1);
+    assert_eq!(rt; appender.folder().inner().last_flushed(), Some(0));
     assert!(rt; holds(appender.folder().inner(), "p.2025-02-17", b"ab\n")?);
     Ok(())
 }

@@ -7,14 +7,14 @@ use Rattle.tracing_appender_folders.specs.declared.fault.FolderFault.TheVariants
 use Rattle.tracing_appender_folders.specs.declared.fault.FolderError.{FolderError}
 use Rattle.tracing_appender_folders.specs.declared.fault.FolderError.TheVariants.{Fault, OutOfMemory}
 use Rattle.tracing_appender_folders.specs.declared.fault.FileNumber.{FileNumber}
-use Rattle.tracing_appender_folders.specs.Contents.{Contents, Kept, Outcome, if_refused, Done, Refuses, Short, Answer, Gives, called, taken, unless_refused, refusal, open_plain, open_at, write_plain, remove_plain, remove_at, close_plain, nothing_plain, list_plain, link_plain, links_with, link_place, file_named, link_named}
+use Rattle.tracing_appender_folders.specs.Contents.{Contents, Outcome, if_refused, Done, Refuses, Short, Answer, Gives, called, taken, unless_refused, refusal, open_plain, open_at, write_plain, remove_plain, remove_at, close_plain, make_plain, flush_plain, list_plain, link_plain, links_with, link_place, file_named, link_named}
 use Rattle.tracing_appender_folders.specs.Faulty.{Plan, number_after, outcome_of, has_number}
 use Rattle.tracing_appender_folders.specs.Memory.{memory_contents}
 use Rattle.tracing_appender_folders.specs.declared.memory.MemoryFolder.{MemoryFolder}
 
 -- these files and links under a plan
 abbrev pub planned : (ℕ → Outcome) → Contents → Contents
-planned g c = record { files = c.files; links = c.links; open_files = c.open_files; coming = g }
+planned g c = record { files = c.files; links = c.links; open_files = c.open_files; has_dirs = c.has_dirs; last_flushed = c.last_flushed; coming = g }
 
 abbrev pub later : (ℕ → Outcome) → ℕ → Outcome
 later g n = g (suc n)
@@ -57,8 +57,11 @@ link_ignores name target c g = link_ignores_at c g (links_with c.links (link_pla
 pub close_ignores : (file : FileNumber) → IgnoresPlan (close_plain file)
 close_ignores file c g = refl
 
-pub nothing_ignores : IgnoresPlan nothing_plain
-nothing_ignores c g = refl
+pub make_ignores : IgnoresPlan make_plain
+make_ignores c g = refl
+
+pub flush_ignores : (file : FileNumber) → IgnoresPlan (flush_plain file)
+flush_ignores file c g = refl
 
 -- the plan of a folder in memory
 abbrev pub whole_plan : ℕ → Outcome
@@ -130,6 +133,6 @@ pub list_ignores : IgnoresPlan list_plain
 list_ignores c g = refl
 
 -- a link in the place of another, in a folder that refuses nothing of itself
-pub linked_over : (files : List Kept) (open_files : List ℕ) (links after : List (List ℕ × List ℕ)) (name target : List ℕ) (place : ℕ) → is_some (file_named name files) ≡ false → Some place ≡ link_place name links → after ≡ set links place (name, target) → ((link_plain name target (record { files = files; links = links; open_files = open_files; coming = whole_plan })).0 ≡ Ok tt) × (Some (record { files = files; links = after; open_files = open_files; coming = whole_plan }) ≡ Some (link_plain name target (record { files = files; links = links; open_files = open_files; coming = whole_plan })).1)
-linked_over files open_files links after name target place free found is =
-    rw (free, ← found) (refl, ap (λ (ls : List (List ℕ × List ℕ)). Some (record { files = files; links = ls; open_files = open_files; coming = whole_plan })) is)
+pub linked_over : (before : Contents) (after : List (List ℕ × List ℕ)) (name target : List ℕ) (place : ℕ) → is_some (file_named name before.files) ≡ false → Some place ≡ link_place name before.links → after ≡ set before.links place (name, target) → ((link_plain name target before).0 ≡ Ok tt) × (Some (record (called before) { links = after }) ≡ Some (link_plain name target before).1)
+linked_over before after name target place free found is =
+    rw (free, ← found) (refl, ap (λ (ls : List (List ℕ × List ℕ)). Some (record (called before) { links = ls })) is)

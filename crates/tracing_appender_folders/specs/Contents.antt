@@ -22,17 +22,26 @@ pub data Outcome : Type 0 where
   Refuses : FolderFault → Outcome
   Short : ℕ → Outcome
 
--- the files in order of making, the links with what they name, the numbers of the files that are open, in the order of their opening, and what becomes of each
--- coming call, from 0
+-- the files in order of making, the links with what they name, the numbers of the files that are open, in the order of their opening, whether the directories
+-- were made, the number of the file that was flushed last, and what becomes of each coming call, from 0
 pub record Contents : Type 0 where
   pub files : List Kept
   pub links : List (List ℕ × List ℕ)
   pub open_files : List ℕ
+  pub has_dirs : Bool
+  pub last_flushed : Option ℕ
   pub coming : ℕ → Outcome
 
 -- a call is behind us
 abbrev pub called : Contents → Contents
-called c = record { files = c.files; links = c.links; open_files = c.open_files; coming = λ n. c.coming (suc n) }
+called c = record {
+  files = c.files;
+  links = c.links;
+  open_files = c.open_files;
+  has_dirs = c.has_dirs;
+  last_flushed = c.last_flushed;
+  coming = λ n. c.coming (suc n);
+}
 
 -- the folder refuses nothing and takes each write whole
 abbrev pub IsSound : Contents → Type 0
@@ -171,12 +180,19 @@ close_plain file c = (Ok tt, record (called c) { open_files = without_number fil
 abbrev pub closed : Contents → FileNumber → Answer (Unit {0})
 closed c file = unless_refused c (close_plain file c)
 
--- a flush and the making of directories change nothing here
-abbrev pub nothing_plain : Contents → Answer (Unit {0})
-nothing_plain c = (Ok tt, called c)
+-- the directories are made; none are lost
+abbrev pub make_plain : Contents → Answer (Unit {0})
+make_plain c = (Ok tt, record (called c) { has_dirs = true })
 
-abbrev pub nothing : Contents → Answer (Unit {0})
-nothing c = unless_refused c (nothing_plain c)
+abbrev pub dirs_made : Contents → Answer (Unit {0})
+dirs_made c = unless_refused c (make_plain c)
+
+-- a file is flushed
+abbrev pub flush_plain : FileNumber → Contents → Answer (Unit {0})
+flush_plain file c = (Ok tt, record (called c) { last_flushed = Some file.index })
+
+abbrev pub flushed : Contents → FileNumber → Answer (Unit {0})
+flushed c file = unless_refused c (flush_plain file c)
 
 -- The call answered and left the contents as said, or it found no memory and left them as they were. Contents that aren't known stay so.
 abbrev pub Gives : {T : Type 0} → (Contents → Answer T) → Option Contents → Result T FolderError → Option Contents → Type 0

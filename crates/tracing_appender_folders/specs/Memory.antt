@@ -1,4 +1,4 @@
-use Rattle.std.specs.Prelude.{ℕ, List, [], ◌∷◌, ◌++◌, map, cond, slice_set, string_bytes, Option, Some, None, if◌then◌else◌}
+use Rattle.std.specs.Prelude.{ℕ, List, [], ◌∷◌, ◌++◌, map, cond, false, slice_set, string_bytes, Option, Some, None, if◌then◌else◌}
 use Rattle.std.specs.Str.{bytes_eq}
 use Rattle.tracing_appender_folders.specs.declared.memory.MemoryFile.{MemoryFile}
 use Rattle.tracing_appender_folders.specs.declared.memory.MemoryLink.{MemoryLink}
@@ -12,11 +12,18 @@ abbrev pub link_of : MemoryLink → List ℕ × List ℕ
 link_of l = (string_bytes l.name, string_bytes l.target)
 
 abbrev pub memory_contents : MemoryFolder → Contents
-memory_contents m = record { files = map kept_of m.files.items; links = map link_of m.links.items; open_files = m.open_files.items; coming = λ n. Done }
+memory_contents m = record {
+  files = map kept_of m.files.items;
+  links = map link_of m.links.items;
+  open_files = m.open_files.items;
+  has_dirs = m.has_dirs;
+  last_flushed = m.last_flushed;
+  coming = λ n. Done;
+}
 
 -- an empty folder
 abbrev pub nothing_there : Contents
-nothing_there = record { files = []; links = []; open_files = []; coming = λ n. Done }
+nothing_there = record { files = []; links = []; open_files = []; has_dirs = false; last_flushed = None; coming = λ n. Done }
 
 -- a file put under its name: in place of the one for which the name stood, else last
 abbrev pub put_at : List Kept → Option ℕ → Kept → List Kept

@@ -1,7 +1,7 @@
 //! The folder as its user sees it.
 
 ghost use Rattle.std.specs.Prelude.{◌≡◌, ◌≢◌, ◌≤◌, ℕ, Option, IfOk, IfErr, length};
-ghost use Rattle.tracing_appender_folders.specs.Contents.{Contents, Gives, opened, written, removed, linked, closed, nothing, names_listed, failures_after};
+ghost use Rattle.tracing_appender_folders.specs.Contents.{Contents, Gives, opened, written, removed, linked, closed, dirs_made, flushed, names_listed, failures_after};
 ghost use Rattle.tracing_appender_folders.specs.Listings.{listed_all};
 
 use crate::fault::{Entry, FileNumber, FolderError};
@@ -33,12 +33,13 @@ pub trait Folder: Drop {
 
     /// Makes the folder's directories, where they aren't there.
     fn create_dirs(&mut self) -> Result<(), FolderError>
-        ensures gives { Gives nothing (contents self.old) result (contents self.new) }
+        ensures gives { Gives dirs_made (contents self.old) result (contents self.new) }
         ensures failures { failed self.new ≡ failures_after (failed self.old) result };
 
-    /// Flushes an opened file.
+    /// Flushes an opened file. This wants no memory.
     fn flush(&mut self, file: FileNumber) -> Result<(), FolderError>
-        ensures gives { Gives nothing (contents self.old) result (contents self.new) }
+        ensures gives { Gives (λ c. flushed c file) (contents self.old) result (contents self.new) }
+        ensures fed { IfErr result (λ e. e ≢ FolderError.OutOfMemory) }
         ensures failures { failed self.new ≡ failures_after (failed self.old) result };
 
     /// The names, those of links too.

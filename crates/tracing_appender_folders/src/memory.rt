@@ -41,6 +41,10 @@ pub struct MemoryFolder {
     links: Vec<MemoryLink>,
     /// The numbers of the files that are open.
     open_files: Vec<usize>,
+    /// Whether its directories were made.
+    has_dirs: bool,
+    /// The number of the file that was flushed last.
+    last_flushed: Option<usize>,
     failures: u64,
 }
 
@@ -59,6 +63,8 @@ impl MemoryFolder {
             files: Vec::new(alloc),
             links: Vec::new(alloc),
             open_files: Vec::new(alloc),
+            has_dirs: false,
+            last_flushed: None,
             failures: 0,
         }
     }
@@ -79,8 +85,7 @@ impl MemoryFolder {
         ensures place { OnOk result ((memory_contents self.new).files ≡ put_at (memory_contents self.old).files (file_named name.now (memory_contents self.old).files)
             (record { name = name.now; stands = true; created = created; bytes = bytes.now })) }
         ensures err { OnErr result (memory_contents self.new ≡ memory_contents self.old) }
-        ensures links { (memory_contents self.new).links ≡ (memory_contents self.old).links }
-        ensures open_files { (memory_contents self.new).open_files ≡ (memory_contents self.old).open_files }
+        ensures rest { memory_contents self.new ≡ record (memory_contents self.old) { files = (memory_contents self.new).files } }
         ensures failures { self.new.failures ≡ self.old.failures }
     {
         let file = MemoryFile {
@@ -128,6 +133,20 @@ impl MemoryFolder {
             }
         }
         None
+    }
+
+    /// Whether its directories were made. It opens files without them too.
+    pub fn has_dirs(&self) -> bool
+        ensures { result ≡ (memory_contents self.now).has_dirs }
+    {
+        self.has_dirs
+    }
+
+    /// The number of the file that was flushed last.
+    pub fn last_flushed(&self) -> Option<usize>
+        ensures { result ≡ (memory_contents self.now).last_flushed }
+    {
+        self.last_flushed
     }
 
     /// The names of files that stand, and of links.
@@ -228,10 +247,12 @@ impl Folder for MemoryFolder {
     }
 
     fn create_dirs(&mut self) -> Result<(), FolderError> {
+        self.has_dirs = true;
         Ok(())
     }
 
-    fn flush(&mut self, _file: FileNumber) -> Result<(), FolderError> {
+    fn flush(&mut self, file: FileNumber) -> Result<(), FolderError> {
+        self.last_flushed = Some(file.index);
         Ok(())
     }
 

@@ -99,6 +99,29 @@ fn links_give_way_to_links(rt: HostRuntime) -> Result<(), Fail> {
 }
 
 #[test]
+fn made_directories_and_the_last_flush_are_known(rt: HostRuntime) -> Result<(), Fail> {
+    let alloc = rt.alloc();
+    let mut folder = MemoryFolder::new(alloc);
+    let first = folder.open_append("a")?;
+    let second = folder.open_append("b")?;
+    assert!(rt; !folder.has_dirs());
+    assert_eq!(rt; folder.last_flushed(), None);
+    folder.flush(first)?;
+    folder.flush(second)?;
+    assert_eq!(rt; folder.last_flushed(), Some(second.index));
+    assert!(rt; !folder.has_dirs());
+    folder.create_dirs()?;
+    assert!(rt; folder.has_dirs());
+    let refused = numbers(alloc, &[1, 2])?;
+    let mut faulty = FaultyFolder::new(MemoryFolder::new(alloc), refused);
+    assert_eq!(rt; faulty.create_dirs(), Err(REFUSED));
+    assert_eq!(rt; faulty.flush(first), Err(REFUSED));
+    assert!(rt; !faulty.inner().has_dirs());
+    assert_eq!(rt; faulty.inner().last_flushed(), None);
+    Ok(())
+}
+
+#[test]
 fn each_call_is_refused_in_turn(rt: HostRuntime) -> Result<(), Fail> {
     let alloc = rt.alloc();
     for number in 1..=7 {

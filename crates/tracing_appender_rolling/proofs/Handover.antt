@@ -1,13 +1,14 @@
 -- Looks, writes and lines of an appender with retention or a link over a folder that refuses nothing.
 use Rattle.std.proofs.Common.{◌≡◌, ℕ, suc, ℤ, Bool, true, false, List, [], ◌∷◌, ◌++◌, take, refl, ap, subst, ◌∙◌, sym, Option, Some, None, Result, Ok, Err}
-use Rattle.std.specs.Prelude.{OnOk, IfOk, IfErr}
+use Rattle.std.specs.Prelude.{OnOk, IfOk, IfErr, ◌≢◌}
 use Rattle.tracing_appender_folders.specs.declared.moment.Moment.{Moment}
 use Rattle.tracing_appender_folders.specs.declared.fault.FileNumber.{FileNumber}
 use Rattle.tracing_appender_folders.specs.declared.fault.FolderError.{FolderError}
 use Rattle.tracing_appender_folders.specs.declared.fault.FolderError.TheVariants.{Fault, OutOfMemory}
 use Rattle.tracing_appender_folders.specs.Moments.{is_moment, end_of, is_due}
-use Rattle.tracing_appender_folders.specs.Contents.{Contents, Gives, Outcome, Done, Refuses, Short, called, if_refused, refusal, nothing, nothing_plain, without_number, written, appended, listing}
+use Rattle.tracing_appender_folders.specs.Contents.{Contents, Gives, called, flushed, without_number, written, appended, listing}
 use Rattle.tracing_appender_folders.proofs.Content.{appended-nil}
+use Rattle.tracing_appender_folders.proofs.Openings.{fed_leaves, flush_still}
 use Rattle.tracing_appender_rolling.specs.declared.faults.Faults.{Faults}
 use Rattle.tracing_appender_rolling.specs.declared.appender.RollingFileAppender.{RollingFileAppender}
 use Rattle.tracing_appender_rolling.specs.Names.{FileNames}
@@ -98,26 +99,13 @@ once_starves known after names boundary current bytes (Err (Fault f)) gives = λ
     absurd (no_fault left.0 current bytes f left.2.sound (subst (λ (o : Option Contents). Once o current bytes (Err (Fault f)) after) left.1 gives).0)
 
 -- a flush
-nothing_left_at : (c : Contents) (o : Outcome) → (if_refused o (λ e. refusal e c) (nothing_plain c)).1 ≡ called c
-nothing_left_at c Done = refl
-nothing_left_at c (Refuses e) = refl
-nothing_left_at c (Short most) = refl
-
-nothing_left : (c : Contents) (r : Result (Unit {0}) FolderError) (after : Option Contents) → Gives nothing (Some c) r after → after ≡ Some (called c)
-nothing_left c (Ok v) after (answer, left) = left ∙ ap (λ (d : Contents). Some d) (nothing_left_at c (c.coming 0))
-nothing_left c (Err (Fault f)) after (answer, left) = left ∙ ap (λ (d : Contents). Some d) (nothing_left_at c (c.coming 0))
-nothing_left c (Err OutOfMemory) after left = left
-
-pub flush_left : (known after : Option Contents) (names : FileNames) (boundary : Option ℤ) (current : FileNumber) (p : PrunedSink) (r : Result (Unit {0}) FolderError) → Gives nothing known r after → LeftIn known names boundary current p → LeftIn after names boundary current p
-flush_left known after names boundary current p r gives left =
+pub flush_left : (known after : Option Contents) (names : FileNames) (boundary : Option ℤ) (current : FileNumber) (p : PrunedSink) (r : Result (Unit {0}) FolderError) → IfErr r (λ e. e ≢ OutOfMemory) → Gives (λ x. flushed x current) known r after → LeftIn known names boundary current p → LeftIn after names boundary current p
+flush_left known after names boundary current p r fed gives left =
     let c = left.0 in
     let k = left.2 in
-    let is = nothing_left c r after (subst (λ (o : Option Contents). Gives nothing o r after) left.1 gives) in
-    (called c, is, same_left c (called c) names boundary current p k (λ n. k.sound (suc n)) refl refl)
-
-pub flush_opens : (known after : Option Contents) (r : Result (Unit {0}) FolderError) → Gives nothing known r after → (files : List ℕ) → IsOpenIn known files → IsOpenIn after files
-flush_opens None after r gives files opens = absurd opens
-flush_opens (Some c) after r gives files opens = subst (λ (o : Option Contents). IsOpenIn o files) (sym (nothing_left c r after gives)) opens
+    let still = flush_still c current in
+    let is = fed_leaves (λ x. flushed x current) c r after fed (subst (λ (o : Option Contents). Gives (λ x. flushed x current) o r after) left.1 gives) in
+    ((flushed c current).1, is, same_left c (flushed c current).1 names boundary current p k (λ n. still.next n ∙ k.sound (suc n)) still.links still.files)
 
 -- the open files behind a look stay so behind writes
 pub opens_stay : (due : Bool) (before seen new : FileNumber) (files : List ℕ) (middle after : Option Contents) → new ≡ seen → ((fs : List ℕ) → IsOpenIn middle fs → IsOpenIn after fs) → OpensAfter due before seen files middle → OpensAfter due before new files after

@@ -1,6 +1,6 @@
 -- The steps of an appender over a folder that refuses nothing keep its sink.
 use Rattle.std.proofs.Common.{◌≡◌, ℕ, suc, ◌+◌, ℤ, true, false, List, [], ◌∷◌, ◌++◌, length, take, refl, ap, subst, ◌∙◌, sym, arith, Option, Some, None, Result, Ok, Err, inl, inr}
-use Rattle.std.specs.Prelude.{OnOk, OnErr, IfOk}
+use Rattle.std.specs.Prelude.{OnOk, OnErr, IfOk, IfErr, ◌≢◌}
 use Rattle.std.specs.Str.{bytes_eq}
 use Rattle.tracing_appender_folders.specs.declared.moment.Moment.{Moment}
 use Rattle.tracing_appender_rolling.specs.declared.faults.Faults.{Faults}
@@ -11,7 +11,7 @@ use Rattle.tracing_appender_folders.specs.declared.fault.FolderError.{FolderErro
 use Rattle.tracing_appender_folders.specs.declared.fault.FolderError.TheVariants.{Fault, OutOfMemory}
 use Rattle.tracing_appender_folders.specs.Moments.{is_moment, period_at, end_of, is_due, latest_of}
 use Rattle.tracing_appender_rolling.specs.Names.{FileNames, file_name}
-use Rattle.tracing_appender_folders.specs.Contents.{Contents, Kept, Answer, Gives, IsSound, called, closed, file_named, link_named, bytes_at, appended, fresh, open_at, written}
+use Rattle.tracing_appender_folders.specs.Contents.{Contents, Kept, Answer, Gives, IsSound, called, closed, flushed, file_named, link_named, bytes_at, appended, fresh, open_at, written}
 use Rattle.tracing_appender_rolling.specs.Sinks.{PlainSink, Handed, with_handed, running_moment, period_in, period_name}
 use Rattle.tracing_appender_rolling.specs.Pruning.{PrunedBy, UnprunedBy}
 use Rattle.tracing_appender_rolling.specs.Tries.{Tried, MissedFile, opened_twice, opened_linked, after_opening}
@@ -22,7 +22,7 @@ use Rattle.tracing_appender_rolling.proofs.PeriodFacts.{same_period, later_perio
 use Rattle.tracing_appender_folders.proofs.Content.{after_line, appended-nil, stands_from, stands_to, stands_still, fresh_stands, more_bytes, no_bytes, fresh_bytes}
 use Rattle.tracing_appender_rolling.proofs.Files.{running_more, file_more, file_fresh, file_two_steps}
 use Rattle.tracing_appender_rolling.proofs.Files as placing
-use Rattle.tracing_appender_folders.proofs.Openings.{opened_is, closed_files, closed_sound}
+use Rattle.tracing_appender_folders.proofs.Openings.{opened_is, closed_files, closed_sound, fed_leaves, stays_unknown, flush_still}
 use Rattle.tracing_appender_rolling.specs.Remaining.{StandOnce}
 use Rattle.tracing_appender_rolling.proofs.Retaining.{once_added}
 use Rattle.tracing_appender_rolling.proofs.Writing.{still_sound, sound_fails, took, no_fault}
@@ -134,7 +134,9 @@ same_keeps c d names boundary current s k sound links files = record {
 pub starved_unchanged : (names : FileNames) (m : Moment) (f : Faults) (c : Contents) (after : Option Contents) → names.limit ≡ None → names.latest ≡ None → Starved names m f c after → Unchanged c after
 starved_unchanged names m f c after unlimited linkless (inl same) = record {
   calls = 0;
-  left = record { contents = c; is = same; files_are = refl; links_stay = refl; open_stay = refl; comes = λ n. ap c.coming (let e : n ≡ 0 + n = omega arith in e) };
+  dirs = c.has_dirs;
+  dirs_stay = λ e. e;
+  left = record { contents = c; is = same; files_are = refl; links_stay = refl; open_stay = refl; dirs_are = refl; flush_stays = refl; comes = λ n. ap c.coming (let e : n ≡ 0 + n = omega arith in e) };
 }
 starved_unchanged names m f c after unlimited linkless (inr (inl unpruned)) = absurd (subst (λ (n : Option ℕ). UnprunedBy n names f c after) unlimited unpruned)
 starved_unchanged names m f c after unlimited linkless (inr (inr t)) =
@@ -231,6 +233,16 @@ module _ (names : FileNames) (boundary : Option ℤ) (current : FileNumber) (fau
   pub look_counts : (E : Type 0) (c : Contents) (known after : Option Contents) (done : Unit {0}) (b : Option ℤ) (f : FileNumber) (l : Faults) → known ≡ Some c → Switches {E = E} names m boundary current faults known (Ok done) b f l after → KeepsKnown known names boundary current s → l ≡ faults
   look_counts E c None after done b f l e is k = cc
   look_counts E c (Some d) after done b f l e is k = switch_counts d k after b f l is
+
+-- a flush
+pub flush_keeps : (known after : Option Contents) (names : FileNames) (boundary : Option ℤ) (current : FileNumber) (s : PlainSink) (r : Result (Unit {0}) FolderError) → IfErr r (λ e. e ≢ OutOfMemory) → Gives (λ x. flushed x current) known r after → KeepsKnown known names boundary current s → KeepsKnown after names boundary current s
+flush_keeps None after names boundary current s r fed gives k =
+    subst (λ (o : Option Contents). KeepsKnown o names boundary current s) (sym (stays_unknown (λ x. flushed x current) r after gives)) tt
+flush_keeps (Some c) after names boundary current s r fed gives k =
+    let d = (flushed c current).1 in
+    let still = flush_still c current in
+    subst (λ (o : Option Contents). KeepsKnown o names boundary current s) (sym (fed_leaves (λ x. flushed x current) c r after fed gives))
+    (same_keeps c d names boundary current s k (λ n. still.next n ∙ k.sound (suc n)) still.links still.files)
 
 -- an appender that differs in its folder alone
 pub still_boundary : {D : Type 0} (a b : RollingFileAppender D) (f : D) → record a { folder = f } ≡ b → a.boundary ≡ b.boundary

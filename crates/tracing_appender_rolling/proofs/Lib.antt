@@ -21,3 +21,4 @@ pub mod Handover
 pub mod Suffix
 pub mod Oldest
 pub mod Aging
+pub mod Unique

@@ -1,7 +1,7 @@
 -- Periods, their ends and names, and the later of two moments.
-use Rattle.std.proofs.Common.{◌≡◌, Bool, true, false, refl, ap, arith, cond, ◌&&◌, ℕ, ℤ, List, ◌≤ℤ◌, ◌<ℤ◌, Option}
+use Rattle.std.proofs.Common.{◌≡◌, ◌≢◌, Bool, true, false, refl, ap, arith, cond, ◌&&◌, ℕ, ℤ, List, ◌≤ℤ◌, ◌<ℤ◌, Option}
 use Rattle.std.specs.Prelude.{int_le, nat_lt}
-use Rattle.std.proofs.lemmas.Bool.{false_from_ne_true}
+use Rattle.std.proofs.lemmas.Bool.{false_from_ne_true, true_from_ne_false}
 use Rattle.std.proofs.Common.{w64, to_z, of_z}
 use Rattle.std.proofs.lemmas.Int.{to_z-of_z}
 use Rattle.jiff_core.proofs.SignedLemmas.{signed_arith, fits_between}
@@ -15,6 +15,7 @@ use Rattle.tracing_appender_dates.specs.Names as dated
 use Rattle.tracing_appender_folders.specs.declared.moment.Moment.{Moment}
 use Rattle.tracing_appender_folders.specs.Moments.{period_at, end_of, is_due, is_earlier, latest_of, is_moment}
 use Rattle.tracing_appender_rolling.specs.Names.{FileNames, joined, file_name}
+use Rattle.tracing_appender_rolling.specs.Looks.{LaterPeriodsAreDue}
 
 first_holds : (p q : Bool) → (p && q) ≡ true → p ≡ true
 first_holds true q h = refl
@@ -46,6 +47,24 @@ beyond Hour r s e = omega (arith, signed_arith, e)
 beyond Day r s e = omega (arith, signed_arith, e)
 beyond Week r s e = omega (arith, signed_arith, e)
 beyond Whole r s e = cc
+
+-- and its period is a later one; a second of a later period lies there
+past : (kind : PeriodKind) (r s : ℤ) → is_due (end_of kind (period_of kind r)) s ≡ true → period_of kind r <ℤ period_of kind s
+past Minute r s e = omega (arith, signed_arith, e)
+past Hour r s e = omega (arith, signed_arith, e)
+past Day r s e = omega (arith, signed_arith, e)
+past Week r s e = omega (arith, signed_arith, e)
+past Whole r s e = cc
+
+not_past : (kind : PeriodKind) (r s : ℤ) → period_of kind r <ℤ period_of kind s → is_due (end_of kind (period_of kind r)) s ≢ false
+not_past Minute r s lt e = omega (arith, signed_arith, lt, e)
+not_past Hour r s lt e = omega (arith, signed_arith, lt, e)
+not_past Day r s lt e = omega (arith, signed_arith, lt, e)
+not_past Week r s lt e = omega (arith, signed_arith, lt, e)
+not_past Whole r s lt e = omega (arith, signed_arith, lt)
+
+pub later_due : LaterPeriodsAreDue
+later_due kind r s = (past kind r s, λ lt. true_from_ne_false (is_due (end_of kind (period_of kind r)) s) (not_past kind r s lt))
 
 -- a moment lies before the end of the period of the later of it and another
 latest_seconds : (r m : Moment) → m.seconds ≤ℤ (latest_of r m).seconds

@@ -6,7 +6,7 @@ use Rattle.tracing_appender_folders.specs.declared.fault.FolderFault.{FolderFaul
 use Rattle.tracing_appender_folders.specs.declared.fault.FolderFault.TheVariants.{Refused}
 use Rattle.tracing_appender_folders.specs.declared.fault.FolderError.{FolderError}
 use Rattle.tracing_appender_folders.specs.declared.fault.FolderError.TheVariants.{Fault, OutOfMemory}
-use Rattle.tracing_appender_folders.specs.Contents.{Contents, Answer, Gives, Outcome, Done, Refuses, Short, Listed, called, if_refused, refusal, file_named, link_named, open_at, open_plain, opened, nothing, nothing_plain, list_plain, names_listed}
+use Rattle.tracing_appender_folders.specs.Contents.{Contents, Answer, Gives, Outcome, Done, Refuses, Short, Listed, called, if_refused, refusal, file_named, link_named, open_at, open_plain, opened, dirs_made, make_plain, list_plain, names_listed}
 use Rattle.tracing_appender_rolling.specs.declared.faults.Faults.{Faults}
 use Rattle.tracing_appender_rolling.specs.declared.init.InitContext.TheVariants.{Directory, File}
 use Rattle.tracing_appender_rolling.specs.declared.init.InitFailure.{InitFailure}
@@ -20,21 +20,27 @@ use Rattle.tracing_appender_rolling.specs.Looks.{Switches, Starved, StarvedTry, 
 use Rattle.tracing_appender_rolling.specs.Appenders.{Begins, FailedAt}
 
 -- calls that changed nothing
-pub unchanged_called : (c : Contents) (after : Option Contents) → after ≡ Some (called c) → Unchanged c after
+unchanged_called : (c : Contents) (after : Option Contents) → after ≡ Some (called c) → Unchanged c after
 unchanged_called c after left = record {
   calls = 1;
-  left = record { contents = called c; is = left; files_are = refl; links_stay = refl; open_stay = refl; comes = λ n. ap c.coming (let same : suc n ≡ 1 + n = omega arith in same) };
+  dirs = c.has_dirs;
+  dirs_stay = λ e. e;
+  left = record { contents = called c; is = left; files_are = refl; links_stay = refl; open_stay = refl; dirs_are = refl; flush_stays = refl; comes = λ n. ap c.coming (let same : suc n ≡ 1 + n = omega arith in same) };
 }
 
-pub unchanged_then : (c : Contents) (after : Option Contents) → Unchanged (called c) after → Unchanged c after
-unchanged_then c after u = record {
+unchanged_then : (c : Contents) (made : Bool) (after : Option Contents) → (c.has_dirs ≡ true → made ≡ true) → Unchanged (record (called c) { has_dirs = made }) after → Unchanged c after
+unchanged_then c made after stay u = record {
   calls = suc u.calls;
+  dirs = u.dirs;
+  dirs_stay = λ e. u.dirs_stay (stay e);
   left = record {
     contents = u.left.contents;
     is = u.left.is;
     files_are = u.left.files_are;
     links_stay = u.left.links_stay;
     open_stay = u.left.open_stay;
+    dirs_are = u.left.dirs_are;
+    flush_stays = u.left.flush_stays;
     comes = λ n. u.left.comes n ∙ ap c.coming (let same : suc (u.calls + n) ≡ suc u.calls + n = omega arith in same);
   };
 }
@@ -56,13 +62,13 @@ refused_by c name fault (Short most) told = refused_plain c name fault (link_nam
 opening_refused : (c : Contents) (name : List ℕ) (fault : FolderFault) → (opened c name).0 ≡ Err (Fault fault) → (opened c name).1 ≡ called c
 opening_refused c name fault told = refused_by c name fault (c.coming 0) told
 
-nothing_by : (c : Contents) (o : Outcome) → (if_refused o (λ e. refusal e c) (nothing_plain c)).1 ≡ called c
-nothing_by c (Refuses e) = refl
-nothing_by c Done = refl
-nothing_by c (Short most) = refl
+made_by : (c : Contents) (done : Unit {0}) (o : Outcome) → (if_refused o (λ e. refusal e c) (make_plain c)).0 ≡ Ok done → (if_refused o (λ e. refusal e c) (make_plain c)).1 ≡ record (called c) { has_dirs = true }
+made_by c done (Refuses e) told = cc
+made_by c done Done told = refl
+made_by c done (Short most) told = refl
 
-pub nothing_leaves : (c : Contents) → (nothing c).1 ≡ called c
-nothing_leaves c = nothing_by c (c.coming 0)
+made_leaves : (c : Contents) (done : Unit {0}) → (dirs_made c).0 ≡ Ok done → (dirs_made c).1 ≡ record (called c) { has_dirs = true }
+made_leaves c done told = made_by c done (c.coming 0) told
 
 -- the making of directories
 dirs_fault : (name : List ℕ) (a : Answer (Unit {0})) (fault : FolderFault) → a.0 ≡ Err (Fault fault) → after_dirs name a ≡ (Err (failure Directory (Fault fault)), a.1)
@@ -73,25 +79,25 @@ dirs_done : (name : List ℕ) (a : Answer (Unit {0})) (done : Unit {0}) → a.0 
 dirs_done name (Ok d, c) done told = refl
 dirs_done name (Err e, c) done told = cc
 
-pub dirs_err : (name : List ℕ) (known after : Option Contents) (e : FolderError) → Gives nothing known (Err e) after → Tries Unchanged (made_again name) known (Err (failure Directory e)) after
+pub dirs_err : (name : List ℕ) (known after : Option Contents) (e : FolderError) → Gives dirs_made known (Err e) after → Tries Unchanged (made_again name) known (Err (failure Directory e)) after
 dirs_err name None after e left = left
 dirs_err name (Some c) after OutOfMemory left = unchanged_called c after left
 dirs_err name (Some c) after (Fault fault) (answer, left) =
-    let is = dirs_fault name (nothing c) fault answer in (ap (λ (t : Tried). t.0) is, left ∙ sym (ap (λ (t : Tried). Some t.1) is))
+    let is = dirs_fault name (dirs_made c) fault answer in (ap (λ (t : Tried). t.0) is, left ∙ sym (ap (λ (t : Tried). Some t.1) is))
 
 -- the second opening
 last_fault : (a : Answer FileNumber) (fault : FolderFault) → a.0 ≡ Err (Fault fault) → last_opening a ≡ (Err (failure File (Fault fault)), a.1)
 last_fault (Ok file, c) fault told = cc
 last_fault (Err e, c) fault told = let same : e ≡ Fault fault = cc in ap (λ (x : FolderError). (Err (failure File x), c)) same
 
-last_err : (name : List ℕ) (c : Contents) (done : Unit {0}) (after : Option Contents) (e : FolderError) → (nothing c).0 ≡ Ok done → Gives (λ x. opened x name) (Some (nothing c).1) (Err e) after → Gave (Unchanged c) (made_again name c) (Err (failure File e)) after
+last_err : (name : List ℕ) (c : Contents) (done : Unit {0}) (after : Option Contents) (e : FolderError) → (dirs_made c).0 ≡ Ok done → Gives (λ x. opened x name) (Some (dirs_made c).1) (Err e) after → Gave (Unchanged c) (made_again name c) (Err (failure File e)) after
 last_err name c done after OutOfMemory told left =
-    unchanged_then c after (unchanged_called (called c) after (left ∙ ap (λ (d : Contents). Some (called d)) (nothing_leaves c)))
+    unchanged_then c true after (λ e. refl) (unchanged_called (record (called c) { has_dirs = true }) after (left ∙ ap (λ (d : Contents). Some (called d)) (made_leaves c done told)))
 last_err name c done after (Fault fault) told (answer, left) =
-    let is = dirs_done name (nothing c) done told ∙ last_fault (opened (nothing c).1 name) fault answer in
+    let is = dirs_done name (dirs_made c) done told ∙ last_fault (opened (dirs_made c).1 name) fault answer in
     (ap (λ (t : Tried). t.0) is, left ∙ sym (ap (λ (t : Tried). Some t.1) is))
 
-pub made_err : (name : List ℕ) (known middle after : Option Contents) (done : Unit {0}) (e : FolderError) → Gives nothing known (Ok done) middle → Gives (λ c. opened c name) middle (Err e) after → Tries Unchanged (made_again name) known (Err (failure File e)) after
+pub made_err : (name : List ℕ) (known middle after : Option Contents) (done : Unit {0}) (e : FolderError) → Gives dirs_made known (Ok done) middle → Gives (λ c. opened c name) middle (Err e) after → Tries Unchanged (made_again name) known (Err (failure File e)) after
 made_err name None middle after done OutOfMemory none left = subst (λ (o : Option Contents). Gives (λ c. opened c name) o (Err OutOfMemory) after) none left
 made_err name None middle after done (Fault fault) none left = subst (λ (o : Option Contents). Gives (λ c. opened c name) o (Err (Fault fault)) after) none left
 made_err name (Some c) middle after done e (told, made) left =
@@ -116,7 +122,7 @@ twice_again name (Some c) middle after fault r (told, left) tries =
     let gave = subst (λ (o : Option Contents). Tries Unchanged (made_again name) o r after) left tries in
     let same = opening_refused c name fault told in
     subst (λ (t : Tried). Gave (Unchanged c) t r after) (sym (opening_fault name (opened c name) fault told))
-    (gave_then (made_again name (opened c name).1) (Unchanged (opened c name).1) (Unchanged c) r after (λ u. unchanged_then c after (subst (λ (d : Contents). Unchanged d after) same u)) gave)
+    (gave_then (made_again name (opened c name).1) (Unchanged (opened c name).1) (Unchanged c) r after (λ u. unchanged_then c c.has_dirs after (λ e. e) (subst (λ (d : Contents). Unchanged d after) same u)) gave)
 
 pub twice_starved : (name : List ℕ) (known after : Option Contents) (f : InitFailure) → f.error ≡ OutOfMemory → Gives (λ c. opened c name) known (Err OutOfMemory) after → Tries Unchanged (opened_twice name) known (Err f) after
 twice_starved name None after f starved left = left

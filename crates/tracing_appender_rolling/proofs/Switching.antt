@@ -11,7 +11,7 @@ use Rattle.tracing_appender_folders.specs.Contents.{Contents, Gives, closed}
 use Rattle.tracing_appender_rolling.specs.Pruning.{Prunes}
 use Rattle.tracing_appender_rolling.specs.Tries.{Tried, TriesFile}
 use Rattle.tracing_appender_rolling.specs.Looks.{Held, IsHeld, Switches, tried, try_at, name_at, end_at}
-use Rattle.tracing_appender_folders.proofs.Openings.{closed_leaves, closed_unknown}
+use Rattle.tracing_appender_folders.proofs.Openings.{fed_leaves, stays_unknown}
 
 tried_ok : (h : Held) (t : Tried) (file : FileNumber) → t.0 ≡ Ok file → tried h t ≡ record h { current = file; contents = (closed t.1 h.current).1 }
 tried_ok h (Ok f, c) file e = let same : f ≡ file = cc in ap (λ (x : FileNumber). record h { current = x; contents = (closed c h.current).1 }) same
@@ -21,13 +21,13 @@ module _ (E : Type 0) (names : FileNames) (m : Moment) (boundary : Option ℤ) (
   held_by : (d : Contents) (after left : Option Contents) → TriesFile names.latest name (Some d) (Ok file) after → (r : Result (Unit {0}) FolderError) → IfErr r (λ e. e ≢ OutOfMemory) → Gives (λ x. closed x current) after r left → IsHeld left end file l (tried (record { boundary = end_at names m; current = current; faults = l; contents = d }) (try_at names m d))
   held_by d after left tries r fed closes =
       let at = (subst (λ (n : List ℕ). TriesFile names.latest n (Some d) (Ok file) after) is tries) in
-      let gone = closed_leaves (try_at names m d).1 current r left fed (subst (λ (o : Option Contents). Gives (λ x. closed x current) o r left) at.1 closes) in
+      let gone = fed_leaves (λ x. closed x current) (try_at names m d).1 r left fed (subst (λ (o : Option Contents). Gives (λ x. closed x current) o r left) at.1 closes) in
       subst (λ (h : Held). IsHeld left end file l h) (sym (tried_ok (record { boundary = end_at names m; current = current; faults = l; contents = d }) (try_at names m d) file at.0))
       (record { folder = gone; until = ends; open_file = refl; counts = refl })
 
   pub switch_opens : (known middle after left : Option Contents) (r : Result (Unit {0}) FolderError) → Prunes {E = E} names f known (Ok l) middle → TriesFile names.latest name middle (Ok file) after → IfErr r (λ e. e ≢ OutOfMemory) → Gives (λ x. closed x current) after r left → Switches {E = E} names m boundary current f known (Ok tt) end file l left
   switch_opens None middle after left r pruned tries fed closes =
       let none = (subst (λ (o : Option Contents). TriesFile names.latest name o (Ok file) after) pruned tries) in
-      closed_unknown current r left (subst (λ (o : Option Contents). Gives (λ x. closed x current) o r left) none closes)
+      stays_unknown (λ x. closed x current) r left (subst (λ (o : Option Contents). Gives (λ x. closed x current) o r left) none closes)
   switch_opens (Some c) middle after left r (d, pruned, there) tries fed closes =
       record { counted = l; pruned = d; retention = pruned; held = held_by d after left (subst (λ (o : Option Contents). TriesFile names.latest name o (Ok file) after) there tries) r fed closes }

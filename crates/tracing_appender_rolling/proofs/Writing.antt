@@ -1,5 +1,5 @@
 -- The loop that writes until all bytes are taken.
-use Rattle.std.proofs.Common.{◌≡◌, ℕ, zero, suc, ◌+◌, ◌<◌, ◌≤◌, ◌-◌, List, [], ◌∷◌, ◌++◌, length, take, drop, min, inl, inr, refl, ap, subst, ◌∙◌, sym, arith, Option, Some, None, Result, Ok, Err}
+use Rattle.std.proofs.Common.{◌≡◌, Bool, ℕ, zero, suc, ◌+◌, ◌<◌, ◌≤◌, ◌-◌, List, [], ◌∷◌, ◌++◌, length, take, drop, min, inl, inr, refl, ap, subst, ◌∙◌, sym, arith, Option, Some, None, Result, Ok, Err}
 use Rattle.std.specs.Prelude.{◌⊎◌}
 use Rattle.std.proofs.Math.Nat.{eq-or-lt_of_le}
 use Rattle.std.proofs.lemmas.List.{take_all, length-take, length-drop, append_assoc}
@@ -29,6 +29,8 @@ pub record Took (d e : Contents) (file : FileNumber) (part : List ℕ) (n : ℕ)
   pub files : e.files ≡ appended d.files file.index (take n part)
   pub links : e.links ≡ d.links
   pub opens : e.open_files ≡ d.open_files
+  pub dirs : e.has_dirs ≡ d.has_dirs
+  pub flushes : e.last_flushed ≡ d.last_flushed
   pub count : n ≡ taken (d.coming 0) (length part)
   pub none : n ≡ 0 → 0 < length part → FailsWith (d.coming 0) (Fault WriteZero)
   pub next : (k : ℕ) → e.coming k ≡ d.coming (suc k)
@@ -38,6 +40,8 @@ record Failed (d e : Contents) (f : FolderFault) : Type 0 where
   pub files : e.files ≡ d.files
   pub links : e.links ≡ d.links
   pub opens : e.open_files ≡ d.open_files
+  pub dirs : e.has_dirs ≡ d.has_dirs
+  pub flushes : e.last_flushed ≡ d.last_flushed
   pub fails : FailsWith (d.coming 0) (Fault f)
   pub next : (k : ℕ) → e.coming k ≡ d.coming (suc k)
 
@@ -64,6 +68,8 @@ took d file part n Done is told =
       files = same_part d file part (length part) n size;
       links = refl;
       opens = refl;
+      dirs = refl;
+      flushes = refl;
       count = all ∙ sym (ap (λ (o : Outcome). taken o (length part)) is);
       none = λ zero_taken some. absurd (omega (arith, all, zero_taken, some));
       next = λ k. refl;
@@ -75,6 +81,8 @@ took d file part n (Short most) is told =
       files = same_part d file part (min most (length part)) n size;
       links = refl;
       opens = refl;
+      dirs = refl;
+      flushes = refl;
       count = count ∙ sym (ap (λ (o : Outcome). taken o (length part)) is);
       none = λ zero_taken some. subst (λ (o : Outcome). FailsWith o (Fault WriteZero)) (sym is) (no_most most n (length part) count zero_taken some, refl);
       next = λ k. refl;
@@ -85,12 +93,12 @@ failed d file part f Done is told = cc
 failed d file part f (Short most) is told = cc
 failed d file part f (Refuses g) is told =
     let same : f ≡ g = cc in
-    record { files = refl; links = refl; opens = refl; fails = subst (λ (o : Outcome). FailsWith o (Fault f)) (sym is) same; next = λ k. refl }
+    record { files = refl; links = refl; opens = refl; dirs = refl; flushes = refl; fails = subst (λ (o : Outcome). FailsWith o (Fault f)) (sym is) same; next = λ k. refl }
 
 -- what stands after so many bytes
 pub record Part (c : Contents) (file : FileNumber) (bytes : List ℕ) (from : ℕ) (now : Option Contents) : Type 0 where
   pub writes : ℕ
-  pub left : Left c (appended c.files file.index (take from bytes)) writes now
+  pub left : Left c (appended c.files file.index (take from bytes)) c.has_dirs writes now
   pub takes : Takes c writes (length bytes) from
 
 pub record Going (start : Option Contents) (file : FileNumber) (bytes : List ℕ) (from : ℕ) (now : Option Contents) : Type 0 where
@@ -102,7 +110,7 @@ begins start file bytes = record {
   unknown = λ e. e;
   known = λ c e. record {
     writes = 0;
-    left = record { contents = c; is = e; files_are = sym (appended-nil c.files file.index); links_stay = refl; open_stay = refl; comes = λ k. ap c.coming (let same : k ≡ 0 + k = omega arith in same) };
+    left = record { contents = c; is = e; files_are = sym (appended-nil c.files file.index); links_stay = refl; open_stay = refl; dirs_are = refl; flush_stays = refl; comes = λ k. ap c.coming (let same : k ≡ 0 + k = omega arith in same) };
     takes = record { some = λ i lt. absurd (omega (arith, lt)); sum = refl };
   };
 }
@@ -143,7 +151,7 @@ module _ (start : Option Contents) (file : FileNumber) (bytes : List ℕ) (from 
   later_here : (c : Contents) (e : start ≡ Some c) (k : ℕ) → (going.known c e).left.contents.coming (suc k) ≡ c.coming (suc (going.known c e).writes + k)
   later_here c e k = (going.known c e).left.comes (suc k) ∙ ap c.coming (let same : (going.known c e).writes + suc k ≡ suc (going.known c e).writes + k = omega arith in same)
 
-  left_after : (c : Contents) (e : start ≡ Some c) (n : ℕ) → (d : Contents) → after ≡ Some d → Took (going.known c e).left.contents d file part n → Left c (appended c.files file.index (take (from + n) bytes)) (suc (going.known c e).writes) after
+  left_after : (c : Contents) (e : start ≡ Some c) (n : ℕ) → (d : Contents) → after ≡ Some d → Took (going.known c e).left.contents d file part n → Left c (appended c.files file.index (take (from + n) bytes)) c.has_dirs (suc (going.known c e).writes) after
   left_after c e n d gave t =
       let l = (going.known c e).left in
       let both : take from bytes ++ take n part ≡ take (from + n) bytes = ap (λ (p : List ℕ). take from bytes ++ take n p) is ∙ sym (take-add from n bytes) in
@@ -153,6 +161,8 @@ module _ (start : Option Contents) (file : FileNumber) (bytes : List ℕ) (from 
         files_are = t.files ∙ ap (λ (fs : List Kept). appended fs file.index (take n part)) l.files_are ∙ appended_twice c.files file.index (take from bytes) (take n part) ∙ ap (appended c.files file.index) both;
         links_stay = t.links ∙ l.links_stay;
         open_stay = t.opens ∙ l.open_stay;
+        dirs_are = t.dirs ∙ l.dirs_are;
+        flush_stays = t.flushes ∙ l.flush_stays;
         comes = λ k. t.next k ∙ later_here c e k;
       }
 
@@ -188,7 +198,7 @@ module _ (start : Option Contents) (file : FileNumber) (bytes : List ℕ) (from 
       record {
         writes = p.writes;
         count = from;
-        left = subst (λ k. Left c (appended c.files file.index (take k bytes)) (suc p.writes) after) nothing (left_after c e 0 (written p.left.contents file part).1 (at_known c e (Ok 0) gives).1 t);
+        left = subst (λ k. Left c (appended c.files file.index (take k bytes)) c.has_dirs (suc p.writes) after) nothing (left_after c e 0 (written p.left.contents file part).1 (at_known c e (Ok 0) gives).1 t);
         takes = p.takes;
         less = more;
         fails = subst (λ (o : Outcome). FailsWith o (Fault WriteZero)) (first_here c e) (t.none refl some);
@@ -204,7 +214,7 @@ module _ (start : Option Contents) (file : FileNumber) (bytes : List ℕ) (from 
       record {
         writes = p.writes;
         count = from;
-        left = record { contents = called p.left.contents; is = gave; files_are = p.left.files_are; links_stay = p.left.links_stay; open_stay = p.left.open_stay; comes = later_here c e };
+        left = record { contents = called p.left.contents; is = gave; files_are = p.left.files_are; links_stay = p.left.links_stay; open_stay = p.left.open_stay; dirs_are = p.left.dirs_are; flush_stays = p.left.flush_stays; comes = later_here c e };
         takes = p.takes;
         less = more;
         fails = tt;
@@ -222,6 +232,8 @@ module _ (start : Option Contents) (file : FileNumber) (bytes : List ℕ) (from 
           files_are = g.files ∙ p.left.files_are;
           links_stay = g.links ∙ p.left.links_stay;
           open_stay = g.opens ∙ p.left.open_stay;
+          dirs_are = g.dirs ∙ p.left.dirs_are;
+          flush_stays = g.flushes ∙ p.left.flush_stays;
           comes = λ k. g.next k ∙ later_here c e k;
         };
         takes = p.takes;
@@ -242,12 +254,12 @@ ends start file bytes from now done going all =
     let le : length bytes ≤ from = omega (arith, all) in
     record {
       writes = p.writes;
-      left = subst (λ (b : List ℕ). Left c (appended c.files file.index b) p.writes now) (take_all from bytes le) p.left;
+      left = subst (λ (b : List ℕ). Left c (appended c.files file.index b) c.has_dirs p.writes now) (take_all from bytes le) p.left;
       takes = subst (Takes c p.writes (length bytes)) all p.takes;
     })
 
 -- a folder that refuses nothing goes on so
-pub still_sound : {c : Contents} {files : List Kept} {calls : ℕ} {after : Option Contents} (l : Left c files calls after) → IsSound c → IsSound l.contents
+pub still_sound : {c : Contents} {files : List Kept} {dirs : Bool} {calls : ℕ} {after : Option Contents} (l : Left c files dirs calls after) → IsSound c → IsSound l.contents
 still_sound {calls = calls} l sound n = l.comes n ∙ sound (calls + n)
 
 pub no_fault : (d : Contents) (file : FileNumber) (part : List ℕ) (f : FolderFault) → IsSound d → (written d file part).0 ≡ Err (Fault f) → ⊥

@@ -40,6 +40,12 @@ is_starved (Ok done) = false
 is_starved (Err (Fault fault)) = false
 is_starved (Err OutOfMemory) = true
 
+-- from one state the same bytes at one moment have one answer and one end, where no memory is refused
+abbrev pub LinesHaveOneEnd : Type 0
+LinesHaveOneEnd = (names : FileNames) (m : Moment) (h one two : Held) (bytes : List ℕ) (r s : Result (Unit {0}) FolderError) → is_starved r ≡ false → is_starved s ≡ false →
+    HandsTo names m h bytes r one.boundary one.current one.faults (Some one.contents) → HandsTo names m h bytes s two.boundary two.current two.faults (Some two.contents) →
+    (r ≡ s) × (one ≡ two)
+
 -- the sink is as it was, or has a line without bytes more
 abbrev pub Misses : {D : Type 0} → (D → Option Contents) → PlainSink → Moment → RollingFileAppender D → Type 0
 Misses contents s m a = AgreesSink contents a s ⊎ AgreesSink contents a (with_handed s (record { line = []; moment = m }))

@@ -1,5 +1,7 @@
 -- A look at a moment, whatever the folder refuses.
-use Rattle.std.specs.Prelude.{◌≡◌, ◌⊎◌, ℤ, List, ℕ, Bool, true, false, Option, Some, None, Result, Ok, Err}
+use Rattle.std.specs.Prelude.{◌≡◌, ◌⊎◌, ℤ, ◌<ℤ◌, List, ℕ, Bool, true, false, Option, Some, None, Result, Ok, Err}
+use Rattle.tracing_appender_dates.specs.declared.period.PeriodKind.{PeriodKind}
+use Rattle.tracing_appender_dates.specs.Periods.{period_of}
 use Rattle.tracing_appender_folders.specs.declared.moment.Moment.{Moment}
 use Rattle.tracing_appender_rolling.specs.declared.faults.Faults.{Faults}
 use Rattle.tracing_appender_folders.specs.declared.fault.FileNumber.{FileNumber}
@@ -29,6 +31,12 @@ pub record IsHeld (known : Option Contents) (end : Option ℤ) (file : FileNumbe
 -- the end of the moment's period
 abbrev pub end_at : FileNames → Moment → Option ℤ
 end_at names m = end_of names.kind (period_at names.kind m)
+
+-- a second is at or past the end of another's period exactly where its own period is a later one
+abbrev pub LaterPeriodsAreDue : Type 0
+LaterPeriodsAreDue = (kind : PeriodKind) (r s : ℤ) →
+    (is_due (end_of kind (period_of kind r)) s ≡ true → period_of kind r <ℤ period_of kind s)
+    × (period_of kind r <ℤ period_of kind s → is_due (end_of kind (period_of kind r)) s ≡ true)
 
 -- the name of the moment's file, where it is the first that is opened or there is more than one period
 abbrev pub name_at : FileNames → Moment → List ℕ

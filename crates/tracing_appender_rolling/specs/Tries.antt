@@ -6,7 +6,7 @@ use Rattle.tracing_appender_rolling.specs.declared.init.InitContext.{InitContext
 use Rattle.tracing_appender_rolling.specs.declared.init.InitContext.TheVariants.{Directory, File, Link}
 use Rattle.tracing_appender_rolling.specs.declared.init.InitFailure.{InitFailure}
 use Rattle.tracing_appender_folders.specs.declared.fault.FileNumber.{FileNumber}
-use Rattle.tracing_appender_folders.specs.Contents.{Contents, Answer, called, opened, nothing, linked, closed}
+use Rattle.tracing_appender_folders.specs.Contents.{Contents, Answer, called, opened, dirs_made, linked, closed}
 use Rattle.tracing_appender_rolling.specs.Writes.{Unchanged}
 
 -- what a try answers, and what it leaves
@@ -27,7 +27,7 @@ after_dirs name (Ok done, c) = last_opening (opened c name)
 after_dirs name (Err e, c) = (Err (failure Directory e), c)
 
 abbrev pub made_again : List ℕ → Contents → Tried
-made_again name c = after_dirs name (nothing c)
+made_again name c = after_dirs name (dirs_made c)
 
 -- after a first opening that failed the directories are made
 abbrev pub after_opening : List ℕ → Answer FileNumber → Tried

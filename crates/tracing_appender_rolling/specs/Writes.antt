@@ -1,24 +1,28 @@
 -- Writes until all bytes are taken.
-use Rattle.std.specs.Prelude.{◌≡◌, ◌<◌, ◌+◌, ◌-◌, ℕ, zero, suc, List, Option, Some, None, Result, Ok, Err, length, take}
+use Rattle.std.specs.Prelude.{◌≡◌, ◌<◌, ◌+◌, ◌-◌, ℕ, zero, suc, Bool, true, List, Option, Some, None, Result, Ok, Err, length, take}
 use Rattle.tracing_appender_folders.specs.declared.fault.FolderError.{FolderError}
 use Rattle.tracing_appender_folders.specs.declared.fault.FolderError.TheVariants.{Fault, OutOfMemory}
 use Rattle.tracing_appender_folders.specs.declared.fault.FolderFault.TheVariants.{WriteZero}
 use Rattle.tracing_appender_folders.specs.declared.fault.FileNumber.{FileNumber}
 use Rattle.tracing_appender_folders.specs.Contents.{Contents, Kept, Outcome, Done, Refuses, Short, appended, taken}
 
--- these files, and links and open files as before, after so many calls
-pub record Left (c : Contents) (files : List Kept) (calls : ℕ) (after : Option Contents) : Type 0 where
+-- these files, these directories or none, and links, open files and the last flush as before, after so many calls
+pub record Left (c : Contents) (files : List Kept) (dirs : Bool) (calls : ℕ) (after : Option Contents) : Type 0 where
   pub contents : Contents
   pub is : after ≡ Some contents
   pub files_are : contents.files ≡ files
   pub links_stay : contents.links ≡ c.links
   pub open_stay : contents.open_files ≡ c.open_files
+  pub dirs_are : contents.has_dirs ≡ dirs
+  pub flush_stays : contents.last_flushed ≡ c.last_flushed
   pub comes : (n : ℕ) → contents.coming n ≡ c.coming (calls + n)
 
--- some calls changed nothing
+-- some calls changed nothing, unless they made the directories
 pub record Unchanged (c : Contents) (after : Option Contents) : Type 0 where
   pub calls : ℕ
-  pub left : Left c c.files calls after
+  pub dirs : Bool
+  pub dirs_stay : c.has_dirs ≡ true → dirs ≡ true
+  pub left : Left c c.files dirs calls after
 
 -- how many of so many bytes the first coming writes take, so many of them, where each is handed what those before it left
 abbrev pub taken_by : Contents → ℕ → ℕ → ℕ
@@ -40,14 +44,14 @@ FailsWith Done (Fault fault) = ⊥
 -- the coming writes took all bytes, and these stand at the end of the file
 pub record WroteAll (c : Contents) (file : FileNumber) (bytes : List ℕ) (after : Option Contents) : Type 0 where
   pub writes : ℕ
-  pub left : Left c (appended c.files file.index bytes) writes after
+  pub left : Left c (appended c.files file.index bytes) c.has_dirs writes after
   pub takes : Takes c writes (length bytes) (length bytes)
 
 -- a write failed, and what those before it took, which isn't all, stands at the end of the file
 pub record WroteSome (c : Contents) (file : FileNumber) (bytes : List ℕ) (e : FolderError) (after : Option Contents) : Type 0 where
   pub writes : ℕ
   pub count : ℕ
-  pub left : Left c (appended c.files file.index (take count bytes)) (suc writes) after
+  pub left : Left c (appended c.files file.index (take count bytes)) c.has_dirs (suc writes) after
   pub takes : Takes c writes (length bytes) count
   pub less : count < length bytes
   pub fails : FailsWith (c.coming writes) e

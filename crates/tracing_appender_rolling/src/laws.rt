@@ -1,5 +1,7 @@
 //! Laws over the definitions.
 
+ghost use Rattle.tracing_appender_rolling.specs.Handing.{LinesHaveOneEnd};
+ghost use Rattle.tracing_appender_rolling.specs.Looks.{LaterPeriodsAreDue};
 ghost use Rattle.tracing_appender_rolling.specs.Names.{NamesDiffer};
 ghost use Rattle.tracing_appender_rolling.specs.Sinks.{FilesByPeriod};
 ghost use Rattle.tracing_appender_rolling.specs.Reading.{LinesStandWhole, FilesReadInOrder, OwnFilesReadInOrder, LeftFilesReadInOrder, LinesKeepOldest, OldestGoFirst, OldestStayGone, RetentionSpares};
@@ -10,6 +12,11 @@ pub fn names_differ()
     ensures { NamesDiffer }
 {}
 
+/// A second lies at or past the end of another's period exactly where its own period is a later one.
+pub fn later_periods_are_due()
+    ensures { LaterPeriodsAreDue }
+{}
+
 /// Each period's file holds what was found in it and then that period's lines.
 pub fn files_by_period()
     ensures { FilesByPeriod }
@@ -18,6 +25,11 @@ pub fn files_by_period()
 /// A handed line stands whole in the file of its period, and no other file depends on it.
 pub fn lines_stand_whole()
     ensures { LinesStandWhole }
+{}
+
+/// What becomes of a line, and what it leaves, is settled by the state before it, under any plan of refusals, while no memory is refused.
+pub fn lines_have_one_end()
+    ensures { LinesHaveOneEnd }
 {}
 
 /// Files that were empty at the opening, read in byte order of their names, are the handed lines in order.

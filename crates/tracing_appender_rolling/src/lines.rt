@@ -1,9 +1,9 @@
 //! Lines that are handed over at moments.
 
-ghost use Rattle.std.specs.Prelude.{◌≡◌, ◌≤◌, [], Some, IfOk, IfErr, OnOk, OnErr, true, false, length, take};
+ghost use Rattle.std.specs.Prelude.{◌≡◌, ◌≢◌, ◌≤◌, [], Some, IfOk, IfErr, OnOk, OnErr, true, false, length, take};
 ghost use Rattle.tracing_appender_folders.specs.Moments.{is_moment, is_due};
 ghost use Rattle.tracing_appender_rolling.specs.Builders.{builder_names};
-ghost use Rattle.tracing_appender_folders.specs.Contents.{Contents, Gives, failures_after, nothing, written};
+ghost use Rattle.tracing_appender_folders.specs.Contents.{Contents, Gives, failures_after, flushed, written};
 ghost use Rattle.tracing_appender_rolling.specs.Faults.{after_write, unit_of};
 ghost use Rattle.tracing_appender_rolling.specs.Telling.{Counts, CountsLine, ToldAll, ToldCall, ToldWrites};
 ghost use Rattle.tracing_appender_rolling.specs.Sinks.{PlainSink, with_handed};
@@ -98,9 +98,10 @@ impl<D: Folder> RollingFileAppender<D> {
     ///
     /// # Errors
     ///
-    /// The folder's fault, or want of memory. Neither is counted.
+    /// The folder's fault, which isn't counted.
     pub fn flush(&mut self) -> Result<(), FolderError>
-        ensures gives { Gives nothing (D.contents self.old.folder) result (D.contents self.new.folder) }
+        ensures gives { Gives (λ c. flushed c self.old.current) (D.contents self.old.folder) result (D.contents self.new.folder) }
+        ensures fed { IfErr result (λ e. e ≢ FolderError.OutOfMemory) }
         ensures still { self.new ≡ record self.old { folder = self.new.folder } }
         ensures counted { D.failed self.new.folder ≡ failures_after (D.failed self.old.folder) result }
         ensures agrees { (s : PlainSink) → AgreesSink D.contents self.old s → AgreesSink D.contents self.new s }

@@ -436,7 +436,9 @@ fn an_opening_is_tried_twice_in_a_period(rt: HostRuntime) -> Result<(), Fail> {
     let folder = FaultyFolder::new(MemoryFolder::new(alloc), refused);
     let prefix = String::from_str(alloc, "t")?;
     let mut appender = hourly(alloc, folder, prefix, FEBRUARY).map_err(|refusal| refusal.error)?;
+    assert!(rt; !appender.folder().inner().has_dirs());
     appender.write_all_at(b"a", later(3_600)?)?;
+    assert!(rt; appender.folder().inner().has_dirs());
     assert_eq!(rt; appender.faults().switches, 1);
     assert_eq!(rt; appender.folder().failures(), 2);
     appender.write_all_at(b"b", later(3_660)?)?;
@@ -444,7 +446,9 @@ fn an_opening_is_tried_twice_in_a_period(rt: HostRuntime) -> Result<(), Fail> {
     appender.write_all_at(b"c", later(7_200)?)?;
     assert_eq!(rt; appender.faults().switches, 1);
     assert_eq!(rt; appender.folder().failures(), 2);
+    appender.flush()?;
     let files = appender.folder().inner();
+    assert_eq!(rt; files.last_flushed(), Some(1));
     assert_eq!(rt; files.files()?.len(), 2);
     assert!(rt; holds(files, "t.2020-02-01-10", b"ab")?);
     assert!(rt; holds(files, "t.2020-02-01-12", b"c")?);
