@@ -30,17 +30,26 @@ fn place_from_end(spans: &[Span], id: Id) -> Option<usize>
     }
 }
 
+// Apart, so that callers stay small.
+#[inline(never)]
+fn place_by_halves(spans: &[Span], id: Id) -> Option<usize>
+    requires { Rises kin_of 0 spans.now }
+    ensures { MatchOption result (is_open kin_of spans.now id ≡ false) (λ place. IsPlace spans.now id place) }
+{
+    match spans.binary_search_by_key(&id.into_u64(), |span| span.kin.id.into_u64()) {
+        Ok(place) => Some(place),
+        Err(_) => None,
+    }
+}
+
 /// The place of a span, where it is open. Ids of late spans often follow one another; else it is looked for by halves.
 pub(crate) fn place_of(spans: &[Span], id: Id) -> Option<usize>
     requires { Rises kin_of 0 spans.now }
     ensures { MatchOption result (is_open kin_of spans.now id ≡ false) (λ place. IsPlace spans.now id place) }
 {
-    if let Some(place) = place_from_end(spans, id) {
-        return Some(place);
-    }
-    match spans.binary_search_by_key(&id.into_u64(), |span| span.kin.id.into_u64()) {
-        Ok(place) => Some(place),
-        Err(_) => None,
+    match place_from_end(spans, id) {
+        Some(place) => Some(place),
+        None => place_by_halves(spans, id),
     }
 }
 

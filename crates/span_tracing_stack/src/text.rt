@@ -38,17 +38,26 @@ fn place_from_end(texts: &[SpanText], id: Id) -> Option<usize>
     }
 }
 
+// Apart, so that callers stay small.
+#[inline(never)]
+fn place_by_halves(texts: &[SpanText], id: Id) -> Option<usize>
+    requires { Rises 0 (map plain_text texts.now) }
+    ensures { MatchOption result (text_at (map plain_text texts.now) id ≡ []) (λ place. HasId texts.now id place) }
+{
+    match texts.binary_search_by_key(&id.into_u64(), |stored| stored.id.into_u64()) {
+        Ok(place) => Some(place),
+        Err(_) => None,
+    }
+}
+
 /// The place of the text of a span. Ids of late spans often follow one another; else it is looked for by halves.
 fn place_of(texts: &[SpanText], id: Id) -> Option<usize>
     requires { Rises 0 (map plain_text texts.now) }
     ensures { MatchOption result (text_at (map plain_text texts.now) id ≡ []) (λ place. HasId texts.now id place) }
 {
-    if let Some(place) = place_from_end(texts, id) {
-        return Some(place);
-    }
-    match texts.binary_search_by_key(&id.into_u64(), |stored| stored.id.into_u64()) {
-        Ok(place) => Some(place),
-        Err(_) => None,
+    match place_from_end(texts, id) {
+        Some(place) => Some(place),
+        None => place_by_halves(texts, id),
     }
 }
 

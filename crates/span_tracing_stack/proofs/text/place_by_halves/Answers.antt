@@ -2,7 +2,7 @@ use Rattle.std.proofs.Common.{rules}
 use Rattle.std.proofs.lemmas.List.Sorted.{answers_always}
 use Rattle.span_tracing_stack.specs.declared.text.SpanText.{SpanText}
 use Rattle.span_tracing_stack.proofs.Rising.{searched_none, searched_there}
-use Rattle.span_tracing_stack.proofs.text.place_of.Goals as goal
+use Rattle.span_tracing_stack.proofs.text.place_by_halves.Goals as goal
 
 -- the closure gives a text's id
 pub returns-in-Ok : goal.returns-in-Ok
