@@ -3,3 +3,4 @@ pub mod Attaching
 pub mod Loops
 pub mod Numbers
 pub mod Joining
+pub mod Soundness

@@ -18,3 +18,4 @@ pub mod Singles
 pub mod Firms
 pub mod Trees
 pub mod Staying
+pub mod Soundness

@@ -146,7 +146,7 @@ module _ {L : Type 0} (g : Ghosts L) where
       subst (λ (n : ℕ). AreNumbers n (g.numbers t.layer) × (n ≤ 64)) (sym w.0) (subst (λ (ns : List ℕ). AreNumbers s.inner.filters ns × (s.inner.filters ≤ 64)) (sym w.1.0) attached)
 
   pub stay_attached : StayAttached g
-  stay_attached s c r t w attached = attached_still s t (moved s c r t w attached) attached
+  stay_attached s c r t w attached = let there = moved s c r t w attached in (there.1.0, there.0, attached_still s t there attached)
 
   pub tree_stays : (s : Layered L RegistryValue) (c : Call) (r : ReplyTo c) (t : Layered L RegistryValue) → Moves g s c r t → IsSteady s → IsSteady t × SameWord (λ m k. k ≡ Sometimes) (λ m k. k ≡ Sometimes) None None
   tree_stays s c r t w k = let there = moved s c r t w k.1 in ((there.1.1 k.0, attached_still s t there k.1), same_word (λ m j. j ≡ Sometimes) None)

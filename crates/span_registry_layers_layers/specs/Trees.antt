@@ -156,9 +156,11 @@ module _ {L : Type 0} (g : Ghosts L) where
   Moves s (CloseTried id at) r t = CloseGives id at s r t
   Moves s (CurrentAsked at) r t = (r ≡ inside (current_on s.inner at.lane)) × (t ≡ s)
 
-  -- each filter keeps its number, whatever is called
+  -- each filter keeps its number, whatever is called, and the registry gives no further one
   abbrev pub StayAttached : Type 0
-  StayAttached = (s : Layered L RegistryValue) (c : Call) (r : ReplyTo c) (t : Layered L RegistryValue) → Moves s c r t → IsAttached s → IsAttached t
+  StayAttached =
+      (s : Layered L RegistryValue) (c : Call) (r : ReplyTo c) (t : Layered L RegistryValue) → Moves s c r t → IsAttached s →
+      (g.numbers t.layer ≡ g.numbers s.layer) × (t.inner.filters ≡ s.inner.filters) × IsAttached t
 
   -- the filters of a layer are numbered, where the registry takes them; else both come back
   abbrev pub AttachGives : L → RegistryValue → Result (Layered L RegistryValue) (AttachError L RegistryValue) → Type 0

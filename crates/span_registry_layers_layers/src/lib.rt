@@ -15,7 +15,7 @@ pub use filter::{
     Or, dynamic_filter_fn, filter_fn,
 };
 pub use filtered::Filtered;
-pub use laws::trees_stay_attached;
+pub use laws::{joined_registry_stays_sound, tree_registry_stays_sound, trees_stay_attached};
 pub use layer::{Identity, Layer, LayerExt, Layered, SubscriberExt};
 
 #[cfg(test)]
