@@ -1,12 +1,13 @@
 -- Why what holds of every stack does.
-use Rattle.std.proofs.Common.{◌≡◌, ◌<◌, ◌==◌, ◌++◌, ◌||◌, ℕ, zero, suc, Bool, true, false, List, [], ◌∷◌, length, map, Some, Ok, refl, sym, ap, ◌∙◌, subst, arith, inl, inr, true≢false, slice_get, slice_set}
+use Rattle.std.proofs.Common.{◌≡◌, ◌<◌, ◌==◌, ◌++◌, ◌||◌, ℕ, zero, suc, Bool, true, false, List, [], ◌∷◌, length, map, Option, Some, None, Result, Ok, refl, sym, ap, ◌∙◌, subst, arith, inl, inr, true≢false, slice_get, slice_set}
 use Rattle.std.proofs.lemmas.Bool.Decides.{nat_tests}
 use Rattle.std.proofs.lemmas.List.Folds.{list_any-append}
 use Rattle.tracing_core.specs.At.{At}
 use Rattle.tracing_core.specs.Calls.{DispatchRegistered, CallsiteRegistered, Asked, HintAsked, SpanMade, Recorded, FollowsRecorded, EventAsked, Told, Entered, Exited, Cloned, Dropped, CloseTried, CurrentAsked}
 use Rattle.tracing_core.specs.Kept.{Every}
 use Rattle.tracing_core.specs.PlainMetadata.{PlainMetadata}
-use Rattle.tracing_core.specs.PlainRequests.{PlainEvent, explicit_parent}
+use Rattle.tracing_core.specs.PlainRequests.{PlainAttributes, PlainEvent, explicit_parent}
+use Rattle.tracing_core.specs.RequestError.{RequestError}
 use Rattle.span_registry_layers_store.specs.Registries.{RegistryValue, knows}
 use Rattle.span_registry_layers_store.specs.Spans.{is_member}
 use Rattle.span_registry_layers_store.specs.Verdicts.{all_pass, or_passes, passes_at}
@@ -19,10 +20,11 @@ use Rattle.span_registry_layers_layers.specs.declared.filter.Filter.{Ghosts}
 use Rattle.span_registry_layers_layers.specs.declared.filtered.Filtered.{Filtered}
 use Rattle.span_registry_layers_layers.specs.declared.layer.Layer.{Ghosts as LayerGhosts}
 use Rattle.span_registry_layers_stack.specs.Asked.{AsksFrom, AsksRow, SomePassesBy}
-use Rattle.span_registry_layers_stack.specs.Numbers.{DroppedTellsNobody, HasNumbers, NumbersStay, RowSaid, VerdictsAreOwn}
+use Rattle.span_registry_layers_stack.specs.Calls.{SpanAfresh, SpanKnown}
+use Rattle.span_registry_layers_stack.specs.Numbers.{DroppedSpanTellsNobody, DroppedTellsNobody, NumbersStay, RowSaid, VerdictsAreOwn}
 use Rattle.span_registry_layers_stack.specs.Rows.{Afresh, EachBecomes, Fresh, TellsEventBy, TellsIf, filters_of, marked, numbers_of, view_of, with_layer}
 use Rattle.span_registry_layers_stack.specs.Stacks.{PassesAsked, StackValue, TellsAfresh, WhereKnown, cleared}
-use Rattle.span_registry_layers_stack.specs.Steps.{Keeps, clone_keeps, close_keeps, dispatch_keeps, enter_keeps, event_keeps, exit_keeps, follows_keeps, record_keeps, span_keeps}
+use Rattle.span_registry_layers_stack.specs.Steps.{clone_keeps, close_keeps, dispatch_keeps, enter_keeps, event_keeps, exit_keeps, follows_keeps, record_keeps, span_keeps}
 use Rattle.span_registry_layers_stack.specs.declared.row.Row.{Row}
 
 apart : (m n : ℕ) → (m == n) ≡ false → m ≡ n → ⊥
@@ -105,25 +107,26 @@ module _ {L F : Type 0} (g : Ghosts F) (h : LayerGhosts L) where
   pub verdicts_own : VerdictsAreOwn g h
   verdicts_own m at s verdicts some w asked = own_verdicts g h m at s.registry s.rows all_pass false verdicts some asked refl w
 
-  numbers_keep : (s t : StackValue (Filtered L F)) → Keeps g h s t → HasNumbers h s → HasNumbers h t
-  numbers_keep s t k w = subst (AreNumbers 64) (sym k.numbers) w
+  -- where nothing but the rows counts, equal stacks have equal numbers
+  numbers_alike : (s t : StackValue (Filtered L F)) → t ≡ s → numbers_of h t.rows ≡ numbers_of h s.rows
+  numbers_alike s t e = ap (λ (v : StackValue (Filtered L F)). numbers_of h v.rows) e
 
   pub numbers_same : NumbersStay g h
-  numbers_same s (DispatchRegistered dispatch) r t m w = numbers_keep s t (dispatch_keeps g h dispatch s t m) w
-  numbers_same s (CallsiteRegistered n) r t m w = subst (HasNumbers h) (sym m.1.1) w
-  numbers_same s (Asked n at) r t m w = subst (HasNumbers h) (sym m.1) w
-  numbers_same s HintAsked r t m w = subst (HasNumbers h) (sym m.1) w
-  numbers_same s (SpanMade a at) r t m w = numbers_keep s t (span_keeps g h a at s t r m) w
-  numbers_same s (Recorded id values at) r t m w = numbers_keep s t (record_keeps g h id values at s t r m) w
-  numbers_same s (FollowsRecorded id follows at) r t m w = numbers_keep s t (follows_keeps g h id follows at s t r m) w
-  numbers_same s (EventAsked e at) r t m w = subst (HasNumbers h) (sym m.1) w
-  numbers_same s (Told e at) r t m w = numbers_keep s t (event_keeps g h e at s t r m) w
-  numbers_same s (Entered id at) r t m w = numbers_keep s t (enter_keeps g h id at s t r m) w
-  numbers_same s (Exited id at) r t m w = numbers_keep s t (exit_keeps g h id at s t m) w
-  numbers_same s (Cloned id at) r t m w = numbers_keep s t (clone_keeps g h id s t r m) w
-  numbers_same s (Dropped id at) r t m w = numbers_keep s t (close_keeps g h id at s t m.0 m.1) w
-  numbers_same s (CloseTried id at) r t m w = numbers_keep s t (close_keeps g h id at s t r m) w
-  numbers_same s (CurrentAsked at) r t m w = subst (HasNumbers h) (sym m.1) w
+  numbers_same s (DispatchRegistered dispatch) r t m = (dispatch_keeps g h dispatch s t m).numbers
+  numbers_same s (CallsiteRegistered n) r t m = numbers_alike (record s { sites = t.sites }) t m.1.1
+  numbers_same s (Asked n at) r t m = numbers_alike s t m.1
+  numbers_same s HintAsked r t m = numbers_alike (record s { hint = r }) t m.1
+  numbers_same s (SpanMade a at) r t m = (span_keeps g h a at s t r m).numbers
+  numbers_same s (Recorded id values at) r t m = (record_keeps g h id values at s t r m).numbers
+  numbers_same s (FollowsRecorded id follows at) r t m = (follows_keeps g h id follows at s t r m).numbers
+  numbers_same s (EventAsked e at) r t m = numbers_alike s t m.1
+  numbers_same s (Told e at) r t m = (event_keeps g h e at s t r m).numbers
+  numbers_same s (Entered id at) r t m = (enter_keeps g h id at s t r m).numbers
+  numbers_same s (Exited id at) r t m = (exit_keeps g h id at s t m).numbers
+  numbers_same s (Cloned id at) r t m = (clone_keeps g h id s t r m).numbers
+  numbers_same s (Dropped id at) r t m = (close_keeps g h id at s t m.0 m.1).numbers
+  numbers_same s (CloseTried id at) r t m = (close_keeps g h id at s t r m).numbers
+  numbers_same s (CurrentAsked at) r t m = numbers_alike s t m.1
 
   untold : (e : PlainEvent) (at : At) (x : RegistryValue) (row later : Row (Filtered L F)) → later.passed ≡ false → TellsEventBy g h (Afresh g) e at x row later → later ≡ marked false row
   untold e at x row later quiet told =
@@ -149,3 +152,21 @@ module _ {L F : Type 0} (g : Ghosts F) (h : LayerGhosts L) where
 
   pub nobody_told : DroppedTellsNobody g h
   nobody_told e at s t honest quiet given = tells_nobody (knows s.registry (explicit_parent e.parent)) e at s t honest quiet given
+
+  -- where no filter passes it, none is found that does
+  none_found : (m : PlainMetadata) (at : At) (x : RegistryValue) (rows : List (Row (Filtered L F))) (p : List Bool) (some : Bool) (verdicts : List Bool) (result : Bool) → Every (λ f. g.honest f) (filters_of rows) →
+      SomePassesBy (Afresh g) m at x rows false → AsksFrom g h m at x p some rows verdicts result → some ≡ false → result ≡ false
+  none_found m at x [] p some verdicts result honest quiet asked e = asked.1 ∙ e
+  none_found m at x (row ∷ rows) p some verdicts result honest quiet asked e =
+      let refused = refused_here quiet.0 (SomePassesBy (Afresh g) m at x rows) quiet.2 in
+      let P = g.answers row.output.filter m (view_of at x row) in
+      let same : asked.0 ≡ quiet.0 = fresh_one P ((g.single row.output.filter honest.0).callsite m (view_of at x row)) asked.0 quiet.0 (inl asked.2.0) quiet.1 in
+      none_found m at x rows asked.1 (some || asked.0) verdicts result honest.1 refused.1 asked.3 (ap (λ b. b || asked.0) e ∙ same ∙ refused.0)
+
+  is_dropped : (a : PlainAttributes) (at : At) (s : StackValue (Filtered L F)) (r : Result (Option ℕ) RequestError) (t : StackValue (Filtered L F)) → Every (λ f. g.honest f) (filters_of s.rows) → PassesAsked g s a.metadata at false → SpanAfresh g h a at s r t →
+      (r ≡ Ok None) × (t ≡ cleared s)
+  is_dropped a at s r t honest quiet (inl w) = (w.1, w.2)
+  is_dropped a at s r t honest quiet (inr w) = absurd (true≢false (none_found a.metadata at s.registry s.rows all_pass false w.0 true honest quiet w.1 refl))
+
+  pub span_dropped : DroppedSpanTellsNobody g h
+  span_dropped a at s r t honest quiet known given = is_dropped a at s r t honest quiet (subst (λ k. SpanKnown g h k s (SpanAfresh g h a at s) r t) known given)

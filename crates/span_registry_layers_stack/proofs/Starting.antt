@@ -26,6 +26,21 @@ module _ {L F : Type 0} (h : LayerGhosts L) (g : Ghosts F) where
   made_word : (rows : List (Row (Filtered L F))) → Every (λ f. g.honest f) (filters_of rows) → WordOf g (filters_of rows) [] (common_hint g (Some 0) (filters_of rows))
   made_word rows honest = record { honest = honest; interests = tt; hints = hints_over g (filters_of rows) (Some 0) }
 
+  honest_made : (x : RegistryValue) (outputs : List (Output (Filtered L F))) (rows : List (Row (Filtered L F))) → RowsFrom h x outputs rows → Every (λ (o : Output (Filtered L F)). g.honest o.output.filter) outputs → Every (λ f. g.honest f) (filters_of rows)
+  honest_made x [] [] w honest = tt
+  honest_made x [] (row ∷ rows) w honest = absurd w
+  honest_made x (output ∷ outputs) [] w honest = absurd w
+  honest_made x (output ∷ outputs) (row ∷ rows) w honest = (
+    subst (λ (f : F). g.honest f) (sym (ap (λ (r : Row (Filtered L F)). r.output.filter) w.0.2)) honest.0,
+    honest_made (more_filters (suc (h.filters output.output.layer)) x) outputs rows w.1 honest.1,
+  )
+
+  pub new_honest : (outputs : List (Output (Filtered L F))) (refusal : Option StackError) (r : Result (StackValue (Filtered L F)) (StackRefusal (Filtered L F))) → NewUnless h g refusal outputs r → Every (λ (o : Output (Filtered L F)). g.honest o.output.filter) outputs → IfOk r (λ s. Word g s)
+  new_honest outputs None (Ok s) e honest = subst (Word g) (sym e.1) (made_word s.rows (honest_made new_registry outputs s.rows e.0 honest))
+  new_honest outputs None (Err refusal) e honest = tt
+  new_honest outputs (Some refusal) (Ok s) e honest = absurd e
+  new_honest outputs (Some refusal) (Err other) e honest = tt
+
   pub new_word : (outputs : List (Output (Filtered L F))) (refusal : Option StackError) (r : Result (StackValue (Filtered L F)) (StackRefusal (Filtered L F))) → NewUnless h g refusal outputs r → IfOk r (λ s. Every (λ f. g.honest f) (filters_of s.rows) → Word g s)
   new_word outputs None (Ok s) e = λ honest. subst (Word g) (sym e.1) (made_word s.rows honest)
   new_word outputs None (Err refusal) e = tt

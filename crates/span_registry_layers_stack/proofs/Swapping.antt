@@ -1,10 +1,13 @@
 -- What is kept is right after a filter changed.
-use Rattle.std.proofs.Common.{ℕ, List, [], ◌∷◌, Option, Some, None, Result, OnOk, sym, subst, slice_set}
+use Rattle.std.proofs.Common.{◌≡◌, ◌++◌, ℕ, zero, suc, List, [], ◌∷◌, Option, Some, None, Result, OnOk, IfSome, refl, sym, ap, ◌∙◌, subst, slice_get, slice_set}
+use Rattle.std.specs.Option.{option_map}
 use Rattle.tracing_core.specs.Kept.{Every}
 use Rattle.span_registry_layers_layers.specs.declared.filter.Filter.{Ghosts}
 use Rattle.span_registry_layers_layers.specs.declared.filtered.Filtered.{Filtered}
-use Rattle.span_registry_layers_stack.specs.Loans.{forgotten, put_output}
-use Rattle.span_registry_layers_stack.specs.Rows.{filters_of}
+use Rattle.span_registry_layers_layers.specs.declared.layer.Layer.{Ghosts as LayerGhosts}
+use Rattle.span_registry_layers_store.specs.declared.filter_map.FilterId.{FilterId}
+use Rattle.span_registry_layers_stack.specs.Loans.{forgotten, put_at, put_output}
+use Rattle.span_registry_layers_stack.specs.Rows.{filters_of, numbers_of}
 use Rattle.span_registry_layers_stack.specs.Stacks.{StackValue}
 use Rattle.span_registry_layers_stack.specs.Steadiness.{hints_over}
 use Rattle.span_registry_layers_stack.specs.Swaps.{SwapAt, asked_anew, with_filter, with_rows}
@@ -29,3 +32,30 @@ module _ {L F : Type 0} (g : Ghosts F) where
   -- nothing is kept, whatever the lent output becomes
   pub lent_word : (place : ℕ) (output : Filtered L F) (s : StackValue (Filtered L F)) → Every (λ f. g.honest f) (filters_of (put_output place output s.rows)) → Word g (with_rows (put_output place output s.rows) (forgotten s))
   lent_word place output s honest = record { honest = honest; interests = tt; hints = over_none g (filters_of (put_output place output s.rows)) }
+
+same_of : {A : Type 0} (x y : A) → Some x ≡ Some y → x ≡ y
+same_of x y e = cc
+
+module _ {L F : Type 0} (h : LayerGhosts L) where
+  -- another row with the same numbers
+  numbers_put : (rows : List (Row (Filtered L F))) (place : ℕ) (row later : Row (Filtered L F)) → slice_get rows place ≡ Some row → later.id ≡ row.id → h.numbers later.output.layer ≡ h.numbers row.output.layer →
+      numbers_of h (slice_set rows place later) ≡ numbers_of h rows
+  numbers_put [] place row later found e n = refl
+  numbers_put (x ∷ xs) zero row later found e n =
+      ap (λ (id : FilterId). id.index ∷ (h.numbers later.output.layer ++ numbers_of h xs)) e
+      ∙ ap (λ (ns : List ℕ). row.id.index ∷ (ns ++ numbers_of h xs)) n ∙ ap (λ (r : Row (Filtered L F)). r.id.index ∷ (h.numbers r.output.layer ++ numbers_of h xs)) (sym (same_of x row found))
+  numbers_put (x ∷ xs) (suc place) row later found e n = ap (λ (ns : List ℕ). x.id.index ∷ (h.numbers x.output.layer ++ ns)) (numbers_put xs place row later found e n)
+
+  pub swapped_numbers : (g : Ghosts F) (at : Option (Row (Filtered L F))) (place : ℕ) (filter : F) (s : StackValue (Filtered L F)) (r : Result (Unit {0}) UnknownOutput) (back : F) (t : StackValue (Filtered L F)) → slice_get s.rows place ≡ at → SwapAt g at place filter s r back t →
+      numbers_of h t.rows ≡ numbers_of h s.rows
+  swapped_numbers g None place filter s r back t found given = ap (λ (u : StackValue (Filtered L F)). numbers_of h u.rows) given.2
+  swapped_numbers g (Some row) place filter s r back t found given =
+      ap (λ (u : StackValue (Filtered L F)). numbers_of h u.rows) given.2 ∙ numbers_put s.rows place row (with_filter filter row) found refl refl
+
+  -- of what is lent, seen as an output
+  pub lent_numbers : {R : Type 0} (now : R → Filtered L F) (place : ℕ) (output : Filtered L F) (rows : List (Row (Filtered L F))) (at : Option (Row (Filtered L F))) (r : Option R) → slice_get rows place ≡ at →
+      option_map now r ≡ option_map (λ row. row.output) at → IfSome r (λ lent. h.numbers output.layer ≡ h.numbers (now lent).layer) → numbers_of h (put_at at place output rows) ≡ numbers_of h rows
+  lent_numbers now place output rows None r found lent same = refl
+  lent_numbers now place output rows (Some row) None found lent same = absurd (cc)
+  lent_numbers now place output rows (Some row) (Some l) found lent same =
+      numbers_put rows place row (record row { output = output }) found refl (same ∙ ap (λ (o : Filtered L F). h.numbers o.layer) (same_of (now l) row.output lent))

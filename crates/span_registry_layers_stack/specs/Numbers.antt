@@ -1,17 +1,19 @@
 -- Each filter of a stack has a number of its own, so that what is kept with a span tells of each.
-use Rattle.std.specs.Prelude.{◌≡◌, Bool, false, List, Ok}
+use Rattle.std.specs.Prelude.{◌≡◌, ℕ, Bool, true, false, List, Option, None, Result, Ok}
 use Rattle.tracing_core.specs.At.{At}
 use Rattle.tracing_core.specs.Calls.{Call, ReplyTo}
 use Rattle.tracing_core.specs.Kept.{Every}
 use Rattle.tracing_core.specs.PlainMetadata.{PlainMetadata}
-use Rattle.tracing_core.specs.PlainRequests.{PlainEvent}
-use Rattle.span_registry_layers_store.specs.Registries.{RegistryValue}
+use Rattle.tracing_core.specs.PlainRequests.{PlainAttributes, PlainEvent, explicit_parent}
+use Rattle.tracing_core.specs.RequestError.{RequestError}
+use Rattle.span_registry_layers_store.specs.Registries.{RegistryValue, knows}
 use Rattle.span_registry_layers_store.specs.Verdicts.{all_pass, passes_at}
 use Rattle.span_registry_layers_layers.specs.Numbering.{AreNumbers}
 use Rattle.span_registry_layers_layers.specs.declared.filter.Filter.{Ghosts}
 use Rattle.span_registry_layers_layers.specs.declared.filtered.Filtered.{Filtered}
 use Rattle.span_registry_layers_layers.specs.declared.layer.Layer.{Ghosts as LayerGhosts}
 use Rattle.span_registry_layers_stack.specs.Asked.{AsksFrom}
+use Rattle.span_registry_layers_stack.specs.Calls.{SpanAsked}
 use Rattle.span_registry_layers_stack.specs.Moves.{Moves}
 use Rattle.span_registry_layers_stack.specs.Rows.{filters_of, numbers_of, view_of}
 use Rattle.span_registry_layers_stack.specs.Stacks.{EventAsked, PassesAsked, StackValue, cleared}
@@ -24,7 +26,7 @@ HasNumbers h s = AreNumbers 64 (numbers_of h s.rows)
 module _ {L F : Type 0} (g : Ghosts F) (h : LayerGhosts L) where
   -- no call changes the numbers
   abbrev pub NumbersStay : Type 0
-  NumbersStay = (s : StackValue (Filtered L F)) (c : Call) (r : ReplyTo c) (t : StackValue (Filtered L F)) → Moves g h s c r t → HasNumbers h s → HasNumbers h t
+  NumbersStay = (s : StackValue (Filtered L F)) (c : Call) (r : ReplyTo c) (t : StackValue (Filtered L F)) → Moves g h s c r t → numbers_of h t.rows ≡ numbers_of h s.rows
 
   -- what is kept with a span is, under the filter's number, an answer that it may give, and under those of the filters in the layer what they may say then
   abbrev pub RowSaid : PlainMetadata → At → RegistryValue → List Bool → Row (Filtered L F) → Type 0
@@ -42,3 +44,9 @@ module _ {L F : Type 0} (g : Ghosts F) (h : LayerGhosts L) where
   abbrev pub DroppedTellsNobody : Type 0
   DroppedTellsNobody =
       (e : PlainEvent) (at : At) (s t : StackValue (Filtered L F)) → Every (λ f. g.honest f) (filters_of s.rows) → PassesAsked g s e.metadata at false → EventAsked g h e at s (Ok tt) t → t ≡ cleared s
+
+  -- nor does a span, which is dropped, where a parent that is named is open
+  abbrev pub DroppedSpanTellsNobody : Type 0
+  DroppedSpanTellsNobody =
+      (a : PlainAttributes) (at : At) (s : StackValue (Filtered L F)) (r : Result (Option ℕ) RequestError) (t : StackValue (Filtered L F)) → Every (λ f. g.honest f) (filters_of s.rows) →
+      PassesAsked g s a.metadata at false → knows s.registry (explicit_parent a.parent) ≡ true → SpanAsked g h a at s r t → (r ≡ Ok None) × (t ≡ cleared s)

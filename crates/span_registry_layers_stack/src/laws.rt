@@ -1,5 +1,5 @@
 //! What holds of every stack.
-ghost use Rattle.span_registry_layers_stack.specs.Numbers.{DroppedTellsNobody, NumbersStay, VerdictsAreOwn};
+ghost use Rattle.span_registry_layers_stack.specs.Numbers.{DroppedSpanTellsNobody, DroppedTellsNobody, NumbersStay, VerdictsAreOwn};
 ghost use Rattle.span_registry_layers_stack.specs.Soundness.{NewIsSound, StackStaysSound};
 
 use span_registry_layers_layers::{Filter, Layer};
@@ -9,7 +9,13 @@ pub fn dropped_events_tell_nobody<L: Layer, F: Filter>()
     ensures { DroppedTellsNobody ⟦<F as Filter>⟧ ⟦<L as Layer>⟧ }
 {}
 
-/// Each filter keeps its number, whatever is called.
+/// A span that no output's filter passes is dropped, and changes no layer and no filter, where the filters are honest and a
+/// parent that is named is open.
+pub fn dropped_spans_tell_nobody<L: Layer, F: Filter>()
+    ensures { DroppedSpanTellsNobody ⟦<F as Filter>⟧ ⟦<L as Layer>⟧ }
+{}
+
+/// Each filter keeps its number, whatever is called: the numbers afterwards are those from before.
 pub fn numbers_stay<L: Layer, F: Filter>()
     ensures { NumbersStay ⟦<F as Filter>⟧ ⟦<L as Layer>⟧ }
 {}

@@ -3,11 +3,13 @@ ghost use Rattle.std.specs.Prelude.{◌≡◌, IfOk};
 ghost use Rattle.tracing_core.specs.Kept.{Every};
 ghost use Rattle.tracing_core.specs.Metadata.{plain_metadata};
 ghost use Rattle.tracing_core.specs.PlainRequests.{plain_event};
+ghost use Rattle.span_registry_layers_layers.specs.declared.filtered.Filtered.{Filtered};
 ghost use Rattle.span_registry_layers_stack.specs.New.{NewGives};
 ghost use Rattle.span_registry_layers_stack.specs.Numbers.{HasNumbers};
 ghost use Rattle.span_registry_layers_stack.specs.Rows.{filters_of};
 ghost use Rattle.span_registry_layers_stack.specs.Stacks.{EventAsked, EventCached, PassesAsked, PassesCached};
 ghost use Rattle.span_registry_layers_stack.specs.Words.{Word};
+ghost use Rattle.span_registry_layers_stack.specs.declared.output.Output.{Output};
 
 mod handing;
 mod reading;
@@ -55,6 +57,7 @@ impl<L: Layer, F: Filter> Stack<Filtered<L, F>> {
         ensures numbers { IfOk result (λ s. HasNumbers ⟦<L as Layer>⟧ s) }
         // What is kept is right of honest filters.
         ensures kept { IfOk result (λ s. Every (λ f. F.honest f) (filters_of s.rows) → Word ⟦<F as Filter>⟧ s) }
+        ensures honest { Every (λ (o : Output (Filtered L F)). F.honest o.output.filter) outputs.items → IfOk result (λ s. Word ⟦<F as Filter>⟧ s) }
     {
         Stack::build(alloc, outputs)
     }

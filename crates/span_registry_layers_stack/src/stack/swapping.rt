@@ -1,11 +1,11 @@
 //! Other filters for the outputs of a stack.
 ghost use Rattle.std.specs.Borrow.{sem};
 ghost use Rattle.std.specs.Option.{option_map};
-ghost use Rattle.std.specs.Prelude.{◌≡◌, OnOk, slice_get};
+ghost use Rattle.std.specs.Prelude.{◌≡◌, IfSome, OnOk, slice_get};
 ghost use Rattle.tracing_core.specs.Kept.{Every};
 ghost use Rattle.span_registry_layers_layers.specs.declared.filtered.Filtered.{Filtered};
 ghost use Rattle.span_registry_layers_stack.specs.Loans.{LendsFiltered, LendsOutput, forgotten, put_output};
-ghost use Rattle.span_registry_layers_stack.specs.Rows.{filters_of};
+ghost use Rattle.span_registry_layers_stack.specs.Rows.{filters_of, numbers_of};
 ghost use Rattle.span_registry_layers_stack.specs.Swaps.{SwapGives, with_rows};
 ghost use Rattle.span_registry_layers_stack.specs.Words.{Word};
 
@@ -43,18 +43,22 @@ impl<L: Layer, F: Filter> Stack<Filtered<L, F>> {
     /// `UnknownOutput` where there is no such output, which leaves both as they were.
     pub fn swap_filter(&mut self, output: usize, filter: &mut F) -> Result<(), UnknownOutput>
         ensures gives { SwapGives ⟦<F as Filter>⟧ output filter.old self.old result filter.new self.new }
+        // Each filter keeps its number.
+        ensures numbers { numbers_of ⟦<L as Layer>⟧ self.new.rows ≡ numbers_of ⟦<L as Layer>⟧ self.old.rows }
         // What is kept is right of honest filters.
         ensures kept { OnOk result (Every (λ f. F.honest f) (filters_of self.new.rows) → Word ⟦<F as Filter>⟧ self.new) }
     {
         self.hand_filter(output, filter)
     }
 
-    /// Lends the output at this place, counted from 0, for writing. What was kept of answers is forgotten first, and is asked anew
-    /// as callsites are registered again.
+    /// Lends the output at this place, counted from 0, for writing. What was kept of answers is forgotten first; interests are kept
+    /// again as callsites are registered, and the hint when it is asked for.
     pub fn stack_mut(&mut self, output: usize) -> Option<&mut Filtered<L, F>>
         ensures lent { option_map (λ lent. lent.now) result ≡ option_map (λ row. row.output) (slice_get self.old.rows output) }
         // What is kept is right of honest filters, whatever the output becomes.
         ensures kept { (w : Filtered L F) → Every (λ f. F.honest f) (filters_of (put_output output w self.old.rows)) → Word ⟦<F as Filter>⟧ (with_rows (put_output output w self.old.rows) (forgotten self.old)) }
+        // Each filter keeps its number, where those in the output's layer do.
+        ensures numbers { (w : Filtered L F) → IfSome result (λ lent. L.numbers w.layer ≡ L.numbers lent.now.layer) → numbers_of ⟦<L as Layer>⟧ (put_output output w self.old.rows) ≡ numbers_of ⟦<L as Layer>⟧ self.old.rows }
         ensures* ends { sem 𝓛 (LendsFiltered L.row F.row self.entry output result) }
     {
         self.lend(output)
