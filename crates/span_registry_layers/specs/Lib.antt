@@ -33,6 +33,7 @@ pub use Rattle.span_registry_layers_layers.specs.Singles
 pub use Rattle.span_registry_layers_layers.specs.Firms
 pub use Rattle.span_registry_layers_layers.specs.Trees
 pub use Rattle.span_registry_layers_layers.specs.Staying
+pub use Rattle.span_registry_layers_layers.specs.Soundness as TreeSoundness
 pub use Rattle.span_registry_layers_stack.specs.Rows
 pub use Rattle.span_registry_layers_stack.specs.Sites
 pub use Rattle.span_registry_layers_stack.specs.Asked

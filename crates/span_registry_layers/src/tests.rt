@@ -2,9 +2,11 @@
 
 mod filters;
 mod layers;
+mod scopes;
 mod stack;
 mod store;
 mod trees;
+mod words;
 
 use crate::{FilterMap, Registry};
 use std::alloc::Global;

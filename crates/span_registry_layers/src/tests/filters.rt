@@ -4,8 +4,8 @@ ghost use Rattle.tracing_core.specs.Metadata.{plain_metadata};
 
 use super::*;
 use crate::{
-    And, CallsiteTest, Context, ContextTest, DynFilterFn, Filter, FilterExt, FilterFn,
-    MetadataTest, Not, Or, dynamic_filter_fn, filter_fn,
+    And, CallsiteTest, Context, ContextTest, DynFilterFn, Filter, FilterExt, FilterFn, Filtered,
+    Identity, MetadataTest, Not, Or, dynamic_filter_fn, filter_fn,
 };
 use tracing_core::{Event, Interest, LevelFilter, Record};
 
@@ -137,5 +137,19 @@ fn surface_dynamic_closures(rt: HostRuntime) -> Result<(), Fail> {
     let filter = DynFilterFn::new(outside).with_callsite_filter(sometimes);
     let (passed, interest) = asked(&filter, &registry);
     assert!(rt; !passed && interest.is_sometimes() && filter.max_level_hint().is_none());
+    Ok(())
+}
+
+#[test]
+fn surface_clones(rt: HostRuntime) -> Result<(), Fail> {
+    let (registry, _outer, _inner) = nested(rt.alloc())?;
+    let (low, high) = (LevelFilter::WARN, LevelFilter::DEBUG);
+    let both = And::new(low, high);
+    let either = Or::new(both.clone()?, Not::new(low).clone()?).clone()?;
+    assert!(rt; !asked(&both, &registry).0 && asked(&either, &registry).0);
+    let output = Filtered::new(Identity::new(), low.clone()?);
+    let mut other = output.clone()?;
+    *other.filter_mut() = high;
+    assert!(rt; *output.filter() == low && *other.filter() == high);
     Ok(())
 }

@@ -3,10 +3,10 @@ use super::layers::Counter;
 use super::*;
 use crate::{
     Filter, Filtered, LayerExt, MetadataTest, Output, OutputKey, Stack, StackError, StackRefusal,
-    dropped_events_tell_nobody, filter_fn, numbers_stay, stack_registry_stays_sound,
-    verdicts_are_own,
+    dropped_events_tell_nobody, dropped_spans_tell_nobody, filter_fn, numbers_stay,
+    stack_registry_stays_sound, verdicts_are_own,
 };
-use tracing_core::{CurrentSpan, Event, LevelFilter, Record};
+use tracing_core::{CurrentSpan, DefaultCallsite, Event, Hub, LevelFilter, Record};
 
 type Counted = Filtered<Counter, LevelFilter>;
 
@@ -223,7 +223,19 @@ fn surface_stacks_of_boxes_and_closures(rt: HostRuntime) -> Result<(), Fail> {
 #[test]
 fn surface_laws_of_stacks(_rt: HostRuntime) {
     dropped_events_tell_nobody::<Counter, LevelFilter>();
+    dropped_spans_tell_nobody::<Counter, LevelFilter>();
     numbers_stay::<Counter, LevelFilter>();
     verdicts_are_own::<Counter, LevelFilter>();
     stack_registry_stays_sound::<Counter, LevelFilter>();
+}
+
+#[test]
+fn surface_hubs_of_stacks(rt: HostRuntime) -> Result<(), Fail> {
+    let stack = stack_of(rt.alloc(), LevelFilter::INFO)?;
+    let mut hub: Hub<Stack<Counted>, DefaultCallsite> = Hub::new(rt.alloc());
+    let handle = hub.add(stack).ok().ok_or("a handle")?;
+    // Attached once, and once told that the hub took the stack.
+    let stack = hub.subscriber(&handle).ok_or("the stack")?;
+    assert!(rt; told(stack) == 2);
+    Ok(())
 }

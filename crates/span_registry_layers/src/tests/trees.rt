@@ -1,7 +1,10 @@
 // Trees of layers over a registry.
 use super::layers::Counter;
 use super::*;
-use crate::{Filtered, Layer, LayerExt, SubscriberExt, trees_stay_attached};
+use crate::{
+    Filtered, Layer, LayerExt, SubscriberExt, joined_registry_stays_sound,
+    tree_registry_stays_sound, trees_stay_attached,
+};
 use tracing_core::{Event, LevelFilter, Subscriber};
 
 /// A layer that counts, below a filter.
@@ -37,6 +40,8 @@ fn tell<S: Subscriber>(tree: &mut S) -> bool {
 #[test]
 fn surface_trees(rt: HostRuntime) -> Result<(), Fail> {
     trees_stay_attached::<Counter>();
+    tree_registry_stays_sound::<Counter>();
+    joined_registry_stays_sound::<Counter, Counter>();
     let registry = Registry::new(rt.alloc());
     assert!(rt; registry.filter_room() == 64);
     let first = below(LevelFilter::INFO).with_subscriber(registry);
