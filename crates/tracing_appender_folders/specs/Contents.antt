@@ -180,7 +180,7 @@ close_plain file c = (Ok tt, record (called c) { open_files = without_number fil
 abbrev pub closed : Contents → FileNumber → Answer (Unit {0})
 closed c file = unless_refused c (close_plain file c)
 
--- the directories are made; none are lost
+-- the directories are made, or stood already
 abbrev pub make_plain : Contents → Answer (Unit {0})
 make_plain c = (Ok tt, record (called c) { has_dirs = true })
 

@@ -26,33 +26,43 @@ fn numbers(alloc: Global, list: &[u64]) -> Result<Vec<u64>, AllocError> {
     Vec::from_slice(alloc, list)
 }
 
-/// Each call once; tells how many were refused.
-fn refusals<D: Folder>(folder: &mut D) -> usize {
+/// Each call once; tells how many were refused, and the number of the last one.
+fn refusals<D: Folder>(folder: &mut D) -> (usize, u64) {
     let mut refused = 0;
+    let mut last = 0;
     let mut file = FileNumber { index: 0 };
     if folder.create_dirs().is_err() {
         refused += 1;
+        last = 1;
     }
     match folder.open_append("a") {
         Ok(number) => file = number,
-        Err(_) => refused += 1,
+        Err(_) => {
+            refused += 1;
+            last = 2;
+        }
     }
     if folder.write(file, b"one").is_err() {
         refused += 1;
+        last = 3;
     }
     if folder.flush(file).is_err() {
         refused += 1;
+        last = 4;
     }
     if folder.link("latest", "a").is_err() {
         refused += 1;
+        last = 5;
     }
     if folder.list().is_err() {
         refused += 1;
+        last = 6;
     }
     if folder.close_file(file).is_err() {
         refused += 1;
+        last = 7;
     }
-    refused
+    (refused, last)
 }
 
 #[test]
@@ -127,11 +137,11 @@ fn each_call_is_refused_in_turn(rt: HostRuntime) -> Result<(), Fail> {
     for number in 1..=7 {
         let refused = numbers(alloc, &[number])?;
         let mut folder = FaultyFolder::new(MemoryFolder::new(alloc), refused);
-        assert_eq!(rt; refusals(&mut folder), 1);
+        assert_eq!(rt; refusals(&mut folder), (1, number));
         assert_eq!(rt; folder.failures(), 1);
     }
     let mut sound = FaultyFolder::new(MemoryFolder::new(alloc), Vec::new(alloc));
-    assert_eq!(rt; refusals(&mut sound), 0);
+    assert_eq!(rt; refusals(&mut sound), (0, 0));
     assert_eq!(rt; sound.failures(), 0);
     let files = sound.inner().files()?;
     assert_eq!(rt; files.len(), 1);
