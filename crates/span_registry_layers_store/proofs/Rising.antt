@@ -13,7 +13,7 @@ use Rattle.tracing_core.specs.RequestError.{RequestError}
 use Rattle.span_registry_layers_store.specs.Gives.{GivesUnless, SpanGives, clone_gives, clone_refusal, close_gives, close_refusal, give_up_gives, span_refusal}
 use Rattle.span_registry_layers_store.specs.Keeping.{with_places}
 use Rattle.span_registry_layers_store.specs.Places.{IsPlace, kin_of}
-use Rattle.span_registry_layers_store.specs.Registries.{PlainSpan, RegistryValue, kin_in, one_less, one_more, plain_registry, plain_span, swept, under, with_entry, with_handle, with_span, without_entry, without_handle}
+use Rattle.span_registry_layers_store.specs.Registries.{PlainSpan, RegistryValue, kin_in, one_less, one_more, plain_registry, plain_span, swept, under, with_handle, with_span, without_entry, without_handle}
 use Rattle.span_registry_layers_store.specs.Rising.{IsRising, Rises}
 use Rattle.span_registry_layers_store.specs.Slots.{PlainPlace}
 use Rattle.span_registry_layers_store.specs.Spans.{changed, is_open, keep_if, open_of, stays, without}
@@ -200,10 +200,6 @@ made_rising x metadata parent passed rising =
 
 pub span_rising : (x y : RegistryValue) (metadata : PlainMetadata) (parent : Parent) (lane : ℕ) (passed : List Bool) (r : Result ℕ RequestError) → SpanGives x metadata parent lane passed r y → IsRising x → IsRising y
 span_rising x y metadata parent lane passed r gives rising = gives_rising (span_refusal x parent) x (with_span x metadata (under x lane parent) passed) x.next_id r y rising (made_rising x metadata (under x lane parent) passed rising) gives
-
--- an entry, or want of memory for it
-pub entry_rising : (x y : RegistryValue) (lane id : ℕ) (o : Option RequestError) (r : Result (Unit {0}) RequestError) → GivesUnless o x tt (with_entry x lane id) r y → IsRising x → IsRising y
-entry_rising x y lane id o r gives rising = gives_rising o x (with_entry x lane id) tt r y rising (record { rise = rising.rise; below = rising.below }) gives
 
 -- other slots of a span
 pub lent_rising : (r : RegistryParts) (id : ℕ) (w : List PlainPlace) (y : RegistryValue) {spans : List PlainSpan} → spans ≡ changed kin_in (with_places w) (map plain_span r.spans.items) id → y ≡ record (plain_registry r) { spans = spans } → IsRising (plain_registry r) → IsRising y

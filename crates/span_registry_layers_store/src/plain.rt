@@ -1,4 +1,4 @@
-//! Open spans as a list in order of making, searched afresh at each question.
+//! Open spans as a list in order of making, so that ids rise.
 ghost use Rattle.std.specs.Prelude.{true, false, ◌≡◌, ◌<◌, ◌+◌, length, drop, IfSome, MatchOption};
 ghost use Rattle.span_registry_layers_store.specs.Lanes.{plain_lanes};
 ghost use Rattle.span_registry_layers_store.specs.Spans.{AllStay, ClosesNext, current, handles_of, has_child, is_member, is_open, is_parent, parent_of, stays, without_last};

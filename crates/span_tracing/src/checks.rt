@@ -72,6 +72,7 @@ impl TraceParts {
         self.stack().is_some() && stack == 0
     }
 
+    #[inline(always)]
     fn parent_refusal(&self, parent: Parent) -> Option<Refusal>
         ensures { result ≡ parent_refusal (skeleton_of (value_in self.now)) parent }
     {

@@ -49,6 +49,7 @@ impl TraceParts {
     }
 
     /// Whether the span is open.
+    #[inline(never)]
     pub(crate) fn is_open(&self, id: Id) -> bool
         ensures { result ≡ is_open kin_in (registry_in (stack_in self.now)).spans id }
     {

@@ -1,5 +1,5 @@
 -- Texts whose ids rise, and a search by halves among them.
-use Rattle.std.proofs.Common.{◌≡◌, inl, inr, ℕ, zero, suc, ◌+◌, ◌<◌, ◌≤◌, ◌==◌, List, [], ◌∷◌, ◌++◌, length, map, Bool, true, false, if◌then◌else◌, slice_index_or, string_bytes, Option, Some, None, Result, Ok, Err, refl, sym, ap, ◌∙◌, subst, arith}
+use Rattle.std.proofs.Common.{◌≡◌, inl, inr, ℕ, zero, suc, ◌+◌, ◌<◌, ◌≤◌, ◌==◌, List, [], ◌∷◌, ◌++◌, length, map, Bool, true, false, if◌then◌else◌, slice_index_or, string_bytes, Option, Some, None, Ok, Err, refl, sym, subst, arith}
 use Rattle.std.specs.List.{AllByRecursion, filter}
 use Rattle.std.specs.List.Sorted.{IsBinarySearchResult, IsNonDecreasingBy}
 use Rattle.std.specs.Ordering.{nat_cmp, ordering_index}
@@ -8,8 +8,8 @@ use Rattle.std.proofs.lemmas.Bool.Decides.{nat_tests}
 use Rattle.std.proofs.lemmas.Cmp.{ranked}
 use Rattle.tracing_core.specs.Handles.{or_same}
 use Rattle.tracing_core.specs.RequestError.{RequestError}
-use Rattle.span_registry_layers_store.specs.Gives.{EntryGives, GivesUnless, clone_gives, clone_refusal, close_gives, close_refusal, open_refusal}
-use Rattle.span_registry_layers_store.specs.Registries.{PlainSpan, RegistryValue, swept, with_entry, with_handle, without_handle}
+use Rattle.span_registry_layers_store.specs.Gives.{close_gives, close_refusal}
+use Rattle.span_registry_layers_store.specs.Registries.{PlainSpan, RegistryValue, swept, without_handle}
 use Rattle.span_tracing_machine.specs.State.{PlainText, text_at}
 use Rattle.span_tracing_stack.specs.Rising.{AreRising, HasId, Rises}
 use Rattle.tracing_core.specs.PlainRequests.{PlainAttributes, PlainValues}
@@ -123,21 +123,10 @@ below_bytes next (t ∷ ts) id bytes below = if_low (t.id == id) next t ts (with
 pub bytes_rising : (texts : List PlainText) (next id : ℕ) (bytes : List ℕ) → AreRising texts next → AreRising (with_bytes texts id bytes) next
 bytes_rising texts next id bytes rising = record { rise = rises_bytes 0 texts id bytes rising.rise; below = below_bytes next texts id bytes rising.below }
 
--- calls that make no span leave the next id
-pub next_entered : (x y : RegistryValue) (lane id : ℕ) (r : Result (Unit {0}) RequestError) → EntryGives x lane id r y → y.next_id ≡ x.next_id
-next_entered x y lane id r gives = entered (open_refusal x id) r gives
-  where
-    entered : (o : Option RequestError) (a : Result (Unit {0}) RequestError) → GivesUnless o x tt (with_entry x lane id) a y → y.next_id ≡ x.next_id
-    entered (Some refusal) a g = ap (λ (z : RegistryValue). z.next_id) g.1
-    entered None (Ok done) g = ap (λ (z : RegistryValue). z.next_id) g.1
-    entered None (Err e) g = ap (λ (z : RegistryValue). z.next_id) g.1
-
+-- a close leaves the next id
 next_same : (o : Option RequestError) (x y : RegistryValue) → y.next_id ≡ x.next_id → (or_same o x y).next_id ≡ x.next_id
 next_same None x y same = same
 next_same (Some refusal) x y same = refl
-
-pub next_cloned : (x y : RegistryValue) (id : ℕ) (r : Result ℕ RequestError) → (r, y) ≡ clone_gives x id → y.next_id ≡ x.next_id
-next_cloned x y id r gives = ap (λ (p : Result ℕ RequestError × RegistryValue). p.1.next_id) gives ∙ next_same (clone_refusal x id) x (with_handle x id) refl
 
 pub next_closed : (x : RegistryValue) (id : ℕ) → (close_gives x id).1.next_id ≡ x.next_id
 next_closed x id = next_same (close_refusal x id) x (swept (without_handle x id)) refl

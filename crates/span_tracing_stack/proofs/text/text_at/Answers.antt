@@ -1,5 +1,4 @@
-use Rattle.std.proofs.Common.{sym, ap, ◌∙◌, string_bytes}
-use Rattle.span_tracing_stack.specs.declared.text.SpanText.{SpanText}
+use Rattle.std.proofs.Common.{sym, ◌∙◌}
 use Rattle.span_tracing_stack.proofs.Rising.{text_there}
 use Rattle.span_tracing_stack.proofs.text.text_at.Goals as goal
 
