@@ -7,3 +7,4 @@ pub mod Starting
 pub mod Swapping
 pub mod Numbering
 pub mod Soundness
+pub mod Alone

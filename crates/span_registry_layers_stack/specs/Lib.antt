@@ -14,3 +14,4 @@ pub mod Caches
 pub mod Steadiness
 pub mod Numbers
 pub mod Soundness
+pub mod Alone

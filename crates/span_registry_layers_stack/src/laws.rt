@@ -1,4 +1,5 @@
 //! What holds of every stack.
+ghost use Rattle.span_registry_layers_stack.specs.Alone.{RegistryStandsAlone};
 ghost use Rattle.span_registry_layers_stack.specs.Numbers.{DroppedSpanTellsNobody, DroppedTellsNobody, NumbersStay, VerdictsAreOwn};
 ghost use Rattle.span_registry_layers_stack.specs.Soundness.{NewIsSound, StackStaysSound};
 
@@ -31,4 +32,10 @@ pub fn verdicts_are_own<L: Layer, F: Filter>()
 pub fn stack_registry_stays_sound<L: Layer, F: Filter>()
     ensures start { NewIsSound ⟦<F as Filter>⟧ ⟦<L as Layer>⟧ }
     ensures call { StackStaysSound ⟦<F as Filter>⟧ ⟦<L as Layer>⟧ }
+{}
+
+/// What a call leaves of a stack's registry is what the registry's own call leaves: outputs, filters and layers have no say in
+/// ids, handles, entries and closes, but for whether a span is made, and what is kept with it of their filters' answers.
+pub fn registry_stands_alone<L: Layer, F: Filter>()
+    ensures { RegistryStandsAlone ⟦<F as Filter>⟧ ⟦<L as Layer>⟧ }
 {}
