@@ -1,5 +1,7 @@
 -- Texts whose ids rise, and a search by halves among them.
-use Rattle.std.proofs.Common.{◌≡◌, inl, inr, ℕ, zero, suc, ◌+◌, ◌<◌, ◌≤◌, ◌==◌, List, [], ◌∷◌, ◌++◌, length, map, Bool, true, false, if◌then◌else◌, slice_index_or, string_bytes, Option, Some, None, Ok, Err, refl, sym, subst, arith}
+use Rattle.std.proofs.Common.{◌≡◌, inl, inr, ℕ, zero, suc, ◌+◌, ◌<◌, ◌≤◌, ◌==◌, List, [], ◌∷◌, ◌++◌, length, map, Bool, true, false, if◌then◌else◌, slice_index_or, string_bytes, Option, Some, None, Ok, Err, refl, sym, ap, ◌∙◌, set, subst, arith}
+use Rattle.std.specs.Global.{Global}
+use Rattle.std.specs.Prelude.{String}
 use Rattle.std.specs.List.{AllByRecursion, filter}
 use Rattle.std.specs.List.Sorted.{IsBinarySearchResult, IsNonDecreasingBy}
 use Rattle.std.specs.Ordering.{nat_cmp, ordering_index}
@@ -11,7 +13,7 @@ use Rattle.tracing_core.specs.RequestError.{RequestError}
 use Rattle.span_registry_layers_store.specs.Gives.{close_gives, close_refusal}
 use Rattle.span_registry_layers_store.specs.Registries.{PlainSpan, RegistryValue, swept, without_handle}
 use Rattle.span_tracing_machine.specs.State.{PlainText, text_at}
-use Rattle.span_tracing_stack.specs.Rising.{AreRising, HasId, Rises}
+use Rattle.span_tracing_stack.specs.Rising.{AreRising, HasId, HasNone, Rises}
 use Rattle.tracing_core.specs.PlainRequests.{PlainAttributes, PlainValues}
 use Rattle.span_tracing_machine.specs.declared.fate.Fate.{Fate}
 use Rattle.span_tracing_stack.specs.Moves.{closed_left}
@@ -49,9 +51,28 @@ text_there least (t ∷ ts) id (suc place) d rise has =
     let there = has.1 t in
     rw (differs t.id id (λ same. omega (arith, above, there, same))) (text_there (t.id + 1) ts id place d rise.1 (let within = has.0 in omega arith, has.1))
 
-none_there : (ts : List SpanText) (id : ℕ) → ((place : ℕ) (d : SpanText) → place < length ts → (slice_index_or ts place d).id ≡ id → ⊥) → text_at (map plain_text ts) id ≡ []
+pub none_there : (ts : List SpanText) (id : ℕ) → HasNone ts id → text_at (map plain_text ts) id ≡ []
 none_there [] id others = refl
 none_there (t ∷ ts) id others = rw (differs t.id id (others 0 t (omega arith))) (none_there ts id (λ place d within. others (suc place) d (omega arith)))
+
+-- another text of the span at a place
+pub put_there : (least : ℕ) (ts : List SpanText) (id place : ℕ) (t : SpanText) (u : String Global) → Rises least (map plain_text ts) → HasId ts id place → t.id ≡ id →
+    map plain_text (set ts place (record t { text = u })) ≡ with_bytes (map plain_text ts) id (string_bytes u)
+put_there least [] id place t u rise has same = absurd (let within = has.0 in omega arith)
+put_there least (x ∷ xs) id zero t u rise has same =
+    let here : x.id ≡ id = has.1 x in
+    let b : (x.id == id) ≡ true = grind (arith, nat_tests) in
+    rw b (ap (λ (n : ℕ). (record { id = n; bytes = string_bytes u }) ∷ map plain_text xs) (same ∙ sym here))
+put_there least (x ∷ xs) id (suc place) t u rise has same =
+    let above = least_below (x.id + 1) xs place x rise.1 (let within = has.0 in omega arith) in
+    let there = has.1 x in
+    rw (differs x.id id (λ e. omega (arith, above, there, e))) (ap (λ ys. plain_text x ∷ ys) (put_there (x.id + 1) xs id place t u rise.1 (let within = has.0 in omega arith, has.1) same))
+
+-- a span that has no text gets none
+pub none_put : (ts : List SpanText) (id : ℕ) (bytes : List ℕ) → HasNone ts id → map plain_text ts ≡ with_bytes (map plain_text ts) id bytes
+none_put [] id bytes others = refl
+none_put (t ∷ ts) id bytes others =
+    rw (differs t.id id (others 0 t (omega arith))) (ap (λ ys. plain_text t ∷ ys) (none_put ts id bytes (λ place d within. others (suc place) d (omega arith))))
 
 comparisons_rise : (ts : List SpanText) (id : ℕ) → Rises 0 (map plain_text ts) → IsNonDecreasingBy (λ (t : SpanText). ordering_index (nat_cmp t.id id)) ts
 comparisons_rise ts id rise i j d le within = let ids = later_above 0 ts i j d rise le within in grind (arith, nat_tests, ids)
@@ -60,13 +81,13 @@ comparisons_rise ts id rise i j d le within = let ids = later_above 0 ts i j d r
 pub searched_there : (ts : List SpanText) (id place : ℕ) → place < length ts → IsBinarySearchResult (λ (t : SpanText). nat_cmp t.id id) ts (Ok place) → HasId ts id place
 searched_there ts id place within equal = (within, λ d. ranked _ id _ (sym (equal d)))
 
-pub searched_none : (ts : List SpanText) (id place : ℕ) → Rises 0 (map plain_text ts) → IsBinarySearchResult (λ (t : SpanText). nat_cmp t.id id) ts (Err place) → text_at (map plain_text ts) id ≡ []
+pub searched_none : (ts : List SpanText) (id place : ℕ) → Rises 0 (map plain_text ts) → IsBinarySearchResult (λ (t : SpanText). nat_cmp t.id id) ts (Err place) → HasNone ts id
 searched_none ts id place rise parted =
     let sides = parted (comparisons_rise ts id rise) in
-    none_there ts id (λ k d within same. elim (cases_lt k place) [
+    λ k d within same. elim (cases_lt k place) [
       | inl before ↦ let less : (slice_index_or ts k d).id < id = ranked _ id _ (sym (sides.0 k d (omega arith) before)) in omega (arith, less, same)
       | inr after ↦ let more : id < (slice_index_or ts k d).id = ranked _ id _ (sym (sides.1 k d after within)) in omega (arith, more, same)
-    ])
+    ]
 
 -- one more text, above all others
 rises_more : (least : ℕ) (ts : List PlainText) (t : PlainText) → least ≤ t.id → AllByRecursion (λ (x : PlainText). x.id < t.id) ts → Rises least ts → Rises least (ts ++ t ∷ [])

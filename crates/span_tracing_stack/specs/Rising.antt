@@ -13,6 +13,10 @@ Rises least (t ∷ ts) = (least ≤ t.id) × Rises (t.id + 1) ts
 abbrev pub HasId : List SpanText → ℕ → ℕ → Type 0
 HasId texts id place = (place < length texts) × ((d : SpanText) → (slice_index_or texts place d).id ≡ id)
 
+-- no text is that of the id
+abbrev pub HasNone : List SpanText → ℕ → Type 0
+HasNone texts id = (place : ℕ) (d : SpanText) → place < length texts → (slice_index_or texts place d).id ≡ id → ⊥
+
 -- the ids of texts rise, and the next span's is above them
 pub record AreRising (texts : List PlainText) (next : ℕ) : Type 0 where
   pub rise : Rises 0 texts

@@ -218,6 +218,7 @@ impl StackState {
 
     /// Puts the fields of a record behind the text of a span, where it has one, and answers what became of them.
     pub(crate) fn record(&mut self, id: Id, values: &Record<'_>) -> Fate
+        requires { Rises 0 (map plain_text self.old.texts.items) }
         ensures texts { AddsFields (map plain_text self.old.texts.items) id (plain_record values.now) result (map plain_text self.new.texts.items) }
         ensures rest { plain_state self.new Quiet ≡ record (plain_state self.old Quiet) { texts = map plain_text self.new.texts.items } }
     {

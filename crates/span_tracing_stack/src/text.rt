@@ -1,12 +1,12 @@
 //! The texts of open spans.
 
-ghost use Rattle.std.specs.Prelude.{◌≡◌, [], IfSome, MatchOption, map, string_bytes};
+ghost use Rattle.std.specs.Prelude.{◌≡◌, IfSome, MatchOption, map, string_bytes};
 ghost use Rattle.tracing_core.specs.PlainRequests.{plain_record};
 ghost use Rattle.span_tracing_machine.specs.FieldTexts.{with_lists};
 ghost use Rattle.span_tracing_machine.specs.Missed.{given_by};
 ghost use Rattle.span_tracing_machine.specs.State.{text_at};
 ghost use Rattle.span_tracing_stack.specs.Recording.{AddsFields};
-ghost use Rattle.span_tracing_stack.specs.Rising.{HasId, Rises};
+ghost use Rattle.span_tracing_stack.specs.Rising.{HasId, HasNone, Rises};
 ghost use Rattle.span_tracing_stack.specs.Shown.{shown_in, shown_of};
 ghost use Rattle.span_tracing_stack.specs.Stacks.{AllNamed, fields_in, plain_text, open_texts};
 
@@ -42,7 +42,7 @@ fn place_from_end(texts: &[SpanText], id: Id) -> Option<usize>
 #[inline(never)]
 fn place_by_halves(texts: &[SpanText], id: Id) -> Option<usize>
     requires { Rises 0 (map plain_text texts.now) }
-    ensures { MatchOption result (text_at (map plain_text texts.now) id ≡ []) (λ place. HasId texts.now id place) }
+    ensures { MatchOption result (HasNone texts.now id) (λ place. HasId texts.now id place) }
 {
     match texts.binary_search_by_key(&id.into_u64(), |stored| stored.id.into_u64()) {
         Ok(place) => Some(place),
@@ -53,7 +53,7 @@ fn place_by_halves(texts: &[SpanText], id: Id) -> Option<usize>
 /// The place of the text of a span. Ids of late spans often follow one another; else it is looked for by halves.
 fn place_of(texts: &[SpanText], id: Id) -> Option<usize>
     requires { Rises 0 (map plain_text texts.now) }
-    ensures { MatchOption result (text_at (map plain_text texts.now) id ≡ []) (λ place. HasId texts.now id place) }
+    ensures { MatchOption result (HasNone texts.now id) (λ place. HasId texts.now id place) }
 {
     match place_from_end(texts, id) {
         Some(place) => Some(place),
@@ -120,12 +120,11 @@ pub(crate) fn add_fields(
     id: Id,
     values: &Record<'_>,
 ) -> Fate
+    requires { Rises 0 (map plain_text texts.old.items) }
     ensures { AddsFields (map plain_text texts.old.items) id (plain_record values.now) result (map plain_text texts.new.items) }
 {
-    for place in 0..texts.len() {
-        if texts[place].id == id {
-            return append(alloc, &mut texts[place].text, values);
-        }
+    match place_of(texts.as_slice(), id) {
+        Some(place) => append(alloc, &mut texts[place].text, values),
+        None => Fate::Whole,
     }
-    Fate::Whole
 }
