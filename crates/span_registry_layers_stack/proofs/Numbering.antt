@@ -130,9 +130,10 @@ module _ {L F : Type 0} (g : Ghosts F) (h : LayerGhosts L) where
 
   untold : (e : PlainEvent) (at : At) (x : RegistryValue) (row later : Row (Filtered L F)) → later.passed ≡ false → TellsEventBy g h (Afresh g) e at x row later → later ≡ marked false row
   untold e at x row later quiet told =
-      let hears : told.1.0 ≡ false = subst (λ b. Then (g.event_answers row.output.filter e (view_of at x row)) b told.1.0) quiet told.1.1 in
-      let stays : later.output.layer ≡ row.output.layer = subst (λ b. TellsIf h b row.output.layer (Happened e (view_of at x row)) later.output.layer) hears told.1.2 in
-      told.2 ∙ ap (λ b. marked b (with_layer later.output.layer row)) quiet ∙ ap (λ l. marked false (with_layer l row)) stays
+      let hears : later.told ≡ false = subst (λ b. Then (g.event_answers row.output.filter e (view_of at x row)) b later.told) quiet told.1 in
+      let stays : later.output.layer ≡ row.output.layer = subst (λ b. TellsIf h b row.output.layer (Happened e (view_of at x row)) later.output.layer) hears told.2 in
+      told.3 ∙ ap (λ b. record (with_layer later.output.layer row) { passed = b; told = later.told }) quiet ∙ ap (λ b. record (with_layer later.output.layer row) { passed = false; told = b }) hears
+      ∙ ap (λ l. marked false (with_layer l row)) stays
 
   all_untold : (e : PlainEvent) (at : At) (x : RegistryValue) (rows later : List (Row (Filtered L F))) → Every (λ f. g.honest f) (filters_of rows) → SomePassesBy (Afresh g) e.metadata at x rows false →
       EachBecomes (TellsEventBy g h (Afresh g) e at x) rows later → later ≡ map (marked false) rows

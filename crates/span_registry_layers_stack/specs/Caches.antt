@@ -119,13 +119,13 @@ where_known s P Q false r t f w = w
 module _ {L F : Type 0} (g : Ghosts F) (h : LayerGhosts L) where
   cleared_told : (e : PlainEvent) (at : At) (x : RegistryValue) (rows : List (Row (Filtered L F))) → Every (Refuses g e.metadata) (filters_of rows) → EachBecomes (TellsEventBy g h (Afresh g) e at x) rows (map (marked false) rows)
   cleared_told e at x [] w = tt
-  cleared_told e at x (row ∷ rows) w = ((inr (refl, w.0 (view_of at x row)), (false, refl, refl), refl), cleared_told e at x rows w.1)
+  cleared_told e at x (row ∷ rows) w = ((inr (refl, w.0 (view_of at x row)), refl, refl, refl), cleared_told e at x rows w.1)
 
   afresh_told : (e : PlainEvent) (at : At) (x : RegistryValue) (rows later : List (Row (Filtered L F))) → EachBecomes (TellsEvent g h e at x) rows later → EachBecomes (TellsEventBy g h (Afresh g) e at x) rows later
   afresh_told e at x [] [] w = tt
   afresh_told e at x [] (l ∷ ls) w = absurd w
   afresh_told e at x (r ∷ rs) [] w = absurd w
-  afresh_told e at x (r ∷ rs) (l ∷ ls) w = ((inl w.0.0, w.0.1, w.0.2), afresh_told e at x rs ls w.1)
+  afresh_told e at x (r ∷ rs) (l ∷ ls) w = ((inl w.0.0, w.0.1, w.0.2, w.0.3), afresh_told e at x rs ls w.1)
 
   unless_told : (e : PlainEvent) (at : At) (s t : StackValue (Filtered L F)) → Word g s → (b : Bool) → is_refused s e.metadata ≡ b → TellsUnless g h b e at s t → TellsAfresh g h e at s t
   unless_told e at s t w true refused same =

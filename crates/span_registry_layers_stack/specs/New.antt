@@ -41,7 +41,7 @@ module _ {L F : Type 0} (h : LayerGhosts L) where
   RowOf x output row =
       h.told output.output.layer (Attached (more_filters 1 x)) row.output.layer
       × (h.numbers row.output.layer ≡ numbers_from (x.filters + 1) (h.filters output.output.layer))
-      × (row ≡ record { key = output.key; id = record { index = x.filters }; output = record output.output { layer = row.output.layer }; passed = false })
+      × (row ≡ record { key = output.key; id = record { index = x.filters }; output = record output.output { layer = row.output.layer }; passed = false; told = false })
 
   -- so it is of all, in order
   abbrev pub RowsFrom : RegistryValue → List (Output (Filtered L F)) → List (Row (Filtered L F)) → Type 0

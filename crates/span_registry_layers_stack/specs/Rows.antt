@@ -16,9 +16,9 @@ use Rattle.span_registry_layers_stack.specs.declared.row.Row.{Row}
 abbrev pub view_of : {O : Type 0} → At → RegistryValue → Row O → View
 view_of at x row = record { at = at; registry = x; mask = Some row.id.index }
 
--- with what the filter answered of the last request
+-- with what the filter answered of the last request, of which the output is told where that passes
 abbrev pub marked : {O : Type 0} → Bool → Row O → Row O
-marked passed row = record row { passed = passed }
+marked passed row = record row { passed = passed; told = passed }
 
 abbrev pub filters_of : {L F : Type 0} → List (Row (Filtered L F)) → List F
 filters_of rows = map (λ row. row.output.filter) rows
@@ -52,13 +52,13 @@ TellsIf h true layer n later = h.told layer n later
 TellsIf h false layer n later = later ≡ layer
 
 module _ {L F : Type 0} (g : Ghosts F) (h : LayerGhosts L) where
-  -- its layer is told where its filter passes the callsite, by these answers, and then the event, and else stays; the mark is what the filter answered of the callsite
+  -- its layer is told where its filter passes the callsite, by these answers, and then the event, and else stays; what the filter answered of the callsite and whether the layer was told are marked
   abbrev pub TellsEventBy : (F → PlainMetadata → View → Bool → Type 0) → PlainEvent → At → RegistryValue → Row (Filtered L F) → Row (Filtered L F) → Type 0
   TellsEventBy A e at x row later =
       A row.output.filter e.metadata (view_of at x row) later.passed
-      × ((hears : Bool) × Then (g.event_answers row.output.filter e (view_of at x row)) later.passed hears
-      × TellsIf h hears row.output.layer (Happened e (view_of at x row)) later.output.layer)
-      × (later ≡ marked later.passed (with_layer later.output.layer row))
+      × Then (g.event_answers row.output.filter e (view_of at x row)) later.passed later.told
+      × TellsIf h later.told row.output.layer (Happened e (view_of at x row)) later.output.layer
+      × (later ≡ record (with_layer later.output.layer row) { passed = later.passed; told = later.told })
 
   -- the same by an answer that its filter may give there
   abbrev pub TellsEvent : PlainEvent → At → RegistryValue → Row (Filtered L F) → Row (Filtered L F) → Type 0

@@ -223,8 +223,8 @@ module _ {L F : Type 0} (g : Ghosts F) (h : LayerGhosts L) where
   event_steps : (e : PlainEvent) (at : At) (x : RegistryValue) (row later : Row (Filtered L F)) → TellsEvent g h e at x row later → Stepped row later
   event_steps e at x row later w =
       let notice = Happened e (view_of at x row) in
-      stepped_put row later (ap (λ (r : Row (Filtered L F)). r.output.filter) w.2) (ap (λ (r : Row (Filtered L F)). r.id) w.2)
-      (told_if w.1.0 row.output.layer notice later.output.layer (h.numbered row.output.layer notice later.output.layer) w.1.2)
+      stepped_put row later (ap (λ (r : Row (Filtered L F)). r.output.filter) w.3) (ap (λ (r : Row (Filtered L F)). r.id) w.3)
+      (told_if later.told row.output.layer notice later.output.layer (h.numbered row.output.layer notice later.output.layer) w.2)
 
   pub event_keeps : (e : PlainEvent) (at : At) (s t : StackValue (Filtered L F)) (r : Result (Unit {0}) RequestError) → EventCached g h e at s r t → Keeps s t
   event_keeps e at s t r w = known (knows s.registry (explicit_parent e.parent)) (is_refused s e.metadata) w

@@ -14,13 +14,14 @@ use span_registry_layers_layers::{Context, Filter, Filtered, Layer};
 use span_registry_layers_store::{FilterId, FilterMap, OutputKey, Registry};
 use tracing_core::{At, Event, Interest, LevelFilter, Metadata};
 
-/// An output, its key, the number of its filter, and whether its filter passed the last request.
+/// An output, its key, the number of its filter, whether its filter passed the callsite of the last request, and whether it was told of that.
 #[derive(Drop)]
 pub(crate) struct Row<O> {
     pub(crate) key: OutputKey,
     pub(crate) id: FilterId,
     pub(crate) output: O,
     pub(crate) passed: bool,
+    pub(crate) told: bool,
 }
 
 impl<O> Row<O> {
@@ -29,6 +30,7 @@ impl<O> Row<O> {
         ensures { self.new ≡ marked false self.old }
     {
         self.passed = false;
+        self.told = false;
     }
 }
 
@@ -115,6 +117,7 @@ impl<L: Layer, F: Filter> Row<Filtered<L, F>> {
         let passes = self.passes(event.metadata(), registry, at);
         let hears = self.hears(passes, event, registry, at);
         self.passed = passes;
+        self.told = hears;
         if hears {
             self.tell(event, registry, at);
         }

@@ -32,6 +32,7 @@ fn row_of<L: Layer, F: Filter>(
         id,
         output,
         passed: false,
+        told: false,
     }
 }
 

@@ -52,6 +52,7 @@ impl<L: Layer, F: Filter> Row<Filtered<L, F>> {
     {
         let sees = self.sees(span, registry);
         self.passed = sees;
+        self.told = sees;
         if sees {
             self.hear_span(attributes, span, registry, at);
         }
