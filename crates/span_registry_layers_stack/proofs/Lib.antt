@@ -8,3 +8,4 @@ pub mod Swapping
 pub mod Numbering
 pub mod Soundness
 pub mod Alone
+pub mod Single

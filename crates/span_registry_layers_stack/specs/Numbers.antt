@@ -1,5 +1,5 @@
 -- Each filter of a stack has a number of its own, so that what is kept with a span tells of each.
-use Rattle.std.specs.Prelude.{◌≡◌, ℕ, Bool, true, false, List, Option, None, Result, Ok}
+use Rattle.std.specs.Prelude.{◌≡◌, ◌⊎◌, ℕ, Bool, true, false, List, [], ◌∷◌, Option, None, Result, Ok}
 use Rattle.tracing_core.specs.At.{At}
 use Rattle.tracing_core.specs.Calls.{Call, ReplyTo}
 use Rattle.tracing_core.specs.Kept.{Every}
@@ -13,9 +13,9 @@ use Rattle.span_registry_layers_layers.specs.declared.filter.Filter.{Ghosts}
 use Rattle.span_registry_layers_layers.specs.declared.filtered.Filtered.{Filtered}
 use Rattle.span_registry_layers_layers.specs.declared.layer.Layer.{Ghosts as LayerGhosts}
 use Rattle.span_registry_layers_stack.specs.Asked.{AsksFrom}
-use Rattle.span_registry_layers_stack.specs.Calls.{SpanAsked}
+use Rattle.span_registry_layers_stack.specs.Calls.{MakesSpan, SpanAsked}
 use Rattle.span_registry_layers_stack.specs.Moves.{Moves}
-use Rattle.span_registry_layers_stack.specs.Rows.{filters_of, numbers_of, view_of}
+use Rattle.span_registry_layers_stack.specs.Rows.{Afresh, filters_of, numbers_of, view_of}
 use Rattle.span_registry_layers_stack.specs.Stacks.{EventAsked, PassesAsked, StackValue, cleared}
 use Rattle.span_registry_layers_stack.specs.declared.row.Row.{Row}
 
@@ -39,6 +39,18 @@ module _ {L F : Type 0} (g : Ghosts F) (h : LayerGhosts L) where
   VerdictsAreOwn =
       (m : PlainMetadata) (at : At) (s : StackValue (Filtered L F)) (verdicts : List Bool) (some : Bool) → HasNumbers h s → AsksFrom g h m at s.registry all_pass false s.rows verdicts some →
       Every (RowSaid m at s.registry verdicts) s.rows
+
+  -- the one output's filter, asked afresh, refused the span, which is dropped; or it passed it, and the span is made with verdicts that all pass
+  abbrev pub OneDecides : PlainAttributes → At → Row (Filtered L F) → StackValue (Filtered L F) → Result (Option ℕ) RequestError → StackValue (Filtered L F) → Type 0
+  OneDecides a at row s r t =
+      (Afresh g row.output.filter a.metadata (view_of at s.registry row) false × (r ≡ Ok None) × (t ≡ cleared s))
+      ⊎ (g.answers row.output.filter a.metadata (view_of at s.registry row) true × MakesSpan g h a at all_pass s r t)
+
+  -- so it is in a stack of one output, which has the first number and whose layer has no filters, where a parent that is named is open
+  abbrev pub OneOutputDecides : Type 0
+  OneOutputDecides =
+      (a : PlainAttributes) (at : At) (row : Row (Filtered L F)) (s : StackValue (Filtered L F)) (r : Result (Option ℕ) RequestError) (t : StackValue (Filtered L F)) → s.rows ≡ row ∷ [] → numbers_of h (row ∷ []) ≡ 0 ∷ [] →
+      knows s.registry (explicit_parent a.parent) ≡ true → SpanAsked g h a at s r t → OneDecides a at row s r t
 
   -- an event that no filter passes, asked afresh, changes no layer and no filter, where the filters are honest
   abbrev pub DroppedTellsNobody : Type 0

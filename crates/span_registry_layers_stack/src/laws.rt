@@ -1,6 +1,6 @@
 //! What holds of every stack.
 ghost use Rattle.span_registry_layers_stack.specs.Alone.{RegistryStandsAlone};
-ghost use Rattle.span_registry_layers_stack.specs.Numbers.{DroppedSpanTellsNobody, DroppedTellsNobody, NumbersStay, VerdictsAreOwn};
+ghost use Rattle.span_registry_layers_stack.specs.Numbers.{DroppedSpanTellsNobody, DroppedTellsNobody, NumbersStay, OneOutputDecides, VerdictsAreOwn};
 ghost use Rattle.span_registry_layers_stack.specs.Soundness.{NewIsSound, StackStaysSound};
 
 use span_registry_layers_layers::{Filter, Layer};
@@ -38,4 +38,10 @@ pub fn stack_registry_stays_sound<L: Layer, F: Filter>()
 /// ids, handles, entries and closes, but for whether a span is made, and what is kept with it of their filters' answers.
 pub fn registry_stands_alone<L: Layer, F: Filter>()
     ensures { RegistryStandsAlone ⟦<F as Filter>⟧ ⟦<L as Layer>⟧ }
+{}
+
+/// In a stack of one output, whose layer has no filters, a span whose named parent is open is made where the output's filter
+/// passes it, and what is kept with it passes under each number; else it is dropped.
+pub fn one_output_decides<L: Layer, F: Filter>()
+    ensures { OneOutputDecides ⟦<F as Filter>⟧ ⟦<L as Layer>⟧ }
 {}
