@@ -4,7 +4,7 @@ use super::*;
 use crate::{
     Filter, Filtered, LayerExt, MetadataTest, Output, OutputKey, Stack, StackError, StackRefusal,
     dropped_events_tell_nobody, dropped_spans_tell_nobody, filter_fn, numbers_stay,
-    stack_registry_stays_sound, verdicts_are_own,
+    one_output_decides, registry_stands_alone, stack_registry_stays_sound, verdicts_are_own,
 };
 use tracing_core::{CurrentSpan, DefaultCallsite, Event, Hub, LevelFilter, Record};
 
@@ -82,6 +82,7 @@ fn is_in(current: CurrentSpan, span: Id) -> bool {
 fn surface_stack(rt: HostRuntime) -> Result<(), Fail> {
     let mut stack = stack_of(rt.alloc(), LevelFilter::INFO)?;
     assert!(rt; tell(&mut stack) && told(&stack) == 2 && stack.passed(0) == Some(true));
+    assert!(rt; stack.told(0) == Some(true) && stack.told(1).is_none());
     let span = make_in(&mut stack).ok_or("a span")?;
     assert!(rt; stack.record_follows_from(&span, &span, PLACE).is_ok());
     assert!(rt; stack.enter(&span, PLACE).is_ok() && is_in(stack.current_span(0), span));
@@ -227,6 +228,8 @@ fn surface_laws_of_stacks(_rt: HostRuntime) {
     numbers_stay::<Counter, LevelFilter>();
     verdicts_are_own::<Counter, LevelFilter>();
     stack_registry_stays_sound::<Counter, LevelFilter>();
+    registry_stands_alone::<Counter, LevelFilter>();
+    one_output_decides::<Counter, LevelFilter>();
 }
 
 #[test]

@@ -12,6 +12,7 @@ fn each_output_is_told_what_its_filter_passes(rt: HostRuntime) -> Result<(), Fai
     assert!(rt; was_told(&stack, 0, &[]) && was_told(&stack, 1, &[(Told::Happened, 0)]));
     assert!(rt; stack.passed(0) == Some(false) && stack.passed(1) == Some(false));
     assert!(rt; make(&mut stack, "app", Level::TRACE)?.is_none());
+    assert!(rt; stack.told(1) == Some(false) && stack.told(2).is_none());
     assert!(rt; stack.passed(2).is_none() && stack.output(2).is_none());
     Ok(())
 }

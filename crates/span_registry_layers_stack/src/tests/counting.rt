@@ -1,20 +1,20 @@
 // A filter that counts how often it is asked: a stack that keeps a refusal asks nobody.
-ghost use Rattle.std.specs.Prelude.{◌≡◌, nat_le, true};
+ghost use Rattle.std.specs.Prelude.{◌≡◌, nat_le};
 ghost use Rattle.tracing_core.specs.Interests.{PlainInterest};
 ghost use Rattle.span_registry_layers_layers.specs.Combined.{level_fair, level_interest, same_word};
 ghost use Rattle.span_registry_layers_layers.specs.Firms.{level_firm};
-ghost use Rattle.span_registry_layers_layers.specs.Singles.{function_single};
 
 use super::*;
 use span_registry_layers_layers::Context;
 use std::cell::Cell;
 use tracing_core::{Interest, Subscriber};
 
-/// Passes what is at most as verbose as a level, which it tells as its hint where it is to.
+/// Passes callsites that are at most as verbose as a level, and all events there or none.
 #[derive(Drop)]
 struct Counting {
     level: LevelFilter,
     asked: Cell<u64>,
+    hears: bool,
 }
 
 impl Counting {
@@ -22,17 +22,19 @@ impl Counting {
         Counting {
             level,
             asked: Cell::new(0),
+            hears: true,
         }
     }
 }
 
 impl Filter for Counting {
     ghost use Rattle.std.specs.Prelude.{Some};
+    ghost use Rattle.std.proofs.Common.{◌∙◌, sym};
     ghost use Rattle.span_registry_layers_layers.specs.Combined.{level_fair, level_interest, same_word};
 
     ghost answers = { λ f m v b. b ≡ nat_le m.level f.level };
 
-    ghost event_answers = { λ f e v b. b ≡ true };
+    ghost event_answers = { λ f e v b. b ≡ f.hears };
 
     ghost says = { λ f m k. k ≡ level_interest f.level m.level };
 
@@ -46,7 +48,7 @@ impl Filter for Counting {
 
     ghost stays = { λ f h _. (tt, same_word (λ m k. k ≡ level_interest f.level m.level) (Some f.level)) };
 
-    ghost single = { λ f _. function_single (λ m v. nat_le m.level f.level) };
+    ghost single = { λ f _. record { callsite = λ m v a b x y. x ∙ sym y; event = λ e v a b x y. x ∙ sym y } };
 
     ghost firm = { λ f _. level_firm f.level };
 
@@ -64,7 +66,7 @@ impl Filter for Counting {
     }
 
     fn event_enabled(&self, _event: &Event<'_, '_>, _context: &Context<'_>) -> bool {
-        true
+        self.hears
     }
 
     fn max_level_hint(&self) -> Option<LevelFilter> {
@@ -147,5 +149,21 @@ fn a_kept_refusal_is_asked_in_the_place_of_filters(rt: HostRuntime) -> Result<()
     stack.swap_filter(0, &mut filter)?;
     tell(&mut stack, "app", Level::DEBUG)?;
     assert!(rt; asked(&stack) == 1 && was_told(&stack, 0, &[(Told::Happened, 0)]));
+    Ok(())
+}
+
+#[test]
+fn an_event_that_its_filter_refuses_is_passed_and_not_told(rt: HostRuntime) -> Result<(), Fail> {
+    let mut stack = counted(rt.alloc(), LevelFilter::INFO)?;
+    tell(&mut stack, "app", Level::INFO)?;
+    assert!(rt; stack.passed(0) == Some(true) && stack.told(0) == Some(true));
+    match stack.stack_mut(0) {
+        None => {}
+        Some(output) => output.filter_mut().hears = false,
+    }
+    tell(&mut stack, "app", Level::INFO)?;
+    assert!(rt; stack.passed(0) == Some(true) && stack.told(0) == Some(false));
+    assert!(rt; was_told(&stack, 0, &[(Told::Happened, 0)]));
+    assert!(rt; make(&mut stack, "app", Level::INFO)?.is_some() && stack.told(0) == Some(true));
     Ok(())
 }
