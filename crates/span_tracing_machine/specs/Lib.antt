@@ -8,3 +8,4 @@ pub mod Missed
 pub mod State
 pub mod Laws
 pub mod Rows
+pub mod Parents

@@ -1,5 +1,5 @@
 -- Worked rows of the plain machine.
-use Rattle.std.specs.Prelude.{◌≡◌, ℕ, pos, negsuc, List, [], ◌∷◌, ◌++◌, true, false, if◌then◌else◌, Option, Some, None, codes}
+use Rattle.std.specs.Prelude.{◌≡◌, ℕ, pos, negsuc, List, [], ◌∷◌, ◌++◌, map, true, false, if◌then◌else◌, Option, Some, None, codes}
 use Rattle.std.specs.Option.{option_map}
 use Rattle.std.specs.Str.{bytes_eq}
 use Rattle.tracing_appender_rolling.specs.Moment.{Moment}
@@ -7,6 +7,7 @@ use Rattle.tracing_appender_rolling.specs.PeriodKind.TheVariants.{Day}
 use Rattle.tracing_appender_rolling.specs.Sinks.{file_text}
 use Rattle.tracing_core.specs.PlainKind.{PlainKind}
 use Rattle.tracing_core.specs.PlainValue.{PlainValue, Unsigned, Text}
+use Rattle.span_registry_layers_store.specs.Registries.{PlainSpan, current_on}
 use Rattle.span_tracing_machine.specs.declared.call.Parent.TheVariants.{Contextual}
 use Rattle.span_tracing_machine.specs.declared.call.Reply.TheVariants.{Done, Enabled, Span, Closed, Refused}
 use Rattle.span_tracing_machine.specs.declared.refusal.Refusal.TheVariants.{UnknownCallsite, UnknownStack, UnknownSpan, BadMoment, UnknownLane}
@@ -240,3 +241,40 @@ closing = nested ++ ExitStep on_two ∷ ExitStep on_one ∷ CloseStep on_one ∷
 
 abbrev pub NestedLeft : Type 0
 NestedLeft = (plain_run (with_callsite base inner) closing []).skeleton.registry.spans ≡ []
+
+-- the ids of the open spans, in order of making
+abbrev pub open_ids : Plain → List ℕ
+open_ids p = map (λ (s : PlainSpan). s.kin.id) p.skeleton.registry.spans
+
+-- two spans, none under the other; the lane enters the first, the second, and the first again
+abbrev pub twice : List PlainStep
+twice = GlobalStep 0 ∷ new_outer ∷ new_inner ∷ EnterStep on_one ∷ EnterStep on_two ∷ EnterStep on_one ∷ []
+
+abbrev pub after_twice : List PlainStep → Plain
+after_twice steps = plain_run (with_callsite base inner) (twice ++ steps) []
+
+-- the second entry of the outer span is a duplicate, so the lane is in the inner one; an exit takes that duplicate, not the
+-- first entry, and so the lane is in the inner one still; then it is in the outer one, and then in none
+abbrev pub TwiceFile : Type 0
+TwiceFile = file_in (after_twice (m_event ∷ ExitStep on_one ∷ m_event ∷ ExitStep on_two ∷ m_event ∷ ExitStep on_one ∷ m_event ∷ [])) the_name
+    ≡ Some (Some (codes "fake time inner{y=\"a\"}: app: m" ++ line_end ++ codes "fake time inner{y=\"a\"}: app: m" ++ line_end
+    ++ codes "fake time outer{x=42}: app: m" ++ line_end ++ codes "fake time app: m" ++ line_end))
+
+-- the entries before and after one exit, and the span that the lane is in
+abbrev pub TwiceEntries : Type 0
+TwiceEntries = ((after_twice []).skeleton.registry.lanes ≡ ((1 ∷ 2 ∷ 1 ∷ []) ∷ [])) × ((after_twice (ExitStep on_one ∷ [])).skeleton.registry.lanes ≡ ((1 ∷ 2 ∷ []) ∷ []))
+
+abbrev pub TwiceCurrent : Type 0
+TwiceCurrent = (current_on (after_twice []).skeleton.registry 0 ≡ Some 2) × (current_on (after_twice (ExitStep on_one ∷ [])).skeleton.registry 0 ≡ Some 2)
+
+-- both handles are given up: each span stays open up to the exit that takes its last entry
+abbrev pub given_up_twice : List PlainStep
+given_up_twice = CloseStep on_one ∷ CloseStep on_two ∷ ExitStep on_one ∷ []
+
+abbrev pub TwiceReplies : Type 0
+TwiceReplies = replies_of (with_callsite base inner) (twice ++ given_up_twice ++ ExitStep on_two ∷ ExitStep on_two ∷ ExitStep on_one ∷ ExitStep on_one ∷ [])
+    ≡ (Done ∷ Span (named 0 1) ∷ Span (named 0 2) ∷ Done ∷ Done ∷ Done ∷ Closed false ∷ Closed false ∷ Done ∷ Done ∷ Refused UnknownSpan ∷ Done ∷ Refused UnknownSpan ∷ [])
+
+abbrev pub TwiceOpen : Type 0
+TwiceOpen = (open_ids (after_twice given_up_twice) ≡ (1 ∷ 2 ∷ [])) × (open_ids (after_twice (given_up_twice ++ ExitStep on_two ∷ [])) ≡ (1 ∷ []))
+    × (open_ids (after_twice (given_up_twice ++ ExitStep on_two ∷ ExitStep on_one ∷ [])) ≡ [])

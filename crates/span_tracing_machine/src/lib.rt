@@ -19,7 +19,8 @@ pub use laws::{
 };
 pub use refusal::Refusal;
 pub use rows::{
-    row_bytes_at_opening, row_clones, row_empty, row_enabled, row_follows, row_hint, row_missed,
-    row_nested_spans, row_records, row_refused_questions, row_span_cycle, row_stored_run,
-    row_too_early,
+    row_both_lanes, row_bytes_at_opening, row_clones, row_empty, row_enabled, row_entered_twice,
+    row_event_parents, row_follows, row_hint, row_missed, row_nested_spans, row_records,
+    row_refused_parents, row_refused_questions, row_second_lane, row_span_cycle, row_span_parents,
+    row_stored_run, row_too_early,
 };

@@ -1,6 +1,7 @@
 //! Worked rows: what the plain machine gives for a few runs, found by computing.
 
-ghost use Rattle.span_tracing_machine.specs.Rows.{StoredRunReplies, StoredRunFile, BytesAtOpening, EmptyReplies, EmptyFile, TooEarlyReplies, TooEarlyFile, MissedText, MissedLine, UnwrittenLine, CloneReplies, CycleReplies, CycleLeft, EnabledReplies, EnabledRefusals, EnabledLeaves, FollowsLeaves, FollowsReplies, HintReplies, NestedFile, NestedLeft, EmptyRecords, RecordReplies, RecordedFile};
+ghost use Rattle.span_tracing_machine.specs.Rows.{StoredRunReplies, StoredRunFile, BytesAtOpening, EmptyReplies, EmptyFile, TooEarlyReplies, TooEarlyFile, MissedText, MissedLine, UnwrittenLine, CloneReplies, CycleReplies, CycleLeft, EnabledReplies, EnabledRefusals, EnabledLeaves, FollowsLeaves, FollowsReplies, HintReplies, NestedFile, NestedLeft, EmptyRecords, RecordReplies, RecordedFile, TwiceFile, TwiceEntries, TwiceCurrent, TwiceReplies, TwiceOpen};
+ghost use Rattle.span_tracing_machine.specs.Parents.{RootEvent, NamedEvent, RootSpan, NamedSpan, ParentStays, ParentCloses, ParentReplies, EarlyParents, RefusedParents, RefusedLeave, ClosedParent, NoStackParents, OtherLaneFile, OtherLaneCurrent, OtherLaneReplies, OtherLaneOpen, BothLanesFile, BothLanesOpen};
 
 /// A span, an event in it, and the file's one line.
 pub fn row_stored_run()
@@ -76,4 +77,51 @@ pub fn row_hint()
 pub fn row_nested_spans()
     ensures file { NestedFile }
     ensures left { NestedLeft }
+{}
+
+/// An event stands under no span, or under the one that it names, whatever span its lane is in.
+pub fn row_event_parents()
+    ensures root { RootEvent }
+    ensures named { NamedEvent }
+{}
+
+/// A span stands under no span, or under the one that it names, and the one above it closes no earlier than it.
+pub fn row_span_parents()
+    ensures root { RootSpan }
+    ensures named { NamedSpan }
+    ensures stays { ParentStays }
+    ensures closes { ParentCloses }
+    ensures replies { ParentReplies }
+{}
+
+/// A named parent is refused by its stack, then where no stack is reached, then where it isn't open.
+pub fn row_refused_parents()
+    ensures early { EarlyParents }
+    ensures refused { RefusedParents }
+    ensures left { RefusedLeave }
+    ensures closed { ClosedParent }
+    ensures bare { NoStackParents }
+{}
+
+/// A lane enters a span twice, with another one between: the later entry shows nowhere, and the first exit takes it.
+pub fn row_entered_twice()
+    ensures file { TwiceFile }
+    ensures entries { TwiceEntries }
+    ensures current { TwiceCurrent }
+    ensures replies { TwiceReplies }
+    ensures open { TwiceOpen }
+{}
+
+/// A span that one lane is in is not the current one of another lane, and stays open up to that lane's exit.
+pub fn row_second_lane()
+    ensures file { OtherLaneFile }
+    ensures current { OtherLaneCurrent }
+    ensures replies { OtherLaneReplies }
+    ensures open { OtherLaneOpen }
+{}
+
+/// A span that two lanes are in closes at the last exit of the two.
+pub fn row_both_lanes()
+    ensures file { BothLanesFile }
+    ensures open { BothLanesOpen }
 {}
