@@ -59,6 +59,14 @@ impl<L, F> Filtered<L, F> {
         &self.layer
     }
 
+    /// The layer and the filter, as they are now.
+    pub fn into_parts(self) -> (L, F)
+        ensures { (result.0 ≡ self.layer) × (result.1 ≡ self.filter) }
+    {
+        let Filtered { layer, filter, .. } = self;
+        (layer, filter)
+    }
+
     /// The layer, to be changed.
     pub fn inner_mut(&mut self) -> &mut L
         ensures lent { result.now ≡ self.old.layer }
