@@ -43,6 +43,7 @@ pub use Rattle.span_registry_layers_stack.specs.Hearing
 pub use Rattle.span_registry_layers_stack.specs.Calls
 pub use Rattle.span_registry_layers_stack.specs.New
 pub use Rattle.span_registry_layers_stack.specs.Swaps
+pub use Rattle.span_registry_layers_stack.specs.Taking
 pub use Rattle.span_registry_layers_stack.specs.Loans
 pub use Rattle.span_registry_layers_stack.specs.Moves
 pub use Rattle.span_registry_layers_stack.specs.Steps
@@ -76,3 +77,9 @@ pub use Rattle.span_registry_layers_stack.specs.declared.output.Output
 pub use Rattle.span_registry_layers_stack.specs.declared.output.StackError
 pub use Rattle.span_registry_layers_stack.specs.declared.output.StackRefusal
 pub use Rattle.span_registry_layers_stack.specs.declared.output.UnknownOutput
+pub use Rattle.span_registry_layers_layers.specs.declared.layer.identity.Identity
+pub use Rattle.span_registry_layers_stack.specs.declared.row.Row
+pub use Rattle.span_registry_layers_stack.specs.Alone
+pub use Rattle.span_registry_layers_stack.proofs.Numbering as NumberingProofs
+pub use Rattle.span_registry_layers_stack.proofs.Alone as AloneProofs
+pub use Rattle.span_registry_layers_stack.proofs.Single as SingleProofs

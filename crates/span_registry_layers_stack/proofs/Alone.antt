@@ -6,8 +6,8 @@ use Rattle.tracing_core.specs.Handles.{or_refused, or_same}
 use Rattle.tracing_core.specs.PlainRequests.{PlainAttributes, PlainEvent, explicit_parent}
 use Rattle.tracing_core.specs.RequestError.{RequestError}
 use Rattle.tracing_core.specs.RequestError.TheVariants.{UnknownParent}
-use Rattle.span_registry_layers_store.specs.Gives.{EntryGives, GivesUnless, SpanGives, close_gives, close_refusal, first, is_closed, open_refusal, when}
-use Rattle.span_registry_layers_store.specs.Registries.{RegistryValue, knows, swept, with_entry, without_entry, without_handle}
+use Rattle.span_registry_layers_store.specs.Gives.{EntryGives, GivesUnless, SpanGives, close_refusal, first, is_closed, open_refusal, when}
+use Rattle.span_registry_layers_store.specs.Registries.{RegistryValue, knows, swept, without_entry, without_handle}
 use Rattle.span_registry_layers_store.specs.Verdicts.{all_pass}
 use Rattle.span_registry_layers_layers.specs.declared.filter.Filter.{Ghosts}
 use Rattle.span_registry_layers_layers.specs.declared.filtered.Filtered.{Filtered}

@@ -9,3 +9,4 @@ pub mod Numbering
 pub mod Soundness
 pub mod Alone
 pub mod Single
+pub mod Taking

@@ -1,11 +1,11 @@
 -- Why one output decides alone whether a span is made.
-use Rattle.std.proofs.Common.{◌≡◌, ◌⊎◌, ◌++◌, inl, inr, ℕ, zero, suc, Bool, true, false, List, [], ◌∷◌, length, slice_set, Option, None, Result, Ok, refl, sym, ap, ◌∙◌, subst, arith}
+use Rattle.std.proofs.Common.{◌≡◌, ◌++◌, inl, inr, ℕ, suc, Bool, true, false, List, [], ◌∷◌, length, slice_set, Option, Result, refl, sym, ap, ◌∙◌, subst, arith}
 use Rattle.tracing_core.specs.At.{At}
 use Rattle.tracing_core.specs.Kept.{Every}
 use Rattle.tracing_core.specs.PlainMetadata.{PlainMetadata}
-use Rattle.tracing_core.specs.PlainRequests.{PlainAttributes, explicit_parent}
+use Rattle.tracing_core.specs.PlainRequests.{PlainAttributes}
 use Rattle.tracing_core.specs.RequestError.{RequestError}
-use Rattle.span_registry_layers_store.specs.Registries.{RegistryValue, knows}
+use Rattle.span_registry_layers_store.specs.Registries.{RegistryValue}
 use Rattle.span_registry_layers_store.specs.Verdicts.{all_pass, passes_at}
 use Rattle.span_registry_layers_layers.specs.Numbering.{SameBut}
 use Rattle.span_registry_layers_layers.specs.declared.filter.Filter.{Ghosts}
@@ -36,7 +36,7 @@ same_verdicts (x ∷ xs) [] long same = absurd (omega arith)
 same_verdicts (x ∷ xs) (y ∷ ys) long same = ap (λ b. b ∷ ys) (same 0) ∙ ap (λ bs. x ∷ bs) (same_verdicts xs ys (omega arith) (λ n. same (suc n)))
 
 module _ {L F : Type 0} (g : Ghosts F) (h : LayerGhosts L) where
-  asked_one : (m : PlainMetadata) (at : At) (x : RegistryValue) (row : Row (Filtered L F)) (verdicts : List Bool) → row.id.index ≡ 0 → h.numbers row.output.layer ≡ [] → AsksFrom g h m at x all_pass false (row ∷ []) verdicts true →
+  pub asked_one : (m : PlainMetadata) (at : At) (x : RegistryValue) (row : Row (Filtered L F)) (verdicts : List Bool) → row.id.index ≡ 0 → h.numbers row.output.layer ≡ [] → AsksFrom g h m at x all_pass false (row ∷ []) verdicts true →
       g.answers row.output.filter m (view_of at x row) true × (verdicts ≡ all_pass)
   asked_one m at x row verdicts first none (answer, next, asked, ended) =
       let passed : answer ≡ true = sym ended.1 in

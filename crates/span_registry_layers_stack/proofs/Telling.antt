@@ -8,7 +8,7 @@ use Rattle.span_registry_layers_layers.specs.Notices.{Happened}
 use Rattle.span_registry_layers_layers.specs.declared.filter.Filter.{Ghosts}
 use Rattle.span_registry_layers_layers.specs.declared.filtered.Filtered.{Filtered}
 use Rattle.span_registry_layers_layers.specs.declared.layer.Layer.{Ghosts as LayerGhosts}
-use Rattle.span_registry_layers_stack.specs.Rows.{TellsIf, TellsEvent, view_of, with_layer, marked}
+use Rattle.span_registry_layers_stack.specs.Rows.{TellsIf, TellsEvent, view_of, with_layer}
 use Rattle.span_registry_layers_stack.specs.Stacks.{EventCached, StackValue, TellsAll, TellsUnless, WhereKnown, is_refused}
 use Rattle.span_registry_layers_stack.specs.declared.row.Row.{Row}
 

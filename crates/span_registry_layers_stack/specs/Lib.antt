@@ -7,6 +7,7 @@ pub mod Hearing
 pub mod Calls
 pub mod New
 pub mod Swaps
+pub mod Taking
 pub mod Loans
 pub mod Moves
 pub mod Steps

@@ -178,7 +178,7 @@ module _ {F : Type 0} (g : Ghosts F) where
         let kept = (never_known g m (filters_of (row ∷ rows)) sites never w.interests).0 in
         none_always ((g.firm f w.honest.0).one m Always Never (subst (g.says f m) known.2 known.1) (subst (g.says f m) kept.2 kept.1))
 
-    refused_fits : (s : StackValue (Filtered L F)) (m : PlainMetadata) (at : At) (k : PlainInterest) → Word g s → is_refused s m ≡ true → CommonInterest g m (filters_of s.rows) k → InterestFits k false
+    pub refused_fits : (s : StackValue (Filtered L F)) (m : PlainMetadata) (at : At) (k : PlainInterest) → Word g s → is_refused s m ≡ true → CommonInterest g m (filters_of s.rows) k → InterestFits k false
     refused_fits s m at Never w e says = refl
     refused_fits s m at Sometimes w e says = tt
     refused_fits s m at Always w e says = absurd (not_refused m at s.registry s.hint s.sites s.rows w says (either_true (is_above s.hint m.level) (list_any (is_refused_by m) s.sites) e))

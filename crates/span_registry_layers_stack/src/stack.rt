@@ -15,6 +15,7 @@ mod handing;
 mod reading;
 mod spans;
 mod swapping;
+mod taking;
 
 use crate::output::{Output, StackError, StackRefusal, refusal};
 use crate::parts::StackParts;

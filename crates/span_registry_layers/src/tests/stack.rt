@@ -103,6 +103,10 @@ fn surface_swaps(rt: HostRuntime) -> Result<(), Fail> {
     let output = stack.stack_mut(0).ok_or("an output")?;
     *output.filter_mut() = LevelFilter::TRACE;
     assert!(rt; tell(&mut stack) && told(&stack) == 2);
+    let last = stack.pop_output().ok_or("an output")?;
+    let (counter, filter) = last.output.into_parts();
+    assert!(rt; counter.told == 2 && filter == LevelFilter::TRACE);
+    assert!(rt; stack.pop_output().is_none());
     Ok(())
 }
 

@@ -116,3 +116,13 @@ fn a_lent_output_is_changed(rt: HostRuntime) -> Result<(), Fail> {
     assert!(rt; was_told(&stack, 0, &[]) && was_told(&stack, 1, &[(Told::Happened, 0)]));
     Ok(())
 }
+
+#[test]
+fn outputs_come_out_last_first(rt: HostRuntime) -> Result<(), Fail> {
+    let mut stack = stack_of(rt.alloc(), LevelFilter::INFO, LevelFilter::OFF)?;
+    let last = stack.pop_output().ok_or("an output")?;
+    let (_journal, filter) = last.output.into_parts();
+    assert!(rt; filter == LevelFilter::OFF && stack.output(1).is_none());
+    assert!(rt; stack.pop_output().is_some() && stack.pop_output().is_none());
+    Ok(())
+}
