@@ -19,8 +19,8 @@ use Rattle.tracing_core.specs.Subscriber.{Ghosts}
 use Rattle.tracing_core.specs.Callsite.{Ghosts as SiteGhosts}
 use Rattle.tracing_core.specs.Table.{Table}
 use Rattle.span_tracing_machine.specs.Skeleton.{PlainCallsite}
-use Rattle.span_tracing_stack.specs.Moves.{Gives, StackMoves}
-use Rattle.span_tracing_stack.specs.Stacks.{StackValue}
+use Rattle.span_tracing.proofs.Levels.{Gives, StackMoves}
+use Rattle.span_tracing.specs.Levels.{StackValue, level_in}
 use Rattle.span_tracing.specs.Skeletons.{PlainThread, filter_here, interest_by, plain_callsite, plain_thread, stack_of, stack_in, value_with, value_in}
 use Rattle.span_tracing.specs.Sound.{IsSound, HasFirst, HasOnly, OwnsOne, KeepsCallsites, LeadsTo}
 use Rattle.span_tracing.specs.Telling.{own_metadata}
@@ -136,7 +136,7 @@ callsite_more p callsites u c rows is same rest =
 own_same : (a b : Callsite) → plain_callsite a ≡ plain_callsite b → own_metadata a ≡ own_metadata b
 own_same a b e = ap (λ (c : PlainCallsite). record (c.metadata) { callsite = c.number }) e
 
-module _ (g : Ghosts StackValue) (means : (x : StackValue) (c : Call) (r : ReplyTo c) (y : StackValue) → g.moves x c r y → StackMoves x c r y) (hint : (x : StackValue) → g.hint x ≡ Some x.setting.filter) where
+module _ (g : Ghosts StackValue) (means : (x : StackValue) (c : Call) (r : ReplyTo c) (y : StackValue) → g.moves x c r y → StackMoves x c r y) (hint : (x : StackValue) → g.hint x ≡ Some (level_in x)) where
   -- a callsite that the hub took, and what it answered of it
   pub sound_more : (p : TraceParts) (callsites : Vec Callsite Global) (u : Table StackValue Site) (c : Callsite) (site : Site) (k : PlainInterest) → IsSound p → callsites.items ≡ p.callsites.items ++ c ∷ [] → plain_callsite site.callsite ≡ plain_callsite c → Registered g ghosts p.hub site k u → IsSoundHub ghosts u →
       IsSound (record p { callsites = callsites; hub = u }) × (k ≡ interest_by (filter_here (stack_in p)) c.level)
@@ -175,7 +175,7 @@ module _ (g : Ghosts StackValue) (means : (x : StackValue) (c : Call) (r : Reply
       ∙ ap (λ (x : StackValue). Some x) same in
       let kept = rebuilt_keeps g means hint (row_same g means ghosts) with_it u p.callsites.items (subst IsOneAtMost (sym one) tt) rebuilt sound.kept.numbers sound.kept.metadata in
       let filter : filter_here (stack_of (Some d) u.entries) ≡ filter_of (p.hub.entries ++ e ∷ []) =
-      ap filter_here stack ∙ ap (λ (x : StackValue). Some x.setting.filter) (sym same) ∙ sym (ap filter_of one) in
+      ap filter_here stack ∙ ap (λ (x : StackValue). Some (level_in x)) (sym same) ∙ sym (ap filter_of one) in
       record {
         owns = (last, left, gives.0, refl);
         sound = record {

@@ -21,8 +21,8 @@ use Rattle.tracing_core.specs.Table.{Table, chosen, effective, own_setting}
 use Rattle.span_tracing_machine.specs.Machine.{is_made, known_place, made_at, place_of}
 use Rattle.span_tracing_machine.specs.Skeleton.{Mask, PlainCallsite, Skeleton}
 use Rattle.span_tracing_machine.specs.State.{callsite_named, mask_asked, mask_at, mask_for}
-use Rattle.span_tracing_stack.specs.Stacks.{StackValue}
-use Rattle.span_tracing.specs.Skeletons.{filter_here, filter_in, interest_by, plain_callsite, plain_setting, skeleton_of, stack_in, value_in}
+use Rattle.span_tracing.specs.Levels.{StackValue}
+use Rattle.span_tracing.specs.Skeletons.{kept_of, filter_here, filter_in, interest_by, plain_callsite, plain_setting, skeleton_of, stack_in, value_in}
 use Rattle.span_tracing.specs.Sound.{HasOnly, IsSound}
 use Rattle.span_tracing.specs.Telling.{own_metadata}
 use Rattle.span_tracing.specs.contracts.site.SiteCallsite.TheImpl.{ghosts}
@@ -31,7 +31,7 @@ use Rattle.span_tracing.specs.declared.parts.TraceParts.{TraceParts}
 use Rattle.span_tracing.specs.declared.site.Site.{Site}
 
 -- the filter that a value shows is the stack's
-pub filter_same : (stack : Option StackValue) → filter_here stack ≡ filter_in (option_map plain_setting (option_map (λ (x : StackValue). x.setting) stack))
+pub filter_same : (stack : Option StackValue) → filter_here stack ≡ filter_in (option_map plain_setting (option_map kept_of stack))
 filter_same None = refl
 filter_same (Some x) = refl
 

@@ -10,8 +10,8 @@ use Rattle.tracing_core.specs.Lent.{living_of, living_changed}
 use Rattle.tracing_core.specs.Entry.{Entry}
 use Rattle.tracing_core.specs.Setting as hub
 use Rattle.tracing_core.specs.Subscriber.{Ghosts}
-use Rattle.span_tracing_stack.specs.Moves.{StackMoves}
-use Rattle.span_tracing_stack.specs.Stacks.{StackValue}
+use Rattle.span_tracing.proofs.Levels.{StackMoves}
+use Rattle.span_tracing.specs.Levels.{StackValue}
 use Rattle.span_tracing.specs.Skeletons.{stack_of}
 use Rattle.span_tracing.specs.Sound.{HasOnly}
 

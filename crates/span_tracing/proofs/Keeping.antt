@@ -14,8 +14,8 @@ use Rattle.tracing_core.specs.Setting.{Setting}
 use Rattle.tracing_core.specs.Sound.{Ascends, AreDistinct, IsSound as IsSoundHub, identifiers, serials}
 use Rattle.tracing_core.specs.Subscriber.{Ghosts}
 use Rattle.tracing_core.specs.Table.{Table}
-use Rattle.span_tracing_stack.specs.Moves.{Gives, StackMoves}
-use Rattle.span_tracing_stack.specs.Stacks.{StackValue, own_interest}
+use Rattle.span_tracing.proofs.Levels.{Gives, StackMoves}
+use Rattle.span_tracing.specs.Levels.{StackValue, own_interest, level_in}
 use Rattle.span_tracing.specs.Skeletons.{filter_here, interest_by, stack_of}
 use Rattle.span_tracing.specs.Sound.{HasOnly, KeepsCallsites}
 use Rattle.span_tracing.specs.Telling.{own_metadata}
@@ -33,7 +33,7 @@ IsOneAtMost (e ∷ (f ∷ es)) = ⊥
 
 abbrev pub filter_of : List (Entry StackValue) → Option ℕ
 filter_of [] = None
-filter_of (e ∷ es) = Some e.subscriber.setting.filter
+filter_of (e ∷ es) = Some (level_in e.subscriber)
 
 -- the stack of a trace is the only subscriber
 pub only_one : (handle : Option (Option ℕ)) (global : Setting) (es : List (Entry StackValue)) → HasOnly handle global es → IsOneAtMost es
@@ -78,7 +78,7 @@ map_then f g (x ∷ xs) = ap (λ ys. f (g x) ∷ ys) (map_then f g xs)
 top_of : (n : ℕ) → max 0 n ≡ n
 top_of n = grind arith
 
-module _ (g : Ghosts StackValue) (means : (x : StackValue) (c : Call) (r : ReplyTo c) (y : StackValue) → g.moves x c r y → StackMoves x c r y) (hint : (x : StackValue) → g.hint x ≡ Some x.setting.filter) where
+module _ (g : Ghosts StackValue) (means : (x : StackValue) (c : Call) (r : ReplyTo c) (y : StackValue) → g.moves x c r y → StackMoves x c r y) (hint : (x : StackValue) → g.hint x ≡ Some (level_in x)) where
   register_says : (x : StackValue) (m : PlainMetadata) (k : PlainInterest) (y : StackValue) → StackMoves x (CallsiteRegistered m) k y → k ≡ own_interest x m
   unfolding Gives
   register_says x m k y moved = moved.gives.0
@@ -124,7 +124,7 @@ module _ (g : Ghosts StackValue) (means : (x : StackValue) (c : Call) (r : Reply
     hints_top [] [] last one each = each
     hints_top [] (f ∷ fs) last one each = absurd each
     hints_top (e ∷ []) [] last one each = absurd each
-    hints_top (e ∷ []) (f ∷ []) last one (j, (moved, left, after), rest) = rest ∙ after ∙ ap (λ o. max 0 (level_of o)) (hint e.subscriber) ∙ top_of e.subscriber.setting.filter
+    hints_top (e ∷ []) (f ∷ []) last one (j, (moved, left, after), rest) = rest ∙ after ∙ ap (λ o. max 0 (level_of o)) (hint e.subscriber) ∙ top_of (level_in e.subscriber)
     hints_top (e ∷ []) (f ∷ (d ∷ ds)) last one (j, turn, rest) = absurd rest
     hints_top (e ∷ (d ∷ ds)) fs last one each = absurd one
 

@@ -18,18 +18,19 @@ use Rattle.tracing_core.specs.Subscriber.{Ghosts}
 use Rattle.tracing_core.specs.Calls.{Call, ReplyTo}
 use Rattle.tracing_core.specs.Table.{Table}
 use Rattle.span_tracing_machine.specs.declared.fate.Fate.{Fate}
-use Rattle.span_registry_layers_store.specs.Gives as gives
-use Rattle.span_registry_layers_store.specs.Registries.{RegistryValue, kin_in, swept, with_handle, without_handle}
-use Rattle.span_registry_layers_store.specs.Registries as store
-use Rattle.span_registry_layers_store.specs.Spans.{handles_of, is_open}
-use Rattle.span_registry_layers_store.specs.Verdicts.{all_pass}
+use Rattle.span_registry_layers.specs.Gives as gives
+use Rattle.span_registry_layers.specs.Registries.{RegistryValue, kin_in, swept, with_handle, without_handle}
+use Rattle.span_registry_layers.specs.Registries as store
+use Rattle.span_registry_layers.specs.Spans.{handles_of, is_open}
+use Rattle.span_registry_layers.specs.Verdicts.{all_pass}
 use Rattle.span_tracing_machine.specs.FieldTexts.{FieldList, lists_text, with_lists}
 use Rattle.span_tracing_machine.specs.Missed.{given_by}
 use Rattle.span_tracing_machine.specs.Machine.{is_made, parent_refusal, parent_id, with_made as made_in}
 use Rattle.span_tracing_machine.specs.Skeleton.{PlainCallsite}
 use Rattle.span_tracing_machine.specs.State.{PlainText, list_at, mask_at, event_line, fields_of, text_at}
-use Rattle.span_tracing_stack.specs.Moves.{Gives, RecordGives, StackMoves, TellsRecord, SpanGives, EventGives, EntryGives, CloneGives, quiet, says_closed}
-use Rattle.span_tracing_stack.specs.Stacks.{left_with as left_in, with_bytes, StackValue, Quiet, passes, knows_parent, line_told, span_text, with_span, with_exit}
+use Rattle.span_tracing.proofs.Levels.{Gives, RecordGives, StackMoves, TellsRecord, SpanGives, EventGives, EntryGives, CloneGives, quiet, says_closed}
+use Rattle.span_tracing.specs.Levels.{StackValue, passes, level_in}
+use Rattle.span_tracing_stack.specs.Stacks.{left_with as left_in, with_bytes, Quiet, knows_parent, line_told, span_text, with_span, with_exit}
 use Rattle.span_tracing.specs.Actions.{plain_request}
 use Rattle.span_tracing.specs.Left.{RecordsFields, with_recorded, TellsEvent, MakesSpan, LeavesParts, with_made, with_entry, with_one, without_entry, without_one}
 use Rattle.span_tracing.specs.Skeletons.{StateValue, PlainThread, plain_callsite, plain_thread, stack_in, stack_of, skeleton_of, setting_of, filter_in, skeleton_with, value_with, registry_in, value_in, told_in}
@@ -67,8 +68,8 @@ pub callsite_at : (cs : List Callsite) (place : ℕ) (c : Callsite) → place < 
 callsite_at cs place c within is = slice_get_map plain_callsite cs place ∙ ap (option_map plain_callsite) (slice_get-get_or cs place c within ∙ ap (λ x. Some x) (sym is))
 
 -- a stack that is asked passes what the mask says
-pub passed_is : (x : StackValue) (c : Callsite) (at : Option PlainCallsite) → at ≡ Some (plain_callsite c) → is_made (mask_at (Some x.setting.filter) at) ≡ passes x (own_metadata c)
-passed_is x c at is = ap (λ (o : Option PlainCallsite). is_made (mask_at (Some x.setting.filter) o)) is ∙ or_false (passes x (own_metadata c))
+pub passed_is : (x : StackValue) (c : Callsite) (at : Option PlainCallsite) → at ≡ Some (plain_callsite c) → is_made (mask_at (Some (level_in x)) at) ≡ passes x (own_metadata c)
+passed_is x c at is = ap (λ (o : Option PlainCallsite). is_made (mask_at (Some (level_in x)) o)) is ∙ or_false (passes x (own_metadata c))
 
 -- a new span in a trace's state
 made_same : (x : StackValue) (c : Callsite) (r : Request) (sites : List PlainCallsite) (threads : List PlainThread) (is_global : Bool) (starved place : ℕ) (fate : Fate) → slice_get sites place ≡ Some (plain_callsite c) →
@@ -139,7 +140,7 @@ module _ (g : Ghosts StackValue) (means : (x : StackValue) (c : Call) (r : Reply
       let line = told.1.1 in
       record {
         kept = value_after p u dispatch handle sound rest y one.stands ∙ ap (λ (v : StackValue). over rest (Some v)) told.2 ∙ sym old;
-        sound = sound_after p u dispatch handle sound rest x y one.stood one.stands one.moved.setting one.only;
+        sound = sound_after p u dispatch handle sound rest x y one.stood one.stands one.moved.filter one.only;
         fate = told.1.0;
         told =
             ap told_in (stack_after p u dispatch handle sound rest y one.stands) ∙ ap (λ (v : StackValue). v.told) told.2 ∙ line
@@ -171,7 +172,7 @@ module _ (g : Ghosts StackValue) (means : (x : StackValue) (c : Call) (r : Reply
       let fate = given.1.0 in
       let left = given.1.1 in
       record {
-        sound = sound_after p u dispatch handle sound rest x y one.stood one.stands one.moved.setting one.only;
+        sound = sound_after p u dispatch handle sound rest x y one.stood one.stands one.moved.filter one.only;
         named = given.0 ∙ ap (λ (v : StateValue). Some v.skeleton.registry.next_id) (sym old);
         fate = fate;
         told = ap told_in (stack_after p u dispatch handle sound rest y one.stands) ∙ ap (λ (v : StackValue). v.told) left;
@@ -191,7 +192,7 @@ module _ (g : Ghosts StackValue) (means : (x : StackValue) (c : Call) (r : Reply
       let y = one.after in
       let old = value_before p u dispatch handle sound rest x one.stood in
       let same = span_refused x y (attributes_of c r) r.lane error one.moved.gives (known rest x r old parent) (subst (λ (v : StateValue). v.skeleton.registry.next_id ≤ 18446744073709551615) old left) in (
-        sound_after p u dispatch handle sound rest x y one.stood one.stands one.moved.setting one.only,
+        sound_after p u dispatch handle sound rest x y one.stood one.stands one.moved.filter one.only,
         value_after p u dispatch handle sound rest y one.stands ∙ ap (λ (v : StackValue). over rest (Some v)) same ∙ sym old,
       )
 
@@ -224,7 +225,7 @@ module _ (g : Ghosts StackValue) (means : (x : StackValue) (c : Call) (r : Reply
       let texts : y.texts ≡ with_more_text x.texts id (given_by fate (owned_list names values)) =
       told.1.2 ∙ ap (with_bytes x.texts id) (told.1.1 (all_named names values) ∙ given_same (text_at x.texts id) names values fate) ∙ bytes_more x.texts id (given_by fate (owned_list names values)) in
       record {
-        sound = sound_after p u dispatch handle sound rest x y one.stood one.stands one.moved.setting one.only;
+        sound = sound_after p u dispatch handle sound rest x y one.stood one.stands one.moved.filter one.only;
         fate = fate;
         told = ap told_in (stack_after p u dispatch handle sound rest y one.stands) ∙ ap (λ (v : StackValue). v.told) told.2;
         made =
@@ -252,7 +253,7 @@ module _ (g : Ghosts StackValue) (means : (x : StackValue) (c : Call) (r : Reply
       let old = value_before p u dispatch handle sound rest x one.stood in
       let left : y ≡ record x { registry = store.with_entry x.registry lane id; told = Quiet } =
       entry_given x y id at.lane one.moved.gives (there_before rest x id one.stood there) ∙ ap (λ (n : ℕ). record x { registry = store.with_entry x.registry n id; told = Quiet }) is in (
-        sound_after p u dispatch handle sound rest x y one.stood one.stands one.moved.setting one.only,
+        sound_after p u dispatch handle sound rest x y one.stood one.stands one.moved.filter one.only,
         value_after p u dispatch handle sound rest y one.stands ∙ ap (λ (v : StackValue). over rest (Some v)) left
             ∙ ap (λ (v : StateValue). with_entry v lane id) (sym old),
       )
@@ -269,7 +270,7 @@ module _ (g : Ghosts StackValue) (means : (x : StackValue) (c : Call) (r : Reply
       let x = one.before in
       let y = one.after in
       let same = entry_refused x y id at.lane error one.moved.gives in (
-        sound_after p u dispatch handle sound rest x y one.stood one.stands one.moved.setting one.only,
+        sound_after p u dispatch handle sound rest x y one.stood one.stands one.moved.filter one.only,
         value_after p u dispatch handle sound rest y one.stands ∙ ap (λ (v : StackValue). over rest (Some v)) same ∙ sym (value_before p u dispatch handle sound rest x one.stood),
       )
 
@@ -283,7 +284,7 @@ module _ (g : Ghosts StackValue) (means : (x : StackValue) (c : Call) (r : Reply
       let y = one.after in
       let old = value_before p u dispatch handle sound rest x one.stood in
       let left : y ≡ quiet (with_exit x lane id) = one.moved.gives ∙ ap (λ (n : ℕ). quiet (with_exit x n id)) is in (
-        sound_after p u dispatch handle sound rest x y one.stood one.stands one.moved.setting one.only,
+        sound_after p u dispatch handle sound rest x y one.stood one.stands one.moved.filter one.only,
         value_after p u dispatch handle sound rest y one.stands ∙ ap (λ (v : StackValue). over rest (Some v)) left
             ∙ ap (λ (v : StateValue). without_entry v lane id) (sym old),
       )
@@ -308,7 +309,7 @@ module _ (g : Ghosts StackValue) (means : (x : StackValue) (c : Call) (r : Reply
       let x = one.before in
       let y = one.after in
       let same = clone_given x y id r one.moved.gives (there_before rest x id one.stood there) (count_before rest x id 18446744073709551615 one.stood fewer) in (
-        sound_after p u dispatch handle sound rest x y one.stood one.stands one.moved.setting one.only,
+        sound_after p u dispatch handle sound rest x y one.stood one.stands one.moved.filter one.only,
         value_after p u dispatch handle sound rest y one.stands ∙ ap (λ (v : StackValue). over rest (Some v)) same
             ∙ ap (λ (v : StateValue). with_one v id) (sym (value_before p u dispatch handle sound rest x one.stood)),
       )
@@ -321,8 +322,8 @@ module _ (g : Ghosts StackValue) (means : (x : StackValue) (c : Call) (r : Reply
       let one = the_call (FollowsRecorded id other at) r gives in
       let x = one.before in
       let y = one.after in
-      let same = one.moved.gives.1 in (
-        sound_after p u dispatch handle sound rest x y one.stood one.stands one.moved.setting one.only,
+      let same = one.moved.gives in (
+        sound_after p u dispatch handle sound rest x y one.stood one.stands one.moved.filter one.only,
         value_after p u dispatch handle sound rest y one.stands ∙ ap (λ (v : StackValue). over rest (Some v)) same ∙ sym (value_before p u dispatch handle sound rest x one.stood),
       )
 
@@ -345,7 +346,7 @@ module _ (g : Ghosts StackValue) (means : (x : StackValue) (c : Call) (r : Reply
       let given = close_given x id (count_before rest x id 0 one.stood some) in
       let left : y ≡ quiet (left_in (swept (without_handle x.registry id)) x) =
       one.moved.gives.1 ∙ ap (λ (w : Result Bool RequestError × RegistryValue). quiet (left_in w.1 x)) given in (
-        sound_after p u dispatch handle sound rest x y one.stood one.stands one.moved.setting one.only,
+        sound_after p u dispatch handle sound rest x y one.stood one.stands one.moved.filter one.only,
         value_after p u dispatch handle sound rest y one.stands ∙ ap (λ (v : StackValue). over rest (Some v)) left ∙ ap (λ (v : StateValue). without_one v id) (sym old),
         one.moved.gives.0 ∙ ap (λ (w : Result Bool RequestError × RegistryValue). says_closed w.0) given
             ∙ ap (λ (v : StateValue). not (is_open kin_in (skeleton_of (without_one v id)).registry.spans id)) (sym old),

@@ -1,3 +1,4 @@
+pub mod Levels
 pub mod Anew
 pub mod Lists
 pub mod FieldNames

@@ -5,12 +5,12 @@ use Rattle.tracing_appender_rolling.specs.Appenders.{MayOpen, HandsBack}
 use Rattle.tracing_appender_rolling.specs.Contents.{Contents}
 use Rattle.tracing_appender_rolling.specs.FolderError.{FolderError}
 use Rattle.span_tracing_machine.specs.declared.refusal.Refusal.TheVariants as refusals
-use Rattle.span_tracing_stack.specs.declared.setting.Setting.{Setting}
+use Rattle.span_tracing.specs.Skeletons.{KeptOutput}
 use Rattle.span_tracing.specs.declared.output.Output.{Output}
 use Rattle.span_tracing.specs.declared.stacks.OutputBack.{OutputBack}
 use Rattle.span_tracing.specs.Outputs.{IsOpeningRefusal, output_names, refusal_by, setting_of}
 
-pub opening_back : {T D : Type 0} (contents : D → Option Contents) (output : Output D) (held : Option Setting) (r : Result T (OutputBack D)) → held ≡ Some (setting_of output) →
+pub opening_back : {T D : Type 0} (contents : D → Option Contents) (output : Output D) (held : Option KeptOutput) (r : Result T (OutputBack D)) → held ≡ Some (setting_of output) →
     IfErr r (λ back. held ≡ Some (setting_of back.output)) →
     IfErr r (λ back. (error : FolderError) × (back.refusal ≡ refusal_by error)) →
     IfErr r (λ back. output_names back.output ≡ output_names output) →
@@ -22,9 +22,9 @@ opening_back contents output held (Err back) kept setting told names known =
     record {
       told = told;
       same = record {
-        filter_same = ap (λ (s : Setting). s.filter) (sym same);
-        format_same = ap (λ (s : Setting). s.format) (sym same);
-        key_same = ap (λ (s : Setting). s.key) (sym same);
+        filter_same = ap (λ (s : KeptOutput). s.filter) (sym same);
+        format_same = ap (λ (s : KeptOutput). s.format) (sym same);
+        key_same = ap (λ (s : KeptOutput). s.key) (sym same);
         names_same = names;
       };
       known = λ c is may. known c is may;

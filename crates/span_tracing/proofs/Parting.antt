@@ -17,10 +17,11 @@ use Rattle.span_tracing_machine.specs.Machine.{parent_id, parent_refusal}
 use Rattle.span_tracing_machine.specs.Skeleton.{PlainCallsite}
 use Rattle.span_tracing_machine.specs.State.{event_line, target_of, fields_of, from_root, shown_span}
 use Rattle.span_tracing_machine.proofs.Refusing.{second_none, none_when}
-use Rattle.span_registry_layers_store.specs.Registries.{under}
-use Rattle.span_tracing_stack.specs.Moves.{EventGives, TellsLine}
-use Rattle.span_tracing_stack.specs.Stacks.{StackValue, PlainTold, passes, knows_parent, line_in, plain_time}
-use Rattle.span_tracing_stack.specs.declared.setting.Setting.{Setting}
+use Rattle.span_registry_layers.specs.Registries.{under}
+use Rattle.span_tracing.proofs.Levels.{EventGives, TellsLine}
+use Rattle.span_tracing.specs.Levels.{StackValue, passes}
+use Rattle.span_tracing_stack.specs.Stacks.{PlainTold, knows_parent, line_in, plain_time}
+use Rattle.std.specs.Option.{unwrap_or}
 use Rattle.span_tracing.specs.Actions.{plain_request}
 use Rattle.span_tracing.specs.Skeletons.{plain_callsite, plain_thread, filter_here, stack_of, stack_in, skeleton_with, value_with, value_in, told_in}
 use Rattle.span_tracing.specs.Sound.{IsSound, HasOnly, KeepsCallsites}
@@ -92,9 +93,9 @@ module _ (p : TraceParts) (u : Table StackValue Site) (dispatch : Option ℕ) (h
       ∙ ap (λ (t : Table StackValue Site). value_with (map plain_callsite p.callsites.items) (map plain_thread p.threads.items) (was_set t.global) p.starved (Some y)) rest
 
   -- the stack that took the call passes what it passed
-  pub sound_after : (x y : StackValue) → stack_of (Some dispatch) p.hub.entries ≡ Some x → stack_of (Some dispatch) u.entries ≡ Some y → y.setting ≡ x.setting → HasOnly (Some dispatch) p.hub.global u.entries → IsSound later
+  pub sound_after : (x y : StackValue) → stack_of (Some dispatch) p.hub.entries ≡ Some x → stack_of (Some dispatch) u.entries ≡ Some y → y.filter ≡ x.filter → HasOnly (Some dispatch) p.hub.global u.entries → IsSound later
   sound_after x y stood stands same only =
-      let filter = ap filter_here (stack_after y stands) ∙ ap (λ (s : Setting). Some s.filter) same ∙ sym (ap filter_here (stack_before x stood)) in
+      let filter = ap filter_here (stack_after y stands) ∙ ap (λ (f : Option ℕ). Some (unwrap_or f 0)) same ∙ sym (ap filter_here (stack_before x stood)) in
       record {
         only = subst (λ h. HasOnly h u.global u.entries) (sym handle) (subst (λ (t : Table StackValue Site). HasOnly (Some dispatch) t.global u.entries) (sym rest) only);
         lanes = ap (λ (t : Table StackValue Site). t.lanes) rest ∙ sound.lanes;

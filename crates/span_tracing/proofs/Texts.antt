@@ -1,8 +1,8 @@
 -- The texts of open spans, one more at a time from the end.
 use Rattle.std.proofs.Common.{◌≡◌, List, [], ◌∷◌, map, Bool, true, false, refl, ap, if◌then◌else◌, Option, Some, None}
 use Rattle.std.specs.List.{filter}
-use Rattle.span_registry_layers_store.specs.Registries.{PlainSpan, kin_in}
-use Rattle.span_registry_layers_store.specs.Spans.{is_open}
+use Rattle.span_registry_layers.specs.Registries.{PlainSpan, kin_in}
+use Rattle.span_registry_layers.specs.Spans.{is_open}
 use Rattle.span_tracing_machine.specs.declared.call.SpanName.{SpanName}
 use Rattle.span_tracing_machine.specs.State.{ValueList, text_of, lists_left}
 use Rattle.span_tracing.specs.Stored.{open_texts, texts_left}

@@ -9,8 +9,8 @@ use Rattle.span_tracing_machine.specs.declared.call.EnabledCall.{EnabledCall}
 use Rattle.span_tracing_machine.specs.declared.call.Parent.{Parent}
 use Rattle.span_tracing_machine.specs.declared.call.SpanCall.{SpanCall}
 use Rattle.span_tracing_machine.specs.declared.call.SpanName.{SpanName}
-use Rattle.span_registry_layers_store.specs.Registries.{kin_in}
-use Rattle.span_registry_layers_store.specs.Spans.{handles_of, is_open}
+use Rattle.span_registry_layers.specs.Registries.{kin_in}
+use Rattle.span_registry_layers.specs.Spans.{handles_of, is_open}
 use Rattle.tracing_appender_rolling.specs.Moment.{Moment}
 use Rattle.span_tracing_machine.specs.declared.refusal.Refusal.TheVariants.{UnknownLane, UnknownSpan, IdsSpent, TooManyHandles, GlobalSet, UnknownStack}
 use Rattle.span_tracing_machine.specs.Machine.{when, count_refusal, handle_refusal, span_refusal, knows_stack, refusal_of, ids_refusal, parent_refusal, request_refusal, made_at, call_refusal, callsite_refusal, known_place, lane_refusal, moment_refusal}

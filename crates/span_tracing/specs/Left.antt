@@ -1,7 +1,7 @@
 -- What requests that are made leave of a trace's state.
 use Rattle.std.specs.Prelude.{◌≡◌, Result, Ok, Err, ℕ, List, Option, Some}
-use Rattle.span_registry_layers_store.specs.Registries.{RegistryValue, swept, with_handle, without_handle}
-use Rattle.span_registry_layers_store.specs.Registries as store
+use Rattle.span_registry_layers.specs.Registries.{RegistryValue, swept, with_handle, without_handle}
+use Rattle.span_registry_layers.specs.Registries as store
 use Rattle.span_tracing_machine.specs.declared.fate.Fate.{Fate}
 use Rattle.span_tracing_machine.specs.FieldTexts.{FieldList}
 use Rattle.span_tracing_machine.specs.Missed.{given_by}

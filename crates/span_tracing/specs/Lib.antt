@@ -1,3 +1,4 @@
+pub mod Levels
 pub mod Actions
 pub mod Skeletons
 pub mod Sound

@@ -8,16 +8,16 @@ use Rattle.tracing_appender_rolling.specs.Contents.{Contents}
 use Rattle.tracing_appender_rolling.specs.Appenders.{fresh_sink, MayOpen, HandsBack}
 use Rattle.tracing_appender_rolling.specs.FolderError.{FolderError}
 use Rattle.tracing_appender_rolling.specs.FolderError.TheVariants.{Fault, OutOfMemory}
+use Rattle.span_registry_layers.specs.Numbering.{more_filters}
 use Rattle.span_tracing_machine.specs.declared.refusal.Refusal.{Refusal}
 use Rattle.span_tracing_machine.specs.declared.refusal.Refusal.TheVariants.{BadMoment, NoOutput, BadName, FolderRefused}
 use Rattle.span_tracing_machine.specs.declared.refusal.Refusal.TheVariants as refusals
 use Rattle.span_tracing_machine.specs.Machine.{first, when}
 use Rattle.span_tracing_machine.specs.State.{PlainOutput}
 use Rattle.span_tracing_stack.specs.declared.format.LineFormat.{LineFormat}
-use Rattle.span_tracing_stack.specs.declared.setting.OutputKey.{OutputKey}
-use Rattle.span_tracing_stack.specs.declared.setting.Setting.{Setting}
+use Rattle.span_registry_layers.specs.OutputKey.{OutputKey}
 use Rattle.span_tracing_stack.specs.Stacks.{plain_time}
-use Rattle.span_tracing.specs.Skeletons.{StateValue}
+use Rattle.span_tracing.specs.Skeletons.{KeptOutput, StateValue}
 use Rattle.span_tracing.specs.declared.output.SinkSpec.{SinkSpec}
 use Rattle.span_tracing.specs.declared.output.SinkSpec.TheVariants.{Direct}
 use Rattle.span_tracing.specs.declared.output.Output.{Output}
@@ -49,7 +49,7 @@ abbrev pub stack_refusal : {D : Type 0} → List (Output D) → Moment → Optio
 stack_refusal outputs moment = first (when (not (is_moment moment)) BadMoment) (outputs_refusal outputs)
 
 -- what a trace keeps of an output beside its sink
-abbrev pub setting_of : {D : Type 0} → Output D → Setting
+abbrev pub setting_of : {D : Type 0} → Output D → KeptOutput
 setting_of o = record { key = o.key; filter = o.filter; format = o.format }
 
 -- the same output, but for what its folder's calls left
@@ -77,5 +77,5 @@ HandsOutputsBack {D} contents outputs refusal back =
     (output : Output D) → outputs ≡ output ∷ [] → (again : Output D) × (back ≡ again ∷ []) × IsOpeningRefusal contents output refusal again
 
 -- a trace's state with the stack of an output
-abbrev pub with_output : StateValue → Setting → StateValue
-with_output v setting = record v { skeleton = record (v.skeleton) { has_stack = true }; output = Some setting }
+abbrev pub with_output : StateValue → KeptOutput → StateValue
+with_output v setting = record v { skeleton = record (v.skeleton) { has_stack = true; registry = more_filters 1 v.skeleton.registry }; output = Some setting }

@@ -8,9 +8,11 @@ use Rattle.tracing_core.specs.InterestInner.TheVariants.{Never, Always}
 use Rattle.tracing_core.specs.Lent.{living_of}
 use Rattle.span_tracing_machine.specs.Skeleton.{Skeleton, PlainCallsite}
 use Rattle.span_tracing_machine.specs.State.{PlainText}
-use Rattle.span_registry_layers_store.specs.Registries.{RegistryValue, new_registry}
-use Rattle.span_tracing_stack.specs.Stacks.{StackValue, PlainTold, Quiet, plain_time}
-use Rattle.span_tracing_stack.specs.declared.setting.Setting.{Setting}
+use Rattle.span_registry_layers.specs.Registries.{RegistryValue, new_registry}
+use Rattle.span_tracing.specs.Levels.{StackValue, level_in}
+use Rattle.span_tracing_stack.specs.Stacks.{PlainTold, Quiet, plain_time}
+use Rattle.span_tracing_stack.specs.declared.format.LineFormat.{LineFormat}
+use Rattle.span_registry_layers.specs.OutputKey.{OutputKey}
 use Rattle.span_tracing.specs.declared.callsite.Callsite.{Callsite}
 use Rattle.span_tracing.specs.declared.parts.Thread.{Thread}
 use Rattle.span_tracing.specs.declared.parts.TraceParts.{TraceParts}
@@ -36,7 +38,16 @@ pub record PlainSetting : Type 0 where
   pub filter : ℕ
   pub time : Option (List ℕ)
 
-abbrev pub plain_setting : Setting → PlainSetting
+-- what a trace keeps of an output beside its sink
+pub record KeptOutput : Type 0 where
+  pub key : OutputKey
+  pub filter : ℕ
+  pub format : LineFormat
+
+abbrev pub kept_of : StackValue → KeptOutput
+kept_of x = record { key = x.setting.key; filter = level_in x; format = x.setting.format }
+
+abbrev pub plain_setting : KeptOutput → PlainSetting
 plain_setting s = record { filter = s.filter; time = plain_time s.format.timer }
 
 -- a lane's name and thread
@@ -51,7 +62,7 @@ plain_thread thread = record { name = option_map string_bytes thread.name; numbe
 pub record StateValue : Type 0 where
   pub skeleton : Skeleton
   pub threads : List PlainThread
-  pub output : Option Setting
+  pub output : Option KeptOutput
   pub texts : List PlainText
   pub starved : ℕ
 
@@ -84,7 +95,7 @@ stack_in p = stack_of p.handle p.hub.entries
 
 -- the most verbose level that a stack passes
 abbrev pub filter_here : Option StackValue → Option ℕ
-filter_here stack = option_map (λ (x : StackValue). x.setting.filter) stack
+filter_here stack = option_map (λ (x : StackValue). level_in x) stack
 
 -- the interest in a callsite of a level: always where the filter passes it, else never; never where there is no stack
 abbrev pub interest_by : Option ℕ → ℕ → PlainInterest
@@ -124,7 +135,7 @@ value_with callsites threads is_global starved stack =
     record {
       skeleton = skeleton_with callsites (length threads) is_global stack;
       threads = threads;
-      output = option_map (λ (x : StackValue). x.setting) stack;
+      output = option_map kept_of stack;
       texts = texts_in stack;
       starved = starved;
     }

@@ -7,7 +7,7 @@ use Rattle.tracing_core.specs.Setting.{Setting}
 use Rattle.tracing_core.specs.Setting.TheVariants.{Unset, Nothing, To}
 use Rattle.tracing_core.specs.Sound.{IsSound as IsSoundHub, identifiers}
 use Rattle.tracing_core.specs.Table.{Table}
-use Rattle.span_tracing_stack.specs.Stacks.{StackValue}
+use Rattle.span_tracing.specs.Levels.{StackValue}
 use Rattle.span_tracing.specs.declared.callsite.Callsite.{Callsite}
 use Rattle.span_tracing.specs.declared.parts.TraceParts.{TraceParts}
 use Rattle.span_tracing.specs.declared.site.Site.{Site}

@@ -7,8 +7,8 @@ use Rattle.tracing_appender_rolling.specs.Sinks.{Handed, PlainSink}
 use Rattle.tracing_appender_rolling.specs.Appenders.{AgreesSink}
 use Rattle.tracing_appender_rolling.specs.declared.appender.RollingFileAppender.{RollingFileAppender}
 use Rattle.span_tracing_machine.specs.declared.fate.Fate.{Fate}
-use Rattle.span_registry_layers_store.specs.Registries.{PlainSpan, kin_in}
-use Rattle.span_registry_layers_store.specs.Spans.{is_open}
+use Rattle.span_registry_layers.specs.Registries.{PlainSpan, kin_in}
+use Rattle.span_registry_layers.specs.Spans.{is_open}
 use Rattle.span_tracing_machine.specs.declared.call.SpanName.{SpanName}
 use Rattle.span_tracing_machine.specs.PlainData.{Request, PlainStep, GlobalStep, EventStep, EnabledStep, SpanStep, RecordStep, FollowsFromStep, EnterStep, ExitStep, CloneStep, CloseStep}
 use Rattle.span_tracing_machine.specs.FieldTexts.{FieldList, lists_text, with_lists}

@@ -13,7 +13,8 @@ use span_tracing_machine::Parent;
 use span_tracing_stack::Stack;
 use tracing_appender_rolling::Moment;
 use tracing_core::{
-    At, Attributes, Dispatch, Event, Hub, Id, Metadata, Record, RequestError, Subscriber, ValueSet,
+    At, Attributes, Dispatch, Event, Hub, Id, LevelFilter, Metadata, Record, RequestError,
+    Subscriber, ValueSet,
 };
 
 /// Where and when.
@@ -29,12 +30,12 @@ pub(crate) fn at_of(lane: usize, moment: Moment) -> At
 
 /// Hands an event at the callsite to the stack.
 pub(crate) fn hand_event(
-    hub: &mut Hub<Stack, Site>,
+    hub: &mut Hub<Stack<LevelFilter>, Site>,
     handle: &Dispatch,
     callsite: &Callsite,
     event: &Request<'_>,
 ) -> Result<(), RequestError>
-    ensures { HubGives ⟦<Stack as Subscriber>⟧ (Told (event_of callsite.now event.now) (place_at event.now.lane event.now.moment)) handle.now hub.old result hub.new }
+    ensures { HubGives ⟦<Stack<LevelFilter> as Subscriber>⟧ (Told (event_of callsite.now event.now) (place_at event.now.lane event.now.moment)) handle.now hub.old result hub.new }
 {
     let metadata = callsite.metadata();
     let values = metadata.fields().value_set_indexed(event.values);
@@ -51,12 +52,12 @@ pub(crate) fn hand_event(
 
 /// Hands a new span at the callsite to the stack.
 pub(crate) fn hand_span(
-    hub: &mut Hub<Stack, Site>,
+    hub: &mut Hub<Stack<LevelFilter>, Site>,
     handle: &Dispatch,
     callsite: &Callsite,
     span: &Request<'_>,
 ) -> Result<Option<Id>, RequestError>
-    ensures { HubGives ⟦<Stack as Subscriber>⟧ (SpanMade (attributes_of callsite.now span.now) (place_at span.now.lane span.now.moment)) handle.now hub.old result hub.new }
+    ensures { HubGives ⟦<Stack<LevelFilter> as Subscriber>⟧ (SpanMade (attributes_of callsite.now span.now) (place_at span.now.lane span.now.moment)) handle.now hub.old result hub.new }
 {
     let metadata = callsite.metadata();
     let values = metadata.fields().value_set_indexed(span.values);
@@ -73,13 +74,13 @@ pub(crate) fn hand_span(
 
 /// Hands values for a span of the callsite to the stack.
 pub(crate) fn hand_record(
-    hub: &mut Hub<Stack, Site>,
+    hub: &mut Hub<Stack<LevelFilter>, Site>,
     handle: &Dispatch,
     callsite: &Callsite,
     id: Id,
     call: &RecordRequest<'_>,
 ) -> Result<(), RequestError>
-    ensures { HubGives ⟦<Stack as Subscriber>⟧ (Recorded id (values_with callsite.now call.now.values.now) (place_at call.now.lane call.now.moment)) handle.now hub.old result hub.new }
+    ensures { HubGives ⟦<Stack<LevelFilter> as Subscriber>⟧ (Recorded id (values_with callsite.now call.now.values.now) (place_at call.now.lane call.now.moment)) handle.now hub.old result hub.new }
 {
     let metadata = callsite.metadata();
     let values = Record::new(metadata.fields().value_set_indexed(call.values));

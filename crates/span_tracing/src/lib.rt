@@ -20,11 +20,12 @@ mod trace;
 
 pub use output::{Output, OutputRefusal, Route, SinkSpec};
 pub use setup::StackRefusal;
+pub use span_registry_layers::OutputKey;
 pub use span_tracing_machine::{
     EnabledCall, EventCall, FollowsCall, NewSpanCall, Parent, RecordCall, Refusal, Reply, SpanCall,
     SpanName, Step,
 };
-pub use span_tracing_stack::{Fields, LineFormat, OutputKey, Timer};
+pub use span_tracing_stack::{Fields, LineFormat, Timer};
 pub use trace::Trace;
 pub use tracing_appender_rolling::{
     Builder, Entry, FileEntry, FileNumber, Folder, FolderError, FolderFault, MemoryFolder, Moment,

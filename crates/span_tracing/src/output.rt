@@ -3,8 +3,9 @@
 ghost use Rattle.std.specs.Prelude.{◌≡◌, ◌≤◌, [], ◌∷◌, true, false, Ok, Err, IfOk, IfErr, IsErr, vec_len};
 ghost use Rattle.span_tracing.specs.Routes.{is_bad_route};
 
+use span_registry_layers::OutputKey;
 use span_tracing_machine::Refusal;
-use span_tracing_stack::{LineFormat, OutputKey};
+use span_tracing_stack::LineFormat;
 use std::alloc::Global;
 use tracing_appender_rolling::Builder;
 use tracing_core::LevelFilter;

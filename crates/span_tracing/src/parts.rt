@@ -2,8 +2,8 @@
 
 ghost use Rattle.std.specs.Prelude.{◌≡◌, ◌<◌, ◌≤◌, IfNone, IfSome, length, map, option_and_then};
 ghost use Rattle.std.specs.Option.{option_copied};
-ghost use Rattle.span_registry_layers_store.specs.Registries.{PlainSpan, kin_in};
-ghost use Rattle.span_registry_layers_store.specs.Spans.{found, handles_of, is_open};
+ghost use Rattle.span_registry_layers.specs.Registries.{PlainSpan, kin_in};
+ghost use Rattle.span_registry_layers.specs.Spans.{found, handles_of, is_open};
 ghost use Rattle.span_tracing_machine.specs.Machine.{place_of};
 ghost use Rattle.span_tracing_stack.specs.Stacks.{line_said, is_starved};
 ghost use Rattle.span_tracing.specs.Skeletons.{plain_callsite, registry_in, told_in};
@@ -13,7 +13,7 @@ use crate::checks::place_of;
 use crate::site::Site;
 use span_tracing_stack::Stack;
 use std::alloc::Global;
-use tracing_core::{Dispatch, Hub, Id};
+use tracing_core::{Dispatch, Hub, Id, LevelFilter};
 
 /// A lane's name and thread.
 #[derive(Debug, Drop)]
@@ -28,7 +28,7 @@ pub(crate) struct TraceParts {
     pub(crate) alloc: Global,
     pub(crate) callsites: Vec<Callsite>,
     pub(crate) threads: Vec<Thread>,
-    pub(crate) hub: Hub<Stack, Site>,
+    pub(crate) hub: Hub<Stack<LevelFilter>, Site>,
     /// The stack's handle, where there is a stack.
     pub(crate) handle: Option<Dispatch>,
     /// How many texts and lines found no memory; it stops at the greatest number.
@@ -39,7 +39,7 @@ impl TraceParts {
     ghost use Rattle.span_tracing.specs.Skeletons.{stack_in};
 
     /// The stack, where there is one.
-    pub(crate) fn stack(&self) -> Option<&Stack>
+    pub(crate) fn stack(&self) -> Option<&Stack<LevelFilter>>
         ensures { option_copied result ≡ stack_in self.now }
     {
         match &self.handle {

@@ -7,19 +7,18 @@ ghost use Rattle.tracing_appender_rolling.specs.Builders.{builder_names};
 ghost use Rattle.tracing_appender_rolling.specs.Contents.{Contents};
 ghost use Rattle.tracing_appender_rolling.specs.Moments.{is_moment};
 ghost use Rattle.tracing_core.specs.Setting.TheVariants.{Unset};
-ghost use Rattle.span_tracing_stack.specs.Stacks.{StackValue};
-ghost use Rattle.span_tracing.specs.Skeletons.{stack_in, value_in};
+ghost use Rattle.span_tracing.specs.Skeletons.{kept_of, stack_in, value_in};
 ghost use Rattle.span_tracing.specs.Sound.{OwnsOne};
 ghost use Rattle.span_tracing.specs.Outputs.{refusal_by, setting_of, with_output};
 
 use crate::output::Output;
 use crate::parts::TraceParts;
 use span_tracing_machine::Refusal;
-use span_tracing_stack::{Setting, Stack};
+use span_tracing_stack::{Setting, Stack, StackBack};
 use tracing_appender_rolling::{Builder, Folder, FolderError, Moment, RollingFileAppender};
-use tracing_core::AddError;
+use tracing_core::{AddError, LevelFilter};
 
-/// An output whose file could not be opened.
+/// An output that was not kept, and why.
 #[derive(Drop)]
 pub(crate) struct OutputBack<D> {
     pub(crate) refusal: Refusal,
@@ -36,17 +35,26 @@ fn refusal_of(error: FolderError) -> Refusal
 }
 
 // An output of a stack that was not kept.
-fn output_of<D>(stack: Stack, builder: Builder, folder: D) -> Output<D>
-    ensures setting { setting_of result ≡ stack.setting }
+fn output_of<D>(stack: Stack<LevelFilter>, builder: Builder, folder: D) -> Output<D>
+    ensures setting { setting_of result ≡ kept_of stack }
     ensures builder { result.builder ≡ builder }
     ensures folder { result.folder ≡ folder }
 {
-    let (setting, line) = stack.into_parts();
-    let Setting {
-        key,
+    output_with(stack.into_parts(), builder, folder)
+}
+
+// The same of what a stack is made of.
+fn output_with<D>(back: StackBack<LevelFilter>, builder: Builder, folder: D) -> Output<D>
+    ensures setting { setting_of result ≡ record { key = back.setting.key; filter = back.filter; format = back.setting.format } }
+    ensures builder { result.builder ≡ builder }
+    ensures folder { result.folder ≡ folder }
+{
+    let StackBack {
+        setting,
         filter,
-        format,
-    } = setting;
+        line,
+    } = back;
+    let Setting { key, format } = setting;
     Output {
         key,
         filter,
@@ -58,16 +66,17 @@ fn output_of<D>(stack: Stack, builder: Builder, folder: D) -> Output<D>
 }
 
 impl TraceParts {
-    ghost use Rattle.span_tracing_stack.specs.Stacks.{new_stack};
+    ghost use Rattle.span_tracing_stack.specs.New.{new_stack};
+    ghost use Rattle.span_tracing.specs.Levels.{level_in};
     ghost use Rattle.span_tracing.specs.Outputs.{IsOpeningRefusal, output_names, plain_output};
     ghost use Rattle.span_tracing.specs.Sound.{IsSound, HasFirst};
     ghost use Rattle.span_tracing.specs.Stored.{AgreesOption};
 
     /// Takes a stack that nothing was told yet, or hands it back.
-    fn add_stack(&mut self, stack: Stack) -> Result<(), Stack>
+    fn add_stack(&mut self, stack: Stack<LevelFilter>) -> Result<(), Stack<LevelFilter>>
         requires sound { IsSound self.old }
         requires none { self.old.handle ≡ None }
-        requires fresh { stack ≡ new_stack stack.setting }
+        requires fresh { stack ≡ new_stack stack.setting (level_in stack) }
         ensures ok { OnOk result (HasFirst self.old self.new stack) }
         ensures back { IfErr result (λ back. back ≡ stack) }
         ensures err { OnErr result (self.new ≡ self.old) }
@@ -83,7 +92,7 @@ impl TraceParts {
     }
 
     /// Gives the stack up again, to which only its one handle leads. Then nobody is interested in any callsite.
-    fn take_stack(&mut self) -> Option<Stack>
+    fn take_stack(&mut self) -> Option<Stack<LevelFilter>>
         requires sound { IsSound self.old }
         requires owns { OwnsOne self.old.handle self.old.hub.entries }
         requires unset { self.old.hub.global ≡ Unset }
@@ -121,12 +130,17 @@ impl TraceParts {
             folder,
             line,
         } = output;
-        let setting = Setting {
-            key,
-            filter,
-            format,
+        let setting = Setting { key, format };
+        let stack = match Stack::new(self.alloc, setting, filter, line) {
+            Ok(stack) => stack,
+            Err(back) => {
+                return Err(OutputBack {
+                    refusal: Refusal::OutOfMemory,
+                    output: output_with(back, builder, folder),
+                });
+            }
         };
-        match self.add_stack(Stack::new(self.alloc, setting, line)) {
+        match self.add_stack(stack) {
             Ok(()) => self.build(builder, folder, moment),
             Err(stack) => Err(OutputBack {
                 refusal: Refusal::OutOfMemory,
@@ -151,7 +165,7 @@ impl TraceParts {
         ensures files { IfOk result (λ sink. MayOpen (D.contents folder) (builder_names builder) →
             AgreesSink D.contents sink (fresh_sink (builder_names builder) moment (D.contents folder))) }
         ensures err { OnErr result (self.new ≡ record self.old { handle = None; hub = self.new.hub }) }
-        ensures setting { IfErr result (λ back. option_map (λ (x : StackValue). x.setting) (stack_in self.old) ≡ Some (setting_of back.output)) }
+        ensures setting { IfErr result (λ back. option_map kept_of (stack_in self.old) ≡ Some (setting_of back.output)) }
         ensures told { IfErr result (λ back. (error : FolderError) × (back.refusal ≡ refusal_by error)) }
         ensures names { IfErr result (λ back. output_names back.output ≡ builder_names builder) }
         ensures known { (c : Contents) → D.contents folder ≡ Some c → MayOpen (Some c) (builder_names builder) →

@@ -186,7 +186,12 @@ callsite_well : (p : Plain) (c : PlainCallsite) → IsWellFormed p.skeleton → 
 callsite_well p c well = record { registry = well.registry; lanes = well.lanes }
 
 stack_well : (p : Plain) (o : PlainOutput) → IsWellFormed p.skeleton → IsWellFormed (with_stack p o).skeleton
-stack_well p o well = record { registry = well.registry; lanes = well.lanes }
+stack_well p o well =
+    let sound = well.registry in
+    record {
+      registry = record { started = sound.started; ordered = sound.ordered; below = sound.below; all_open = sound.all_open; entries = sound.entries };
+      lanes = well.lanes;
+    }
 
 registered_if : (known : Bool) (p : Plain) (c : PlainCallsite) → IsWellFormed p.skeleton → IsWellFormed (if known then p else with_callsite p c).skeleton
 registered_if true p c well = well

@@ -247,5 +247,6 @@ registered p c = if is_some (callsite_named p.skeleton.callsites c.number) then 
 abbrev pub with_lane : Plain → Plain
 with_lane p = with_skeleton p (record (p.skeleton) { lanes = p.skeleton.lanes + 1 })
 
+-- the registry knows of the output's filter
 abbrev pub with_stack : Plain → PlainOutput → Plain
-with_stack p o = record p { skeleton = record (p.skeleton) { has_stack = true }; output = Some o }
+with_stack p o = record p { skeleton = record (p.skeleton) { has_stack = true; registry = record (p.skeleton.registry) { filters = p.skeleton.registry.filters + 1 } }; output = Some o }

@@ -1,5 +1,5 @@
 -- The text of one list.
-use Rattle.std.proofs.Common.{◌≡◌, List, [], ◌∷◌, refl}
+use Rattle.std.proofs.Common.{◌≡◌, [], ◌∷◌, refl}
 use Rattle.span_tracing_machine.specs.FieldTexts.{FieldList, fields_text, lists_text, with_fields}
 
 -- the text of a list that found memory, or of none

@@ -5,3 +5,5 @@ pub mod Adding
 pub mod Showing
 pub mod Writing
 pub mod Giving
+pub mod Moving
+pub mod Keeping

@@ -1,5 +1,5 @@
 -- Texts whose ids rise, and a search by halves among them.
-use Rattle.std.proofs.Common.{◌≡◌, inl, inr, ℕ, zero, suc, ◌+◌, ◌<◌, ◌≤◌, ◌==◌, List, [], ◌∷◌, ◌++◌, length, map, Bool, true, false, if◌then◌else◌, slice_index_or, string_bytes, Option, Some, None, Ok, Err, refl, sym, ap, ◌∙◌, set, subst, arith}
+use Rattle.std.proofs.Common.{◌≡◌, inl, inr, ℕ, zero, suc, ◌+◌, ◌<◌, ◌≤◌, ◌==◌, List, [], ◌∷◌, ◌++◌, length, map, Bool, true, false, if◌then◌else◌, slice_index_or, string_bytes, Ok, Err, refl, sym, ap, ◌∙◌, set, subst, arith}
 use Rattle.std.specs.Global.{Global}
 use Rattle.std.specs.Prelude.{String}
 use Rattle.std.specs.List.{AllByRecursion, filter}
@@ -8,17 +8,10 @@ use Rattle.std.specs.Ordering.{nat_cmp, ordering_index}
 use Rattle.std.proofs.lemmas.Bool.{cases_lt}
 use Rattle.std.proofs.lemmas.Bool.Decides.{nat_tests}
 use Rattle.std.proofs.lemmas.Cmp.{ranked}
-use Rattle.tracing_core.specs.Handles.{or_same}
-use Rattle.tracing_core.specs.RequestError.{RequestError}
-use Rattle.span_registry_layers_store.specs.Gives.{close_gives, close_refusal}
-use Rattle.span_registry_layers_store.specs.Registries.{PlainSpan, RegistryValue, swept, without_handle}
+use Rattle.span_registry_layers.specs.Registries.{PlainSpan}
 use Rattle.span_tracing_machine.specs.State.{PlainText, text_at}
 use Rattle.span_tracing_stack.specs.Rising.{AreRising, HasId, HasNone, Rises}
-use Rattle.tracing_core.specs.PlainRequests.{PlainAttributes, PlainValues}
-use Rattle.span_tracing_machine.specs.declared.fate.Fate.{Fate}
-use Rattle.span_tracing_stack.specs.Moves.{closed_left}
-use Rattle.span_tracing_stack.specs.Recording.{AddsFields}
-use Rattle.span_tracing_stack.specs.Stacks.{StackValue, open_texts, plain_text, with_bytes, with_exit, with_span}
+use Rattle.span_tracing_stack.specs.Stacks.{open_texts, plain_text, with_bytes}
 use Rattle.span_tracing_stack.specs.declared.text.SpanText.{SpanText}
 
 differs : (a b : ℕ) → (a ≡ b → ⊥) → (a == b) ≡ false
@@ -143,29 +136,3 @@ below_bytes next (t ∷ ts) id bytes below = if_low (t.id == id) next t ts (with
 
 pub bytes_rising : (texts : List PlainText) (next id : ℕ) (bytes : List ℕ) → AreRising texts next → AreRising (with_bytes texts id bytes) next
 bytes_rising texts next id bytes rising = record { rise = rises_bytes 0 texts id bytes rising.rise; below = below_bytes next texts id bytes rising.below }
-
--- a close leaves the next id
-next_same : (o : Option RequestError) (x y : RegistryValue) → y.next_id ≡ x.next_id → (or_same o x y).next_id ≡ x.next_id
-next_same None x y same = same
-next_same (Some refusal) x y same = refl
-
-pub next_closed : (x : RegistryValue) (id : ℕ) → (close_gives x id).1.next_id ≡ x.next_id
-next_closed x id = next_same (close_refusal x id) x (swept (without_handle x id)) refl
-
--- the texts of a stack rise
-abbrev pub TextsRise : StackValue → Type 0
-TextsRise x = AreRising x.texts x.registry.next_id
-
-pub closed_rising : (x y : StackValue) (id : ℕ) → y ≡ closed_left x id → TextsRise x → TextsRise y
-closed_rising x y id is rising =
-    let z = (close_gives x.registry id).1 in
-    rw is (subst (λ n. AreRising (open_texts z.spans x.texts) n) (sym (next_closed x.registry id)) (open_rising z.spans x.texts x.registry.next_id rising))
-
-pub left_rising : (x y : StackValue) (lane id : ℕ) → y ≡ with_exit x lane id → TextsRise x → TextsRise y
-left_rising x y lane id is rising = rw is (open_rising _ x.texts x.registry.next_id rising)
-
-pub made_rising : (x y : StackValue) (a : PlainAttributes) (lane : ℕ) (fate : Fate) → y ≡ with_span x a lane fate → TextsRise x → TextsRise y
-made_rising x y a lane fate is rising = rw is (more_rising x.texts _ x.registry.next_id refl rising)
-
-pub recorded_rising : (x y : StackValue) (id : ℕ) (values : PlainValues) (fate : Fate) (texts : List PlainText) → AddsFields x.texts id values fate texts → y ≡ record x { texts = texts } → TextsRise x → TextsRise y
-recorded_rising x y id values fate texts adds is rising = rw (is, adds.2) (bytes_rising x.texts x.registry.next_id id adds.0 rising)

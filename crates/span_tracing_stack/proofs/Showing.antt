@@ -3,10 +3,10 @@ use Rattle.std.proofs.Common.{◌≡◌, ℕ, zero, suc, List, [], ◌∷◌, �
 use Rattle.std.specs.Option.{option_map}
 use Rattle.std.proofs.lemmas.Bool.{eqb-true}
 use Rattle.std.proofs.lemmas.List.{map-append, reverse-append}
-use Rattle.span_registry_layers_store.specs.References.{PlainRef, ref_of, refs_of}
-use Rattle.span_registry_layers_store.specs.Registries.{PlainSpan, RegistryValue, kin_in}
-use Rattle.span_registry_layers_store.specs.Spans.{ancestry, found, line_of}
-use Rattle.span_registry_layers_store.specs.Views.{all_seen, one_or_none, scope_of, seen, seen_if}
+use Rattle.span_registry_layers.specs.References.{PlainRef, ref_of, refs_of}
+use Rattle.span_registry_layers.specs.Registries.{PlainSpan, RegistryValue, kin_in}
+use Rattle.span_registry_layers.specs.Spans.{ancestry, found, line_of}
+use Rattle.span_registry_layers.specs.Views.{all_seen, one_or_none, scope_of, seen, seen_if}
 use Rattle.span_tracing_machine.specs.State.{PlainText, from_root, shown_span}
 use Rattle.span_tracing_stack.specs.Shown.{id_of, shown_if, shown_in}
 

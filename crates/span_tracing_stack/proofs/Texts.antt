@@ -1,8 +1,8 @@
 -- The texts of open spans, one more at a time from the end.
 use Rattle.std.proofs.Common.{◌≡◌, ℕ, zero, suc, ◌<◌, ◌≤◌, List, [], ◌∷◌, ◌++◌, length, take, drop, get_or, map, Bool, true, false, refl, sym, ap, ◌∙◌, arith, if◌then◌else◌}
 use Rattle.std.specs.List.{filter}
-use Rattle.span_registry_layers_store.specs.Registries.{PlainSpan, kin_in}
-use Rattle.span_registry_layers_store.specs.Spans.{is_open}
+use Rattle.span_registry_layers.specs.Registries.{PlainSpan, kin_in}
+use Rattle.span_registry_layers.specs.Spans.{is_open}
 use Rattle.span_tracing_stack.specs.declared.text.SpanText.{SpanText}
 use Rattle.span_tracing_stack.specs.Stacks.{open_texts, plain_text}
 

@@ -1,7 +1,7 @@
 -- A shown span without where it lies in memory.
 use Rattle.std.specs.Prelude.{ℕ, List, [], Option, Some, None}
-use Rattle.span_registry_layers_store.specs.Registries.{PlainSpan, RegistryValue, kin_in}
-use Rattle.span_registry_layers_store.specs.Spans.{found}
+use Rattle.span_registry_layers.specs.Registries.{PlainSpan, RegistryValue, kin_in}
+use Rattle.span_registry_layers.specs.Spans.{found}
 use Rattle.span_tracing_machine.specs.Lines.{Shown}
 use Rattle.span_tracing_machine.specs.State.{PlainText, shown_span}
 use Rattle.span_tracing_stack.specs.declared.line.ShownSpan.{ShownSpan}

@@ -1,15 +1,16 @@
--- A stack as a value: what it keeps without where it lies in memory, and what its last request came to.
-use Rattle.std.specs.Prelude.{ℕ, ◌<◌, length, ◌==◌, nat_le, List, [], ◌∷◌, ◌++◌, Bool, true, false, if◌then◌else◌, map, Option, Some, None, string_bytes}
+-- A stack as a value: what it keeps without where it lies in memory, and what its last request came to: an event, a span, a record, an entry, an exit, a handle taken or given up.
+use Rattle.std.specs.Prelude.{ℕ, ◌+◌, ◌++◌, ◌<◌, length, ◌==◌, List, [], ◌∷◌, Bool, true, false, if◌then◌else◌, map, Option, Some, None, string_bytes}
 use Rattle.std.specs.List.{AllByRecursion, filter}
-use Rattle.tracing_core.specs.PlainMetadata.{PlainMetadata}
 use Rattle.tracing_core.specs.PlainValue.{PlainValue}
-use Rattle.tracing_core.specs.PlainRequests.{PlainAttributes, PlainEvent, PlainValues, explicit_parent}
-use Rattle.tracing_core.specs.Interests.{PlainInterest}
-use Rattle.tracing_core.specs.InterestInner.TheVariants.{Never, Always}
 use Rattle.tracing_core.specs.Parent.{Parent}
-use Rattle.span_registry_layers_store.specs.Registries.{PlainSpan, RegistryValue, kin_in, knows, new_registry, swept, under, with_span as with_new, without_entry}
-use Rattle.span_registry_layers_store.specs.Spans.{is_open}
-use Rattle.span_registry_layers_store.specs.Verdicts.{all_pass}
+use Rattle.tracing_core.specs.PlainRequests.{PlainAttributes, PlainEvent, PlainValues, explicit_parent}
+use Rattle.span_registry_layers.specs.Filtered.{Filtered}
+use Rattle.span_registry_layers.specs.Identity.{Identity}
+use Rattle.span_registry_layers.specs.Registries.{PlainSpan, RegistryValue, kin_in, knows, swept, under, with_span as with_new, without_entry}
+use Rattle.span_registry_layers.specs.Row.{Row}
+use Rattle.span_registry_layers.specs.Spans.{is_open}
+use Rattle.span_registry_layers.specs.Stacks.{StackValue as OutputsValue}
+use Rattle.span_registry_layers.specs.Verdicts.{all_pass}
 use Rattle.span_tracing_machine.specs.FieldTexts.{FieldList, lists_text}
 use Rattle.span_tracing_machine.specs.Lines.{full_line}
 use Rattle.span_tracing_machine.specs.declared.fate.Fate.{Fate}
@@ -35,9 +36,10 @@ plain_told told.Nothing line = Quiet
 plain_told told.Missed line = Starved
 plain_told told.Line line = Says line
 
--- the registry of spans, the output's setting, texts of open spans, and what the last request came to
-pub record StackValue : Type 0 where
+-- the registry of spans, the filter of the output, its setting, texts of open spans, and what the last request came to; each stack has a filter
+pub record StackValue (F : Type 0) : Type 0 where
   pub registry : RegistryValue
+  pub filter : Option F
   pub setting : Setting
   pub texts : List PlainText
   pub told : PlainTold
@@ -49,29 +51,26 @@ abbrev pub plain_time : Timer → Option (List ℕ)
 plain_time (FixedText text) = Some (string_bytes text)
 plain_time Absent = None
 
+-- the filter of the first output
+abbrev pub first_filter : {F : Type 0} → List (Row (Filtered Identity F)) → Option F
+first_filter [] = None
+first_filter (row ∷ rows) = Some row.output.filter
+
+-- outputs with the rest as a value: without what is kept of the filter's answers
+abbrev pub shown_with : {F : Type 0} → OutputsValue (Filtered Identity F) → Setting → List PlainText → PlainTold → StackValue F
+shown_with outputs setting texts told = record { registry = outputs.registry; filter = first_filter outputs.rows; setting = setting; texts = texts; told = told }
+
 -- a state as a value, with what the last request came to
-abbrev pub plain_state : StackState → PlainTold → StackValue
-plain_state s told =
-    record {
-      registry = s.registry;
-      setting = s.setting;
-      texts = map plain_text s.texts.items;
-      told = told;
-    }
+abbrev pub plain_state : {F : Type 0} → StackState F → PlainTold → StackValue F
+plain_state s told = shown_with s.outputs s.setting (map plain_text s.texts.items) told
 
--- a stack with no span and no entry
-abbrev pub new_stack : Setting → StackValue
-new_stack setting = record { registry = new_registry; setting = setting; texts = []; told = Quiet }
-
--- the filter passes a level at most itself
-abbrev pub passes : StackValue → PlainMetadata → Bool
-passes x m = nat_le m.level x.setting.filter
-
-abbrev pub own_interest : StackValue → PlainMetadata → PlainInterest
-own_interest x m = if passes x m then Always else Never
+-- whether the one output was told of the last event
+abbrev pub is_told : {O : Type 0} → List (Row O) → Bool
+is_told [] = false
+is_told (row ∷ rows) = row.told
 
 -- a parent that is named is open
-abbrev pub knows_parent : StackValue → Parent → Bool
+abbrev pub knows_parent : {F : Type 0} → StackValue F → Parent → Bool
 knows_parent x parent = knows x.registry (explicit_parent parent)
 
 -- values over the fields of their set
@@ -92,7 +91,7 @@ with_bytes [] id bytes = []
 with_bytes (t ∷ ts) id bytes = if t.id == id then (record t { bytes = bytes }) ∷ ts else t ∷ with_bytes ts id bytes
 
 -- the line of an event
-abbrev pub line_in : StackValue → PlainEvent → ℕ → List ℕ
+abbrev pub line_in : {F : Type 0} → StackValue F → PlainEvent → ℕ → List ℕ
 line_in x e lane =
     full_line (plain_time x.setting.format.timer) (map (shown_span x.texts) (from_root x.registry (under x.registry lane e.parent)))
     e.metadata.target e.values.names e.values.entries
@@ -109,7 +108,7 @@ text_told Missed = Starved
 text_told Unwritten = Starved
 
 -- with a new span, whose text met this fate
-abbrev pub with_span : StackValue → PlainAttributes → ℕ → Fate → StackValue
+abbrev pub with_span : {F : Type 0} → StackValue F → PlainAttributes → ℕ → Fate → StackValue F
 with_span x a lane fate =
     record x {
       registry = with_new x.registry a.metadata (under x.registry lane a.parent) all_pass;
@@ -122,11 +121,11 @@ abbrev pub open_texts : List PlainSpan → List PlainText → List PlainText
 open_texts spans texts = filter (λ (t : PlainText). is_open kin_in spans t.id) texts
 
 -- with another registry, and without the texts of spans that aren't open there
-abbrev pub left_with : RegistryValue → StackValue → StackValue
+abbrev pub left_with : {F : Type 0} → RegistryValue → StackValue F → StackValue F
 left_with y x = record x { registry = y; texts = open_texts y.spans x.texts }
 
 -- without the last entry of a span on a lane, and without the spans that closed
-abbrev pub with_exit : StackValue → ℕ → ℕ → StackValue
+abbrev pub with_exit : {F : Type 0} → StackValue F → ℕ → ℕ → StackValue F
 with_exit x lane id = left_with (swept (without_entry x.registry lane id)) x
 
 -- the line that was told, and whether a text or a line found no memory

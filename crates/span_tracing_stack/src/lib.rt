@@ -1,9 +1,11 @@
-//! The stack of a trace: a subscriber that keeps open spans and lane stacks, and writes the lines of events.
+//! The stack of a trace: a subscriber over a stack of one output, which keeps the texts of open spans and writes the lines of events.
 #![tactic(auto)]
 
 mod fields;
 mod format;
 mod line;
+mod outputs;
+mod scope;
 mod setting;
 mod stack;
 mod state;
@@ -12,8 +14,8 @@ mod text;
 mod told;
 
 pub use format::{Fields, LineFormat, Timer};
-pub use setting::{OutputKey, Setting};
-pub use stack::Stack;
+pub use setting::Setting;
+pub use stack::{Stack, StackBack};
 
 #[cfg(test)]
 mod tests;

@@ -9,7 +9,7 @@ ghost use Rattle.span_tracing_stack.specs.Shown.{shown_in, shown_of};
 ghost use Rattle.span_tracing_stack.specs.Stacks.{plain_text};
 
 use crate::text::{SpanText, shown_at};
-use span_registry_layers_store::Registry;
+use span_registry_layers::Registry;
 use std::alloc::AllocError;
 use tracing_core::Id;
 

@@ -1,17 +1,12 @@
-//! How a stack's output filters and formats.
+//! How a stack's output is named and formatted.
 
 use crate::format::LineFormat;
-use tracing_core::LevelFilter;
+use span_registry_layers::OutputKey;
 
-/// The name of an output's slots.
-#[derive(Clone, Copy, Debug, PartialEq, Eq)]
-pub struct OutputKey(pub u32);
-
-/// An output's key, its filter and its format.
+/// An output's key and its format.
 #[derive(Debug, Drop)]
 pub struct Setting {
+    /// The name of the output's slots.
     pub key: OutputKey,
-    /// The most verbose level that passes.
-    pub filter: LevelFilter,
     pub format: LineFormat,
 }

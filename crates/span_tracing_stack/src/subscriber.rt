@@ -1,10 +1,15 @@
 //! A stack as a subscriber.
 
 ghost use Rattle.std.specs.Prelude.{◌≡◌, ℕ, List};
+ghost use Rattle.tracing_core.specs.PlainRequests.{plain_attributes};
+ghost use Rattle.span_tracing_stack.specs.Moves.{WantsRoom};
 ghost use Rattle.span_tracing_stack.specs.Stacks.{plain_told, text_told};
 
 use crate::stack::Stack;
+use crate::state::StackState;
+use crate::text::SpanText;
 use crate::told::Told;
+use span_registry_layers::{Filter, Identity, Layer};
 use span_tracing_machine::Fate;
 use tracing_core::{
     At, Attributes, CurrentSpan, Event, Id, Interest, LevelFilter, Metadata, Record, RequestError,
@@ -24,43 +29,68 @@ impl Told {
     }
 }
 
-impl Subscriber for Stack {
-    ghost use Rattle.std.specs.Prelude.{Some};
-    ghost use Rattle.std.proofs.Common.{◌∙◌, sym};
-    ghost use Rattle.span_tracing_stack.specs.Stacks.{passes, own_interest};
+impl<F: Filter> StackState<F> {
+    // What a span that finds no room for its text is refused with: other refusals, and what the filter drops, come first.
+    fn refuse_span(
+        &self,
+        attributes: &Attributes<'_, '_>,
+        at: At,
+    ) -> Result<Option<Id>, RequestError>
+        ensures { WantsRoom ⟦<F as Filter>⟧ (plain_attributes attributes.now) at self.now.outputs result }
+    {
+        let registry = self.outputs.registry();
+        if let Some(parent) = attributes.parent() {
+            if !registry.is_open(parent) {
+                return Err(RequestError::UnknownParent);
+            }
+        }
+        if !self.outputs.enabled(attributes.metadata(), at) {
+            return Ok(None);
+        }
+        match registry.next_id() {
+            None => Err(RequestError::IdsSpent),
+            Some(_) => Err(RequestError::OutOfMemory),
+        }
+    }
+}
+
+impl<F: Filter> Subscriber for Stack<F> {
+    ghost use Rattle.span_tracing_stack.specs.Answers.{HonestBy, MayPass, SaysBy, hint_by};
     ghost use Rattle.span_tracing_stack.specs.Moves.{StackMoves};
-    ghost use Rattle.span_tracing_stack.specs.Steadiness.{is_fair, same_word, same_answer};
+    ghost use Rattle.span_tracing_stack.specs.Steadiness.{is_fair, is_single, probe_quiet, word_stays};
 
-    ghost answers = { λ x m at b. b ≡ passes x m };
+    ghost answers = { λ x m at b. MayPass ⟦<F as Filter>⟧ x m at b };
 
-    ghost says = { λ x m k. k ≡ own_interest x m };
+    ghost says = { λ x m k. SaysBy ⟦<F as Filter>⟧ x.filter m k };
 
-    ghost hint = { λ x. Some x.setting.filter };
+    ghost hint = { λ x. hint_by ⟦<F as Filter>⟧ x.filter };
 
-    ghost moves = { λ x c r y. StackMoves x c r y };
+    ghost moves = { λ x c r y. StackMoves ⟦<F as Filter>⟧ x c r y };
 
-    ghost steady = { λ x. Unit {0} };
+    ghost steady = { λ x. HonestBy ⟦<F as Filter>⟧ x.filter };
 
-    ghost fair = { λ x k. is_fair x };
+    ghost fair = { λ x k. is_fair ⟦<F as Filter>⟧ x k };
 
-    ghost single = { λ x m at a b real k p q. p ∙ sym q };
+    ghost single = { λ x m at a b real k p q. is_single ⟦<F as Filter>⟧ x m at a b k p q };
 
-    ghost stays = { λ x c r y real moved k. (tt, same_word x y moved.setting) };
+    ghost stays = { λ x c r y real moved k. word_stays ⟦<F as Filter>⟧ x c r y moved k };
 
-    ghost quiet = { λ x m n at place r y b moved k. same_answer x y n b moved.setting };
+    ghost quiet = { λ x m n at place r y b moved k. probe_quiet ⟦<F as Filter>⟧ x m n at place r y b moved };
 
-    fn on_register_dispatch(&mut self, _dispatch: &WeakDispatch) {}
-
-    fn register_callsite(&mut self, metadata: &Metadata<'_>) -> Interest {
-        self.state.interest(*metadata.level())
+    fn on_register_dispatch(&mut self, dispatch: &WeakDispatch) {
+        self.state.outputs.on_register_dispatch(dispatch);
     }
 
-    fn enabled(&mut self, metadata: &Metadata<'_>, _at: At) -> bool {
-        self.state.wants(metadata)
+    fn register_callsite(&mut self, metadata: &Metadata<'_>) -> Interest {
+        self.state.outputs.register_callsite(metadata)
+    }
+
+    fn enabled(&mut self, metadata: &Metadata<'_>, at: At) -> bool {
+        self.state.outputs.enabled(metadata, at)
     }
 
     fn max_level_hint(&mut self) -> Option<LevelFilter> {
-        Some(self.state.setting.filter)
+        self.state.outputs.max_level_hint()
     }
 
     fn new_span(
@@ -69,41 +99,31 @@ impl Subscriber for Stack {
         at: At,
     ) -> Result<Option<Id>, RequestError> {
         self.told = Told::Nothing;
-        if !self.state.is_known(attributes.parent()) {
-            return Err(RequestError::UnknownParent);
+        if self.state.texts.reserve(1).is_err() {
+            return self.state.refuse_span(attributes, at);
         }
-        if !self.state.wants(attributes.metadata()) {
+        let Some(id) = self.state.outputs.new_span(attributes, at)? else {
             return Ok(None);
-        }
-        if self.state.registry.next_id().is_none() {
-            return Err(RequestError::IdsSpent);
-        }
-        match self.state.make_span(attributes, at.lane) {
-            Ok(made) => {
-                self.told = Told::of_text(made.fate);
-                Ok(Some(made.id))
-            }
-            Err(_) => Err(RequestError::OutOfMemory),
-        }
+        };
+        let made = self.state.text_or_missed(attributes);
+        self.state.texts.push_reserved(SpanText {
+            id,
+            text: made.text,
+        });
+        self.told = Told::of_text(made.fate);
+        Ok(Some(id))
     }
 
-    fn record(&mut self, span: &Id, values: &Record<'_>, _at: At) -> Result<(), RequestError> {
+    fn record(&mut self, span: &Id, values: &Record<'_>, at: At) -> Result<(), RequestError> {
         self.told = Told::Nothing;
-        if !self.state.is_known(Some(span)) {
-            return Err(RequestError::UnknownSpan);
-        }
+        self.state.outputs.record(span, values, at)?;
         let fate = self.state.record(*span, values);
         self.told = Told::of_text(fate);
         Ok(())
     }
 
-    fn record_follows_from(
-        &mut self,
-        _span: &Id,
-        _follows: &Id,
-        _at: At,
-    ) -> Result<(), RequestError> {
-        Ok(())
+    fn record_follows_from(&mut self, span: &Id, follows: &Id, at: At) -> Result<(), RequestError> {
+        self.state.outputs.record_follows_from(span, follows, at)
     }
 
     fn event_enabled(&mut self, _event: &Event<'_, '_>, _at: At) -> bool {
@@ -112,44 +132,45 @@ impl Subscriber for Stack {
 
     fn event(&mut self, event: &Event<'_, '_>, at: At) -> Result<(), RequestError> {
         self.told = Told::Nothing;
-        if !self.state.is_known(event.parent()) {
-            return Err(RequestError::UnknownParent);
+        self.state.outputs.event(event, at)?;
+        if self.state.is_told() {
+            self.told = self
+                .state
+                .tell(&mut self.line, &mut self.ids, event, at.lane);
         }
-        if !self.state.wants(event.metadata()) {
-            return Ok(());
-        }
-        self.told = self
-            .state
-            .tell(&mut self.line, &mut self.ids, event, at.lane);
         Ok(())
     }
 
     fn enter(&mut self, span: &Id, at: At) -> Result<(), RequestError> {
         self.told = Told::Nothing;
-        self.state.enter(at.lane, span)
+        self.state.outputs.enter(span, at)
     }
 
     fn exit(&mut self, span: &Id, at: At) {
         self.told = Told::Nothing;
-        self.state.leave(at.lane, span);
+        self.state.outputs.exit(span, at);
+        self.state.drop_texts();
     }
 
     fn clone_span(&mut self, span: &Id, _at: At) -> Result<Id, RequestError> {
         self.told = Told::Nothing;
-        self.state.take_one(span)
+        self.state.outputs.clone_span(span)
     }
 
-    fn drop_span(&mut self, span: Id, _at: At) {
+    fn drop_span(&mut self, span: Id, at: At) {
         self.told = Told::Nothing;
-        let _closed = self.state.close(span);
+        let _closed = self.state.outputs.try_close(span, at);
+        self.state.drop_texts();
     }
 
-    fn try_close(&mut self, span: Id, _at: At) -> bool {
+    fn try_close(&mut self, span: Id, at: At) -> bool {
         self.told = Told::Nothing;
-        self.state.close(span)
+        let closed = self.state.outputs.try_close(span, at);
+        self.state.drop_texts();
+        closed
     }
 
     fn current_span(&mut self, at: At) -> CurrentSpan {
-        self.state.current_on(at.lane)
+        self.state.outputs.current_span(at.lane)
     }
 }

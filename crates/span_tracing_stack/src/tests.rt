@@ -1,14 +1,16 @@
 //! A stack in a hub.
 
 mod entries;
+mod filters;
 mod handles;
 mod lines;
 mod place;
 mod serving;
 mod words;
 
-use crate::{Fields, LineFormat, OutputKey, Setting, Stack, Timer};
+use crate::{Fields, LineFormat, Setting, Stack, Timer};
 use place::Place;
+use span_registry_layers::OutputKey;
 use std::alloc::{AllocError, Global};
 use std::test::Fail;
 use tracing_core::{
@@ -31,18 +33,28 @@ fn metadata_of<'a>(name: &'a str, level: Level, fields: FieldSet<'a>, kind: Kind
 }
 
 /// A stack that passes INFO, with a fixed time.
-fn stack_of(alloc: Global) -> Result<Stack, AllocError> {
+fn stack_of(alloc: Global) -> Result<Stack<LevelFilter>, AllocError> {
     let timer = Timer::FixedText(String::from_str(alloc, "now")?);
     let setting = Setting {
         key: OutputKey(7),
-        filter: LevelFilter::INFO,
         format: LineFormat::full(timer, Fields::Default),
     };
-    Ok(Stack::new(alloc, setting, String::new(alloc)))
+    made_with(alloc, setting, LevelFilter::INFO)
+}
+
+fn made_with(
+    alloc: Global,
+    setting: Setting,
+    filter: LevelFilter,
+) -> Result<Stack<LevelFilter>, AllocError> {
+    match Stack::new(alloc, setting, filter, String::new(alloc)) {
+        Ok(stack) => Ok(stack),
+        Err(_) => Err(AllocError),
+    }
 }
 
 /// The same in a hub, with its handle.
-fn hub_of(alloc: Global) -> Result<(Hub<Stack, Place>, Dispatch), Fail> {
+fn hub_of(alloc: Global) -> Result<(Hub<Stack<LevelFilter>, Place>, Dispatch), Fail> {
     let mut hub = Hub::new(alloc);
     let handle = hub.add(stack_of(alloc)?).ok().ok_or("a handle")?;
     Ok((hub, handle))
@@ -50,7 +62,7 @@ fn hub_of(alloc: Global) -> Result<(Hub<Stack, Place>, Dispatch), Fail> {
 
 /// Makes a span under the current one of the lane, with a number.
 fn make(
-    hub: &mut Hub<Stack, Place>,
+    hub: &mut Hub<Stack<LevelFilter>, Place>,
     handle: &Dispatch,
     lane: u64,
     name: &str,
@@ -66,7 +78,7 @@ fn make(
 
 /// Tells of an event of the level under the current span of the lane.
 fn tell(
-    hub: &mut Hub<Stack, Place>,
+    hub: &mut Hub<Stack<LevelFilter>, Place>,
     handle: &Dispatch,
     lane: u64,
     level: Level,
@@ -79,18 +91,18 @@ fn tell(
 }
 
 /// The line of the last request.
-fn line_in<'a>(hub: &'a Hub<Stack, Place>, handle: &Dispatch) -> Option<&'a str> {
+fn line_in<'a>(hub: &'a Hub<Stack<LevelFilter>, Place>, handle: &Dispatch) -> Option<&'a str> {
     hub.subscriber(handle)?.line()
 }
 
 /// Whether the span is open.
-fn is_open(hub: &Hub<Stack, Place>, handle: &Dispatch, id: Id) -> bool {
+fn is_open(hub: &Hub<Stack<LevelFilter>, Place>, handle: &Dispatch, id: Id) -> bool {
     hub.subscriber(handle)
         .is_some_and(|stack| stack.is_open(id))
 }
 
 /// How many handles the span has.
-fn handles_of(hub: &Hub<Stack, Place>, handle: &Dispatch, id: Id) -> usize {
+fn handles_of(hub: &Hub<Stack<LevelFilter>, Place>, handle: &Dispatch, id: Id) -> usize {
     match hub.subscriber(handle) {
         None => 0,
         Some(stack) => stack.handles_of(id),
@@ -98,7 +110,12 @@ fn handles_of(hub: &Hub<Stack, Place>, handle: &Dispatch, id: Id) -> usize {
 }
 
 /// Whether the lane is in the span.
-fn is_inside(hub: &mut Hub<Stack, Place>, handle: &Dispatch, lane: u64, id: Id) -> bool {
+fn is_inside(
+    hub: &mut Hub<Stack<LevelFilter>, Place>,
+    handle: &Dispatch,
+    lane: u64,
+    id: Id,
+) -> bool {
     match hub.current_span(handle, at(lane)) {
         CurrentSpan::Inside(here) => here == id,
         _ => false,
@@ -106,6 +123,6 @@ fn is_inside(hub: &mut Hub<Stack, Place>, handle: &Dispatch, lane: u64, id: Id) 
 }
 
 /// Whether the lane is in no span.
-fn is_outside(hub: &mut Hub<Stack, Place>, handle: &Dispatch, lane: u64) -> bool {
+fn is_outside(hub: &mut Hub<Stack<LevelFilter>, Place>, handle: &Dispatch, lane: u64) -> bool {
     matches!(hub.current_span(handle, at(lane)), CurrentSpan::Outside)
 }

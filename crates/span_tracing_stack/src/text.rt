@@ -12,7 +12,7 @@ ghost use Rattle.span_tracing_stack.specs.Stacks.{AllNamed, fields_in, plain_tex
 
 use crate::fields::more_of;
 use crate::line::ShownSpan;
-use span_registry_layers_store::Registry;
+use span_registry_layers::Registry;
 use span_tracing_machine::Fate;
 use std::alloc::Global;
 use tracing_core::{Id, Record};

@@ -1,6 +1,6 @@
 //! What the last request of a stack came to.
 
-/// What the last request of a stack came to.
+/// What the last request of a stack came to: an event, a span, a record, an entry, an exit, a handle taken or given up.
 #[derive(Clone, Copy, Debug)]
 pub(crate) enum Told {
     /// No line, and no text that is missing.

@@ -100,11 +100,10 @@ fn values_are_written_by_their_kinds(rt: HostRuntime) -> Result<(), Fail> {
     let event = Event::new(&metadata, fields.value_set_all(&values));
     let setting = Setting {
         key: OutputKey(0),
-        filter: LevelFilter::TRACE,
         format: LineFormat::full(Timer::Absent, Fields::Default),
     };
-    let mut hub: Hub<Stack, Place> = Hub::new(alloc);
-    let stack = Stack::new(alloc, setting, String::new(alloc));
+    let mut hub: Hub<Stack<LevelFilter>, Place> = Hub::new(alloc);
+    let stack = made_with(alloc, setting, LevelFilter::TRACE)?;
     let handle = hub.add(stack).ok().ok_or("a handle")?;
     hub.event(&handle, &event, at(0))?;
     assert_eq!(rt;

@@ -90,10 +90,9 @@ fn a_stack_gives_its_parts_back(rt: HostRuntime) -> Result<(), Fail> {
     let (mut hub, handle) = hub_of(rt.alloc())?;
     tell(&mut hub, &handle, 0, Level::INFO)?;
     let stack = hub.release(handle).ok_or("the stack")?;
-    assert_eq!(rt; stack.filter(), LevelFilter::INFO);
-    let (setting, _line) = stack.into_parts();
-    assert_eq!(rt; setting.key, OutputKey(7));
-    assert_eq!(rt; setting.filter, LevelFilter::INFO);
-    assert!(rt; matches!(setting.format.timer, Timer::FixedText(_)));
+    let back = stack.into_parts();
+    assert_eq!(rt; back.filter, LevelFilter::INFO);
+    assert_eq!(rt; back.setting.key, OutputKey(7));
+    assert!(rt; matches!(back.setting.format.timer, Timer::FixedText(_)));
     Ok(())
 }

@@ -1,4 +1,4 @@
-use Rattle.std.proofs.Common.{◌≡◌, List, ap, ◌∙◌, refl, map, string_bytes, subst}
+use Rattle.std.proofs.Common.{List, ap, ◌∙◌, refl, map, string_bytes, subst}
 use Rattle.tracing_core.specs.PlainRequests.{plain_record}
 use Rattle.span_tracing_machine.specs.FieldTexts.{with_lists}
 use Rattle.span_tracing_machine.specs.Missed.{given_by}

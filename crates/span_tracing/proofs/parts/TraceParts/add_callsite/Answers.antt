@@ -1,7 +1,7 @@
-use Rattle.std.proofs.Common.{ap, sym, refl, subst, Option, ℕ, Err, ◌∙◌, ◌++◌, ◌∷◌, []}
+use Rattle.span_tracing.proofs.Levels.{level_moves, hint_level, stack_ghosts}
+use Rattle.std.proofs.Common.{ap, sym, subst, Option, ℕ, Err, ◌∙◌, ◌++◌, ◌∷◌, []}
 use Rattle.tracing_core.specs.Commands.{RegisterGives, row_of}
 use Rattle.span_tracing_machine.specs.Skeleton.{PlainCallsite}
-use Rattle.span_tracing_stack.specs.contracts.subscriber.StackSubscriber.TheImpl.{ghosts}
 use Rattle.span_tracing.specs.contracts.site.SiteCallsite.TheImpl as site
 use Rattle.span_tracing.specs.Skeletons.{interest_by, interest_in, stack_in, value_in}
 use Rattle.span_tracing.specs.declared.site.Site.{Site}
@@ -13,16 +13,16 @@ pub returns-in-Ok-clause-sound : goal.returns-in-Ok-clause-sound
 returns-in-Ok-clause-sound c =
     let p = c.args.self.now in
     let unknown = ap (λ (n : ℕ). row_of n p.hub.rows) (ap (λ (s : PlainCallsite). s.number) c.in_ok-copy.ensures) ∙ no_row p c.args.number c.requires.sound c.requires.unknown in
-    let taken = taken_new ghosts p.hub c.register.new.self _ c.in-Ok.interest unknown c.in-Ok.ensures.gives in
-    (sound_more ghosts (λ x call r y moved. moved) (λ x. refl) p c.push_reserved.new.self c.register.new.self c.in_ok-callsite.callsite _ c.in-Ok.interest c.requires.sound
+    let taken = taken_new stack_ghosts p.hub c.register.new.self _ c.in-Ok.interest unknown c.in-Ok.ensures.gives in
+    (sound_more stack_ghosts level_moves hint_level p c.push_reserved.new.self c.register.new.self c.in_ok-callsite.callsite _ c.in-Ok.interest c.requires.sound
     (c.push_reserved.ensures.items ∙ ap (λ xs. xs ++ c.in_ok-callsite.callsite ∷ []) c.reserve.ensures.items) (c.in_ok-copy.ensures ∙ sym c.in_ok-callsite.ensures) taken (c.in-Ok.ensures.keeps.sound c.requires.sound.hub)).0
 
 pub returns-in-Ok-clause-interest : goal.returns-in-Ok-clause-interest
 returns-in-Ok-clause-interest c =
     let p = c.args.self.now in
     let unknown = ap (λ (n : ℕ). row_of n p.hub.rows) (ap (λ (s : PlainCallsite). s.number) c.in_ok-copy.ensures) ∙ no_row p c.args.number c.requires.sound c.requires.unknown in
-    let taken = taken_new ghosts p.hub c.register.new.self _ c.in-Ok.interest unknown c.in-Ok.ensures.gives in
-    (sound_more ghosts (λ x call r y moved. moved) (λ x. refl) p c.push_reserved.new.self c.register.new.self c.in_ok-callsite.callsite _ c.in-Ok.interest c.requires.sound
+    let taken = taken_new stack_ghosts p.hub c.register.new.self _ c.in-Ok.interest unknown c.in-Ok.ensures.gives in
+    (sound_more stack_ghosts level_moves hint_level p c.push_reserved.new.self c.register.new.self c.in_ok-callsite.callsite _ c.in-Ok.interest c.requires.sound
     (c.push_reserved.ensures.items ∙ ap (λ xs. xs ++ c.in_ok-callsite.callsite ∷ []) c.reserve.ensures.items) (c.in_ok-copy.ensures ∙ sym c.in_ok-callsite.ensures) taken (c.in-Ok.ensures.keeps.sound c.requires.sound.hub)).1
     ∙ ap (λ (o : Option ℕ). interest_by o c.in_ok-callsite.callsite.level) (filter_same (stack_in p))
     ∙ ap (λ (s : PlainCallsite). interest_in (value_in p) s.metadata.level) c.in_ok-callsite.ensures
@@ -32,8 +32,8 @@ returns-in-Ok-clause-ok c =
     let p = c.args.self.now in
     let old = value_in p in
     let unknown = ap (λ (n : ℕ). row_of n p.hub.rows) (ap (λ (s : PlainCallsite). s.number) c.in_ok-copy.ensures) ∙ no_row p c.args.number c.requires.sound c.requires.unknown in
-    let taken = taken_new ghosts p.hub c.register.new.self _ c.in-Ok.interest unknown c.in-Ok.ensures.gives in
-    callsite_more p c.push_reserved.new.self c.register.new.self c.in_ok-callsite.callsite _ (c.push_reserved.ensures.items ∙ ap (λ xs. xs ++ c.in_ok-callsite.callsite ∷ []) c.reserve.ensures.items) (registered_same ghosts (λ x call r y moved. moved) site.ghosts _ _ _ _ taken) taken.kept
+    let taken = taken_new stack_ghosts p.hub c.register.new.self _ c.in-Ok.interest unknown c.in-Ok.ensures.gives in
+    callsite_more p c.push_reserved.new.self c.register.new.self c.in_ok-callsite.callsite _ (c.push_reserved.ensures.items ∙ ap (λ xs. xs ++ c.in_ok-callsite.callsite ∷ []) c.reserve.ensures.items) (registered_same stack_ghosts level_moves site.ghosts _ _ _ _ taken) taken.kept
     ∙ ap (λ (s : PlainCallsite). record old { skeleton = record (old.skeleton) { callsites = old.skeleton.callsites ++ s ∷ [] } }) c.in_ok-callsite.ensures
 
 pub unreachable-requires : goal.unreachable-requires
@@ -41,16 +41,16 @@ unreachable-requires c =
     let p = c.args.self.now in
     let shown : Site = record { callsite = c.in_ok-copy.copy; interest = c.never.result } in
     let unknown = ap (λ (n : ℕ). row_of n p.hub.rows) (ap (λ (s : PlainCallsite). s.number) c.in_ok-copy.ensures) ∙ no_row p c.args.number c.requires.sound c.requires.unknown in
-    never_known ghosts p.hub c.register.new.self shown c.in-Err-Taken.field-0-0 unknown
-    (subst (λ e. RegisterGives ghosts site.ghosts p.hub shown (Err e) c.register.new.self) c.in-Err-Taken.field-0-is c.in-Err-Taken.ensures.gives)
+    never_known stack_ghosts p.hub c.register.new.self shown c.in-Err-Taken.field-0-0 unknown
+    (subst (λ e. RegisterGives stack_ghosts site.ghosts p.hub shown (Err e) c.register.new.self) c.in-Err-Taken.field-0-is c.in-Err-Taken.ensures.gives)
 
 pub returns-in-Err-OutOfMemory-clause-sound : goal.returns-in-Err-OutOfMemory-clause-sound
 returns-in-Err-OutOfMemory-clause-sound c =
     let p = c.args.self.now in
     let shown : Site = record { callsite = c.in_ok-copy.copy; interest = c.never.result } in
     let unknown = ap (λ (n : ℕ). row_of n p.hub.rows) (ap (λ (s : PlainCallsite). s.number) c.in_ok-copy.ensures) ∙ no_row p c.args.number c.requires.sound c.requires.unknown in
-    let same = out_of_memory ghosts p.hub c.register.new.self shown c.in-Err-OutOfMemory.field-0-0 unknown
-    (subst (λ e. RegisterGives ghosts site.ghosts p.hub shown (Err e) c.register.new.self) c.in-Err-OutOfMemory.field-0-is c.in-Err-OutOfMemory.ensures.gives) in
+    let same = out_of_memory stack_ghosts p.hub c.register.new.self shown c.in-Err-OutOfMemory.field-0-0 unknown
+    (subst (λ e. RegisterGives stack_ghosts site.ghosts p.hub shown (Err e) c.register.new.self) c.in-Err-OutOfMemory.field-0-is c.in-Err-OutOfMemory.ensures.gives) in
     unchanged_sound p c.reserve.new.self c.register.new.self c.requires.sound c.reserve.ensures.items same
 
 pub returns-in-Err-OutOfMemory-clause-err : goal.returns-in-Err-OutOfMemory-clause-err
@@ -58,6 +58,6 @@ returns-in-Err-OutOfMemory-clause-err c =
     let p = c.args.self.now in
     let shown : Site = record { callsite = c.in_ok-copy.copy; interest = c.never.result } in
     let unknown = ap (λ (n : ℕ). row_of n p.hub.rows) (ap (λ (s : PlainCallsite). s.number) c.in_ok-copy.ensures) ∙ no_row p c.args.number c.requires.sound c.requires.unknown in
-    let same = out_of_memory ghosts p.hub c.register.new.self shown c.in-Err-OutOfMemory.field-0-0 unknown
-    (subst (λ e. RegisterGives ghosts site.ghosts p.hub shown (Err e) c.register.new.self) c.in-Err-OutOfMemory.field-0-is c.in-Err-OutOfMemory.ensures.gives) in
+    let same = out_of_memory stack_ghosts p.hub c.register.new.self shown c.in-Err-OutOfMemory.field-0-0 unknown
+    (subst (λ e. RegisterGives stack_ghosts site.ghosts p.hub shown (Err e) c.register.new.self) c.in-Err-OutOfMemory.field-0-is c.in-Err-OutOfMemory.ensures.gives) in
     unchanged_value p c.reserve.new.self c.register.new.self c.reserve.ensures.items same

@@ -1,9 +1,9 @@
-use Rattle.std.proofs.Common.{ap, refl, sym, subst, List, ◌∙◌}
+use Rattle.span_tracing.proofs.Levels.{level_moves, hint_level, stack_ghosts}
+use Rattle.std.proofs.Common.{ap, sym, subst, List, ◌∙◌}
 use Rattle.tracing_core.specs.Commands.{Rebuilt}
 use Rattle.tracing_core.specs.Entry.{Entry}
 use Rattle.tracing_core.specs.Table.{Table}
-use Rattle.span_tracing_stack.specs.Stacks.{StackValue}
-use Rattle.span_tracing_stack.specs.contracts.subscriber.StackSubscriber.TheImpl.{ghosts}
+use Rattle.span_tracing.specs.Levels.{StackValue}
 use Rattle.span_tracing.specs.contracts.site.SiteCallsite.TheImpl as site
 use Rattle.span_tracing.specs.Sound.{OwnsOne}
 use Rattle.span_tracing.specs.declared.site.Site.{Site}
@@ -17,6 +17,6 @@ returns-clause-sound c =
     let handle = sym c.replace.ensures.value ∙ c.in_ok-handle.was in
     let owns = subst (λ h. OwnsOne h p.hub.entries) handle c.requires.owns in
     let left = c.release-stack.ensures.left ∙ ap (λ (es : List (Entry StackValue)). record (p.hub) { entries = es }) (given_one c.in_ok-handle.handle p.hub.entries owns) in
-    rw (c.replace.ensures.after) (emptied ghosts (λ x call r y moved. moved) (λ x. refl) p u c.requires.sound c.requires.unset
-    (subst (λ (t : Table StackValue Site). Rebuilt ghosts site.ghosts t u) left c.rebuild_interest_cache.ensures.asked)
+    rw (c.replace.ensures.after) (emptied stack_ghosts level_moves hint_level p u c.requires.sound c.requires.unset
+    (subst (λ (t : Table StackValue Site). Rebuilt stack_ghosts site.ghosts t u) left c.rebuild_interest_cache.ensures.asked)
     (c.rebuild_interest_cache.ensures.keeps.sound (c.release-stack.ensures.keeps.sound c.requires.sound.hub)))
