@@ -12,12 +12,13 @@ use crate::setup::Stage;
 use span_tracing::{MemoryFolder, Reply, Trace};
 use std::alloc::Global;
 use std::io::{Read, Write};
+use tracing_core::LevelFilter;
 
 /// A trace whose steps have run, with the replies.
 #[derive(Drop)]
 struct Answer {
     replies: Vec<Reply>,
-    trace: Trace<MemoryFolder>,
+    trace: Trace<MemoryFolder, LevelFilter>,
     folder: Option<String>,
 }
 

@@ -3,6 +3,7 @@
 use crate::decode::{CallsiteLine, NamedValue, RecordLine, StepLine};
 use span_tracing::{FieldValue, MemoryFolder, RecordCall, Reply, SpanName, Step, Trace};
 use std::alloc::{AllocError, Global};
+use tracing_core::LevelFilter;
 
 /// The replies so far, and which callsite each span is of.
 #[derive(Debug, Drop)]
@@ -16,7 +17,7 @@ impl Told {
     /// Runs the steps, which are then done.
     fn run(
         &mut self,
-        trace: &mut Trace<MemoryFolder>,
+        trace: &mut Trace<MemoryFolder, LevelFilter>,
         steps: &mut Vec<Step>,
     ) -> Result<(), AllocError> {
         let replies = trace.run(steps.as_slice())?;
@@ -40,7 +41,7 @@ impl Told {
 /// Runs the steps in order. Before a record those so far are run, since their replies tell the callsite of its span.
 pub(crate) fn run_steps(
     alloc: Global,
-    trace: &mut Trace<MemoryFolder>,
+    trace: &mut Trace<MemoryFolder, LevelFilter>,
     callsites: &[CallsiteLine],
     lines: Vec<StepLine>,
 ) -> Result<Vec<Reply>, AllocError> {

@@ -9,12 +9,12 @@ use span_tracing::{
     SinkSpec, Timer, Trace,
 };
 use std::alloc::{AllocError, Global};
-use tracing_core::{FieldSet, Identifier, Metadata};
+use tracing_core::{FieldSet, Identifier, LevelFilter, Metadata};
 
 /// A trace that is set up, its callsites' lines, and the name under which the files of its sink are shown.
 #[derive(Drop)]
 pub(crate) struct Stage {
-    pub(crate) trace: Trace<MemoryFolder>,
+    pub(crate) trace: Trace<MemoryFolder, LevelFilter>,
     pub(crate) callsites: Vec<CallsiteLine>,
     pub(crate) folder: Option<String>,
 }
@@ -69,7 +69,7 @@ impl Stage {
         &mut self,
         alloc: Global,
         line: OutputLine,
-    ) -> Result<Output<MemoryFolder>, Refusal> {
+    ) -> Result<Output<MemoryFolder, LevelFilter>, Refusal> {
         let OutputLine {
             key,
             filter,

@@ -40,7 +40,7 @@ const TIME: &str = "2025-02-17T10:01:00.000000Z  INFO";
 /// A trace with one output, the values of its requests, and how many spans it made.
 #[derive(Drop)]
 pub(crate) struct Stage<D> {
-    pub(crate) trace: Trace<D>,
+    pub(crate) trace: Trace<D, LevelFilter>,
     event_values: [FieldValue; 2],
     span_values: [FieldValue; 1],
     pub(crate) spans: u64,
@@ -90,7 +90,11 @@ fn metadata<'a>(
 }
 
 /// The output of the folder, whose files begin with the prefix.
-fn outputs_over<D: Folder>(alloc: Global, folder: D, prefix: &str) -> Result<Vec<Output<D>>, Fault>
+fn outputs_over<D: Folder>(
+    alloc: Global,
+    folder: D,
+    prefix: &str,
+) -> Result<Vec<Output<D, LevelFilter>>, Fault>
     ensures { IfOk result (λ outputs. vec_len outputs ≤ 1) }
 {
     let timer = Timer::FixedText(String::from_str(alloc, TIME)?);

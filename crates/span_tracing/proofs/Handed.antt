@@ -9,37 +9,38 @@ use Rattle.tracing_core.specs.Handing.{CallGives, CallGivesAt}
 use Rattle.tracing_core.specs.Lent.{living_of, living_changed}
 use Rattle.tracing_core.specs.Entry.{Entry}
 use Rattle.tracing_core.specs.Setting as hub
-use Rattle.tracing_core.specs.Subscriber.{Ghosts}
-use Rattle.span_tracing.proofs.Levels.{StackMoves}
-use Rattle.span_tracing.specs.Levels.{StackValue}
+use Rattle.span_registry_layers.specs.Filter.{Ghosts}
+use Rattle.span_tracing_stack.specs.Moves.{StackMoves}
+use Rattle.span_tracing_stack.specs.Stacks.{StackValue}
+use Rattle.span_tracing.proofs.Filters.{stack_ghosts}
 use Rattle.span_tracing.specs.Skeletons.{stack_of}
 use Rattle.span_tracing.specs.Sound.{HasOnly}
 
 -- the stack took the call, and is still the only one
-pub record OneCall (dispatch : Option ℕ) (global : hub.Setting) (es fs : List (Entry StackValue)) (c : Call) (reply : ReplyTo c) : Type 0 where
-  pub before : StackValue
-  pub after : StackValue
+pub record OneCall {F : Type 0} (g : Ghosts F) (dispatch : Option ℕ) (global : hub.Setting) (es fs : List (Entry (StackValue F))) (c : Call) (reply : ReplyTo c) : Type 0 where
+  pub before : StackValue F
+  pub after : StackValue F
   pub stood : stack_of (Some dispatch) es ≡ Some before
   pub stands : stack_of (Some dispatch) fs ≡ Some after
-  pub moved : StackMoves before c reply after
+  pub moved : StackMoves g before c reply after
   pub only : HasOnly (Some dispatch) global fs
 
 pub same_number : (n : ℕ) → (n == n) ≡ true
 same_number n = grind (arith, nat_tests)
 
-pub found : (e : Entry StackValue) → entry_of e.serial (e ∷ []) ≡ Some e
+pub found : {F : Type 0} (e : Entry (StackValue F)) → entry_of e.serial (e ∷ []) ≡ Some e
 found e = rw (same_number e.serial) refl
 
-changed_one : (e : Entry StackValue) (f : Entry StackValue → Entry StackValue) → changed e.serial f (e ∷ []) ≡ f e ∷ []
+changed_one : {F : Type 0} (e : Entry (StackValue F)) (f : Entry (StackValue F) → Entry (StackValue F)) → changed e.serial f (e ∷ []) ≡ f e ∷ []
 changed_one e f = rw (same_number e.serial) refl
 
-pub one_call : (g : Ghosts StackValue) → ((x : StackValue) (c : Call) (r : ReplyTo c) (y : StackValue) → g.moves x c r y → StackMoves x c r y) → (c : Call) (dispatch : Option ℕ) (global : hub.Setting) (es fs : List (Entry StackValue)) (reply : ReplyTo c) → HasOnly (Some dispatch) global es → CallGives g c dispatch es reply fs → OneCall dispatch global es fs c reply
-one_call g means c dispatch global es fs reply has gives =
+pub one_call : {F : Type 0} (g : Ghosts F) (c : Call) (dispatch : Option ℕ) (global : hub.Setting) (es fs : List (Entry (StackValue F))) (reply : ReplyTo c) → HasOnly (Some dispatch) global es → CallGives (stack_ghosts g) c dispatch es reply fs → OneCall g dispatch global es fs c reply
+one_call {F = F} g c dispatch global es fs reply has gives =
     let e = has.0 in
     let one = has.1 in
     let is = has.2 in
     let living : living_of dispatch es ≡ Some e = ap (λ d. living_of d es) is ∙ ap (λ xs. entry_of e.serial xs) one ∙ found e in
-    let given : CallGivesAt g c dispatch es (Some e) reply fs = subst (λ o. CallGivesAt g c dispatch es o reply fs) living gives in
+    let given : CallGivesAt (stack_ghosts g) c dispatch es (Some e) reply fs = subst (λ o. CallGivesAt (stack_ghosts g) c dispatch es o reply fs) living gives in
     let later = becomes given.0 e in
     let left : fs ≡ later ∷ [] =
     given.2 ∙ ap (λ d. living_changed d (becomes given.0) es) is ∙ ap (λ xs. changed e.serial (becomes given.0) xs) one ∙ changed_one e (becomes given.0) in
@@ -47,8 +48,8 @@ one_call g means c dispatch global es fs reply has gives =
     record {
       before = e.subscriber;
       after = given.0;
-      stood = ap (λ (o : Option (Entry StackValue)). option_map (λ (x : Entry StackValue). x.subscriber) o) living;
-      stands = ap (λ (o : Option (Entry StackValue)). option_map (λ (x : Entry StackValue). x.subscriber) o) lives;
-      moved = means e.subscriber c reply given.0 given.1;
+      stood = ap (λ (o : Option (Entry (StackValue F))). option_map (λ (x : Entry (StackValue F)). x.subscriber) o) living;
+      stands = ap (λ (o : Option (Entry (StackValue F))). option_map (λ (x : Entry (StackValue F)). x.subscriber) o) lives;
+      moved = given.1;
       only = (later, left, is, has.3, has.4);
     }

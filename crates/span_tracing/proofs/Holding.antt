@@ -13,8 +13,7 @@ use Rattle.tracing_appender_rolling.specs.declared.appender.RollingFileAppender.
 use Rattle.tracing_appender_rolling.specs.FileNumber.{FileNumber}
 use Rattle.tracing_appender_rolling.proofs.ByPeriod.{by_period}
 use Rattle.span_tracing_machine.specs.declared.call.Reply.{Reply}
-use Rattle.span_tracing_machine.specs.PlainData.{PlainStep}
-use Rattle.span_tracing_machine.specs.State.{Plain, PlainOutput, offered_in}
+use Rattle.span_tracing_machine.specs.State.{Plain, PlainOutput, Turn, offered_in}
 use Rattle.span_tracing_machine.proofs.Offers.{none_missed_in_run, run_hands, offers_in_range}
 use Rattle.span_tracing.specs.declared.trace.Trace.{Trace}
 use Rattle.span_tracing.specs.Stored.{AgreesOption, more_lines}
@@ -38,14 +37,14 @@ sink_holds contents (Some a) s c agrees is = known_holds (contents a.folder) c (
 period_holds : {D : Type 0} (contents : D → Option Contents) (sink : Option (RollingFileAppender D)) (s : PlainSink) (c : Contents) (m : Moment) → AgreesOption contents sink (Some s) → folder_of contents sink ≡ Some c → IsInRange s → is_moment m ≡ true → bytes_at c.files (period_name s (period_in s m)) ≡ period_text s (period_in s m) (s.found (period_name s (period_in s m)))
 period_holds contents sink s c m agrees is fits real = sink_holds contents sink s c agrees is (period_name s (period_in s m)) ∙ by_period s m real fits.0 fits.1
 
-pub holds : {D : Type 0} (contents : D → Option Contents) (old new : Trace D) (replies : List Reply) (steps : List PlainStep) → FollowsRun contents old new replies steps → NothingStarved old new → HoldsOffered contents old new steps
-holds contents old new replies steps run starved p o c m agrees files is fits known real =
+pub holds : {D F : Type 0} (contents : D → Option Contents) (old new : Trace D F) (replies : List Reply) (turns : List Turn) → FollowsRun contents old new replies turns → NothingStarved old new → HoldsOffered contents old new turns
+holds contents old new replies turns run starved p o c m agrees files is fits known real =
     let count = sym (run.agreed p agrees).2 ∙ starved.1 in
-    let whole = none_missed_in_run p steps run.fates old.state.starved starved.0 count in
-    let output = ap (λ (q : Plain). q.output) whole ∙ run_hands p o steps is in
-    let sinks : AgreesOption contents new.sink (Some (more_lines (offered_in p steps) o.sink)) =
+    let whole = none_missed_in_run p turns old.state.starved starved.0 count in
+    let output = ap (λ (q : Plain). q.output) whole ∙ run_hands p o turns is in
+    let sinks : AgreesOption contents new.sink (Some (more_lines (offered_in p turns) o.sink)) =
     subst (λ (x : Option PlainOutput). AgreesOption contents new.sink (option_map (λ (y : PlainOutput). y.sink) x)) output (run.files p agrees files) in
-    period_holds contents new.sink (more_lines (offered_in p steps) o.sink) c m sinks known (fits.0, all_both o.sink.handed (offered_in p steps) fits.1 (offers_in_range p steps)) real
+    period_holds contents new.sink (more_lines (offered_in p turns) o.sink) c m sinks known (fits.0, all_both o.sink.handed (offered_in p turns) fits.1 (offers_in_range p turns)) real
 
 -- a fact of a result's value gives another
 pub ok_then : {X : Type 0} → {E : Type 0} (P Q : X → Type 0) → ((v : X) → P v → Q v) → (r : Result X E) → IfOk r P → IfOk r Q

@@ -1,4 +1,4 @@
-pub mod Levels
+pub mod Filters
 pub mod Anew
 pub mod Lists
 pub mod FieldNames
@@ -12,6 +12,8 @@ pub mod Asked
 pub mod Gates
 pub mod Opening
 pub mod Agreeing
+pub mod Stepping
+pub mod Going
 pub mod Runs
 pub mod Texts
 pub mod Holding

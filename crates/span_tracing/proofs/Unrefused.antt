@@ -13,12 +13,12 @@ use Rattle.span_registry_layers.specs.Registries.{kin_in}
 use Rattle.span_registry_layers.specs.Spans.{handles_of, is_open}
 use Rattle.tracing_appender_rolling.specs.Moment.{Moment}
 use Rattle.span_tracing_machine.specs.declared.refusal.Refusal.TheVariants.{UnknownLane, UnknownSpan, IdsSpent, TooManyHandles, GlobalSet, UnknownStack}
-use Rattle.span_tracing_machine.specs.Machine.{when, count_refusal, handle_refusal, span_refusal, knows_stack, refusal_of, ids_refusal, parent_refusal, request_refusal, made_at, call_refusal, callsite_refusal, known_place, lane_refusal, moment_refusal}
+use Rattle.span_tracing_machine.specs.declared.refusal.Refusal.{Refusal}
+use Rattle.span_tracing_machine.specs.Machine.{first, when, count_refusal, handle_refusal, span_refusal, knows_stack, refusal_of, ids_refusal, parent_refusal, request_refusal, made_at, call_refusal, callsite_refusal, known_place, lane_refusal, moment_refusal}
 use Rattle.span_tracing_machine.specs.Skeleton.{Skeleton, Mask}
 use Rattle.span_tracing_machine.specs.State.{PlainText, event_line, handed_at, offer_of}
 use Rattle.span_tracing_machine.proofs.Refusing.{first_none, none_when, second_none}
 use Rattle.span_tracing.specs.Skeletons.{plain_thread, skeleton_of, value_in}
-use Rattle.span_tracing.specs.Sound.{IsSound}
 use Rattle.span_tracing.specs.declared.parts.TraceParts.{TraceParts}
 use Rattle.span_tracing.proofs.Lists.{length_map}
 
@@ -48,28 +48,28 @@ not_beyond count lane h = by_test (nat_le count lane) refl h
     by_test true e h = absurd (cc)
     by_test false e h = grind (arith, nat_tests)
 
-pub call_lane : (p : TraceParts) (call : SpanCall) → IsSound p → call_refusal (skeleton_of (value_in p)) call ≡ None → call.lane < length p.threads.items
-call_lane p call sound h = let inside = not_beyond (skeleton_of (value_in p)).lanes call.lane (first_none (lane_refusal (skeleton_of (value_in p)) call.lane) _ h) in let same = length_map plain_thread p.threads.items in omega (arith, inside, same)
+pub call_lane : {F : Type 0} (p : TraceParts F) (call : SpanCall) → call_refusal (skeleton_of (value_in p)) call ≡ None → call.lane < length p.threads.items
+call_lane p call h = let inside = not_beyond (skeleton_of (value_in p)).lanes call.lane (first_none (lane_refusal (skeleton_of (value_in p)) call.lane) _ h) in let same = length_map plain_thread p.threads.items in omega (arith, inside, same)
 
 pub none_there : {A : Type 0} (o : Option A) → is_some o ≡ false → o ≡ None
 none_there None h = refl
 none_there (Some x) h = absurd (cc)
 
-pub request_lane : (p : TraceParts) (lane : ℕ) (moment : Moment) (number : ℕ) (is_span : Bool) (parent : Parent) → IsSound p → request_refusal (skeleton_of (value_in p)) lane moment number is_span parent ≡ None → lane < length p.threads.items
-request_lane p lane moment number is_span parent sound h = let inside = not_beyond (skeleton_of (value_in p)).lanes lane (first_none (lane_refusal (skeleton_of (value_in p)) lane) _ h) in let same = length_map plain_thread p.threads.items in omega (arith, inside, same)
+pub request_lane : {F : Type 0} (p : TraceParts F) (lane : ℕ) (moment : Moment) (number : ℕ) (is_span : Bool) (parent : Parent) → request_refusal (skeleton_of (value_in p)) lane moment number is_span parent ≡ None → lane < length p.threads.items
+request_lane p lane moment number is_span parent h = let inside = not_beyond (skeleton_of (value_in p)).lanes lane (first_none (lane_refusal (skeleton_of (value_in p)) lane) _ h) in let same = length_map plain_thread p.threads.items in omega (arith, inside, same)
 
 -- the lane of a request that isn't refused was given
-pub event_lane : (p : TraceParts) (e : Request) (mask : Mask) → IsSound p → refusal_of (skeleton_of (value_in p)) (EventStep e) mask ≡ None → e.lane < length p.threads.items
+pub event_lane : {F : Type 0} (p : TraceParts F) (e : Request) (mask : Mask) → refusal_of (skeleton_of (value_in p)) (EventStep e) mask ≡ None → e.lane < length p.threads.items
 unfolding refusal_of
-event_lane p e mask sound h = request_lane p e.lane e.moment e.callsite false e.parent sound h
+event_lane p e mask h = request_lane p e.lane e.moment e.callsite false e.parent h
 
-pub span_lane : (p : TraceParts) (n : Request) (mask : Mask) → IsSound p → refusal_of (skeleton_of (value_in p)) (SpanStep n) mask ≡ None → n.lane < length p.threads.items
+pub span_lane : {F : Type 0} (p : TraceParts F) (n : Request) (mask : Mask) → refusal_of (skeleton_of (value_in p)) (SpanStep n) mask ≡ None → n.lane < length p.threads.items
 unfolding refusal_of
-span_lane p n mask sound h = request_lane p n.lane n.moment n.callsite true n.parent sound (first_none (request_refusal (skeleton_of (value_in p)) n.lane n.moment n.callsite true n.parent) _ h)
+span_lane p n mask h = request_lane p n.lane n.moment n.callsite true n.parent (first_none (request_refusal (skeleton_of (value_in p)) n.lane n.moment n.callsite true n.parent) _ h)
 
-pub asked_lane : (p : TraceParts) (call : EnabledCall) (mask : Mask) → IsSound p → refusal_of (skeleton_of (value_in p)) (EnabledStep call) mask ≡ None → call.lane < length p.threads.items
+pub asked_lane : {F : Type 0} (p : TraceParts F) (call : EnabledCall) (mask : Mask) → refusal_of (skeleton_of (value_in p)) (EnabledStep call) mask ≡ None → call.lane < length p.threads.items
 unfolding refusal_of
-asked_lane p call mask sound h = let inside = not_beyond (skeleton_of (value_in p)).lanes call.lane (first_none (lane_refusal (skeleton_of (value_in p)) call.lane) _ h) in let same = length_map plain_thread p.threads.items in omega (arith, inside, same)
+asked_lane p call mask h = let inside = not_beyond (skeleton_of (value_in p)).lanes call.lane (first_none (lane_refusal (skeleton_of (value_in p)) call.lane) _ h) in let same = length_map plain_thread p.threads.items in omega (arith, inside, same)
 
 -- while ids are left, none is refused for want of one
 pub ids_left : (s : Skeleton) (place : Option ℕ) → s.registry.next_id ≤ 18446744073709551615 → ids_refusal s place ≡ None
@@ -133,3 +133,28 @@ global_there s handle mask h = and_first s.has_stack (handle == 0) (none_when (k
 pub global_first : (s : Skeleton) (handle : ℕ) (mask : Mask) → refusal_of s (GlobalStep handle) mask ≡ None → s.is_global ≡ false
 unfolding refusal_of
 global_first s handle mask h = not_set s.is_global (second_none (when (not (knows_stack s handle)) UnknownStack) _ h)
+
+-- before a filter is asked, a span meets no refusal for spent ids
+first_alone : (refusal : Option Refusal) → first refusal None ≡ refusal
+first_alone None = refl
+first_alone (Some r) = refl
+
+pub span_unasked : (s : Skeleton) (n : Request) → refusal_of s (SpanStep n) [] ≡ request_refusal s n.lane n.moment n.callsite true n.parent
+unfolding refusal_of made_at
+span_unasked s n = first_alone (request_refusal s n.lane n.moment n.callsite true n.parent)
+
+-- the callsite of a request that isn't refused is known
+known_there : (place : Option ℕ) → callsite_refusal place ≡ None → place ≡ None → ⊥
+known_there None h e = cc
+known_there (Some p) h e = cc
+
+pub request_known : (s : Skeleton) (lane : ℕ) (moment : Moment) (number : ℕ) (is_span : Bool) (parent : Parent) → request_refusal s lane moment number is_span parent ≡ None → known_place s.callsites number is_span ≡ None → ⊥
+request_known s lane moment number is_span parent h none =
+    known_there (known_place s.callsites number is_span) (first_none (callsite_refusal (known_place s.callsites number is_span)) _ (second_none (moment_refusal moment) _ (second_none (lane_refusal s lane) _ h))) none
+
+pub event_known : (s : Skeleton) (e : Request) → refusal_of s (EventStep e) [] ≡ None → known_place s.callsites e.callsite false ≡ None → ⊥
+unfolding refusal_of
+event_known s e h none = request_known s e.lane e.moment e.callsite false e.parent h none
+
+pub span_known : (s : Skeleton) (n : Request) → refusal_of s (SpanStep n) [] ≡ None → known_place s.callsites n.callsite true ≡ None → ⊥
+span_known s n h none = request_known s n.lane n.moment n.callsite true n.parent (sym (span_unasked s n) ∙ h) none

@@ -12,6 +12,7 @@ use Rattle.span_tracing_machine.specs.declared.fate.Fate.{Fate}
 use Rattle.span_tracing_machine.specs.declared.fate.Fate.TheVariants.{Whole, Missed, Unwritten}
 use Rattle.span_tracing_machine.specs.FieldTexts.{FieldList, given_piece, fields_text, space_behind, with_fields, with_lists}
 use Rattle.span_tracing_machine.specs.Missed.{given_by}
+use Rattle.span_tracing.specs.Masks.{own_entries}
 
 one_same : (names : List (List ℕ)) (index : ℕ) (value : Option PlainValue) (b : Bool) → nat_lt index (length names) ≡ b → (rest more : List (ℕ × PlainValue)) → filter_map (given_piece names) rest ≡ filter_map (given_piece names) more →
     filter_map (given_piece names) (cons_option (if b then option_map (λ v. (index, v)) value else None) rest) ≡ filter_map (given_piece names) (cons_option (option_map (λ v. (index, v)) value) more)
@@ -53,3 +54,15 @@ named_if names index value false rest e w = w
 pub all_named : (names : List (List ℕ)) (values : List FieldValue) → AllByRecursion (λ (e : ℕ × PlainValue). e.0 < length names) (indexed_entries (length names) values)
 all_named names [] = tt
 all_named names (given ∷ values) = named_if names given.field (plain_owned given.value) (is_indexed (length names) given) (indexed_entries (length names) values) refl (all_named names values)
+
+own_if : (count index : ℕ) (value : Option PlainValue) (b : Bool) → nat_lt index count ≡ b → (rest more : List (ℕ × PlainValue)) → own_entries count rest ≡ more →
+    own_entries count (cons_option (option_map (λ v. (index, v)) value) rest) ≡ cons_option (if b then option_map (λ v. (index, v)) value else None) more
+own_if count index None true is rest more e = e
+own_if count index None false is rest more e = e
+own_if count index (Some v) true is rest more e = rw is (ap (λ xs. (index, v) ∷ xs) e)
+own_if count index (Some v) false is rest more e = rw is e
+
+-- the values of fields that a callsite has, in either order of leaving out
+pub own_same : (count : ℕ) (values : List FieldValue) → own_entries count (owned_entries values) ≡ indexed_entries count values
+own_same count [] = refl
+own_same count (given ∷ values) = own_if count given.field (plain_owned given.value) (is_indexed count given) refl (owned_entries values) (indexed_entries count values) (own_same count values)

@@ -1,11 +1,14 @@
-pub mod Levels
+pub mod Masks
 pub mod Actions
 pub mod Skeletons
 pub mod Sound
 pub mod Telling
 pub mod Stored
+pub mod Matching
+pub mod Done
 pub mod Left
+pub mod Headline
+pub mod Went
 pub mod Agreement
 pub mod Routes
 pub mod Outputs
-pub mod Headline

@@ -1,18 +1,14 @@
 -- What a trace's state is without where it lies in memory.
-use Rattle.std.specs.Prelude.{ℕ, nat_le, if◌then◌else◌, List, [], length, map, Bool, false, Option, Some, None, is_some, string_bytes}
+use Rattle.std.specs.Prelude.{ℕ, List, [], length, map, Bool, false, Option, Some, None, is_some, string_bytes}
 use Rattle.std.specs.Option.{option_map}
 use Rattle.tracing_core.specs.Defaults.{was_set}
 use Rattle.tracing_core.specs.Entry.{Entry}
-use Rattle.tracing_core.specs.Interests.{PlainInterest}
-use Rattle.tracing_core.specs.InterestInner.TheVariants.{Never, Always}
 use Rattle.tracing_core.specs.Lent.{living_of}
 use Rattle.span_tracing_machine.specs.Skeleton.{Skeleton, PlainCallsite}
 use Rattle.span_tracing_machine.specs.State.{PlainText}
 use Rattle.span_registry_layers.specs.Registries.{RegistryValue, new_registry}
-use Rattle.span_tracing.specs.Levels.{StackValue, level_in}
-use Rattle.span_tracing_stack.specs.Stacks.{PlainTold, Quiet, plain_time}
-use Rattle.span_tracing_stack.specs.declared.format.LineFormat.{LineFormat}
-use Rattle.span_registry_layers.specs.OutputKey.{OutputKey}
+use Rattle.span_tracing_stack.specs.Stacks.{PlainTold, Quiet, StackValue, plain_time}
+use Rattle.span_tracing_stack.specs.declared.setting.Setting.{Setting}
 use Rattle.span_tracing.specs.declared.callsite.Callsite.{Callsite}
 use Rattle.span_tracing.specs.declared.parts.Thread.{Thread}
 use Rattle.span_tracing.specs.declared.parts.TraceParts.{TraceParts}
@@ -33,23 +29,6 @@ plain_callsite c = record {
   };
 }
 
--- a filter and a time text
-pub record PlainSetting : Type 0 where
-  pub filter : ℕ
-  pub time : Option (List ℕ)
-
--- what a trace keeps of an output beside its sink
-pub record KeptOutput : Type 0 where
-  pub key : OutputKey
-  pub filter : ℕ
-  pub format : LineFormat
-
-abbrev pub kept_of : StackValue → KeptOutput
-kept_of x = record { key = x.setting.key; filter = level_in x; format = x.setting.format }
-
-abbrev pub plain_setting : KeptOutput → PlainSetting
-plain_setting s = record { filter = s.filter; time = plain_time s.format.timer }
-
 -- a lane's name and thread
 pub record PlainThread : Type 0 where
   pub name : Option (List ℕ)
@@ -58,69 +37,60 @@ pub record PlainThread : Type 0 where
 abbrev pub plain_thread : Thread → PlainThread
 plain_thread thread = record { name = option_map string_bytes thread.name; number = thread.thread_id }
 
--- the state as a value: without capacities, and without what a subscriber or a hub only remembers
-pub record StateValue : Type 0 where
+-- the state as a value, with its output's setting and filter: without capacities, and without what a subscriber or a hub only remembers
+pub record StateValue (F : Type 0) : Type 0 where
   pub skeleton : Skeleton
   pub threads : List PlainThread
-  pub output : Option KeptOutput
+  pub output : Option Setting
+  pub filter : Option F
   pub texts : List PlainText
   pub starved : ℕ
 
-abbrev pub skeleton_of : StateValue → Skeleton
+abbrev pub skeleton_of : {F : Type 0} → StateValue F → Skeleton
 skeleton_of v = v.skeleton
 
-abbrev pub threads_of : StateValue → List PlainThread
+abbrev pub threads_of : {F : Type 0} → StateValue F → List PlainThread
 threads_of v = v.threads
 
-abbrev pub texts_of : StateValue → List PlainText
+abbrev pub texts_of : {F : Type 0} → StateValue F → List PlainText
 texts_of v = v.texts
 
-abbrev pub setting_of : StateValue → Option PlainSetting
-setting_of v = option_map plain_setting v.output
-
-abbrev pub filter_in : Option PlainSetting → Option ℕ
-filter_in setting = option_map (λ (s : PlainSetting). s.filter) setting
-
-abbrev pub time_in : Option PlainSetting → Option (List ℕ)
+-- the time text of an output
+abbrev pub time_in : Option Setting → Option (List ℕ)
 time_in None = None
-time_in (Some s) = s.time
+time_in (Some s) = plain_time s.format.timer
 
 -- the stack that a handle leads to
-abbrev pub stack_of : Option (Option ℕ) → List (Entry StackValue) → Option StackValue
+abbrev pub stack_of : {F : Type 0} → Option (Option ℕ) → List (Entry (StackValue F)) → Option (StackValue F)
 stack_of None entries = None
-stack_of (Some dispatch) entries = option_map (λ (e : Entry StackValue). e.subscriber) (living_of dispatch entries)
+stack_of {F = F} (Some dispatch) entries = option_map (λ (e : Entry (StackValue F)). e.subscriber) (living_of dispatch entries)
 
-abbrev pub stack_in : TraceParts → Option StackValue
+abbrev pub stack_in : {F : Type 0} → TraceParts F → Option (StackValue F)
 stack_in p = stack_of p.handle p.hub.entries
 
--- the most verbose level that a stack passes
-abbrev pub filter_here : Option StackValue → Option ℕ
-filter_here stack = option_map (λ (x : StackValue). level_in x) stack
+abbrev pub filter_at : {F : Type 0} → Option (StackValue F) → Option F
+filter_at None = None
+filter_at (Some x) = x.filter
 
--- the interest in a callsite of a level: always where the filter passes it, else never; never where there is no stack
-abbrev pub interest_by : Option ℕ → ℕ → PlainInterest
-interest_by None level = Never
-interest_by (Some filter) level = if nat_le level filter then Always else Never
-
--- the interest in a callsite of a level, by the stack's filter
-abbrev pub interest_in : StateValue → ℕ → PlainInterest
-interest_in v level = interest_by (filter_in (setting_of v)) level
+abbrev pub output_at : {F : Type 0} → Option (StackValue F) → Option Setting
+output_at None = None
+output_at (Some x) = Some x.setting
 
 -- what a stack keeps, and where there is none what a new one would
-abbrev pub registry_in : Option StackValue → RegistryValue
+abbrev pub registry_in : {F : Type 0} → Option (StackValue F) → RegistryValue
 registry_in None = new_registry
 registry_in (Some x) = x.registry
 
-abbrev pub texts_in : Option StackValue → List PlainText
+abbrev pub texts_in : {F : Type 0} → Option (StackValue F) → List PlainText
 texts_in None = []
 texts_in (Some x) = x.texts
 
-abbrev pub told_in : Option StackValue → PlainTold
+abbrev pub told_in : {F : Type 0} → Option (StackValue F) → PlainTold
 told_in None = Quiet
 told_in (Some x) = x.told
 
 -- callsites and lanes of a trace over a stack
-abbrev pub skeleton_with : List PlainCallsite → ℕ → Bool → Option StackValue → Skeleton
+abbrev pub skeleton_with : {F : Type 0} → List PlainCallsite → ℕ → Bool → Option (StackValue F) → Skeleton
 skeleton_with callsites lanes is_global stack =
     record {
       callsites = callsites;
@@ -130,26 +100,28 @@ skeleton_with callsites lanes is_global stack =
       is_global = is_global;
     }
 
-abbrev pub value_with : List PlainCallsite → List PlainThread → Bool → ℕ → Option StackValue → StateValue
+abbrev pub value_with : {F : Type 0} → List PlainCallsite → List PlainThread → Bool → ℕ → Option (StackValue F) → StateValue F
 value_with callsites threads is_global starved stack =
     record {
       skeleton = skeleton_with callsites (length threads) is_global stack;
       threads = threads;
-      output = option_map kept_of stack;
+      output = output_at stack;
+      filter = filter_at stack;
       texts = texts_in stack;
       starved = starved;
     }
 
-abbrev pub value_in : TraceParts → StateValue
+abbrev pub value_in : {F : Type 0} → TraceParts F → StateValue F
 value_in p = value_with (map plain_callsite p.callsites.items) (map plain_thread p.threads.items) (was_set p.hub.global) p.starved (stack_in p)
 
 -- the state of a new trace
-abbrev pub new_state : StateValue
+abbrev pub new_state : {F : Type 0} → StateValue F
 new_state =
     record {
       skeleton = record { callsites = []; lanes = 0; registry = new_registry; has_stack = false; is_global = false };
       threads = [];
       output = None;
+      filter = None;
       texts = [];
       starved = 0;
     }

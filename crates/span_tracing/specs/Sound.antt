@@ -1,5 +1,10 @@
 -- What is true of the parts of each trace.
-use Rattle.std.specs.Prelude.{◌≡◌, ℕ, List, [], ◌∷◌, length, map, replicate, Option, Some, None, unwrap_or}
+use Rattle.std.specs.Prelude.{◌≡◌, ℕ, List, [], ◌∷◌, length, map, replicate, Option, Some, None}
+use Rattle.tracing_core.specs.Asking.{level_of}
+use Rattle.tracing_core.specs.Interests.{PlainInterest}
+use Rattle.tracing_core.specs.InterestInner.TheVariants.{Never}
+use Rattle.tracing_core.specs.Kept.{Every}
+use Rattle.tracing_core.specs.PlainMetadata.{PlainMetadata}
 use Rattle.tracing_core.specs.Entry.{Entry}
 use Rattle.tracing_core.specs.Lane.TheVariants.{Running}
 use Rattle.tracing_core.specs.Row.{Row}
@@ -7,12 +12,14 @@ use Rattle.tracing_core.specs.Setting.{Setting}
 use Rattle.tracing_core.specs.Setting.TheVariants.{Unset, Nothing, To}
 use Rattle.tracing_core.specs.Sound.{IsSound as IsSoundHub, identifiers}
 use Rattle.tracing_core.specs.Table.{Table}
-use Rattle.span_tracing.specs.Levels.{StackValue}
+use Rattle.span_registry_layers.specs.Filter.{Ghosts}
+use Rattle.span_tracing_stack.specs.Answers.{HonestBy, SaysBy, hint_by}
+use Rattle.span_tracing_stack.specs.Stacks.{StackValue}
 use Rattle.span_tracing.specs.declared.callsite.Callsite.{Callsite}
 use Rattle.span_tracing.specs.declared.parts.TraceParts.{TraceParts}
 use Rattle.span_tracing.specs.declared.site.Site.{Site}
 use Rattle.span_tracing.specs.contracts.site.SiteCallsite.TheImpl.{ghosts}
-use Rattle.span_tracing.specs.Skeletons.{filter_here, interest_by, stack_in}
+use Rattle.span_tracing.specs.Skeletons.{stack_in}
 use Rattle.span_tracing.specs.Telling.{own_metadata}
 
 -- where a default was set, it is the subscriber of the number
@@ -22,34 +29,50 @@ LeadsTo Nothing serial = ⊥
 LeadsTo (To number) serial = number ≡ serial
 
 -- the hub has the stack alone, which one handle leads to until a global default is set, and then this default too
-abbrev pub HasOnly : Option (Option ℕ) → Setting → List (Entry StackValue) → Type 0
+abbrev pub HasOnly : {F : Type 0} → Option (Option ℕ) → Setting → List (Entry (StackValue F)) → Type 0
 HasOnly None global entries = (entries ≡ []) × (global ≡ Unset)
-HasOnly (Some dispatch) global entries =
-    (e : Entry StackValue) × (entries ≡ e ∷ []) × (dispatch ≡ Some e.serial) × (global ≡ Unset → e.handles ≡ 1) × LeadsTo global e.serial
-
--- the hub has these callsites, in order, with the stack's interest in each, and its greatest level is the stack's
-pub record KeepsCallsites (filter : Option ℕ) (callsites : List Callsite) (hub : Table StackValue Site) : Type 0 where
-  pub numbers : identifiers hub.rows ≡ map (λ (c : Callsite). c.number) callsites
-  pub metadata : map (λ (row : Row Site). own_metadata row.callsite.callsite) hub.rows ≡ map own_metadata callsites
-  pub interests : map (λ (row : Row Site). row.interest) hub.rows ≡ map (λ (c : Callsite). interest_by filter c.level) callsites
-  pub greatest : hub.greatest ≡ unwrap_or filter 0
-
-pub record IsSound (p : TraceParts) : Type 0 where
-  pub only : HasOnly p.handle p.hub.global p.hub.entries
-  -- no lane has a default of its own
-  pub lanes : p.hub.lanes ≡ replicate (length p.threads.items) (Running Unset)
-  pub hub : IsSoundHub ghosts p.hub
-  pub kept : KeepsCallsites (filter_here (stack_in p)) p.callsites.items p.hub
+HasOnly {F = F} (Some dispatch) global entries =
+    (e : Entry (StackValue F)) × (entries ≡ e ∷ []) × (dispatch ≡ Some e.serial) × (global ≡ Unset → e.handles ≡ 1) × LeadsTo global e.serial
 
 -- one handle leads to the one stack
-abbrev pub OwnsOne : Option (Option ℕ) → List (Entry StackValue) → Type 0
+abbrev pub OwnsOne : {F : Type 0} → Option (Option ℕ) → List (Entry (StackValue F)) → Type 0
 OwnsOne None entries = ⊥
-OwnsOne (Some dispatch) entries = (e : Entry StackValue) × (entries ≡ e ∷ []) × (dispatch ≡ Some e.serial) × (e.handles ≡ 1)
+OwnsOne {F = F} (Some dispatch) entries = (e : Entry (StackValue F)) × (entries ≡ e ∷ []) × (dispatch ≡ Some e.serial) × (e.handles ≡ 1)
 
--- the hub took its first stack
-pub record HasFirst (old new : TraceParts) (x : StackValue) : Type 0 where
-  pub owns : OwnsOne new.handle new.hub.entries
-  pub sound : IsSound new
-  pub stack : stack_in new ≡ Some x
-  pub rest : new ≡ record old { handle = new.handle; hub = new.hub }
-  pub global : new.hub.global ≡ old.hub.global
+module _ {F : Type 0} (g : Ghosts F) where
+  -- what the stack says of a callsite; where there is none nobody is interested
+  abbrev pub StackSays : Option (StackValue F) → PlainMetadata → PlainInterest → Type 0
+  StackSays None m k = k ≡ Never
+  StackSays (Some x) m k = SaysBy g x.filter m k
+
+  -- the most verbose level that the stack may pass
+  abbrev pub greatest_of : Option (StackValue F) → ℕ
+  greatest_of None = 0
+  greatest_of (Some x) = level_of (hint_by g x.filter)
+
+  abbrev pub IsHonest : Option (StackValue F) → Type 0
+  IsHonest None = Unit {0}
+  IsHonest (Some x) = HonestBy g x.filter
+
+  -- the hub has these callsites, in order, with an interest that the stack says of each, and its greatest level is the stack's
+  pub record KeepsCallsites (stack : Option (StackValue F)) (callsites : List Callsite) (hub : Table (StackValue F) Site) : Type 0 where
+    pub numbers : identifiers hub.rows ≡ map (λ (c : Callsite). c.number) callsites
+    pub metadata : map (λ (row : Row Site). own_metadata row.callsite.callsite) hub.rows ≡ map own_metadata callsites
+    pub interests : Every (λ (row : Row Site). StackSays stack (own_metadata row.callsite.callsite) row.interest) hub.rows
+    pub greatest : hub.greatest ≡ greatest_of stack
+
+  pub record IsSound (p : TraceParts F) : Type 0 where
+    pub only : HasOnly p.handle p.hub.global p.hub.entries
+    -- no lane has a default of its own
+    pub lanes : p.hub.lanes ≡ replicate (length p.threads.items) (Running Unset)
+    pub hub : IsSoundHub ghosts p.hub
+    pub kept : KeepsCallsites (stack_in p) p.callsites.items p.hub
+    pub honest : IsHonest (stack_in p)
+
+  -- the hub took its first stack
+  pub record HasFirst (old new : TraceParts F) (x : StackValue F) : Type 0 where
+    pub owns : OwnsOne new.handle new.hub.entries
+    pub sound : IsSound new
+    pub stack : stack_in new ≡ Some x
+    pub rest : new ≡ record old { handle = new.handle; hub = new.hub }
+    pub global : new.hub.global ≡ old.hub.global

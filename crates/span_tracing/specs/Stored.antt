@@ -1,5 +1,5 @@
 -- What a step does to what a trace stores.
-use Rattle.std.specs.Prelude.{◌==◌, if◌then◌else◌, ◌≡◌, ℕ, List, [], ◌∷◌, ◌++◌, Option, Some, None, filter, true, IsSome}
+use Rattle.std.specs.Prelude.{◌==◌, if◌then◌else◌, ◌≡◌, ℕ, Bool, List, [], ◌∷◌, ◌++◌, Option, Some, None, filter, true, IsSome}
 use Rattle.std.specs.Option.{option_map}
 use Rattle.tracing_core.specs.PlainValue.{PlainValue}
 use Rattle.tracing_appender_rolling.specs.Contents.{Contents}
@@ -15,12 +15,10 @@ use Rattle.span_tracing_machine.specs.FieldTexts.{FieldList, lists_text, with_li
 use Rattle.span_tracing_machine.specs.Skeleton.{Skeleton, Mask}
 use Rattle.span_tracing_machine.specs.Machine.{refusal_of, acted, after, or_same, made_at, span_place}
 use Rattle.span_tracing_machine.specs.Missed.{TextOf, given_by, wanted, wants_of, starved_by, count_missed}
-use Rattle.span_tracing_machine.specs.State.{PlainText, list_at, step_mask}
-use Rattle.span_tracing.specs.Skeletons.{StateValue, skeleton_of, threads_of, setting_of, texts_of, filter_in}
-
--- the mask of a step
-abbrev pub mask_in : StateValue → PlainStep → Mask
-mask_in t step = step_mask (skeleton_of t) (filter_in (setting_of t)) step
+use Rattle.span_tracing_machine.specs.State.{PlainText, list_at}
+use Rattle.span_registry_layers.specs.Filter.{Ghosts}
+use Rattle.span_tracing_stack.specs.Answers.{StepsBy}
+use Rattle.span_tracing.specs.Skeletons.{StateValue, skeleton_of, threads_of, texts_of}
 
 -- the texts of open spans, with that of a new one
 abbrev pub with_text : List PlainText → Skeleton → Request → Fate → Option ℕ → List PlainText
@@ -58,21 +56,24 @@ texts_acted s texts (ExitStep call) mask fate = texts_left call.span (acted s (E
 texts_acted s texts (CloneStep call) mask fate = texts
 texts_acted s texts (CloseStep call) mask fate = texts_left call.span (acted s (CloseStep call) mask).registry.spans texts
 
--- a step that is not refused, whose one text or line met this fate
-pub record Acted (old new : StateValue) (step : PlainStep) (fate : Fate) : Type 0 where
-  pub skeleton : skeleton_of new ≡ acted (skeleton_of old) step (mask_in old step)
-  pub setting : new.output ≡ old.output
-  pub threads : threads_of new ≡ threads_of old
-  pub texts : texts_of new ≡ texts_acted (skeleton_of old) (texts_of old) step (mask_in old step) fate
-  pub starved : new.starved ≡ starved_by old.starved (count_missed (fate ∷ []) (wanted (skeleton_of old) step (mask_in old step)))
+module _ {F : Type 0} (g : Ghosts F) where
+  -- a step that is not refused, with its mask, whose one text or line met this fate
+  pub record Acted (old new : StateValue F) (step : PlainStep) (mask : Mask) (fate : Fate) : Type 0 where
+    pub skeleton : skeleton_of new ≡ acted (skeleton_of old) step mask
+    pub setting : new.output ≡ old.output
+    pub filter : StepsBy g old.filter new.filter
+    pub threads : threads_of new ≡ threads_of old
+    pub texts : texts_of new ≡ texts_acted (skeleton_of old) (texts_of old) step mask fate
+    pub starved : new.starved ≡ starved_by old.starved (count_missed (fate ∷ []) (wanted (skeleton_of old) step mask))
 
--- any step
-pub record Stepped (old new : StateValue) (step : PlainStep) (fate : Fate) : Type 0 where
-  pub skeleton : skeleton_of new ≡ after (skeleton_of old) step (mask_in old step)
-  pub setting : new.output ≡ old.output
-  pub threads : threads_of new ≡ threads_of old
-  pub texts : texts_of new ≡ or_same (refusal_of (skeleton_of old) step (mask_in old step)) (texts_of old) (texts_acted (skeleton_of old) (texts_of old) step (mask_in old step) fate)
-  pub starved : new.starved ≡ starved_by old.starved (count_missed (fate ∷ []) (wants_of (skeleton_of old) step (mask_in old step)))
+  -- any step
+  pub record Stepped (old new : StateValue F) (step : PlainStep) (mask : Mask) (fate : Fate) : Type 0 where
+    pub skeleton : skeleton_of new ≡ after (skeleton_of old) step mask
+    pub setting : new.output ≡ old.output
+    pub filter : StepsBy g old.filter new.filter
+    pub threads : threads_of new ≡ threads_of old
+    pub texts : texts_of new ≡ or_same (refusal_of (skeleton_of old) step mask) (texts_of old) (texts_acted (skeleton_of old) (texts_of old) step mask fate)
+    pub starved : new.starved ≡ starved_by old.starved (count_missed (fate ∷ []) (wants_of (skeleton_of old) step mask))
 
 -- a sink agrees with a plain one, or both are absent
 abbrev pub AgreesOption : {D : Type 0} → (D → Option Contents) → Option (RollingFileAppender D) → Option PlainSink → Type 0
@@ -105,6 +106,11 @@ TakesRoom s (EnterStep call) mask = IsSome call.span
 TakesRoom s (ExitStep call) mask = ⊥
 TakesRoom s (CloneStep call) mask = ⊥
 TakesRoom s (CloseStep call) mask = ⊥
+
+-- an output's answer, where it was asked
+abbrev pub mask_by : Option Bool → Mask
+mask_by None = []
+mask_by (Some b) = b ∷ []
 
 -- want of memory is told last: nothing else stands in the way
 abbrev pub WantsRoom : Skeleton → PlainStep → Mask → Type 0

@@ -4,12 +4,7 @@ use Rattle.tracing_core.specs.FieldValue.{FieldValue}
 use Rattle.tracing_core.specs.PlainMetadata.{PlainMetadata}
 use Rattle.tracing_core.specs.OwnedValues.{indexed_entries}
 use Rattle.tracing_core.specs.PlainRequests.{PlainAttributes, PlainEvent, PlainValues}
-use Rattle.tracing_core.specs.At.{At}
-use Rattle.tracing_core.specs.Parent as core
-use Rattle.tracing_core.specs.Parent.TheVariants as core_parents
-use Rattle.tracing_appender_rolling.specs.Moment.{Moment}
-use Rattle.span_tracing_machine.specs.declared.call.Parent.{Parent}
-use Rattle.span_tracing_machine.specs.declared.call.Parent.TheVariants.{Contextual, Root, Explicit}
+use Rattle.span_tracing_machine.specs.Machine.{told_parent}
 use Rattle.span_tracing.specs.declared.action.Request.{Request}
 use Rattle.span_tracing.specs.declared.callsite.Callsite.{Callsite}
 use Rattle.span_tracing.specs.Skeletons.{plain_callsite}
@@ -17,11 +12,6 @@ use Rattle.span_tracing.specs.Skeletons.{plain_callsite}
 -- the metadata of a callsite, whose fields are its own
 abbrev pub own_metadata : Callsite → PlainMetadata
 own_metadata c = record ((plain_callsite c).metadata) { callsite = c.number }
-
-abbrev pub parent_of : Parent → core.Parent
-parent_of Contextual = core_parents.Current
-parent_of Root = core_parents.Root
-parent_of (Explicit name) = core_parents.Explicit name.id
 
 -- values by index, of the fields of a callsite
 abbrev pub values_with : Callsite → List FieldValue → PlainValues
@@ -33,11 +23,7 @@ abbrev pub values_of : Callsite → Request → PlainValues
 values_of c r = values_with c r.values.now
 
 abbrev pub event_of : Callsite → Request → PlainEvent
-event_of c r = record { metadata = own_metadata c; values = values_of c r; parent = parent_of r.parent }
+event_of c r = record { metadata = own_metadata c; values = values_of c r; parent = told_parent r.parent }
 
 abbrev pub attributes_of : Callsite → Request → PlainAttributes
-attributes_of c r = record { metadata = own_metadata c; values = values_of c r; parent = parent_of r.parent }
-
--- where and when
-abbrev pub place_at : ℕ → Moment → At
-place_at lane moment = record { lane = lane; seconds = moment.seconds; nanoseconds = moment.nanoseconds }
+attributes_of c r = record { metadata = own_metadata c; values = values_of c r; parent = told_parent r.parent }

@@ -1,18 +1,21 @@
 //! Which steps are refused, and which requests are made.
 
-ghost use Rattle.std.specs.Prelude.{◌≡◌, map, Bool, true, false, not, IfSome, IfNone, ◌<◌, ◌≤◌, length, option_and_then, slice_get};
+ghost use Rattle.std.specs.Prelude.{◌≡◌, map, Bool, true, false, not, [], IfSome, IfNone, ◌<◌, ◌≤◌, length, option_and_then, slice_get};
 ghost use Rattle.std.specs.Option.{option_map, option_copied};
-ghost use Rattle.span_tracing_machine.specs.Machine.{place_of, is_kind, known_place, knows_stack, lane_refusal, parent_refusal, request_refusal, enabled_refusal, span_refusal, stack_refusal, open_refusal, pair_refusal, follows_refusal, call_refusal, count_refusal, first, handle_refusal, when, ids_refusal, refusal_of, made_at, is_made};
-ghost use Rattle.span_tracing_machine.specs.State.{callsite_named, mask_at, mask_for, mask_asked};
+ghost use Rattle.span_tracing_machine.specs.Machine.{place_of, is_kind, known_place, knows_stack, lane_refusal, parent_refusal, request_refusal, enabled_refusal, span_refusal, stack_refusal, open_refusal, pair_refusal, follows_refusal, call_refusal, count_refusal, first, handle_refusal, when, refusal_of, made_with};
+ghost use Rattle.span_tracing_machine.specs.State.{callsite_named};
 ghost use Rattle.span_tracing_machine.specs.declared.refusal.Refusal.TheVariants.{GlobalSet, UnknownStack};
 ghost use Rattle.span_tracing.specs.Actions.{plain_action};
-ghost use Rattle.span_tracing.specs.Skeletons.{plain_callsite, skeleton_of, setting_of, filter_in, value_in};
-ghost use Rattle.span_tracing.specs.Stored.{mask_in};
+ghost use Rattle.span_tracing_stack.specs.Answers.{view_in};
+ghost use Rattle.span_tracing.specs.Masks.{AskedOf, Passes, place_at};
+ghost use Rattle.span_tracing.specs.Skeletons.{plain_callsite, skeleton_of, value_in};
+ghost use Rattle.span_tracing.specs.Stored.{mask_by};
 
-use crate::action::{Action, Request};
+use crate::action::Action;
 use crate::callsite::Callsite;
 use crate::hand::at_of;
 use crate::parts::TraceParts;
+use span_registry_layers::Filter;
 use span_tracing_machine::{EnabledCall, FollowsCall, Parent, Refusal, SpanCall, SpanName};
 use tracing_appender_rolling::Moment;
 use tracing_core::Identifier;
@@ -63,7 +66,7 @@ pub(crate) fn known_place(callsites: &[Callsite], number: u64, is_span: bool) ->
     }
 }
 
-impl TraceParts {
+impl<F: Filter> TraceParts<F> {
     ghost use Rattle.span_tracing.specs.Sound.{IsSound};
 
     fn knows_stack(&self, stack: usize) -> bool
@@ -96,7 +99,7 @@ impl TraceParts {
 
     #[tactic(auto, using(crate::proofs::Lists::length_map))]
     fn lane_refusal(&self, lane: usize) -> Option<Refusal>
-        requires { IsSound self.now }
+        requires { IsSound ⟦<F as Filter>⟧ self.now }
         ensures { result ≡ lane_refusal (skeleton_of (value_in self.now)) lane }
     {
         if self.threads.len() <= lane {
@@ -114,7 +117,7 @@ impl TraceParts {
         is_span: bool,
         parent: Parent,
     ) -> Option<Refusal>
-        requires { IsSound self.now }
+        requires { IsSound ⟦<F as Filter>⟧ self.now }
         ensures { result ≡ request_refusal (skeleton_of (value_in self.now)) lane moment number is_span parent }
     {
         if let Some(refusal) = self.lane_refusal(lane) {
@@ -130,7 +133,7 @@ impl TraceParts {
     }
 
     fn enabled_refusal(&self, call: &EnabledCall) -> Option<Refusal>
-        requires { IsSound self.now }
+        requires { IsSound ⟦<F as Filter>⟧ self.now }
         ensures { result ≡ enabled_refusal (skeleton_of (value_in self.now)) call.now }
     {
         if let Some(refusal) = self.lane_refusal(call.lane) {
@@ -163,7 +166,7 @@ impl TraceParts {
     }
 
     fn call_refusal(&self, call: SpanCall) -> Option<Refusal>
-        requires { IsSound self.now }
+        requires { IsSound ⟦<F as Filter>⟧ self.now }
         ensures { result ≡ call_refusal (skeleton_of (value_in self.now)) call }
     {
         if let Some(refusal) = self.lane_refusal(call.lane) {
@@ -206,7 +209,7 @@ impl TraceParts {
     }
 
     fn follows_refusal(&self, call: &FollowsCall) -> Option<Refusal>
-        requires { IsSound self.now }
+        requires { IsSound ⟦<F as Filter>⟧ self.now }
         ensures { result ≡ follows_refusal (skeleton_of (value_in self.now)) call.now }
     {
         if let Some(refusal) = self.lane_refusal(call.lane) {
@@ -266,7 +269,7 @@ impl TraceParts {
     }
 
     fn clone_refusal(&self, call: &SpanCall) -> Option<Refusal>
-        requires { IsSound self.now }
+        requires { IsSound ⟦<F as Filter>⟧ self.now }
         ensures { result ≡ first (call_refusal (skeleton_of (value_in self.now)) call.now) (count_refusal (skeleton_of (value_in self.now)) call.now.span) }
     {
         let refusal = self.call_refusal(*call);
@@ -277,7 +280,7 @@ impl TraceParts {
     }
 
     fn close_refusal(&self, call: &SpanCall) -> Option<Refusal>
-        requires { IsSound self.now }
+        requires { IsSound ⟦<F as Filter>⟧ self.now }
         ensures { result ≡ first (call_refusal (skeleton_of (value_in self.now)) call.now) (handle_refusal (skeleton_of (value_in self.now)) call.now.span) }
     {
         let refusal = self.call_refusal(*call);
@@ -299,79 +302,28 @@ impl TraceParts {
         None
     }
 
-    /// Whether the hub lets requests at a callsite through.
+    /// What the stack's filter answers of a request at a callsite, where a stack is reached and the callsite is known. It is asked by
+    /// the hub where nothing that is kept tells.
     #[inline(always)]
-    fn is_let_through(&mut self, lane: usize, moment: Moment, number: u64) -> bool
-        requires sound { IsSound self.old }
+    pub(crate) fn ask(&mut self, lane: usize, moment: Moment, number: u64) -> Option<bool>
+        requires sound { IsSound ⟦<F as Filter>⟧ self.old }
         requires lane { lane < length self.old.threads.items }
-        ensures answer { result ≡ is_made (mask_asked (skeleton_of (value_in self.old)) (filter_in (setting_of (value_in self.old))) number) }
+        ensures asked { AskedOf (skeleton_of (value_in self.old)).is_global (callsite_named (skeleton_of (value_in self.old)).callsites number)
+            (λ c b. Passes ⟦<F as Filter>⟧ (value_in self.old).filter (made_with c) (view_in (skeleton_of (value_in self.old)).registry (place_at lane moment)) b) (mask_by result) }
         ensures kept { self.new ≡ self.old }
     {
-        let answer = self.hub.gate(Identifier(number), at_of(lane, moment));
-        answer.unwrap_or(false)
-    }
-
-    /// Where a request is made, the place of its callsite.
-    #[inline(always)]
-    #[tactic(auto, using(crate::proofs::Lists::slice_get_map), unfolding(span_tracing_machine::specs::Machine::made_at))]
-    pub(crate) fn made_at(
-        &mut self,
-        lane: usize,
-        moment: Moment,
-        number: u64,
-        is_span: bool,
-    ) -> Option<usize>
-        requires sound { IsSound self.old }
-        requires lane { lane < length self.old.threads.items }
-        ensures within { IfSome result (λ place. place < length self.old.callsites.items) }
-        ensures passed { IfSome result (λ place. is_made (mask_at (filter_in (setting_of (value_in self.old))) (slice_get (map plain_callsite self.old.callsites.items) place)) ≡ true) }
-        ensures value { result ≡ made_at (skeleton_of (value_in self.old)) number is_span (mask_for (skeleton_of (value_in self.old)) (filter_in (setting_of (value_in self.old))) number is_span) }
-        ensures kept { self.new ≡ self.old }
-    {
-        match known_place(self.callsites.as_slice(), number, is_span) {
-            None => None,
-            Some(place) => {
-                if self.is_let_through(lane, moment, number) {
-                    Some(place)
-                } else {
-                    None
-                }
-            }
-        }
-    }
-
-    /// Whether a request at a callsite of any kind would be made.
-    pub(crate) fn is_enabled(&mut self, call: &EnabledCall) -> bool
-        requires sound { IsSound self.old }
-        requires lane { call.now.lane < length self.old.threads.items }
-        ensures answer { result ≡ is_made (mask_asked (skeleton_of (value_in self.old)) (filter_in (setting_of (value_in self.old))) call.now.callsite.0) }
-        ensures kept { self.new ≡ self.old }
-    {
-        self.is_let_through(call.lane, call.moment, call.callsite.0)
-    }
-
-    // The hub is asked only where no id is left, since then alone it matters whether the span would be made.
-    fn ids_refusal(&mut self, span: &Request<'_>) -> Option<Refusal>
-        requires sound { IsSound self.old }
-        requires lane { span.now.lane < length self.old.threads.items }
-        ensures value { result ≡ ids_refusal (skeleton_of (value_in self.old)) (made_at (skeleton_of (value_in self.old)) span.now.callsite true (mask_for (skeleton_of (value_in self.old)) (filter_in (setting_of (value_in self.old))) span.now.callsite true)) }
-        ensures kept { self.new ≡ self.old }
-    {
-        if self.coming_id().is_some() {
+        if !self.hub.has_been_set() {
             return None;
         }
-        self.made_at(span.lane, span.moment, span.callsite, true)?;
-        Some(Refusal::IdsSpent)
+        self.hub.gate(Identifier(number), at_of(lane, moment))
     }
 
-    /// The first refusal that a step meets. It is found by reading, but for spent ids: only a span that is
-    /// made meets those.
+    /// The first refusal that a step meets before a filter is asked. It is found by reading.
     #[inline(always)]
-    #[tactic(auto, unfolding(span_tracing_machine::specs::Machine::refusal_of, span_tracing_machine::specs::State::step_mask))]
-    pub(crate) fn refusal(&mut self, action: &Action<'_>) -> Option<Refusal>
-        requires { IsSound self.old }
-        ensures value { result ≡ refusal_of (skeleton_of (value_in self.old)) (plain_action action.now) (mask_in (value_in self.old) (plain_action action.now)) }
-        ensures kept { self.new ≡ self.old }
+    #[tactic(auto, unfolding(span_tracing_machine::specs::Machine::refusal_of))]
+    pub(crate) fn refusal(&self, action: &Action<'_>) -> Option<Refusal>
+        requires { IsSound ⟦<F as Filter>⟧ self.now }
+        ensures { result ≡ refusal_of (skeleton_of (value_in self.now)) (plain_action action.now) [] }
     {
         match action {
             Action::SetGlobalDefault(handle) => self.global_refusal(*handle),
@@ -383,19 +335,13 @@ impl TraceParts {
                 event.parent,
             ),
             Action::Enabled(call) => self.enabled_refusal(call),
-            Action::NewSpan(span) => {
-                let refusal = self.request_refusal(
-                    span.lane,
-                    span.moment,
-                    span.callsite,
-                    true,
-                    span.parent,
-                );
-                if refusal.is_some() {
-                    return refusal;
-                }
-                self.ids_refusal(span)
-            }
+            Action::NewSpan(span) => self.request_refusal(
+                span.lane,
+                span.moment,
+                span.callsite,
+                true,
+                span.parent,
+            ),
             Action::Record(call) => self.call_refusal(SpanCall {
                 lane: call.lane,
                 moment: call.moment,

@@ -1,20 +1,23 @@
 //! Callsites, lanes and the stack: what setup calls add.
 
-ghost use Rattle.std.specs.Prelude.{◌≡◌, ◌+◌, ◌++◌, ◌∷◌, [], OnErr, OnOk, IfOk, None, Some, length, map, string_bytes, true};
+ghost use Rattle.std.specs.Prelude.{◌≡◌, ◌+◌, ◌++◌, ◌∷◌, [], OnErr, OnOk, IfOk, IfSome, None, Some, is_some, length, map, string_bytes, true};
 ghost use Rattle.std.specs.Option.{option_copied, option_map};
 ghost use Rattle.tracing_core.specs.Metadata.{plain_metadata};
 ghost use Rattle.span_tracing_machine.specs.State.{callsite_named};
 ghost use Rattle.span_tracing_machine.specs.Skeleton.{PlainCallsite};
-ghost use Rattle.span_tracing.specs.Skeletons.{interest_in, plain_callsite, skeleton_of, threads_of, value_in};
+ghost use Rattle.span_tracing_machine.specs.Machine.{made_with};
+ghost use Rattle.span_tracing.specs.Masks.{Says};
+ghost use Rattle.span_tracing.specs.Skeletons.{plain_callsite, skeleton_of, threads_of, value_in};
 
 use crate::callsite::Callsite;
 use crate::checks::place_of;
 use crate::parts::{Thread, TraceParts};
 use crate::site::Site;
+use span_registry_layers::Filter;
 use std::alloc::AllocError;
 use tracing_core::{Identifier, Interest, Metadata, RegisterError};
 
-impl TraceParts {
+impl<F: Filter> TraceParts<F> {
     ghost use Rattle.span_tracing.specs.Sound.{IsSound};
 
     /// The callsite with an identifier.
@@ -28,8 +31,9 @@ impl TraceParts {
 
     /// The interest that is kept of the callsite with an identifier.
     pub(crate) fn interest(&self, number: u64) -> Option<Interest>
-        requires { IsSound self.now }
-        ensures { result ≡ option_map (λ (c : PlainCallsite). interest_in (value_in self.now) c.metadata.level) (callsite_named (skeleton_of (value_in self.now)).callsites number) }
+        requires { IsSound ⟦<F as Filter>⟧ self.now }
+        ensures known { is_some result ≡ is_some (callsite_named (skeleton_of (value_in self.now)).callsites number) }
+        ensures says { IfSome result (λ interest. (c : PlainCallsite) → callsite_named (skeleton_of (value_in self.now)).callsites number ≡ Some c → Says ⟦<F as Filter>⟧ (value_in self.now).filter (made_with c) interest) }
     {
         self.hub.interest(Identifier(number))
     }
@@ -40,10 +44,10 @@ impl TraceParts {
         number: u64,
         metadata: &Metadata<'_>,
     ) -> Result<Interest, AllocError>
-        requires sound { IsSound self.old }
+        requires sound { IsSound ⟦<F as Filter>⟧ self.old }
         requires unknown { callsite_named (skeleton_of (value_in self.old)).callsites number ≡ None }
-        ensures sound { IsSound self.new }
-        ensures interest { IfOk result (λ interest. interest ≡ interest_in (value_in self.old) (plain_metadata metadata.now).level) }
+        ensures sound { IsSound ⟦<F as Filter>⟧ self.new }
+        ensures interest { IfOk result (λ interest. Says ⟦<F as Filter>⟧ (value_in self.old).filter (made_with (record { number = number; metadata = plain_metadata metadata.now })) interest) }
         ensures ok { OnOk result (value_in self.new ≡ record (value_in self.old) { skeleton = record (skeleton_of (value_in self.old)) { callsites = (skeleton_of (value_in self.old)).callsites ++ (record { number = number; metadata = plain_metadata metadata.now }) ∷ [] } }) }
         ensures err { OnErr result (value_in self.new ≡ value_in self.old) }
     {
@@ -72,8 +76,8 @@ impl TraceParts {
         name: Option<String>,
         thread_id: u64,
     ) -> Result<usize, AllocError>
-        requires { IsSound self.old }
-        ensures sound { IsSound self.new }
+        requires { IsSound ⟦<F as Filter>⟧ self.old }
+        ensures sound { IsSound ⟦<F as Filter>⟧ self.new }
         ensures number { IfOk result (λ lane. lane ≡ (skeleton_of (value_in self.old)).lanes) }
         ensures ok { OnOk result (value_in self.new ≡ record (value_in self.old) {
           skeleton = record (skeleton_of (value_in self.old)) { lanes = (skeleton_of (value_in self.old)).lanes + 1 };

@@ -4,17 +4,18 @@ ghost use Rattle.std.specs.Prelude.{◌≡◌};
 ghost use Rattle.tracing_core.specs.Calls.{Recorded, SpanMade, Told};
 ghost use Rattle.tracing_core.specs.Handing.{HubGives};
 ghost use Rattle.tracing_core.specs.PlainRequests.{plain_attributes, plain_event};
-ghost use Rattle.span_tracing.specs.Telling.{attributes_of, event_of, place_at, values_with};
+ghost use Rattle.span_tracing.specs.Masks.{place_at};
+ghost use Rattle.span_tracing.specs.Telling.{attributes_of, event_of, values_with};
 
 use crate::action::{RecordRequest, Request};
 use crate::callsite::Callsite;
 use crate::site::Site;
+use span_registry_layers::Filter;
 use span_tracing_machine::Parent;
 use span_tracing_stack::Stack;
 use tracing_appender_rolling::Moment;
 use tracing_core::{
-    At, Attributes, Dispatch, Event, Hub, Id, LevelFilter, Metadata, Record, RequestError,
-    Subscriber, ValueSet,
+    At, Attributes, Dispatch, Event, Hub, Id, Metadata, Record, RequestError, Subscriber, ValueSet,
 };
 
 /// Where and when.
@@ -29,13 +30,13 @@ pub(crate) fn at_of(lane: usize, moment: Moment) -> At
 }
 
 /// Hands an event at the callsite to the stack.
-pub(crate) fn hand_event(
-    hub: &mut Hub<Stack<LevelFilter>, Site>,
+pub(crate) fn hand_event<F: Filter>(
+    hub: &mut Hub<Stack<F>, Site>,
     handle: &Dispatch,
     callsite: &Callsite,
     event: &Request<'_>,
 ) -> Result<(), RequestError>
-    ensures { HubGives ⟦<Stack<LevelFilter> as Subscriber>⟧ (Told (event_of callsite.now event.now) (place_at event.now.lane event.now.moment)) handle.now hub.old result hub.new }
+    ensures { HubGives ⟦<Stack<F> as Subscriber>⟧ (Told (event_of callsite.now event.now) (place_at event.now.lane event.now.moment)) handle.now hub.old result hub.new }
 {
     let metadata = callsite.metadata();
     let values = metadata.fields().value_set_indexed(event.values);
@@ -51,13 +52,13 @@ pub(crate) fn hand_event(
 }
 
 /// Hands a new span at the callsite to the stack.
-pub(crate) fn hand_span(
-    hub: &mut Hub<Stack<LevelFilter>, Site>,
+pub(crate) fn hand_span<F: Filter>(
+    hub: &mut Hub<Stack<F>, Site>,
     handle: &Dispatch,
     callsite: &Callsite,
     span: &Request<'_>,
 ) -> Result<Option<Id>, RequestError>
-    ensures { HubGives ⟦<Stack<LevelFilter> as Subscriber>⟧ (SpanMade (attributes_of callsite.now span.now) (place_at span.now.lane span.now.moment)) handle.now hub.old result hub.new }
+    ensures { HubGives ⟦<Stack<F> as Subscriber>⟧ (SpanMade (attributes_of callsite.now span.now) (place_at span.now.lane span.now.moment)) handle.now hub.old result hub.new }
 {
     let metadata = callsite.metadata();
     let values = metadata.fields().value_set_indexed(span.values);
@@ -73,14 +74,14 @@ pub(crate) fn hand_span(
 }
 
 /// Hands values for a span of the callsite to the stack.
-pub(crate) fn hand_record(
-    hub: &mut Hub<Stack<LevelFilter>, Site>,
+pub(crate) fn hand_record<F: Filter>(
+    hub: &mut Hub<Stack<F>, Site>,
     handle: &Dispatch,
     callsite: &Callsite,
     id: Id,
     call: &RecordRequest<'_>,
 ) -> Result<(), RequestError>
-    ensures { HubGives ⟦<Stack<LevelFilter> as Subscriber>⟧ (Recorded id (values_with callsite.now call.now.values.now) (place_at call.now.lane call.now.moment)) handle.now hub.old result hub.new }
+    ensures { HubGives ⟦<Stack<F> as Subscriber>⟧ (Recorded id (values_with callsite.now call.now.values.now) (place_at call.now.lane call.now.moment)) handle.now hub.old result hub.new }
 {
     let metadata = callsite.metadata();
     let values = Record::new(metadata.fields().value_set_indexed(call.values));

@@ -8,7 +8,6 @@ use span_tracing_machine::Refusal;
 use span_tracing_stack::LineFormat;
 use std::alloc::Global;
 use tracing_appender_rolling::Builder;
-use tracing_core::LevelFilter;
 
 /// Bytes for which an output makes room before its first line.
 const LINE_CAPACITY: usize = 256;
@@ -29,9 +28,9 @@ pub enum SinkSpec<D> {
 
 /// A filter, a format, and the sink that lines go to.
 #[derive(Drop)]
-pub struct Output<D> {
+pub struct Output<D, F> {
     pub(crate) key: OutputKey,
-    pub(crate) filter: LevelFilter,
+    pub(crate) filter: F,
     pub(crate) format: LineFormat,
     pub(crate) builder: Builder,
     pub(crate) folder: D,
@@ -39,10 +38,11 @@ pub struct Output<D> {
     pub(crate) line: String,
 }
 
-/// Why an output could not be made, with its format and its sinks.
+/// Why an output could not be made, with its filter, its format and its sinks.
 #[derive(Drop)]
-pub struct OutputRefusal<D> {
+pub struct OutputRefusal<D, F> {
     pub refusal: Refusal,
+    pub filter: F,
     pub format: LineFormat,
     pub sinks: Vec<SinkSpec<D>>,
 }
@@ -55,33 +55,34 @@ fn is_bad_route(route: Route, sinks: usize) -> bool
     }
 }
 
-impl<D: Drop> Output<D> {
+impl<D: Drop, F: Drop> Output<D, F> {
     ghost use Rattle.span_tracing.specs.Outputs.{MadeOf};
 
     /// An output of one sink.
     ///
     /// # Errors
     ///
-    /// `BadRoute` where the route names a sink that isn't there, else `OutOfMemory`; format and sinks come back.
+    /// `BadRoute` where the route names a sink that isn't there, else `OutOfMemory`; filter, format and sinks come back.
     pub fn new(
         alloc: Global,
-        filter: LevelFilter,
+        filter: F,
         format: LineFormat,
         route: Route,
         mut sinks: Vec<SinkSpec<D>>,
         key: OutputKey,
-    ) -> Result<Output<D>, OutputRefusal<D>>
+    ) -> Result<Output<D, F>, OutputRefusal<D, F>>
         requires { vec_len sinks ≤ 1 }
         ensures bad { is_bad_route route (vec_len sinks) ≡ true →
-            result ≡ Err (record { refusal = Refusal.BadRoute; format = format; sinks = sinks }) }
+            result ≡ Err (record { refusal = Refusal.BadRoute; filter = filter; format = format; sinks = sinks }) }
         ensures made { is_bad_route route (vec_len sinks) ≡ false →
             IfOk result (λ output. MadeOf filter format sinks.items key output) }
         ensures memory { is_bad_route route (vec_len sinks) ≡ false →
-            IfErr result (λ refused. refused ≡ record { refusal = Refusal.OutOfMemory; format = format; sinks = sinks }) }
+            IfErr result (λ refused. refused ≡ record { refusal = Refusal.OutOfMemory; filter = filter; format = format; sinks = sinks }) }
     {
         if is_bad_route(route, sinks.len()) {
             return Err(OutputRefusal {
                 refusal: Refusal::BadRoute,
+                filter,
                 format,
                 sinks,
             });
@@ -89,6 +90,7 @@ impl<D: Drop> Output<D> {
         let Ok(line) = String::with_capacity(alloc, LINE_CAPACITY) else {
             return Err(OutputRefusal {
                 refusal: Refusal::OutOfMemory,
+                filter,
                 format,
                 sinks,
             });
@@ -104,6 +106,7 @@ impl<D: Drop> Output<D> {
             }),
             None => Err(OutputRefusal {
                 refusal: Refusal::BadRoute,
+                filter,
                 format,
                 sinks,
             }),

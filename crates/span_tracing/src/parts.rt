@@ -11,9 +11,10 @@ ghost use Rattle.span_tracing.specs.Skeletons.{plain_callsite, registry_in, told
 use crate::callsite::Callsite;
 use crate::checks::place_of;
 use crate::site::Site;
+use span_registry_layers::Filter;
 use span_tracing_stack::Stack;
 use std::alloc::Global;
-use tracing_core::{Dispatch, Hub, Id, LevelFilter};
+use tracing_core::{Dispatch, Hub, Id};
 
 /// A lane's name and thread.
 #[derive(Debug, Drop)]
@@ -24,22 +25,22 @@ pub(crate) struct Thread {
 
 /// Callsites, the lanes' threads, and the hub with the one stack.
 #[derive(Drop)]
-pub(crate) struct TraceParts {
+pub(crate) struct TraceParts<F: Filter> {
     pub(crate) alloc: Global,
     pub(crate) callsites: Vec<Callsite>,
     pub(crate) threads: Vec<Thread>,
-    pub(crate) hub: Hub<Stack<LevelFilter>, Site>,
+    pub(crate) hub: Hub<Stack<F>, Site>,
     /// The stack's handle, where there is a stack.
     pub(crate) handle: Option<Dispatch>,
     /// How many texts and lines found no memory; it stops at the greatest number.
     pub(crate) starved: usize,
 }
 
-impl TraceParts {
+impl<F: Filter> TraceParts<F> {
     ghost use Rattle.span_tracing.specs.Skeletons.{stack_in};
 
     /// The stack, where there is one.
-    pub(crate) fn stack(&self) -> Option<&Stack<LevelFilter>>
+    pub(crate) fn stack(&self) -> Option<&Stack<F>>
         ensures { option_copied result ≡ stack_in self.now }
     {
         match &self.handle {
@@ -75,17 +76,6 @@ impl TraceParts {
         ensures value { result ≡ option_and_then (λ (s : PlainSpan). place_of (map plain_callsite self.now.callsites.items) s.metadata.callsite) (found kin_in (registry_in (stack_in self.now)).spans id) }
     {
         place_of(self.callsites.as_slice(), self.stack()?.callsite_of(id)?)
-    }
-
-    /// The next span's id, where one is left.
-    pub(crate) fn coming_id(&self) -> Option<u64>
-        ensures some { IfSome result (λ id. (id ≡ (registry_in (stack_in self.now)).next_id) × (id ≤ 18446744073709551615)) }
-        ensures none { IfNone result (18446744073709551615 < (registry_in (stack_in self.now)).next_id) }
-    {
-        match self.stack() {
-            None => Some(1),
-            Some(stack) => stack.next_id(),
-        }
     }
 
     /// The line of the stack's last request, where it has one.

@@ -1,39 +1,57 @@
 //! Requests that nothing stands in the way of, through the hub.
 
-ghost use Rattle.std.specs.Prelude.{◌≡◌, ◌<◌, ◌≤◌, ℕ, List, true, false, not, IfOk, OnErr, OnOk, None, map, length, slice_get};
+ghost use Rattle.std.specs.Prelude.{◌≡◌, ◌<◌, ◌≤◌, ℕ, List, true, false, not, OnErr, OnOk, None, Some, length};
 ghost use Rattle.tracing_appender_rolling.specs.Moments.{is_moment};
-ghost use Rattle.span_tracing_machine.specs.FieldTexts.{FieldList};
-ghost use Rattle.span_tracing_machine.specs.Machine.{is_made, parent_refusal};
-ghost use Rattle.span_tracing_machine.specs.Missed.{given_by, handed_by};
+ghost use Rattle.span_tracing_machine.specs.Machine.{parent_refusal};
+ghost use Rattle.span_tracing_machine.specs.Missed.{handed_by};
 ghost use Rattle.span_registry_layers.specs.Registries.{kin_in};
 ghost use Rattle.span_registry_layers.specs.Spans.{handles_of, is_open};
-ghost use Rattle.span_tracing_machine.specs.State.{handed_at, list_at, mask_at};
-ghost use Rattle.span_tracing_stack.specs.Stacks.{line_told, text_told};
+ghost use Rattle.span_tracing_machine.specs.State.{handed_at, list_at};
+ghost use Rattle.span_tracing_stack.specs.Stacks.{Quiet, line_told};
 ghost use Rattle.span_tracing.specs.Actions.{plain_record, plain_request};
-ghost use Rattle.span_tracing.specs.Left.{RecordsFields, TellsEvent, SpanHanded, globally, with_entry, with_one, without_entry, without_one};
-ghost use Rattle.span_tracing.specs.Skeletons.{filter_in, plain_callsite, setting_of, registry_in, skeleton_of, stack_in, told_in, value_in};
+ghost use Rattle.span_tracing.specs.Left.{Heard, RecordsFields, fate_of, why_by, TellsEvent, SpanHanded, globally, with_entry, with_one, without_entry, without_one};
+ghost use Rattle.span_tracing.specs.Skeletons.{registry_in, skeleton_of, stack_in, told_in, value_in};
 ghost use Rattle.span_tracing.specs.Stored.{TakesLines};
 
 use crate::action::{RecordRequest, Request};
 use crate::hand::{at_of, hand_event, hand_record, hand_span};
 use crate::parts::TraceParts;
 use crate::sink::write_if_open;
+use crate::steps::EventDone;
+use span_registry_layers::Filter;
 use span_tracing_machine::Fate;
 use std::alloc::AllocError;
 use tracing_appender_rolling::{Folder, Moment, RollingFileAppender};
-use tracing_core::Id;
+use tracing_core::{Id, RequestError};
 
-impl TraceParts {
+/// Why a span that the filter passed was not made.
+#[derive(Clone, Copy, Debug)]
+pub(crate) enum SpanError {
+    IdsSpent,
+    OutOfMemory,
+}
+
+// Its parent was looked for, so only these are left.
+fn why_of(error: RequestError) -> SpanError
+    ensures { result ≡ why_by error }
+{
+    match error {
+        RequestError::IdsSpent => SpanError::IdsSpent,
+        _ => SpanError::OutOfMemory,
+    }
+}
+
+impl<F: Filter> TraceParts<F> {
     ghost use Rattle.span_tracing.specs.Sound.{IsSound};
 
-    /// Tells the stack of an event that passes.
+    /// Tells the stack of an event.
     #[inline(never)]
     pub(crate) fn tell(&mut self, event: &Request<'_>, place: usize)
-        requires sound { IsSound self.old }
+        requires sound { IsSound ⟦<F as Filter>⟧ self.old }
         requires place { place < length self.old.callsites.items }
         requires parent { parent_refusal (skeleton_of (value_in self.old)) event.now.parent ≡ None }
-        requires passed { is_made (mask_at (filter_in (setting_of (value_in self.old))) (slice_get (map plain_callsite self.old.callsites.items) place)) ≡ true }
-        ensures { TellsEvent self.old self.new (plain_request event.now) place }
+        requires there { (skeleton_of (value_in self.old)).has_stack ≡ true }
+        ensures { TellsEvent ⟦<F as Filter>⟧ self.old self.new (plain_request event.now) place }
     {
         let Some(handle) = &self.handle else {
             return;
@@ -42,26 +60,42 @@ impl TraceParts {
         let _told = hand_event(&mut self.hub, handle, &self.callsites[place], event);
     }
 
-    /// Hands the stack's line over; there is one unless it found no memory.
+    /// Hands the stack's line over, where it has one; else the stack wasn't told of the event, or its line found no memory.
     #[inline(never)]
     pub(crate) fn write_told<D: Folder>(
         &self,
         sink: &mut Option<RollingFileAppender<D>>,
         moment: Moment,
-    ) -> Fate
+    ) -> EventDone
         requires { is_moment moment ≡ true }
-        ensures { (fate : Fate) (line : List ℕ) → told_in (stack_in self.now) ≡ line_told fate line →
-            TakesLines D.contents sink.old sink.new (handed_by result (handed_at moment line)) }
+        ensures told { (fate : Fate) (line : List ℕ) → told_in (stack_in self.now) ≡ line_told fate line →
+            (result.answer ≡ Some true) × TakesLines D.contents sink.old sink.new (handed_by result.fate (handed_at moment line)) }
+        ensures dropped { told_in (stack_in self.now) ≡ Quiet → (result ≡ record { fate = Fate.Whole; answer = Some false }) × (sink.new ≡ sink.old) }
     {
         match self.line() {
-            None => Fate::Missed,
-            Some(line) => write_if_open(sink, line.as_bytes(), moment),
+            Some(line) => EventDone {
+                fate: write_if_open(sink, line.as_bytes(), moment),
+                answer: Some(true),
+            },
+            None => {
+                if self.is_starved() {
+                    EventDone {
+                        fate: Fate::Missed,
+                        answer: Some(true),
+                    }
+                } else {
+                    EventDone {
+                        fate: Fate::Whole,
+                        answer: Some(false),
+                    }
+                }
+            }
         }
     }
 
     /// What became of the text of the stack's last request.
     pub(crate) fn text_fate(&self) -> Fate
-        ensures { (fate : Fate) (list : FieldList) → told_in (stack_in self.now) ≡ text_told fate → given_by result list ≡ given_by fate list }
+        ensures { result ≡ fate_of (told_in (stack_in self.now)) }
     {
         if self.is_starved() {
             Fate::Missed
@@ -70,34 +104,33 @@ impl TraceParts {
         }
     }
 
-    /// Makes a span that passes.
+    /// Makes a span that the filter passes.
     pub(crate) fn make_span(
         &mut self,
         span: &Request<'_>,
         place: usize,
-    ) -> Result<Option<Id>, AllocError>
-        requires sound { IsSound self.old }
+    ) -> Result<Option<Id>, SpanError>
+        requires sound { IsSound ⟦<F as Filter>⟧ self.old }
         requires place { place < length self.old.callsites.items }
         requires parent { parent_refusal (skeleton_of (value_in self.old)) span.now.parent ≡ None }
-        requires passed { is_made (mask_at (filter_in (setting_of (value_in self.old))) (slice_get (map plain_callsite self.old.callsites.items) place)) ≡ true }
-        requires left { (skeleton_of (value_in self.old)).registry.next_id ≤ 18446744073709551615 }
-        ensures { SpanHanded self.old self.new (plain_request span.now) place result }
+        requires there { (skeleton_of (value_in self.old)).has_stack ≡ true }
+        ensures { SpanHanded ⟦<F as Filter>⟧ self.old self.new (plain_request span.now) place result }
     {
         let Some(handle) = &self.handle else {
-            return Err(AllocError);
+            unreachable!()
         };
         match hand_span(&mut self.hub, handle, &self.callsites[place], span) {
             Ok(id) => Ok(id),
-            Err(_) => Err(AllocError),
+            Err(error) => Err(why_of(error)),
         }
     }
 
     /// Tells the stack of values for an open span, whose callsite stands at the place.
     pub(crate) fn add_values(&mut self, id: Id, place: usize, call: &RecordRequest<'_>)
-        requires sound { IsSound self.old }
+        requires sound { IsSound ⟦<F as Filter>⟧ self.old }
         requires place { place < length self.old.callsites.items }
         requires there { is_open kin_in (registry_in (stack_in self.old)).spans id ≡ true }
-        ensures { RecordsFields self.old self.new id (list_at (skeleton_of (value_in self.old)) place (plain_record call.now).values) }
+        ensures { RecordsFields ⟦<F as Filter>⟧ self.old self.new id (list_at (skeleton_of (value_in self.old)) place (plain_record call.now).values) }
     {
         let Some(handle) = &self.handle else {
             return;
@@ -113,11 +146,11 @@ impl TraceParts {
         lane: usize,
         moment: Moment,
     ) -> Result<(), AllocError>
-        requires sound { IsSound self.old }
+        requires sound { IsSound ⟦<F as Filter>⟧ self.old }
         requires lane { lane < length self.old.threads.items }
         requires there { is_open kin_in (registry_in (stack_in self.old)).spans id ≡ true }
-        ensures sound { IsSound self.new }
-        ensures ok { OnOk result (value_in self.new ≡ with_entry (value_in self.old) lane id) }
+        ensures sound { IsSound ⟦<F as Filter>⟧ self.new }
+        ensures ok { OnOk result (Heard ⟦<F as Filter>⟧ (value_in self.old) (with_entry (value_in self.old) lane id) (value_in self.new)) }
         ensures err { OnErr result (value_in self.new ≡ value_in self.old) }
     {
         let Some(handle) = &self.handle else {
@@ -131,10 +164,10 @@ impl TraceParts {
 
     /// Leaves an open span on a lane.
     pub(crate) fn drop_entry(&mut self, id: Id, lane: usize, moment: Moment)
-        requires sound { IsSound self.old }
+        requires sound { IsSound ⟦<F as Filter>⟧ self.old }
         requires there { is_open kin_in (registry_in (stack_in self.old)).spans id ≡ true }
-        ensures sound { IsSound self.new }
-        ensures left { value_in self.new ≡ without_entry (value_in self.old) lane id }
+        ensures sound { IsSound ⟦<F as Filter>⟧ self.new }
+        ensures left { Heard ⟦<F as Filter>⟧ (value_in self.old) (without_entry (value_in self.old) lane id) (value_in self.new) }
     {
         let Some(handle) = &self.handle else {
             return;
@@ -144,11 +177,11 @@ impl TraceParts {
 
     /// Takes one more handle of an open span, whose count isn't the greatest.
     pub(crate) fn take_one(&mut self, id: Id, lane: usize, moment: Moment)
-        requires sound { IsSound self.old }
+        requires sound { IsSound ⟦<F as Filter>⟧ self.old }
         requires there { is_open kin_in (registry_in (stack_in self.old)).spans id ≡ true }
         requires fewer { ¬ (handles_of kin_in (registry_in (stack_in self.old)).spans id ≡ 18446744073709551615) }
-        ensures sound { IsSound self.new }
-        ensures left { value_in self.new ≡ with_one (value_in self.old) id }
+        ensures sound { IsSound ⟦<F as Filter>⟧ self.new }
+        ensures left { Heard ⟦<F as Filter>⟧ (value_in self.old) (with_one (value_in self.old) id) (value_in self.new) }
     {
         let Some(handle) = &self.handle else {
             return;
@@ -159,8 +192,8 @@ impl TraceParts {
 
     /// Tells the stack that an open span follows from another one.
     pub(crate) fn tell_follows(&mut self, id: Id, follows: Id, lane: usize, moment: Moment)
-        requires { IsSound self.old }
-        ensures sound { IsSound self.new }
+        requires { IsSound ⟦<F as Filter>⟧ self.old }
+        ensures sound { IsSound ⟦<F as Filter>⟧ self.new }
         ensures left { value_in self.new ≡ value_in self.old }
     {
         let Some(handle) = &self.handle else {
@@ -173,10 +206,10 @@ impl TraceParts {
 
     /// Gives up one handle of an open span, and answers whether the span closed.
     pub(crate) fn let_go(&mut self, id: Id, lane: usize, moment: Moment) -> bool
-        requires sound { IsSound self.old }
+        requires sound { IsSound ⟦<F as Filter>⟧ self.old }
         requires some { ¬ (handles_of kin_in (registry_in (stack_in self.old)).spans id ≡ 0) }
-        ensures sound { IsSound self.new }
-        ensures left { value_in self.new ≡ without_one (value_in self.old) id }
+        ensures sound { IsSound ⟦<F as Filter>⟧ self.new }
+        ensures left { Heard ⟦<F as Filter>⟧ (value_in self.old) (without_one (value_in self.old) id) (value_in self.new) }
         ensures closed { result ≡ not (is_open kin_in (skeleton_of (without_one (value_in self.old) id)).registry.spans id) }
     {
         let Some(handle) = &self.handle else {
@@ -187,10 +220,10 @@ impl TraceParts {
 
     /// Makes the stack the one that lanes reach.
     pub(crate) fn make_global(&mut self)
-        requires sound { IsSound self.old }
+        requires sound { IsSound ⟦<F as Filter>⟧ self.old }
         requires there { (skeleton_of (value_in self.old)).has_stack ≡ true }
         requires first { (skeleton_of (value_in self.old)).is_global ≡ false }
-        ensures sound { IsSound self.new }
+        ensures sound { IsSound ⟦<F as Filter>⟧ self.new }
         ensures left { value_in self.new ≡ globally (value_in self.old) }
     {
         let Some(handle) = &self.handle else {

@@ -1,6 +1,6 @@
 //! Steps of a trace, one at a time and in runs.
 
-ghost use Rattle.std.specs.Prelude.{◌≡◌, ◌≢◌, [], ◌∷◌, OnErr, IfOk, true, ◌<◌, length, pos};
+ghost use Rattle.std.specs.Prelude.{◌≡◌, ◌≢◌, [], ◌∷◌, OnErr, IfErr, IfOk, None, Some, true, ◌<◌, length, pos};
 ghost use Rattle.tracing_appender_rolling.specs.Moments.{is_moment};
 ghost use Rattle.tracing_appender_rolling.specs.Sinks.{PlainSink};
 ghost use Rattle.tracing_appender_rolling.specs.Appenders.{AgreesSink};
@@ -10,11 +10,15 @@ ghost use Rattle.span_tracing_machine.specs.Machine.{refusal_of, reply_of, or_sa
 ghost use Rattle.span_tracing_machine.specs.Missed.{handed_by, handed_lines};
 ghost use Rattle.span_tracing_machine.specs.State.{handed_at, event_line, offer_of};
 ghost use Rattle.span_tracing.specs.Actions.{plain_action, plain_request};
-ghost use Rattle.span_tracing.specs.Skeletons.{skeleton_of, setting_of, texts_of, time_in};
-ghost use Rattle.span_tracing.specs.Stored.{Acted, Stepped, TakesLines, WantsRoom, mask_in, more_lines};
+ghost use Rattle.span_tracing.specs.Skeletons.{skeleton_of, texts_of};
+ghost use Rattle.span_tracing.specs.Went.{refusal_by};
+ghost use Rattle.span_tracing.specs.Stored.{Acted, TakesLines, mask_by, more_lines};
 
 use crate::action::{Action, RecordRequest, Request, action_of};
+use crate::requests::SpanError;
+use crate::steps::MadeSpan;
 use crate::trace::Trace;
+use span_registry_layers::Filter;
 use span_tracing_machine::{
     EnabledCall, Fate, FollowsCall, Parent, Refusal, Reply, SpanCall, SpanName, Step,
 };
@@ -22,42 +26,58 @@ use std::alloc::AllocError;
 use tracing_appender_rolling::{Folder, Moment};
 use tracing_core::{FieldValue, Identifier};
 
-/// A step's reply, and what became of its text or line.
+/// A step's reply, what became of its text or line, and what the stack's filter answered of it, where it was asked.
 #[derive(Clone, Copy, Debug)]
 struct StepDone {
     reply: Reply,
     fate: Fate,
+    answer: Option<bool>,
 }
 
-/// A reply to a step that missed nothing.
+/// A reply to a step that missed nothing, of which no filter was asked.
 fn whole(reply: Reply) -> StepDone
-    ensures { (result.reply ≡ reply) × (result.fate ≡ Fate.Whole) }
+    ensures { result ≡ record { reply = reply; fate = Fate.Whole; answer = None } }
 {
     StepDone {
         reply,
         fate: Fate::Whole,
+        answer: None,
     }
 }
 
-impl<D: Folder> Trace<D> {
+/// What a span request comes to.
+fn span_done(made: Result<MadeSpan, SpanError>) -> StepDone
+    ensures made { IfOk made (λ made. result ≡ record { reply = Reply.Span made.name; fate = made.fate; answer = made.answer }) }
+    ensures refused { IfErr made (λ error. result ≡ record { reply = Reply.Refused (refusal_by error); fate = Fate.Whole; answer = Some true }) }
+{
+    match made {
+        Ok(made) => StepDone {
+            reply: Reply::Span(made.name),
+            fate: made.fate,
+            answer: made.answer,
+        },
+        Err(error) => StepDone {
+            reply: Reply::Refused(match error {
+                SpanError::IdsSpent => Refusal::IdsSpent,
+                SpanError::OutOfMemory => Refusal::OutOfMemory,
+            }),
+            fate: Fate::Whole,
+            answer: Some(true),
+        },
+    }
+}
+
+impl<D: Folder, F: Filter> Trace<D, F> {
     ghost use Rattle.span_tracing_machine.specs.declared.call.EnabledCall.{EnabledCall};
-    ghost use Rattle.span_tracing.specs.Agreement.{FollowsStep, RunsSteps, steps_done, value_of};
-    ghost use Rattle.span_tracing.specs.Headline.{HoldsOffered, NothingStarved};
+    ghost use Rattle.span_tracing.specs.Agreement.{FollowsStep, RunsAll, RunsSteps, Wants, value_of};
+    ghost use Rattle.span_tracing.specs.Went.{Went};
 
     /// A step, with its reply.
     #[inline(always)]
     #[tactic(auto, unfolding(span_tracing_machine::specs::Machine::answered, span_tracing_machine::specs::Machine::after, span_tracing_machine::specs::Machine::reply_of, span_tracing_machine::specs::Missed::wants_of, span_tracing_machine::specs::State::offer_of))]
     fn step_once(&mut self, action: &Action<'_>) -> StepDone
-        ensures reply { result.reply ≢ Reply.Refused Refusal.OutOfMemory →
-            result.reply ≡ reply_of (skeleton_of self.old.state) (plain_action action.now) (mask_in self.old.state (plain_action action.now)) }
-        ensures stepped { result.reply ≢ Reply.Refused Refusal.OutOfMemory → Stepped self.old.state self.new.state (plain_action action.now) result.fate }
-        ensures takes { result.reply ≢ Reply.Refused Refusal.OutOfMemory → TakesLines D.contents self.old.sink self.new.sink
-            (or_same (refusal_of (skeleton_of self.old.state) (plain_action action.now) (mask_in self.old.state (plain_action action.now))) []
-            (handed_lines (result.fate ∷ []) (offer_of (skeleton_of self.old.state) (texts_of self.old.state) (time_in (setting_of self.old.state))
-            (plain_action action.now) (mask_in self.old.state (plain_action action.now))))) }
+        ensures went { Went ⟦<F as Filter>⟧ D.contents self.old self.new (plain_action action.now) result }
         ensures refused { (refusal : Refusal) → result.reply ≡ Reply.Refused refusal → value_of self.new ≡ value_of self.old }
-        ensures memory { result.reply ≡ Reply.Refused Refusal.OutOfMemory →
-            WantsRoom (skeleton_of self.old.state) (plain_action action.now) (mask_in self.old.state (plain_action action.now)) }
         ensures asked { (call : EnabledCall) → plain_action action.now ≡ EnabledStep call → self.new ≡ self.old }
     {
         if let Some(refusal) = self.state.refusal(action) {
@@ -68,21 +88,26 @@ impl<D: Folder> Trace<D> {
                 self.state.set_global();
                 whole(Reply::Done)
             }
-            Action::Event(event) => StepDone {
-                fate: self.state.event(event, &mut self.sink),
-                reply: Reply::Done,
-            },
-            Action::Enabled(call) => whole(Reply::Enabled(self.state.enabled(call))),
-            Action::NewSpan(span) => match self.state.new_span(span) {
-                Ok(made) => StepDone {
-                    reply: Reply::Span(made.name),
-                    fate: made.fate,
-                },
-                Err(_) => whole(Reply::Refused(Refusal::OutOfMemory)),
-            },
+            Action::Event(event) => {
+                let done = self.state.event(event, &mut self.sink);
+                StepDone {
+                    reply: Reply::Done,
+                    fate: done.fate,
+                    answer: done.answer,
+                }
+            }
+            Action::Enabled(call) => {
+                let answer = self.state.enabled(call);
+                StepDone {
+                    reply: Reply::Enabled(answer.unwrap_or(false)),
+                    fate: Fate::Whole,
+                    answer,
+                }
+            }
+            Action::NewSpan(span) => span_done(self.state.new_span(span)),
             Action::Record(call) => StepDone {
                 fate: self.state.record(call),
-                reply: Reply::Done,
+                ..whole(Reply::Done)
             },
             Action::RecordFollowsFrom(call) => {
                 self.state.record_follows_from(call);
@@ -107,45 +132,43 @@ impl<D: Folder> Trace<D> {
     /// A step of the plain machine, from each plain state that the trace agrees with.
     #[inline(always)]
     fn act(&mut self, action: &Action<'_>) -> Reply
-        ensures follows { result ≢ Reply.Refused Refusal.OutOfMemory → FollowsStep D.contents self.old self.new result (plain_action action.now) }
+        ensures follows { result ≢ Reply.Refused Refusal.OutOfMemory → FollowsStep ⟦<F as Filter>⟧ D.contents self.old self.new result (plain_action action.now) }
         ensures refused { (refusal : Refusal) → result ≡ Reply.Refused refusal → value_of self.new ≡ value_of self.old }
-        ensures memory { result ≡ Reply.Refused Refusal.OutOfMemory →
-            WantsRoom (skeleton_of self.old.state) (plain_action action.now) (mask_in self.old.state (plain_action action.now)) }
+        ensures memory { result ≡ Reply.Refused Refusal.OutOfMemory → Wants ⟦<F as Filter>⟧ self.old.state (plain_action action.now) }
         ensures asked { (call : EnabledCall) → plain_action action.now ≡ EnabledStep call → self.new ≡ self.old }
     {
         let done = self.step_once(action);
         done.reply
     }
 
-    /// A step. The reply and the new state are the plain machine's, from each plain state that the trace agrees with.
+    /// A step. The reply and the new state are the plain machine's, from each plain state that the trace agrees with, with what the
+    /// stack's filter answered.
     ///
     /// A refusal changes nothing. Want of memory is answered for a new span or an entry alone.
     pub fn step(&mut self, step: &Step) -> Reply
-        ensures follows { result ≢ Reply.Refused Refusal.OutOfMemory → FollowsStep D.contents self.old self.new result (plain_step step.now) }
+        ensures follows { result ≢ Reply.Refused Refusal.OutOfMemory → FollowsStep ⟦<F as Filter>⟧ D.contents self.old self.new result (plain_step step.now) }
         ensures refused { (refusal : Refusal) → result ≡ Reply.Refused refusal → value_of self.new ≡ value_of self.old }
-        ensures memory { result ≡ Reply.Refused Refusal.OutOfMemory →
-            WantsRoom (skeleton_of self.old.state) (plain_step step.now) (mask_in self.old.state (plain_step step.now)) }
+        ensures memory { result ≡ Reply.Refused Refusal.OutOfMemory → Wants ⟦<F as Filter>⟧ self.old.state (plain_step step.now) }
     {
         self.act(&action_of(step))
     }
 
-    /// Steps in order, with a reply to each. A step that is refused for want of memory does nothing, and the others run.
+    /// Steps in order, with a reply to each. A step that is refused for want of memory does nothing, and the others run. The files of the
+    /// sink hold exactly the lines of the events that passed, as the stack's filter answered of each.
     ///
     /// # Errors
     ///
     /// Want of memory for the replies, whose room is made first: then nothing was done.
     pub fn run(&mut self, steps: &[Step]) -> Result<Vec<Reply>, AllocError>
-        ensures run { IfOk result (λ replies. RunsSteps D.contents self.old self.new replies.items (plain_steps steps.now)) }
-        ensures files { IfOk result (λ replies. NothingStarved self.old self.new →
-            HoldsOffered D.contents self.old self.new (steps_done replies.items (plain_steps steps.now))) }
+        ensures run { IfOk result (λ replies. RunsAll ⟦<F as Filter>⟧ D.contents self.old self.new replies.items (plain_steps steps.now)) }
         ensures err { OnErr result (self.new ≡ self.old) }
     {
         self.run_all(steps)
     }
 
-    // The clause on files follows from this one, once for all paths.
+    // What the files hold follows from this clause, once for all paths.
     fn run_all(&mut self, steps: &[Step]) -> Result<Vec<Reply>, AllocError>
-        ensures run { IfOk result (λ replies. RunsSteps D.contents self.old self.new replies.items (plain_steps steps.now)) }
+        ensures run { IfOk result (λ replies. RunsSteps ⟦<F as Filter>⟧ D.contents self.old self.new replies.items (plain_steps steps.now)) }
         ensures err { OnErr result (self.new ≡ self.old) }
     {
         let mut replies = Vec::with_capacity(self.state.alloc(), steps.len())?;
@@ -157,7 +180,7 @@ impl<D: Folder> Trace<D> {
 
     /// Makes the stack with this handle the one that lanes reach. Takes no memory.
     pub fn set_global_default(&mut self, handle: usize) -> Reply
-        ensures follows { FollowsStep D.contents self.old self.new result (GlobalStep handle) }
+        ensures follows { FollowsStep ⟦<F as Filter>⟧ D.contents self.old self.new result (GlobalStep handle) }
         ensures refused { (refusal : Refusal) → result ≡ Reply.Refused refusal → value_of self.new ≡ value_of self.old }
     {
         self.act(&Action::SetGlobalDefault(handle))
@@ -172,7 +195,7 @@ impl<D: Folder> Trace<D> {
         parent: Parent,
         values: &[FieldValue],
     ) -> Reply
-        ensures follows { FollowsStep D.contents self.old self.new result (EventStep (record { lane = lane; moment = moment; callsite = callsite.0; parent = parent; values = owned_entries values.now })) }
+        ensures follows { FollowsStep ⟦<F as Filter>⟧ D.contents self.old self.new result (EventStep (record { lane = lane; moment = moment; callsite = callsite.0; parent = parent; values = owned_entries values.now })) }
         ensures refused { (refusal : Refusal) → result ≡ Reply.Refused refusal → value_of self.new ≡ value_of self.old }
     {
         self.act(&Action::Event(Request {
@@ -187,7 +210,7 @@ impl<D: Folder> Trace<D> {
     /// Asks whether a request at a callsite would be made on a lane: an event, or a new span. Asking leaves no mark, and takes
     /// no memory.
     pub fn enabled(&mut self, lane: usize, moment: Moment, callsite: Identifier) -> Reply
-        ensures follows { FollowsStep D.contents self.old self.new result (EnabledStep (record { lane = lane; moment = moment; callsite = callsite })) }
+        ensures follows { FollowsStep ⟦<F as Filter>⟧ D.contents self.old self.new result (EnabledStep (record { lane = lane; moment = moment; callsite = callsite })) }
         ensures still { self.new ≡ self.old }
     {
         self.act(&Action::Enabled(EnabledCall {
@@ -207,10 +230,10 @@ impl<D: Folder> Trace<D> {
         parent: Parent,
         values: &[FieldValue],
     ) -> Reply
-        ensures follows { result ≢ Reply.Refused Refusal.OutOfMemory → FollowsStep D.contents self.old self.new result
+        ensures follows { result ≢ Reply.Refused Refusal.OutOfMemory → FollowsStep ⟦<F as Filter>⟧ D.contents self.old self.new result
             (SpanStep (record { lane = lane; moment = moment; callsite = callsite.0; parent = parent; values = owned_entries values.now })) }
         ensures memory { let step = SpanStep (record { lane = lane; moment = moment; callsite = callsite.0; parent = parent; values = owned_entries values.now }) in
-            result ≡ Reply.Refused Refusal.OutOfMemory → WantsRoom (skeleton_of self.old.state) step (mask_in self.old.state step) }
+            result ≡ Reply.Refused Refusal.OutOfMemory → Wants ⟦<F as Filter>⟧ self.old.state step }
         ensures refused { (refusal : Refusal) → result ≡ Reply.Refused refusal → value_of self.new ≡ value_of self.old }
     {
         self.act(&Action::NewSpan(Request {
@@ -224,9 +247,9 @@ impl<D: Folder> Trace<D> {
 
     /// Enters a span on a lane.
     pub fn enter(&mut self, lane: usize, moment: Moment, span: Option<SpanName>) -> Reply
-        ensures follows { result ≢ Reply.Refused Refusal.OutOfMemory → FollowsStep D.contents self.old self.new result (EnterStep (record { lane = lane; moment = moment; span = span })) }
+        ensures follows { result ≢ Reply.Refused Refusal.OutOfMemory → FollowsStep ⟦<F as Filter>⟧ D.contents self.old self.new result (EnterStep (record { lane = lane; moment = moment; span = span })) }
         ensures memory { let step = EnterStep (record { lane = lane; moment = moment; span = span }) in
-            result ≡ Reply.Refused Refusal.OutOfMemory → WantsRoom (skeleton_of self.old.state) step (mask_in self.old.state step) }
+            result ≡ Reply.Refused Refusal.OutOfMemory → Wants ⟦<F as Filter>⟧ self.old.state step }
         ensures refused { (refusal : Refusal) → result ≡ Reply.Refused refusal → value_of self.new ≡ value_of self.old }
     {
         self.act(&Action::Enter(SpanCall { lane, moment, span }))
@@ -234,7 +257,7 @@ impl<D: Folder> Trace<D> {
 
     /// Leaves a span on a lane: its last entry there goes. Takes no memory.
     pub fn exit(&mut self, lane: usize, moment: Moment, span: Option<SpanName>) -> Reply
-        ensures follows { FollowsStep D.contents self.old self.new result (ExitStep (record { lane = lane; moment = moment; span = span })) }
+        ensures follows { FollowsStep ⟦<F as Filter>⟧ D.contents self.old self.new result (ExitStep (record { lane = lane; moment = moment; span = span })) }
         ensures refused { (refusal : Refusal) → result ≡ Reply.Refused refusal → value_of self.new ≡ value_of self.old }
     {
         self.act(&Action::Exit(SpanCall { lane, moment, span }))
@@ -249,7 +272,7 @@ impl<D: Folder> Trace<D> {
         span: Option<SpanName>,
         values: &[FieldValue],
     ) -> Reply
-        ensures follows { FollowsStep D.contents self.old self.new result
+        ensures follows { FollowsStep ⟦<F as Filter>⟧ D.contents self.old self.new result
             (RecordStep (record { lane = lane; moment = moment; span = span; values = owned_entries values.now })) }
         ensures refused { (refusal : Refusal) → result ≡ Reply.Refused refusal → value_of self.new ≡ value_of self.old }
     {
@@ -269,7 +292,7 @@ impl<D: Folder> Trace<D> {
         span: Option<SpanName>,
         follows: Option<SpanName>,
     ) -> Reply
-        ensures follows { FollowsStep D.contents self.old self.new result (FollowsFromStep (record { lane = lane; moment = moment; span = span; follows = follows })) }
+        ensures follows { FollowsStep ⟦<F as Filter>⟧ D.contents self.old self.new result (FollowsFromStep (record { lane = lane; moment = moment; span = span; follows = follows })) }
         ensures refused { (refusal : Refusal) → result ≡ Reply.Refused refusal → value_of self.new ≡ value_of self.old }
     {
         self.act(&Action::RecordFollowsFrom(FollowsCall {
@@ -282,7 +305,7 @@ impl<D: Folder> Trace<D> {
 
     /// Takes one more handle of a span. Takes no memory.
     pub fn clone_span(&mut self, lane: usize, moment: Moment, span: Option<SpanName>) -> Reply
-        ensures follows { FollowsStep D.contents self.old self.new result (CloneStep (record { lane = lane; moment = moment; span = span })) }
+        ensures follows { FollowsStep ⟦<F as Filter>⟧ D.contents self.old self.new result (CloneStep (record { lane = lane; moment = moment; span = span })) }
         ensures refused { (refusal : Refusal) → result ≡ Reply.Refused refusal → value_of self.new ≡ value_of self.old }
     {
         self.act(&Action::CloneSpan(SpanCall { lane, moment, span }))
@@ -290,7 +313,7 @@ impl<D: Folder> Trace<D> {
 
     /// Gives up one handle of a span; answers whether the span closed. Takes no memory.
     pub fn try_close(&mut self, lane: usize, moment: Moment, span: Option<SpanName>) -> Reply
-        ensures follows { FollowsStep D.contents self.old self.new result (CloseStep (record { lane = lane; moment = moment; span = span })) }
+        ensures follows { FollowsStep ⟦<F as Filter>⟧ D.contents self.old self.new result (CloseStep (record { lane = lane; moment = moment; span = span })) }
         ensures refused { (refusal : Refusal) → result ≡ Reply.Refused refusal → value_of self.new ≡ value_of self.old }
     {
         self.act(&Action::TryClose(SpanCall { lane, moment, span }))

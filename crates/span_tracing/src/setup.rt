@@ -7,8 +7,11 @@ ghost use Rattle.tracing_appender_rolling.specs.Moments.{is_moment};
 ghost use Rattle.tracing_appender_rolling.specs.Contents.{Contents, bytes_at};
 ghost use Rattle.tracing_appender_rolling.specs.Appenders.{MayOpen};
 ghost use Rattle.tracing_appender_rolling.specs.Sinks.{file_text};
-ghost use Rattle.span_tracing_machine.specs.State.{Plain, PlainOutput, new_plain, with_lane, with_stack, register_refusal, registered};
-ghost use Rattle.span_tracing.specs.Skeletons.{interest_in, skeleton_of, threads_of};
+ghost use Rattle.span_tracing_machine.specs.Machine.{made_with};
+ghost use Rattle.span_tracing_machine.specs.Skeleton.{PlainCallsite};
+ghost use Rattle.span_tracing_machine.specs.State.{Plain, PlainOutput, callsite_named, new_plain, with_lane, with_stack, register_refusal, registered};
+ghost use Rattle.span_tracing.specs.Masks.{Says};
+ghost use Rattle.span_tracing.specs.Skeletons.{skeleton_of, threads_of};
 ghost use Rattle.span_tracing.specs.Stored.{AgreesOption};
 ghost use Rattle.span_tracing.specs.Outputs.{outputs_refusal, with_output};
 
@@ -16,6 +19,7 @@ use crate::output::Output;
 use crate::stacks::OutputBack;
 use crate::state::TraceState;
 use crate::trace::Trace;
+use span_registry_layers::Filter;
 use span_tracing_machine::Refusal;
 use std::alloc::{AllocError, Global};
 use tracing_appender_rolling::{Folder, Moment};
@@ -23,12 +27,12 @@ use tracing_core::{Identifier, Interest, Metadata};
 
 /// Why a stack could not be added, with its outputs. Their folders are as the calls made until then left them.
 #[derive(Drop)]
-pub struct StackRefusal<D> {
+pub struct StackRefusal<D, F> {
     pub refusal: Refusal,
-    pub outputs: Vec<Output<D>>,
+    pub outputs: Vec<Output<D, F>>,
 }
 
-fn outputs_refusal<D>(outputs: &[Output<D>]) -> Option<Refusal>
+fn outputs_refusal<D, F>(outputs: &[Output<D, F>]) -> Option<Refusal>
     ensures { result ≡ outputs_refusal outputs.now }
 {
     match outputs {
@@ -43,13 +47,14 @@ fn outputs_refusal<D>(outputs: &[Output<D>]) -> Option<Refusal>
     }
 }
 
-impl<D: Folder> Trace<D> {
-    ghost use Rattle.span_tracing.specs.Agreement.{Agrees, AgreesFiles, value_of};
+impl<D: Folder, F: Filter> Trace<D, F> {
+    ghost use Rattle.span_tracing.specs.Agreement.{value_of};
+    ghost use Rattle.span_tracing.specs.Matching.{Agrees, AgreesFiles};
     ghost use Rattle.span_tracing.specs.Headline.{folder_of};
     ghost use Rattle.span_tracing.specs.Outputs.{plain_output, output_names, setting_of, stack_refusal, IsOpeningRefusal, HandsOutputsBack};
 
     /// A trace with no stack, no lane and no callsite.
-    pub fn new(alloc: Global) -> Trace<D>
+    pub fn new(alloc: Global) -> Trace<D, F>
         ensures agrees { Agrees result.state new_plain }
         ensures files { AgreesFiles D.contents result new_plain }
         ensures starved { result.state.starved ≡ 0 }
@@ -67,9 +72,8 @@ impl<D: Folder> Trace<D> {
         self.state.has_stack()
     }
 
-    /// Registers a callsite under an identifier, and answers the interest in it that the hub keeps: always where the
-    /// stack's filter passes its level, else never, and never where there is no stack. Equal metadata may be registered
-    /// again, which answers the interest and changes nothing.
+    /// Registers a callsite under an identifier, and answers the interest in it that the hub keeps: what the stack's filter says of it,
+    /// and never where there is no stack. Equal metadata may be registered again, which answers the interest and changes nothing.
     ///
     /// # Errors
     ///
@@ -82,7 +86,10 @@ impl<D: Folder> Trace<D> {
         ensures refused { (refusal : Refusal) → register_refusal (skeleton_of self.old.state) (record { number = identifier.0; metadata = plain_metadata metadata.now }) ≡ Some refusal → result ≡ Err refusal }
         ensures accepted { register_refusal (skeleton_of self.old.state) (record { number = identifier.0; metadata = plain_metadata metadata.now }) ≡ None → IfErr result (λ refusal. refusal ≡ Refusal.OutOfMemory) }
         ensures ok { OnOk result ((p : Plain) → Agrees self.old.state p → Agrees self.new.state (registered p (record { number = identifier.0; metadata = plain_metadata metadata.now }))) }
-        ensures interest { IfOk result (λ interest. interest ≡ interest_in self.new.state (plain_metadata metadata.now).level) }
+        ensures interest { callsite_named (skeleton_of self.old.state).callsites identifier.0 ≡ None →
+            IfOk result (λ interest. Says ⟦<F as Filter>⟧ self.old.state.filter (made_with (record { number = identifier.0; metadata = plain_metadata metadata.now })) interest) }
+        ensures again { IfOk result (λ interest. (c : PlainCallsite) → callsite_named (skeleton_of self.old.state).callsites identifier.0 ≡ Some c →
+            Says ⟦<F as Filter>⟧ self.old.state.filter (made_with c) interest) }
         ensures files { self.new.sink ≡ self.old.sink }
         ensures starved { self.new.state.starved ≡ self.old.state.starved }
         ensures err { OnErr result (value_of self.new ≡ value_of self.old) }
@@ -133,19 +140,20 @@ impl<D: Folder> Trace<D> {
     /// where the file could not be opened. The outputs come back, and the trace is as it was.
     pub fn add_stack(
         &mut self,
-        mut outputs: Vec<Output<D>>,
+        mut outputs: Vec<Output<D, F>>,
         moment: Moment,
-    ) -> Result<usize, StackRefusal<D>>
+    ) -> Result<usize, StackRefusal<D, F>>
         requires no_stack { is_some self.old.state.output ≡ false }
         requires one { vec_len outputs ≤ 1 }
+        requires honest { (output : Output D F) → outputs.items ≡ output ∷ [] → F.honest output.filter }
         ensures refused { (refusal : Refusal) → stack_refusal outputs.items moment ≡ Some refusal → result ≡ Err (record { refusal = refusal; outputs = outputs }) }
         ensures handle { IfOk result (λ handle. handle ≡ 0) }
         ensures moment { OnOk result (is_moment moment ≡ true) }
         ensures starved { self.new.state.starved ≡ self.old.state.starved }
-        ensures kept { OnOk result ((output : Output D) → outputs.items ≡ output ∷ [] → self.new.state.output ≡ Some (setting_of output)) }
-        ensures ok { OnOk result ((output : Output D) → outputs.items ≡ output ∷ [] → (p : Plain) → Agrees self.old.state p →
+        ensures kept { OnOk result ((output : Output D F) → outputs.items ≡ output ∷ [] → (self.new.state.output ≡ Some (setting_of output)) × (self.new.state.filter ≡ Some output.filter)) }
+        ensures ok { OnOk result ((output : Output D F) → outputs.items ≡ output ∷ [] → (p : Plain) → Agrees self.old.state p →
             Agrees self.new.state (with_stack p (plain_output D.contents output moment))) }
-        ensures files { OnOk result ((output : Output D) → outputs.items ≡ output ∷ [] → MayOpen (D.contents output.folder) (output_names output) → (p : Plain) →
+        ensures files { OnOk result ((output : Output D F) → outputs.items ≡ output ∷ [] → MayOpen (D.contents output.folder) (output_names output) → (p : Plain) →
             AgreesFiles D.contents self.new (with_stack p (plain_output D.contents output moment))) }
         ensures err { OnErr result (value_of self.new ≡ value_of self.old) }
         ensures opening { stack_refusal outputs.items moment ≡ None → IfErr result (λ back. HandsOutputsBack D.contents outputs.items back.refusal back.outputs.items) }
@@ -178,10 +186,11 @@ impl<D: Folder> Trace<D> {
     }
 
     /// Opens an output's file, and takes the output.
-    fn open(&mut self, output: Output<D>, moment: Moment) -> Result<(), OutputBack<D>>
+    fn open(&mut self, output: Output<D, F>, moment: Moment) -> Result<(), OutputBack<D, F>>
         requires none { is_some self.old.state.output ≡ false }
         requires moment { is_moment moment ≡ true }
-        ensures ok { OnOk result (self.new.state ≡ with_output self.old.state (setting_of output)) }
+        requires honest { F.honest output.filter }
+        ensures ok { OnOk result (self.new.state ≡ with_output self.old.state (setting_of output) output.filter) }
         ensures files { OnOk result (MayOpen (D.contents output.folder) (output_names output) →
             AgreesOption D.contents self.new.sink (Some (plain_output D.contents output moment).sink)) }
         ensures err { OnErr result (self.new ≡ self.old) }

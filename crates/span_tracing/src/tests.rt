@@ -163,7 +163,7 @@ fn outputs_over<D: Folder>(
     prefix: &str,
     filter: LevelFilter,
     timer: Timer,
-) -> Result<Vec<Output<D>>, Fail>
+) -> Result<Vec<Output<D, LevelFilter>>, Fail>
     ensures { IfOk result (λ outputs. vec_len outputs ≡ 1) }
 {
     let sinks = sinks_over(alloc, folder, prefix)?;
@@ -188,7 +188,7 @@ fn metadata<'a>(
 }
 
 /// Registers all callsites, or asks for the interests in them again.
-fn register_all<D: Folder>(trace: &mut Trace<D>) -> Result<[Interest; 5], Refusal> {
+fn register_all<D: Folder>(trace: &mut Trace<D, LevelFilter>) -> Result<[Interest; 5], Refusal> {
     let outer = metadata("outer", Level::INFO, &OUTER_FIELDS, OUTER, Kind::SPAN);
     let inner = metadata("inner", Level::INFO, &INNER_FIELDS, INNER, Kind::SPAN);
     let event = metadata("event", Level::INFO, &EVENT_FIELDS, EVENT, Kind::EVENT);
@@ -210,7 +210,7 @@ fn trace_over<D: Folder>(
     folder: D,
     filter: LevelFilter,
     timer: Timer,
-) -> Result<Trace<D>, Fail> {
+) -> Result<Trace<D, LevelFilter>, Fail> {
     let mut trace = Trace::new(alloc);
     assert_eq!(rt; register_all(&mut trace)?, [Interest::never(); 5]);
     assert_eq!(rt; trace.thread(None, 1)?, 0);
@@ -231,7 +231,7 @@ fn set_trace(
     alloc: Global,
     filter: LevelFilter,
     timer: Timer,
-) -> Result<Trace<MemoryFolder>, Fail> {
+) -> Result<Trace<MemoryFolder, LevelFilter>, Fail> {
     let mut trace = trace_over(rt, alloc, MemoryFolder::new(alloc), filter, timer)?;
     assert_eq!(rt; trace.set_global_default(0), Reply::Done);
     Ok(trace)
@@ -276,7 +276,7 @@ fn span_name(stack: usize, id: u64) -> Result<SpanName, Fail> {
 /// Compares a file with a text, if no line was missed.
 fn has_file(
     rt: &impl Abort,
-    trace: &Trace<MemoryFolder>,
+    trace: &Trace<MemoryFolder, LevelFilter>,
     name: &str,
     text: &str,
 ) -> Result<(), Fail> {

@@ -2,7 +2,7 @@
 use Rattle.std.proofs.Common.{List, [], ◌≡◌, ℕ, Bool, true, false, if◌then◌else◌, Option, Some, None, option_and_then, slice_get, ap, sym, ◌∙◌}
 use Rattle.span_tracing_machine.specs.Skeleton.{Skeleton, PlainCallsite}
 use Rattle.span_tracing_machine.specs.Machine.{place_of, known_place, is_kind}
-use Rattle.span_tracing_machine.specs.State.{mask_at, mask_asked, mask_for}
+use Rattle.span_tracing_machine.specs.Levels.{mask_at, mask_asked, mask_for}
 
 -- a place that is known was the place of the identifier
 kept_place : (b : Bool) (found place : ℕ) → (if b then Some found else None) ≡ Some place → Some found ≡ Some place

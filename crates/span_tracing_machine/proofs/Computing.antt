@@ -10,7 +10,8 @@ use Rattle.span_tracing_machine.specs.FieldTexts.{sanitized_char, sanitized, val
 use Rattle.span_tracing_machine.specs.Lines.{full_line}
 use Rattle.span_registry_layers_store.specs.Spans.{ancestry, open_of, current, without_last}
 use Rattle.span_tracing_machine.specs.Machine.{known_place, refusal_of, made_at, acted, answered, reply_of, after}
-use Rattle.span_tracing_machine.specs.State.{step_mask, event_line, offer_of, lists_acted, plain_after, plain_reply}
+use Rattle.span_tracing_machine.specs.Levels.{step_mask}
+use Rattle.span_tracing_machine.specs.State.{event_line, offer_of, lists_acted, plain_after, plain_reply}
 
 -- `unfolding computing` opens each definition that a row meets
 unfoldable pub computing : Unit {0}

@@ -10,7 +10,7 @@ use Rattle.span_tracing_machine.specs.declared.refusal.Refusal.{Refusal}
 use Rattle.span_tracing_machine.specs.Skeleton.{Skeleton, Mask}
 use Rattle.span_tracing_machine.specs.Machine.{made_at, refusal_of, or_same, span_place}
 use Rattle.span_tracing_machine.specs.Missed.{Want, TextOf, LineTo, want_if, wanted, wants_of, Fate, Whole, Missed, Unwritten, first_fate, handed_by, handed_lines, count_missed, one_more, starved_by}
-use Rattle.span_tracing_machine.specs.State.{Plain, PlainText, ValueList, text_of, with_values, with_record, lists_acted, handed_at, event_line, offer_of, time_of, mask_of, more_handed, plain_acted, plain_after, missed_by}
+use Rattle.span_tracing_machine.specs.State.{Plain, PlainText, ValueList, text_of, with_values, with_record, lists_acted, handed_at, event_line, offer_of, time_of, more_handed, Turn, unmissed, plain_acted, plain_after, missed_by}
 
 -- below the greatest count one more is counted
 more_is : (n : ℕ) → n < 18446744073709551615 → one_more n ≡ suc n
@@ -121,18 +121,17 @@ lines_given s texts time (CloneStep call) mask fates none = refl
 lines_given s texts time (CloseStep call) mask fates none = refl
 
 -- the same for a whole step, refused or not
-same_if : (p : Plain) (step : PlainStep) (fates : List Fate) (refused : Option Refusal) →
-    count_missed fates (or_same refused [] (wanted p.skeleton step (mask_of p step))) ≡ 0 →
-    or_same refused p (plain_acted p step fates) ≡ or_same refused p (plain_acted p step [])
-same_if p step fates (Some refusal) none = refl
-same_if p step fates None none =
-    let mask : Mask = mask_of p step in
-    ap (λ lists. record (plain_acted p step fates) { value_lists = lists }) (lists_given p.skeleton p.value_lists step mask fates none)
-    ∙ ap (λ lines. record (plain_acted p step []) { output = option_map (more_handed lines) p.output }) (lines_given p.skeleton (map text_of p.value_lists) (time_of p.output) step mask fates none)
+same_if : (p : Plain) (t : Turn) (refused : Option Refusal) →
+    count_missed t.fates (or_same refused [] (wanted p.skeleton t.step t.mask)) ≡ 0 →
+    or_same refused p (plain_acted p t) ≡ or_same refused p (plain_acted p (unmissed t))
+same_if p t (Some refusal) none = refl
+same_if p t None none =
+    ap (λ lists. record (plain_acted p t) { value_lists = lists }) (lists_given p.skeleton p.value_lists t.step t.mask t.fates none)
+    ∙ ap (λ lines. record (plain_acted p (unmissed t)) { output = option_map (more_handed lines) p.output }) (lines_given p.skeleton (map text_of p.value_lists) (time_of p.output) t.step t.mask t.fates none)
 
 -- where a count below the greatest one stayed, nothing was missed
-pub none_missed : (p : Plain) (step : PlainStep) (fates : List Fate) (n : ℕ) → n < 18446744073709551615 →
-    starved_by n (missed_by p step fates) ≡ n → plain_after p step fates ≡ plain_after p step []
+pub none_missed : (p : Plain) (t : Turn) (n : ℕ) → n < 18446744073709551615 →
+    starved_by n (missed_by p t) ≡ n → plain_after p t ≡ plain_after p (unmissed t)
 unfolding wants_of plain_after
-none_missed p step fates n low same =
-    same_if p step fates (refusal_of p.skeleton step (mask_of p step)) (none_counted n (missed_by p step fates) low same)
+none_missed p t n low same =
+    same_if p t (refusal_of p.skeleton t.step t.mask) (none_counted n (missed_by p t) low same)

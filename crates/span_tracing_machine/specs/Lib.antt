@@ -6,6 +6,7 @@ pub mod Skeleton
 pub mod Machine
 pub mod Missed
 pub mod State
+pub mod Levels
 pub mod Laws
 pub mod Rows
 pub mod Parents

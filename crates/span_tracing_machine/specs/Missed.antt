@@ -73,12 +73,3 @@ one_more n = if nat_lt n 18446744073709551615 then n + 1 else n
 abbrev pub starved_by : ℕ → ℕ → ℕ
 starved_by n zero = n
 starved_by n (suc count) = starved_by (one_more n) count
-
--- one list of fates for each step
-abbrev pub first_fates : List (List Fate) → List Fate
-first_fates [] = []
-first_fates (m ∷ ms) = m
-
-abbrev pub later_fates : List (List Fate) → List (List Fate)
-later_fates [] = []
-later_fates (m ∷ ms) = ms

@@ -9,8 +9,8 @@ use Rattle.span_tracing_machine.specs.declared.refusal.Refusal.TheVariants.{Unkn
 use Rattle.span_tracing_machine.specs.declared.call.SpanCall.{SpanCall}
 use Rattle.span_tracing_machine.specs.PlainData.{PlainStep, GlobalStep, EventStep, SpanStep, EnterStep, ExitStep, CloseStep}
 use Rattle.span_tracing_machine.specs.Lines.{line_end}
-use Rattle.span_tracing_machine.specs.State.{Plain, new_plain, with_callsite, with_lane, plain_run, replies_of}
-use Rattle.span_tracing_machine.specs.Rows.{at_ten, event, inner, base, the_name, file_in, open_ids, named, new_outer, new_inner, on_one, on_two, m_event}
+use Rattle.span_tracing_machine.specs.State.{Plain, new_plain, with_callsite, with_lane}
+use Rattle.span_tracing_machine.specs.Rows.{ran, replied, at_ten, event, inner, base, the_name, file_in, open_ids, named, new_outer, new_inner, on_one, on_two, m_event}
 
 abbrev pub with_inner : Plain
 with_inner = with_callsite base inner
@@ -28,7 +28,7 @@ inner_under parent = SpanStep (record { lane = 0; moment = at_ten; callsite = 5;
 
 -- what the file has after these steps
 abbrev pub file_after : List PlainStep → Option (Option (List ℕ))
-file_after steps = file_in (plain_run with_inner steps []) the_name
+file_after steps = file_in (ran with_inner steps []) the_name
 
 -- the lane is in a span: an event under the root has no span in its line, and the one after it has the lane's span
 abbrev pub RootEvent : Type 0
@@ -57,13 +57,13 @@ abbrev pub parent_given_up : List PlainStep
 parent_given_up = under_outer ++ CloseStep on_one ∷ ExitStep on_two ∷ []
 
 abbrev pub ParentStays : Type 0
-ParentStays = open_ids (plain_run with_inner parent_given_up []) ≡ (1 ∷ 2 ∷ [])
+ParentStays = open_ids (ran with_inner parent_given_up []) ≡ (1 ∷ 2 ∷ [])
 
 abbrev pub ParentCloses : Type 0
-ParentCloses = open_ids (plain_run with_inner (parent_given_up ++ CloseStep on_two ∷ []) []) ≡ []
+ParentCloses = open_ids (ran with_inner (parent_given_up ++ CloseStep on_two ∷ []) []) ≡ []
 
 abbrev pub ParentReplies : Type 0
-ParentReplies = replies_of with_inner (parent_given_up ++ CloseStep on_two ∷ m_under (parent_at 0 1) ∷ [])
+ParentReplies = replied with_inner (parent_given_up ++ CloseStep on_two ∷ m_under (parent_at 0 1) ∷ [])
     ≡ (Done ∷ Span (named 0 1) ∷ Span (named 0 2) ∷ Done ∷ Done ∷ Closed false ∷ Done ∷ Closed true ∷ Refused UnknownSpan ∷ [])
 
 -- what an event and a span under the same parent are answered
@@ -72,7 +72,7 @@ both_under parent = m_under parent ∷ inner_under parent ∷ []
 
 -- before the global default is set no span can be named: a stack that was never given is told first
 abbrev pub EarlyParents : Type 0
-EarlyParents = replies_of with_inner (both_under (parent_at 0 1) ++ both_under (parent_at 1 1) ++ both_under Root)
+EarlyParents = replied with_inner (both_under (parent_at 0 1) ++ both_under (parent_at 1 1) ++ both_under Root)
     ≡ (Refused ForeignParent ∷ Refused ForeignParent ∷ Refused UnknownStack ∷ Refused UnknownStack ∷ Done ∷ Span None ∷ [])
 
 -- then a span that was never made is refused, and one of a stack that was never given; the one that is open passes
@@ -80,16 +80,16 @@ abbrev pub refused_parents : List PlainStep
 refused_parents = GlobalStep 0 ∷ new_outer ∷ both_under (parent_at 0 7) ++ both_under (parent_at 1 1)
 
 abbrev pub RefusedParents : Type 0
-RefusedParents = replies_of with_inner (refused_parents ++ both_under (parent_at 0 1))
+RefusedParents = replied with_inner (refused_parents ++ both_under (parent_at 0 1))
     ≡ (Done ∷ Span (named 0 1) ∷ Refused UnknownSpan ∷ Refused UnknownSpan ∷ Refused UnknownStack ∷ Refused UnknownStack ∷ Done ∷ Span (named 0 2) ∷ [])
 
 -- what is refused leaves nothing: no line, no span
 abbrev pub RefusedLeave : Type 0
-RefusedLeave = plain_run with_inner refused_parents [] ≡ plain_run with_inner (GlobalStep 0 ∷ new_outer ∷ []) []
+RefusedLeave = ran with_inner refused_parents [] ≡ ran with_inner (GlobalStep 0 ∷ new_outer ∷ []) []
 
 -- a parent that has closed is refused as one that was never made
 abbrev pub ClosedParent : Type 0
-ClosedParent = replies_of with_inner (GlobalStep 0 ∷ new_outer ∷ CloseStep on_one ∷ both_under (parent_at 0 1))
+ClosedParent = replied with_inner (GlobalStep 0 ∷ new_outer ∷ CloseStep on_one ∷ both_under (parent_at 0 1))
     ≡ (Done ∷ Span (named 0 1) ∷ Closed true ∷ Refused UnknownSpan ∷ Refused UnknownSpan ∷ [])
 
 -- where there is no stack, the first one was never given either
@@ -97,7 +97,7 @@ abbrev pub no_stack : Plain
 no_stack = with_callsite (with_callsite (with_lane new_plain) event) inner
 
 abbrev pub NoStackParents : Type 0
-NoStackParents = replies_of no_stack (both_under (parent_at 0 1)) ≡ (Refused UnknownStack ∷ Refused UnknownStack ∷ [])
+NoStackParents = replied no_stack (both_under (parent_at 0 1)) ≡ (Refused UnknownStack ∷ Refused UnknownStack ∷ [])
 
 -- a second lane
 abbrev pub two_lanes : Plain
@@ -115,7 +115,7 @@ abbrev pub first_enters : List PlainStep
 first_enters = GlobalStep 0 ∷ new_outer ∷ EnterStep (outer_on 0) ∷ []
 
 abbrev pub after_first : List PlainStep → Plain
-after_first steps = plain_run two_lanes (first_enters ++ steps) []
+after_first steps = ran two_lanes (first_enters ++ steps) []
 
 -- the second lane is in none: an event on it has no span in its line, and one on the first lane has
 abbrev pub OtherLaneFile : Type 0
@@ -131,7 +131,7 @@ abbrev pub given_up_elsewhere : List PlainStep
 given_up_elsewhere = CloseStep (outer_on 1) ∷ ExitStep (outer_on 1) ∷ []
 
 abbrev pub OtherLaneReplies : Type 0
-OtherLaneReplies = replies_of two_lanes (first_enters ++ given_up_elsewhere ++ ExitStep (outer_on 0) ∷ EnterStep (outer_on 0) ∷ m_on 2 ∷ [])
+OtherLaneReplies = replied two_lanes (first_enters ++ given_up_elsewhere ++ ExitStep (outer_on 0) ∷ EnterStep (outer_on 0) ∷ m_on 2 ∷ [])
     ≡ (Done ∷ Span (named 0 1) ∷ Done ∷ Closed false ∷ Done ∷ Done ∷ Refused UnknownSpan ∷ Refused UnknownLane ∷ [])
 
 abbrev pub OtherLaneOpen : Type 0

@@ -16,8 +16,10 @@ use Rattle.span_tracing_machine.specs.declared.call.SpanName.{SpanName}
 use Rattle.span_tracing_machine.specs.PlainData.{Request, PlainStep, GlobalStep, EventStep, EnabledStep, SpanStep, RecordStep, FollowsFromStep, EnterStep, ExitStep, CloneStep, CloseStep}
 use Rattle.span_tracing_machine.specs.Lines.{line_end}
 use Rattle.span_tracing_machine.specs.Skeleton.{PlainCallsite}
-use Rattle.span_tracing_machine.specs.Missed.{Missed, Unwritten}
+use Rattle.span_tracing_machine.specs.Missed.{Fate, Missed, Unwritten}
 use Rattle.span_tracing_machine.specs.State.{Plain, PlainOutput, new_plain, with_stack, with_callsite, with_lane, plain_run, replies_of}
+use Rattle.span_tracing_machine.specs.Levels.{turns_at}
+use Rattle.span_tracing_machine.specs.declared.call.Reply.{Reply}
 
 -- 2025-02-17 10:01:00
 abbrev pub at_ten : Moment
@@ -39,7 +41,6 @@ event = app_callsite 2 (record { is_event = true; is_span = false; is_hint = fal
 -- an INFO output with a fixed time over a folder that has these bytes by name
 abbrev pub output_over : (List ℕ → Option (List ℕ)) → PlainOutput
 output_over found = record {
-  filter = 3;
   time = Some (codes "fake time");
   sink = record { names = record { kind = Day; prefix = Some (codes "my_prefix"); suffix = Some (codes "log"); limit = None; latest = None }; opened = at_ten; found = found; handed = [] };
 }
@@ -58,6 +59,13 @@ the_name = codes "my_prefix.2025-02-17.log"
 abbrev pub file_in : Plain → List ℕ → Option (Option (List ℕ))
 file_in p name = option_map (λ (o : PlainOutput). file_text o.sink name) p.output
 
+-- steps over the INFO output, each with its fates, and their replies
+abbrev pub ran : Plain → List PlainStep → List (List Fate) → Plain
+ran p steps fates = plain_run p (turns_at (Some 3) p steps fates)
+
+abbrev pub replied : Plain → List PlainStep → List Reply
+replied p steps = replies_of p (turns_at (Some 3) p steps [])
+
 abbrev pub new_outer : PlainStep
 new_outer = SpanStep (record { lane = 0; moment = at_ten; callsite = 1; parent = Contextual; values = (0, Unsigned 42) ∷ [] })
 
@@ -75,10 +83,10 @@ abbrev pub stored_run : List PlainStep
 stored_run = GlobalStep 0 ∷ new_outer ∷ EnterStep on_one ∷ hi_at at_ten ∷ []
 
 abbrev pub StoredRunReplies : Type 0
-StoredRunReplies = replies_of base stored_run ≡ (Done ∷ Span (Some (record { stack = 0; id = 1 })) ∷ Done ∷ Done ∷ [])
+StoredRunReplies = replied base stored_run ≡ (Done ∷ Span (Some (record { stack = 0; id = 1 })) ∷ Done ∷ Done ∷ [])
 
 abbrev pub StoredRunFile : Type 0
-StoredRunFile = file_in (plain_run base stored_run []) the_name ≡ Some (Some (codes "fake time outer{x=42}: app: hi n=3" ++ line_end))
+StoredRunFile = file_in (ran base stored_run []) the_name ≡ Some (Some (codes "fake time outer{x=42}: app: hi n=3" ++ line_end))
 
 -- an event of the message m alone
 abbrev pub m_event : PlainStep
@@ -89,52 +97,52 @@ abbrev pub base_with_old : Plain
 base_with_old = base_over (λ name. if bytes_eq the_name name then Some (codes "old" ++ line_end) else None)
 
 abbrev pub BytesAtOpening : Type 0
-BytesAtOpening = file_in (plain_run base_with_old (GlobalStep 0 ∷ m_event ∷ []) []) the_name ≡ Some (Some (codes "old" ++ line_end ++ codes "fake time app: m" ++ line_end))
+BytesAtOpening = file_in (ran base_with_old (GlobalStep 0 ∷ m_event ∷ []) []) the_name ≡ Some (Some (codes "old" ++ line_end ++ codes "fake time app: m" ++ line_end))
 
 -- no steps: the opened file is there and has no bytes
 abbrev pub EmptyReplies : Type 0
-EmptyReplies = replies_of base [] ≡ []
+EmptyReplies = replied base [] ≡ []
 
 abbrev pub EmptyFile : Type 0
-EmptyFile = file_in (plain_run base [] []) the_name ≡ Some (Some [])
+EmptyFile = file_in (ran base [] []) the_name ≡ Some (Some [])
 
 -- an event one second before 0001-01-01
 abbrev pub too_early : Moment
 too_early = record { seconds = negsuc 62135596800; nanoseconds = 0 }
 
 abbrev pub TooEarlyReplies : Type 0
-TooEarlyReplies = replies_of base (GlobalStep 0 ∷ hi_at too_early ∷ []) ≡ (Done ∷ Refused BadMoment ∷ [])
+TooEarlyReplies = replied base (GlobalStep 0 ∷ hi_at too_early ∷ []) ≡ (Done ∷ Refused BadMoment ∷ [])
 
 abbrev pub TooEarlyFile : Type 0
-TooEarlyFile = file_in (plain_run base (GlobalStep 0 ∷ hi_at too_early ∷ []) []) the_name ≡ Some (Some [])
+TooEarlyFile = file_in (ran base (GlobalStep 0 ∷ hi_at too_early ∷ []) []) the_name ≡ Some (Some [])
 
 -- the span's text found no memory: it counts as not given
 abbrev pub MissedText : Type 0
-MissedText = file_in (plain_run base stored_run ([] ∷ (Missed ∷ []) ∷ [])) the_name ≡ Some (Some (codes "fake time outer: app: hi n=3" ++ line_end))
+MissedText = file_in (ran base stored_run ([] ∷ (Missed ∷ []) ∷ [])) the_name ≡ Some (Some (codes "fake time outer: app: hi n=3" ++ line_end))
 
 -- the event's line found no memory, before or after its file was opened: the file has none of it
 abbrev pub MissedLine : Type 0
-MissedLine = file_in (plain_run base stored_run ([] ∷ [] ∷ [] ∷ (Missed ∷ []) ∷ [])) the_name ≡ Some (Some [])
+MissedLine = file_in (ran base stored_run ([] ∷ [] ∷ [] ∷ (Missed ∷ []) ∷ [])) the_name ≡ Some (Some [])
 
 abbrev pub UnwrittenLine : Type 0
-UnwrittenLine = file_in (plain_run base stored_run ([] ∷ [] ∷ [] ∷ (Unwritten ∷ []) ∷ [])) the_name ≡ Some (Some [])
+UnwrittenLine = file_in (ran base stored_run ([] ∷ [] ∷ [] ∷ (Unwritten ∷ []) ∷ [])) the_name ≡ Some (Some [])
 
 -- a span is entered, given up while it is entered, and left: then nothing is kept of it
 abbrev pub cycle : List PlainStep
 cycle = GlobalStep 0 ∷ new_outer ∷ EnterStep on_one ∷ CloseStep on_one ∷ ExitStep on_one ∷ EnterStep on_one ∷ []
 
 abbrev pub CycleReplies : Type 0
-CycleReplies = replies_of base cycle ≡ (Done ∷ Span (Some (record { stack = 0; id = 1 })) ∷ Done ∷ Closed false ∷ Done ∷ Refused UnknownSpan ∷ [])
+CycleReplies = replied base cycle ≡ (Done ∷ Span (Some (record { stack = 0; id = 1 })) ∷ Done ∷ Closed false ∷ Done ∷ Refused UnknownSpan ∷ [])
 
 abbrev pub CycleLeft : Type 0
-CycleLeft = ((plain_run base cycle []).skeleton.registry.spans ≡ []) × ((plain_run base cycle []).value_lists ≡ []) × ((plain_run base cycle []).skeleton.registry.next_id ≡ 2)
+CycleLeft = ((ran base cycle []).skeleton.registry.spans ≡ []) × ((ran base cycle []).value_lists ≡ []) × ((ran base cycle []).skeleton.registry.next_id ≡ 2)
 
 -- a span with two handles closes at the second that is given up, and then can't be cloned
 abbrev pub clones : List PlainStep
 clones = GlobalStep 0 ∷ new_outer ∷ CloneStep on_one ∷ CloseStep on_one ∷ CloseStep on_one ∷ CloneStep on_one ∷ CloneStep on_none ∷ []
 
 abbrev pub CloneReplies : Type 0
-CloneReplies = replies_of base clones ≡ (Done ∷ Span (Some (record { stack = 0; id = 1 })) ∷ Done ∷ Closed false ∷ Closed true ∷ Refused UnknownSpan ∷ Done ∷ [])
+CloneReplies = replied base clones ≡ (Done ∷ Span (Some (record { stack = 0; id = 1 })) ∷ Done ∷ Closed false ∷ Closed true ∷ Refused UnknownSpan ∷ Done ∷ [])
 
 -- a span follows itself; one that was never made, and one of a stack that was never given, are refused, the stack first
 abbrev pub follows : Option SpanName → Option SpanName → PlainStep
@@ -144,12 +152,12 @@ abbrev pub named : ℕ → ℕ → Option SpanName
 named stack id = Some (record { stack = stack; id = id })
 
 abbrev pub FollowsReplies : Type 0
-FollowsReplies = replies_of base (GlobalStep 0 ∷ new_outer ∷ follows (named 0 1) (named 0 1) ∷ follows (named 0 7) (named 1 1) ∷ follows None (named 0 7) ∷ follows (named 0 1) None ∷ [])
+FollowsReplies = replied base (GlobalStep 0 ∷ new_outer ∷ follows (named 0 1) (named 0 1) ∷ follows (named 0 7) (named 1 1) ∷ follows None (named 0 7) ∷ follows (named 0 1) None ∷ [])
     ≡ (Done ∷ Span (named 0 1) ∷ Done ∷ Refused UnknownStack ∷ Refused UnknownSpan ∷ Done ∷ [])
 
 -- nothing of it is kept
 abbrev pub FollowsLeaves : Type 0
-FollowsLeaves = plain_run base (GlobalStep 0 ∷ new_outer ∷ follows (named 0 1) (named 0 1) ∷ []) [] ≡ plain_run base (GlobalStep 0 ∷ new_outer ∷ []) []
+FollowsLeaves = ran base (GlobalStep 0 ∷ new_outer ∷ follows (named 0 1) (named 0 1) ∷ []) [] ≡ ran base (GlobalStep 0 ∷ new_outer ∷ []) []
 
 -- a span with two fields, one of which is given at first
 abbrev pub pair : PlainCallsite
@@ -166,18 +174,18 @@ recorded span values = RecordStep (record { lane = 0; moment = at_ten; span = sp
 
 -- the other one is recorded: it stands behind the first; a value for a field that the callsite lacks is passed over
 abbrev pub RecordedFile : Type 0
-RecordedFile = file_in (plain_run with_pair (GlobalStep 0 ∷ new_pair ((0, Unsigned 1) ∷ []) ∷ EnterStep on_one ∷ recorded (named 0 1) ((1, Unsigned 2) ∷ (2, Unsigned 3) ∷ []) ∷ m_event ∷ []) []) the_name
+RecordedFile = file_in (ran with_pair (GlobalStep 0 ∷ new_pair ((0, Unsigned 1) ∷ []) ∷ EnterStep on_one ∷ recorded (named 0 1) ((1, Unsigned 2) ∷ (2, Unsigned 3) ∷ []) ∷ m_event ∷ []) []) the_name
     ≡ Some (Some (codes "fake time s{x=1 y=2}: app: m" ++ line_end))
 
 -- an empty record puts a space behind a text, and none behind an empty one; a record that found no memory puts nothing
 abbrev pub EmptyRecords : Type 0
-EmptyRecords = file_in (plain_run with_pair (GlobalStep 0 ∷ new_pair [] ∷ EnterStep on_one ∷ recorded (named 0 1) [] ∷ recorded (named 0 1) ((0, Unsigned 1) ∷ []) ∷ recorded (named 0 1) [] ∷ recorded (named 0 1) ((1, Unsigned 2) ∷ []) ∷ m_event ∷ [])
+EmptyRecords = file_in (ran with_pair (GlobalStep 0 ∷ new_pair [] ∷ EnterStep on_one ∷ recorded (named 0 1) [] ∷ recorded (named 0 1) ((0, Unsigned 1) ∷ []) ∷ recorded (named 0 1) [] ∷ recorded (named 0 1) ((1, Unsigned 2) ∷ []) ∷ m_event ∷ [])
     ([] ∷ [] ∷ [] ∷ [] ∷ [] ∷ [] ∷ (Missed ∷ []) ∷ [])) the_name
     ≡ Some (Some (codes "fake time s{x=1 }: app: m" ++ line_end))
 
 -- a record is refused as other calls on spans are, and on no span it does nothing
 abbrev pub RecordReplies : Type 0
-RecordReplies = replies_of with_pair (GlobalStep 0 ∷ new_pair [] ∷ recorded (named 0 1) [] ∷ recorded (named 0 7) [] ∷ recorded (named 1 1) [] ∷ recorded None [] ∷ [])
+RecordReplies = replied with_pair (GlobalStep 0 ∷ new_pair [] ∷ recorded (named 0 1) [] ∷ recorded (named 0 7) [] ∷ recorded (named 1 1) [] ∷ recorded None [] ∷ [])
     ≡ (Done ∷ Span (named 0 1) ∷ Done ∷ Refused UnknownSpan ∷ Refused UnknownStack ∷ Done ∷ [])
 
 -- a DEBUG callsite of an event
@@ -192,7 +200,7 @@ asked number = EnabledStep (record { lane = 0; moment = at_ten; callsite = recor
 
 -- a lane that reaches nothing, then INFO callsites of both kinds, a DEBUG one, and one that isn't registered
 abbrev pub EnabledReplies : Type 0
-EnabledReplies = replies_of with_quiet (asked 2 ∷ GlobalStep 0 ∷ asked 1 ∷ asked 2 ∷ asked 3 ∷ asked 4 ∷ [])
+EnabledReplies = replied with_quiet (asked 2 ∷ GlobalStep 0 ∷ asked 1 ∷ asked 2 ∷ asked 3 ∷ asked 4 ∷ [])
     ≡ (Enabled false ∷ Done ∷ Enabled true ∷ Enabled true ∷ Enabled false ∷ Refused UnknownCallsite ∷ [])
 
 abbrev pub asked_on : ℕ → Moment → ℕ → PlainStep
@@ -200,7 +208,7 @@ asked_on lane moment number = EnabledStep (record { lane = lane; moment = moment
 
 -- a lane that was never given, a moment that is none and a callsite that isn't registered: the lane is told first, then the moment
 abbrev pub EnabledRefusals : Type 0
-EnabledRefusals = replies_of base (GlobalStep 0 ∷ asked_on 1 too_early 4 ∷ asked_on 1 at_ten 2 ∷ asked_on 0 too_early 4 ∷ asked_on 0 too_early 2 ∷ asked_on 0 at_ten 4 ∷ [])
+EnabledRefusals = replied base (GlobalStep 0 ∷ asked_on 1 too_early 4 ∷ asked_on 1 at_ten 2 ∷ asked_on 0 too_early 4 ∷ asked_on 0 too_early 2 ∷ asked_on 0 at_ten 4 ∷ [])
     ≡ (Done ∷ Refused UnknownLane ∷ Refused UnknownLane ∷ Refused BadMoment ∷ Refused BadMoment ∷ Refused UnknownCallsite ∷ [])
 
 -- an INFO callsite that is neither an event's nor a span's: it may be asked about, and neither is made there
@@ -211,12 +219,12 @@ abbrev pub at_hint : Request
 at_hint = record { lane = 0; moment = at_ten; callsite = 6; parent = Contextual; values = [] }
 
 abbrev pub HintReplies : Type 0
-HintReplies = replies_of (with_callsite base hint) (asked 6 ∷ GlobalStep 0 ∷ asked 6 ∷ EventStep at_hint ∷ SpanStep at_hint ∷ [])
+HintReplies = replied (with_callsite base hint) (asked 6 ∷ GlobalStep 0 ∷ asked 6 ∷ EventStep at_hint ∷ SpanStep at_hint ∷ [])
     ≡ (Enabled false ∷ Done ∷ Enabled true ∷ Refused UnknownCallsite ∷ Refused UnknownCallsite ∷ [])
 
 -- asking leaves no mark: the run after it is the run without it
 abbrev pub EnabledLeaves : Type 0
-EnabledLeaves = plain_run base (GlobalStep 0 ∷ asked 2 ∷ []) [] ≡ plain_run base (GlobalStep 0 ∷ []) []
+EnabledLeaves = ran base (GlobalStep 0 ∷ asked 2 ∷ []) [] ≡ ran base (GlobalStep 0 ∷ []) []
 
 -- a span that is entered within another one, and an event in both
 abbrev pub inner : PlainCallsite
@@ -232,7 +240,7 @@ abbrev pub nested : List PlainStep
 nested = GlobalStep 0 ∷ new_outer ∷ EnterStep on_one ∷ new_inner ∷ EnterStep on_two ∷ m_event ∷ []
 
 abbrev pub NestedFile : Type 0
-NestedFile = file_in (plain_run (with_callsite base inner) nested []) the_name
+NestedFile = file_in (ran (with_callsite base inner) nested []) the_name
     ≡ Some (Some (codes "fake time outer{x=42}:inner{y=\"a\"}: app: m" ++ line_end))
 
 -- the outer span's handle is given up while the inner one is open: it stays open, and closes with it
@@ -240,7 +248,7 @@ abbrev pub closing : List PlainStep
 closing = nested ++ ExitStep on_two ∷ ExitStep on_one ∷ CloseStep on_one ∷ CloseStep on_two ∷ []
 
 abbrev pub NestedLeft : Type 0
-NestedLeft = (plain_run (with_callsite base inner) closing []).skeleton.registry.spans ≡ []
+NestedLeft = (ran (with_callsite base inner) closing []).skeleton.registry.spans ≡ []
 
 -- the ids of the open spans, in order of making
 abbrev pub open_ids : Plain → List ℕ
@@ -251,7 +259,7 @@ abbrev pub twice : List PlainStep
 twice = GlobalStep 0 ∷ new_outer ∷ new_inner ∷ EnterStep on_one ∷ EnterStep on_two ∷ EnterStep on_one ∷ []
 
 abbrev pub after_twice : List PlainStep → Plain
-after_twice steps = plain_run (with_callsite base inner) (twice ++ steps) []
+after_twice steps = ran (with_callsite base inner) (twice ++ steps) []
 
 -- the second entry of the outer span is a duplicate, so the lane is in the inner one; an exit takes that duplicate, not the
 -- first entry, and so the lane is in the inner one still; then it is in the outer one, and then in none
@@ -272,7 +280,7 @@ abbrev pub given_up_twice : List PlainStep
 given_up_twice = CloseStep on_one ∷ CloseStep on_two ∷ ExitStep on_one ∷ []
 
 abbrev pub TwiceReplies : Type 0
-TwiceReplies = replies_of (with_callsite base inner) (twice ++ given_up_twice ++ ExitStep on_two ∷ ExitStep on_two ∷ ExitStep on_one ∷ ExitStep on_one ∷ [])
+TwiceReplies = replied (with_callsite base inner) (twice ++ given_up_twice ++ ExitStep on_two ∷ ExitStep on_two ∷ ExitStep on_one ∷ ExitStep on_one ∷ [])
     ≡ (Done ∷ Span (named 0 1) ∷ Span (named 0 2) ∷ Done ∷ Done ∷ Done ∷ Closed false ∷ Closed false ∷ Done ∷ Done ∷ Refused UnknownSpan ∷ Done ∷ Refused UnknownSpan ∷ [])
 
 abbrev pub TwiceOpen : Type 0

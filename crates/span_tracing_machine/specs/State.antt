@@ -17,7 +17,7 @@ use Rattle.span_tracing_machine.specs.FieldTexts.{FieldList, lists_text}
 use Rattle.span_tracing_machine.specs.Lines.{Shown, full_line}
 use Rattle.span_tracing_machine.specs.Skeleton.{Skeleton, PlainCallsite, Mask}
 use Rattle.span_tracing_machine.specs.Machine.{refusal_of, reply_of, acted, after, when, place_of, known_place, made_at, parent_id, or_same, span_place}
-use Rattle.span_tracing_machine.specs.Missed.{Fate, first_fate, given_by, handed_lines, first_fates, later_fates, count_missed, wants_of}
+use Rattle.span_tracing_machine.specs.Missed.{Fate, first_fate, given_by, handed_lines, count_missed, wants_of}
 
 -- an open span's value lists: the one that it was made with, then those that were recorded
 pub record ValueList : Type 0 where
@@ -32,9 +32,8 @@ pub record PlainText : Type 0 where
 abbrev pub text_of : ValueList → PlainText
 text_of v = record { id = v.id; bytes = lists_text v.lists }
 
--- an output: the greatest level that its filter passes (0 for none), its time text, its sink
+-- an output: its time text, its sink; what its filter passes is told step by step
 pub record PlainOutput : Type 0 where
-  pub filter : ℕ
   pub time : Option (List ℕ)
   pub sink : PlainSink
 
@@ -44,45 +43,9 @@ pub record Plain : Type 0 where
   pub output : Option PlainOutput
   pub value_lists : List ValueList
 
--- a filter passes a level at most itself
-abbrev pub mask_at : Option ℕ → Option PlainCallsite → Mask
-mask_at None callsite = []
-mask_at (Some filter) None = []
-mask_at (Some filter) (Some c) = nat_le c.metadata.level filter ∷ []
-
--- which outputs of the reached stack pass a request on a callsite of a kind; the filter is that of the stack's output
-abbrev pub mask_for : Skeleton → Option ℕ → ℕ → Bool → Mask
-mask_for s filter number is_span =
-    if s.is_global
-    then mask_at filter (option_and_then (λ place. slice_get s.callsites place) (known_place s.callsites number is_span))
-    else []
-
 -- the callsite with an identifier
 abbrev pub callsite_named : List PlainCallsite → ℕ → Option PlainCallsite
 callsite_named callsites number = option_and_then (λ place. slice_get callsites place) (place_of callsites number)
-
--- which outputs of the reached stack would pass a request on a callsite, whatever its kind
-abbrev pub mask_asked : Skeleton → Option ℕ → ℕ → Mask
-mask_asked s filter number = if s.is_global then mask_at filter (callsite_named s.callsites number) else []
-
-unfoldable pub step_mask : Skeleton → Option ℕ → PlainStep → Mask
-step_mask s filter (GlobalStep handle) = []
-step_mask s filter (EventStep e) = mask_for s filter e.callsite false
-step_mask s filter (EnabledStep call) = mask_asked s filter call.callsite.0
-step_mask s filter (SpanStep n) = mask_for s filter n.callsite true
-step_mask s filter (RecordStep r) = []
-step_mask s filter (FollowsFromStep call) = []
-step_mask s filter (EnterStep call) = []
-step_mask s filter (ExitStep call) = []
-step_mask s filter (CloneStep call) = []
-step_mask s filter (CloseStep call) = []
-
-abbrev pub filter_of : Option PlainOutput → Option ℕ
-filter_of output = option_map (λ (o : PlainOutput). o.filter) output
-
--- the mask of a step in a state: its filters are asked afresh
-abbrev pub mask_of : Plain → PlainStep → Mask
-mask_of p step = step_mask p.skeleton (filter_of p.output) step
 
 -- target and fields of a callsite by its place
 abbrev pub target_of : Option PlainCallsite → List ℕ
@@ -171,52 +134,68 @@ abbrev pub time_of : Option PlainOutput → Option (List ℕ)
 time_of None = None
 time_of (Some o) = o.time
 
--- the line that a step offers in this state
-abbrev pub plain_offer : Plain → PlainStep → Option Handed
-plain_offer p step = offer_of p.skeleton (map text_of p.value_lists) (time_of p.output) step (mask_of p step)
-
 abbrev pub more_handed : List Handed → PlainOutput → PlainOutput
 more_handed lines o = record o { sink = record (o.sink) { handed = o.sink.handed ++ lines } }
 
+-- a step as it went: which outputs passed it, and what became of its texts and lines
+pub record Turn : Type 0 where
+  pub step : PlainStep
+  pub mask : Mask
+  pub fates : List Fate
+
+-- the same where nothing was missed
+abbrev pub unmissed : Turn → Turn
+unmissed t = record t { fates = [] }
+
+abbrev pub all_unmissed : List Turn → List Turn
+all_unmissed turns = map unmissed turns
+
+abbrev pub steps_of : List Turn → List PlainStep
+steps_of turns = map (λ (t : Turn). t.step) turns
+
+-- the line that a step offers in this state
+abbrev pub plain_offer : Plain → Turn → Option Handed
+plain_offer p t = offer_of p.skeleton (map text_of p.value_lists) (time_of p.output) t.step t.mask
+
 -- what a step that is not refused leaves, with the fates of its texts and lines
-abbrev pub plain_acted : Plain → PlainStep → List Fate → Plain
-plain_acted p step fates = record {
-  skeleton = after p.skeleton step (mask_of p step);
-  output = option_map (more_handed (handed_lines fates (plain_offer p step))) p.output;
-  value_lists = lists_acted p.skeleton p.value_lists step (mask_of p step) (first_fate fates);
+abbrev pub plain_acted : Plain → Turn → Plain
+plain_acted p t = record {
+  skeleton = after p.skeleton t.step t.mask;
+  output = option_map (more_handed (handed_lines t.fates (plain_offer p t))) p.output;
+  value_lists = lists_acted p.skeleton p.value_lists t.step t.mask (first_fate t.fates);
 }
 
 -- a step: a refusal leaves the state
-unfoldable pub plain_after : Plain → PlainStep → List Fate → Plain
-plain_after p step fates = or_same (refusal_of p.skeleton step (mask_of p step)) p (plain_acted p step fates)
+unfoldable pub plain_after : Plain → Turn → Plain
+plain_after p t = or_same (refusal_of p.skeleton t.step t.mask) p (plain_acted p t)
 
-unfoldable pub plain_reply : Plain → PlainStep → Reply
-plain_reply p step = reply_of p.skeleton step (mask_of p step)
+unfoldable pub plain_reply : Plain → Turn → Reply
+plain_reply p t = reply_of p.skeleton t.step t.mask
 
--- steps in order, with a list of fates for each
-abbrev pub plain_run : Plain → List PlainStep → List (List Fate) → Plain
-plain_run p [] fates = p
-plain_run p (step ∷ steps) fates = plain_run (plain_after p step (first_fates fates)) steps (later_fates fates)
+-- steps in order
+abbrev pub plain_run : Plain → List Turn → Plain
+plain_run p [] = p
+plain_run p (t ∷ ts) = plain_run (plain_after p t) ts
 
-abbrev pub replies_of : Plain → List PlainStep → List Reply
+abbrev pub replies_of : Plain → List Turn → List Reply
 replies_of p [] = []
-replies_of p (step ∷ steps) = plain_reply p step ∷ replies_of (plain_after p step []) steps
+replies_of p (t ∷ ts) = plain_reply p t ∷ replies_of (plain_after p t) ts
 
 -- how many texts and lines of these steps found no memory
-abbrev pub missed_by : Plain → PlainStep → List Fate → ℕ
-missed_by p step fates = count_missed fates (wants_of p.skeleton step (mask_of p step))
+abbrev pub missed_by : Plain → Turn → ℕ
+missed_by p t = count_missed t.fates (wants_of p.skeleton t.step t.mask)
 
-abbrev pub missed_in : Plain → List PlainStep → List (List Fate) → ℕ
-missed_in p [] fates = 0
-missed_in p (step ∷ steps) fates = missed_by p step (first_fates fates) + missed_in (plain_after p step []) steps (later_fates fates)
+abbrev pub missed_in : Plain → List Turn → ℕ
+missed_in p [] = 0
+missed_in p (t ∷ ts) = missed_by p t + missed_in (plain_after p t) ts
 
--- the lines that the passed calls of these steps offer, in order
-abbrev pub offered_by : Plain → PlainStep → List Handed
-offered_by p step = or_same (refusal_of p.skeleton step (mask_of p step)) [] (handed_lines [] (plain_offer p step))
+-- the lines that the passed calls of these steps offer, in order, where nothing is missed
+abbrev pub offered_by : Plain → Turn → List Handed
+offered_by p t = or_same (refusal_of p.skeleton t.step t.mask) [] (handed_lines [] (plain_offer p t))
 
-abbrev pub offered_in : Plain → List PlainStep → List Handed
+abbrev pub offered_in : Plain → List Turn → List Handed
 offered_in p [] = []
-offered_in p (step ∷ steps) = offered_by p step ++ offered_in (plain_after p step []) steps
+offered_in p (t ∷ ts) = offered_by p t ++ offered_in (plain_after p (unmissed t)) ts
 
 -- the state of a new trace
 abbrev pub new_plain : Plain

@@ -10,7 +10,7 @@ fn hi(alloc: Global) -> Result<Vec<FieldValue>, Fail> {
 /// An event with a message alone.
 fn say(
     rt: &impl Abort,
-    trace: &mut Trace<MemoryFolder>,
+    trace: &mut Trace<MemoryFolder, LevelFilter>,
     moment: Moment,
     parent: Parent,
     text: &str,
@@ -21,7 +21,10 @@ fn say(
     Ok(())
 }
 
-fn enter_outer(rt: &impl Abort, trace: &mut Trace<MemoryFolder>) -> Result<SpanName, Fail> {
+fn enter_outer(
+    rt: &impl Abort,
+    trace: &mut Trace<MemoryFolder, LevelFilter>,
+) -> Result<SpanName, Fail> {
     let values = [number_field(0, 42)];
     let outer = made(trace.new_span(0, OPENED, OUTER, Parent::Contextual, &values))?;
     assert_eq!(rt; answered(trace.enter(0, OPENED, Some(outer)))?, Reply::Done);

@@ -54,10 +54,10 @@ fn outputs_are_made_or_refused(rt: HostRuntime) -> Result<(), Fail> {
 /// The refusal of a stack, and the outputs that came back.
 fn refused_stack<D: Folder>(
     rt: &impl Abort,
-    trace: &mut Trace<D>,
-    outputs: Vec<Output<D>>,
+    trace: &mut Trace<D, LevelFilter>,
+    outputs: Vec<Output<D, LevelFilter>>,
     moment: Moment,
-) -> Result<(Refusal, Vec<Output<D>>), Fail>
+) -> Result<(Refusal, Vec<Output<D, LevelFilter>>), Fail>
     requires { vec_len outputs ≤ 1 }
 {
     assert!(rt; !trace.has_stack());
@@ -74,7 +74,7 @@ fn refused_stack<D: Folder>(
 fn stacks_are_refused_in_order(rt: HostRuntime) -> Result<(), Fail> {
     let alloc = rt.alloc();
     let mut trace = Trace::new(alloc);
-    let none: Vec<Output<MemoryFolder>> = Vec::new(alloc);
+    let none: Vec<Output<MemoryFolder, LevelFilter>> = Vec::new(alloc);
     let (refusal, none) = refused_stack(&rt, &mut trace, none, TOO_EARLY)?;
     assert_eq!(rt; refusal, Refusal::BadMoment);
     assert_eq!(rt; none.len(), 0);
@@ -120,7 +120,7 @@ fn a_refusing_folder_comes_back(rt: HostRuntime) -> Result<(), Fail> {
 #[test]
 fn callsites_are_registered(rt: HostRuntime) -> Result<(), Fail> {
     let alloc = rt.alloc();
-    let mut trace: Trace<MemoryFolder> = Trace::new(alloc);
+    let mut trace: Trace<MemoryFolder, LevelFilter> = Trace::new(alloc);
     let fields = FieldSet::new(&EVENT_FIELDS, EVENT);
     let first = Metadata::new(
         "event",
@@ -165,7 +165,7 @@ fn callsites_are_registered(rt: HostRuntime) -> Result<(), Fail> {
 
 /// Registers an event of the level.
 fn register_event(
-    trace: &mut Trace<MemoryFolder>,
+    trace: &mut Trace<MemoryFolder, LevelFilter>,
     identifier: Identifier,
     level: Level,
 ) -> Result<Interest, Refusal> {
@@ -215,7 +215,7 @@ fn a_stack_that_was_not_kept_has_no_interest(rt: HostRuntime) -> Result<(), Fail
 #[test]
 fn lanes_and_sinks_are_numbered(rt: HostRuntime) -> Result<(), Fail> {
     let alloc = rt.alloc();
-    let mut trace: Trace<MemoryFolder> = Trace::new(alloc);
+    let mut trace: Trace<MemoryFolder, LevelFilter> = Trace::new(alloc);
     assert!(rt; !trace.has_stack());
     assert!(rt; trace.folder(0).is_none());
     assert_eq!(rt; trace.thread(None, 10)?, 0);

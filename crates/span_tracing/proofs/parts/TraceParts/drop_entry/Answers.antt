@@ -1,11 +1,10 @@
-use Rattle.span_tracing.proofs.Levels.{level_moves, stack_ghosts}
 use Rattle.std.proofs.Common.{ap}
 use Rattle.tracing_core.specs.At.{At}
 use Rattle.span_tracing.proofs.Leaving.{exits}
 use Rattle.span_tracing.proofs.parts.TraceParts.drop_entry.Goals as goal
 
 pub returns-clause-sound : goal.returns-clause-sound
-returns-clause-sound c = (exits stack_ghosts level_moves c.args.self.now c.exit.new.self c.in-Some.handle c.in-Some.is c.requires.sound c.args.id c.args.lane c.at_of.result (ap (λ (at : At). at.lane) c.at_of.ensures) c.exit.ensures.gives).0
+returns-clause-sound g c = (exits g.F.Filter c.args.self.now c.exit.new.self c.in-Some.handle c.in-Some.is c.requires.sound c.args.id c.args.lane c.at_of.result (ap (λ (at : At). at.lane) c.at_of.ensures) c.exit.ensures.gives).0
 
 pub returns-clause-left : goal.returns-clause-left
-returns-clause-left c = (exits stack_ghosts level_moves c.args.self.now c.exit.new.self c.in-Some.handle c.in-Some.is c.requires.sound c.args.id c.args.lane c.at_of.result (ap (λ (at : At). at.lane) c.at_of.ensures) c.exit.ensures.gives).1
+returns-clause-left g c = (exits g.F.Filter c.args.self.now c.exit.new.self c.in-Some.handle c.in-Some.is c.requires.sound c.args.id c.args.lane c.at_of.result (ap (λ (at : At). at.lane) c.at_of.ensures) c.exit.ensures.gives).1

@@ -1,9 +1,11 @@
-use Rattle.span_tracing_machine.specs.PlainData.{EnabledStep}
-use Rattle.span_tracing.specs.Skeletons.{value_in}
-use Rattle.span_tracing.specs.Stored.{mask_in}
+use Rattle.std.proofs.Common.{[]}
+use Rattle.span_tracing.specs.Masks.{IsMask}
 use Rattle.span_tracing.proofs.Unrefused.{asked_lane}
 use Rattle.span_tracing.proofs.parts.TraceParts.enabled.Goals as goal
 
-pub is_enabled-requires-clause-lane : goal.is_enabled-requires-clause-lane
-is_enabled-requires-clause-lane c =
-    asked_lane c.args.self.now c.args.call.now (mask_in (value_in c.args.self.now) (EnabledStep c.args.call.now)) c.requires.sound c.requires.unrefused
+pub ask-requires-clause-lane : goal.ask-requires-clause-lane
+ask-requires-clause-lane g c = asked_lane c.args.self.now c.args.call.now [] c.requires.unrefused
+
+pub returns-clause-asked : goal.returns-clause-asked
+unfolding IsMask
+returns-clause-asked g c = c.ask.ensures.asked

@@ -1,9 +1,8 @@
-use Rattle.std.proofs.Common.{sym, true, ◌∙◌}
-use Rattle.span_tracing.proofs.Unrefused.{none_there, request_lane}
+use Rattle.std.proofs.Common.{sym, ◌∙◌}
+use Rattle.span_tracing.specs.Actions.{plain_request}
+use Rattle.span_tracing.specs.Skeletons.{skeleton_of, value_in}
+use Rattle.span_tracing.proofs.Unrefused.{span_unasked}
 use Rattle.span_tracing.proofs.parts.TraceParts.refusal.Goals as goal
 
-pub ids_refusal-requires-clause-lane : goal.ids_refusal-requires-clause-lane
-ids_refusal-requires-clause-lane c =
-    let span = c.in-NewSpan.span in
-    request_lane c.args.self.now span.lane span.moment span.callsite true span.parent c.requires
-    (sym c.request_refusal-refusal.ensures ∙ none_there c.request_refusal-refusal.result (sym c.is_some.ensures ∙ c.if-is_some.false))
+pub returns-in-NewSpan : goal.returns-in-NewSpan
+returns-in-NewSpan g c = rw (c.in-NewSpan.is) (c.request_refusal-in-NewSpan.ensures ∙ sym (span_unasked (skeleton_of (value_in c.args.self.now)) (plain_request c.in-NewSpan.span)))

@@ -1,9 +1,8 @@
-use Rattle.span_tracing.proofs.Levels.{level_moves, stack_ghosts}
 use Rattle.span_tracing.proofs.Leaving.{clones}
 use Rattle.span_tracing.proofs.parts.TraceParts.take_one.Goals as goal
 
 pub returns-clause-sound : goal.returns-clause-sound
-returns-clause-sound c = (clones stack_ghosts level_moves c.args.self.now c.clone_span-same.new.self c.in-Some.handle c.in-Some.is c.requires.sound c.args.id c.at_of.result c.clone_span-same.result c.clone_span-same.ensures.gives c.requires.there c.requires.fewer).0
+returns-clause-sound g c = (clones g.F.Filter c.args.self.now c.clone_span-same.new.self c.in-Some.handle c.in-Some.is c.requires.sound c.args.id c.at_of.result c.clone_span-same.result c.clone_span-same.ensures.gives c.requires.there c.requires.fewer).0
 
 pub returns-clause-left : goal.returns-clause-left
-returns-clause-left c = (clones stack_ghosts level_moves c.args.self.now c.clone_span-same.new.self c.in-Some.handle c.in-Some.is c.requires.sound c.args.id c.at_of.result c.clone_span-same.result c.clone_span-same.ensures.gives c.requires.there c.requires.fewer).1
+returns-clause-left g c = (clones g.F.Filter c.args.self.now c.clone_span-same.new.self c.in-Some.handle c.in-Some.is c.requires.sound c.args.id c.at_of.result c.clone_span-same.result c.clone_span-same.ensures.gives c.requires.there c.requires.fewer).1

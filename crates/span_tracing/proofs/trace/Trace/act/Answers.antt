@@ -5,4 +5,4 @@ use Rattle.span_tracing.proofs.trace.Trace.act.Goals as goal
 pub returns-clause-follows : goal.returns-clause-follows
 returns-clause-follows g c = λ ok.
     let done = c.step_once-done in
-    follows g.D.Folder.contents c.args.self.now done.new.self done.result.reply (plain_action c.args.action.now) done.result.fate (done.ensures.reply ok) (done.ensures.stepped ok) (done.ensures.takes ok)
+    follows g.D.Folder.contents c.args.self.now done.new.self g.F.Filter (plain_action c.args.action.now) done.result done.ensures.went ok

@@ -13,5 +13,5 @@ returns-in-Err-clause-opening g c = λ none output is.
     let again = c.in-Err.refused.output in (
       again,
       c.push_reserved.ensures.items ∙ ap (λ xs. xs ++ again ∷ []) only.0,
-      subst (λ (o : Output g.row.D.Denot). IsOpeningRefusal g.D.Folder.contents o c.in-Err.refused.refusal again) only.1 c.in-Err.ensures.back,
+      subst (λ (o : Output g.row.D.Denot g.row.F.Denot). IsOpeningRefusal g.D.Folder.contents o c.in-Err.refused.refusal again) only.1 c.in-Err.ensures.back,
     )

@@ -11,12 +11,12 @@ loop-step-preserved g c =
     record {
       room = omega (arith, c.push_reserved.ensures.capacity);
       count = omega (arith, c.push_reserved.ensures.len);
-      followed = rw (c.push_reserved.ensures.items, more) (runs_more g.D.Folder.contents c.args.self.now c.loop-step.self c.step.new.self c.loop-step.replies.items c.step.result (plain_steps (take c.loop-step.step-index steps)) (plain_step c.step-item.result) c.loop-step.invariant.followed c.step.ensures.follows (λ e. c.step.ensures.refused OutOfMemory e) c.step.ensures.memory);
+      followed = rw (c.push_reserved.ensures.items, more) (runs_more g.F.Filter g.D.Folder.contents c.args.self.now c.loop-step.self c.step.new.self c.loop-step.replies.items c.step.result (plain_steps (take c.loop-step.step-index steps)) (plain_step c.step-item.result) c.loop-step.invariant.followed c.step.ensures.follows (λ e. c.step.ensures.refused OutOfMemory e) c.step.ensures.memory);
     }
 
 pub loop-step-init : goal.loop-step-init
 loop-step-init g c = record {
   room = c.in_ok-replies.ensures.capacity;
   count = c.in_ok-replies.ensures.len;
-  followed = rw (c.in_ok-replies.ensures.items) (runs_none g.D.Folder.contents c.args.self.now);
+  followed = rw (c.in_ok-replies.ensures.items) (runs_none g.F.Filter g.D.Folder.contents c.args.self.now);
 }

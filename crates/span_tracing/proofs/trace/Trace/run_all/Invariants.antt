@@ -7,5 +7,5 @@ abbrev pub invariant-loop-step : goal.invariant-loop-step
 invariant-loop-step g l = record {
   room : length l.steps ≤ vec_capacity l.replies;
   count : vec_len l.replies ≡ l.step-index;
-  followed : RunsSteps g.D.Folder.contents l.fn.self l.self l.replies.items (plain_steps (take l.step-index l.steps));
+  followed : RunsSteps g.F.Filter g.D.Folder.contents l.fn.self l.self l.replies.items (plain_steps (take l.step-index l.steps));
 }
