@@ -23,3 +23,5 @@ pub mod Changing
 pub mod Told
 pub mod Sound
 pub mod Lending
+pub mod Carried
+pub mod Aside

@@ -11,6 +11,7 @@ pub mod Keeping
 pub mod Views
 pub mod References
 pub mod Laws
+pub mod Aside
 pub mod Copies
 pub mod SlotLoans
 pub mod Lookups
