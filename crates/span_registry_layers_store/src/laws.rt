@@ -1,5 +1,6 @@
 //! Laws of registries.
 
+ghost use Rattle.span_registry_layers_store.specs.Aside.{SlotsStandAside};
 ghost use Rattle.span_registry_layers_store.specs.Laws.{ClosesChildFirst, LineIsShown, LineIsWhole, OpenIsClosedUp, OpenIsLeast, StartsSound, StaysSound};
 
 /// The open spans are the least set that holds each span with a handle or an entry, and the parents of its members.
@@ -24,4 +25,10 @@ pub fn registry_stays_sound()
 pub fn line_is_whole()
     ensures whole { LineIsWhole }
     ensures shown { LineIsShown }
+{}
+
+/// Slots have no say in anything else: registries that differ in them alone close the same spans and then still differ in
+/// them alone, have the same ids open and the same current spans, and are sound alike.
+pub fn slots_stand_aside()
+    ensures { SlotsStandAside }
 {}

@@ -19,7 +19,9 @@ mod table;
 
 pub use extensions::{Extensions, ExtensionsMut};
 pub use filter_map::{FilterId, FilterMap, TooManyFilters};
-pub use laws::{closes_child_first, line_is_whole, open_is_least, registry_stays_sound};
+pub use laws::{
+    closes_child_first, line_is_whole, open_is_least, registry_stays_sound, slots_stand_aside,
+};
 pub use lookup::{Data, LookupSpan, SpanData};
 pub use metadata::OwnedMetadata;
 pub use record::SpanRecord;
