@@ -6,6 +6,7 @@ pub mod Padding
 pub mod Placing
 pub mod Rising
 pub mod Closing
+pub mod Carried
 pub mod Mapped
 pub mod Handles
 pub mod Forgetting
@@ -23,5 +24,4 @@ pub mod Changing
 pub mod Told
 pub mod Sound
 pub mod Lending
-pub mod Carried
 pub mod Aside
