@@ -12,3 +12,4 @@ pub mod Went
 pub mod Agreement
 pub mod Routes
 pub mod Outputs
+pub mod Setup

@@ -11,7 +11,8 @@ ghost use Rattle.span_tracing_machine.specs.Machine.{made_with};
 ghost use Rattle.span_tracing_machine.specs.Skeleton.{PlainCallsite};
 ghost use Rattle.span_tracing_machine.specs.State.{Plain, PlainOutput, callsite_named, new_plain, with_lane, with_stack, register_refusal, registered};
 ghost use Rattle.span_tracing.specs.Masks.{Says};
-ghost use Rattle.span_tracing.specs.Skeletons.{skeleton_of, threads_of};
+ghost use Rattle.span_tracing.specs.Setup.{with_callsite, with_thread};
+ghost use Rattle.span_tracing.specs.Skeletons.{new_state, skeleton_of, threads_of};
 ghost use Rattle.span_tracing.specs.Stored.{AgreesOption};
 ghost use Rattle.span_tracing.specs.Outputs.{outputs_refusal, with_output};
 
@@ -58,6 +59,8 @@ impl<D: Folder, F: Filter> Trace<D, F> {
         ensures agrees { Agrees result.state new_plain }
         ensures files { AgreesFiles D.contents result new_plain }
         ensures starved { result.state.starved ≡ 0 }
+        ensures state { result.state ≡ new_state }
+        ensures sink { result.sink ≡ None }
     {
         Trace {
             state: TraceState::new(alloc),
@@ -74,6 +77,7 @@ impl<D: Folder, F: Filter> Trace<D, F> {
 
     /// Registers a callsite under an identifier, and answers the interest in it that the hub keeps: what the stack's filter says of it,
     /// and never where there is no stack. Equal metadata may be registered again, which answers the interest and changes nothing.
+    /// Else the callsite is the last one, and all else stays: lanes, the output, its filter and its sink.
     ///
     /// # Errors
     ///
@@ -90,6 +94,7 @@ impl<D: Folder, F: Filter> Trace<D, F> {
             IfOk result (λ interest. Says ⟦<F as Filter>⟧ self.old.state.filter (made_with (record { number = identifier.0; metadata = plain_metadata metadata.now })) interest) }
         ensures again { IfOk result (λ interest. (c : PlainCallsite) → callsite_named (skeleton_of self.old.state).callsites identifier.0 ≡ Some c →
             Says ⟦<F as Filter>⟧ self.old.state.filter (made_with c) interest) }
+        ensures left { OnOk result (self.new.state ≡ with_callsite self.old.state (record { number = identifier.0; metadata = plain_metadata metadata.now })) }
         ensures files { self.new.sink ≡ self.old.sink }
         ensures starved { self.new.state.starved ≡ self.old.state.starved }
         ensures err { OnErr result (value_of self.new ≡ value_of self.old) }
@@ -112,7 +117,7 @@ impl<D: Folder, F: Filter> Trace<D, F> {
         }
     }
 
-    /// Adds a lane, and answers its number: lanes are numbered from 0.
+    /// Adds a lane, and answers its number: lanes are numbered from 0. All else stays: callsites, the output, its filter and its sink.
     ///
     /// # Errors
     ///
@@ -121,6 +126,7 @@ impl<D: Folder, F: Filter> Trace<D, F> {
         ensures number { IfOk result (λ lane. lane ≡ (skeleton_of self.old.state).lanes) }
         ensures ok { OnOk result ((p : Plain) → Agrees self.old.state p → Agrees self.new.state (with_lane p)) }
         ensures thread { OnOk result (threads_of self.new.state ≡ threads_of self.old.state ++ (record { name = option_copied name.entry; number = thread_id }) ∷ []) }
+        ensures left { OnOk result (self.new.state ≡ with_thread self.old.state (record { name = option_copied name.entry; number = thread_id })) }
         ensures sink { self.new.sink ≡ self.old.sink }
         ensures starved { self.new.state.starved ≡ self.old.state.starved }
         ensures err { OnErr result (value_of self.new ≡ value_of self.old) }
@@ -132,7 +138,8 @@ impl<D: Folder, F: Filter> Trace<D, F> {
         self.state.add_lane(name, thread_id)
     }
 
-    /// Adds the stack, which has one output, and opens the output's first file. Answers the stack's handle, which is 0.
+    /// Adds the stack, which has one output, and opens the output's first file. Answers the stack's handle, which is 0. The trace
+    /// then has the output's setting and filter, and a registry that knows of one filter more; callsites and lanes stay.
     ///
     /// # Errors
     ///
@@ -151,6 +158,7 @@ impl<D: Folder, F: Filter> Trace<D, F> {
         ensures moment { OnOk result (is_moment moment ≡ true) }
         ensures starved { self.new.state.starved ≡ self.old.state.starved }
         ensures kept { OnOk result ((output : Output D F) → outputs.items ≡ output ∷ [] → (self.new.state.output ≡ Some (setting_of output)) × (self.new.state.filter ≡ Some output.filter)) }
+        ensures left { OnOk result ((output : Output D F) → outputs.items ≡ output ∷ [] → self.new.state ≡ with_output self.old.state (setting_of output) output.filter) }
         ensures ok { OnOk result ((output : Output D F) → outputs.items ≡ output ∷ [] → (p : Plain) → Agrees self.old.state p →
             Agrees self.new.state (with_stack p (plain_output D.contents output moment))) }
         ensures files { OnOk result ((output : Output D F) → outputs.items ≡ output ∷ [] → MayOpen (D.contents output.folder) (output_names output) → (p : Plain) →
