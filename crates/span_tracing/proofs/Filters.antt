@@ -9,11 +9,11 @@ use Rattle.span_registry_layers.specs.Combined.{Then}
 use Rattle.span_registry_layers.specs.Filter.{Ghosts}
 use Rattle.span_registry_layers.specs.Looks.{View}
 use Rattle.tracing_core.specs.PlainRequests.{PlainEvent}
-use Rattle.span_tracing_stack.specs.Answers.{HonestBy, May, MayBy, MayPass, MayTellBy, SaysBy, StepsBy, hint_by}
+use Rattle.span_tracing_stack.specs.Answers.{HonestBy, May, MayBy, MayPass, MayTellBy, SaysBy, hint_by}
 use Rattle.span_tracing_stack.specs.Moves.{StackMoves}
 use Rattle.span_tracing_stack.specs.Stacks.{StackValue}
 use Rattle.span_tracing_stack.specs.Steadiness.{is_fair, is_single, probe_quiet, word_stays}
-use Rattle.span_tracing.specs.Masks.{Passes, PassesEvent, Says, ThenEvent}
+use Rattle.span_tracing.specs.Masks.{Passes, PassesEvent, Says, ThenEvent, WouldPass}
 
 module _ {F : Type 0} (g : Ghosts F) where
   -- what a stack says of itself as a subscriber
@@ -30,22 +30,26 @@ module _ {F : Type 0} (g : Ghosts F) where
     quiet = λ x m n at place r y b moved k. probe_quiet g x m n at place r y b moved;
   }
 
-  -- a filter that isn't told of anything
-  pub steps_same : (o : Option F) → StepsBy g o o
-  steps_same None = tt
-  steps_same (Some f) = λ honest. (honest, record { onward = λ m k says. says; back = λ m k says. says; same_hint = refl })
-
-  pub steps_to : (o later : Option F) → later ≡ o → StepsBy g o later
-  steps_to o later e = subst (λ l. StepsBy g o l) (sym e) (steps_same o)
-
   may_passes : (f : F) (m : PlainMetadata) (v : View) (b : Bool) → May g f m v b → Passes g (Some f) m v b
   may_passes f m v b (inl a) = inl a
-  may_passes f m v b (inr w) = inr (λ c a. w.1.1 v c a ∙ sym w.0)
+  may_passes f m v b (inr w) = inr (w.0, λ c a. w.1.1 v c a)
 
-  -- what the stack may pass is what its filter may answer, or each that it may
+  -- what the stack may pass is what its filter may answer, or refusal, which each answer is
   pub passes_by : (o : Option F) (m : PlainMetadata) (v : View) (b : Bool) → MayBy g o m v b → Passes g o m v b
   passes_by None m v b w = absurd w
   passes_by (Some f) m v b w = may_passes f m v b w
+
+  -- so it answers a question
+  pub answers_by : (o : Option F) (m : PlainMetadata) (v : View) (b : Bool) → MayBy g o m v b → WouldPass g o m v b
+  answers_by None m v b w = absurd w
+  answers_by (Some f) m v b (inl a) = inl a
+  answers_by (Some f) m v b (inr w) = inr (λ c a. w.1.1 v c a ∙ sym w.0)
+
+  -- a callsite of which a question is answered no is refused
+  pub refused_by : (o : Option F) (m : PlainMetadata) (v : View) → WouldPass g o m v false → Passes g o m v false
+  refused_by None m v w = absurd w
+  refused_by (Some f) m v (inl a) = inl a
+  refused_by (Some f) m v (inr each) = inr (refl, each)
 
   pub tells_by : (o : Option F) (e : PlainEvent) (v : View) (b : Bool) → MayTellBy g o e v b → PassesEvent g o e v b
   tells_by None e v b w = absurd w

@@ -31,7 +31,7 @@ use Rattle.span_tracing_machine.specs.State.{callsite_named}
 use Rattle.span_tracing_stack.specs.Answers.{HonestBy, MayBy, MayPass, SaysBy, hint_by, view_in}
 use Rattle.span_tracing_stack.specs.Moves.{Gives, StackMoves}
 use Rattle.span_tracing_stack.specs.Stacks.{StackValue}
-use Rattle.span_tracing.specs.Masks.{AskedOf, Passes, Says, callsite_of}
+use Rattle.span_tracing.specs.Masks.{AskedOf, Says, WouldPass, callsite_of}
 use Rattle.span_tracing.specs.Skeletons.{filter_at, plain_callsite, registry_in, skeleton_of, stack_in, value_in}
 use Rattle.span_tracing.specs.Sound.{HasOnly, IsHonest, IsSound, StackSays, greatest_of}
 use Rattle.span_tracing.specs.Stored.{mask_by}
@@ -40,7 +40,7 @@ use Rattle.span_tracing.specs.contracts.site.SiteCallsite.TheImpl.{ghosts}
 use Rattle.span_tracing.specs.declared.callsite.Callsite.{Callsite}
 use Rattle.span_tracing.specs.declared.parts.TraceParts.{TraceParts}
 use Rattle.span_tracing.specs.declared.site.Site.{Site}
-use Rattle.span_tracing.proofs.Filters.{passes_by, says_by, stack_ghosts}
+use Rattle.span_tracing.proofs.Filters.{answers_by, says_by, stack_ghosts}
 use Rattle.span_tracing.proofs.Handed.{found}
 use Rattle.span_tracing.proofs.Keeping.{only_stack, stack_at}
 
@@ -80,16 +80,16 @@ above (Some top) level greatest b w is rank e = w (let same : greatest ≡ top =
 
 module _ {F : Type 0} (g : Ghosts F) where
   -- what is kept tells each answer that the filter may give
-  known_passes : (o : Option F) (m : PlainMetadata) (v : View) (k : PlainInterest) (greatest : ℕ) (b : Bool) → HonestBy g o → SaysBy g o m k → greatest ≡ level_of (hint_by g o) → IsReal m → known greatest m.level k ≡ Some b → Passes g o m v b
+  known_passes : (o : Option F) (m : PlainMetadata) (v : View) (k : PlainInterest) (greatest : ℕ) (b : Bool) → HonestBy g o → SaysBy g o m k → greatest ≡ level_of (hint_by g o) → IsReal m → known greatest m.level k ≡ Some b → WouldPass g o m v b
   known_passes None m v k greatest b honest says top real is = absurd says
   known_passes (Some f) m v k greatest b honest says top real is = by_level (nat_le m.level greatest) refl is
     where
-      by_kept : (k : PlainInterest) → g.says f m k → known_by k ≡ Some b → Passes g (Some f) m v b
+      by_kept : (k : PlainInterest) → g.says f m k → known_by k ≡ Some b → WouldPass g (Some f) m v b
       by_kept Never says is = inr (λ c a. (g.fair f honest).interest m v c Never a says ∙ (let e : false ≡ b = cc in e))
       by_kept Sometimes says is = absurd (cc)
       by_kept Always says is = inr (λ c a. (g.fair f honest).interest m v c Always a says ∙ (let e : true ≡ b = cc in e))
 
-      by_level : (c : Bool) → nat_le m.level greatest ≡ c → (if c then known_by k else Some false) ≡ Some b → Passes g (Some f) m v b
+      by_level : (c : Bool) → nat_le m.level greatest ≡ c → (if c then known_by k else Some false) ≡ Some b → WouldPass g (Some f) m v b
       by_level true e is = by_kept k says is
       by_level false e is = inr (λ c a. above (g.hint f) m.level greatest c ((g.fair f honest).below m v c a) top real e ∙ (let e : false ≡ b = cc in e))
 
@@ -180,21 +180,21 @@ module _ {F : Type 0} (g : Ghosts F) where
   -- the hub answers what is known, or asks the stack
   answered : (e : Entry (StackValue F)) (row : Row Site) (at : At) (c : PlainCallsite) (greatest : ℕ) (o : Option Bool) (answer : Bool) (fs : List (Entry (StackValue F))) → HonestBy g e.subscriber.filter → RowFits g (Some e.subscriber) (Some c) (Some row) →
       greatest ≡ level_of (hint_by g e.subscriber.filter) → known greatest row.level row.interest ≡ o → AnswerGives (stack_ghosts g) ghosts row at o (Some e.serial) (e ∷ []) answer fs →
-      (fs ≡ e ∷ []) × Passes g e.subscriber.filter (made_with c) (view_in e.subscriber.registry at) answer
+      (fs ≡ e ∷ []) × WouldPass g e.subscriber.filter (made_with c) (view_in e.subscriber.registry at) answer
   answered e row at c greatest (Some b) answer fs honest fits top is w =
       let told : known greatest c.metadata.level row.interest ≡ Some b = ap (λ n. known greatest n row.interest) (sym fits.2) ∙ is in
-      (w.1, subst (Passes g e.subscriber.filter (made_with c) (view_in e.subscriber.registry at)) (sym w.0) (known_passes g e.subscriber.filter (made_with c) (view_in e.subscriber.registry at) row.interest greatest b honest fits.0 top fits.3 told))
+      (w.1, subst (WouldPass g e.subscriber.filter (made_with c) (view_in e.subscriber.registry at)) (sym w.0) (known_passes g e.subscriber.filter (made_with c) (view_in e.subscriber.registry at) row.interest greatest b honest fits.0 top fits.3 told))
   answered e row at c greatest None answer fs honest fits top is w =
       let given : AskGivesAt (stack_ghosts g) (own_metadata row.callsite.callsite) at e.serial (e ∷ []) (Some e) answer fs = subst (λ o. AskGivesAt (stack_ghosts g) (own_metadata row.callsite.callsite) at e.serial (e ∷ []) o answer fs) (found e) w in
       let same = asked_same e.subscriber (own_metadata row.callsite.callsite) at answer given.0 given.2 in (
         given.3 ∙ changed_same e given.0 same.0,
-        passes_by g e.subscriber.filter (made_with c) (view_in e.subscriber.registry at) answer (subst (λ m. MayPass g e.subscriber m at answer) fits.1 same.1),
+        answers_by g e.subscriber.filter (made_with c) (view_in e.subscriber.registry at) answer (subst (λ m. MayPass g e.subscriber m at answer) fits.1 same.1),
       )
 
   -- where the stack is reached
   gate_reached : (e : Entry (StackValue F)) (t u : Table (StackValue F) Site) (at : At) (c : Option PlainCallsite) (row : Option (Row Site)) (result : Option Bool) → t.entries ≡ e ∷ [] → reached t at.lane ≡ Some e.serial → HonestBy g e.subscriber.filter → RowFits g (Some e.subscriber) c row →
       t.greatest ≡ level_of (hint_by g e.subscriber.filter) → GateGivesAt (stack_ghosts g) ghosts t row at result u →
-      (u ≡ t) × AskedOf true c (λ c b. Passes g e.subscriber.filter (made_with c) (view_in e.subscriber.registry at) b) (mask_by result)
+      (u ≡ t) × AskedOf true c (λ c b. WouldPass g e.subscriber.filter (made_with c) (view_in e.subscriber.registry at) b) (mask_by result)
   gate_reached e t u at None None result one leads honest fits top w = (w.1, ap mask_by w.0)
   gate_reached e t u at None (Some row) result one leads honest fits top w = absurd fits
   gate_reached e t u at (Some c) None result one leads honest fits top w = absurd fits
@@ -210,7 +210,7 @@ module _ {F : Type 0} (g : Ghosts F) where
 
   -- the gate changes nothing, and tells what the stack's filter answers
   pub gate_tells : (p : TraceParts F) (u : Table (StackValue F) Site) (number : ℕ) (at : At) (result : Option Bool) → IsSound g p → at.lane < length p.threads.items → was_set p.hub.global ≡ true → GateGives (stack_ghosts g) ghosts p.hub number at result u →
-      (u ≡ p.hub) × AskedOf true (callsite_named (map plain_callsite p.callsites.items) number) (λ c b. Passes g (filter_at (stack_in p)) (made_with c) (view_in (registry_in (stack_in p)) at) b) (mask_by result)
+      (u ≡ p.hub) × AskedOf true (callsite_named (map plain_callsite p.callsites.items) number) (λ c b. WouldPass g (filter_at (stack_in p)) (made_with c) (view_in (registry_in (stack_in p)) at) b) (mask_by result)
   gate_tells p u number at result sound within set gives =
       let there = reached_at p.handle p.hub.global p.hub.entries sound.only set in
       let e = there.entry in
@@ -220,7 +220,7 @@ module _ {F : Type 0} (g : Ghosts F) where
       (subst (λ o. RowFits g o (callsite_named (map plain_callsite p.callsites.items) number) (row_of number p.hub.rows)) stack (row_fits g p number sound))
       (sound.kept.greatest ∙ ap (greatest_of g) stack) gives in (
         told.0,
-        subst (λ (o : Option (StackValue F)). AskedOf true (callsite_named (map plain_callsite p.callsites.items) number) (λ c b. Passes g (filter_at o) (made_with c) (view_in (registry_in o) at) b) (mask_by result)) (sym stack) told.1,
+        subst (λ (o : Option (StackValue F)). AskedOf true (callsite_named (map plain_callsite p.callsites.items) number) (λ c b. WouldPass g (filter_at o) (made_with c) (view_in (registry_in o) at) b) (mask_by result)) (sym stack) told.1,
       )
 
   -- where a request at a callsite is let through, there is a stack

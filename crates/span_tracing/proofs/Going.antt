@@ -22,7 +22,6 @@ use Rattle.span_tracing.specs.Skeletons.{StateValue, skeleton_of, texts_of, time
 use Rattle.span_tracing.specs.Stored.{Acted, Stepped, TakesLines, WantsRoom, mask_by, texts_acted}
 use Rattle.span_tracing.specs.Went.{Went}
 use Rattle.span_tracing.proofs.Agreeing.{after_refused}
-use Rattle.span_tracing.proofs.Filters.{steps_same}
 use Rattle.span_tracing.proofs.Stepping.{takes_none}
 
 module _ {D F : Type 0} (g : Ghosts F) (contents : D → Option Contents) (old new : Trace D F) where
@@ -35,7 +34,7 @@ module _ {D F : Type 0} (g : Ghosts F) (contents : D → Option Contents) (old n
   refused_step v step mask refusal e = record {
     skeleton = sym (after_refused v.skeleton step mask refusal e);
     setting = refl;
-    filter = steps_same g v.filter;
+    filter = rw e refl;
     threads = refl;
     texts = rw e refl;
     starved = rw e refl;
@@ -65,7 +64,7 @@ module _ {D F : Type 0} (g : Ghosts F) (contents : D → Option Contents) (old n
   made_step v later step mask fate e a = record {
     skeleton = rw e a.skeleton;
     setting = a.setting;
-    filter = a.filter;
+    filter = rw e a.filter;
     threads = a.threads;
     texts = rw e a.texts;
     starved = rw e a.starved;

@@ -39,7 +39,7 @@ use Rattle.span_tracing.specs.Stored.{with_more_text}
 use Rattle.span_tracing.specs.Sound.{HasOnly, IsSound}
 use Rattle.span_tracing.specs.Telling.{own_metadata, values_of, values_with, event_of, attributes_of}
 use Rattle.span_tracing.specs.Masks.{Passes, PassesEvent, event_at, place_at}
-use Rattle.span_tracing.proofs.Filters.{passes_by, stack_ghosts, steps_same, tells_by}
+use Rattle.span_tracing.proofs.Filters.{passes_by, stack_ghosts, tells_by}
 use Rattle.span_tracing.specs.declared.action.Request.{Request}
 use Rattle.span_tracing.specs.declared.callsite.Callsite.{Callsite}
 use Rattle.span_tracing.specs.declared.parts.TraceParts.{TraceParts}
@@ -355,7 +355,7 @@ module _ {F : Type 0} (g : Ghosts F) (p : TraceParts F) (u : Table (StackValue F
   count_before : (rest : Rest) (x : StackValue F) (id n : ℕ) → stack_of (Some dispatch) p.hub.entries ≡ Some x → ¬ (handles_of kin_in (registry_in (stack_in p)).spans id ≡ n) → ¬ (handles_of kin_in x.registry.spans id ≡ n)
   count_before rest x id n stood other = subst (λ (o : Option (StackValue F)). ¬ (handles_of kin_in (registry_in o).spans id ≡ n)) (stack_before g p u dispatch handle sound rest x stood) other
 
-  pub clones : (id : ℕ) (at : At) (r : Result ℕ RequestError) → HubGives (stack_ghosts g) (Cloned id at) dispatch p.hub r u → is_open kin_in (registry_in (stack_in p)).spans id ≡ true → ¬ (handles_of kin_in (registry_in (stack_in p)).spans id ≡ 18446744073709551615) → IsSound g new × Heard g (value_in p) (with_one (value_in p) id) (value_in new)
+  pub clones : (id : ℕ) (at : At) (r : Result ℕ RequestError) → HubGives (stack_ghosts g) (Cloned id at) dispatch p.hub r u → is_open kin_in (registry_in (stack_in p)).spans id ≡ true → ¬ (handles_of kin_in (registry_in (stack_in p)).spans id ≡ 18446744073709551615) → IsSound g new × (value_in new ≡ with_one (value_in p) id)
   unfolding Gives
   clones id at r gives there fewer =
       let rest = gives.1 in
@@ -364,8 +364,7 @@ module _ {F : Type 0} (g : Ghosts F) (p : TraceParts F) (u : Table (StackValue F
       let y = one.after in
       let same = clone_given x y id r one.moved.gives (there_before rest x id one.stood there) (count_before rest x id 18446744073709551615 one.stood fewer) in (
         stays_sound rest x y one.stood one.stands one.moved.steps one.only,
-        heard rest x y one.stood one.stands one.moved.steps (λ v. with_one v id)
-            (ap (λ (v : StackValue F). over rest (Some v)) same ∙ ap (λ f. record (with_one (over rest (Some x)) id) { filter = f }) (ap (λ (v : StackValue F). v.filter) (sym same))),
+        later_is rest y one.stands ∙ ap (λ (v : StackValue F). over rest (Some v)) same ∙ ap (λ (v : StateValue F). with_one v id) (sym (before rest x one.stood)),
       )
 
   -- what a span follows from

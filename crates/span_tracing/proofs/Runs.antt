@@ -14,15 +14,13 @@ use Rattle.span_tracing_machine.specs.Machine.{after}
 use Rattle.span_tracing_machine.specs.Missed.{one_more, starved_by}
 use Rattle.span_tracing_machine.specs.State.{Plain, PlainOutput, Turn, plain_after, plain_reply, plain_run, replies_of, missed_by, missed_in, steps_of}
 use Rattle.span_registry_layers.specs.Filter.{Ghosts}
-use Rattle.span_tracing_stack.specs.Answers.{StepsBy}
 use Rattle.span_tracing.specs.declared.trace.Trace.{Trace}
 use Rattle.tracing_appender_rolling.specs.declared.appender.RollingFileAppender.{RollingFileAppender}
-use Rattle.span_tracing.specs.Masks.{Asked}
+use Rattle.span_tracing.specs.Masks.{Asked, FilterAfter, tells_filter}
 use Rattle.span_tracing.specs.Matching.{Agrees, AgreesFiles}
 use Rattle.span_tracing.specs.Skeletons.{StateValue}
 use Rattle.span_tracing.specs.Stored.{AgreesOption, WantsRoom}
-use Rattle.span_tracing.specs.Agreement.{FollowsStep, FollowsRun, GoesInTurn, TraceValue, Wants, value_of, is_memory, replies_done, turns_done, turn_of, skeleton_left, skeleton_run, RunsSteps}
-use Rattle.span_tracing.proofs.Filters.{steps_to}
+use Rattle.span_tracing.specs.Agreement.{FollowsStep, FollowsRun, GoesInTurn, TraceValue, Wants, value_of, is_memory, replies_done, turns_done, turn_of, skeleton_left, skeleton_run, tells_by, RunsSteps}
 
 length-more : {X : Type 0} (xs : List X) (x : X) → length (xs ++ x ∷ []) ≡ suc (length xs)
 length-more [] x = refl
@@ -104,9 +102,9 @@ module _ {F : Type 0} (g : Ghosts F) where
   goes_length filter later s (r ∷ rs) (t ∷ ts) w = ap suc (goes_length w.2.0 later (skeleton_left r s t) rs ts w.2.2)
 
   goes_more : (filter old new : Option F) (s : Skeleton) (replies : List Reply) (turns : List Turn) (reply : Reply) (turn : Turn) → GoesInTurn g filter s replies turns old →
-      Asked g old (skeleton_run s replies turns) turn.step turn.mask → (is_memory reply ≡ true → WantsRoom (skeleton_run s replies turns) turn.step turn.mask) → StepsBy g old new →
+      Asked g old (skeleton_run s replies turns) turn.step turn.mask → (is_memory reply ≡ true → WantsRoom (skeleton_run s replies turns) turn.step turn.mask) → FilterAfter g (tells_by reply (skeleton_run s replies turns) turn) old new →
       GoesInTurn g filter s (replies ++ reply ∷ []) (turns ++ turn ∷ []) new
-  goes_more filter old new s [] [] reply turn w asked room steps = (subst (λ f. Asked g f s turn.step turn.mask) w asked, room, (new, subst (λ f. StepsBy g f new) w steps, refl))
+  goes_more filter old new s [] [] reply turn w asked room steps = (subst (λ f. Asked g f s turn.step turn.mask) w asked, room, (new, subst (λ f. FilterAfter g (tells_by reply s turn) f new) w steps, refl))
   goes_more filter old new s [] (t ∷ ts) reply turn w asked room steps = absurd w
   goes_more filter old new s (r ∷ rs) [] reply turn w asked room steps = absurd w
   goes_more filter old new s (r ∷ rs) (t ∷ ts) reply turn w asked room steps =
@@ -170,7 +168,7 @@ module _ {D F : Type 0} (g : Ghosts F) (contents : D → Option Contents) (first
         each = steps_more w.turns t xs w.each;
         goes = goes_more g first.state.filter old.state.filter new.state.filter first.state.skeleton replies w.turns reply t w.goes
             (subst (λ k. Asked g old.state.filter k x wants.mask) w.left wants.asked) (λ is. subst (λ k. WantsRoom k x wants.mask) w.left wants.room)
-            (steps_to g old.state.filter new.state.filter (ap (λ (v : TraceValue D F). v.state.filter) same));
+            (rw e (ap (λ (v : TraceValue D F). v.state.filter) same));
         left = ap (λ (v : TraceValue D F). v.state.skeleton) same ∙ w.left ∙ sym ended;
         follows = rw (replies_more_done replies reply true e, turns_more_done replies reply w.turns t true e n, append-nil, append-nil)
             (follows_still (replies_done replies) (turns_done replies w.turns) same w.follows);
@@ -185,7 +183,8 @@ module _ {D F : Type 0} (g : Ghosts F) (contents : D → Option Contents) (first
         turns = w.turns ++ t ∷ [];
         each = steps_more w.turns t xs w.each;
         goes = goes_more g first.state.filter old.state.filter new.state.filter first.state.skeleton replies w.turns reply t w.goes
-            (subst (λ k. Asked g old.state.filter k x s.mask) w.left s.asked) (λ is. absurd (false≢true (sym e ∙ is))) s.filter;
+            (subst (λ k. Asked g old.state.filter k x s.mask) w.left s.asked) (λ is. absurd (false≢true (sym e ∙ is)))
+            (rw e (subst (λ k. FilterAfter g (tells_filter k x s.mask) old.state.filter new.state.filter) w.left s.filter));
         left = s.skeleton ∙ ap (λ k. after k x s.mask) w.left ∙ sym ended;
         follows = rw (replies_more_done replies reply false e, turns_more_done replies reply w.turns t false e n)
             (follows_more (replies_done replies) reply (turns_done replies w.turns) x w.follows s);

@@ -28,11 +28,11 @@ use Rattle.span_tracing.specs.Actions.{named_as}
 use Rattle.span_tracing.specs.Done.{SpanDone, SpanRefused, SpanWhy}
 use Rattle.span_tracing.specs.Left.{EventLeft, Heard, IdsFit, PassesSpan, SpanHanded, fate_of, with_made}
 use Rattle.span_tracing.specs.declared.parts.TraceParts.{TraceParts}
-use Rattle.span_tracing.specs.Masks.{AskedOf, IsMask, Passes, PassesEvent, callsite_of, event_at, place_at}
+use Rattle.span_tracing.specs.Masks.{AskedOf, IsMask, Passes, PassesEvent, WouldPass, callsite_of, event_at, place_at}
 use Rattle.span_tracing.specs.Skeletons.{StateValue, skeleton_of, stack_in, texts_of, time_in, told_in, value_in}
 use Rattle.span_tracing.specs.Stored.{Acted, AgreesOption, TakesLines, count_by, mask_by, texts_acted, with_text}
 use Rattle.span_tracing.proofs.Agreeing.{sink_still}
-use Rattle.span_tracing.proofs.Filters.{steps_same, untold_by}
+use Rattle.span_tracing.proofs.Filters.{refused_by, untold_by}
 use Rattle.span_tracing.proofs.Gates.{of_kind}
 use Rattle.span_tracing.proofs.Unrefused.{ids_left, offered, span_unasked}
 
@@ -97,23 +97,23 @@ fate_given told Unwritten list e = rw e refl
 module _ {F : Type 0} (g : Ghosts F) where
   -- an event that was not let through
   pub event_asked : (v : StateValue F) (e : Request) (place : ℕ) (answer : Option Bool) → known_place v.skeleton.callsites e.callsite false ≡ Some place → (answer ≡ Some true → ⊥) →
-      AskedOf v.skeleton.is_global (callsite_named v.skeleton.callsites e.callsite) (λ c b. Passes g v.filter (made_with c) (view_in v.skeleton.registry (place_at e.lane e.moment)) b) (mask_by answer) → IsMask g v.filter v.skeleton (EventStep e) (mask_by answer)
+      AskedOf v.skeleton.is_global (callsite_named v.skeleton.callsites e.callsite) (λ c b. WouldPass g v.filter (made_with c) (view_in v.skeleton.registry (place_at e.lane e.moment)) b) (mask_by answer) → IsMask g v.filter v.skeleton (EventStep e) (mask_by answer)
   unfolding IsMask
   event_asked v e place answer known idle w =
-      asked_map v.skeleton.is_global (callsite_of v.skeleton e.callsite false) (λ c b. Passes g v.filter (made_with c) (view_in v.skeleton.registry (place_at e.lane e.moment)) b)
+      asked_map v.skeleton.is_global (callsite_of v.skeleton e.callsite false) (λ c b. WouldPass g v.filter (made_with c) (view_in v.skeleton.registry (place_at e.lane e.moment)) b)
       (λ c b. PassesEvent g v.filter (event_at c e) (view_in v.skeleton.registry (place_at e.lane e.moment)) b) answer turned
-      (asked_request v.skeleton e.callsite place false (λ c b. Passes g v.filter (made_with c) (view_in v.skeleton.registry (place_at e.lane e.moment)) b) (mask_by answer) known w)
+      (asked_request v.skeleton e.callsite place false (λ c b. WouldPass g v.filter (made_with c) (view_in v.skeleton.registry (place_at e.lane e.moment)) b) (mask_by answer) known w)
     where
-      turned : (site : PlainCallsite) (x : Bool) → answer ≡ Some x → Passes g v.filter (made_with site) (view_in v.skeleton.registry (place_at e.lane e.moment)) x → PassesEvent g v.filter (event_at site e) (view_in v.skeleton.registry (place_at e.lane e.moment)) x
+      turned : (site : PlainCallsite) (x : Bool) → answer ≡ Some x → WouldPass g v.filter (made_with site) (view_in v.skeleton.registry (place_at e.lane e.moment)) x → PassesEvent g v.filter (event_at site e) (view_in v.skeleton.registry (place_at e.lane e.moment)) x
       turned site true is w = absurd (idle is)
-      turned site false is w = untold_by g v.filter (event_at site e) (view_in v.skeleton.registry (place_at e.lane e.moment)) w
+      turned site false is w = untold_by g v.filter (event_at site e) (view_in v.skeleton.registry (place_at e.lane e.moment)) (refused_by g v.filter (made_with site) (view_in v.skeleton.registry (place_at e.lane e.moment)) w)
 
   pub event_dropped : (v : StateValue F) (e : Request) (mask : Mask) → is_made mask ≡ false → Acted g v v (EventStep e) mask Whole
   unfolding acted texts_acted wanted
   event_dropped v e mask idle = record {
     skeleton = refl;
     setting = refl;
-    filter = steps_same g v.filter;
+    filter = refl;
     threads = refl;
     texts = refl;
     starved = rw (made_none v.skeleton e.callsite false mask idle) refl;
@@ -130,13 +130,13 @@ module _ {F : Type 0} (g : Ghosts F) where
     pub takes : TakesLines contents old new (handed_lines (done.fate ∷ []) (offer_of v.skeleton v.texts (time_in v.output) (EventStep e) (mask_by done.answer)))
 
   event_mask : (v : StateValue F) (e : Request) (place : ℕ) (b : Bool) → known_place v.skeleton.callsites e.callsite false ≡ Some place →
-      AskedOf v.skeleton.is_global (callsite_named v.skeleton.callsites e.callsite) (λ c b. Passes g v.filter (made_with c) (view_in v.skeleton.registry (place_at e.lane e.moment)) b) (mask_by (Some true)) →
+      AskedOf v.skeleton.is_global (callsite_named v.skeleton.callsites e.callsite) (λ c b. WouldPass g v.filter (made_with c) (view_in v.skeleton.registry (place_at e.lane e.moment)) b) (mask_by (Some true)) →
       ((c : PlainCallsite) → slice_get v.skeleton.callsites place ≡ Some c → PassesEvent g v.filter (event_at c e) (view_in v.skeleton.registry (place_at e.lane e.moment)) b) → IsMask g v.filter v.skeleton (EventStep e) (mask_by (Some b))
   unfolding IsMask
   event_mask v e place b known w passes =
-      asked_again v.skeleton.is_global (callsite_of v.skeleton e.callsite false) (λ c b. Passes g v.filter (made_with c) (view_in v.skeleton.registry (place_at e.lane e.moment)) b)
+      asked_again v.skeleton.is_global (callsite_of v.skeleton e.callsite false) (λ c b. WouldPass g v.filter (made_with c) (view_in v.skeleton.registry (place_at e.lane e.moment)) b)
       (λ c b. PassesEvent g v.filter (event_at c e) (view_in v.skeleton.registry (place_at e.lane e.moment)) b) b
-      (asked_request v.skeleton e.callsite place false (λ c b. Passes g v.filter (made_with c) (view_in v.skeleton.registry (place_at e.lane e.moment)) b) (mask_by (Some true)) known w)
+      (asked_request v.skeleton e.callsite place false (λ c b. WouldPass g v.filter (made_with c) (view_in v.skeleton.registry (place_at e.lane e.moment)) b) (mask_by (Some true)) known w)
       (λ site is. passes site (at_known v.skeleton e.callsite place false site known is))
 
   event_counted : (v : StateValue F) (e : Request) (place : ℕ) (fate : Fate) → known_place v.skeleton.callsites e.callsite false ≡ Some place → Acted g v (record v { starved = count_by v.starved fate }) (EventStep e) (true ∷ []) fate
@@ -144,14 +144,14 @@ module _ {F : Type 0} (g : Ghosts F) where
   event_counted v e place fate known = record {
     skeleton = refl;
     setting = refl;
-    filter = steps_same g v.filter;
+    filter = refl;
     threads = refl;
     texts = refl;
     starved = rw (made_some v.skeleton e.callsite false place known) refl;
   }
 
   pub event_went : {D : Type 0} (contents : D → Option Contents) (v : StateValue F) (e : Request) (place : ℕ) (b : Bool) (told : PlainTold) (done : EventDone) (old new : Option (RollingFileAppender D)) → known_place v.skeleton.callsites e.callsite false ≡ Some place →
-      AskedOf v.skeleton.is_global (callsite_named v.skeleton.callsites e.callsite) (λ c b. Passes g v.filter (made_with c) (view_in v.skeleton.registry (place_at e.lane e.moment)) b) (mask_by (Some true)) →
+      AskedOf v.skeleton.is_global (callsite_named v.skeleton.callsites e.callsite) (λ c b. WouldPass g v.filter (made_with c) (view_in v.skeleton.registry (place_at e.lane e.moment)) b) (mask_by (Some true)) →
       ((c : PlainCallsite) → slice_get v.skeleton.callsites place ≡ Some c → PassesEvent g v.filter (event_at c e) (view_in v.skeleton.registry (place_at e.lane e.moment)) b) →
       EventLeft b (event_line v.skeleton v.texts (time_in v.output) e place) told →
       ((fate : Fate) (line : List ℕ) → told ≡ line_told fate line → (done.answer ≡ Some true) × TakesLines contents old new (handed_by done.fate (handed_at e.moment line))) →
@@ -186,7 +186,7 @@ module _ {F : Type 0} (g : Ghosts F) where
   span_none v n mask idle = let none = made_none v.skeleton n.callsite true mask idle in record {
     skeleton = rw none refl;
     setting = refl;
-    filter = steps_same g v.filter;
+    filter = rw idle refl;
     threads = refl;
     texts = rw none refl;
     starved = rw none refl;
@@ -201,6 +201,18 @@ module _ {F : Type 0} (g : Ghosts F) where
   unfolding IsMask
   span_mask v n place mask known w = asked_request v.skeleton n.callsite place true (λ c b. Passes g v.filter (made_with c) (view_in v.skeleton.registry (place_at n.lane n.moment)) b) mask known w
 
+  -- where it was not let through it is refused
+  pub span_unpassed : (v : StateValue F) (n : Request) (answer : Option Bool) → (answer ≡ Some true → ⊥) →
+      AskedOf v.skeleton.is_global (callsite_named v.skeleton.callsites n.callsite) (λ c b. WouldPass g v.filter (made_with c) (view_in v.skeleton.registry (place_at n.lane n.moment)) b) (mask_by answer) →
+      AskedOf v.skeleton.is_global (callsite_named v.skeleton.callsites n.callsite) (λ c b. Passes g v.filter (made_with c) (view_in v.skeleton.registry (place_at n.lane n.moment)) b) (mask_by answer)
+  span_unpassed v n answer idle w =
+      asked_map v.skeleton.is_global (callsite_named v.skeleton.callsites n.callsite) (λ c b. WouldPass g v.filter (made_with c) (view_in v.skeleton.registry (place_at n.lane n.moment)) b)
+      (λ c b. Passes g v.filter (made_with c) (view_in v.skeleton.registry (place_at n.lane n.moment)) b) answer turned w
+    where
+      turned : (site : PlainCallsite) (x : Bool) → answer ≡ Some x → WouldPass g v.filter (made_with site) (view_in v.skeleton.registry (place_at n.lane n.moment)) x → Passes g v.filter (made_with site) (view_in v.skeleton.registry (place_at n.lane n.moment)) x
+      turned site true is w = absurd (idle is)
+      turned site false is w = refused_by g v.filter (made_with site) (view_in v.skeleton.registry (place_at n.lane n.moment)) w
+
   pub span_dropped : (v : StateValue F) (n : Request) (place : ℕ) (answer : Option Bool) → known_place v.skeleton.callsites n.callsite true ≡ Some place → (answer ≡ Some true → ⊥) → refusal_of v.skeleton (SpanStep n) [] ≡ None →
       AskedOf v.skeleton.is_global (callsite_named v.skeleton.callsites n.callsite) (λ c b. Passes g v.filter (made_with c) (view_in v.skeleton.registry (place_at n.lane n.moment)) b) (mask_by answer) →
       SpanDone g v v n (record { name = None; fate = Whole; answer = answer })
@@ -213,10 +225,10 @@ module _ {F : Type 0} (g : Ghosts F) where
 
   -- one that the stack was asked of
   pub span_again : (v : StateValue F) (n : Request) (place : ℕ) (b : Bool) → known_place v.skeleton.callsites n.callsite true ≡ Some place →
-      AskedOf v.skeleton.is_global (callsite_named v.skeleton.callsites n.callsite) (λ c b. Passes g v.filter (made_with c) (view_in v.skeleton.registry (place_at n.lane n.moment)) b) (mask_by (Some true)) → PassesSpan g v n place b →
+      AskedOf v.skeleton.is_global (callsite_named v.skeleton.callsites n.callsite) (λ c b. WouldPass g v.filter (made_with c) (view_in v.skeleton.registry (place_at n.lane n.moment)) b) (mask_by (Some true)) → PassesSpan g v n place b →
       AskedOf v.skeleton.is_global (callsite_named v.skeleton.callsites n.callsite) (λ c b. Passes g v.filter (made_with c) (view_in v.skeleton.registry (place_at n.lane n.moment)) b) (mask_by (Some b))
   span_again v n place b known w passes =
-      asked_again v.skeleton.is_global (callsite_named v.skeleton.callsites n.callsite) (λ c b. Passes g v.filter (made_with c) (view_in v.skeleton.registry (place_at n.lane n.moment)) b)
+      asked_again v.skeleton.is_global (callsite_named v.skeleton.callsites n.callsite) (λ c b. WouldPass g v.filter (made_with c) (view_in v.skeleton.registry (place_at n.lane n.moment)) b)
       (λ c b. Passes g v.filter (made_with c) (view_in v.skeleton.registry (place_at n.lane n.moment)) b) b w
       (λ site is. passes site (at_known v.skeleton n.callsite place true site known (sym (of_kind v.skeleton n.callsite place true known) ∙ is)))
 
@@ -225,14 +237,14 @@ module _ {F : Type 0} (g : Ghosts F) where
   ids_there s n place known h = rw (sym (span_unasked s n) ∙ h, made_some s n.callsite true place known) refl
 
   pub span_made : (v later : StateValue F) (n : Request) (place id : ℕ) (told : PlainTold) (fate : Fate) → known_place v.skeleton.callsites n.callsite true ≡ Some place → refusal_of v.skeleton (SpanStep n) [] ≡ None →
-      AskedOf v.skeleton.is_global (callsite_named v.skeleton.callsites n.callsite) (λ c b. Passes g v.filter (made_with c) (view_in v.skeleton.registry (place_at n.lane n.moment)) b) (mask_by (Some true)) → PassesSpan g v n place true →
+      AskedOf v.skeleton.is_global (callsite_named v.skeleton.callsites n.callsite) (λ c b. WouldPass g v.filter (made_with c) (view_in v.skeleton.registry (place_at n.lane n.moment)) b) (mask_by (Some true)) → PassesSpan g v n place true →
       v.skeleton.registry.next_id ≤ 18446744073709551615 → id ≡ v.skeleton.registry.next_id → told ≡ text_told fate → Heard g v (with_made v n place fate) later →
       SpanDone g v (record later { starved = count_by later.starved (fate_of told) }) n (record { name = named_as (Some id); fate = fate_of told; answer = Some true })
   unfolding acted answered texts_acted wanted
   span_made v later n place id told fate known h w passes left named is heard =
       let there = made_some v.skeleton n.callsite true place known in
       record {
-        asked = span_mask v n place (true ∷ []) known w;
+        asked = span_mask v n place (true ∷ []) known (span_again v n place true known w passes);
         unrefused = ids_there v.skeleton n place known h ∙ ids_left v.skeleton (Some place) left;
         named = rw (there, named) refl;
         acted = subst (λ (l : StateValue F). Acted g v (record l { starved = count_by l.starved (fate_of told) }) (SpanStep n) (true ∷ []) (fate_of told)) (sym heard.2)
@@ -248,7 +260,7 @@ module _ {F : Type 0} (g : Ghosts F) where
 
   -- what the stack gave of a span
   pub span_handed : (old new : TraceParts F) (n : Request) (place : ℕ) (id : Option ℕ) → SpanHanded g old new n place (Ok id) → known_place (value_in old).skeleton.callsites n.callsite true ≡ Some place → refusal_of (value_in old).skeleton (SpanStep n) [] ≡ None →
-      AskedOf (value_in old).skeleton.is_global (callsite_named (value_in old).skeleton.callsites n.callsite) (λ c b. Passes g (value_in old).filter (made_with c) (view_in (value_in old).skeleton.registry (place_at n.lane n.moment)) b) (mask_by (Some true)) →
+      AskedOf (value_in old).skeleton.is_global (callsite_named (value_in old).skeleton.callsites n.callsite) (λ c b. WouldPass g (value_in old).filter (made_with c) (view_in (value_in old).skeleton.registry (place_at n.lane n.moment)) b) (mask_by (Some true)) →
       SpanDone g (value_in old) (record (value_in new) { starved = count_by (value_in new).starved (fate_of (told_in (stack_in new))) }) n (record { name = named_as id; fate = fate_of (told_in (stack_in new)); answer = Some (is_some id) })
   span_handed old new n place None w known h asked =
       let v = value_in old in
@@ -263,14 +275,14 @@ module _ {F : Type 0} (g : Ghosts F) where
   spent_there next spent = let e : nat_lt 18446744073709551615 next ≡ true = grind (arith, nat_tests) in rw e refl
 
   pub span_refused : (v : StateValue F) (n : Request) (place : ℕ) (error : SpanError) → known_place v.skeleton.callsites n.callsite true ≡ Some place → refusal_of v.skeleton (SpanStep n) [] ≡ None →
-      AskedOf v.skeleton.is_global (callsite_named v.skeleton.callsites n.callsite) (λ c b. Passes g v.filter (made_with c) (view_in v.skeleton.registry (place_at n.lane n.moment)) b) (mask_by (Some true)) → PassesSpan g v n place true → IdsFit error v.skeleton.registry.next_id →
+      AskedOf v.skeleton.is_global (callsite_named v.skeleton.callsites n.callsite) (λ c b. WouldPass g v.filter (made_with c) (view_in v.skeleton.registry (place_at n.lane n.moment)) b) (mask_by (Some true)) → PassesSpan g v n place true → IdsFit error v.skeleton.registry.next_id →
       SpanRefused g v n error
   span_refused v n place IdsSpent known h w passes fit = record {
-    asked = span_mask v n place (true ∷ []) known w;
+    asked = span_mask v n place (true ∷ []) known (span_again v n place true known w passes);
     why = ids_there v.skeleton n place known h ∙ spent_there v.skeleton.registry.next_id fit;
   }
   span_refused v n place OutOfMemory known h w passes fit = record {
-    asked = span_mask v n place (true ∷ []) known w;
+    asked = span_mask v n place (true ∷ []) known (span_again v n place true known w passes);
     why = (ids_there v.skeleton n place known h ∙ ids_left v.skeleton (Some place) fit, rw (made_some v.skeleton n.callsite true place known) refl);
   }
 
@@ -282,4 +294,4 @@ answer_made (Some false) = refl
 
 pub question_acts : {F : Type 0} (g : Ghosts F) (v : StateValue F) (call : EnabledCall) (mask : Mask) → Acted g v v (EnabledStep call) mask Whole
 unfolding acted texts_acted wanted
-question_acts g v call mask = record { skeleton = refl; setting = refl; filter = steps_same g v.filter; threads = refl; texts = refl; starved = refl }
+question_acts g v call mask = record { skeleton = refl; setting = refl; filter = refl; threads = refl; texts = refl; starved = refl }

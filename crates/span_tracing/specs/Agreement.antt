@@ -13,12 +13,11 @@ use Rattle.span_tracing_machine.specs.Missed.{starved_by}
 use Rattle.span_tracing_machine.specs.Skeleton.{Skeleton, Mask}
 use Rattle.span_tracing_machine.specs.Machine.{after}
 use Rattle.span_tracing_machine.specs.State.{Plain, PlainOutput, Turn, text_of, plain_reply, plain_after, plain_run, replies_of, missed_by, missed_in, steps_of}
-use Rattle.span_tracing_stack.specs.Answers.{StepsBy}
 use Rattle.span_tracing_stack.specs.Stacks.{plain_time}
 use Rattle.span_tracing_stack.specs.declared.setting.Setting.{Setting}
 use Rattle.span_tracing.specs.declared.trace.Trace.{Trace}
 use Rattle.span_tracing.specs.Headline.{HoldsOffered, NothingStarved}
-use Rattle.span_tracing.specs.Masks.{Asked}
+use Rattle.span_tracing.specs.Masks.{Asked, FilterAfter, tells_filter}
 use Rattle.span_tracing.specs.Matching.{Agrees, AgreesFiles}
 use Rattle.span_tracing.specs.Skeletons.{StateValue, skeleton_of, threads_of, texts_of}
 use Rattle.span_tracing.specs.Stored.{WantsRoom}
@@ -36,7 +35,7 @@ turn_of step mask fates = record { step = step; mask = mask; fates = fates }
 pub record FollowsStep {D F : Type 0} (g : Ghosts F) (contents : D → Option Contents) (old new : Trace D F) (reply : Reply) (step : PlainStep) : Type 0 where
   pub mask : Mask
   pub asked : Asked g old.state.filter old.state.skeleton step mask
-  pub filter : StepsBy g old.state.filter new.state.filter
+  pub filter : FilterAfter g (tells_filter old.state.skeleton step mask) old.state.filter new.state.filter
   pub skeleton : new.state.skeleton ≡ after old.state.skeleton step mask
   pub fates : List Fate
   pub kept : KeepsSetup old.state new.state
@@ -75,8 +74,12 @@ skeleton_run s [] turns = s
 skeleton_run s (reply ∷ replies) [] = s
 skeleton_run s (reply ∷ replies) (turn ∷ turns) = skeleton_run (skeleton_left reply s turn) replies turns
 
--- at each step the filter is asked afresh, and one that was told of spans says what it said; want of memory is answered where nothing
--- else stands in the way, for a span that the filter passed or an entry
+-- whether a step that was answered so tells the filter of a span
+abbrev pub tells_by : Reply → Skeleton → Turn → Bool
+tells_by reply s turn = if is_memory reply then false else tells_filter s turn.step turn.mask
+
+-- at each step the filter is asked afresh, and is as it was, or with the same word where it was told of a span; want of memory is answered
+-- where nothing else stands in the way, for a span that the filter passed or an entry
 abbrev pub GoesInTurn : {F : Type 0} → Ghosts F → Option F → Skeleton → List Reply → List Turn → Option F → Type 0
 GoesInTurn g filter s [] [] later = later ≡ filter
 GoesInTurn g filter s [] (turn ∷ turns) later = ⊥
@@ -84,7 +87,7 @@ GoesInTurn g filter s (reply ∷ replies) [] later = ⊥
 GoesInTurn {F = F} g filter s (reply ∷ replies) (turn ∷ turns) later =
     Asked g filter s turn.step turn.mask
     × (is_memory reply ≡ true → WantsRoom s turn.step turn.mask)
-    × ((next : Option F) × StepsBy g filter next × GoesInTurn g next (skeleton_left reply s turn) replies turns later)
+    × ((next : Option F) × FilterAfter g (tells_by reply s turn) filter next × GoesInTurn g next (skeleton_left reply s turn) replies turns later)
 
 -- steps in order, as they went
 pub record FollowsRun {D F : Type 0} (contents : D → Option Contents) (old new : Trace D F) (replies : List Reply) (turns : List Turn) : Type 0 where

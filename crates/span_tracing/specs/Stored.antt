@@ -17,7 +17,7 @@ use Rattle.span_tracing_machine.specs.Machine.{refusal_of, acted, after, or_same
 use Rattle.span_tracing_machine.specs.Missed.{TextOf, given_by, wanted, wants_of, starved_by, count_missed}
 use Rattle.span_tracing_machine.specs.State.{PlainText, list_at}
 use Rattle.span_registry_layers.specs.Filter.{Ghosts}
-use Rattle.span_tracing_stack.specs.Answers.{StepsBy}
+use Rattle.span_tracing.specs.Masks.{FilterAfter, hears_of, tells_filter}
 use Rattle.span_tracing.specs.Skeletons.{StateValue, skeleton_of, threads_of, texts_of}
 
 -- the texts of open spans, with that of a new one
@@ -61,7 +61,7 @@ module _ {F : Type 0} (g : Ghosts F) where
   pub record Acted (old new : StateValue F) (step : PlainStep) (mask : Mask) (fate : Fate) : Type 0 where
     pub skeleton : skeleton_of new ≡ acted (skeleton_of old) step mask
     pub setting : new.output ≡ old.output
-    pub filter : StepsBy g old.filter new.filter
+    pub filter : FilterAfter g (hears_of step mask) old.filter new.filter
     pub threads : threads_of new ≡ threads_of old
     pub texts : texts_of new ≡ texts_acted (skeleton_of old) (texts_of old) step mask fate
     pub starved : new.starved ≡ starved_by old.starved (count_missed (fate ∷ []) (wanted (skeleton_of old) step mask))
@@ -70,7 +70,7 @@ module _ {F : Type 0} (g : Ghosts F) where
   pub record Stepped (old new : StateValue F) (step : PlainStep) (mask : Mask) (fate : Fate) : Type 0 where
     pub skeleton : skeleton_of new ≡ after (skeleton_of old) step mask
     pub setting : new.output ≡ old.output
-    pub filter : StepsBy g old.filter new.filter
+    pub filter : FilterAfter g (tells_filter (skeleton_of old) step mask) old.filter new.filter
     pub threads : threads_of new ≡ threads_of old
     pub texts : texts_of new ≡ or_same (refusal_of (skeleton_of old) step mask) (texts_of old) (texts_acted (skeleton_of old) (texts_of old) step mask fate)
     pub starved : new.starved ≡ starved_by old.starved (count_missed (fate ∷ []) (wants_of (skeleton_of old) step mask))

@@ -7,7 +7,7 @@ ghost use Rattle.span_tracing_machine.specs.State.{callsite_named};
 ghost use Rattle.span_tracing_machine.specs.declared.refusal.Refusal.TheVariants.{GlobalSet, UnknownStack};
 ghost use Rattle.span_tracing.specs.Actions.{plain_action};
 ghost use Rattle.span_tracing_stack.specs.Answers.{view_in};
-ghost use Rattle.span_tracing.specs.Masks.{AskedOf, Passes, place_at};
+ghost use Rattle.span_tracing.specs.Masks.{AskedOf, WouldPass, place_at};
 ghost use Rattle.span_tracing.specs.Skeletons.{plain_callsite, skeleton_of, value_in};
 ghost use Rattle.span_tracing.specs.Stored.{mask_by};
 
@@ -309,7 +309,7 @@ impl<F: Filter> TraceParts<F> {
         requires sound { IsSound ⟦<F as Filter>⟧ self.old }
         requires lane { lane < length self.old.threads.items }
         ensures asked { AskedOf (skeleton_of (value_in self.old)).is_global (callsite_named (skeleton_of (value_in self.old)).callsites number)
-            (λ c b. Passes ⟦<F as Filter>⟧ (value_in self.old).filter (made_with c) (view_in (skeleton_of (value_in self.old)).registry (place_at lane moment)) b) (mask_by result) }
+            (λ c b. WouldPass ⟦<F as Filter>⟧ (value_in self.old).filter (made_with c) (view_in (skeleton_of (value_in self.old)).registry (place_at lane moment)) b) (mask_by result) }
         ensures kept { self.new ≡ self.old }
     {
         if !self.hub.has_been_set() {

@@ -181,7 +181,7 @@ impl<F: Filter> TraceParts<F> {
         requires there { is_open kin_in (registry_in (stack_in self.old)).spans id ≡ true }
         requires fewer { ¬ (handles_of kin_in (registry_in (stack_in self.old)).spans id ≡ 18446744073709551615) }
         ensures sound { IsSound ⟦<F as Filter>⟧ self.new }
-        ensures left { Heard ⟦<F as Filter>⟧ (value_in self.old) (with_one (value_in self.old) id) (value_in self.new) }
+        ensures left { value_in self.new ≡ with_one (value_in self.old) id }
     {
         let Some(handle) = &self.handle else {
             return;

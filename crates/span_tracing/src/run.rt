@@ -207,8 +207,8 @@ impl<D: Folder, F: Filter> Trace<D, F> {
         }))
     }
 
-    /// Asks whether a request at a callsite would be made on a lane: an event, or a new span. Asking leaves no mark, and takes
-    /// no memory.
+    /// Asks what the stack's filter answers of a callsite on a lane: by it a new span would be made, and an event unless the filter
+    /// refuses the event itself. Asking leaves no mark, and takes no memory.
     pub fn enabled(&mut self, lane: usize, moment: Moment, callsite: Identifier) -> Reply
         ensures follows { FollowsStep ⟦<F as Filter>⟧ D.contents self.old self.new result (EnabledStep (record { lane = lane; moment = moment; callsite = callsite })) }
         ensures still { self.new ≡ self.old }

@@ -6,7 +6,7 @@ use Rattle.span_tracing_machine.specs.declared.fate.Fate.TheVariants.{Whole}
 use Rattle.span_tracing_machine.specs.PlainData.{EventStep}
 use Rattle.span_tracing_machine.specs.State.{callsite_named}
 use Rattle.span_tracing_stack.specs.Answers.{view_in}
-use Rattle.span_tracing.specs.Masks.{AskedOf, Passes, place_at}
+use Rattle.span_tracing.specs.Masks.{AskedOf, WouldPass, place_at}
 use Rattle.span_tracing.specs.Stored.{Acted, TakesLines, count_by, mask_by}
 use Rattle.span_tracing_machine.proofs.Refusing.{moment_fits}
 use Rattle.span_tracing.specs.Actions.{plain_request}
@@ -59,7 +59,7 @@ returns-clause-asked g c =
     let e = plain_request c.args.event.now in
     let known : known_place v.skeleton.callsites e.callsite false ≡ Some c.in-Some.place = sym (rw (c.as_slice.ensures.value) at c.known_place.ensures.value) ∙ c.in-Some.is in
     let contents = g.D.Folder.contents in
-    let asked = subst (λ (a : Option Bool). AskedOf v.skeleton.is_global (callsite_named v.skeleton.callsites e.callsite) (λ s b. Passes g.F.Filter v.filter (made_with s) (view_in v.skeleton.registry (place_at e.lane e.moment)) b) (mask_by a))
+    let asked = subst (λ (a : Option Bool). AskedOf v.skeleton.is_global (callsite_named v.skeleton.callsites e.callsite) (λ s b. WouldPass g.F.Filter v.filter (made_with s) (view_in v.skeleton.registry (place_at e.lane e.moment)) b) (mask_by a))
     (let_through c.ask-answer.result (sym c.unwrap_or.ensures ∙ c.if-not-unwrap_or.false)) c.ask-answer.ensures.asked in
     let tell = rw (c.ask-answer.ensures.kept) at c.tell.ensures in
     let went = event_went g.F.Filter contents v e c.in-Some.place tell.told (told_in (stack_in c.tell.new.self)) c.write_told-done.result c.args.sink.now c.write_told-done.new.sink known asked tell.passes tell.left c.write_told-done.ensures.told c.write_told-done.ensures.dropped in
@@ -72,7 +72,7 @@ returns-clause-acted g c =
     let e = plain_request c.args.event.now in
     let known : known_place v.skeleton.callsites e.callsite false ≡ Some c.in-Some.place = sym (rw (c.as_slice.ensures.value) at c.known_place.ensures.value) ∙ c.in-Some.is in
     let contents = g.D.Folder.contents in
-    let asked = subst (λ (a : Option Bool). AskedOf v.skeleton.is_global (callsite_named v.skeleton.callsites e.callsite) (λ s b. Passes g.F.Filter v.filter (made_with s) (view_in v.skeleton.registry (place_at e.lane e.moment)) b) (mask_by a))
+    let asked = subst (λ (a : Option Bool). AskedOf v.skeleton.is_global (callsite_named v.skeleton.callsites e.callsite) (λ s b. WouldPass g.F.Filter v.filter (made_with s) (view_in v.skeleton.registry (place_at e.lane e.moment)) b) (mask_by a))
     (let_through c.ask-answer.result (sym c.unwrap_or.ensures ∙ c.if-not-unwrap_or.false)) c.ask-answer.ensures.asked in
     let tell = rw (c.ask-answer.ensures.kept) at c.tell.ensures in
     let went = event_went g.F.Filter contents v e c.in-Some.place tell.told (told_in (stack_in c.tell.new.self)) c.write_told-done.result c.args.sink.now c.write_told-done.new.sink known asked tell.passes tell.left c.write_told-done.ensures.told c.write_told-done.ensures.dropped in
@@ -87,7 +87,7 @@ returns-clause-takes g c =
     let e = plain_request c.args.event.now in
     let known : known_place v.skeleton.callsites e.callsite false ≡ Some c.in-Some.place = sym (rw (c.as_slice.ensures.value) at c.known_place.ensures.value) ∙ c.in-Some.is in
     let contents = g.D.Folder.contents in
-    let asked = subst (λ (a : Option Bool). AskedOf v.skeleton.is_global (callsite_named v.skeleton.callsites e.callsite) (λ s b. Passes g.F.Filter v.filter (made_with s) (view_in v.skeleton.registry (place_at e.lane e.moment)) b) (mask_by a))
+    let asked = subst (λ (a : Option Bool). AskedOf v.skeleton.is_global (callsite_named v.skeleton.callsites e.callsite) (λ s b. WouldPass g.F.Filter v.filter (made_with s) (view_in v.skeleton.registry (place_at e.lane e.moment)) b) (mask_by a))
     (let_through c.ask-answer.result (sym c.unwrap_or.ensures ∙ c.if-not-unwrap_or.false)) c.ask-answer.ensures.asked in
     let tell = rw (c.ask-answer.ensures.kept) at c.tell.ensures in
     let went = event_went g.F.Filter contents v e c.in-Some.place tell.told (told_in (stack_in c.tell.new.self)) c.write_told-done.result c.args.sink.now c.write_told-done.new.sink known asked tell.passes tell.left c.write_told-done.ensures.told c.write_told-done.ensures.dropped in

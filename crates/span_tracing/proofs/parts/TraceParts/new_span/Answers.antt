@@ -5,9 +5,9 @@ use Rattle.span_tracing_machine.specs.State.{callsite_named}
 use Rattle.span_tracing_stack.specs.Answers.{view_in}
 use Rattle.span_tracing.specs.declared.parts.TraceParts.{TraceParts}
 use Rattle.span_tracing.specs.Left.{SpanHanded}
-use Rattle.span_tracing.specs.Masks.{AskedOf, Passes, place_at}
+use Rattle.span_tracing.specs.Masks.{AskedOf, WouldPass, place_at}
 use Rattle.span_tracing.specs.Stored.{mask_by}
-use Rattle.span_tracing.proofs.Stepping.{let_through, not_through, span_dropped, span_handed, span_refused}
+use Rattle.span_tracing.proofs.Stepping.{let_through, not_through, span_dropped, span_handed, span_refused, span_unpassed}
 use Rattle.span_tracing.specs.Actions.{plain_request}
 use Rattle.span_tracing.specs.Skeletons.{skeleton_of, value_in}
 use Rattle.span_tracing.proofs.Unrefused.{span_known, span_lane, span_parent}
@@ -30,7 +30,7 @@ returns-then-not-unwrap_or-clause-made g c =
     let n = plain_request c.args.span.now in
     let known : known_place v.skeleton.callsites n.callsite true ≡ Some c.in-Some.place = sym (rw (c.as_slice.ensures.value) at c.known_place.ensures.value) ∙ c.in-Some.is in
     let idle = not_through c.ask-answer.result (sym c.unwrap_or.ensures ∙ c.if-not-unwrap_or.true) in
-    rw (c.ask-answer.ensures.kept) (span_dropped g.F.Filter v n c.in-Some.place c.ask-answer.result known idle c.requires.unrefused c.ask-answer.ensures.asked)
+    rw (c.ask-answer.ensures.kept) (span_dropped g.F.Filter v n c.in-Some.place c.ask-answer.result known idle c.requires.unrefused (span_unpassed g.F.Filter v n c.ask-answer.result idle c.ask-answer.ensures.asked))
 
 pub returns-in_err-id-clause-refused : goal.returns-in_err-id-clause-refused
 returns-in_err-id-clause-refused g c =
@@ -38,7 +38,7 @@ returns-in_err-id-clause-refused g c =
     let v = value_in p in
     let n = plain_request c.args.span.now in
     let known : known_place v.skeleton.callsites n.callsite true ≡ Some c.in-Some.place = sym (rw (c.as_slice.ensures.value) at c.known_place.ensures.value) ∙ c.in-Some.is in
-    let asked = subst (λ (a : Option Bool). AskedOf v.skeleton.is_global (callsite_named v.skeleton.callsites n.callsite) (λ s b. Passes g.F.Filter v.filter (made_with s) (view_in v.skeleton.registry (place_at n.lane n.moment)) b) (mask_by a))
+    let asked = subst (λ (a : Option Bool). AskedOf v.skeleton.is_global (callsite_named v.skeleton.callsites n.callsite) (λ s b. WouldPass g.F.Filter v.filter (made_with s) (view_in v.skeleton.registry (place_at n.lane n.moment)) b) (mask_by a))
     (let_through c.ask-answer.result (sym c.unwrap_or.ensures ∙ c.if-not-unwrap_or.false)) c.ask-answer.ensures.asked in
     let told = err_from_is_err_and c.from_residual.result c.from_residual.ensures.1 in
     let spared = rw (c.ask-answer.ensures.kept) at c.in_err-id.ensures in
@@ -50,7 +50,7 @@ returns-clause-made g c =
     let v = value_in p in
     let n = plain_request c.args.span.now in
     let known : known_place v.skeleton.callsites n.callsite true ≡ Some c.in-Some.place = sym (rw (c.as_slice.ensures.value) at c.known_place.ensures.value) ∙ c.in-Some.is in
-    let asked = subst (λ (a : Option Bool). AskedOf v.skeleton.is_global (callsite_named v.skeleton.callsites n.callsite) (λ s b. Passes g.F.Filter v.filter (made_with s) (view_in v.skeleton.registry (place_at n.lane n.moment)) b) (mask_by a))
+    let asked = subst (λ (a : Option Bool). AskedOf v.skeleton.is_global (callsite_named v.skeleton.callsites n.callsite) (λ s b. WouldPass g.F.Filter v.filter (made_with s) (view_in v.skeleton.registry (place_at n.lane n.moment)) b) (mask_by a))
     (let_through c.ask-answer.result (sym c.unwrap_or.ensures ∙ c.if-not-unwrap_or.false)) c.ask-answer.ensures.asked in
     let handed = subst (λ (q : TraceParts g.row.F.Denot). SpanHanded g.F.Filter q c.make_span.new.self n c.in-Some.place (Ok c.in_ok-id.id)) c.ask-answer.ensures.kept c.in_ok-id.ensures in
     rw (c.count.ensures.counted, c.text_fate-fate.ensures, c.name_of.ensures, c.is_some.ensures) (span_handed g.F.Filter p c.make_span.new.self n c.in-Some.place c.in_ok-id.id handed known c.requires.unrefused asked)
