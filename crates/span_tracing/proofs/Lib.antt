@@ -17,3 +17,4 @@ pub mod Going
 pub mod Runs
 pub mod Texts
 pub mod Holding
+pub mod Levels

@@ -13,3 +13,4 @@ pub mod Agreement
 pub mod Routes
 pub mod Outputs
 pub mod Setup
+pub mod Laws

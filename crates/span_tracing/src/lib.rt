@@ -6,6 +6,7 @@ mod callsite;
 mod checks;
 mod entries;
 mod hand;
+mod laws;
 mod output;
 mod parts;
 mod requests;
@@ -18,6 +19,7 @@ mod state;
 mod steps;
 mod trace;
 
+pub use laws::levels_give_masks;
 pub use output::{Output, OutputRefusal, Route, SinkSpec};
 pub use setup::StackRefusal;
 pub use span_registry_layers::OutputKey;
