@@ -1,6 +1,6 @@
 //! A stack.
 
-ghost use Rattle.std.specs.Prelude.{◌≡◌, ◌<◌, ◌≤◌, IfNone, IfSome, Some};
+ghost use Rattle.std.specs.Prelude.{◌≡◌, Some};
 ghost use Rattle.std.specs.Option.{option_copied, option_map};
 ghost use Rattle.span_registry_layers.specs.Registries.{PlainSpan, kin_in};
 ghost use Rattle.span_registry_layers.specs.Spans.{found, handles_of, is_open};
@@ -130,14 +130,6 @@ impl<F: Filter> Stack<F> {
             None => None,
             Some(span) => Some(span.fields().callsite().0),
         }
-    }
-
-    /// The next span's id, where one is left.
-    pub fn next_id(&self) -> Option<u64>
-        ensures some { IfSome result (λ id. (id ≡ self.now.registry.next_id) × (id ≤ 18446744073709551615)) }
-        ensures none { IfNone result (18446744073709551615 < self.now.registry.next_id) }
-    {
-        self.state.outputs.registry().next_id()
     }
 
     /// The line of the last event, where nothing on spans was asked since, it passed, and its line found memory.

@@ -75,7 +75,7 @@ fn what_is_not_open_is_refused(rt: HostRuntime) -> Result<(), Fail> {
         Err(RequestError::UnknownParent)
     );
     assert_eq!(rt; line_in(&hub, &handle), None);
-    let stack = hub.subscriber(&handle).ok_or("the stack")?;
-    assert_eq!(rt; stack.next_id(), Some(1));
+    let first = make(&mut hub, &handle, 0, "first", 1)?;
+    assert_eq!(rt; first.into_u64(), 1);
     Ok(())
 }

@@ -18,8 +18,8 @@ fn handles_are_counted(rt: HostRuntime) -> Result<(), Fail> {
     assert!(rt; !is_open(&hub, &handle, span));
     assert_eq!(rt; handles_of(&hub, &handle, span), 0);
     assert!(rt; !hub.try_close(&handle, span, at(0)));
-    let stack = hub.subscriber(&handle).ok_or("the stack")?;
-    assert_eq!(rt; stack.next_id(), Some(2));
+    let next = make(&mut hub, &handle, 0, "next", 2)?;
+    assert_eq!(rt; next.into_u64(), 2);
     Ok(())
 }
 

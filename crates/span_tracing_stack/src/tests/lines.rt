@@ -29,7 +29,8 @@ fn a_dropped_request_has_no_line(rt: HostRuntime) -> Result<(), Fail> {
     assert_eq!(rt; hub.new_span(&handle, &attributes, at(0)), Ok(None));
     let stack = hub.subscriber(&handle).ok_or("the stack")?;
     assert!(rt; !stack.is_starved());
-    assert_eq!(rt; stack.next_id(), Some(1));
+    let first = make(&mut hub, &handle, 0, "first", 1)?;
+    assert_eq!(rt; first.into_u64(), 1);
     Ok(())
 }
 
