@@ -10,6 +10,7 @@ pub use Rattle.span_registry_layers_store.specs.Keeping
 pub use Rattle.span_registry_layers_store.specs.Views
 pub use Rattle.span_registry_layers_store.specs.References
 pub use Rattle.span_registry_layers_store.specs.Laws
+pub use Rattle.span_registry_layers_store.specs.Aside
 pub use Rattle.span_registry_layers_store.specs.Copies
 pub use Rattle.span_registry_layers_store.specs.SlotLoans
 pub use Rattle.span_registry_layers_store.specs.Lookups
@@ -20,6 +21,7 @@ pub use Rattle.span_registry_layers_layers.specs.Optional
 pub use Rattle.span_registry_layers_layers.specs.Functions
 pub use Rattle.span_registry_layers_layers.specs.Notices
 pub use Rattle.span_registry_layers_layers.specs.Lending
+pub use Rattle.span_registry_layers_layers.specs.ContextLoans
 pub use Rattle.span_registry_layers_layers.specs.Contexts
 pub use Rattle.span_registry_layers_layers.specs.Dynamic
 pub use Rattle.span_registry_layers_layers.specs.Layereds
@@ -83,3 +85,6 @@ pub use Rattle.span_registry_layers_stack.specs.Alone
 pub use Rattle.span_registry_layers_stack.proofs.Numbering as NumberingProofs
 pub use Rattle.span_registry_layers_stack.proofs.Alone as AloneProofs
 pub use Rattle.span_registry_layers_stack.proofs.Single as SingleProofs
+pub use Rattle.span_registry_layers_stack.proofs.Written as WrittenProofs
+pub use Rattle.span_registry_layers_store.proofs.Keyed as KeyedProofs
+pub use Rattle.span_registry_layers_layers.proofs.Writing as WritingProofs

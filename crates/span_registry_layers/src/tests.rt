@@ -3,6 +3,7 @@
 mod filters;
 mod layers;
 mod scopes;
+mod slots;
 mod stack;
 mod store;
 mod trees;

@@ -1,5 +1,5 @@
 -- A layer that may be absent: where it is, it vetoes nothing, but its hint is that nothing passes.
-use Rattle.std.specs.Prelude.{◌≡◌, ℕ, Bool, true, false, List, [], Option, Some, None}
+use Rattle.std.specs.Prelude.{◌≡◌, ℕ, Bool, true, false, List, [], Option, Some, None, refl}
 use Rattle.tracing_core.specs.InterestInner.TheVariants.{Always}
 use Rattle.tracing_core.specs.Interests.{PlainInterest}
 use Rattle.tracing_core.specs.PlainMetadata.{PlainMetadata}
@@ -7,7 +7,7 @@ use Rattle.tracing_core.specs.PlainRequests.{PlainEvent}
 use Rattle.tracing_core.specs.Steady.{SameWord}
 use Rattle.span_registry_layers_layers.specs.Honesty.{Fair, OneAnswer}
 use Rattle.span_registry_layers_layers.specs.Looks.{View}
-use Rattle.span_registry_layers_layers.specs.Notices.{Notice}
+use Rattle.span_registry_layers_layers.specs.Notices.{Notice, Untouched, WritesUnder, untouched_writes}
 use Rattle.span_registry_layers_layers.specs.Numbering.{NumbersStay, no_numbers}
 use Rattle.span_registry_layers_layers.specs.declared.layer.Layer.{Ghosts}
 
@@ -29,7 +29,7 @@ module _ {L : Type 0} (g : Ghosts L) where
   hint_of (Some l) = g.hint l
 
   abbrev pub ToldOf : Option L → Notice → Option L → Type 0
-  ToldOf None n None = Unit {0}
+  ToldOf None n None = Untouched n
   ToldOf None n (Some m) = ⊥
   ToldOf (Some l) n None = ⊥
   ToldOf (Some l) n (Some m) = g.told l n m
@@ -69,3 +69,19 @@ module _ {L : Type 0} (g : Ghosts L) where
   pub absent_once : (o : Option L) → IsHonest o → OneAnswer (KeptOf o)
   absent_once None k = absurd k
   absent_once (Some l) k = g.once l k
+
+  abbrev pub keys_of : Option L → ℕ → Bool
+  keys_of None key = false
+  keys_of (Some l) key = g.keys l key
+
+  pub absent_aside : (o : Option L) (n : Notice) (p : Option L) → ToldOf o n p → WritesUnder (keys_of o) n
+  absent_aside None n None t = untouched_writes (λ key. false) n t
+  absent_aside None n (Some m) t = absurd t
+  absent_aside (Some l) n None t = absurd t
+  absent_aside (Some l) n (Some m) t = g.aside l n m t
+
+  pub absent_keyed : (o : Option L) (n : Notice) (p : Option L) → ToldOf o n p → (key : ℕ) → keys_of p key ≡ keys_of o key
+  absent_keyed None n None t key = refl
+  absent_keyed None n (Some m) t key = absurd t
+  absent_keyed (Some l) n None t key = absurd t
+  absent_keyed (Some l) n (Some m) t key = g.keyed l n m t key

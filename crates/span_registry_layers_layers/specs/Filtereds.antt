@@ -7,8 +7,8 @@ use Rattle.span_registry_layers_store.specs.Verdicts.{passes_at}
 use Rattle.span_registry_layers_store.specs.declared.filter_map.FilterId.{FilterId}
 use Rattle.span_registry_layers_layers.specs.Combined.{Both, Then}
 use Rattle.span_registry_layers_layers.specs.Contexts.{span_in}
-use Rattle.span_registry_layers_layers.specs.Looks.{Closed, Entered, Exited, Hook, Recorded, SpanMade, View}
-use Rattle.span_registry_layers_layers.specs.Notices.{Attached, Dispatched, Followed, Happened, Notice, Renamed, Spanned}
+use Rattle.span_registry_layers_layers.specs.Looks.{Hook, View}
+use Rattle.span_registry_layers_layers.specs.Notices.{Attached, Dispatched, Followed, Happened, Notice, Renamed, Spanned, Untouched}
 use Rattle.span_registry_layers_layers.specs.declared.filter.Filter.{Ghosts}
 use Rattle.span_registry_layers_layers.specs.declared.filtered.Filtered.{Filtered}
 use Rattle.span_registry_layers_layers.specs.declared.layer.Layer.{Ghosts as LayerGhosts}
@@ -21,51 +21,47 @@ under filter v = record v { mask = Some filter }
 abbrev pub is_seen : View → ℕ → Bool
 is_seen v id = is_some (span_in v id)
 
-abbrev pub hook_under : ℕ → Hook → Hook
-hook_under filter (SpanMade a id v) = SpanMade a id (under filter v)
-hook_under filter (Recorded id values v) = Recorded id values (under filter v)
-hook_under filter (Entered id v) = Entered id (under filter v)
-hook_under filter (Exited id v) = Exited id (under filter v)
-hook_under filter (Closed id v) = Closed id (under filter v)
-
--- whether the span of the call was passed, when it was made, by the filter and all filters above it
-abbrev pub hook_is_seen : ℕ → Hook → Bool
-hook_is_seen filter (SpanMade a id v) = is_seen (under filter v) id
-hook_is_seen filter (Recorded id values v) = is_seen (under filter v) id
-hook_is_seen filter (Entered id v) = is_seen (under filter v) id
-hook_is_seen filter (Exited id v) = is_seen (under filter v) id
-hook_is_seen filter (Closed id v) = is_seen (under filter v) id
-
 abbrev pub own_number : Option FilterId → List ℕ → List ℕ
 own_number None ns = ns
 own_number (Some filter) ns = filter.index ∷ ns
 
 module _ {L F : Type 0} (g : Ghosts F) (h : LayerGhosts L) where
-  -- the layer is told of a notice, or stays
+  -- the layer is told of a notice, or stays, as the registry does
   abbrev pub LayerToldIf : Bool → Filtered L F → Notice → Filtered L F → Type 0
   LayerToldIf true x n y = h.told x.layer n y.layer × (y ≡ record x { layer = y.layer })
-  LayerToldIf false x n y = y ≡ x
+  LayerToldIf false x n y = (y ≡ x) × Untouched n
 
-  -- the filter hears of a call on a span and the layer is told, or both stay
-  abbrev pub HearsIf : Bool → Filtered L F → Hook → Filtered L F → Type 0
-  HearsIf true x hook y = h.told x.layer (Spanned hook) y.layer × (y ≡ record x { filter = g.after x.filter hook; layer = y.layer })
-  HearsIf false x hook y = y ≡ x
+  -- the filter hears of a call on a span and the layer is told, or both stay, as the registry does
+  abbrev pub HearsIf : Bool → Filtered L F → ℕ → (View → Hook) → View → RegistryValue → Filtered L F → Type 0
+  HearsIf true x id call v left y = h.told x.layer (Spanned id call v left) y.layer × (y ≡ record x { filter = g.after x.filter (call v); layer = y.layer })
+  HearsIf false x id call v left y = (y ≡ x) × (left ≡ v.registry)
+
+  -- the same, where it sees the span
+  abbrev pub HearsSpan : Filtered L F → ℕ → (View → Hook) → View → RegistryValue → Filtered L F → Type 0
+  HearsSpan x id call v left y = HearsIf (is_seen v id) x id call v left y
+
+  -- the layer is told that a span follows another one, where it sees both
+  abbrev pub HearsFollows : Filtered L F → ℕ → ℕ → View → RegistryValue → Filtered L F → Type 0
+  HearsFollows x span follows v left y = LayerToldIf (is_seen v span && is_seen v follows) x (Followed span follows v left) y
 
   -- what the filter, asked afresh, may answer of an event
   abbrev pub MayPass : F → PlainEvent → View → Bool → Type 0
   MayPass filter e v b = Both (g.answers filter e.metadata v) (g.event_answers filter e v) b
 
   -- an event is told where the filter, asked afresh, passes it
-  abbrev pub EventTold : ℕ → Filtered L F → PlainEvent → View → Filtered L F → Type 0
-  EventTold filter x e v y = (b : Bool) × MayPass x.filter e (under filter v) b × LayerToldIf b x (Happened e (under filter v)) y
+  abbrev pub HearsEvent : Filtered L F → PlainEvent → View → RegistryValue → Filtered L F → Type 0
+  HearsEvent x e v left y = (b : Bool) × MayPass x.filter e v b × LayerToldIf b x (Happened e v left) y
+
+  -- the layer is told of a span's new id, where it sees the old one
+  abbrev pub HearsId : Filtered L F → ℕ → ℕ → View → RegistryValue → Filtered L F → Type 0
+  HearsId x old new v left y = LayerToldIf (is_seen v old) x (Renamed old new v left) y
 
   -- with a number: calls on a span are told by what was said of it when it was made
   abbrev pub ToldUnder : FilterId → Filtered L F → Notice → Filtered L F → Type 0
-  ToldUnder filter x (Spanned hook) y = HearsIf (hook_is_seen filter.index hook) x (hook_under filter.index hook) y
-  ToldUnder filter x (Followed span follows v) y =
-      LayerToldIf (is_seen (under filter.index v) span && is_seen (under filter.index v) follows) x (Followed span follows (under filter.index v)) y
-  ToldUnder filter x (Happened e v) y = EventTold filter.index x e v y
-  ToldUnder filter x (Renamed old new v) y = LayerToldIf (is_seen (under filter.index v) old) x (Renamed old new (under filter.index v)) y
+  ToldUnder filter x (Spanned id call v left) y = HearsSpan x id call (under filter.index v) left y
+  ToldUnder filter x (Followed span follows v left) y = HearsFollows x span follows (under filter.index v) left y
+  ToldUnder filter x (Happened e v left) y = HearsEvent x e (under filter.index v) left y
+  ToldUnder filter x (Renamed old new v left) y = HearsId x old new (under filter.index v) left y
   ToldUnder filter x (Dispatched handle) y = LayerToldIf true x (Dispatched handle) y
   ToldUnder filter x (Attached r) y = Unit {0}
 
@@ -73,7 +69,7 @@ module _ {L F : Type 0} (g : Ghosts F) (h : LayerGhosts L) where
   abbrev pub ToldAlone : Filtered L F → Notice → Filtered L F → Type 0
   ToldAlone x (Dispatched handle) y = LayerToldIf true x (Dispatched handle) y
   ToldAlone x (Attached r) y = Unit {0}
-  ToldAlone x other y = y ≡ x
+  ToldAlone x other y = (y ≡ x) × Untouched other
 
   abbrev pub ToldAt : Option FilterId → Filtered L F → Notice → Filtered L F → Type 0
   ToldAt None x n y = ToldAlone x n y

@@ -5,11 +5,12 @@ use Rattle.tracing_core.specs.InterestInner.TheVariants.{Never, Sometimes, Alway
 use Rattle.tracing_core.specs.Interests.{PlainInterest}
 use Rattle.tracing_core.specs.PlainMetadata.{PlainMetadata}
 use Rattle.tracing_core.specs.Steady.{HintFits, InterestFits, SameWord}
+use Rattle.span_registry_layers_store.specs.Aside.{SameButKeys, keys_then}
 use Rattle.span_registry_layers_store.specs.Registries.{RegistryValue}
 use Rattle.span_registry_layers_layers.specs.Combined.{Both, SaysOf, joined_word, then_passed, then_refused}
 use Rattle.span_registry_layers_layers.specs.Honesty.{Fair}
-use Rattle.span_registry_layers_layers.specs.Looks.{View}
-use Rattle.span_registry_layers_layers.specs.Notices.{AddsFilters, Attached, Dispatched, Followed, Happened, Notice, Renamed, Spanned}
+use Rattle.span_registry_layers_layers.specs.Looks.{View, seeing}
+use Rattle.span_registry_layers_layers.specs.Notices.{AddsFilters, Attached, Dispatched, Followed, Happened, Notice, Renamed, Spanned, WritesUnder}
 use Rattle.span_registry_layers_layers.specs.Numbering.{NumbersStay}
 use Rattle.span_registry_layers_layers.specs.declared.layer.Layer.{Ghosts}
 use Rattle.span_registry_layers_layers.specs.declared.layer.layered.Layered.{Layered}
@@ -55,12 +56,13 @@ abbrev pub KeptByBoth : (PlainMetadata → View → Bool → List Bool → Bool 
 KeptByBoth K J m v passes verdicts some = (a : Bool) × (b : Bool) × K m v passes verdicts a × J m v passes verdicts b × (some ≡ (a || b))
 
 module _ {A B : Type 0} (g : Ghosts A) (h : Ghosts B) where
-  -- both are told the same, and attached to the registry in turn
+  -- both are told the same, the inner one first, whose slots the outer one sees; and they are attached to the registry in turn
   abbrev pub ToldBoth : Layered A B → Notice → Layered A B → Type 0
-  ToldBoth l (Spanned hook) m = g.told l.layer (Spanned hook) m.layer × h.told l.inner (Spanned hook) m.inner
-  ToldBoth l (Followed span follows v) m = g.told l.layer (Followed span follows v) m.layer × h.told l.inner (Followed span follows v) m.inner
-  ToldBoth l (Happened e v) m = g.told l.layer (Happened e v) m.layer × h.told l.inner (Happened e v) m.inner
-  ToldBoth l (Renamed old new v) m = g.told l.layer (Renamed old new v) m.layer × h.told l.inner (Renamed old new v) m.inner
+  ToldBoth l (Spanned id call v y) m = (z : RegistryValue) × h.told l.inner (Spanned id call v z) m.inner × g.told l.layer (Spanned id call (seeing z v) y) m.layer
+  ToldBoth l (Followed span follows v y) m =
+      (z : RegistryValue) × h.told l.inner (Followed span follows v z) m.inner × g.told l.layer (Followed span follows (seeing z v) y) m.layer
+  ToldBoth l (Happened e v y) m = (z : RegistryValue) × h.told l.inner (Happened e v z) m.inner × g.told l.layer (Happened e (seeing z v) y) m.layer
+  ToldBoth l (Renamed old new v y) m = (z : RegistryValue) × h.told l.inner (Renamed old new v z) m.inner × g.told l.layer (Renamed old new (seeing z v) y) m.layer
   ToldBoth l (Dispatched handle) m = g.told l.layer (Dispatched handle) m.layer × h.told l.inner (Dispatched handle) m.inner
   ToldBoth l (Attached x) m = (y : RegistryValue) × AddsFilters x y × g.told l.layer (Attached x) m.layer × h.told l.inner (Attached y) m.inner
 
@@ -79,10 +81,10 @@ module _ {A B : Type 0} (g : Ghosts A) (h : Ghosts B) where
       ((outer.0, inner.0), joined_word picked_interest picked_hint outer.1 inner.1)
 
   pub both_stay : (l : Layered A B) (n : Notice) (m : Layered A B) → ToldBoth l n m → BothHonest l → BothHonest m × SameWords l m
-  both_stay l (Spanned hook) m t = stays_each l m (Spanned hook) (Spanned hook) t.0 t.1
-  both_stay l (Followed span follows v) m t = stays_each l m (Followed span follows v) (Followed span follows v) t.0 t.1
-  both_stay l (Happened e v) m t = stays_each l m (Happened e v) (Happened e v) t.0 t.1
-  both_stay l (Renamed old new v) m t = stays_each l m (Renamed old new v) (Renamed old new v) t.0 t.1
+  both_stay l (Spanned id call v y) m t = stays_each l m (Spanned id call (seeing t.0 v) y) (Spanned id call v t.0) t.2 t.1
+  both_stay l (Followed span follows v y) m t = stays_each l m (Followed span follows (seeing t.0 v) y) (Followed span follows v t.0) t.2 t.1
+  both_stay l (Happened e v y) m t = stays_each l m (Happened e (seeing t.0 v) y) (Happened e v t.0) t.2 t.1
+  both_stay l (Renamed old new v y) m t = stays_each l m (Renamed old new (seeing t.0 v) y) (Renamed old new v t.0) t.2 t.1
   both_stay l (Dispatched handle) m t = stays_each l m (Dispatched handle) (Dispatched handle) t.0 t.1
   both_stay l (Attached x) m t = stays_each l m (Attached x) (Attached t.0) t.2 t.3
 
@@ -93,9 +95,35 @@ module _ {A B : Type 0} (g : Ghosts A) (h : Ghosts B) where
   joined_numbers l m a b = ap (λ (ns : List ℕ). ns ++ h.numbers m.inner) a ∙ ap (λ (ns : List ℕ). g.numbers l.layer ++ ns) b
 
   pub both_numbered : (l : Layered A B) (n : Notice) (m : Layered A B) → ToldBoth l n m → NumbersStay n (BothNumbers l) (BothNumbers m)
-  both_numbered l (Spanned hook) m t = joined_numbers l m (g.numbered l.layer (Spanned hook) m.layer t.0) (h.numbered l.inner (Spanned hook) m.inner t.1)
-  both_numbered l (Followed span follows v) m t = joined_numbers l m (g.numbered l.layer (Followed span follows v) m.layer t.0) (h.numbered l.inner (Followed span follows v) m.inner t.1)
-  both_numbered l (Happened e v) m t = joined_numbers l m (g.numbered l.layer (Happened e v) m.layer t.0) (h.numbered l.inner (Happened e v) m.inner t.1)
-  both_numbered l (Renamed old new v) m t = joined_numbers l m (g.numbered l.layer (Renamed old new v) m.layer t.0) (h.numbered l.inner (Renamed old new v) m.inner t.1)
+  both_numbered l (Spanned id call v y) m t = joined_numbers l m (g.numbered l.layer (Spanned id call (seeing t.0 v) y) m.layer t.2) (h.numbered l.inner (Spanned id call v t.0) m.inner t.1)
+  both_numbered l (Followed span follows v y) m t =
+      joined_numbers l m (g.numbered l.layer (Followed span follows (seeing t.0 v) y) m.layer t.2) (h.numbered l.inner (Followed span follows v t.0) m.inner t.1)
+  both_numbered l (Happened e v y) m t = joined_numbers l m (g.numbered l.layer (Happened e (seeing t.0 v) y) m.layer t.2) (h.numbered l.inner (Happened e v t.0) m.inner t.1)
+  both_numbered l (Renamed old new v y) m t = joined_numbers l m (g.numbered l.layer (Renamed old new (seeing t.0 v) y) m.layer t.2) (h.numbered l.inner (Renamed old new v t.0) m.inner t.1)
   both_numbered l (Dispatched handle) m t = joined_numbers l m (g.numbered l.layer (Dispatched handle) m.layer t.0) (h.numbered l.inner (Dispatched handle) m.inner t.1)
   both_numbered l (Attached x) m t = tt
+
+  abbrev pub keys_of : Layered A B → ℕ → Bool
+  keys_of l key = g.keys l.layer key || h.keys l.inner key
+
+  aside_each : (l : Layered A B) (x z y : RegistryValue) → SameButKeys (h.keys l.inner) x z → SameButKeys (g.keys l.layer) z y → SameButKeys (keys_of l) x y
+  aside_each l x z y a b = keys_then (h.keys l.inner) (g.keys l.layer) x z y a b
+
+  pub both_aside : (l : Layered A B) (n : Notice) (m : Layered A B) → ToldBoth l n m → WritesUnder (keys_of l) n
+  both_aside l (Spanned id call v y) m t = aside_each l v.registry t.0 y (h.aside l.inner (Spanned id call v t.0) m.inner t.1) (g.aside l.layer (Spanned id call (seeing t.0 v) y) m.layer t.2)
+  both_aside l (Followed span follows v y) m t = aside_each l v.registry t.0 y (h.aside l.inner (Followed span follows v t.0) m.inner t.1) (g.aside l.layer (Followed span follows (seeing t.0 v) y) m.layer t.2)
+  both_aside l (Happened e v y) m t = aside_each l v.registry t.0 y (h.aside l.inner (Happened e v t.0) m.inner t.1) (g.aside l.layer (Happened e (seeing t.0 v) y) m.layer t.2)
+  both_aside l (Renamed old new v y) m t = aside_each l v.registry t.0 y (h.aside l.inner (Renamed old new v t.0) m.inner t.1) (g.aside l.layer (Renamed old new (seeing t.0 v) y) m.layer t.2)
+  both_aside l (Dispatched handle) m t = tt
+  both_aside l (Attached x) m t = tt
+
+  keyed_each : (l m : Layered A B) (n k : Notice) → g.told l.layer n m.layer → h.told l.inner k m.inner → (key : ℕ) → keys_of m key ≡ keys_of l key
+  keyed_each l m n k a b key = ap (λ p. p || h.keys m.inner key) (g.keyed l.layer n m.layer a key) ∙ ap (λ q. g.keys l.layer key || q) (h.keyed l.inner k m.inner b key)
+
+  pub both_keyed : (l : Layered A B) (n : Notice) (m : Layered A B) → ToldBoth l n m → (key : ℕ) → keys_of m key ≡ keys_of l key
+  both_keyed l (Spanned id call v y) m t key = keyed_each l m (Spanned id call (seeing t.0 v) y) (Spanned id call v t.0) t.2 t.1 key
+  both_keyed l (Followed span follows v y) m t key = keyed_each l m (Followed span follows (seeing t.0 v) y) (Followed span follows v t.0) t.2 t.1 key
+  both_keyed l (Happened e v y) m t key = keyed_each l m (Happened e (seeing t.0 v) y) (Happened e v t.0) t.2 t.1 key
+  both_keyed l (Renamed old new v y) m t key = keyed_each l m (Renamed old new (seeing t.0 v) y) (Renamed old new v t.0) t.2 t.1 key
+  both_keyed l (Dispatched handle) m t key = keyed_each l m (Dispatched handle) (Dispatched handle) t.0 t.1 key
+  both_keyed l (Attached x) m t key = keyed_each l m (Attached x) (Attached t.0) t.2 t.3 key

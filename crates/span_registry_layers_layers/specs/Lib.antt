@@ -5,6 +5,7 @@ pub mod Optional
 pub mod Functions
 pub mod Notices
 pub mod Lending
+pub mod ContextLoans
 pub mod Contexts
 pub mod Dynamic
 pub mod Layereds

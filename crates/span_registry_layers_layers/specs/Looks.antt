@@ -1,5 +1,5 @@
 -- What a filter may look at, as plain data, and the calls that may change it.
-use Rattle.std.specs.Prelude.{ℕ, Option}
+use Rattle.std.specs.Prelude.{◌≡◌, ℕ, Option}
 use Rattle.tracing_core.specs.At.{At}
 use Rattle.tracing_core.specs.PlainRequests.{PlainAttributes, PlainValues}
 use Rattle.span_registry_layers_store.specs.Registries.{RegistryValue}
@@ -14,6 +14,18 @@ pub record View : Type 0 where
 
 abbrev pub view : Context → View
 view c = record { at = c.at; registry = c.registry.now; mask = mask_of c.filter }
+
+-- the registry as it is there
+abbrev pub left : Context → RegistryValue
+left c = c.registry.now
+
+-- the same with another value of the registry
+abbrev pub seeing : RegistryValue → View → View
+seeing x v = record v { registry = x }
+
+-- it is a loan of the same registry, at the same place and under the same filter
+abbrev pub SameLoan : Context → Context → Type 0
+SameLoan c d = (d.registry.ghost_name ≡ c.registry.ghost_name) × (d.at ≡ c.at) × (d.filter ≡ c.filter)
 
 -- a call that may change a filter
 pub data Hook : Type 0 where

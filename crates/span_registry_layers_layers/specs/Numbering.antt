@@ -34,18 +34,18 @@ more_filters count x = record x { filters = x.filters + count }
 
 -- filters keep their numbers, whatever they are told but that they are attached
 abbrev pub NumbersStay : Notice → List ℕ → List ℕ → Type 0
-NumbersStay (Spanned hook) before after = after ≡ before
-NumbersStay (Followed span follows v) before after = after ≡ before
-NumbersStay (Happened e v) before after = after ≡ before
-NumbersStay (Renamed old new v) before after = after ≡ before
+NumbersStay (Spanned id call v y) before after = after ≡ before
+NumbersStay (Followed span follows v y) before after = after ≡ before
+NumbersStay (Happened e v y) before after = after ≡ before
+NumbersStay (Renamed old new v y) before after = after ≡ before
 NumbersStay (Dispatched handle) before after = after ≡ before
 NumbersStay (Attached x) before after = Unit {0}
 
 -- of what has no filters
 pub no_numbers : (n : Notice) → NumbersStay n [] []
-no_numbers (Spanned hook) = refl
-no_numbers (Followed span follows v) = refl
-no_numbers (Happened e v) = refl
-no_numbers (Renamed old new v) = refl
+no_numbers (Spanned id call v y) = refl
+no_numbers (Followed span follows v y) = refl
+no_numbers (Happened e v y) = refl
+no_numbers (Renamed old new v y) = refl
 no_numbers (Dispatched handle) = refl
 no_numbers (Attached x) = tt

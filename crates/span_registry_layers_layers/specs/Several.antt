@@ -1,16 +1,17 @@
 -- Several layers as one: each is told, and where one refuses, nobody is.
-use Rattle.std.specs.Prelude.{◌≡◌, ◌+◌, ◌++◌, ◌<◌, ◌≤◌, ℕ, Bool, true, false, List, [], ◌∷◌, Option, Some, None, refl}
+use Rattle.std.specs.Prelude.{◌≡◌, ◌||◌, ◌+◌, ◌++◌, ◌<◌, ◌≤◌, ℕ, Bool, true, false, List, [], ◌∷◌, Option, Some, None, refl}
 use Rattle.std.proofs.Common.{sym, ap, subst, ◌∙◌, arith, true≢false}
 use Rattle.tracing_core.specs.InterestInner.TheVariants.{Never, Sometimes, Always}
 use Rattle.tracing_core.specs.Interests.{PlainInterest}
 use Rattle.tracing_core.specs.PlainMetadata.{PlainMetadata}
 use Rattle.tracing_core.specs.PlainRequests.{PlainEvent}
 use Rattle.tracing_core.specs.Steady.{HintFits, InterestFits, SameWord}
+use Rattle.span_registry_layers_store.specs.Aside.{SameButKeys, keys_equal, keys_then}
 use Rattle.span_registry_layers_store.specs.Registries.{RegistryValue}
 use Rattle.span_registry_layers_layers.specs.Combined.{Both, either_hint, either_interest, then_passed}
 use Rattle.span_registry_layers_layers.specs.Honesty.{Fair, OneAnswer}
-use Rattle.span_registry_layers_layers.specs.Looks.{View}
-use Rattle.span_registry_layers_layers.specs.Notices.{AddsFilters, Attached, Dispatched, Followed, Happened, Notice, Renamed, Spanned}
+use Rattle.span_registry_layers_layers.specs.Looks.{View, seeing}
+use Rattle.span_registry_layers_layers.specs.Notices.{AddsFilters, Attached, Dispatched, Followed, Happened, Notice, Renamed, Spanned, WritesUnder}
 use Rattle.span_registry_layers_layers.specs.Layereds.{KeptByBoth}
 use Rattle.span_registry_layers_layers.specs.Numbering.{NumbersStay}
 use Rattle.span_registry_layers_layers.specs.Singles.{both_once}
@@ -49,6 +50,13 @@ covers_fits : (h : Option ℕ) (level : ℕ) (b : Bool) → Covers h level → H
 covers_fits None level b a = tt
 covers_fits (Some x) level b a = λ lt. absurd (omega (arith, lt, a))
 
+-- each becomes one that is so related to it, in turn, where each leaves what the next one is given
+abbrev pub EachInTurn : {S A B : Type 0} → (S → A → S → B → Type 0) → S → List A → S → List B → Type 0
+EachInTurn R x [] y [] = y ≡ x
+EachInTurn R x [] y (m ∷ ms) = ⊥
+EachInTurn R x (l ∷ ls) y [] = ⊥
+EachInTurn {S = S} R x (l ∷ ls) y (m ∷ ms) = (z : S) × R x l z m × EachInTurn R z ls y ms
+
 module _ {L : Type 0} (g : Ghosts L) where
   -- asked in turn, until one refuses
   abbrev pub AllAnswer : List L → PlainMetadata → View → Bool → Type 0
@@ -79,12 +87,20 @@ module _ {L : Type 0} (g : Ghosts L) where
   abbrev pub EachTold : Notice → List L → List L → Type 0
   EachTold n = EachBecomes (λ x y. g.told x n y)
 
-  -- each is told the same, and they are attached to the registry in turn
+  -- a layer is told of a notice, by what it sees and what it leaves
+  abbrev pub TellsOne : (View → RegistryValue → Notice) → View → RegistryValue → L → RegistryValue → L → Type 0
+  TellsOne n v x l y m = g.told l (n (seeing x v) y) m
+
+  -- each is told in turn, and sees the slots that those before it wrote
+  abbrev pub TellsInTurn : (View → RegistryValue → Notice) → View → List L → RegistryValue → List L → Type 0
+  TellsInTurn n v xs y ys = EachInTurn (TellsOne n v) v.registry xs y ys
+
+  -- each is told the same in turn, and they are attached to the registry in turn
   abbrev pub ToldEach : List L → Notice → List L → Type 0
-  ToldEach xs (Spanned hook) ys = EachTold (Spanned hook) xs ys
-  ToldEach xs (Followed span follows v) ys = EachTold (Followed span follows v) xs ys
-  ToldEach xs (Happened e v) ys = EachTold (Happened e v) xs ys
-  ToldEach xs (Renamed old new v) ys = EachTold (Renamed old new v) xs ys
+  ToldEach xs (Spanned id call v y) ys = TellsInTurn (Spanned id call) v xs y ys
+  ToldEach xs (Followed span follows v y) ys = TellsInTurn (Followed span follows) v xs y ys
+  ToldEach xs (Happened e v y) ys = TellsInTurn (Happened e) v xs y ys
+  ToldEach xs (Renamed old new v y) ys = TellsInTurn (Renamed old new) v xs y ys
   ToldEach xs (Dispatched handle) ys = EachTold (Dispatched handle) xs ys
   ToldEach xs (Attached x) ys = (z : RegistryValue) × AttachedEach x xs ys z
 
@@ -160,6 +176,20 @@ module _ {L : Type 0} (g : Ghosts L) where
       let later = attached_stays t.0 z xs ys t.3 k.2 in
       ((first.0, wants_still x y first.1 k.1, later.0), same_more x y xs ys first.1 later.1)
 
+  turn_stays : (n : View → RegistryValue → Notice) (v : View) (x : RegistryValue) (xs : List L) (y : RegistryValue) (ys : List L) → EachInTurn (TellsOne n v) x xs y ys → EachWants xs → EachWants ys × SameFrom xs ys
+  turn_stays n v x [] y [] t k = (tt, same_none)
+  turn_stays n v x [] y (m ∷ ms) t k = absurd t
+  turn_stays n v x (l ∷ ls) y [] t k = absurd t
+  turn_stays n v x (l ∷ ls) y (m ∷ ms) t k =
+      let first = g.stays l (n (seeing x v) t.0) m t.1 k.0 in
+      let later = turn_stays n v t.0 ls y ms t.2 k.2 in
+      ((first.0, wants_still l m first.1 k.1, later.0), same_more l m ls ms first.1 later.1)
+
+  honest_turn : (n : View → RegistryValue → Notice) (v : View) (xs : List L) (y : RegistryValue) (ys : List L) → TellsInTurn n v xs y ys → IsHonest xs → IsHonest ys × SameWord (SaysFrom Never xs) (SaysFrom Never ys) (hint_from (Some 0) xs) (hint_from (Some 0) ys)
+  honest_turn n v [] y ys t k = absurd k
+  honest_turn n v (l ∷ ls) y [] t k = absurd t
+  honest_turn n v (l ∷ ls) y (m ∷ ms) t k = let all = turn_stays n v v.registry (l ∷ ls) y (m ∷ ms) t k in (all.0, all.1 Never (Some 0))
+
   honest_told : (n : Notice) (xs ys : List L) → EachTold n xs ys → IsHonest xs → IsHonest ys × SameWord (SaysFrom Never xs) (SaysFrom Never ys) (hint_from (Some 0) xs) (hint_from (Some 0) ys)
   honest_told n [] ys t k = absurd k
   honest_told n (x ∷ xs) [] t k = absurd t
@@ -171,10 +201,10 @@ module _ {L : Type 0} (g : Ghosts L) where
   honest_attached r z (x ∷ xs) (y ∷ ys) t k = let all = attached_stays r z (x ∷ xs) (y ∷ ys) t k in (all.0, all.1 Never (Some 0))
 
   pub several_stay : (xs : List L) (n : Notice) (ys : List L) → ToldEach xs n ys → IsHonest xs → IsHonest ys × SameWord (SaysFrom Never xs) (SaysFrom Never ys) (hint_from (Some 0) xs) (hint_from (Some 0) ys)
-  several_stay xs (Spanned hook) ys t = honest_told (Spanned hook) xs ys t
-  several_stay xs (Followed span follows v) ys t = honest_told (Followed span follows v) xs ys t
-  several_stay xs (Happened e v) ys t = honest_told (Happened e v) xs ys t
-  several_stay xs (Renamed old new v) ys t = honest_told (Renamed old new v) xs ys t
+  several_stay xs (Spanned id call v y) ys t = honest_turn (Spanned id call) v xs y ys t
+  several_stay xs (Followed span follows v y) ys t = honest_turn (Followed span follows) v xs y ys t
+  several_stay xs (Happened e v y) ys t = honest_turn (Happened e) v xs y ys t
+  several_stay xs (Renamed old new v y) ys t = honest_turn (Renamed old new) v xs y ys t
   several_stay xs (Dispatched handle) ys t = honest_told (Dispatched handle) xs ys t
   several_stay xs (Attached x) ys t = honest_attached x t.0 xs ys t.1
 
@@ -200,11 +230,17 @@ module _ {L : Type 0} (g : Ghosts L) where
   same_numbers n f (x ∷ xs) [] t = absurd t
   same_numbers n f (x ∷ xs) (y ∷ ys) t = joined_numbers x y xs ys (f x y t.0) (same_numbers n f xs ys t.1)
 
+  turn_numbers : (n : View → RegistryValue → Notice) (v : View) → ((x y : RegistryValue) (l m : L) → TellsOne n v x l y m → g.numbers m ≡ g.numbers l) → (x : RegistryValue) (xs : List L) (y : RegistryValue) (ys : List L) → EachInTurn (TellsOne n v) x xs y ys → numbers_of ys ≡ numbers_of xs
+  turn_numbers n v f x [] y [] t = refl
+  turn_numbers n v f x [] y (m ∷ ms) t = absurd t
+  turn_numbers n v f x (l ∷ ls) y [] t = absurd t
+  turn_numbers n v f x (l ∷ ls) y (m ∷ ms) t = joined_numbers l m ls ms (f x t.0 l m t.1) (turn_numbers n v f t.0 ls y ms t.2)
+
   pub each_numbered : (n : Notice) (xs ys : List L) → ToldEach xs n ys → NumbersStay n (numbers_of xs) (numbers_of ys)
-  each_numbered (Spanned hook) xs ys t = same_numbers (Spanned hook) (λ x y told. g.numbered x (Spanned hook) y told) xs ys t
-  each_numbered (Followed span follows v) xs ys t = same_numbers (Followed span follows v) (λ x y told. g.numbered x (Followed span follows v) y told) xs ys t
-  each_numbered (Happened e v) xs ys t = same_numbers (Happened e v) (λ x y told. g.numbered x (Happened e v) y told) xs ys t
-  each_numbered (Renamed old new v) xs ys t = same_numbers (Renamed old new v) (λ x y told. g.numbered x (Renamed old new v) y told) xs ys t
+  each_numbered (Spanned id call v y) xs ys t = turn_numbers (Spanned id call) v (λ x z l m told. g.numbered l (Spanned id call (seeing x v) z) m told) v.registry xs y ys t
+  each_numbered (Followed span follows v y) xs ys t = turn_numbers (Followed span follows) v (λ x z l m told. g.numbered l (Followed span follows (seeing x v) z) m told) v.registry xs y ys t
+  each_numbered (Happened e v y) xs ys t = turn_numbers (Happened e) v (λ x z l m told. g.numbered l (Happened e (seeing x v) z) m told) v.registry xs y ys t
+  each_numbered (Renamed old new v y) xs ys t = turn_numbers (Renamed old new) v (λ x z l m told. g.numbered l (Renamed old new (seeing x v) z) m told) v.registry xs y ys t
   each_numbered (Dispatched handle) xs ys t = same_numbers (Dispatched handle) (λ x y told. g.numbered x (Dispatched handle) y told) xs ys t
   each_numbered (Attached r) xs ys t = tt
 
@@ -215,3 +251,51 @@ module _ {L : Type 0} (g : Ghosts L) where
   pub several_once : (xs : List L) → IsHonest xs → OneAnswer (KeptByEach xs)
   several_once [] k = absurd k
   several_once (x ∷ xs) k = each_once (x ∷ xs) k
+
+  abbrev pub keys_of : List L → ℕ → Bool
+  keys_of [] key = false
+  keys_of (x ∷ xs) key = keys_of xs key || g.keys x key
+
+  turn_aside : (n : View → RegistryValue → Notice) (v : View) → ((x y : RegistryValue) (l m : L) → TellsOne n v x l y m → SameButKeys (g.keys l) x y) → (x : RegistryValue) (xs : List L) (y : RegistryValue) (ys : List L) → EachInTurn (TellsOne n v) x xs y ys → SameButKeys (keys_of xs) x y
+  turn_aside n v f x [] y [] t = keys_equal (keys_of []) x y t
+  turn_aside n v f x [] y (m ∷ ms) t = absurd t
+  turn_aside n v f x (l ∷ ls) y [] t = absurd t
+  turn_aside n v f x (l ∷ ls) y (m ∷ ms) t = keys_then (g.keys l) (keys_of ls) x t.0 y (f x t.0 l m t.1) (turn_aside n v f t.0 ls y ms t.2)
+
+  -- they write under the keys of all of them
+  pub each_aside : (n : Notice) (xs ys : List L) → ToldEach xs n ys → WritesUnder (keys_of xs) n
+  each_aside (Spanned id call v y) xs ys t = turn_aside (Spanned id call) v (λ x z l m told. g.aside l (Spanned id call (seeing x v) z) m told) v.registry xs y ys t
+  each_aside (Followed span follows v y) xs ys t = turn_aside (Followed span follows) v (λ x z l m told. g.aside l (Followed span follows (seeing x v) z) m told) v.registry xs y ys t
+  each_aside (Happened e v y) xs ys t = turn_aside (Happened e) v (λ x z l m told. g.aside l (Happened e (seeing x v) z) m told) v.registry xs y ys t
+  each_aside (Renamed old new v y) xs ys t = turn_aside (Renamed old new) v (λ x z l m told. g.aside l (Renamed old new (seeing x v) z) m told) v.registry xs y ys t
+  each_aside (Dispatched handle) xs ys t = tt
+  each_aside (Attached x) xs ys t = tt
+
+  joined_keys : (l m : L) (ls ms : List L) (key : ℕ) → g.keys m key ≡ g.keys l key → keys_of ms key ≡ keys_of ls key → keys_of (m ∷ ms) key ≡ keys_of (l ∷ ls) key
+  joined_keys l m ls ms key a b = ap (λ p. p || g.keys m key) b ∙ ap (λ q. keys_of ls key || q) a
+
+  turn_keyed : (n : View → RegistryValue → Notice) (v : View) (x : RegistryValue) (xs : List L) (y : RegistryValue) (ys : List L) → EachInTurn (TellsOne n v) x xs y ys → (key : ℕ) → keys_of ys key ≡ keys_of xs key
+  turn_keyed n v x [] y [] t key = refl
+  turn_keyed n v x [] y (m ∷ ms) t key = absurd t
+  turn_keyed n v x (l ∷ ls) y [] t key = absurd t
+  turn_keyed n v x (l ∷ ls) y (m ∷ ms) t key = joined_keys l m ls ms key (g.keyed l (n (seeing x v) t.0) m t.1 key) (turn_keyed n v t.0 ls y ms t.2 key)
+
+  told_keyed : (n : Notice) (xs ys : List L) → EachTold n xs ys → (key : ℕ) → keys_of ys key ≡ keys_of xs key
+  told_keyed n [] [] t key = refl
+  told_keyed n [] (m ∷ ms) t key = absurd t
+  told_keyed n (l ∷ ls) [] t key = absurd t
+  told_keyed n (l ∷ ls) (m ∷ ms) t key = joined_keys l m ls ms key (g.keyed l n m t.0 key) (told_keyed n ls ms t.1 key)
+
+  attached_keyed : (x z : RegistryValue) (xs ys : List L) → AttachedEach x xs ys z → (key : ℕ) → keys_of ys key ≡ keys_of xs key
+  attached_keyed x z [] [] t key = refl
+  attached_keyed x z [] (m ∷ ms) t key = absurd t
+  attached_keyed x z (l ∷ ls) [] t key = absurd t
+  attached_keyed x z (l ∷ ls) (m ∷ ms) t key = joined_keys l m ls ms key (g.keyed l (Attached x) m t.2 key) (attached_keyed t.0 z ls ms t.3 key)
+
+  pub each_keyed : (n : Notice) (xs ys : List L) → ToldEach xs n ys → (key : ℕ) → keys_of ys key ≡ keys_of xs key
+  each_keyed (Spanned id call v y) xs ys t = turn_keyed (Spanned id call) v v.registry xs y ys t
+  each_keyed (Followed span follows v y) xs ys t = turn_keyed (Followed span follows) v v.registry xs y ys t
+  each_keyed (Happened e v y) xs ys t = turn_keyed (Happened e) v v.registry xs y ys t
+  each_keyed (Renamed old new v y) xs ys t = turn_keyed (Renamed old new) v v.registry xs y ys t
+  each_keyed (Dispatched handle) xs ys t = told_keyed (Dispatched handle) xs ys t
+  each_keyed (Attached x) xs ys t = attached_keyed x t.0 xs ys t.1

@@ -11,14 +11,15 @@ use Rattle.tracing_core.specs.RequestError.{RequestError}
 use Rattle.tracing_core.specs.RequestError.TheVariants.{UnknownParent}
 use Rattle.tracing_core.specs.Steady.{Agrees, InterestFits, SameWord}
 use Rattle.span_registry_layers_store.specs.Gives.{GivesUnless, clone_refusal, close_refusal, open_refusal, span_refusal}
-use Rattle.span_registry_layers_store.specs.Registries.{PlainSpan, RegistryValue, closing_in, knows, under, with_entry, with_handle, with_span, without_entry, without_handle}
+use Rattle.span_registry_layers_store.specs.Aside.{SameButSlots, ids_of}
+use Rattle.span_registry_layers_store.specs.Registries.{RegistryValue, closing_in, knows, under, with_entry, with_handle, with_span, without_entry, without_handle}
 use Rattle.span_registry_layers_layers.specs.Combined.{same_word}
 use Rattle.span_registry_layers_layers.specs.Honesty.{One}
 use Rattle.span_registry_layers_layers.specs.Looks as looks
 use Rattle.span_registry_layers_layers.specs.Notices.{Dispatched, Followed, Happened, Notice, Spanned}
 use Rattle.span_registry_layers_layers.specs.Numbering.{AreNumbers}
 use Rattle.span_registry_layers_layers.specs.Singles.{both_one}
-use Rattle.span_registry_layers_layers.specs.Trees.{AnswersOf, AsksSpan, ClosesEach, CloseUnless, Closes, IsAttached, IsDropped, LayersTold, Made, MakesSpan, Moves, NewSpanGives, StayAttached, TellsEvent, Where, WhereTaken, over, whole}
+use Rattle.span_registry_layers_layers.specs.Trees.{AnswersOf, AsksSpan, ClosesEach, CloseUnless, Closes, DispatchTold, IsAttached, IsDropped, LayersTold, Made, MakesSpan, Moves, NewSpanGives, StayAttached, TellsEvent, Where, WhereTaken, over, whole}
 use Rattle.span_registry_layers_layers.specs.declared.layer.Layer.{Ghosts}
 use Rattle.span_registry_layers_layers.specs.declared.layer.layered.Layered.{Layered}
 
@@ -59,32 +60,42 @@ module _ {L : Type 0} (g : Ghosts L) where
   none : (s t : Layered L RegistryValue) → t ≡ s → Moved s t
   none s t e = subst (Moved s) (sym e) (refl, reaches_self s.layer)
 
-  told : (n : Notice) (x : RegistryValue) (s t : Layered L RegistryValue) → x.filters ≡ s.inner.filters → (g.told s.layer n t.layer → g.numbers t.layer ≡ g.numbers s.layer) → LayersTold g n (over x s) t → Moved s t
-  told n x s t same f w = (ap (λ (v : Layered L RegistryValue). v.inner.filters) w.1 ∙ same, reaches_told n s.layer t.layer f w.0)
+  -- what is written is slots alone, so the registry has as many filters
+  same_filters : (x y : RegistryValue) → SameButSlots x y → y.filters ≡ x.filters
+  same_filters x y same = ap (λ (v : RegistryValue). v.filters) same
 
-  hook : (h : looks.Hook) (x : RegistryValue) (s t : Layered L RegistryValue) → x.filters ≡ s.inner.filters → LayersTold g (Spanned h) (over x s) t → Moved s t
-  hook h x s t same w = told (Spanned h) x s t same (g.numbered s.layer (Spanned h) t.layer) w
+  told : (n : RegistryValue → Notice) (x : RegistryValue) (s t : Layered L RegistryValue) → x.filters ≡ s.inner.filters → (g.told s.layer (n t.inner) t.layer → g.numbers t.layer ≡ g.numbers s.layer) →
+      (g.told s.layer (n t.inner) t.layer → SameButSlots x t.inner) → LayersTold g n (over x s) t → Moved s t
+  told n x s t same f aside w = (same_filters x t.inner (aside w) ∙ same, reaches_told (n t.inner) s.layer t.layer f w)
+
+  hook : (id : ℕ) (call : looks.View → looks.Hook) (at : At) (x : RegistryValue) (s t : Layered L RegistryValue) → x.filters ≡ s.inner.filters → LayersTold g (Spanned id call (whole at x)) (over x s) t → Moved s t
+  hook id call at x s t same w =
+      told (Spanned id call (whole at x)) x s t same (g.numbered s.layer (Spanned id call (whole at x) t.inner) t.layer) (λ heard. (g.aside s.layer (Spanned id call (whole at x) t.inner) t.layer heard).0) w
+
+  dispatched : (handle : Option ℕ) (s t : Layered L RegistryValue) → DispatchTold g handle s t → Moved s t
+  dispatched handle s t w = (ap (λ (v : Layered L RegistryValue). v.inner.filters) w.1, reaches_told (Dispatched handle) s.layer t.layer (g.numbered s.layer (Dispatched handle) t.layer) w.0)
 
   taken : {A : Type 0} (r : Result A RequestError) (s t : Layered L RegistryValue) (leaves : Layered L RegistryValue → Type 0) → (leaves t → Moved s t) → WhereTaken r s leaves t → Moved s t
   taken (Ok done) s t leaves f w = f w
   taken (Err e) s t leaves f w = none s t w
 
-  each_closes : (ss : List PlainSpan) (at : At) (x : RegistryValue) (layer : L) (y : RegistryValue) (later : L) → ClosesEach g ss at x layer y later → (y.filters ≡ x.filters) × Reaches layer later
+  each_closes : (ids : List ℕ) (at : At) (x : RegistryValue) (layer : L) (y : RegistryValue) (later : L) → ClosesEach g ids at x layer y later → (y.filters ≡ x.filters) × Reaches layer later
   each_closes [] at x layer y later w = (ap (λ (v : RegistryValue). v.filters) w.0, subst (Reaches layer) (sym w.1) (reaches_self layer))
-  each_closes (s ∷ ss) at x layer y later w =
-      let rest = each_closes ss at w.2.0 w.0 y later w.2.2 in
-      let closed = looks.Closed s.kin.id (whole at x) in
-      (rest.0 ∙ ap (λ (v : RegistryValue). v.filters) w.2.1.4, reaches_then layer w.0 later (reaches_told (Spanned closed) layer w.0 (g.numbered layer (Spanned closed) w.0) w.1) rest.1)
+  each_closes (id ∷ ids) at x layer y later (own, z, heard, gone) =
+      let rest = each_closes ids at gone.0 own y later gone.2 in
+      let closed = Spanned id (looks.Closed id) (whole at x) z in
+      let same = same_filters x z (g.aside layer closed own heard).0 in
+      (rest.0 ∙ ap (λ (v : RegistryValue). v.filters) gone.1.4 ∙ same, reaches_then layer own later (reaches_told closed layer own (g.numbered layer closed own) heard) rest.1)
 
   closes : (at : At) (s t : Layered L RegistryValue) → Closes g at s t → Moved s t
-  closes at s t w = each_closes (closing_in s.inner) at s.inner s.layer t.inner t.layer w.0
+  closes at s t w = each_closes (ids_of (closing_in s.inner)) at s.inner s.layer t.inner t.layer w.0
 
   close_unless : (refusal : Option RequestError) (id : ℕ) (at : At) (s : Layered L RegistryValue) (r : Bool) (t : Layered L RegistryValue) → CloseUnless g refusal id at s r t → Moved s t
   close_unless None id at s r t w = closes at (over (without_handle s.inner id) s) t w.1
   close_unless (Some refusal) id at s r t w = none s t w.1
 
   made : (a : PlainAttributes) (at : At) (s : Layered L RegistryValue) (x : RegistryValue) (given : Result ℕ RequestError) (r : Result (Option ℕ) RequestError) (t : Layered L RegistryValue) → x.filters ≡ s.inner.filters → Made g a at s x given r t → Moved s t
-  made a at s x (Ok id) r t e w = hook (looks.SpanMade a id (whole at x)) x s t e w.1
+  made a at s x (Ok id) r t e w = hook id (looks.SpanMade a id) at x s t e w.1
   made a at s x (Err refusal) r t e w = none s t w.1
 
   makes : (a : PlainAttributes) (at : At) (verdicts : List Bool) (s : Layered L RegistryValue) (r : Result (Option ℕ) RequestError) (t : Layered L RegistryValue) → MakesSpan g a at verdicts s r t → Moved s t
@@ -107,33 +118,34 @@ module _ {L : Type 0} (g : Ghosts L) where
       known false k = none s t k.1
 
   moved : (s : Layered L RegistryValue) (c : Call) (r : ReplyTo c) (t : Layered L RegistryValue) → Moves g s c r t → IsAttached g s → Moved s t
-  moved s (DispatchRegistered dispatch) r t w attached = told (Dispatched dispatch) s.inner s t refl (g.numbered s.layer (Dispatched dispatch) t.layer) w
+  moved s (DispatchRegistered dispatch) r t w attached = dispatched dispatch s t w
   moved s (CallsiteRegistered m) r t w attached = none s t w.1
   moved s (Asked m at) r t w attached = none s t w.1
   moved s HintAsked r t w attached = none s t w.1
   moved s (SpanMade a at) r t w attached = new_span a at s r t (w attached)
   moved s (Recorded id values at) r t w attached =
-      let recorded = looks.Recorded id values (whole at s.inner) in taken r s t (LayersTold g (Spanned recorded) s) (hook recorded s.inner s t refl) w.1
+      taken r s t (LayersTold g (Spanned id (looks.Recorded id values) (whole at s.inner)) s) (hook id (looks.Recorded id values) at s.inner s t refl) w.1
   moved s (FollowsRecorded id follows at) r t w attached =
-      let followed = Followed id follows (whole at s.inner) in taken r s t (LayersTold g followed s) (told followed s.inner s t refl (g.numbered s.layer (Followed id follows (whole at s.inner)) t.layer)) w.1
+      let followed = Followed id follows (whole at s.inner) in
+      taken r s t (LayersTold g followed s) (told followed s.inner s t refl (g.numbered s.layer (followed t.inner) t.layer) (λ heard. (g.aside s.layer (followed t.inner) t.layer heard).0)) w.1
   moved s (EventAsked e at) r t w attached = none s t w.1
   moved s (Told e at) r t w attached = known (knows s.inner (explicit_parent e.parent)) w
     where
       heard : (b : Bool) → Where b (LayersTold g (Happened e (whole at s.inner)) s t) (t ≡ s) → Moved s t
-      heard true k = told (Happened e (whole at s.inner)) s.inner s t refl (g.numbered s.layer (Happened e (whole at s.inner)) t.layer) k
+      heard true k = let happened = Happened e (whole at s.inner) in told happened s.inner s t refl (g.numbered s.layer (happened t.inner) t.layer) (λ heard. (g.aside s.layer (happened t.inner) t.layer heard).0) k
       heard false k = none s t k
 
       known : (b : Bool) → Where b ((r ≡ Ok tt) × TellsEvent g e at s t) ((r ≡ Err UnknownParent) × (t ≡ s)) → Moved s t
       known true k = heard k.1.0 k.1.2
       known false k = none s t k.1
   moved s (Entered id at) r t w attached =
-      taken r s t (LayersTold g (Spanned (looks.Entered id (whole at w.0))) (over w.0 s))
-      (hook (looks.Entered id (whole at w.0)) w.0 s t (given_filters (open_refusal s.inner id) s.inner tt (with_entry s.inner at.lane id) r w.0 refl w.1)) w.2
+      taken r s t (LayersTold g (Spanned id (looks.Entered id) (whole at w.0)) (over w.0 s))
+      (hook id (looks.Entered id) at w.0 s t (given_filters (open_refusal s.inner id) s.inner tt (with_entry s.inner at.lane id) r w.0 refl w.1)) w.2
   moved s (Exited id at) r t w attached =
       let x = without_entry s.inner at.lane id in
-      let left = hook (looks.Exited id (whole at x)) x s w.0 refl w.1 in
+      let gone = hook id (looks.Exited id) at x s w.0 refl w.1 in
       let closed = closes at w.0 t w.2 in
-      (closed.0 ∙ left.0, reaches_then s.layer w.0.layer t.layer left.1 closed.1)
+      (closed.0 ∙ gone.0, reaches_then s.layer w.0.layer t.layer gone.1 closed.1)
   moved s (Cloned id at) r t w attached =
       let kept = kept_filters (clone_refusal s.inner id) s.inner (with_handle s.inner id) refl in
       (ap (λ (p : Result ℕ RequestError × RegistryValue). p.1.filters) w.0 ∙ kept, subst (λ (v : Layered L RegistryValue). Reaches s.layer v.layer) (sym w.1) (reaches_self s.layer))

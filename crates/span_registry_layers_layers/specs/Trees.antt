@@ -11,7 +11,8 @@ use Rattle.tracing_core.specs.PlainRequests.{PlainAttributes, PlainEvent, PlainV
 use Rattle.tracing_core.specs.RequestError.{RequestError}
 use Rattle.tracing_core.specs.RequestError.TheVariants.{UnknownParent}
 use Rattle.span_registry_layers_store.specs.Gives.{ClosesNext, EntryGives, IsSettled, SpanGives, clone_gives, close_refusal, follow_refusal, is_closed, open_refusal}
-use Rattle.span_registry_layers_store.specs.Registries.{PlainSpan, RegistryValue, closing_in, current_on, knows, swept, without_entry, without_handle}
+use Rattle.span_registry_layers_store.specs.Aside.{SameButSlots, ids_of}
+use Rattle.span_registry_layers_store.specs.Registries.{RegistryValue, closing_in, current_on, knows, swept, without_entry, without_handle}
 use Rattle.span_registry_layers_layers.specs.Combined.{Both}
 use Rattle.span_registry_layers_layers.specs.Looks.{Hook, View}
 use Rattle.span_registry_layers_layers.specs.Looks as looks
@@ -52,9 +53,13 @@ module _ {L : Type 0} (g : Ghosts L) where
   abbrev pub IsAttached : Layered L RegistryValue → Type 0
   IsAttached s = AreNumbers s.inner.filters (g.numbers s.layer) × (s.inner.filters ≤ 64)
 
-  -- the layers are told of a notice
-  abbrev pub LayersTold : Notice → Layered L RegistryValue → Layered L RegistryValue → Type 0
-  LayersTold n s t = g.told s.layer n t.layer × (t ≡ record s { layer = t.layer })
+  -- the layers are told, and may write slots
+  abbrev pub LayersTold : (RegistryValue → Notice) → Layered L RegistryValue → Layered L RegistryValue → Type 0
+  LayersTold n s t = g.told s.layer (n t.inner) t.layer
+
+  -- a hub took the tree
+  abbrev pub DispatchTold : Option ℕ → Layered L RegistryValue → Layered L RegistryValue → Type 0
+  DispatchTold handle s t = g.told s.layer (Dispatched handle) t.layer × (t ≡ record s { layer = t.layer })
 
   -- some layer is to be told of a request on the callsite: no layer vetoes it, and all filters down to that one pass it
   abbrev pub IsMade : Layered L RegistryValue → PlainMetadata → At → Bool → Type 0
@@ -71,7 +76,7 @@ module _ {L : Type 0} (g : Ghosts L) where
   EventGives e at s r t = Where (knows s.inner (explicit_parent e.parent)) ((r ≡ Ok tt) × TellsEvent e at s t) ((r ≡ Err UnknownParent) × (t ≡ s))
 
   abbrev pub Made : PlainAttributes → At → Layered L RegistryValue → RegistryValue → Result ℕ RequestError → Result (Option ℕ) RequestError → Layered L RegistryValue → Type 0
-  Made a at s x (Ok id) r t = (r ≡ Ok (Some id)) × LayersTold (Spanned (looks.SpanMade a id (whole at x))) (over x s) t
+  Made a at s x (Ok id) r t = (r ≡ Ok (Some id)) × LayersTold (Spanned id (looks.SpanMade a id) (whole at x)) (over x s) t
   Made a at s x (Err e) r t = (r ≡ Err e) × (t ≡ s)
 
   -- the registry makes the span with these verdicts, and the layers are told
@@ -95,7 +100,7 @@ module _ {L : Type 0} (g : Ghosts L) where
 
   abbrev pub RecordGives : ℕ → PlainValues → At → Layered L RegistryValue → Result (Unit {0}) RequestError → Layered L RegistryValue → Type 0
   RecordGives id values at s r t =
-      (r ≡ or_refused (open_refusal s.inner id) tt) × WhereTaken r s (LayersTold (Spanned (looks.Recorded id values (whole at s.inner))) s) t
+      (r ≡ or_refused (open_refusal s.inner id) tt) × WhereTaken r s (LayersTold (Spanned id (looks.Recorded id values) (whole at s.inner)) s) t
 
   abbrev pub FollowsGives : ℕ → ℕ → At → Layered L RegistryValue → Result (Unit {0}) RequestError → Layered L RegistryValue → Type 0
   FollowsGives id follows at s r t =
@@ -103,29 +108,31 @@ module _ {L : Type 0} (g : Ghosts L) where
 
   abbrev pub EnterGives : ℕ → At → Layered L RegistryValue → Result (Unit {0}) RequestError → Layered L RegistryValue → Type 0
   EnterGives id at s r t =
-      (x : RegistryValue) × EntryGives s.inner at.lane id r x × WhereTaken r s (LayersTold (Spanned (looks.Entered id (whole at x))) (over x s)) t
+      (x : RegistryValue) × EntryGives s.inner at.lane id r x × WhereTaken r s (LayersTold (Spanned id (looks.Entered id) (whole at x)) (over x s)) t
 
-  -- these spans close, each told once, in this order, and then forgotten
-  abbrev pub ClosesEach : List PlainSpan → At → RegistryValue → L → RegistryValue → L → Type 0
+  -- the spans of these ids close, each told once, in this order, and then forgotten
+  abbrev pub ClosesEach : List ℕ → At → RegistryValue → L → RegistryValue → L → Type 0
   ClosesEach [] at x layer y later = (y ≡ x) × (later ≡ layer)
-  ClosesEach (s ∷ ss) at x layer y later =
-      (told : L) × g.told layer (Spanned (looks.Closed s.kin.id (whole at x))) told
-      × ((without : RegistryValue) × ClosesNext x s.kin.id without × ClosesEach ss at without told y later)
+  ClosesEach (id ∷ ids) at x layer y later =
+      (told : L) × (z : RegistryValue) × g.told layer (Spanned id (looks.Closed id) (whole at x) z) told
+      × ((without : RegistryValue) × ClosesNext z id without × ClosesEach ids at without told y later)
 
   -- the next span closes, where one does
   abbrev pub ClosesOne : At → Layered L RegistryValue → Bool → Layered L RegistryValue → Type 0
-  ClosesOne at s true t = (id : ℕ) × g.told s.layer (Spanned (looks.Closed id (whole at s.inner))) t.layer × ClosesNext s.inner id t.inner
+  ClosesOne at s true t =
+      (id : ℕ) × (z : RegistryValue) × g.told s.layer (Spanned id (looks.Closed id) (whole at s.inner) z) t.layer × ClosesNext z id t.inner
+      × (ids_of (closing_in s.inner) ≡ id ∷ ids_of (closing_in t.inner)) × SameButSlots (swept s.inner) (swept t.inner)
   ClosesOne at s false t = IsSettled s.inner × (t ≡ s)
 
-  -- all spans close that nothing keeps open, each told once, a child before its parent
+  -- all spans close that nothing keeps open, each told once, a child before its parent; the others are left, but for slots
   abbrev pub Closes : At → Layered L RegistryValue → Layered L RegistryValue → Type 0
-  Closes at s t = ClosesEach (closing_in s.inner) at s.inner s.layer t.inner t.layer × (t.inner ≡ swept s.inner)
+  Closes at s t = ClosesEach (ids_of (closing_in s.inner)) at s.inner s.layer t.inner t.layer × SameButSlots (swept s.inner) t.inner
 
   -- the entry goes, the exit is told, and then the closes are
   abbrev pub ExitGives : ℕ → At → Layered L RegistryValue → Layered L RegistryValue → Type 0
   ExitGives id at s t =
       let x = without_entry s.inner at.lane id in
-      (told : Layered L RegistryValue) × LayersTold (Spanned (looks.Exited id (whole at x))) (over x s) told × Closes at told t
+      (told : Layered L RegistryValue) × LayersTold (Spanned id (looks.Exited id) (whole at x)) (over x s) told × Closes at told t
 
   abbrev pub CloseUnless : Option RequestError → ℕ → At → Layered L RegistryValue → Bool → Layered L RegistryValue → Type 0
   CloseUnless None id at s r t = (r ≡ is_closed t.inner id) × Closes at (over (without_handle s.inner id) s) t
@@ -140,7 +147,7 @@ module _ {L : Type 0} (g : Ghosts L) where
 
   -- what a call may answer and leave
   abbrev pub Moves : Layered L RegistryValue → (c : Call) → ReplyTo c → Layered L RegistryValue → Type 0
-  Moves s (DispatchRegistered dispatch) r t = LayersTold (Dispatched dispatch) s t
+  Moves s (DispatchRegistered dispatch) r t = DispatchTold dispatch s t
   Moves s (CallsiteRegistered m) k t = (k ≡ Sometimes) × (t ≡ s)
   Moves s (Asked m at) r t = AnswersOf s m at r × (t ≡ s)
   Moves s HintAsked r t = (r ≡ None) × (t ≡ s)

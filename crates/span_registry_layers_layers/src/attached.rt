@@ -5,7 +5,7 @@ ghost use Rattle.tracing_core.specs.Metadata.{plain_metadata};
 ghost use Rattle.tracing_core.specs.PlainRequests.{plain_attributes, plain_event, plain_record};
 ghost use Rattle.span_registry_layers_store.specs.Registries.{knows, without_entry};
 ghost use Rattle.span_registry_layers_layers.specs.Combined.{Both};
-ghost use Rattle.span_registry_layers_layers.specs.Looks.{Exited, view};
+ghost use Rattle.span_registry_layers_layers.specs.Looks.{Exited};
 ghost use Rattle.span_registry_layers_layers.specs.Notices.{Attached, Spanned};
 ghost use Rattle.span_registry_layers_layers.specs.Numbering.{more_filters, numbers_from};
 ghost use Rattle.span_registry_layers_layers.specs.Trees.{AnswersOf, AsksSpan, AttachGives, CloseGives, Closes, ClosesOne, EnterGives, EventGives, ExitGives, FollowsGives, IsAttached, LayersTold, MakesSpan, NewSpanGives, RecordGives, TellsEvent, over, whole};
@@ -64,13 +64,6 @@ pub(crate) fn attach<L: Layer>(
 }
 
 impl<L: Layer> Layered<L, Registry> {
-    // All that is seen at a lane and a moment.
-    fn whole(&self, at: At) -> Context<'_>
-        ensures { view result ≡ whole at self.now.inner }
-    {
-        Context::new(&self.inner, at, None)
-    }
-
     // Whether a span that is named is open.
     fn knows(&self, span: Option<&Id>) -> bool
         ensures { result ≡ knows self.now.inner (option_copied span.entry) }
@@ -82,25 +75,38 @@ impl<L: Layer> Layered<L, Registry> {
     }
 
     // Asks all filters of a new span.
-    fn ask(&self, metadata: &Metadata<'_>, at: At) -> (FilterMap, bool)
-        ensures { IsAttached ⟦<L as Layer>⟧ self.now → L.kept self.now.layer (plain_metadata metadata.now) (whole at self.now.inner) true result.0.passed result.1 }
+    fn ask(&mut self, metadata: &Metadata<'_>, at: At) -> (FilterMap, bool)
+        ensures kept { IsAttached ⟦<L as Layer>⟧ self.old → L.kept self.old.layer (plain_metadata metadata.now) (whole at self.old.inner) true result.0.passed result.1 }
+        ensures same { self.new ≡ self.old }
     {
+        let mut context = Context::new(&mut self.inner, at, None);
         self.layer
-            .ask_span(metadata, &self.whole(at), true, FilterMap::all())
+            .ask_span(metadata, &mut context, true, FilterMap::all())
+    }
+
+    // Whether no layer vetoes what is made of the callsite.
+    fn lets(&mut self, metadata: &Metadata<'_>, at: At) -> bool
+        ensures answer { L.answers self.old.layer (plain_metadata metadata.now) (whole at self.old.inner) result }
+        ensures same { self.new ≡ self.old }
+    {
+        let context = Context::new(&mut self.inner, at, None);
+        self.layer.enabled(metadata, &context)
     }
 
     // Whether some layer is to be told of a request on the callsite.
-    fn makes(&self, metadata: &Metadata<'_>, at: At) -> bool
-        ensures { AnswersOf ⟦<L as Layer>⟧ self.now (plain_metadata metadata.now) at result }
+    fn makes(&mut self, metadata: &Metadata<'_>, at: At) -> bool
+        ensures answer { AnswersOf ⟦<L as Layer>⟧ self.old (plain_metadata metadata.now) at result }
+        ensures same { self.new ≡ self.old }
     {
-        self.layer.enabled(metadata, &self.whole(at)) && self.ask(metadata, at).1
+        self.lets(metadata, at) && self.ask(metadata, at).1
     }
 
     // Whether no layer vetoes the event.
-    fn allows(&self, event: &Event<'_, '_>, at: At) -> bool
-        ensures { Both (L.answers self.now.layer (plain_event event.now).metadata (whole at self.now.inner)) (L.event_answers self.now.layer (plain_event event.now) (whole at self.now.inner)) result }
+    fn allows(&mut self, event: &Event<'_, '_>, at: At) -> bool
+        ensures answer { Both (L.answers self.old.layer (plain_event event.now).metadata (whole at self.old.inner)) (L.event_answers self.old.layer (plain_event event.now) (whole at self.old.inner)) result }
+        ensures same { self.new ≡ self.old }
     {
-        let context = self.whole(at);
+        let context = Context::new(&mut self.inner, at, None);
         self.layer.enabled(event.metadata(), &context) && self.layer.event_enabled(event, &context)
     }
 
@@ -109,7 +115,7 @@ impl<L: Layer> Layered<L, Registry> {
     {
         if self.allows(event, at) {
             self.layer
-                .on_event(event, &mut Context::new(&self.inner, at, None));
+                .on_event(event, &mut Context::new(&mut self.inner, at, None));
         }
     }
 
@@ -133,7 +139,11 @@ impl<L: Layer> Layered<L, Registry> {
         ensures { MakesSpan ⟦<L as Layer>⟧ (plain_attributes attributes.now) at verdicts.passed self.old result self.new }
     {
         let span = self.inner.new_span(attributes, at.lane, verdicts)?;
-        self.layer.on_new_span(attributes, &span, &mut Context::new(&self.inner, at, None));
+        self.layer.on_new_span(
+            attributes,
+            &span,
+            &mut Context::new(&mut self.inner, at, None),
+        );
         Ok(Some(span))
     }
 
@@ -163,7 +173,7 @@ impl<L: Layer> Layered<L, Registry> {
         if !self.knows(attributes.parent()) {
             return Err(RequestError::UnknownParent);
         }
-        if self.layer.enabled(attributes.metadata(), &self.whole(at)) {
+        if self.lets(attributes.metadata(), at) {
             self.ask_and_make(attributes, at)
         } else {
             Ok(None)
@@ -175,7 +185,7 @@ impl<L: Layer> Layered<L, Registry> {
     {
         self.inner.record(span)?;
         self.layer
-            .on_record(span, values, &mut Context::new(&self.inner, at, None));
+            .on_record(span, values, &mut Context::new(&mut self.inner, at, None));
         Ok(())
     }
 
@@ -183,8 +193,7 @@ impl<L: Layer> Layered<L, Registry> {
         ensures { FollowsGives ⟦<L as Layer>⟧ span.now follows.now at self.old result self.new }
     {
         self.inner.record_follows_from(span, follows)?;
-        self.layer
-            .on_follows_from(span, follows, &mut Context::new(&self.inner, at, None));
+        self.layer.on_follows_from(span, follows, &mut Context::new(&mut self.inner, at, None));
         Ok(())
     }
 
@@ -193,7 +202,7 @@ impl<L: Layer> Layered<L, Registry> {
     {
         self.inner.enter(span, at.lane)?;
         self.layer
-            .on_enter(span, &mut Context::new(&self.inner, at, None));
+            .on_enter(span, &mut Context::new(&mut self.inner, at, None));
         Ok(())
     }
 
@@ -205,7 +214,7 @@ impl<L: Layer> Layered<L, Registry> {
             return false;
         };
         self.layer
-            .on_close(&span, &mut Context::new(&self.inner, at, None));
+            .on_close(&span, &mut Context::new(&mut self.inner, at, None));
         let _span = self.inner.forget();
         true
     }
@@ -219,11 +228,11 @@ impl<L: Layer> Layered<L, Registry> {
 
     // A lane leaves a span, and the exit is told.
     fn leave(&mut self, span: &Id, at: At)
-        ensures { let x = without_entry self.old.inner at.lane span.now in LayersTold ⟦<L as Layer>⟧ (Spanned (Exited span.now (whole at x))) (over x self.old) self.new }
+        ensures { let x = without_entry self.old.inner at.lane span.now in LayersTold ⟦<L as Layer>⟧ (Spanned span.now (Exited span.now) (whole at x)) (over x self.old) self.new }
     {
         self.inner.leave(span, at.lane);
         self.layer
-            .on_exit(span, &mut Context::new(&self.inner, at, None));
+            .on_exit(span, &mut Context::new(&mut self.inner, at, None));
     }
 
     fn hand_exit(&mut self, span: &Id, at: At)

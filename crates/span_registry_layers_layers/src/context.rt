@@ -1,4 +1,5 @@
 //! What a filter or a layer may look at.
+ghost use Rattle.std.specs.Borrow.{sem};
 ghost use Rattle.std.specs.Option.{option_map};
 ghost use Rattle.std.specs.Prelude.{◌≡◌, is_some};
 ghost use Rattle.tracing_core.specs.Metadata.{plain_metadata};
@@ -7,22 +8,26 @@ ghost use Rattle.span_registry_layers_store.specs.References.{plain_ref, scope_l
 ghost use Rattle.span_registry_layers_store.specs.Views.{mask_of};
 ghost use Rattle.span_registry_layers_layers.specs.Contexts.{current_told, event_span, lane_span, metadata_in, ref_in, scope_in, span_in};
 ghost use Rattle.span_registry_layers_layers.specs.Looks.{view};
+ghost use Rattle.span_registry_layers_layers.specs.ContextLoans.{IsLoanOf, LendsSlots, slots_in};
 
-use span_registry_layers_store::{FilterId, Registry, Scope, SpanRef};
+use span_registry_layers_store::{ExtensionsMut, FilterId, Registry, Scope, SpanRef};
 use tracing_core::{At, CurrentSpan, Event, Id, Metadata};
 
 /// Where and when a request is made, and the registry as one filter sees it: without the spans that it refused.
-#[derive(Clone, Copy)]
+///
+/// A filter is lent it to be read. A layer that is told of something may write the slots of spans that it sees.
+#[derive(Drop)]
 pub struct Context<'a> {
-    pub(crate) registry: &'a Registry,
+    pub(crate) registry: &'a mut Registry,
     pub(crate) at: At,
     pub(crate) filter: Option<FilterId>,
 }
 
 impl<'a> Context<'a> {
     /// The registry under a filter, or whole, at a lane and a moment.
-    pub fn new(registry: &'a Registry, at: At, filter: Option<FilterId>) -> Context<'a>
-        ensures { view result ≡ record { at = at; registry = registry.now; mask = mask_of filter } }
+    pub fn new(registry: &'a mut Registry, at: At, filter: Option<FilterId>) -> Context<'a>
+        ensures lent { IsLoanOf registry.entry result }
+        ensures view { view result ≡ record { at = at; registry = registry.old; mask = mask_of filter } }
     {
         Context {
             registry,
@@ -31,19 +36,8 @@ impl<'a> Context<'a> {
         }
     }
 
-    /// The same, to be read.
-    pub(crate) fn again(&self) -> Context<'a>
-        ensures { view result ≡ view self.now }
-    {
-        Context {
-            registry: self.registry,
-            at: self.at,
-            filter: self.filter,
-        }
-    }
-
     /// The span that the lane is in: its last entry that is no duplicate and that the filter passed.
-    pub fn lookup_current(&self) -> Option<SpanRef<'a>>
+    pub fn lookup_current(&self) -> Option<SpanRef<'_>>
         ensures { let v = view self.now in option_map plain_ref result ≡ option_map (ref_in v) (lane_span v) }
     {
         self.registry.current_under(self.at.lane, self.filter)
@@ -60,7 +54,7 @@ impl<'a> Context<'a> {
     }
 
     /// An open span, where the filter passed it.
-    pub fn span(&self, id: &Id) -> Option<SpanRef<'a>>
+    pub fn span(&self, id: &Id) -> Option<SpanRef<'_>>
         ensures { let v = view self.now in option_map plain_ref result ≡ option_map (ref_in v) (span_in v id.now) }
     {
         self.registry.span_under(id, self.filter)
@@ -74,7 +68,7 @@ impl<'a> Context<'a> {
     }
 
     /// The metadata of an open span, where the filter passed it.
-    pub fn metadata(&self, id: &Id) -> Option<Metadata<'a>>
+    pub fn metadata(&self, id: &Id) -> Option<Metadata<'_>>
         ensures { option_map plain_metadata result ≡ option_map metadata_in (span_in (view self.now) id.now) }
     {
         match self.span(id) {
@@ -85,7 +79,7 @@ impl<'a> Context<'a> {
 
     /// A span and its ancestors, the nearest first, without those that the filter refused. None where the span
     /// is not open or refused itself.
-    pub fn span_scope(&self, id: &Id) -> Option<Scope<'a>>
+    pub fn span_scope(&self, id: &Id) -> Option<Scope<'_>>
         ensures { let v = view self.now in option_map scope_left result ≡ option_map (scope_in v) (span_in v id.now) }
     {
         match self.span(id) {
@@ -96,7 +90,7 @@ impl<'a> Context<'a> {
 
     /// The span that an event stands in: the one that it names, where the filter passed it, else none for a root,
     /// else the lane's.
-    pub fn event_span(&self, event: &Event<'_, '_>) -> Option<SpanRef<'a>>
+    pub fn event_span(&self, event: &Event<'_, '_>) -> Option<SpanRef<'_>>
         ensures { let v = view self.now in option_map plain_ref result ≡ option_map (ref_in v) (event_span v (plain_event event.now).parent) }
     {
         if event.is_contextual() {
@@ -110,12 +104,23 @@ impl<'a> Context<'a> {
 
     /// The span that an event stands in and its ancestors, the nearest first, without those that the filter
     /// refused.
-    pub fn event_scope(&self, event: &Event<'_, '_>) -> Option<Scope<'a>>
+    pub fn event_scope(&self, event: &Event<'_, '_>) -> Option<Scope<'_>>
         ensures { let v = view self.now in option_map scope_left result ≡ option_map (scope_in v) (event_span v (plain_event event.now).parent) }
     {
         match self.event_span(event) {
             None => None,
             Some(span) => Some(span.scope()),
         }
+    }
+
+    /// What outputs keep with a span, to be changed, where it is open and the filter passed it.
+    pub fn extensions_mut(&mut self, id: &Id) -> Option<ExtensionsMut<'_>>
+        ensures lent { option_map (λ s. s.now) result ≡ option_map slots_in (span_in (view self.old) id.now) }
+        ensures* ends { sem 𝓛 (LendsSlots self.entry id.now result) }
+    {
+        if !self.exists(id) {
+            return None;
+        }
+        self.registry.extensions_mut(id)
     }
 }

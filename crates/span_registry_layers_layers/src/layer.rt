@@ -6,8 +6,8 @@ ghost use Rattle.tracing_core.specs.PlainMetadata.{PlainMetadata};
 ghost use Rattle.tracing_core.specs.PlainRequests.{PlainEvent, plain_attributes, plain_event, plain_record};
 ghost use Rattle.tracing_core.specs.Steady.{SameWord};
 ghost use Rattle.span_registry_layers_layers.specs.Honesty.{Fair, OneAnswer};
-ghost use Rattle.span_registry_layers_layers.specs.Looks.{Closed, Entered, Exited, Recorded, SpanMade, View, view};
-ghost use Rattle.span_registry_layers_layers.specs.Notices.{AddsFilters, Attached, Dispatched, Followed, Happened, Notice, Renamed, Spanned};
+ghost use Rattle.span_registry_layers_layers.specs.Looks.{Closed, Entered, Exited, Recorded, SameLoan, SpanMade, View, left, view};
+ghost use Rattle.span_registry_layers_layers.specs.Notices.{AddsFilters, Attached, Dispatched, Followed, Happened, Notice, Renamed, Spanned, WritesUnder};
 ghost use Rattle.span_registry_layers_layers.specs.Numbering.{AreNumbers, NumbersStay, SameBut, SameOf, more_filters, numbers_from, room_after};
 
 mod boxed;
@@ -31,7 +31,7 @@ use tracing_core::{Attributes, Event, Id, Interest, LevelFilter, Metadata, Recor
 /// What an output does with the spans and events that it is told.
 ///
 /// A notice answers nothing: a layer that finds no memory keeps that in its own state, so what a notice may
-/// make of it is a relation. An honest layer keeps its word as an honest filter does, whatever it is told.
+/// make of it is a relation. What it may write is slots under keys of its own; all else of the registry stays. An honest layer keeps its word as an honest filter does, whatever it is told.
 pub trait Layer: Drop {
     // What it may answer of a callsite, by what it may look at.
     ghost answers: { Self → PlainMetadata → View → Bool → Type 0 };
@@ -60,6 +60,9 @@ pub trait Layer: Drop {
     // What its filters may say of a new span where all filters above it say this, and whether one of its layers is told.
     ghost kept: { Self → PlainMetadata → View → Bool → List Bool → Bool → Type 0 } = { λ x m v passes verdicts some. some ≡ passes };
 
+    // The keys of outputs under which it writes slots.
+    ghost keys: { Self → ℕ → Bool } = { λ x key. false };
+
     ghost fair: { (x : Self) → honest x → Fair (answers x) (says x) (hint x) };
 
     ghost stays: { (x : Self) (n : Notice) (y : Self) → told x n y → honest x → honest y × SameWord (says x) (says y) (hint x) (hint y) };
@@ -67,6 +70,10 @@ pub trait Layer: Drop {
     ghost numbered: { (x : Self) (n : Notice) (y : Self) → told x n y → NumbersStay n (numbers x) (numbers y) };
 
     ghost once: { (x : Self) → honest x → OneAnswer (kept x) };
+
+    ghost aside: { (x : Self) (n : Notice) (y : Self) → told x n y → WritesUnder (keys x) n };
+
+    ghost keyed: { (x : Self) (n : Notice) (y : Self) → told x n y → (key : ℕ) → keys y key ≡ keys x key };
 
     /// A hub took the stack that it is in, and gave out this handle.
     fn on_register_dispatch(&mut self, dispatch: &WeakDispatch)
@@ -88,14 +95,16 @@ pub trait Layer: Drop {
     fn ask_span(
         &self,
         metadata: &Metadata<'_>,
-        context: &Context<'_>,
+        context: &mut Context<'_>,
         passes: bool,
         verdicts: FilterMap,
     ) -> (FilterMap, bool)
+        ensures lent { SameLoan context.old context.new }
+        ensures same { left context.new ≡ left context.old }
         ensures room { length result.0.passed ≡ length verdicts.passed }
         ensures others { SameBut (numbers self.now) verdicts.passed result.0.passed }
         // It stays said whatever other filters say.
-        ensures kept { (later : List Bool) → AreNumbers (length verdicts.passed) (numbers self.now) → SameOf (numbers self.now) result.0.passed later → kept self.now (plain_metadata metadata.now) (view context.now) passes later result.1 };
+        ensures kept { (later : List Bool) → AreNumbers (length verdicts.passed) (numbers self.now) → SameOf (numbers self.now) result.0.passed later → kept self.now (plain_metadata metadata.now) (view context.old) passes later result.1 };
 
     /// Its interest in a callsite.
     fn register_callsite(&self, metadata: &Metadata<'_>) -> Interest
@@ -107,7 +116,8 @@ pub trait Layer: Drop {
 
     /// A span was made.
     fn on_new_span(&mut self, attributes: &Attributes<'_, '_>, span: &Id, context: &mut Context<'_>)
-        ensures { told self.old (Spanned (SpanMade (plain_attributes attributes.now) span.now (view context.old))) self.new };
+        ensures lent { SameLoan context.old context.new }
+        ensures told { told self.old (Spanned span.now (SpanMade (plain_attributes attributes.now) span.now) (view context.old) (left context.new)) self.new };
 
     /// The most verbose level that passes, where it knows one.
     fn max_level_hint(&self) -> Option<LevelFilter>
@@ -115,11 +125,13 @@ pub trait Layer: Drop {
 
     /// Values were recorded on a span.
     fn on_record(&mut self, span: &Id, values: &Record<'_>, context: &mut Context<'_>)
-        ensures { told self.old (Spanned (Recorded span.now (plain_record values.now) (view context.old))) self.new };
+        ensures lent { SameLoan context.old context.new }
+        ensures told { told self.old (Spanned span.now (Recorded span.now (plain_record values.now)) (view context.old) (left context.new)) self.new };
 
     /// A span was said to follow from another one.
     fn on_follows_from(&mut self, span: &Id, follows: &Id, context: &mut Context<'_>)
-        ensures { told self.old (Followed span.now follows.now (view context.old)) self.new };
+        ensures lent { SameLoan context.old context.new }
+        ensures told { told self.old (Followed span.now follows.now (view context.old) (left context.new)) self.new };
 
     /// Whether an event passes, whose callsite does. Where it refuses, nobody is told.
     fn event_enabled(&self, event: &Event<'_, '_>, context: &Context<'_>) -> bool
@@ -127,21 +139,26 @@ pub trait Layer: Drop {
 
     /// An event happened.
     fn on_event(&mut self, event: &Event<'_, '_>, context: &mut Context<'_>)
-        ensures { told self.old (Happened (plain_event event.now) (view context.old)) self.new };
+        ensures lent { SameLoan context.old context.new }
+        ensures told { told self.old (Happened (plain_event event.now) (view context.old) (left context.new)) self.new };
 
     /// A span was entered.
     fn on_enter(&mut self, span: &Id, context: &mut Context<'_>)
-        ensures { told self.old (Spanned (Entered span.now (view context.old))) self.new };
+        ensures lent { SameLoan context.old context.new }
+        ensures told { told self.old (Spanned span.now (Entered span.now) (view context.old) (left context.new)) self.new };
 
     /// A span was left.
     fn on_exit(&mut self, span: &Id, context: &mut Context<'_>)
-        ensures { told self.old (Spanned (Exited span.now (view context.old))) self.new };
+        ensures lent { SameLoan context.old context.new }
+        ensures told { told self.old (Spanned span.now (Exited span.now) (view context.old) (left context.new)) self.new };
 
     /// A span closes: it can still be looked at.
     fn on_close(&mut self, span: &Id, context: &mut Context<'_>)
-        ensures { told self.old (Spanned (Closed span.now (view context.old))) self.new };
+        ensures lent { SameLoan context.old context.new }
+        ensures told { told self.old (Spanned span.now (Closed span.now) (view context.old) (left context.new)) self.new };
 
     /// A span has another id. No stack of this crate calls it.
     fn on_id_change(&mut self, old: &Id, new: &Id, context: &mut Context<'_>)
-        ensures { told self.old (Renamed old.now new.now (view context.old)) self.new };
+        ensures lent { SameLoan context.old context.new }
+        ensures told { told self.old (Renamed old.now new.now (view context.old) (left context.new)) self.new };
 }

@@ -21,7 +21,7 @@ fn metadata_of(target: &str, level: Level) -> Metadata<'_> {
 }
 
 /// Whether a filter passes DEBUG events of a target, and its interest in them.
-fn asked<F: Filter>(filter: &F, registry: &Registry, target: &str) -> (bool, Interest) {
+fn asked<F: Filter>(filter: &F, registry: &mut Registry, target: &str) -> (bool, Interest) {
     let metadata = metadata_of(target, Level::DEBUG);
     let context = Context::new(registry, PLACE, None);
     (
@@ -32,58 +32,58 @@ fn asked<F: Filter>(filter: &F, registry: &Registry, target: &str) -> (bool, Int
 
 #[test]
 fn a_level_filter_passes_what_is_at_most_as_verbose(rt: HostRuntime) {
-    let registry = Registry::new(rt.alloc());
-    let (passed, interest) = asked(&LevelFilter::DEBUG, &registry, "app");
+    let mut registry = Registry::new(rt.alloc());
+    let (passed, interest) = asked(&LevelFilter::DEBUG, &mut registry, "app");
     assert!(rt; passed && interest.is_always());
-    let (passed, interest) = asked(&LevelFilter::INFO, &registry, "app");
+    let (passed, interest) = asked(&LevelFilter::INFO, &mut registry, "app");
     assert!(rt; !passed && interest.is_never());
     assert!(rt; LevelFilter::INFO.max_level_hint() == Some(LevelFilter::INFO));
 }
 
 #[test]
 fn both_or_either_or_neither(rt: HostRuntime) {
-    let registry = Registry::new(rt.alloc());
+    let mut registry = Registry::new(rt.alloc());
     let (low, high) = (LevelFilter::INFO, LevelFilter::TRACE);
     let both = And::new(low, high);
-    let (passed, interest) = asked(&both, &registry, "app");
+    let (passed, interest) = asked(&both, &mut registry, "app");
     assert!(rt; !passed && interest.is_never() && both.max_level_hint() == Some(low));
     let either = Or::new(low, high);
-    let (passed, interest) = asked(&either, &registry, "app");
+    let (passed, interest) = asked(&either, &mut registry, "app");
     assert!(rt; passed && interest.is_always() && either.max_level_hint() == Some(high));
     let turned = Not::new(low);
-    let (passed, interest) = asked(&turned, &registry, "app");
+    let (passed, interest) = asked(&turned, &mut registry, "app");
     assert!(rt; passed && interest.is_always() && turned.max_level_hint().is_none());
 }
 
 #[test]
 fn an_absent_filter_passes_all(rt: HostRuntime) {
-    let registry = Registry::new(rt.alloc());
+    let mut registry = Registry::new(rt.alloc());
     let absent: Option<LevelFilter> = None;
-    let (passed, interest) = asked(&absent, &registry, "app");
+    let (passed, interest) = asked(&absent, &mut registry, "app");
     assert!(rt; passed && interest.is_always() && absent.max_level_hint().is_none());
-    let (passed, interest) = asked(&Some(LevelFilter::OFF), &registry, "app");
+    let (passed, interest) = asked(&Some(LevelFilter::OFF), &mut registry, "app");
     assert!(rt; !passed && interest.is_never());
 }
 
 #[test]
 fn a_closure_decides_by_metadata(rt: HostRuntime) -> Result<(), Fail> {
-    let registry = Registry::new(rt.alloc());
+    let mut registry = Registry::new(rt.alloc());
     let of_app: MetadataTest = Box::new(rt.alloc(), |metadata: &Metadata<'_>| -> bool {
         metadata.target() == "app"
     })?;
     let filter: FilterFn = filter_fn(of_app);
-    let (passed, interest) = asked(&filter, &registry, "app");
+    let (passed, interest) = asked(&filter, &mut registry, "app");
     assert!(rt; passed && interest.is_always() && filter.max_level_hint().is_none());
-    let (passed, interest) = asked(&filter, &registry, "other");
+    let (passed, interest) = asked(&filter, &mut registry, "other");
     assert!(rt; !passed && interest.is_never());
     Ok(())
 }
 
 #[test]
 fn a_box_answers_what_is_in_it(rt: HostRuntime) -> Result<(), Fail> {
-    let registry = Registry::new(rt.alloc());
+    let mut registry = Registry::new(rt.alloc());
     let boxed: Box<dyn Filter> = Box::new(rt.alloc(), LevelFilter::INFO)?;
-    let (passed, interest) = asked(&boxed, &registry, "app");
+    let (passed, interest) = asked(&boxed, &mut registry, "app");
     assert!(rt; !passed && interest.is_never());
     assert!(rt; boxed.max_level_hint() == Some(LevelFilter::INFO));
     Ok(())

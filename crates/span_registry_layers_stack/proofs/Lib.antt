@@ -1,12 +1,13 @@
 pub mod Telling
 pub mod Loops
 pub mod Keeping
+pub mod Written
 pub mod Closing
 pub mod Making
 pub mod Starting
 pub mod Swapping
 pub mod Numbering
-pub mod Soundness
 pub mod Alone
+pub mod Soundness
 pub mod Single
 pub mod Taking

@@ -16,13 +16,14 @@ use Rattle.span_registry_layers_layers.specs.Honesty.{One}
 use Rattle.span_registry_layers_layers.specs.Notices.{Happened}
 use Rattle.span_registry_layers_layers.specs.Numbering.{AreNumbers, SameBut, SameOf}
 use Rattle.span_registry_layers_layers.proofs.Numbers.{numbers_first, numbers_second, same_first, same_self}
+use Rattle.span_registry_layers_layers.specs.Several.{EachInTurn}
 use Rattle.span_registry_layers_layers.specs.declared.filter.Filter.{Ghosts}
 use Rattle.span_registry_layers_layers.specs.declared.filtered.Filtered.{Filtered}
 use Rattle.span_registry_layers_layers.specs.declared.layer.Layer.{Ghosts as LayerGhosts}
 use Rattle.span_registry_layers_stack.specs.Asked.{AsksFrom, AsksRow, SomePassesBy}
 use Rattle.span_registry_layers_stack.specs.Calls.{SpanAfresh, SpanKnown}
 use Rattle.span_registry_layers_stack.specs.Numbers.{DroppedSpanTellsNobody, DroppedTellsNobody, NumbersStay, RowSaid, VerdictsAreOwn}
-use Rattle.span_registry_layers_stack.specs.Rows.{Afresh, EachBecomes, Fresh, TellsEventBy, TellsIf, filters_of, marked, numbers_of, view_of, with_layer}
+use Rattle.span_registry_layers_stack.specs.Rows.{Afresh, Fresh, TellsEventBy, TellsIf, filters_of, marked, numbers_of, view_of, with_layer}
 use Rattle.span_registry_layers_stack.specs.Stacks.{PassesAsked, StackValue, TellsAfresh, WhereKnown, cleared}
 use Rattle.span_registry_layers_stack.specs.Steps.{clone_keeps, close_keeps, dispatch_keeps, enter_keeps, event_keeps, exit_keeps, follows_keeps, record_keeps, span_keeps}
 use Rattle.span_registry_layers_stack.specs.declared.row.Row.{Row}
@@ -128,27 +129,32 @@ module _ {L F : Type 0} (g : Ghosts F) (h : LayerGhosts L) where
   numbers_same s (CloseTried id at) r t m = (close_keeps g h id at s t r m).numbers
   numbers_same s (CurrentAsked at) r t m = numbers_alike s t m.1
 
-  untold : (e : PlainEvent) (at : At) (x : RegistryValue) (row later : Row (Filtered L F)) → later.passed ≡ false → TellsEventBy g h (Afresh g) e at x row later → later ≡ marked false row
-  untold e at x row later quiet told =
+  untold : (e : PlainEvent) (at : At) (x : RegistryValue) (row : Row (Filtered L F)) (y : RegistryValue) (later : Row (Filtered L F)) → later.passed ≡ false → TellsEventBy g h (Afresh g) e at x row y later → (later ≡ marked false row) × (y ≡ x)
+  untold e at x row y later quiet told =
       let hears : later.told ≡ false = subst (λ b. Then (g.event_answers row.output.filter e (view_of at x row)) b later.told) quiet told.1 in
-      let stays : later.output.layer ≡ row.output.layer = subst (λ b. TellsIf h b row.output.layer (Happened e (view_of at x row)) later.output.layer) hears told.2 in
-      told.3 ∙ ap (λ b. record (with_layer later.output.layer row) { passed = b; told = later.told }) quiet ∙ ap (λ b. record (with_layer later.output.layer row) { passed = false; told = b }) hears
-      ∙ ap (λ l. marked false (with_layer l row)) stays
+      let stays : (later.output.layer ≡ row.output.layer) × (y ≡ x) = subst (λ b. TellsIf h b row.output.layer (Happened e) (view_of at x row) y later.output.layer) hears told.2 in (
+        told.3 ∙ ap (λ b. record (with_layer later.output.layer row) { passed = b; told = later.told }) quiet ∙ ap (λ b. record (with_layer later.output.layer row) { passed = false; told = b }) hears
+            ∙ ap (λ l. marked false (with_layer l row)) stays.0,
+        stays.1,
+      )
 
-  all_untold : (e : PlainEvent) (at : At) (x : RegistryValue) (rows later : List (Row (Filtered L F))) → Every (λ f. g.honest f) (filters_of rows) → SomePassesBy (Afresh g) e.metadata at x rows false →
-      EachBecomes (TellsEventBy g h (Afresh g) e at x) rows later → later ≡ map (marked false) rows
-  all_untold e at x [] [] honest quiet told = refl
-  all_untold e at x [] (l ∷ ls) honest quiet told = absurd told
-  all_untold e at x (r ∷ rs) [] honest quiet told = absurd told
-  all_untold e at x (r ∷ rs) (l ∷ ls) honest quiet told =
+  all_untold : (e : PlainEvent) (at : At) (x : RegistryValue) (rows : List (Row (Filtered L F))) (y : RegistryValue) (later : List (Row (Filtered L F))) → Every (λ f. g.honest f) (filters_of rows) → SomePassesBy (Afresh g) e.metadata at x rows false →
+      EachInTurn (TellsEventBy g h (Afresh g) e at) x rows y later → (later ≡ map (marked false) rows) × (y ≡ x)
+  all_untold e at x [] y [] honest quiet told = (refl, told)
+  all_untold e at x [] y (l ∷ ls) honest quiet told = absurd told
+  all_untold e at x (r ∷ rs) y [] honest quiet told = absurd told
+  all_untold e at x (r ∷ rs) y (l ∷ ls) honest quiet told =
       let refused = refused_here quiet.0 (SomePassesBy (Afresh g) e.metadata at x rs) quiet.2 in
       let P = g.answers r.output.filter e.metadata (view_of at x r) in
-      let same : l.passed ≡ quiet.0 = fresh_one P ((g.single r.output.filter honest.0).callsite e.metadata (view_of at x r)) l.passed quiet.0 told.0.0 quiet.1 in
-      ap (λ row. row ∷ ls) (untold e at x r l (same ∙ refused.0) told.0) ∙ ap (λ rows. marked false r ∷ rows) (all_untold e at x rs ls honest.1 refused.1 told.1)
+      let same : l.passed ≡ quiet.0 = fresh_one P ((g.single r.output.filter honest.0).callsite e.metadata (view_of at x r)) l.passed quiet.0 told.1.0 quiet.1 in
+      let first = untold e at x r told.0 l (same ∙ refused.0) told.1 in
+      let rest = all_untold e at x rs y ls honest.1 refused.1 (subst (λ (z : RegistryValue). EachInTurn (TellsEventBy g h (Afresh g) e at) z rs y ls) first.1 told.2) in
+      (ap (λ row. row ∷ ls) first.0 ∙ ap (λ rows. marked false r ∷ rows) rest.0, rest.1)
 
   tells_nobody : (b : Bool) (e : PlainEvent) (at : At) (s t : StackValue (Filtered L F)) → Every (λ f. g.honest f) (filters_of s.rows) → PassesAsked g s e.metadata at false → WhereKnown b s (TellsAfresh g h e at s) (Ok tt) t → t ≡ cleared s
   tells_nobody true e at s t honest quiet given =
-      given.1.1 ∙ ap (λ (rows : List (Row (Filtered L F))). record s { rows = rows }) (all_untold e at s.registry s.rows t.rows honest quiet given.1.0)
+      let all = all_untold e at s.registry s.rows t.registry t.rows honest quiet given.1.0 in
+      given.1.1 ∙ ap (λ (rows : List (Row (Filtered L F))). record s { registry = t.registry; rows = rows }) all.0 ∙ ap (λ (x : RegistryValue). record s { registry = x; rows = map (marked false) s.rows }) all.1
   tells_nobody false e at s t honest quiet given = absurd (cc)
 
   pub nobody_told : DroppedTellsNobody g h

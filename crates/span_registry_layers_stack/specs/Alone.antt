@@ -1,12 +1,14 @@
--- What a call leaves of a stack's registry is what the registry's own call leaves: outputs have no say in it but whether a span is made, and its verdicts.
+-- What a call leaves of a stack's registry is what the registry's own call leaves: outputs have no say in it but whether a span is made, its verdicts, and slots.
 use Rattle.std.specs.Prelude.{◌≡◌, ℕ, Bool, true, false, Option, Some, None, Result, Ok, Err, List}
 use Rattle.tracing_core.specs.Calls.{Call, ReplyTo, DispatchRegistered, CallsiteRegistered, Asked, HintAsked, SpanMade, Recorded, FollowsRecorded, EventAsked, Told, Entered, Exited, Cloned, Dropped, CloseTried, CurrentAsked}
 use Rattle.tracing_core.specs.Handles.{or_refused}
 use Rattle.tracing_core.specs.PlainRequests.{PlainAttributes, explicit_parent}
 use Rattle.tracing_core.specs.RequestError.{RequestError}
 use Rattle.tracing_core.specs.RequestError.TheVariants.{UnknownParent}
+use Rattle.span_registry_layers_store.specs.Aside.{SameButSlots}
 use Rattle.span_registry_layers_store.specs.Gives.{EntryGives, SpanGives, clone_gives, close_gives, follow_refusal, open_refusal}
 use Rattle.span_registry_layers_store.specs.Registries.{RegistryValue, current_on, knows, swept, without_entry}
+use Rattle.span_registry_layers_layers.specs.Notices.{Notice, Untouched}
 use Rattle.span_registry_layers_layers.specs.declared.filter.Filter.{Ghosts}
 use Rattle.span_registry_layers_layers.specs.declared.filtered.Filtered.{Filtered}
 use Rattle.span_registry_layers_layers.specs.declared.layer.Layer.{Ghosts as LayerGhosts}
@@ -48,7 +50,17 @@ AloneGives x (Dropped id at) r y = y ≡ (close_gives x id).1
 AloneGives x (CloseTried id at) r y = (r ≡ says_closed (close_gives x id).0) × (y ≡ (close_gives x id).1)
 AloneGives x (CurrentAsked at) r y = (r ≡ inside (current_on x at.lane)) × (y ≡ x)
 
+-- no layer writes a slot
+abbrev pub WritesNothing : {L : Type 0} → LayerGhosts L → Type 0
+WritesNothing {L = L} h = (layer : L) (n : Notice) (later : L) → h.told layer n later → Untouched n
+
 module _ {L F : Type 0} (g : Ghosts F) (h : LayerGhosts L) where
-  -- so it is of each call, whatever the outputs are
+  -- so it is of each call, whatever the outputs are, but for the slots that their layers wrote
   abbrev pub RegistryStandsAlone : Type 0
-  RegistryStandsAlone = (s : StackValue (Filtered L F)) (c : Call) (r : ReplyTo c) (t : StackValue (Filtered L F)) → Moves g h s c r t → AloneGives s.registry c r t.registry
+  RegistryStandsAlone =
+      (s : StackValue (Filtered L F)) (c : Call) (r : ReplyTo c) (t : StackValue (Filtered L F)) → Moves g h s c r t → (y : RegistryValue) × AloneGives s.registry c r y × SameButSlots y t.registry
+
+  -- and where they write none it is just so
+  abbrev pub UnwrittenStandsAlone : Type 0
+  UnwrittenStandsAlone =
+      WritesNothing h → (s : StackValue (Filtered L F)) (c : Call) (r : ReplyTo c) (t : StackValue (Filtered L F)) → Moves g h s c r t → AloneGives s.registry c r t.registry

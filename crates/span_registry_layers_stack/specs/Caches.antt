@@ -14,12 +14,13 @@ use Rattle.span_registry_layers_store.specs.Registries.{RegistryValue, knows}
 use Rattle.span_registry_layers_store.specs.Verdicts.{all_pass}
 use Rattle.span_registry_layers_layers.specs.Combined.{Else}
 use Rattle.span_registry_layers_layers.specs.Looks.{View}
+use Rattle.span_registry_layers_layers.specs.Several.{EachInTurn}
 use Rattle.span_registry_layers_layers.specs.declared.filter.Filter.{Ghosts}
 use Rattle.span_registry_layers_layers.specs.declared.filtered.Filtered.{Filtered}
 use Rattle.span_registry_layers_layers.specs.declared.layer.Layer.{Ghosts as LayerGhosts}
 use Rattle.span_registry_layers_stack.specs.Asked.{AsksFrom, SomePasses, SomePassesBy}
 use Rattle.span_registry_layers_stack.specs.Calls.{SpanAfresh, SpanAsked, SpanCached, SpanKnown, SpanUnless, SpanWhere}
-use Rattle.span_registry_layers_stack.specs.Rows.{Afresh, EachBecomes, TellsEvent, TellsEventBy, filters_of, marked, view_of}
+use Rattle.span_registry_layers_stack.specs.Rows.{Afresh, TellsEvent, TellsEventBy, filters_of, marked, view_of}
 use Rattle.span_registry_layers_stack.specs.Sites.{PlainSite, is_of, is_refused_by}
 use Rattle.span_registry_layers_stack.specs.Stacks.{EventAsked, EventCached, PassesAsked, PassesCached, PassesUnless, StackValue, TellsAfresh, TellsUnless, WhereKnown, is_above, is_refused}
 use Rattle.span_registry_layers_stack.specs.Words.{HintOver, Knows, Word, WordOf}
@@ -117,23 +118,20 @@ where_known s P Q true r t f w = (w.0, f w.1)
 where_known s P Q false r t f w = w
 
 module _ {L F : Type 0} (g : Ghosts F) (h : LayerGhosts L) where
-  cleared_told : (e : PlainEvent) (at : At) (x : RegistryValue) (rows : List (Row (Filtered L F))) → Every (Refuses g e.metadata) (filters_of rows) → EachBecomes (TellsEventBy g h (Afresh g) e at x) rows (map (marked false) rows)
-  cleared_told e at x [] w = tt
-  cleared_told e at x (row ∷ rows) w = ((inr (refl, w.0 (view_of at x row)), refl, refl, refl), cleared_told e at x rows w.1)
+  cleared_told : (e : PlainEvent) (at : At) (x : RegistryValue) (rows : List (Row (Filtered L F))) → Every (Refuses g e.metadata) (filters_of rows) → EachInTurn (TellsEventBy g h (Afresh g) e at) x rows x (map (marked false) rows)
+  cleared_told e at x [] w = refl
+  cleared_told e at x (row ∷ rows) w = (x, (inr (refl, w.0 (view_of at x row)), refl, (refl, refl), refl), cleared_told e at x rows w.1)
 
-  afresh_told : (e : PlainEvent) (at : At) (x : RegistryValue) (rows later : List (Row (Filtered L F))) → EachBecomes (TellsEvent g h e at x) rows later → EachBecomes (TellsEventBy g h (Afresh g) e at x) rows later
-  afresh_told e at x [] [] w = tt
-  afresh_told e at x [] (l ∷ ls) w = absurd w
-  afresh_told e at x (r ∷ rs) [] w = absurd w
-  afresh_told e at x (r ∷ rs) (l ∷ ls) w = ((inl w.0.0, w.0.1, w.0.2, w.0.3), afresh_told e at x rs ls w.1)
+  afresh_told : (e : PlainEvent) (at : At) (x : RegistryValue) (rows : List (Row (Filtered L F))) (y : RegistryValue) (later : List (Row (Filtered L F))) → EachInTurn (TellsEvent g h e at) x rows y later → EachInTurn (TellsEventBy g h (Afresh g) e at) x rows y later
+  afresh_told e at x [] y [] w = w
+  afresh_told e at x [] y (l ∷ ls) w = absurd w
+  afresh_told e at x (r ∷ rs) y [] w = absurd w
+  afresh_told e at x (r ∷ rs) y (l ∷ ls) w = (w.0, (inl w.1.0, w.1.1, w.1.2, w.1.3), afresh_told e at w.0 rs y ls w.2)
 
   unless_told : (e : PlainEvent) (at : At) (s t : StackValue (Filtered L F)) → Word g s → (b : Bool) → is_refused s e.metadata ≡ b → TellsUnless g h b e at s t → TellsAfresh g h e at s t
   unless_told e at s t w true refused same =
-      let rows : t.rows ≡ map (marked false) s.rows = ap (λ (x : StackValue (Filtered L F)). x.rows) same in (
-        subst (EachBecomes (TellsEventBy g h (Afresh g) e at s.registry) s.rows) (sym rows) (cleared_told e at s.registry s.rows (all_refuse g e.metadata s.hint (filters_of s.rows) s.sites w refused)),
-        same ∙ ap (λ (r : List (Row (Filtered L F))). record s { rows = r }) (sym rows),
-      )
-  unless_told e at s t w false refused told = (afresh_told e at s.registry s.rows t.rows told.0, told.1)
+      subst (TellsAfresh g h e at s) (sym same) (cleared_told e at s.registry s.rows (all_refuse g e.metadata s.hint (filters_of s.rows) s.sites w refused), refl)
+  unless_told e at s t w false refused told = (afresh_told e at s.registry s.rows t.registry t.rows told.0, told.1)
 
   -- what is answered by what is kept is what asking every filter afresh gives
   pub event_is_asked : (e : PlainEvent) (at : At) (s : StackValue (Filtered L F)) (r : Result (Unit {0}) RequestError) (t : StackValue (Filtered L F)) → Word g s → EventCached g h e at s r t → EventAsked g h e at s r t

@@ -1,5 +1,5 @@
 -- What calls on spans answer, and leave of a stack.
-use Rattle.std.specs.Prelude.{◌≡◌, ◌⊎◌, ℕ, Bool, true, false, List, Option, Some, None, Result, Ok, Err}
+use Rattle.std.specs.Prelude.{◌≡◌, ◌⊎◌, ℕ, Bool, true, false, List, ◌∷◌, Option, Some, None, Result, Ok, Err}
 use Rattle.tracing_core.specs.At.{At}
 use Rattle.tracing_core.specs.CurrentSpan.{CurrentSpan}
 use Rattle.tracing_core.specs.CurrentSpan.TheVariants.{Outside, Inside}
@@ -10,16 +10,18 @@ use Rattle.tracing_core.specs.PlainRequests.{PlainAttributes, PlainValues, expli
 use Rattle.tracing_core.specs.RequestError.{RequestError}
 use Rattle.tracing_core.specs.RequestError.TheVariants.{UnknownParent}
 use Rattle.span_registry_layers_store.specs.Gives.{ClosesNext, EntryGives, IsSettled, SpanGives, clone_gives, close_refusal, follow_refusal, is_closed, open_refusal}
+use Rattle.span_registry_layers_store.specs.Aside.{SameButSlots, ids_of}
 use Rattle.span_registry_layers_store.specs.Registries.{RegistryValue, closing_in, current_on, knows, swept, without_entry, without_handle}
 use Rattle.span_registry_layers_store.specs.Verdicts.{all_pass}
 use Rattle.span_registry_layers_layers.specs.Looks.{Closed, Entered, Exited, Recorded, SpanMade}
+use Rattle.span_registry_layers_layers.specs.Several.{EachInTurn}
 use Rattle.span_registry_layers_layers.specs.declared.filter.Filter.{Ghosts}
 use Rattle.span_registry_layers_layers.specs.declared.filtered.Filtered.{Filtered}
 use Rattle.span_registry_layers_layers.specs.declared.layer.Layer.{Ghosts as LayerGhosts}
 use Rattle.span_registry_layers_stack.specs.Asked.{AsksFrom}
-use Rattle.span_registry_layers_stack.specs.Rows.{Afresh, EachBecomes, view_of}
+use Rattle.span_registry_layers_stack.specs.Rows.{Afresh, view_of}
 use Rattle.span_registry_layers_stack.specs.Hearing.{ClosesEach, TellsFollows, TellsMade, TellsSpan}
-use Rattle.span_registry_layers_stack.specs.Stacks.{RowsBecome, StackValue, cleared, is_refused}
+use Rattle.span_registry_layers_stack.specs.Stacks.{RowsInTurn, StackValue, cleared, is_refused}
 use Rattle.span_registry_layers_stack.specs.declared.row.Row.{Row}
 
 -- with another value of the registry
@@ -47,14 +49,15 @@ module _ {L F : Type 0} (g : Ghosts F) (h : LayerGhosts L) where
   -- the next span closes, where one does
   abbrev pub ClosesOne : At → StackValue (Filtered L F) → Bool → StackValue (Filtered L F) → Type 0
   ClosesOne at s true t =
-      (id : ℕ) × EachBecomes (TellsSpan g h (Closed id) id at s.registry) s.rows t.rows × ClosesNext s.registry id t.registry
+      (id : ℕ) × (z : RegistryValue) × EachInTurn (TellsSpan g h (Closed id) id at) s.registry s.rows z t.rows × ClosesNext z id t.registry
+      × (ids_of (closing_in s.registry) ≡ id ∷ ids_of (closing_in t.registry)) × SameButSlots (swept s.registry) (swept t.registry)
       × (t ≡ record s { registry = t.registry; rows = t.rows })
   ClosesOne at s false t = IsSettled s.registry × (t ≡ s)
 
-  -- all spans close that nothing keeps open, each told once, a child before its parent, to the outputs that see it
+  -- all spans close that nothing keeps open, each told once, a child before its parent, to the outputs that see it; the others are left, but for slots
   abbrev pub Closes : At → StackValue (Filtered L F) → StackValue (Filtered L F) → Type 0
   Closes at s t =
-      ClosesEach g h (closing_in s.registry) at s.registry s.rows t.registry t.rows × (t.registry ≡ swept s.registry)
+      ClosesEach g h (ids_of (closing_in s.registry)) at s.registry s.rows t.registry t.rows × SameButSlots (swept s.registry) t.registry × IsSettled t.registry
       × (t ≡ record s { registry = t.registry; rows = t.rows })
 
   -- the registry makes the span, with these verdicts, and the outputs that see it are told
@@ -63,29 +66,29 @@ module _ {L F : Type 0} (g : Ghosts F) (h : LayerGhosts L) where
       (given : Result ℕ RequestError) × (x : RegistryValue) × SpanGives s.registry a.metadata a.parent at.lane verdicts given x × Made given x
     where
       Made : Result ℕ RequestError → RegistryValue → Type 0
-      Made (Ok id) x = (r ≡ Ok (Some id)) × RowsBecome (TellsMade g h (SpanMade a id) id at x) (over x s) t
+      Made (Ok id) x = (r ≡ Ok (Some id)) × RowsInTurn (TellsMade g h (SpanMade a id) id at) (over x s) t
       Made (Err e) x = (r ≡ Err e) × (t ≡ s)
 
   -- values are recorded on an open span
   abbrev pub RecordGives : ℕ → PlainValues → At → StackValue (Filtered L F) → Result (Unit {0}) RequestError → StackValue (Filtered L F) → Type 0
   RecordGives id values at s r t =
-      (r ≡ or_refused (open_refusal s.registry id) tt) × WhereTaken r s (RowsBecome (TellsSpan g h (Recorded id values) id at s.registry) s) t
+      (r ≡ or_refused (open_refusal s.registry id) tt) × WhereTaken r s (RowsInTurn (TellsSpan g h (Recorded id values) id at) s) t
 
   -- an open span follows from another one
   abbrev pub FollowsGives : ℕ → ℕ → At → StackValue (Filtered L F) → Result (Unit {0}) RequestError → StackValue (Filtered L F) → Type 0
   FollowsGives id follows at s r t =
-      (r ≡ or_refused (follow_refusal s.registry id follows) tt) × WhereTaken r s (RowsBecome (TellsFollows g h id follows at s.registry) s) t
+      (r ≡ or_refused (follow_refusal s.registry id follows) tt) × WhereTaken r s (RowsInTurn (TellsFollows g h id follows at) s) t
 
   -- the lane enters an open span
   abbrev pub EnterGives : ℕ → At → StackValue (Filtered L F) → Result (Unit {0}) RequestError → StackValue (Filtered L F) → Type 0
   EnterGives id at s r t =
-      (x : RegistryValue) × EntryGives s.registry at.lane id r x × WhereTaken r s (RowsBecome (TellsSpan g h (Entered id) id at x) (over x s)) t
+      (x : RegistryValue) × EntryGives s.registry at.lane id r x × WhereTaken r s (RowsInTurn (TellsSpan g h (Entered id) id at) (over x s)) t
 
   -- the lane leaves a span: the entry goes, the exit is told, and then the closes are
   abbrev pub ExitGives : ℕ → At → StackValue (Filtered L F) → StackValue (Filtered L F) → Type 0
   ExitGives id at s t =
       let x = without_entry s.registry at.lane id in
-      (told : StackValue (Filtered L F)) × RowsBecome (TellsSpan g h (Exited id) id at x) (over x s) told × Closes at told t
+      (told : StackValue (Filtered L F)) × RowsInTurn (TellsSpan g h (Exited id) id at) (over x s) told × Closes at told t
 
   abbrev pub CloseUnless : Option RequestError → ℕ → At → StackValue (Filtered L F) → Bool → StackValue (Filtered L F) → Type 0
   CloseUnless None id at s r t = (r ≡ is_closed t.registry id) × Closes at (over (without_handle s.registry id) s) t

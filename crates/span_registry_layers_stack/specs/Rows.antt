@@ -46,20 +46,20 @@ Fresh P b = P b ⊎ ((b ≡ false) × ((a : Bool) → P a → a ≡ false))
 abbrev pub Afresh : {F : Type 0} → Ghosts F → F → PlainMetadata → View → Bool → Type 0
 Afresh g f m v b = Fresh (g.answers f m v) b
 
--- a layer is told of a notice, or stays
-abbrev pub TellsIf : {L : Type 0} → LayerGhosts L → Bool → L → Notice → L → Type 0
-TellsIf h true layer n later = h.told layer n later
-TellsIf h false layer n later = later ≡ layer
+-- a layer is told, by what it sees and by the registry as it leaves it, or stays, as the registry does
+abbrev pub TellsIf : {L : Type 0} → LayerGhosts L → Bool → L → (View → RegistryValue → Notice) → View → RegistryValue → L → Type 0
+TellsIf h true layer n v y later = h.told layer (n v y) later
+TellsIf h false layer n v y later = (later ≡ layer) × (y ≡ v.registry)
 
 module _ {L F : Type 0} (g : Ghosts F) (h : LayerGhosts L) where
   -- its layer is told where its filter passes the callsite, by these answers, and then the event, and else stays; what the filter answered of the callsite and whether the layer was told are marked
-  abbrev pub TellsEventBy : (F → PlainMetadata → View → Bool → Type 0) → PlainEvent → At → RegistryValue → Row (Filtered L F) → Row (Filtered L F) → Type 0
-  TellsEventBy A e at x row later =
+  abbrev pub TellsEventBy : (F → PlainMetadata → View → Bool → Type 0) → PlainEvent → At → RegistryValue → Row (Filtered L F) → RegistryValue → Row (Filtered L F) → Type 0
+  TellsEventBy A e at x row y later =
       A row.output.filter e.metadata (view_of at x row) later.passed
       × Then (g.event_answers row.output.filter e (view_of at x row)) later.passed later.told
-      × TellsIf h later.told row.output.layer (Happened e (view_of at x row)) later.output.layer
+      × TellsIf h later.told row.output.layer (Happened e) (view_of at x row) y later.output.layer
       × (later ≡ record (with_layer later.output.layer row) { passed = later.passed; told = later.told })
 
   -- the same by an answer that its filter may give there
-  abbrev pub TellsEvent : PlainEvent → At → RegistryValue → Row (Filtered L F) → Row (Filtered L F) → Type 0
-  TellsEvent e at x row later = TellsEventBy g.answers e at x row later
+  abbrev pub TellsEvent : PlainEvent → At → RegistryValue → Row (Filtered L F) → RegistryValue → Row (Filtered L F) → Type 0
+  TellsEvent e at x row y later = TellsEventBy g.answers e at x row y later

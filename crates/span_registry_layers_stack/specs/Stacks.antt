@@ -8,6 +8,7 @@ use Rattle.tracing_core.specs.PlainRequests.{PlainEvent, explicit_parent}
 use Rattle.tracing_core.specs.RequestError.{RequestError}
 use Rattle.tracing_core.specs.RequestError.TheVariants.{UnknownParent}
 use Rattle.span_registry_layers_store.specs.Registries.{RegistryValue, knows}
+use Rattle.span_registry_layers_layers.specs.Several.{EachInTurn}
 use Rattle.span_registry_layers_layers.specs.declared.filter.Filter.{Ghosts}
 use Rattle.span_registry_layers_layers.specs.declared.filtered.Filtered.{Filtered}
 use Rattle.span_registry_layers_layers.specs.declared.layer.Layer.{Ghosts as LayerGhosts}
@@ -48,6 +49,10 @@ with_hint hint s = record s { hint = hint }
 abbrev pub RowsBecome : {O : Type 0} → (Row O → Row O → Type 0) → StackValue O → StackValue O → Type 0
 RowsBecome R s t = EachBecomes R s.rows t.rows × (t ≡ record s { rows = t.rows })
 
+-- they do so in turn, and each sees the slots that those before it wrote
+abbrev pub RowsInTurn : {O : Type 0} → (RegistryValue → Row O → RegistryValue → Row O → Type 0) → StackValue O → StackValue O → Type 0
+RowsInTurn R s t = EachInTurn R s.registry s.rows t.registry t.rows × (t ≡ record s { registry = t.registry; rows = t.rows })
+
 -- a parent that is named has to be open; else the stack stays
 abbrev pub WhereKnown : {O : Type 0} → Bool → StackValue O → (StackValue O → Type 0) → Result (Unit {0}) RequestError → StackValue O → Type 0
 WhereKnown true s leaves r t = (r ≡ Ok tt) × leaves t
@@ -69,11 +74,11 @@ module _ {L F : Type 0} (g : Ghosts F) where
 module _ {L F : Type 0} (g : Ghosts F) (h : LayerGhosts L) where
   -- each output is told, in order, where its filter passes the event
   abbrev pub TellsAll : PlainEvent → At → StackValue (Filtered L F) → StackValue (Filtered L F) → Type 0
-  TellsAll e at s t = RowsBecome (TellsEvent g h e at s.registry) s t
+  TellsAll e at s t = RowsInTurn (TellsEvent g h e at) s t
 
   -- the same, each filter asked afresh
   abbrev pub TellsAfresh : PlainEvent → At → StackValue (Filtered L F) → StackValue (Filtered L F) → Type 0
-  TellsAfresh e at s t = RowsBecome (TellsEventBy g h (Afresh g) e at s.registry) s t
+  TellsAfresh e at s t = RowsInTurn (TellsEventBy g h (Afresh g) e at) s t
 
   abbrev pub TellsUnless : Bool → PlainEvent → At → StackValue (Filtered L F) → StackValue (Filtered L F) → Type 0
   TellsUnless true e at s t = t ≡ cleared s

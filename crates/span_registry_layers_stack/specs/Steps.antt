@@ -10,9 +10,11 @@ use Rattle.tracing_core.specs.RequestError.{RequestError}
 use Rattle.tracing_core.specs.Steady.{SameWord}
 use Rattle.span_registry_layers_store.specs.Gives.{close_refusal}
 use Rattle.span_registry_layers_store.specs.declared.filter_map.FilterId.{FilterId}
-use Rattle.span_registry_layers_store.specs.Registries.{PlainSpan, RegistryValue, closing_in, knows, without_entry, without_handle}
+use Rattle.span_registry_layers_store.specs.Aside.{ids_of}
+use Rattle.span_registry_layers_store.specs.Registries.{RegistryValue, closing_in, knows, without_entry, without_handle}
 use Rattle.span_registry_layers_layers.specs.Looks.{Closed, Entered, Exited, Hook, Recorded, SpanMade, View}
 use Rattle.span_registry_layers_layers.specs.Notices.{Dispatched, Followed, Happened, Notice, Spanned}
+use Rattle.span_registry_layers_layers.specs.Several.{EachInTurn}
 use Rattle.span_registry_layers_layers.specs.declared.filter.Filter.{Ghosts}
 use Rattle.span_registry_layers_layers.specs.declared.filtered.Filtered.{Filtered}
 use Rattle.span_registry_layers_layers.specs.declared.layer.Layer.{Ghosts as LayerGhosts}
@@ -20,7 +22,7 @@ use Rattle.span_registry_layers_stack.specs.Calls.{CloneGives, CloseGives, Close
 use Rattle.span_registry_layers_stack.specs.Rows.{EachBecomes, TellsEvent, TellsIf, filters_of, marked, numbers_of, view_of}
 use Rattle.span_registry_layers_stack.specs.Sites.{PlainSite}
 use Rattle.span_registry_layers_stack.specs.Hearing.{ClosesEach, HearsIf, TellsDispatch, TellsFollows, TellsMade, TellsSpan, sees}
-use Rattle.span_registry_layers_stack.specs.Stacks.{EventCached, RowsBecome, StackValue, TellsUnless, WhereKnown, cleared, is_refused}
+use Rattle.span_registry_layers_stack.specs.Stacks.{EventCached, RowsBecome, RowsInTurn, StackValue, TellsUnless, WhereKnown, cleared, is_refused}
 use Rattle.span_registry_layers_stack.specs.Words.{HintOver, Knows, Word, WordOf}
 use Rattle.span_registry_layers_stack.specs.declared.row.Row.{Row}
 
@@ -130,41 +132,58 @@ module _ {L F : Type 0} (g : Ghosts F) (h : LayerGhosts L) where
       ap (λ (id : FilterId). id.index ∷ (h.numbers l.output.layer ++ numbers_of h ls)) (f r l w.0).1
       ∙ ap (λ (ns : List ℕ). r.id.index ∷ (ns ++ numbers_of h ls)) (f r l w.0).2 ∙ ap (λ (ns : List ℕ). r.id.index ∷ (h.numbers r.output.layer ++ ns)) (each_numbers R f rs ls w.1)
 
-  pub rows_keep : (x : RegistryValue) (R : Row (Filtered L F) → Row (Filtered L F) → Type 0) → ((row later : Row (Filtered L F)) → R row later → Stepped row later) → (s t : StackValue (Filtered L F)) → RowsBecome R (over x s) t → Keeps s t
-  rows_keep x R f s t w =
+  dispatched_keep : (R : Row (Filtered L F) → Row (Filtered L F) → Type 0) → ((row later : Row (Filtered L F)) → R row later → Stepped row later) → (s t : StackValue (Filtered L F)) → RowsBecome R s t → Keeps s t
+  dispatched_keep R f s t w =
       record { steps = each_steps R f s.rows t.rows w.0; sites = ap (λ (v : StackValue (Filtered L F)). v.sites) w.1; hint = ap (λ (v : StackValue (Filtered L F)). v.hint) w.1; numbers = each_numbers R f s.rows t.rows w.0 }
 
-  told_if : (b : Bool) (layer : L) (n : Notice) (later : L) → (h.told layer n later → h.numbers later ≡ h.numbers layer) → TellsIf h b layer n later → h.numbers later ≡ h.numbers layer
-  told_if true layer n later f w = f w
-  told_if false layer n later f w = ap h.numbers w
+  turn_steps : (R : RegistryValue → Row (Filtered L F) → RegistryValue → Row (Filtered L F) → Type 0) → ((x : RegistryValue) (row : Row (Filtered L F)) (y : RegistryValue) (later : Row (Filtered L F)) → R x row y later → Stepped row later) →
+      (x : RegistryValue) (rows : List (Row (Filtered L F))) (y : RegistryValue) (later : List (Row (Filtered L F))) → EachInTurn R x rows y later → EachBecomes Stepped rows later
+  turn_steps R f x [] y [] w = tt
+  turn_steps R f x [] y (l ∷ ls) w = absurd w
+  turn_steps R f x (r ∷ rs) y [] w = absurd w
+  turn_steps R f x (r ∷ rs) y (l ∷ ls) w = (f x r w.0 l w.1, turn_steps R f w.0 rs y ls w.2)
 
-  hears_steps : (b : Bool) (hook : Hook) (row later : Row (Filtered L F)) → HearsIf g h b hook row later → Stepped row later
-  hears_steps true hook row later w = (
-    subst (Steps g row.output.filter) (sym (ap (λ (r : Row (Filtered L F)). r.output.filter) w.1)) (g.stays row.output.filter hook),
+  pub rows_keep : (x : RegistryValue) (R : RegistryValue → Row (Filtered L F) → RegistryValue → Row (Filtered L F) → Type 0) → ((x : RegistryValue) (row : Row (Filtered L F)) (y : RegistryValue) (later : Row (Filtered L F)) → R x row y later → Stepped row later) → (s t : StackValue (Filtered L F)) → RowsInTurn R (over x s) t → Keeps s t
+  rows_keep x R f s t w =
+      let each = turn_steps R f x s.rows t.registry t.rows w.0 in
+      record {
+        steps = each_steps Stepped (λ row later k. k) s.rows t.rows each;
+        sites = ap (λ (v : StackValue (Filtered L F)). v.sites) w.1;
+        hint = ap (λ (v : StackValue (Filtered L F)). v.hint) w.1;
+        numbers = each_numbers Stepped (λ row later k. k) s.rows t.rows each;
+      }
+
+  told_if : (b : Bool) (layer : L) (n : View → RegistryValue → Notice) (v : View) (y : RegistryValue) (later : L) → (h.told layer (n v y) later → h.numbers later ≡ h.numbers layer) → TellsIf h b layer n v y later → h.numbers later ≡ h.numbers layer
+  told_if true layer n v y later f w = f w
+  told_if false layer n v y later f w = ap h.numbers w.0
+
+  hears_steps : (b : Bool) (id : ℕ) (call : View → Hook) (v : View) (row : Row (Filtered L F)) (y : RegistryValue) (later : Row (Filtered L F)) → HearsIf g h b id call v row y later → Stepped row later
+  hears_steps true id call v row y later w = (
+    subst (Steps g row.output.filter) (sym (ap (λ (r : Row (Filtered L F)). r.output.filter) w.1)) (g.stays row.output.filter (call v)),
     ap (λ (r : Row (Filtered L F)). r.id) w.1,
-    h.numbered row.output.layer (Spanned hook) later.output.layer w.0,
+    h.numbered row.output.layer (Spanned id call v y) later.output.layer w.0,
   )
-  hears_steps false hook row later w =
-      stepped_put row later (ap (λ (r : Row (Filtered L F)). r.output.filter) w) (ap (λ (r : Row (Filtered L F)). r.id) w) (ap (λ (r : Row (Filtered L F)). h.numbers r.output.layer) w)
+  hears_steps false id call v row y later w =
+      stepped_put row later (ap (λ (r : Row (Filtered L F)). r.output.filter) w.0) (ap (λ (r : Row (Filtered L F)). r.id) w.0) (ap (λ (r : Row (Filtered L F)). h.numbers r.output.layer) w.0)
 
-  span_steps : (call : View → Hook) (id : ℕ) (at : At) (x : RegistryValue) (row later : Row (Filtered L F)) → TellsSpan g h call id at x row later → Stepped row later
-  span_steps call id at x row later w = hears_steps (sees x id row) (call (record { at = at; registry = x; mask = Some row.id.index })) row later w
+  span_steps : (call : View → Hook) (id : ℕ) (at : At) (x : RegistryValue) (row : Row (Filtered L F)) (y : RegistryValue) (later : Row (Filtered L F)) → TellsSpan g h call id at x row y later → Stepped row later
+  span_steps call id at x row y later w = hears_steps (sees x id row) id call (view_of at x row) row y later w
 
-  made_steps : (call : View → Hook) (id : ℕ) (at : At) (x : RegistryValue) (row later : Row (Filtered L F)) → TellsMade g h call id at x row later → Stepped row later
-  made_steps call id at x row later w = span_steps call id at x (marked (sees x id row) row) later w
+  made_steps : (call : View → Hook) (id : ℕ) (at : At) (x : RegistryValue) (row : Row (Filtered L F)) (y : RegistryValue) (later : Row (Filtered L F)) → TellsMade g h call id at x row y later → Stepped row later
+  made_steps call id at x row y later w = span_steps call id at x (marked (sees x id row) row) y later w
 
-  follows_steps : (id follows : ℕ) (at : At) (x : RegistryValue) (row later : Row (Filtered L F)) → TellsFollows g h id follows at x row later → Stepped row later
-  follows_steps id follows at x row later w =
-      let notice = Followed id follows (view_of at x row) in
+  follows_steps : (id follows : ℕ) (at : At) (x : RegistryValue) (row : Row (Filtered L F)) (y : RegistryValue) (later : Row (Filtered L F)) → TellsFollows g h id follows at x row y later → Stepped row later
+  follows_steps id follows at x row y later w =
+      let v = view_of at x row in
       stepped_put row later (ap (λ (r : Row (Filtered L F)). r.output.filter) w.1) (ap (λ (r : Row (Filtered L F)). r.id) w.1)
-      (told_if (sees x id row && sees x follows row) row.output.layer notice later.output.layer (h.numbered row.output.layer notice later.output.layer) w.0)
+      (told_if (sees x id row && sees x follows row) row.output.layer (Followed id follows) v y later.output.layer (h.numbered row.output.layer (Followed id follows v y) later.output.layer) w.0)
 
   dispatch_steps : (dispatch : Option ℕ) (row later : Row (Filtered L F)) → TellsDispatch g h dispatch row later → Stepped row later
   dispatch_steps dispatch row later w =
       stepped_put row later (ap (λ (r : Row (Filtered L F)). r.output.filter) w.1) (ap (λ (r : Row (Filtered L F)). r.id) w.1) (h.numbered row.output.layer (Dispatched dispatch) later.output.layer w.0)
 
   pub dispatch_keeps : (dispatch : Option ℕ) (s t : StackValue (Filtered L F)) → RowsBecome (TellsDispatch g h dispatch) s t → Keeps s t
-  dispatch_keeps dispatch s t w = rows_keep s.registry (TellsDispatch g h dispatch) (dispatch_steps dispatch) s t w
+  dispatch_keeps dispatch s t w = dispatched_keep (TellsDispatch g h dispatch) (dispatch_steps dispatch) s t w
 
   taken_keeps : {A : Type 0} (s t : StackValue (Filtered L F)) (r : Result A RequestError) (leaves : StackValue (Filtered L F) → Type 0) → (leaves t → Keeps s t) → WhereTaken r s leaves t → Keeps s t
   taken_keeps s t (Ok done) leaves f w = f w
@@ -172,39 +191,39 @@ module _ {L F : Type 0} (g : Ghosts F) (h : LayerGhosts L) where
 
   pub record_keeps : (id : ℕ) (values : PlainValues) (at : At) (s t : StackValue (Filtered L F)) (r : Result (Unit {0}) RequestError) → RecordGives g h id values at s r t → Keeps s t
   record_keeps id values at s t r w =
-      taken_keeps s t r (RowsBecome (TellsSpan g h (Recorded id values) id at s.registry) s) (rows_keep s.registry (TellsSpan g h (Recorded id values) id at s.registry) (span_steps (Recorded id values) id at s.registry) s t) w.1
+      taken_keeps s t r (RowsInTurn (TellsSpan g h (Recorded id values) id at) s) (rows_keep s.registry (TellsSpan g h (Recorded id values) id at) (span_steps (Recorded id values) id at) s t) w.1
 
   pub follows_keeps : (id follows : ℕ) (at : At) (s t : StackValue (Filtered L F)) (r : Result (Unit {0}) RequestError) → FollowsGives g h id follows at s r t → Keeps s t
   follows_keeps id follows at s t r w =
-      taken_keeps s t r (RowsBecome (TellsFollows g h id follows at s.registry) s) (rows_keep s.registry (TellsFollows g h id follows at s.registry) (follows_steps id follows at s.registry) s t) w.1
+      taken_keeps s t r (RowsInTurn (TellsFollows g h id follows at) s) (rows_keep s.registry (TellsFollows g h id follows at) (follows_steps id follows at) s t) w.1
 
   pub enter_keeps : (id : ℕ) (at : At) (s t : StackValue (Filtered L F)) (r : Result (Unit {0}) RequestError) → EnterGives g h id at s r t → Keeps s t
   enter_keeps id at s t r w =
-      taken_keeps s t r (RowsBecome (TellsSpan g h (Entered id) id at w.0) (over w.0 s)) (rows_keep w.0 (TellsSpan g h (Entered id) id at w.0) (span_steps (Entered id) id at w.0) s t) w.2
+      taken_keeps s t r (RowsInTurn (TellsSpan g h (Entered id) id at) (over w.0 s)) (rows_keep w.0 (TellsSpan g h (Entered id) id at) (span_steps (Entered id) id at) s t) w.2
 
-  each_closes : (ss : List PlainSpan) (at : At) (x : RegistryValue) (rows : List (Row (Filtered L F))) (y : RegistryValue) (later : List (Row (Filtered L F))) → ClosesEach g h ss at x rows y later → EachBecomes (Steps g) (filters_of rows) (filters_of later)
-  each_closes [] at x rows y later w = subst (λ l. EachBecomes (Steps g) (filters_of rows) (filters_of l)) (sym w.1) (each_put g (filters_of rows))
-  each_closes (s ∷ ss) at x rows y later w =
-      each_then g (filters_of rows) (filters_of w.0) (filters_of later) (each_steps (TellsSpan g h (Closed s.kin.id) s.kin.id at x) (span_steps (Closed s.kin.id) s.kin.id at x) rows w.0 w.1) (each_closes ss at w.2.0 w.0 y later w.2.2)
-
-  numbers_closed : (ss : List PlainSpan) (at : At) (x : RegistryValue) (rows : List (Row (Filtered L F))) (y : RegistryValue) (later : List (Row (Filtered L F))) → ClosesEach g h ss at x rows y later → numbers_of h later ≡ numbers_of h rows
-  numbers_closed [] at x rows y later w = ap (numbers_of h) w.1
-  numbers_closed (s ∷ ss) at x rows y later w =
-      numbers_closed ss at w.2.0 w.0 y later w.2.2 ∙ each_numbers (TellsSpan g h (Closed s.kin.id) s.kin.id at x) (span_steps (Closed s.kin.id) s.kin.id at x) rows w.0 w.1
+  each_closes : (ids : List ℕ) (at : At) (x : RegistryValue) (rows : List (Row (Filtered L F))) (y : RegistryValue) (later : List (Row (Filtered L F))) → ClosesEach g h ids at x rows y later → EachBecomes (Steps g) (filters_of rows) (filters_of later) × (numbers_of h later ≡ numbers_of h rows)
+  each_closes [] at x rows y later w = (subst (λ l. EachBecomes (Steps g) (filters_of rows) (filters_of l)) (sym w.1) (each_put g (filters_of rows)), ap (numbers_of h) w.1)
+  each_closes (id ∷ ids) at x rows y later (told, z, heard, gone) =
+      let each = turn_steps (TellsSpan g h (Closed id) id at) (span_steps (Closed id) id at) x rows z told heard in
+      let rest = each_closes ids at gone.0 told y later gone.2 in (
+        each_then g (filters_of rows) (filters_of told) (filters_of later) (each_steps Stepped (λ row later k. k) rows told each) rest.0,
+        rest.1 ∙ each_numbers Stepped (λ row later k. k) rows told each,
+      )
 
   closes_keep : (at : At) (x : RegistryValue) (s t : StackValue (Filtered L F)) → Closes g h at (over x s) t → Keeps s t
   closes_keep at x s t w =
+      let each = each_closes (ids_of (closing_in x)) at x s.rows t.registry t.rows w.0 in
       record {
-        steps = each_closes (closing_in x) at x s.rows t.registry t.rows w.0;
-        sites = ap (λ (v : StackValue (Filtered L F)). v.sites) w.2;
-        hint = ap (λ (v : StackValue (Filtered L F)). v.hint) w.2;
-        numbers = numbers_closed (closing_in x) at x s.rows t.registry t.rows w.0;
+        steps = each.0;
+        sites = ap (λ (v : StackValue (Filtered L F)). v.sites) w.3;
+        hint = ap (λ (v : StackValue (Filtered L F)). v.hint) w.3;
+        numbers = each.1;
       }
 
   pub exit_keeps : (id : ℕ) (at : At) (s t : StackValue (Filtered L F)) → ExitGives g h id at s t → Keeps s t
   exit_keeps id at s t w =
       let x = without_entry s.registry at.lane id in
-      keeps_then s w.0 t (rows_keep x (TellsSpan g h (Exited id) id at x) (span_steps (Exited id) id at x) s w.0 w.1) (closes_keep at w.0.registry w.0 t w.2)
+      keeps_then s w.0 t (rows_keep x (TellsSpan g h (Exited id) id at) (span_steps (Exited id) id at) s w.0 w.1) (closes_keep at w.0.registry w.0 t w.2)
 
   pub close_keeps : (id : ℕ) (at : At) (s t : StackValue (Filtered L F)) (r : Bool) → CloseGives g h id at s r t → Keeps s t
   close_keeps id at s t r w = unless (close_refusal s.registry id) w
@@ -217,21 +236,21 @@ module _ {L F : Type 0} (g : Ghosts F) (h : LayerGhosts L) where
   clone_keeps id s t r w = subst (Keeps s) (sym w.1) (record { steps = each_put g (filters_of s.rows); sites = refl; hint = refl; numbers = refl })
 
   makes_keeps : (a : PlainAttributes) (at : At) (verdicts : List Bool) (s t : StackValue (Filtered L F)) (r : Result (Option ℕ) RequestError) → MakesSpan g h a at verdicts s r t → Keeps s t
-  makes_keeps a at verdicts s t r (Ok id, x, taken, made) = rows_keep x (TellsMade g h (SpanMade a id) id at x) (made_steps (SpanMade a id) id at x) s t made.1
+  makes_keeps a at verdicts s t r (Ok id, x, taken, made) = rows_keep x (TellsMade g h (SpanMade a id) id at) (made_steps (SpanMade a id) id at) s t made.1
   makes_keeps a at verdicts s t r (Err e, x, taken, made) = keeps_same s t made.1
 
-  event_steps : (e : PlainEvent) (at : At) (x : RegistryValue) (row later : Row (Filtered L F)) → TellsEvent g h e at x row later → Stepped row later
-  event_steps e at x row later w =
-      let notice = Happened e (view_of at x row) in
+  event_steps : (e : PlainEvent) (at : At) (x : RegistryValue) (row : Row (Filtered L F)) (y : RegistryValue) (later : Row (Filtered L F)) → TellsEvent g h e at x row y later → Stepped row later
+  event_steps e at x row y later w =
+      let v = view_of at x row in
       stepped_put row later (ap (λ (r : Row (Filtered L F)). r.output.filter) w.3) (ap (λ (r : Row (Filtered L F)). r.id) w.3)
-      (told_if later.told row.output.layer notice later.output.layer (h.numbered row.output.layer notice later.output.layer) w.2)
+      (told_if later.told row.output.layer (Happened e) v y later.output.layer (h.numbered row.output.layer (Happened e v y) later.output.layer) w.2)
 
   pub event_keeps : (e : PlainEvent) (at : At) (s t : StackValue (Filtered L F)) (r : Result (Unit {0}) RequestError) → EventCached g h e at s r t → Keeps s t
   event_keeps e at s t r w = known (knows s.registry (explicit_parent e.parent)) (is_refused s e.metadata) w
     where
       known : (k b : Bool) → WhereKnown k s (TellsUnless g h b e at s) r t → Keeps s t
       known true true w = cleared_keeps s t w.1
-      known true false w = rows_keep s.registry (TellsEvent g h e at s.registry) (event_steps e at s.registry) s t w.1
+      known true false w = rows_keep s.registry (TellsEvent g h e at) (event_steps e at) s t w.1
       known false b w = keeps_same s t w.1
 
   span_where : (b : Bool) (a : PlainAttributes) (at : At) (verdicts : List Bool) (s t : StackValue (Filtered L F)) (r : Result (Option ℕ) RequestError) → SpanWhere g h b a at verdicts s r t → Keeps s t

@@ -1,5 +1,5 @@
 //! What holds of every stack.
-ghost use Rattle.span_registry_layers_stack.specs.Alone.{RegistryStandsAlone};
+ghost use Rattle.span_registry_layers_stack.specs.Alone.{RegistryStandsAlone, UnwrittenStandsAlone};
 ghost use Rattle.span_registry_layers_stack.specs.Numbers.{DroppedSpanTellsNobody, DroppedTellsNobody, NumbersStay, OneOutputDecides, VerdictsAreOwn};
 ghost use Rattle.span_registry_layers_stack.specs.Soundness.{NewIsSound, StackStaysSound};
 
@@ -35,9 +35,11 @@ pub fn stack_registry_stays_sound<L: Layer, F: Filter>()
 {}
 
 /// What a call leaves of a stack's registry is what the registry's own call leaves: outputs, filters and layers have no say in
-/// ids, handles, entries and closes, but for whether a span is made, and what is kept with it of their filters' answers.
+/// ids, handles, entries and closes, but for whether a span is made, what is kept with it of their filters' answers, and slots;
+/// and where no layer writes a slot, it is just so.
 pub fn registry_stands_alone<L: Layer, F: Filter>()
-    ensures { RegistryStandsAlone ⟦<F as Filter>⟧ ⟦<L as Layer>⟧ }
+    ensures slots { RegistryStandsAlone ⟦<F as Filter>⟧ ⟦<L as Layer>⟧ }
+    ensures unwritten { UnwrittenStandsAlone ⟦<F as Filter>⟧ ⟦<L as Layer>⟧ }
 {}
 
 /// In a stack of one output, whose layer has no filters, a span whose named parent is open is made where the output's filter

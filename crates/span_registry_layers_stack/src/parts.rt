@@ -101,16 +101,17 @@ impl<L: Layer, F: Filter> StackParts<Filtered<L, F>> {
     }
 
     // Whether some filter passes it, and false where what is kept refuses it.
-    pub(crate) fn enabled(&self, metadata: &Metadata<'_>, at: At) -> bool
-        ensures { PassesCached ⟦<F as Filter>⟧ (plain_stack self.now) (plain_metadata metadata.now) at result }
+    pub(crate) fn enabled(&mut self, metadata: &Metadata<'_>, at: At) -> bool
+        ensures answer { PassesCached ⟦<F as Filter>⟧ (plain_stack self.old) (plain_metadata metadata.now) at result }
+        ensures same { plain_stack self.new ≡ plain_stack self.old }
     {
-        !self.refuses(metadata) && any_passes(&self.rows, metadata, &self.registry, at)
+        !self.refuses(metadata) && any_passes(&self.rows, metadata, &mut self.registry, at)
     }
 
     fn tell(&mut self, event: &Event<'_, '_>, at: At)
         ensures { TellsAll ⟦<F as Filter>⟧ ⟦<L as Layer>⟧ (plain_event event.now) at (plain_stack self.old) (plain_stack self.new) }
     {
-        tell_event(&mut self.rows, event, &self.registry, at);
+        tell_event(&mut self.rows, event, &mut self.registry, at);
     }
 
     // Tells each output that passes the event, and asks nobody where what is kept refuses it.

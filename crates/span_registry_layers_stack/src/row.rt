@@ -58,8 +58,9 @@ impl<L: Layer, F: Filter> Row<Filtered<L, F>> {
     }
 
     // Whether its filter passes what is made of the callsite.
-    pub(crate) fn passes(&self, metadata: &Metadata<'_>, registry: &Registry, at: At) -> bool
-        ensures { F.answers self.now.output.filter (plain_metadata metadata.now) (view_of at registry.now self.now) result }
+    pub(crate) fn passes(&self, metadata: &Metadata<'_>, registry: &mut Registry, at: At) -> bool
+        ensures answer { F.answers self.now.output.filter (plain_metadata metadata.now) (view_of at registry.old self.now) result }
+        ensures same { registry.new ≡ registry.old }
     {
         let context = Context::new(registry, at, Some(self.id));
         self.output.filter().enabled(metadata, &context)
@@ -70,40 +71,43 @@ impl<L: Layer, F: Filter> Row<Filtered<L, F>> {
     pub(crate) fn ask_span(
         &self,
         metadata: &Metadata<'_>,
-        registry: &Registry,
+        registry: &mut Registry,
         at: At,
         verdicts: FilterMap,
     ) -> (FilterMap, bool)
-        ensures { AsksRow ⟦<F as Filter>⟧ ⟦<L as Layer>⟧ (plain_metadata metadata.now) at registry.now self.now verdicts.passed result.0.passed result.1 }
+        ensures asked { AsksRow ⟦<F as Filter>⟧ ⟦<L as Layer>⟧ (plain_metadata metadata.now) at registry.old self.now verdicts.passed result.0.passed result.1 }
+        ensures same { registry.new ≡ registry.old }
     {
         let passes = self.passes(metadata, registry, at);
         let own = verdicts.with(self.id, passes);
-        let context = Context::new(registry, at, Some(self.id));
+        let mut context = Context::new(registry, at, Some(self.id));
         let (said, _heard) = self
             .output
             .inner()
-            .ask_span(metadata, &context, passes, own);
+            .ask_span(metadata, &mut context, passes, own);
         (said, passes)
     }
 
     // Whether its filter passes the event, whose callsite it passes.
-    fn wants(&self, event: &Event<'_, '_>, registry: &Registry, at: At) -> bool
-        ensures { F.event_answers self.now.output.filter (plain_event event.now) (view_of at registry.now self.now) result }
+    fn wants(&self, event: &Event<'_, '_>, registry: &mut Registry, at: At) -> bool
+        ensures answer { F.event_answers self.now.output.filter (plain_event event.now) (view_of at registry.old self.now) result }
+        ensures same { registry.new ≡ registry.old }
     {
         let context = Context::new(registry, at, Some(self.id));
         self.output.filter().event_enabled(event, &context)
     }
 
     // The same, where it is known what it passes of the callsite.
-    fn hears(&self, passes: bool, event: &Event<'_, '_>, registry: &Registry, at: At) -> bool
-        ensures { Then (F.event_answers self.now.output.filter (plain_event event.now) (view_of at registry.now self.now)) passes result }
+    fn hears(&self, passes: bool, event: &Event<'_, '_>, registry: &mut Registry, at: At) -> bool
+        ensures answer { Then (F.event_answers self.now.output.filter (plain_event event.now) (view_of at registry.old self.now)) passes result }
+        ensures same { registry.new ≡ registry.old }
     {
         passes && self.wants(event, registry, at)
     }
 
     // Tells its layer of the event.
-    fn tell(&mut self, event: &Event<'_, '_>, registry: &Registry, at: At)
-        ensures told { L.told self.old.output.layer (Happened (plain_event event.now) (view_of at registry.now self.old)) self.new.output.layer }
+    fn tell(&mut self, event: &Event<'_, '_>, registry: &mut Registry, at: At)
+        ensures told { L.told self.old.output.layer (Happened (plain_event event.now) (view_of at registry.old self.old) registry.new) self.new.output.layer }
         ensures rest { self.new ≡ with_layer self.new.output.layer self.old }
     {
         let mut context = Context::new(registry, at, Some(self.id));
@@ -111,8 +115,8 @@ impl<L: Layer, F: Filter> Row<Filtered<L, F>> {
     }
 
     // Asks its filter of the event, and tells its layer where that passes it.
-    pub(crate) fn event(&mut self, event: &Event<'_, '_>, registry: &Registry, at: At)
-        ensures { TellsEvent ⟦<F as Filter>⟧ ⟦<L as Layer>⟧ (plain_event event.now) at registry.now self.old self.new }
+    pub(crate) fn event(&mut self, event: &Event<'_, '_>, registry: &mut Registry, at: At)
+        ensures { TellsEvent ⟦<F as Filter>⟧ ⟦<L as Layer>⟧ (plain_event event.now) at registry.old self.old registry.new self.new }
     {
         let passes = self.passes(event.metadata(), registry, at);
         let hears = self.hears(passes, event, registry, at);

@@ -4,8 +4,9 @@ ghost use Rattle.tracing_core.specs.Asking.{joined, settled};
 ghost use Rattle.tracing_core.specs.Metadata.{plain_metadata};
 ghost use Rattle.tracing_core.specs.PlainRequests.{plain_event};
 ghost use Rattle.span_registry_layers_store.specs.Verdicts.{all_pass};
+ghost use Rattle.span_registry_layers_layers.specs.Several.{EachInTurn};
 ghost use Rattle.span_registry_layers_stack.specs.Asked.{AsksFrom, CommonInterest, SomePasses, common_hint, higher_hint};
-ghost use Rattle.span_registry_layers_stack.specs.Rows.{EachBecomes, TellsEvent, filters_of, marked};
+ghost use Rattle.span_registry_layers_stack.specs.Rows.{TellsEvent, filters_of, marked};
 
 mod spans;
 
@@ -17,14 +18,14 @@ pub(crate) use spans::{
 };
 use tracing_core::{At, Event, Interest, LevelFilter, Metadata};
 
-// Tells each output of the event that passes it.
+// Tells each output, in order, of the event that passes it.
 pub(crate) fn tell_event<L: Layer, F: Filter>(
     rows: &mut [Row<Filtered<L, F>>],
     event: &Event<'_, '_>,
-    registry: &Registry,
+    registry: &mut Registry,
     at: At,
 )
-    ensures { EachBecomes (TellsEvent ⟦<F as Filter>⟧ ⟦<L as Layer>⟧ (plain_event event.now) at registry.now) rows.old rows.new }
+    ensures { EachInTurn (TellsEvent ⟦<F as Filter>⟧ ⟦<L as Layer>⟧ (plain_event event.now) at) registry.old rows.old registry.new rows.new }
 {
     for row in rows.iter_mut() {
         row.event(event, registry, at);
@@ -44,10 +45,11 @@ pub(crate) fn clear_marks<O>(rows: &mut [Row<O>])
 pub(crate) fn any_passes<L: Layer, F: Filter>(
     rows: &[Row<Filtered<L, F>>],
     metadata: &Metadata<'_>,
-    registry: &Registry,
+    registry: &mut Registry,
     at: At,
 ) -> bool
-    ensures { SomePasses ⟦<F as Filter>⟧ (plain_metadata metadata.now) at registry.now rows.now result }
+    ensures answer { SomePasses ⟦<F as Filter>⟧ (plain_metadata metadata.now) at registry.old rows.now result }
+    ensures same { registry.new ≡ registry.old }
 {
     let mut rest = rows;
     while let [row, later @ ..] = rest {
@@ -63,10 +65,11 @@ pub(crate) fn any_passes<L: Layer, F: Filter>(
 pub(crate) fn ask_span<L: Layer, F: Filter>(
     rows: &[Row<Filtered<L, F>>],
     metadata: &Metadata<'_>,
-    registry: &Registry,
+    registry: &mut Registry,
     at: At,
 ) -> (FilterMap, bool)
-    ensures { AsksFrom ⟦<F as Filter>⟧ ⟦<L as Layer>⟧ (plain_metadata metadata.now) at registry.now all_pass false rows.now result.0.passed result.1 }
+    ensures asked { AsksFrom ⟦<F as Filter>⟧ ⟦<L as Layer>⟧ (plain_metadata metadata.now) at registry.old all_pass false rows.now result.0.passed result.1 }
+    ensures same { registry.new ≡ registry.old }
 {
     let mut verdicts = FilterMap::all();
     let mut some = false;

@@ -100,9 +100,10 @@ impl<L: Layer, F: Filter> Stack<Filtered<L, F>> {
     }
 
     /// Whether some output's filter passes what is made of the callsite there and then. It leaves no mark.
-    pub fn enabled(&self, metadata: &Metadata<'_>, at: At) -> bool
-        ensures exact { PassesCached ⟦<F as Filter>⟧ self.now (plain_metadata metadata.now) at result }
-        ensures asking { Word ⟦<F as Filter>⟧ self.now → PassesAsked ⟦<F as Filter>⟧ self.now (plain_metadata metadata.now) at result }
+    pub fn enabled(&mut self, metadata: &Metadata<'_>, at: At) -> bool
+        ensures exact { PassesCached ⟦<F as Filter>⟧ self.old (plain_metadata metadata.now) at result }
+        ensures asking { Word ⟦<F as Filter>⟧ self.old → PassesAsked ⟦<F as Filter>⟧ self.old (plain_metadata metadata.now) at result }
+        ensures same { self.new ≡ self.old }
     {
         self.some_passes(metadata, at)
     }

@@ -3,21 +3,17 @@ use Rattle.std.proofs.Common.{◌≡◌, ℕ, ◌<◌, List, [], ◌∷◌, map,
 use Rattle.std.proofs.lemmas.Simd.{map-map}
 use Rattle.std.specs.List.{AllByRecursion}
 use Rattle.span_registry_layers_store.specs.Aside.{SameButSlots, SlotsStandAside, bare, bare_span, ids_of}
-use Rattle.span_registry_layers_store.specs.Gives.{IsNext, IsSettled}
+use Rattle.span_registry_layers_store.specs.Gives.{IsNext}
 use Rattle.span_registry_layers_store.specs.Keeping.{with_places, with_slots}
 use Rattle.span_registry_layers_store.specs.Laws.{IsOrdered, IsSound}
-use Rattle.span_registry_layers_store.specs.Registries.{PlainSpan, RegistryValue, closing_in, current_on, kin_in, knows, one_less, swept, without_entry, without_handle}
+use Rattle.span_registry_layers_store.specs.Registries.{PlainSpan, RegistryValue, closing_in, current_on, kin_in, swept}
 use Rattle.span_registry_layers_store.specs.Slots.{PlainPlace}
 use Rattle.span_registry_layers_store.specs.Spans.{changed, is_entered, is_open, open_of}
-use Rattle.span_registry_layers_store.proofs.Carried.{changed_carried, closed_carried, left_carried, open_carried, stays_carried}
+use Rattle.span_registry_layers_store.proofs.Carried.{closed_carried, left_carried, open_carried, stays_carried}
 use Rattle.span_registry_layers_store.proofs.Entering.{entered_all, entered_from}
 use Rattle.span_registry_layers_store.proofs.Sweeping.{all_stay_join, all_stay_split}
 
--- they differ so from themselves
-pub aside_refl : (x : RegistryValue) → SameButSlots x x
-aside_refl x = refl
-
--- and over one between
+-- over a registry between two
 pub aside_then : (x y z : RegistryValue) → SameButSlots x y → SameButSlots y z → SameButSlots x z
 aside_then x y z same also = also ∙ same
 
@@ -47,19 +43,12 @@ aside_lanes x y same = ap (λ (z : RegistryValue). z.lanes) same
 pub aside_next : (x y : RegistryValue) → SameButSlots x y → y.next_id ≡ x.next_id
 aside_next x y same = ap (λ (z : RegistryValue). z.next_id) same
 
-pub aside_filters : (x y : RegistryValue) → SameButSlots x y → y.filters ≡ x.filters
-aside_filters x y same = ap (λ (z : RegistryValue). z.filters) same
-
 -- and so is what is open
 pub aside_open : (x y : RegistryValue) (id : ℕ) → SameButSlots x y → is_open kin_in y.spans id ≡ is_open kin_in x.spans id
 aside_open x y id same =
     sym (open_carried kin_in bare_span y.spans id)
     ∙ ap (λ (ss : List PlainSpan). is_open kin_in ss id) (aside_spans x y same)
     ∙ open_carried kin_in bare_span x.spans id
-
-pub aside_knows : (x y : RegistryValue) (o : Option ℕ) → SameButSlots x y → knows y o ≡ knows x o
-aside_knows x y None same = refl
-aside_knows x y (Some id) same = aside_open x y id same
 
 -- and what each lane is in
 pub aside_current : (x y : RegistryValue) (lane : ℕ) → SameButSlots x y → current_on y lane ≡ current_on x lane
@@ -131,20 +120,6 @@ aside_sound x y same sound = record {
   entries = entered_from (is_open kin_in y.spans) y.lanes
       (λ id entry. aside_open x y id same ∙ entered_all (is_open kin_in x.spans) x.lanes sound.entries id (ap (λ (lanes : List (List ℕ)). is_entered lanes id) (sym (aside_lanes x y same)) ∙ entry));
 }
-
--- an exit and a handle given up
-pub aside_without_entry : (x y : RegistryValue) (lane id : ℕ) → SameButSlots x y → SameButSlots (without_entry x lane id) (without_entry y lane id)
-aside_without_entry x y lane id same = ap (λ (z : RegistryValue). without_entry z lane id) same
-
-bare_without_handle : (x : RegistryValue) (id : ℕ) → without_handle (bare x) id ≡ bare (without_handle x id)
-bare_without_handle x id = ap (λ (ss : List PlainSpan). record x { spans = ss }) (changed_carried kin_in bare_span one_less one_less (λ s. refl) x.spans id)
-
-pub aside_without_handle : (x y : RegistryValue) (id : ℕ) → SameButSlots x y → SameButSlots (without_handle x id) (without_handle y id)
-aside_without_handle x y id same = sym (bare_without_handle y id) ∙ ap (λ (z : RegistryValue). without_handle z id) same ∙ bare_without_handle x id
-
--- where nothing closes any more, this is what is left of the one before
-pub settled_aside : (x y : RegistryValue) → SameButSlots x y → IsSettled y → SameButSlots (swept x) y
-settled_aside x y same settled = ap bare (sym settled.1) ∙ aside_swept x y same
 
 pub slots_aside : SlotsStandAside
 slots_aside x y same = record {

@@ -25,3 +25,4 @@ pub mod Told
 pub mod Sound
 pub mod Lending
 pub mod Aside
+pub mod Keyed

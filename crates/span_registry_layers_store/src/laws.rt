@@ -1,6 +1,6 @@
 //! Laws of registries.
 
-ghost use Rattle.span_registry_layers_store.specs.Aside.{SlotsStandAside};
+ghost use Rattle.span_registry_layers_store.specs.Aside.{SlotsKeepToTheirKey, SlotsStandAside};
 ghost use Rattle.span_registry_layers_store.specs.Laws.{ClosesChildFirst, LineIsShown, LineIsWhole, OpenIsClosedUp, OpenIsLeast, StartsSound, StaysSound};
 
 /// The open spans are the least set that holds each span with a handle or an entry, and the parents of its members.
@@ -31,4 +31,9 @@ pub fn line_is_whole()
 /// them alone, have the same ids open and the same current spans, and are sound alike.
 pub fn slots_stand_aside()
     ensures { SlotsStandAside }
+{}
+
+/// A call on the slots under a key changes nothing else: not what stands under another key, nor anything but slots.
+pub fn slots_keep_to_their_key()
+    ensures { SlotsKeepToTheirKey }
 {}

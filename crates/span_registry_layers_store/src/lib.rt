@@ -20,7 +20,8 @@ mod table;
 pub use extensions::{Extensions, ExtensionsMut};
 pub use filter_map::{FilterId, FilterMap, TooManyFilters};
 pub use laws::{
-    closes_child_first, line_is_whole, open_is_least, registry_stays_sound, slots_stand_aside,
+    closes_child_first, line_is_whole, open_is_least, registry_stays_sound,
+    slots_keep_to_their_key, slots_stand_aside,
 };
 pub use lookup::{Data, LookupSpan, SpanData};
 pub use metadata::OwnedMetadata;

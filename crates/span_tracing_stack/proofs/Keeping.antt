@@ -8,7 +8,8 @@ use Rattle.tracing_core.specs.Kept.{Every}
 use Rattle.tracing_core.specs.PlainRequests.{PlainAttributes, PlainEvent, PlainValues}
 use Rattle.tracing_core.specs.RequestError.{RequestError}
 use Rattle.tracing_core.specs.Handles.{or_same}
-use Rattle.span_registry_layers.specs.AloneProofs.{registry_alone}
+use Rattle.span_registry_layers.specs.Alone.{WritesNothing}
+use Rattle.span_registry_layers.specs.AloneProofs.{registry_unwritten}
 use Rattle.span_registry_layers.specs.Calls.{CloneGives, CloseGives, EnterGives, ExitGives, FollowsGives, RecordGives, SpanCached}
 use Rattle.span_registry_layers.specs.Filter.{Ghosts}
 use Rattle.span_registry_layers.specs.Filtered.{Filtered}
@@ -53,54 +54,54 @@ entry_next None x left y (Ok done) same w = ap (λ (z : RegistryValue). z.next_i
 entry_next None x left y (Err e) same w = ap (λ (z : RegistryValue). z.next_id) w.1
 entry_next (Some refusal) x left y r same w = ap (λ (z : RegistryValue). z.next_id) w.1
 
-module _ {F : Type 0} (g : Ghosts F) (h : LayerGhosts Identity) (s t : OutputsValue (Filtered Identity F)) (texts : List PlainText) (right : IsRight g h s texts) where
+module _ {F : Type 0} (g : Ghosts F) (h : LayerGhosts Identity) (idle : WritesNothing h) (s t : OutputsValue (Filtered Identity F)) (texts : List PlainText) (right : IsRight g h s texts) where
   pub dispatched_right : (d : Option ℕ) → outputs.Moves g h s (DispatchRegistered d) tt t → IsRight g h t texts
-  dispatched_right d m = right_alike g h s t (DispatchRegistered d) tt texts m right (keeps_word g h s t (dispatch_keeps g h d s t m)) (next_in g h s t (registry_alone g h s (DispatchRegistered d) tt t m))
+  dispatched_right d m = right_alike g h idle s t (DispatchRegistered d) tt texts m right (keeps_word g h s t (dispatch_keeps g h d s t m)) (next_in g h idle s t (registry_unwritten g h idle s (DispatchRegistered d) tt t m))
 
   pub registered_right : (m : PlainMetadata) (k : PlainInterest) → outputs.Moves g h s (CallsiteRegistered m) k t → IsRight g h t texts
-  registered_right m k w = right_alike g h s t (CallsiteRegistered m) k texts w right (word_registered g s t m k w.0 w.1) (next_in g h s t (registry_alone g h s (CallsiteRegistered m) k t w))
+  registered_right m k w = right_alike g h idle s t (CallsiteRegistered m) k texts w right (word_registered g s t m k w.0 w.1) (next_in g h idle s t (registry_unwritten g h idle s (CallsiteRegistered m) k t w))
 
   pub hinted_right : (r : Option ℕ) → outputs.Moves g h s HintAsked r t → IsRight g h t texts
   hinted_right r w =
-      right_alike g h s t HintAsked r texts w right (λ word. subst (Word g) (sym (w.1 ∙ ap (λ hint. with_hint hint s) w.0)) (word_hinted g s word))
-      (next_in g h s t (registry_alone g h s HintAsked r t w))
+      right_alike g h idle s t HintAsked r texts w right (λ word. subst (Word g) (sym (w.1 ∙ ap (λ hint. with_hint hint s) w.0)) (word_hinted g s word))
+      (next_in g h idle s t (registry_unwritten g h idle s HintAsked r t w))
 
   pub followed_right : (id follows : ℕ) (at : At) (r : Result (Unit {0}) RequestError) → FollowsGives g h id follows at s r t → (Word g s → Word g t) → IsRight g h t texts
-  followed_right id follows at r w word = right_alike g h s t (FollowsRecorded id follows at) r texts w right word (next_in g h s t (registry_alone g h s (FollowsRecorded id follows at) r t w).1)
+  followed_right id follows at r w word = right_alike g h idle s t (FollowsRecorded id follows at) r texts w right word (next_in g h idle s t (registry_unwritten g h idle s (FollowsRecorded id follows at) r t w).1)
 
   pub entered_right : (id : ℕ) (at : At) (r : Result (Unit {0}) RequestError) → EnterGives g h id at s r t → (Word g s → Word g t) → IsRight g h t texts
   entered_right id at r w word =
-      right_alike g h s t (Entered id at) r texts w right word (entry_next (open_refusal s.registry id) s.registry (with_entry s.registry at.lane id) t.registry r refl (registry_alone g h s (Entered id at) r t w))
+      right_alike g h idle s t (Entered id at) r texts w right word (entry_next (open_refusal s.registry id) s.registry (with_entry s.registry at.lane id) t.registry r refl (registry_unwritten g h idle s (Entered id at) r t w))
 
   pub cloned_right : (id : ℕ) (at : At) (r : Result ℕ RequestError) → CloneGives id s r t → (Word g s → Word g t) → IsRight g h t texts
   cloned_right id at r w word =
-      right_alike g h s t (Cloned id at) r texts w right word
+      right_alike g h idle s t (Cloned id at) r texts w right word
       (ap (λ (p : Result ℕ RequestError × RegistryValue). p.1.next_id) w.0 ∙ next_same (clone_refusal s.registry id) s.registry (with_handle s.registry id) refl)
 
   pub exited_right : (id : ℕ) (at : At) → ExitGives g h id at s t → (Word g s → Word g t) → IsRight g h t (open_texts t.registry.spans texts)
   exited_right id at w word =
-      right_by g h s t (Exited id at) tt texts (open_texts t.registry.spans texts) w right word
-      (subst (λ n. AreRising (open_texts t.registry.spans texts) n) (sym (ap (λ (x : RegistryValue). x.next_id) (registry_alone g h s (Exited id at) tt t w))) (open_rising t.registry.spans texts s.registry.next_id right.rising))
+      right_by g h idle s t (Exited id at) tt texts (open_texts t.registry.spans texts) w right word
+      (subst (λ n. AreRising (open_texts t.registry.spans texts) n) (sym (ap (λ (x : RegistryValue). x.next_id) (registry_unwritten g h idle s (Exited id at) tt t w))) (open_rising t.registry.spans texts s.registry.next_id right.rising))
 
   pub closed_right : (id : ℕ) (at : At) (r : Bool) → CloseGives g h id at s r t → (Word g s → Word g t) → IsRight g h t (open_texts t.registry.spans texts)
   closed_right id at r w word =
-      right_by g h s t (CloseTried id at) r texts (open_texts t.registry.spans texts) w right word
-      (subst (λ n. AreRising (open_texts t.registry.spans texts) n) (sym (ap (λ (x : RegistryValue). x.next_id) (registry_alone g h s (CloseTried id at) r t w).1 ∙ next_closed s.registry id)) (open_rising t.registry.spans texts s.registry.next_id right.rising))
+      right_by g h idle s t (CloseTried id at) r texts (open_texts t.registry.spans texts) w right word
+      (subst (λ n. AreRising (open_texts t.registry.spans texts) n) (sym (ap (λ (x : RegistryValue). x.next_id) (registry_unwritten g h idle s (CloseTried id at) r t w).1 ∙ next_closed s.registry id)) (open_rising t.registry.spans texts s.registry.next_id right.rising))
 
   pub recorded_right : (id : ℕ) (values : PlainValues) (at : At) (r : Result (Unit {0}) RequestError) (fate : Fate) (later : List PlainText) → RecordGives g h id values at s r t → (Word g s → Word g t) → AddsFields texts id values fate later → IsRight g h t later
   recorded_right id values at r fate later w word adds =
-      right_by g h s t (Recorded id values at) r texts later w right word
-      (rw (adds.2, ap (λ (x : RegistryValue). x.next_id) (registry_alone g h s (Recorded id values at) r t w).1) (bytes_rising texts s.registry.next_id id adds.0 right.rising))
+      right_by g h idle s t (Recorded id values at) r texts later w right word
+      (rw (adds.2, ap (λ (x : RegistryValue). x.next_id) (registry_unwritten g h idle s (Recorded id values at) r t w).1) (bytes_rising texts s.registry.next_id id adds.0 right.rising))
 
   pub unrecorded_right : (id : ℕ) (values : PlainValues) (at : At) (r : Result (Unit {0}) RequestError) → RecordGives g h id values at s r t → (Word g s → Word g t) → IsRight g h t texts
-  unrecorded_right id values at r w word = right_alike g h s t (Recorded id values at) r texts w right word (next_in g h s t (registry_alone g h s (Recorded id values at) r t w).1)
+  unrecorded_right id values at r w word = right_alike g h idle s t (Recorded id values at) r texts w right word (next_in g h idle s t (registry_unwritten g h idle s (Recorded id values at) r t w).1)
 
   pub told_right : (e : PlainEvent) (at : At) (r : Result (Unit {0}) RequestError) → EventCached g h e at s r t → (Word g s → Word g t) → IsRight g h t texts
-  told_right e at r w word = right_alike g h s t (Told e at) r texts w right word (next_in g h s t (registry_alone g h s (Told e at) r t w).1)
+  told_right e at r w word = right_alike g h idle s t (Told e at) r texts w right word (next_in g h idle s t (registry_unwritten g h idle s (Told e at) r t w).1)
 
   pub made_right : (a : PlainAttributes) (at : At) (id : ℕ) (text : PlainText) → SpanCached g h a at s (Ok (Some id)) t → (Word g s → Word g t) → text.id ≡ s.registry.next_id → t.registry.next_id ≡ s.registry.next_id + 1 → IsRight g h t (texts ++ text ∷ [])
   made_right a at id text w word own more =
-      right_by g h s t (SpanMade a at) (Ok (Some id)) texts (texts ++ text ∷ []) w right word (subst (λ n. AreRising (texts ++ text ∷ []) n) (sym more) (more_rising texts text s.registry.next_id own right.rising))
+      right_by g h idle s t (SpanMade a at) (Ok (Some id)) texts (texts ++ text ∷ []) w right word (subst (λ n. AreRising (texts ++ text ∷ []) n) (sym more) (more_rising texts text s.registry.next_id own right.rising))
 
 -- a list of one
 pub one_listed : {A : Type 0} (new reserved later : List A) (x : A) → new ≡ [] → reserved ≡ new → later ≡ reserved ++ x ∷ [] → later ≡ x ∷ []
@@ -150,13 +151,13 @@ refused_same : (o : Option RequestError) (x left y : RegistryValue) (n : ℕ) (e
 refused_same None x left y n error w = w.1
 refused_same (Some refusal) x left y n error w = w.1
 
-module _ {F : Type 0} (g : Ghosts F) (h : LayerGhosts Identity) (s t : OutputsValue (Filtered Identity F)) (texts : List PlainText) (right : IsRight g h s texts) (a : PlainAttributes) (at : At) where
+module _ {F : Type 0} (g : Ghosts F) (h : LayerGhosts Identity) (idle : WritesNothing h) (s t : OutputsValue (Filtered Identity F)) (texts : List PlainText) (right : IsRight g h s texts) (a : PlainAttributes) (at : At) where
   -- a span that was not made leaves the texts
   pub dropped_right : SpanCached g h a at s (Ok None) t → (Word g s → Word g t) → IsRight g h t texts
-  dropped_right w word = right_alike g h s t (SpanMade a at) (Ok None) texts w right word (next_in g h s t (registry_alone g h s (SpanMade a at) (Ok None) t w).1)
+  dropped_right w word = right_alike g h idle s t (SpanMade a at) (Ok None) texts w right word (next_in g h idle s t (registry_unwritten g h idle s (SpanMade a at) (Ok None) t w).1)
 
   pub refused_right : (error : RequestError) → SpanCached g h a at s (Err error) t → (Word g s → Word g t) → IsRight g h t texts
   refused_right error w word =
-      let alone = registry_alone g h s (SpanMade a at) (Err error) t w in
-      right_alike g h s t (SpanMade a at) (Err error) texts w right word
-      (next_in g h s t (refused_same (span_refusal s.registry a.parent) s.registry (with_span s.registry a.metadata (under s.registry at.lane a.parent) alone.0) t.registry s.registry.next_id error alone.1))
+      let alone = registry_unwritten g h idle s (SpanMade a at) (Err error) t w in
+      right_alike g h idle s t (SpanMade a at) (Err error) texts w right word
+      (next_in g h idle s t (refused_same (span_refusal s.registry a.parent) s.registry (with_span s.registry a.metadata (under s.registry at.lane a.parent) alone.0) t.registry s.registry.next_id error alone.1))

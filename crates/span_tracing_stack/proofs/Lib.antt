@@ -4,6 +4,7 @@ pub mod Rising
 pub mod Adding
 pub mod Showing
 pub mod Writing
+pub mod Idle
 pub mod Giving
 pub mod Moving
 pub mod Keeping

@@ -10,13 +10,13 @@ use Rattle.tracing_core.specs.PlainMetadata.{PlainMetadata}
 use Rattle.tracing_core.specs.PlainRequests.{PlainAttributes, PlainEvent, PlainValues, explicit_parent}
 use Rattle.tracing_core.specs.RequestError.{RequestError}
 use Rattle.tracing_core.specs.RequestError.TheVariants.{OutOfMemory, UnknownSpan, UnknownParent, IdsSpent, TooManyHandles}
-use Rattle.span_registry_layers.specs.Alone.{says_closed}
-use Rattle.span_registry_layers.specs.AloneProofs.{registry_alone}
+use Rattle.span_registry_layers.specs.Alone.{WritesNothing, says_closed}
+use Rattle.span_registry_layers.specs.AloneProofs.{registry_unwritten}
 use Rattle.span_registry_layers.specs.Calls.{CloneGives, CloseGives, CloseUnless, EnterGives, ExitGives, FollowsGives, MakesSpan, RecordGives, SpanCached, WhereTaken, inside, over}
 use Rattle.span_registry_layers.specs.Filter.{Ghosts}
 use Rattle.span_registry_layers.specs.Filtered.{Filtered}
 use Rattle.span_registry_layers.specs.Gives.{GivesUnless, close_gives, close_refusal, first, most, when}
-use Rattle.span_registry_layers.specs.Hearing.{TellsDispatch, TellsFollows, TellsSpan}
+use Rattle.span_registry_layers.specs.Hearing.{TellsDispatch, TellsFollows, TellsMade, TellsSpan}
 use Rattle.span_registry_layers.specs.Identity.{Identity}
 use Rattle.span_registry_layers.specs.Layer.{Ghosts as LayerGhosts}
 use Rattle.span_registry_layers.specs.Looks as hooks
@@ -25,10 +25,12 @@ use Rattle.span_registry_layers.specs.NumberingProofs.{numbers_same}
 use Rattle.span_registry_layers.specs.Registries.{RegistryValue, current_on, kin_in, knows, under, with_span as with_new}
 use Rattle.span_registry_layers.specs.Row.{Row}
 use Rattle.span_registry_layers.specs.Rows.{EachBecomes, marked, numbers_of}
+use Rattle.span_registry_layers.specs.Several.{EachInTurn}
 use Rattle.span_registry_layers.specs.Spans.{is_open}
-use Rattle.span_registry_layers.specs.Stacks.{EventCached, PassesCached, RowsBecome, StackValue as OutputsValue}
+use Rattle.span_registry_layers.specs.Stacks.{EventCached, PassesCached, RowsInTurn, StackValue as OutputsValue}
 use Rattle.span_registry_layers.specs.Verdicts.{all_pass}
 use Rattle.span_registry_layers.specs.Words.{Word}
+use Rattle.span_registry_layers.specs.WrittenProofs.{all_kept, made_left, rows_left}
 use Rattle.span_tracing_machine.specs.State.{PlainText}
 use Rattle.span_tracing_machine.specs.declared.fate.Fate.{Fate}
 use Rattle.span_tracing_stack.specs.Answers.{MayBy, MayTell, StepsBy, view_in}
@@ -76,7 +78,7 @@ module _ {F : Type 0} where
   marked_first [] = refl
   marked_first (row ∷ rows) = refl
 
-module _ {F : Type 0} (g : Ghosts F) (h : LayerGhosts Identity) where
+module _ {F : Type 0} (g : Ghosts F) (h : LayerGhosts Identity) (idle : WritesNothing h) where
   -- what the outputs take leaves all right
   pub right_by : (s t : OutputsValue (Filtered Identity F)) (c : Call) (r : ReplyTo c) (texts later : List PlainText) → outputs.Moves g h s c r t → IsRight g h s texts → (Word g s → Word g t) → AreRising later t.registry.next_id → IsRight g h t later
   right_by s t c r texts later m right word rising = record { rising = rising; word = word right.word; numbers = numbers_same g h s c r t m ∙ right.numbers }
@@ -98,11 +100,11 @@ module _ {F : Type 0} (g : Ghosts F) (h : LayerGhosts Identity) where
   dispatch_first d (r ∷ rs) [] w = absurd w
   dispatch_first d (r ∷ rs) (s ∷ ss) w = ap (λ (row : Row (Filtered Identity F)). Some row.output.filter) w.0.1
 
-  follows_first : (id follows : ℕ) (at : At) (x : RegistryValue) (rows later : List (Row (Filtered Identity F))) → EachBecomes (TellsFollows g h id follows at x) rows later → first_filter later ≡ first_filter rows
-  follows_first id follows at x [] [] w = refl
-  follows_first id follows at x [] (r ∷ rs) w = absurd w
-  follows_first id follows at x (r ∷ rs) [] w = absurd w
-  follows_first id follows at x (r ∷ rs) (s ∷ ss) w = ap (λ (row : Row (Filtered Identity F)). Some row.output.filter) w.0.1
+  follows_first : (id follows : ℕ) (at : At) (x : RegistryValue) (rows : List (Row (Filtered Identity F))) (y : RegistryValue) (later : List (Row (Filtered Identity F))) → EachInTurn (TellsFollows g h id follows at) x rows y later → first_filter later ≡ first_filter rows
+  follows_first id follows at x [] y [] w = refl
+  follows_first id follows at x [] y (r ∷ rs) w = absurd w
+  follows_first id follows at x (r ∷ rs) y [] w = absurd w
+  follows_first id follows at x (r ∷ rs) y (s ∷ ss) w = ap (λ (row : Row (Filtered Identity F)). Some row.output.filter) w.1.1
 
   module _ (setting : Setting) (texts : List PlainText) (told : PlainTold) where
     -- the stack before
@@ -111,7 +113,7 @@ module _ {F : Type 0} (g : Ghosts F) (h : LayerGhosts Identity) where
 
     pub dispatched : (s t : OutputsValue (Filtered Identity F)) (d : Option ℕ) → outputs.Moves g h s (DispatchRegistered d) tt t → StackMoves g (old_stack s) (DispatchRegistered d) tt (old_stack t)
     unfolding Gives
-    dispatched s t d m = moved s t (DispatchRegistered d) tt setting texts texts told told m (shown_same s t setting texts told (registry_alone g h s (DispatchRegistered d) tt t m) (dispatch_first d s.rows t.rows m.0))
+    dispatched s t d m = moved s t (DispatchRegistered d) tt setting texts texts told told m (shown_same s t setting texts told (registry_unwritten g h idle s (DispatchRegistered d) tt t m) (dispatch_first d s.rows t.rows m.0))
 
     pub registered : (s t : OutputsValue (Filtered Identity F)) (m : PlainMetadata) (k : PlainInterest) → numbers_of h s.rows ≡ 0 ∷ [] → outputs.Moves g h s (CallsiteRegistered m) k t → StackMoves g (old_stack s) (CallsiteRegistered m) k (old_stack t)
     unfolding Gives
@@ -133,17 +135,17 @@ module _ {F : Type 0} (g : Ghosts F) (h : LayerGhosts Identity) where
     unfolding Gives
     followed s t id follows at r w =
         moved s t (FollowsRecorded id follows at) r setting texts texts told told w
-        (w.0, shown_same s t setting texts told (registry_alone g h s (FollowsRecorded id follows at) r t w).1 (taken r w.1))
+        (w.0, shown_same s t setting texts told (registry_unwritten g h idle s (FollowsRecorded id follows at) r t w).1 (taken r w.1))
       where
-        taken : (r : Result (Unit {0}) RequestError) → WhereTaken r s (RowsBecome (TellsFollows g h id follows at s.registry) s) t → first_filter t.rows ≡ first_filter s.rows
-        taken (Ok done) w = follows_first id follows at s.registry s.rows t.rows w.0
+        taken : (r : Result (Unit {0}) RequestError) → WhereTaken r s (RowsInTurn (TellsFollows g h id follows at) s) t → first_filter t.rows ≡ first_filter s.rows
+        taken (Ok done) w = follows_first id follows at s.registry s.rows t.registry t.rows w.0
         taken (Err e) w = ap (λ (v : OutputsValue (Filtered Identity F)). first_filter v.rows) w
 
     pub entered : (s t : OutputsValue (Filtered Identity F)) (id : ℕ) (at : At) (r : Result (Unit {0}) RequestError) → EnterGives g h id at s r t → StackMoves g (old_stack s) (Entered id at) r (shown_with t setting texts Quiet)
     unfolding Gives
-    entered s t id at r w = moved s t (Entered id at) r setting texts texts told Quiet w (registry_alone g h s (Entered id at) r t w, taken r w.2)
+    entered s t id at r w = moved s t (Entered id at) r setting texts texts told Quiet w (registry_unwritten g h idle s (Entered id at) r t w, taken r w.2)
       where
-        taken : (r : Result (Unit {0}) RequestError) → WhereTaken r s (RowsBecome (TellsSpan g h (hooks.Entered id) id at w.0) (over w.0 s)) t → shown_with t setting texts Quiet ≡ entry_left r (old_stack s) (shown_with t setting texts Quiet)
+        taken : (r : Result (Unit {0}) RequestError) → WhereTaken r s (RowsInTurn (TellsSpan g h (hooks.Entered id) id at) (over w.0 s)) t → shown_with t setting texts Quiet ≡ entry_left r (old_stack s) (shown_with t setting texts Quiet)
         taken (Ok done) w = refl
         taken (Err e) w = ap (λ v. shown_with v setting texts Quiet) w
 
@@ -157,7 +159,7 @@ module _ {F : Type 0} (g : Ghosts F) (h : LayerGhosts Identity) where
     unfolding Gives
     exited s t id at w =
         moved s t (Exited id at) tt setting texts (open_texts t.registry.spans texts) told Quiet w
-        (ap (λ (x : RegistryValue). record { registry = x; filter = first_filter t.rows; setting = setting; texts = open_texts x.spans texts; told = Quiet }) (registry_alone g h s (Exited id at) tt t w))
+        (ap (λ (x : RegistryValue). record { registry = x; filter = first_filter t.rows; setting = setting; texts = open_texts x.spans texts; told = Quiet }) (registry_unwritten g h idle s (Exited id at) tt t w))
 
     closed_alike : (s t : OutputsValue (Filtered Identity F)) (x : RegistryValue) → t.registry ≡ x → shown_with t setting (open_texts t.registry.spans texts) Quiet ≡ record { registry = x; filter = first_filter t.rows; setting = setting; texts = open_texts x.spans texts; told = Quiet }
     closed_alike s t x e = ap (λ (x : RegistryValue). record { registry = x; filter = first_filter t.rows; setting = setting; texts = open_texts x.spans texts; told = Quiet }) e
@@ -171,12 +173,12 @@ module _ {F : Type 0} (g : Ghosts F) (h : LayerGhosts Identity) where
     unfolding Gives
     let_go s t id at closed w =
         moved s t (Dropped id at) tt setting texts (open_texts t.registry.spans texts) told Quiet (closed, w)
-        (closed_alike s t (close_gives s.registry id).1 (registry_alone g h s (Dropped id at) tt t (closed, w)), λ some. refused_close s t id at closed (close_refusal s.registry id) w some)
+        (closed_alike s t (close_gives s.registry id).1 (registry_unwritten g h idle s (Dropped id at) tt t (closed, w)), λ some. refused_close s t id at closed (close_refusal s.registry id) w some)
 
     pub closed : (s t : OutputsValue (Filtered Identity F)) (id : ℕ) (at : At) (r : Bool) → CloseGives g h id at s r t → StackMoves g (old_stack s) (CloseTried id at) r (shown_with t setting (open_texts t.registry.spans texts) Quiet)
     unfolding Gives
     closed s t id at r w =
-        let alone = registry_alone g h s (CloseTried id at) r t w in
+        let alone = registry_unwritten g h idle s (CloseTried id at) r t w in
         moved s t (CloseTried id at) r setting texts (open_texts t.registry.spans texts) told Quiet w (alone.0, (closed_alike s t (close_gives s.registry id).1 alone.1, λ some. refused_close s t id at r (close_refusal s.registry id) w some))
 
     pub recorded : (s t : OutputsValue (Filtered Identity F)) (id : ℕ) (values : PlainValues) (at : At) (done : Unit {0}) (fate : Fate) (later : List PlainText) → RecordGives g h id values at s (Ok done) t → AddsFields texts id values fate later →
@@ -184,7 +186,7 @@ module _ {F : Type 0} (g : Ghosts F) (h : LayerGhosts Identity) where
     unfolding Gives
     recorded s t id values at done fate later w adds =
         moved s t (Recorded id values at) (Ok done) setting texts later told (text_told fate) w
-        (opened (is_open kin_in s.registry.spans id) done w.0, (fate, adds, ap (λ (x : RegistryValue). record { registry = x; filter = first_filter t.rows; setting = setting; texts = later; told = text_told fate }) (registry_alone g h s (Recorded id values at) (Ok done) t w).1))
+        (opened (is_open kin_in s.registry.spans id) done w.0, (fate, adds, ap (λ (x : RegistryValue). record { registry = x; filter = first_filter t.rows; setting = setting; texts = later; told = text_told fate }) (registry_unwritten g h idle s (Recorded id values at) (Ok done) t w).1))
 
     pub unrecorded : (s t : OutputsValue (Filtered Identity F)) (id : ℕ) (values : PlainValues) (at : At) (error : RequestError) → RecordGives g h id values at s (Err error) t → StackMoves g (old_stack s) (Recorded id values at) (Err error) (shown_with t setting texts Quiet)
     unfolding Gives
@@ -199,7 +201,7 @@ module _ {F : Type 0} (g : Ghosts F) (h : LayerGhosts Identity) where
     event_moved s t e at done b new word numbers w is told_by =
         let may = event_may g h e at s t done word numbers w in
         moved s t (Told e at) (Ok done) setting texts texts told new w
-        (may.0, (b, subst (λ b. MayTell g (old_stack s) e at b) is may.1, told_by (registry_alone g h s (Told e at) (Ok done) t w).1 may.2))
+        (may.0, (b, subst (λ b. MayTell g (old_stack s) e at b) is may.1, told_by (registry_unwritten g h idle s (Told e at) (Ok done) t w).1 may.2))
 
     pub event_untold : (s t : OutputsValue (Filtered Identity F)) (e : PlainEvent) (lane : ℕ) → t.registry ≡ s.registry → first_filter t.rows ≡ first_filter s.rows → EventTold false (old_stack s) e lane (shown_with t setting texts Quiet)
     event_untold s t e lane registry filter = shown_same s t setting texts Quiet registry filter
@@ -222,7 +224,7 @@ module _ {F : Type 0} (g : Ghosts F) (h : LayerGhosts Identity) where
     made_facts a at s t id (Ok own, x, given, made) =
         let facts = made_when (knows s.registry (explicit_parent a.parent)) (nat_lt most s.registry.next_id) s.registry s.registry.next_id own _ x given in
         let same : id ≡ own = (let e = made.0 in cc) in
-        (not_below most s.registry.next_id facts.0, same ∙ facts.1, ap (λ (v : OutputsValue (Filtered Identity F)). v.registry) made.1.1 ∙ facts.2)
+        (not_below most s.registry.next_id facts.0, same ∙ facts.1, rows_left g h (λ x y. y ≡ x) (all_kept h idle) (TellsMade g h (hooks.SpanMade a own) own at) (made_left g h (λ x y. y ≡ x) (all_kept h idle) (hooks.SpanMade a own) own at) x s t made.1 ∙ facts.2)
 
     no_drop : (a : PlainAttributes) (at : At) (s t : OutputsValue (Filtered Identity F)) → MakesSpan g h a at all_pass s (Ok None) t → ⊥
     no_drop a at s t (Ok id, x, given, made) = (let e = made.0 in cc)

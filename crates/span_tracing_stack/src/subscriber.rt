@@ -32,22 +32,22 @@ impl Told {
 impl<F: Filter> StackState<F> {
     // What a span that finds no room for its text is refused with: other refusals, and what the filter drops, come first.
     fn refuse_span(
-        &self,
+        &mut self,
         attributes: &Attributes<'_, '_>,
         at: At,
     ) -> Result<Option<Id>, RequestError>
-        ensures { WantsRoom ⟦<F as Filter>⟧ (plain_attributes attributes.now) at self.now.outputs result }
+        ensures answer { WantsRoom ⟦<F as Filter>⟧ (plain_attributes attributes.now) at self.old.outputs result }
+        ensures same { self.new ≡ self.old }
     {
-        let registry = self.outputs.registry();
         if let Some(parent) = attributes.parent() {
-            if !registry.is_open(parent) {
+            if !self.outputs.registry().is_open(parent) {
                 return Err(RequestError::UnknownParent);
             }
         }
         if !self.outputs.enabled(attributes.metadata(), at) {
             return Ok(None);
         }
-        match registry.next_id() {
+        match self.outputs.registry().next_id() {
             None => Err(RequestError::IdsSpent),
             Some(_) => Err(RequestError::OutOfMemory),
         }

@@ -10,7 +10,7 @@ use crate::{
 use tracing_core::{Event, Interest, LevelFilter, Record};
 
 /// Whether a filter passes an INFO span, and its interest in it.
-fn asked<F: Filter>(filter: &F, registry: &Registry) -> (bool, Interest) {
+fn asked<F: Filter>(filter: &F, registry: &mut Registry) -> (bool, Interest) {
     let metadata = span_metadata("asked");
     let context = Context::new(registry, PLACE, None);
     (
@@ -20,7 +20,7 @@ fn asked<F: Filter>(filter: &F, registry: &Registry) -> (bool, Interest) {
 }
 
 /// Makes each other call of a filter once, and answers whether it passes an event.
-fn told<F: Filter>(filter: &mut F, registry: &Registry, span: Id) -> bool {
+fn told<F: Filter>(filter: &mut F, registry: &mut Registry, span: Id) -> bool {
     let fields = FieldSet::new(&NAMES, Identifier(7));
     let metadata = Metadata::new(
         "e",
@@ -44,52 +44,52 @@ fn told<F: Filter>(filter: &mut F, registry: &Registry, span: Id) -> bool {
 
 #[test]
 fn surface_combined(rt: HostRuntime) -> Result<(), Fail> {
-    let (registry, outer, _inner) = nested(rt.alloc())?;
+    let (mut registry, outer, _inner) = nested(rt.alloc())?;
     let (low, high) = (LevelFilter::WARN, LevelFilter::DEBUG);
-    let (passed, interest) = asked(&And::new(low, high), &registry);
+    let (passed, interest) = asked(&And::new(low, high), &mut registry);
     assert!(rt; !passed && interest.is_never());
-    let (passed, interest) = asked(&low.and(high), &registry);
+    let (passed, interest) = asked(&low.and(high), &mut registry);
     assert!(rt; !passed && interest.is_never());
-    let (passed, interest) = asked(&Or::new(low, high), &registry);
+    let (passed, interest) = asked(&Or::new(low, high), &mut registry);
     assert!(rt; passed && interest.is_always());
-    let (passed, interest) = asked(&low.or(high), &registry);
+    let (passed, interest) = asked(&low.or(high), &mut registry);
     assert!(rt; passed && interest.is_always());
-    let (passed, interest) = asked(&Not::new(low), &registry);
+    let (passed, interest) = asked(&Not::new(low), &mut registry);
     assert!(rt; passed && interest.is_always());
-    let (passed, interest) = asked(&FilterExt::not(low), &registry);
+    let (passed, interest) = asked(&FilterExt::not(low), &mut registry);
     assert!(rt; passed && interest.is_always());
     assert!(rt; low.and(high).max_level_hint() == Some(low));
-    assert!(rt; told(&mut low.and(high), &registry, outer));
+    assert!(rt; told(&mut low.and(high), &mut registry, outer));
     let absent: Option<LevelFilter> = None;
-    let (passed, interest) = asked(&absent, &registry);
+    let (passed, interest) = asked(&absent, &mut registry);
     assert!(rt; passed && interest.is_always());
     let mut boxed: Box<dyn Filter> = Box::new(rt.alloc(), high)?;
-    let (passed, interest) = asked(&boxed, &registry);
-    assert!(rt; passed && interest.is_always() && told(&mut boxed, &registry, outer));
+    let (passed, interest) = asked(&boxed, &mut registry);
+    assert!(rt; passed && interest.is_always() && told(&mut boxed, &mut registry, outer));
     Ok(())
 }
 
 #[test]
 fn surface_closures(rt: HostRuntime) -> Result<(), Fail> {
-    let (registry, outer, _inner) = nested(rt.alloc())?;
+    let (mut registry, outer, _inner) = nested(rt.alloc())?;
     let of_app: MetadataTest = Box::new(rt.alloc(), |metadata: &Metadata<'_>| -> bool {
         metadata.target() == "app"
     })?;
     let mut filter = FilterFn::new(of_app);
-    let (passed, interest) = asked(&filter, &registry);
-    assert!(rt; passed && interest.is_always() && told(&mut filter, &registry, outer));
+    let (passed, interest) = asked(&filter, &mut registry);
+    assert!(rt; passed && interest.is_always() && told(&mut filter, &mut registry, outer));
     let of_others: MetadataTest = Box::new(rt.alloc(), |metadata: &Metadata<'_>| -> bool {
         metadata.target() == "other"
     })?;
     let filter = filter_fn(of_others);
-    let (passed, interest) = asked(&filter, &registry);
+    let (passed, interest) = asked(&filter, &mut registry);
     assert!(rt; !passed && interest.is_never() && filter.max_level_hint().is_none());
     Ok(())
 }
 
 #[test]
 fn surface_hints(rt: HostRuntime) -> Result<(), Fail> {
-    let (registry, _outer, _inner) = nested(rt.alloc())?;
+    let (mut registry, _outer, _inner) = nested(rt.alloc())?;
     let quiet: MetadataTest = Box::new(
         rt.alloc(),
         |metadata: &Metadata<'_>| -> bool
@@ -97,7 +97,7 @@ fn surface_hints(rt: HostRuntime) -> Result<(), Fail> {
         { *metadata.level() <= Level::WARN },
     )?;
     let filter = FilterFn::new(quiet).with_max_level_hint(LevelFilter::WARN);
-    let (passed, interest) = asked(&filter, &registry);
+    let (passed, interest) = asked(&filter, &mut registry);
     assert!(rt; !passed && interest.is_never());
     assert!(rt; filter.max_level_hint() == Some(LevelFilter::WARN));
     let quiet: ContextTest = Box::new(
@@ -107,7 +107,7 @@ fn surface_hints(rt: HostRuntime) -> Result<(), Fail> {
         { *metadata.level() <= Level::WARN },
     )?;
     let filter = DynFilterFn::new(quiet).with_max_level_hint(LevelFilter::WARN);
-    let (passed, interest) = asked(&filter, &registry);
+    let (passed, interest) = asked(&filter, &mut registry);
     assert!(rt; !passed && interest.is_never());
     assert!(rt; filter.max_level_hint() == Some(LevelFilter::WARN));
     Ok(())
@@ -115,7 +115,7 @@ fn surface_hints(rt: HostRuntime) -> Result<(), Fail> {
 
 #[test]
 fn surface_dynamic_closures(rt: HostRuntime) -> Result<(), Fail> {
-    let (registry, outer, _inner) = nested(rt.alloc())?;
+    let (mut registry, outer, _inner) = nested(rt.alloc())?;
     let in_span: ContextTest = Box::new(
         rt.alloc(),
         |_metadata: &Metadata<'_>, context: &Context<'_>| -> bool {
@@ -123,8 +123,8 @@ fn surface_dynamic_closures(rt: HostRuntime) -> Result<(), Fail> {
         },
     )?;
     let mut filter = dynamic_filter_fn(in_span);
-    let (passed, interest) = asked(&filter, &registry);
-    assert!(rt; passed && interest.is_sometimes() && told(&mut filter, &registry, outer));
+    let (passed, interest) = asked(&filter, &mut registry);
+    assert!(rt; passed && interest.is_sometimes() && told(&mut filter, &mut registry, outer));
     let outside: ContextTest = Box::new(
         rt.alloc(),
         |_metadata: &Metadata<'_>, context: &Context<'_>| -> bool {
@@ -135,18 +135,18 @@ fn surface_dynamic_closures(rt: HostRuntime) -> Result<(), Fail> {
         Interest::sometimes()
     })?;
     let filter = DynFilterFn::new(outside).with_callsite_filter(sometimes);
-    let (passed, interest) = asked(&filter, &registry);
+    let (passed, interest) = asked(&filter, &mut registry);
     assert!(rt; !passed && interest.is_sometimes() && filter.max_level_hint().is_none());
     Ok(())
 }
 
 #[test]
 fn surface_clones(rt: HostRuntime) -> Result<(), Fail> {
-    let (registry, _outer, _inner) = nested(rt.alloc())?;
+    let (mut registry, _outer, _inner) = nested(rt.alloc())?;
     let (low, high) = (LevelFilter::WARN, LevelFilter::DEBUG);
     let both = And::new(low, high);
     let either = Or::new(both.clone()?, Not::new(low).clone()?).clone()?;
-    assert!(rt; !asked(&both, &registry).0 && asked(&either, &registry).0);
+    assert!(rt; !asked(&both, &mut registry).0 && asked(&either, &mut registry).0);
     let output = Filtered::new(Identity::new(), low.clone()?);
     let mut other = output.clone()?;
     *other.filter_mut() = high;

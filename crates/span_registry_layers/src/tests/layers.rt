@@ -10,10 +10,11 @@ pub(super) struct Counter {
 }
 
 impl Layer for Counter {
-    ghost use Rattle.std.specs.Prelude.{◌≡◌, None, true};
+    ghost use Rattle.std.specs.Prelude.{◌≡◌, None, true, false, refl};
     ghost use Rattle.tracing_core.specs.InterestInner.TheVariants.{Always};
     ghost use Rattle.span_registry_layers.specs.Combined.{same_word};
     ghost use Rattle.span_registry_layers.specs.Identities.{idle_fair};
+    ghost use Rattle.span_registry_layers.specs.Notices.{Untouched, untouched_writes};
     ghost use Rattle.span_registry_layers.specs.Numbering.{no_numbers};
     ghost use Rattle.span_registry_layers.specs.Singles.{leaf_once};
 
@@ -25,7 +26,7 @@ impl Layer for Counter {
 
     ghost hint = { λ x. None };
 
-    ghost told = { λ x n y. Unit {0} };
+    ghost told = { λ x n y. Untouched n };
 
     ghost honest = { λ x. Unit {0} };
 
@@ -36,6 +37,10 @@ impl Layer for Counter {
     ghost numbered = { λ x n y t. no_numbers n };
 
     ghost once = { λ x k. leaf_once };
+
+    ghost aside = { λ x n y t. untouched_writes (λ key. false) n t };
+
+    ghost keyed = { λ x n y t key. refl };
 
     fn on_register_dispatch(&mut self, _dispatch: &WeakDispatch) {
         self.told = self.told.wrapping_add(1);
@@ -52,7 +57,7 @@ impl Layer for Counter {
     fn ask_span(
         &self,
         _metadata: &Metadata<'_>,
-        _context: &Context<'_>,
+        _context: &mut Context<'_>,
         passes: bool,
         verdicts: FilterMap,
     ) -> (FilterMap, bool) {
@@ -114,7 +119,7 @@ impl Layer for Counter {
 }
 
 /// Tells a layer of each call on spans and of an event, nine notices in all.
-fn tell<L: Layer>(layer: &mut L, registry: &Registry, span: Id) {
+fn tell<L: Layer>(layer: &mut L, registry: &mut Registry, span: Id) {
     let fields = FieldSet::new(&NAMES, Identifier(7));
     let metadata = Metadata::new(
         "told",
@@ -142,7 +147,7 @@ fn tell<L: Layer>(layer: &mut L, registry: &Registry, span: Id) {
 }
 
 /// Whether a layer lets an INFO event pass, and its interest in it.
-fn asked<L: Layer>(layer: &L, registry: &Registry) -> (bool, Interest) {
+fn asked<L: Layer>(layer: &L, registry: &mut Registry) -> (bool, Interest) {
     let fields = FieldSet::new(&NAMES, Identifier(7));
     let metadata = Metadata::new(
         "asked",
@@ -170,35 +175,35 @@ fn surface_layers(rt: HostRuntime) -> Result<(), Fail> {
         .and_then(Some(Counter { told: 0 }))
         .and_then(Identity::new());
     tree.on_layer(&mut registry);
-    tell(&mut tree, &registry, outer);
-    let (passed, interest) = asked(&tree, &registry);
+    tell(&mut tree, &mut registry, outer);
+    let (passed, interest) = asked(&tree, &mut registry);
     assert!(rt; passed && interest.is_always() && tree.max_level_hint().is_none());
     let mut several = Vec::new(rt.alloc());
     several.push(Identity::new()).ok().ok_or("room")?;
     several.on_layer(&mut registry);
-    tell(&mut several, &registry, outer);
-    let (passed, interest) = asked(&several, &registry);
+    tell(&mut several, &mut registry, outer);
+    let (passed, interest) = asked(&several, &mut registry);
     assert!(rt; passed && interest.is_always() && several.max_level_hint().is_none());
     let mut counter = Counter { told: 0 };
-    tell(&mut counter, &registry, outer);
+    tell(&mut counter, &mut registry, outer);
     assert!(rt; counter.told == 8);
     Ok(())
 }
 
 #[test]
 fn surface_vetoes(rt: HostRuntime) -> Result<(), Fail> {
-    let (registry, _outer, _inner) = nested(rt.alloc())?;
+    let (mut registry, _outer, _inner) = nested(rt.alloc())?;
     let quiet: Layered<LevelFilter, Counter> = Counter { told: 0 }.and_then(LevelFilter::WARN);
-    let (passed, interest) = asked(&quiet, &registry);
+    let (passed, interest) = asked(&quiet, &mut registry);
     assert!(rt; !passed && interest.is_never());
     assert!(rt; Layer::max_level_hint(&quiet) == Some(LevelFilter::WARN));
     let of_others: MetadataTest = Box::new(rt.alloc(), |metadata: &Metadata<'_>| -> bool {
         metadata.target() == "other"
     })?;
-    let (passed, interest) = asked(&FilterFn::new(of_others), &registry);
+    let (passed, interest) = asked(&FilterFn::new(of_others), &mut registry);
     assert!(rt; !passed && interest.is_never());
     let absent: Option<Counter> = None;
-    let (passed, interest) = asked(&absent, &registry);
+    let (passed, interest) = asked(&absent, &mut registry);
     assert!(rt; passed && interest.is_always());
     assert!(rt; Layer::max_level_hint(&absent) == Some(LevelFilter::OFF));
     Ok(())
@@ -266,15 +271,15 @@ fn surface_contexts(rt: HostRuntime) -> Result<(), Fail> {
     registry.enter(&outer, 0).ok().ok_or("an entry")?;
     let inner = make(&mut registry, "inner", FilterMap::all().with(filter, false))?;
     registry.enter(&inner, 0).ok().ok_or("an entry")?;
-    let whole = Context::new(&registry, PLACE, None);
-    let masked = Context::new(&registry, PLACE, Some(filter));
+    let whole = Context::new(&mut registry, PLACE, None);
     assert!(rt; number_of(whole.current_span()) == inner.into_u64());
+    assert!(rt; whole.exists(&inner) && is_named(&whole, &inner, "inner"));
+    assert!(rt; whole.span_scope(&inner).is_some() && depth(&whole) == 2);
+    let masked = Context::new(&mut registry, PLACE, Some(filter));
     assert!(rt; number_of(masked.current_span()) == outer.into_u64());
-    assert!(rt; whole.exists(&inner) && !masked.exists(&inner) && masked.span(&outer).is_some());
-    assert!(rt; is_named(&whole, &inner, "inner") && !is_named(&masked, &inner, "inner"));
+    assert!(rt; !masked.exists(&inner) && masked.span(&outer).is_some());
+    assert!(rt; !is_named(&masked, &inner, "inner") && masked.span_scope(&inner).is_none());
     let current = masked.lookup_current().ok_or("a span")?;
-    assert!(rt; current.id() == outer);
-    assert!(rt; masked.span_scope(&inner).is_none() && whole.span_scope(&inner).is_some());
-    assert!(rt; depth(&whole) == 2 && depth(&masked) == 1);
+    assert!(rt; current.id() == outer && depth(&masked) == 1);
     Ok(())
 }

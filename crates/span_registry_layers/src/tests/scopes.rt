@@ -11,10 +11,11 @@ struct Paths {
 }
 
 impl Layer for Paths {
-    ghost use Rattle.std.specs.Prelude.{◌≡◌, None, true};
+    ghost use Rattle.std.specs.Prelude.{◌≡◌, None, true, false, refl};
     ghost use Rattle.tracing_core.specs.InterestInner.TheVariants.{Always};
     ghost use Rattle.span_registry_layers.specs.Combined.{same_word};
     ghost use Rattle.span_registry_layers.specs.Identities.{idle_fair};
+    ghost use Rattle.span_registry_layers.specs.Notices.{Untouched, untouched_writes};
     ghost use Rattle.span_registry_layers.specs.Numbering.{no_numbers};
     ghost use Rattle.span_registry_layers.specs.Singles.{leaf_once};
 
@@ -26,7 +27,7 @@ impl Layer for Paths {
 
     ghost hint = { λ x. None };
 
-    ghost told = { λ x n y. Unit {0} };
+    ghost told = { λ x n y. Untouched n };
 
     ghost honest = { λ x. Unit {0} };
 
@@ -37,6 +38,10 @@ impl Layer for Paths {
     ghost numbered = { λ x n y t. no_numbers n };
 
     ghost once = { λ x k. leaf_once };
+
+    ghost aside = { λ x n y t. untouched_writes (λ key. false) n t };
+
+    ghost keyed = { λ x n y t key. refl };
 
     fn on_register_dispatch(&mut self, _dispatch: &WeakDispatch) {}
 
@@ -49,7 +54,7 @@ impl Layer for Paths {
     fn ask_span(
         &self,
         _metadata: &Metadata<'_>,
-        _context: &Context<'_>,
+        _context: &mut Context<'_>,
         passes: bool,
         verdicts: FilterMap,
     ) -> (FilterMap, bool) {

@@ -2,7 +2,7 @@
 use super::*;
 use crate::{
     Extensions, LookupSpan, OutputKey, OwnedMetadata, Slot, SpanData, Tag, closes_child_first,
-    line_is_whole, open_is_least, registry_stays_sound,
+    line_is_whole, open_is_least, registry_stays_sound, slots_keep_to_their_key, slots_stand_aside,
 };
 use tracing_core::RequestError;
 
@@ -150,4 +150,6 @@ fn surface_laws(_rt: HostRuntime) {
     line_is_whole();
     open_is_least();
     registry_stays_sound();
+    slots_stand_aside();
+    slots_keep_to_their_key();
 }

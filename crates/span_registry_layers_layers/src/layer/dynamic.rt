@@ -1,10 +1,11 @@
 //! A stored closure that looks at the context, as a layer that vetoes what it refuses.
 ghost use Rattle.std.proofs.Common.{subst, sym};
-ghost use Rattle.std.specs.Prelude.{◌≡◌, true};
+ghost use Rattle.std.specs.Prelude.{◌≡◌, true, false, refl};
 ghost use Rattle.tracing_core.specs.Steady.{SameWord};
 ghost use Rattle.span_registry_layers_layers.specs.Combined.{same_word};
 ghost use Rattle.span_registry_layers_layers.specs.Dynamic.{AnswersIn, SaysIn};
 ghost use Rattle.span_registry_layers_layers.specs.Honesty.{Fair};
+ghost use Rattle.span_registry_layers_layers.specs.Notices.{Untouched, untouched_writes};
 ghost use Rattle.span_registry_layers_layers.specs.Numbering.{no_numbers};
 ghost use Rattle.span_registry_layers_layers.specs.Singles.{leaf_once};
 
@@ -24,17 +25,21 @@ impl Layer for DynFilterFn {
 
     ghost hint = { λ x. x.max_level_hint };
 
-    ghost told = { λ x n y. y ≡ x };
+    ghost told = { λ x n y. (y ≡ x) × Untouched n };
 
     ghost honest = { λ x. Fair (AnswersIn (ContextTest.post x.enabled)) (SaysIn (λ s. CallsiteTest.post s.closure) x.callsite_enabled x.max_level_hint) x.max_level_hint };
 
     ghost fair = { λ x k. k };
 
-    ghost stays = { λ x n y t k. subst (λ z. Fair (AnswersIn (ContextTest.post z.enabled)) (SaysIn (λ s. CallsiteTest.post s.closure) z.callsite_enabled z.max_level_hint) z.max_level_hint × SameWord (SaysIn (λ s. CallsiteTest.post s.closure) x.callsite_enabled x.max_level_hint) (SaysIn (λ s. CallsiteTest.post s.closure) z.callsite_enabled z.max_level_hint) x.max_level_hint z.max_level_hint) (sym t) (k, same_word (SaysIn (λ s. CallsiteTest.post s.closure) x.callsite_enabled x.max_level_hint) x.max_level_hint) };
+    ghost stays = { λ x n y t k. subst (λ z. Fair (AnswersIn (ContextTest.post z.enabled)) (SaysIn (λ s. CallsiteTest.post s.closure) z.callsite_enabled z.max_level_hint) z.max_level_hint × SameWord (SaysIn (λ s. CallsiteTest.post s.closure) x.callsite_enabled x.max_level_hint) (SaysIn (λ s. CallsiteTest.post s.closure) z.callsite_enabled z.max_level_hint) x.max_level_hint z.max_level_hint) (sym t.0) (k, same_word (SaysIn (λ s. CallsiteTest.post s.closure) x.callsite_enabled x.max_level_hint) x.max_level_hint) };
 
     ghost numbered = { λ x n y t. no_numbers n };
 
     ghost once = { λ x k. leaf_once };
+
+    ghost aside = { λ x n y t. untouched_writes (λ key. false) n t.1 };
+
+    ghost keyed = { λ x n y t key. refl };
 
     fn on_register_dispatch(&mut self, _dispatch: &WeakDispatch) {}
 
@@ -47,7 +52,7 @@ impl Layer for DynFilterFn {
     fn ask_span(
         &self,
         _metadata: &Metadata<'_>,
-        _context: &Context<'_>,
+        _context: &mut Context<'_>,
         passes: bool,
         verdicts: FilterMap,
     ) -> (FilterMap, bool) {

@@ -1,17 +1,17 @@
 //! A layer below a filter, as a layer.
-ghost use Rattle.std.specs.Prelude.{◌≡◌, None, true};
+ghost use Rattle.std.specs.Prelude.{◌≡◌, ◌&&◌, None, true};
 ghost use Rattle.tracing_core.specs.InterestInner.TheVariants.{Always};
 ghost use Rattle.tracing_core.specs.PlainRequests.{plain_attributes, plain_event, plain_record};
 ghost use Rattle.span_registry_layers_layers.specs.Combined.{same_word};
-ghost use Rattle.span_registry_layers_layers.specs.Filtereds.{HearsIf, MayPass, is_seen, under};
+ghost use Rattle.span_registry_layers_layers.specs.Filtereds.{HearsEvent, HearsFollows, HearsId, HearsSpan, MayPass, is_seen};
 ghost use Rattle.span_registry_layers_layers.specs.Identities.{idle_fair};
-ghost use Rattle.span_registry_layers_layers.specs.Looks.{Closed, Entered, Exited, Recorded, SpanMade, view};
+ghost use Rattle.span_registry_layers_layers.specs.Looks.{Closed, Entered, Exited, Recorded, SameLoan, SpanMade, left, view};
 
 use crate::context::Context;
 use crate::filter::Filter;
 use crate::filtered::Filtered;
 use crate::layer::Layer;
-use span_registry_layers_store::{FilterId, FilterMap, Registry};
+use span_registry_layers_store::{FilterMap, Registry};
 use tracing_core::{Attributes, Event, Id, Interest, LevelFilter, Metadata, Record, WeakDispatch};
 
 /// The layer is told of the events that its filter, asked afresh, passes, and of calls on the spans that the filter and
@@ -38,6 +38,8 @@ impl<L: Layer, F: Filter> Layer for Filtered<L, F> {
 
     ghost kept = { filtereds.FilteredKept ⟦<F as Filter>⟧ ⟦<L as Layer>⟧ };
 
+    ghost keys = { λ x. L.keys x.layer };
+
     ghost fair = { λ x _. idle_fair };
 
     ghost stays = { words.filtered_stays ⟦<F as Filter>⟧ ⟦<L as Layer>⟧ };
@@ -45,6 +47,10 @@ impl<L: Layer, F: Filter> Layer for Filtered<L, F> {
     ghost numbered = { words.filtered_numbered ⟦<F as Filter>⟧ ⟦<L as Layer>⟧ };
 
     ghost once = { words.filtered_once ⟦<F as Filter>⟧ ⟦<L as Layer>⟧ };
+
+    ghost aside = { words.filtered_aside ⟦<F as Filter>⟧ ⟦<L as Layer>⟧ };
+
+    ghost keyed = { words.filtered_keyed ⟦<F as Filter>⟧ ⟦<L as Layer>⟧ };
 
     fn on_register_dispatch(&mut self, dispatch: &WeakDispatch) {
         self.layer.on_register_dispatch(dispatch);
@@ -65,17 +71,21 @@ impl<L: Layer, F: Filter> Layer for Filtered<L, F> {
     fn ask_span(
         &self,
         metadata: &Metadata<'_>,
-        context: &Context<'_>,
+        context: &mut Context<'_>,
         passes: bool,
         verdicts: FilterMap,
     ) -> (FilterMap, bool) {
         match self.id {
             None => (verdicts, false),
             Some(filter) => {
-                let context = context.under(filter);
-                let own = passes && self.filter.enabled(metadata, &context);
-                self.layer
-                    .ask_span(metadata, &context, own, verdicts.with(filter, own))
+                let outer = context.filter;
+                context.filter = Some(filter);
+                let own = passes && self.filter.enabled(metadata, context);
+                let said = self
+                    .layer
+                    .ask_span(metadata, context, own, verdicts.with(filter, own));
+                context.filter = outer;
+                said
             }
         }
     }
@@ -95,7 +105,10 @@ impl<L: Layer, F: Filter> Layer for Filtered<L, F> {
         context: &mut Context<'_>,
     ) {
         if let Some(filter) = self.id {
-            self.hear_span(attributes, span, &context.under(filter));
+            let outer = context.filter;
+            context.filter = Some(filter);
+            self.hear_span(attributes, span, context);
+            context.filter = outer;
         }
     }
 
@@ -105,16 +118,19 @@ impl<L: Layer, F: Filter> Layer for Filtered<L, F> {
 
     fn on_record(&mut self, span: &Id, values: &Record<'_>, context: &mut Context<'_>) {
         if let Some(filter) = self.id {
-            self.hear_record(span, values, &context.under(filter));
+            let outer = context.filter;
+            context.filter = Some(filter);
+            self.hear_record(span, values, context);
+            context.filter = outer;
         }
     }
 
     fn on_follows_from(&mut self, span: &Id, follows: &Id, context: &mut Context<'_>) {
         if let Some(filter) = self.id {
-            let mut context = context.under(filter);
-            if context.exists(span) && context.exists(follows) {
-                self.layer.on_follows_from(span, follows, &mut context);
-            }
+            let outer = context.filter;
+            context.filter = Some(filter);
+            self.hear_follows(span, follows, context);
+            context.filter = outer;
         }
     }
 
@@ -124,48 +140,55 @@ impl<L: Layer, F: Filter> Layer for Filtered<L, F> {
 
     fn on_event(&mut self, event: &Event<'_, '_>, context: &mut Context<'_>) {
         if let Some(filter) = self.id {
-            let mut context = context.under(filter);
-            if self.passes(event, &context) {
-                self.layer.on_event(event, &mut context);
-            }
+            let outer = context.filter;
+            context.filter = Some(filter);
+            self.hear_event(event, context);
+            context.filter = outer;
         }
     }
 
     fn on_enter(&mut self, span: &Id, context: &mut Context<'_>) {
         if let Some(filter) = self.id {
-            self.hear_enter(span, &context.under(filter));
+            let outer = context.filter;
+            context.filter = Some(filter);
+            self.hear_enter(span, context);
+            context.filter = outer;
         }
     }
 
     fn on_exit(&mut self, span: &Id, context: &mut Context<'_>) {
         if let Some(filter) = self.id {
-            self.hear_exit(span, &context.under(filter));
+            let outer = context.filter;
+            context.filter = Some(filter);
+            self.hear_exit(span, context);
+            context.filter = outer;
         }
     }
 
     fn on_close(&mut self, span: &Id, context: &mut Context<'_>) {
         if let Some(filter) = self.id {
-            self.hear_close(span, &context.under(filter));
+            let outer = context.filter;
+            context.filter = Some(filter);
+            self.hear_close(span, context);
+            context.filter = outer;
         }
     }
 
     fn on_id_change(&mut self, old: &Id, new: &Id, context: &mut Context<'_>) {
         if let Some(filter) = self.id {
-            let mut context = context.under(filter);
-            if context.exists(old) {
-                self.layer.on_id_change(old, new, &mut context);
-            }
+            let outer = context.filter;
+            context.filter = Some(filter);
+            self.hear_id_change(old, new, context);
+            context.filter = outer;
         }
     }
 }
 
-impl<'a> Context<'a> {
-    // The same under a filter.
-    fn under(&self, filter: FilterId) -> Context<'a>
-        ensures { view result ≡ under filter.index (view self.now) }
-    {
-        Context::new(self.registry, self.at, Some(filter))
-    }
+// Whether both spans are seen.
+fn sees_both(span: &Id, follows: &Id, context: &Context<'_>) -> bool
+    ensures { result ≡ (is_seen (view context.now) span.now && is_seen (view context.now) follows.now) }
+{
+    context.exists(span) && context.exists(follows)
 }
 
 impl<L: Layer, F: Filter> Filtered<L, F> {
@@ -176,54 +199,88 @@ impl<L: Layer, F: Filter> Filtered<L, F> {
         self.filter.enabled(event.metadata(), context) && self.filter.event_enabled(event, context)
     }
 
+    // Tells of an event that the filter passes.
+    fn hear_event(&mut self, event: &Event<'_, '_>, context: &mut Context<'_>)
+        ensures lent { SameLoan context.old context.new }
+        ensures told { HearsEvent ⟦<F as Filter>⟧ ⟦<L as Layer>⟧ self.old (plain_event event.now) (view context.old) (left context.new) self.new }
+    {
+        if self.passes(event, context) {
+            self.layer.on_event(event, context);
+        }
+    }
+
+    // Tells that a span follows from another one, where both were passed.
+    fn hear_follows(&mut self, span: &Id, follows: &Id, context: &mut Context<'_>)
+        ensures lent { SameLoan context.old context.new }
+        ensures told { HearsFollows ⟦<F as Filter>⟧ ⟦<L as Layer>⟧ self.old span.now follows.now (view context.old) (left context.new) self.new }
+    {
+        if sees_both(span, follows, context) {
+            self.layer.on_follows_from(span, follows, context);
+        }
+    }
+
+    // Tells of a span's new id, where the span was passed.
+    fn hear_id_change(&mut self, old: &Id, new: &Id, context: &mut Context<'_>)
+        ensures lent { SameLoan context.old context.new }
+        ensures told { HearsId ⟦<F as Filter>⟧ ⟦<L as Layer>⟧ self.old old.now new.now (view context.old) (left context.new) self.new }
+    {
+        if context.exists(old) {
+            self.layer.on_id_change(old, new, context);
+        }
+    }
+
     // Tells of a new span, where it was passed.
-    fn hear_span(&mut self, attributes: &Attributes<'_, '_>, span: &Id, context: &Context<'_>)
-        ensures { HearsIf ⟦<F as Filter>⟧ ⟦<L as Layer>⟧ (is_seen (view context.now) span.now) self.old (SpanMade (plain_attributes attributes.now) span.now (view context.now)) self.new }
+    fn hear_span(&mut self, attributes: &Attributes<'_, '_>, span: &Id, context: &mut Context<'_>)
+        ensures lent { SameLoan context.old context.new }
+        ensures told { HearsSpan ⟦<F as Filter>⟧ ⟦<L as Layer>⟧ self.old span.now (SpanMade (plain_attributes attributes.now) span.now) (view context.old) (left context.new) self.new }
     {
         if context.exists(span) {
             self.filter.on_new_span(attributes, span, context);
-            self.layer
-                .on_new_span(attributes, span, &mut context.again());
+            self.layer.on_new_span(attributes, span, context);
         }
     }
 
     // Tells of values that are recorded on a span, where it was passed.
-    fn hear_record(&mut self, span: &Id, values: &Record<'_>, context: &Context<'_>)
-        ensures { HearsIf ⟦<F as Filter>⟧ ⟦<L as Layer>⟧ (is_seen (view context.now) span.now) self.old (Recorded span.now (plain_record values.now) (view context.now)) self.new }
+    fn hear_record(&mut self, span: &Id, values: &Record<'_>, context: &mut Context<'_>)
+        ensures lent { SameLoan context.old context.new }
+        ensures told { HearsSpan ⟦<F as Filter>⟧ ⟦<L as Layer>⟧ self.old span.now (Recorded span.now (plain_record values.now)) (view context.old) (left context.new) self.new }
     {
         if context.exists(span) {
             self.filter.on_record(span, values, context);
-            self.layer.on_record(span, values, &mut context.again());
+            self.layer.on_record(span, values, context);
         }
     }
 
     // Tells of an entry of a span, where it was passed.
-    fn hear_enter(&mut self, span: &Id, context: &Context<'_>)
-        ensures { HearsIf ⟦<F as Filter>⟧ ⟦<L as Layer>⟧ (is_seen (view context.now) span.now) self.old (Entered span.now (view context.now)) self.new }
+    fn hear_enter(&mut self, span: &Id, context: &mut Context<'_>)
+        ensures lent { SameLoan context.old context.new }
+        ensures told { HearsSpan ⟦<F as Filter>⟧ ⟦<L as Layer>⟧ self.old span.now (Entered span.now) (view context.old) (left context.new) self.new }
     {
         if context.exists(span) {
             self.filter.on_enter(span, context);
-            self.layer.on_enter(span, &mut context.again());
+            self.layer.on_enter(span, context);
         }
     }
 
     // Tells of an exit of a span, where it was passed.
-    fn hear_exit(&mut self, span: &Id, context: &Context<'_>)
-        ensures { HearsIf ⟦<F as Filter>⟧ ⟦<L as Layer>⟧ (is_seen (view context.now) span.now) self.old (Exited span.now (view context.now)) self.new }
+    fn hear_exit(&mut self, span: &Id, context: &mut Context<'_>)
+        ensures lent { SameLoan context.old context.new }
+        ensures told { HearsSpan ⟦<F as Filter>⟧ ⟦<L as Layer>⟧ self.old span.now (Exited span.now) (view context.old) (left context.new) self.new }
     {
         if context.exists(span) {
             self.filter.on_exit(span, context);
-            self.layer.on_exit(span, &mut context.again());
+            self.layer.on_exit(span, context);
         }
     }
 
     // Tells of the close of a span, where it was passed.
-    fn hear_close(&mut self, span: &Id, context: &Context<'_>)
-        ensures { HearsIf ⟦<F as Filter>⟧ ⟦<L as Layer>⟧ (is_seen (view context.now) span.now) self.old (Closed span.now (view context.now)) self.new }
+    fn hear_close(&mut self, span: &Id, context: &mut Context<'_>)
+        ensures lent { SameLoan context.old context.new }
+        ensures told { HearsSpan ⟦<F as Filter>⟧ ⟦<L as Layer>⟧ self.old span.now (Closed span.now) (view context.old) (left context.new) self.new }
     {
         if context.exists(span) {
             self.filter.on_close(span, context);
-            self.layer.on_close(span, &mut context.again());
+            self.layer.on_close(span, context);
         }
     }
 }

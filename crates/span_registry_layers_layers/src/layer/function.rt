@@ -1,10 +1,11 @@
 //! A stored closure as a layer that vetoes what it refuses.
 ghost use Rattle.std.proofs.Common.{subst, sym};
-ghost use Rattle.std.specs.Prelude.{◌≡◌, true};
+ghost use Rattle.std.specs.Prelude.{◌≡◌, true, false, refl};
 ghost use Rattle.tracing_core.specs.Steady.{SameWord};
 ghost use Rattle.span_registry_layers_layers.specs.Combined.{same_word};
 ghost use Rattle.span_registry_layers_layers.specs.Functions.{AnswersBy, SaysBy};
 ghost use Rattle.span_registry_layers_layers.specs.Honesty.{Fair};
+ghost use Rattle.span_registry_layers_layers.specs.Notices.{Untouched, untouched_writes};
 ghost use Rattle.span_registry_layers_layers.specs.Numbering.{no_numbers};
 ghost use Rattle.span_registry_layers_layers.specs.Singles.{leaf_once};
 
@@ -24,17 +25,21 @@ impl Layer for FilterFn {
 
     ghost hint = { λ x. x.max_level_hint };
 
-    ghost told = { λ x n y. y ≡ x };
+    ghost told = { λ x n y. (y ≡ x) × Untouched n };
 
     ghost honest = { λ x. Fair (AnswersBy (MetadataTest.post x.enabled)) (SaysBy (MetadataTest.post x.enabled)) x.max_level_hint };
 
     ghost fair = { λ x k. k };
 
-    ghost stays = { λ x n y t k. subst (λ z. Fair (AnswersBy (MetadataTest.post z.enabled)) (SaysBy (MetadataTest.post z.enabled)) z.max_level_hint × SameWord (SaysBy (MetadataTest.post x.enabled)) (SaysBy (MetadataTest.post z.enabled)) x.max_level_hint z.max_level_hint) (sym t) (k, same_word (SaysBy (MetadataTest.post x.enabled)) x.max_level_hint) };
+    ghost stays = { λ x n y t k. subst (λ z. Fair (AnswersBy (MetadataTest.post z.enabled)) (SaysBy (MetadataTest.post z.enabled)) z.max_level_hint × SameWord (SaysBy (MetadataTest.post x.enabled)) (SaysBy (MetadataTest.post z.enabled)) x.max_level_hint z.max_level_hint) (sym t.0) (k, same_word (SaysBy (MetadataTest.post x.enabled)) x.max_level_hint) };
 
     ghost numbered = { λ x n y t. no_numbers n };
 
     ghost once = { λ x k. leaf_once };
+
+    ghost aside = { λ x n y t. untouched_writes (λ key. false) n t.1 };
+
+    ghost keyed = { λ x n y t key. refl };
 
     fn on_register_dispatch(&mut self, _dispatch: &WeakDispatch) {}
 
@@ -47,7 +52,7 @@ impl Layer for FilterFn {
     fn ask_span(
         &self,
         _metadata: &Metadata<'_>,
-        _context: &Context<'_>,
+        _context: &mut Context<'_>,
         passes: bool,
         verdicts: FilterMap,
     ) -> (FilterMap, bool) {

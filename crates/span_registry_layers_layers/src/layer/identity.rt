@@ -1,8 +1,9 @@
 //! A layer that does nothing.
-ghost use Rattle.std.specs.Prelude.{◌≡◌, None, true};
+ghost use Rattle.std.specs.Prelude.{◌≡◌, None, true, false, refl};
 ghost use Rattle.tracing_core.specs.InterestInner.TheVariants.{Always};
 ghost use Rattle.span_registry_layers_layers.specs.Combined.{same_word};
 ghost use Rattle.span_registry_layers_layers.specs.Identities.{idle_fair};
+ghost use Rattle.span_registry_layers_layers.specs.Notices.{Untouched, untouched_writes};
 ghost use Rattle.span_registry_layers_layers.specs.Numbering.{no_numbers};
 ghost use Rattle.span_registry_layers_layers.specs.Singles.{leaf_once};
 
@@ -31,7 +32,7 @@ impl Layer for Identity {
 
     ghost hint = { λ x. None };
 
-    ghost told = { λ x n y. y ≡ x };
+    ghost told = { λ x n y. (y ≡ x) × Untouched n };
 
     ghost honest = { λ x. Unit {0} };
 
@@ -42,6 +43,10 @@ impl Layer for Identity {
     ghost numbered = { λ x n y t. no_numbers n };
 
     ghost once = { λ x k. leaf_once };
+
+    ghost aside = { λ x n y t. untouched_writes (λ key. false) n t.1 };
+
+    ghost keyed = { λ x n y t key. refl };
 
     fn on_register_dispatch(&mut self, _dispatch: &WeakDispatch) {}
 
@@ -54,7 +59,7 @@ impl Layer for Identity {
     fn ask_span(
         &self,
         _metadata: &Metadata<'_>,
-        _context: &Context<'_>,
+        _context: &mut Context<'_>,
         passes: bool,
         verdicts: FilterMap,
     ) -> (FilterMap, bool) {

@@ -9,7 +9,7 @@ use tracing_core::{Attributes, Event, Id, Interest, LevelFilter, Metadata, Recor
 
 /// A layer over an inner one, or over a registry.
 ///
-/// Both layers are told; the outer one is asked first, and where one refuses, nobody is told.
+/// Both layers are told, and the outer one sees what the inner one wrote; the outer one is asked first, and where one refuses, nobody is told.
 #[derive(Clone, Copy, Debug, Drop)]
 pub struct Layered<L, I> {
     pub(crate) layer: L,
@@ -64,6 +64,8 @@ impl<L: Layer, I: Layer> Layer for Layered<L, I> {
 
     ghost kept = { λ l. KeptByBoth (L.kept l.layer) (I.kept l.inner) };
 
+    ghost keys = { layereds.keys_of ⟦<L as Layer>⟧ ⟦<I as Layer>⟧ };
+
     ghost fair = { λ l k. layered_fair (L.fair l.layer k.0) (I.fair l.inner k.1) };
 
     ghost stays = { layereds.both_stay ⟦<L as Layer>⟧ ⟦<I as Layer>⟧ };
@@ -71,6 +73,10 @@ impl<L: Layer, I: Layer> Layer for Layered<L, I> {
     ghost numbered = { layereds.both_numbered ⟦<L as Layer>⟧ ⟦<I as Layer>⟧ };
 
     ghost once = { λ l k. both_once (L.kept l.layer) (I.kept l.inner) (L.once l.layer k.0) (I.once l.inner k.1) };
+
+    ghost aside = { layereds.both_aside ⟦<L as Layer>⟧ ⟦<I as Layer>⟧ };
+
+    ghost keyed = { layereds.both_keyed ⟦<L as Layer>⟧ ⟦<I as Layer>⟧ };
 
     fn on_register_dispatch(&mut self, dispatch: &WeakDispatch) {
         self.layer.on_register_dispatch(dispatch);
@@ -92,7 +98,7 @@ impl<L: Layer, I: Layer> Layer for Layered<L, I> {
     fn ask_span(
         &self,
         metadata: &Metadata<'_>,
-        context: &Context<'_>,
+        context: &mut Context<'_>,
         passes: bool,
         verdicts: FilterMap,
     ) -> (FilterMap, bool) {
@@ -118,8 +124,7 @@ impl<L: Layer, I: Layer> Layer for Layered<L, I> {
         span: &Id,
         context: &mut Context<'_>,
     ) {
-        self.inner
-            .on_new_span(attributes, span, &mut context.again());
+        self.inner.on_new_span(attributes, span, context);
         self.layer.on_new_span(attributes, span, context);
     }
 
@@ -128,13 +133,12 @@ impl<L: Layer, I: Layer> Layer for Layered<L, I> {
     }
 
     fn on_record(&mut self, span: &Id, values: &Record<'_>, context: &mut Context<'_>) {
-        self.inner.on_record(span, values, &mut context.again());
+        self.inner.on_record(span, values, context);
         self.layer.on_record(span, values, context);
     }
 
     fn on_follows_from(&mut self, span: &Id, follows: &Id, context: &mut Context<'_>) {
-        self.inner
-            .on_follows_from(span, follows, &mut context.again());
+        self.inner.on_follows_from(span, follows, context);
         self.layer.on_follows_from(span, follows, context);
     }
 
@@ -143,27 +147,27 @@ impl<L: Layer, I: Layer> Layer for Layered<L, I> {
     }
 
     fn on_event(&mut self, event: &Event<'_, '_>, context: &mut Context<'_>) {
-        self.inner.on_event(event, &mut context.again());
+        self.inner.on_event(event, context);
         self.layer.on_event(event, context);
     }
 
     fn on_enter(&mut self, span: &Id, context: &mut Context<'_>) {
-        self.inner.on_enter(span, &mut context.again());
+        self.inner.on_enter(span, context);
         self.layer.on_enter(span, context);
     }
 
     fn on_exit(&mut self, span: &Id, context: &mut Context<'_>) {
-        self.inner.on_exit(span, &mut context.again());
+        self.inner.on_exit(span, context);
         self.layer.on_exit(span, context);
     }
 
     fn on_close(&mut self, span: &Id, context: &mut Context<'_>) {
-        self.inner.on_close(span, &mut context.again());
+        self.inner.on_close(span, context);
         self.layer.on_close(span, context);
     }
 
     fn on_id_change(&mut self, old: &Id, new: &Id, context: &mut Context<'_>) {
-        self.inner.on_id_change(old, new, &mut context.again());
+        self.inner.on_id_change(old, new, context);
         self.layer.on_id_change(old, new, context);
     }
 }

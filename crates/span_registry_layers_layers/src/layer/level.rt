@@ -1,8 +1,9 @@
 //! A level filter as a layer that vetoes what it refuses.
 ghost use Rattle.std.proofs.Common.{subst, sym};
-ghost use Rattle.std.specs.Prelude.{◌≡◌, Some, nat_le, true};
+ghost use Rattle.std.specs.Prelude.{◌≡◌, Some, nat_le, true, false, refl};
 ghost use Rattle.tracing_core.specs.Steady.{SameWord};
 ghost use Rattle.span_registry_layers_layers.specs.Combined.{level_fair, level_interest, same_word};
+ghost use Rattle.span_registry_layers_layers.specs.Notices.{Untouched, untouched_writes};
 ghost use Rattle.span_registry_layers_layers.specs.Numbering.{no_numbers};
 ghost use Rattle.span_registry_layers_layers.specs.Singles.{leaf_once};
 
@@ -21,17 +22,21 @@ impl Layer for LevelFilter {
 
     ghost hint = { λ f. Some f };
 
-    ghost told = { λ x n y. y ≡ x };
+    ghost told = { λ x n y. (y ≡ x) × Untouched n };
 
     ghost honest = { λ f. Unit {0} };
 
     ghost fair = { λ f _. level_fair f };
 
-    ghost stays = { λ x n y t k. subst (λ z. Unit {0} × SameWord (λ m k. k ≡ level_interest x m.level) (λ m k. k ≡ level_interest z m.level) (Some x) (Some z)) (sym t) (tt, same_word (λ m k. k ≡ level_interest x m.level) (Some x)) };
+    ghost stays = { λ x n y t k. subst (λ z. Unit {0} × SameWord (λ m k. k ≡ level_interest x m.level) (λ m k. k ≡ level_interest z m.level) (Some x) (Some z)) (sym t.0) (tt, same_word (λ m k. k ≡ level_interest x m.level) (Some x)) };
 
     ghost numbered = { λ x n y t. no_numbers n };
 
     ghost once = { λ x k. leaf_once };
+
+    ghost aside = { λ x n y t. untouched_writes (λ key. false) n t.1 };
+
+    ghost keyed = { λ x n y t key. refl };
 
     fn on_register_dispatch(&mut self, _dispatch: &WeakDispatch) {}
 
@@ -44,7 +49,7 @@ impl Layer for LevelFilter {
     fn ask_span(
         &self,
         _metadata: &Metadata<'_>,
-        _context: &Context<'_>,
+        _context: &mut Context<'_>,
         passes: bool,
         verdicts: FilterMap,
     ) -> (FilterMap, bool) {

@@ -27,6 +27,8 @@ impl<L: Layer> Layer for Option<L> {
 
     ghost kept = { absent.KeptOf ⟦<L as Layer>⟧ };
 
+    ghost keys = { absent.keys_of ⟦<L as Layer>⟧ };
+
     ghost fair = { absent.absent_fair ⟦<L as Layer>⟧ };
 
     ghost stays = { absent.absent_stays ⟦<L as Layer>⟧ };
@@ -34,6 +36,10 @@ impl<L: Layer> Layer for Option<L> {
     ghost numbered = { absent.absent_numbered ⟦<L as Layer>⟧ };
 
     ghost once = { absent.absent_once ⟦<L as Layer>⟧ };
+
+    ghost aside = { absent.absent_aside ⟦<L as Layer>⟧ };
+
+    ghost keyed = { absent.absent_keyed ⟦<L as Layer>⟧ };
 
     fn on_register_dispatch(&mut self, dispatch: &WeakDispatch) {
         match self {
@@ -59,7 +65,7 @@ impl<L: Layer> Layer for Option<L> {
     fn ask_span(
         &self,
         metadata: &Metadata<'_>,
-        context: &Context<'_>,
+        context: &mut Context<'_>,
         passes: bool,
         verdicts: FilterMap,
     ) -> (FilterMap, bool) {

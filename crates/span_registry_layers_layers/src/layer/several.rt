@@ -3,9 +3,9 @@ ghost use Rattle.std.specs.Prelude.{◌≡◌, ◌≤◌, ◌+◌, Bool, List, l
 ghost use Rattle.tracing_core.specs.Metadata.{plain_metadata};
 ghost use Rattle.tracing_core.specs.PlainRequests.{plain_attributes, plain_event, plain_record};
 ghost use Rattle.tracing_core.specs.InterestInner.TheVariants.{Never};
-ghost use Rattle.span_registry_layers_layers.specs.Looks.{Closed, Entered, Exited, Recorded, SpanMade, view};
+ghost use Rattle.span_registry_layers_layers.specs.Looks.{Closed, Entered, Exited, Recorded, SameLoan, SpanMade, left, view};
 ghost use Rattle.span_registry_layers_layers.specs.Notices.{AddsFilters, Attached, Dispatched, Followed, Happened, Renamed, Spanned};
-ghost use Rattle.span_registry_layers_layers.specs.Several.{AllAnswer, AllAnswerEvents, EachTold, KeptByEach, SaysFrom, ToldEach, filters_of, hint_from, numbers_of};
+ghost use Rattle.span_registry_layers_layers.specs.Several.{AllAnswer, AllAnswerEvents, EachTold, KeptByEach, SaysFrom, TellsInTurn, ToldEach, filters_of, hint_from, numbers_of};
 ghost use Rattle.std.specs.Prelude.{Some};
 ghost use Rattle.span_registry_layers_layers.specs.Numbering.{AreNumbers, SameBut, SameOf, more_filters, numbers_from, room_after};
 
@@ -15,7 +15,7 @@ use crate::layer::Layer;
 use span_registry_layers_store::{FilterMap, Registry};
 use tracing_core::{Attributes, Event, Id, Interest, LevelFilter, Metadata, Record, WeakDispatch};
 
-/// Each layer is told, and where one refuses, nobody is. They keep their word where there is one, and each of them
+/// Each layer is told in turn, and where one refuses, nobody is. They keep their word where there is one, and each of them
 /// keeps its own and always wants all.
 impl<L: Layer> Layer for Vec<L> {
     ghost use Rattle.tracing_core.specs.InterestInner.TheVariants.{Never};
@@ -40,6 +40,8 @@ impl<L: Layer> Layer for Vec<L> {
 
     ghost kept = { λ v. several.KeptByEach ⟦<L as Layer>⟧ v.items };
 
+    ghost keys = { λ v. several.keys_of ⟦<L as Layer>⟧ v.items };
+
     ghost fair = { λ v k. several.several_fair ⟦<L as Layer>⟧ v.items k };
 
     ghost stays = { λ v n w t k. several.several_stay ⟦<L as Layer>⟧ v.items n w.items t k };
@@ -47,6 +49,10 @@ impl<L: Layer> Layer for Vec<L> {
     ghost numbered = { λ v n w t. several.each_numbered ⟦<L as Layer>⟧ n v.items w.items t };
 
     ghost once = { λ v k. several.several_once ⟦<L as Layer>⟧ v.items k };
+
+    ghost aside = { λ v n w t. several.each_aside ⟦<L as Layer>⟧ n v.items w.items t };
+
+    ghost keyed = { λ v n w t key. several.each_keyed ⟦<L as Layer>⟧ n v.items w.items t key };
 
     fn on_register_dispatch(&mut self, dispatch: &WeakDispatch) {
         tell_dispatch(self.as_mut_slice(), dispatch);
@@ -63,7 +69,7 @@ impl<L: Layer> Layer for Vec<L> {
     fn ask_span(
         &self,
         metadata: &Metadata<'_>,
-        context: &Context<'_>,
+        context: &mut Context<'_>,
         passes: bool,
         verdicts: FilterMap,
     ) -> (FilterMap, bool) {
@@ -169,13 +175,15 @@ fn joined_room<L: Layer>(layers: &[L], room: u8) -> Option<u8>
 fn ask_each<L: Layer>(
     layers: &[L],
     metadata: &Metadata<'_>,
-    context: &Context<'_>,
+    context: &mut Context<'_>,
     passes: bool,
     verdicts: FilterMap,
 ) -> (FilterMap, bool)
+    ensures lent { SameLoan context.old context.new }
+    ensures same { left context.new ≡ left context.old }
     ensures room { length result.0.passed ≡ length verdicts.passed }
     ensures others { SameBut (numbers_of ⟦<L as Layer>⟧ layers.now) verdicts.passed result.0.passed }
-    ensures kept { (later : List Bool) → AreNumbers (length verdicts.passed) (numbers_of ⟦<L as Layer>⟧ layers.now) → SameOf (numbers_of ⟦<L as Layer>⟧ layers.now) result.0.passed later → KeptByEach ⟦<L as Layer>⟧ layers.now (plain_metadata metadata.now) (view context.now) passes later result.1 }
+    ensures kept { (later : List Bool) → AreNumbers (length verdicts.passed) (numbers_of ⟦<L as Layer>⟧ layers.now) → SameOf (numbers_of ⟦<L as Layer>⟧ layers.now) result.0.passed later → KeptByEach ⟦<L as Layer>⟧ layers.now (plain_metadata metadata.now) (view context.old) passes later result.1 }
 {
     match layers {
         [] => (verdicts, false),
@@ -235,67 +243,80 @@ fn tell_new_span<L: Layer>(
     layers: &mut [L],
     attributes: &Attributes<'_, '_>,
     span: &Id,
-    context: &Context<'_>,
+    context: &mut Context<'_>,
 )
-    ensures { EachTold ⟦<L as Layer>⟧ (Spanned (SpanMade (plain_attributes attributes.now) span.now (view context.now))) layers.old layers.new }
+    ensures lent { SameLoan context.old context.new }
+    ensures told { TellsInTurn ⟦<L as Layer>⟧ (Spanned span.now (SpanMade (plain_attributes attributes.now) span.now)) (view context.old) layers.old (left context.new) layers.new }
 {
     for layer in layers.iter_mut() {
-        layer.on_new_span(attributes, span, &mut context.again());
+        layer.on_new_span(attributes, span, context);
     }
 }
 
-fn tell_record<L: Layer>(layers: &mut [L], span: &Id, values: &Record<'_>, context: &Context<'_>)
-    ensures { EachTold ⟦<L as Layer>⟧ (Spanned (Recorded span.now (plain_record values.now) (view context.now))) layers.old layers.new }
+fn tell_record<L: Layer>(
+    layers: &mut [L],
+    span: &Id,
+    values: &Record<'_>,
+    context: &mut Context<'_>,
+)
+    ensures lent { SameLoan context.old context.new }
+    ensures told { TellsInTurn ⟦<L as Layer>⟧ (Spanned span.now (Recorded span.now (plain_record values.now))) (view context.old) layers.old (left context.new) layers.new }
 {
     for layer in layers.iter_mut() {
-        layer.on_record(span, values, &mut context.again());
+        layer.on_record(span, values, context);
     }
 }
 
-fn tell_follows<L: Layer>(layers: &mut [L], span: &Id, follows: &Id, context: &Context<'_>)
-    ensures { EachTold ⟦<L as Layer>⟧ (Followed span.now follows.now (view context.now)) layers.old layers.new }
+fn tell_follows<L: Layer>(layers: &mut [L], span: &Id, follows: &Id, context: &mut Context<'_>)
+    ensures lent { SameLoan context.old context.new }
+    ensures told { TellsInTurn ⟦<L as Layer>⟧ (Followed span.now follows.now) (view context.old) layers.old (left context.new) layers.new }
 {
     for layer in layers.iter_mut() {
-        layer.on_follows_from(span, follows, &mut context.again());
+        layer.on_follows_from(span, follows, context);
     }
 }
 
-fn tell_event<L: Layer>(layers: &mut [L], event: &Event<'_, '_>, context: &Context<'_>)
-    ensures { EachTold ⟦<L as Layer>⟧ (Happened (plain_event event.now) (view context.now)) layers.old layers.new }
+fn tell_event<L: Layer>(layers: &mut [L], event: &Event<'_, '_>, context: &mut Context<'_>)
+    ensures lent { SameLoan context.old context.new }
+    ensures told { TellsInTurn ⟦<L as Layer>⟧ (Happened (plain_event event.now)) (view context.old) layers.old (left context.new) layers.new }
 {
     for layer in layers.iter_mut() {
-        layer.on_event(event, &mut context.again());
+        layer.on_event(event, context);
     }
 }
 
-fn tell_enter<L: Layer>(layers: &mut [L], span: &Id, context: &Context<'_>)
-    ensures { EachTold ⟦<L as Layer>⟧ (Spanned (Entered span.now (view context.now))) layers.old layers.new }
+fn tell_enter<L: Layer>(layers: &mut [L], span: &Id, context: &mut Context<'_>)
+    ensures lent { SameLoan context.old context.new }
+    ensures told { TellsInTurn ⟦<L as Layer>⟧ (Spanned span.now (Entered span.now)) (view context.old) layers.old (left context.new) layers.new }
 {
     for layer in layers.iter_mut() {
-        layer.on_enter(span, &mut context.again());
+        layer.on_enter(span, context);
     }
 }
 
-fn tell_exit<L: Layer>(layers: &mut [L], span: &Id, context: &Context<'_>)
-    ensures { EachTold ⟦<L as Layer>⟧ (Spanned (Exited span.now (view context.now))) layers.old layers.new }
+fn tell_exit<L: Layer>(layers: &mut [L], span: &Id, context: &mut Context<'_>)
+    ensures lent { SameLoan context.old context.new }
+    ensures told { TellsInTurn ⟦<L as Layer>⟧ (Spanned span.now (Exited span.now)) (view context.old) layers.old (left context.new) layers.new }
 {
     for layer in layers.iter_mut() {
-        layer.on_exit(span, &mut context.again());
+        layer.on_exit(span, context);
     }
 }
 
-fn tell_close<L: Layer>(layers: &mut [L], span: &Id, context: &Context<'_>)
-    ensures { EachTold ⟦<L as Layer>⟧ (Spanned (Closed span.now (view context.now))) layers.old layers.new }
+fn tell_close<L: Layer>(layers: &mut [L], span: &Id, context: &mut Context<'_>)
+    ensures lent { SameLoan context.old context.new }
+    ensures told { TellsInTurn ⟦<L as Layer>⟧ (Spanned span.now (Closed span.now)) (view context.old) layers.old (left context.new) layers.new }
 {
     for layer in layers.iter_mut() {
-        layer.on_close(span, &mut context.again());
+        layer.on_close(span, context);
     }
 }
 
-fn tell_id_change<L: Layer>(layers: &mut [L], old: &Id, new: &Id, context: &Context<'_>)
-    ensures { EachTold ⟦<L as Layer>⟧ (Renamed old.now new.now (view context.now)) layers.old layers.new }
+fn tell_id_change<L: Layer>(layers: &mut [L], old: &Id, new: &Id, context: &mut Context<'_>)
+    ensures lent { SameLoan context.old context.new }
+    ensures told { TellsInTurn ⟦<L as Layer>⟧ (Renamed old.now new.now) (view context.old) layers.old (left context.new) layers.new }
 {
     for layer in layers.iter_mut() {
-        layer.on_id_change(old, new, &mut context.again());
+        layer.on_id_change(old, new, context);
     }
 }

@@ -110,13 +110,14 @@ impl<L: Layer, F: Filter> StackParts<Filtered<L, F>> {
     }
 
     // Which filters pass a new span, and whether one does: nobody is asked where what is kept refuses it.
-    fn ask_span(&self, metadata: &Metadata<'_>, at: At) -> (FilterMap, bool)
-        ensures { AsksUnless ⟦<F as Filter>⟧ ⟦<L as Layer>⟧ (is_refused (plain_stack self.now) (plain_metadata metadata.now)) (plain_metadata metadata.now) at (plain_stack self.now) result.0.passed result.1 }
+    fn ask_span(&mut self, metadata: &Metadata<'_>, at: At) -> (FilterMap, bool)
+        ensures asked { AsksUnless ⟦<F as Filter>⟧ ⟦<L as Layer>⟧ (is_refused (plain_stack self.old) (plain_metadata metadata.now)) (plain_metadata metadata.now) at (plain_stack self.old) result.0.passed result.1 }
+        ensures same { plain_stack self.new ≡ plain_stack self.old }
     {
         if self.refuses(metadata) {
             (FilterMap::all(), false)
         } else {
-            ask_span(&self.rows, metadata, &self.registry, at)
+            ask_span(&self.rows, metadata, &mut self.registry, at)
         }
     }
 

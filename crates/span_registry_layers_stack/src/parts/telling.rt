@@ -2,7 +2,7 @@
 ghost use Rattle.tracing_core.specs.PlainRequests.{plain_attributes, plain_record};
 ghost use Rattle.span_registry_layers_layers.specs.Looks.{Closed, Entered, Exited, Recorded, SpanMade};
 ghost use Rattle.span_registry_layers_stack.specs.Hearing.{TellsDispatch, TellsFollows, TellsMade, TellsSpan};
-ghost use Rattle.span_registry_layers_stack.specs.Stacks.{RowsBecome, plain_stack};
+ghost use Rattle.span_registry_layers_stack.specs.Stacks.{RowsBecome, RowsInTurn, plain_stack};
 
 use crate::parts::StackParts;
 use crate::rows::{
@@ -13,39 +13,39 @@ use tracing_core::{At, Attributes, Id, Record, WeakDispatch};
 
 impl<L: Layer, F: Filter> StackParts<Filtered<L, F>> {
     pub(super) fn tell_new_span(&mut self, attributes: &Attributes<'_, '_>, span: &Id, at: At)
-        ensures { RowsBecome (TellsMade ⟦<F as Filter>⟧ ⟦<L as Layer>⟧ (SpanMade (plain_attributes attributes.now) span.now) span.now at self.old.registry) (plain_stack self.old) (plain_stack self.new) }
+        ensures { RowsInTurn (TellsMade ⟦<F as Filter>⟧ ⟦<L as Layer>⟧ (SpanMade (plain_attributes attributes.now) span.now) span.now at) (plain_stack self.old) (plain_stack self.new) }
     {
-        tell_new_span(&mut self.rows, attributes, span, &self.registry, at);
+        tell_new_span(&mut self.rows, attributes, span, &mut self.registry, at);
     }
 
     pub(super) fn tell_record(&mut self, span: &Id, values: &Record<'_>, at: At)
-        ensures { RowsBecome (TellsSpan ⟦<F as Filter>⟧ ⟦<L as Layer>⟧ (Recorded span.now (plain_record values.now)) span.now at self.old.registry) (plain_stack self.old) (plain_stack self.new) }
+        ensures { RowsInTurn (TellsSpan ⟦<F as Filter>⟧ ⟦<L as Layer>⟧ (Recorded span.now (plain_record values.now)) span.now at) (plain_stack self.old) (plain_stack self.new) }
     {
-        tell_record(&mut self.rows, span, values, &self.registry, at);
+        tell_record(&mut self.rows, span, values, &mut self.registry, at);
     }
 
     pub(super) fn tell_follows(&mut self, span: &Id, follows: &Id, at: At)
-        ensures { RowsBecome (TellsFollows ⟦<F as Filter>⟧ ⟦<L as Layer>⟧ span.now follows.now at self.old.registry) (plain_stack self.old) (plain_stack self.new) }
+        ensures { RowsInTurn (TellsFollows ⟦<F as Filter>⟧ ⟦<L as Layer>⟧ span.now follows.now at) (plain_stack self.old) (plain_stack self.new) }
     {
-        tell_follows(&mut self.rows, span, follows, &self.registry, at);
+        tell_follows(&mut self.rows, span, follows, &mut self.registry, at);
     }
 
     pub(super) fn tell_enter(&mut self, span: &Id, at: At)
-        ensures { RowsBecome (TellsSpan ⟦<F as Filter>⟧ ⟦<L as Layer>⟧ (Entered span.now) span.now at self.old.registry) (plain_stack self.old) (plain_stack self.new) }
+        ensures { RowsInTurn (TellsSpan ⟦<F as Filter>⟧ ⟦<L as Layer>⟧ (Entered span.now) span.now at) (plain_stack self.old) (plain_stack self.new) }
     {
-        tell_enter(&mut self.rows, span, &self.registry, at);
+        tell_enter(&mut self.rows, span, &mut self.registry, at);
     }
 
     pub(super) fn tell_exit(&mut self, span: &Id, at: At)
-        ensures { RowsBecome (TellsSpan ⟦<F as Filter>⟧ ⟦<L as Layer>⟧ (Exited span.now) span.now at self.old.registry) (plain_stack self.old) (plain_stack self.new) }
+        ensures { RowsInTurn (TellsSpan ⟦<F as Filter>⟧ ⟦<L as Layer>⟧ (Exited span.now) span.now at) (plain_stack self.old) (plain_stack self.new) }
     {
-        tell_exit(&mut self.rows, span, &self.registry, at);
+        tell_exit(&mut self.rows, span, &mut self.registry, at);
     }
 
     pub(super) fn tell_close(&mut self, span: &Id, at: At)
-        ensures { RowsBecome (TellsSpan ⟦<F as Filter>⟧ ⟦<L as Layer>⟧ (Closed span.now) span.now at self.old.registry) (plain_stack self.old) (plain_stack self.new) }
+        ensures { RowsInTurn (TellsSpan ⟦<F as Filter>⟧ ⟦<L as Layer>⟧ (Closed span.now) span.now at) (plain_stack self.old) (plain_stack self.new) }
     {
-        tell_close(&mut self.rows, span, &self.registry, at);
+        tell_close(&mut self.rows, span, &mut self.registry, at);
     }
 
     pub(crate) fn tell_dispatch(&mut self, dispatch: &WeakDispatch)

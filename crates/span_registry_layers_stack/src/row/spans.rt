@@ -28,8 +28,14 @@ impl<L: Layer, F: Filter> Row<Filtered<L, F>> {
         self.output.inner_mut().on_register_dispatch(dispatch);
     }
 
-    fn hear_span(&mut self, attributes: &Attributes<'_, '_>, span: &Id, registry: &Registry, at: At)
-        ensures { Hears ⟦<F as Filter>⟧ ⟦<L as Layer>⟧ (SpanMade (plain_attributes attributes.now) span.now (view_of at registry.now self.old)) self.old self.new }
+    fn hear_span(
+        &mut self,
+        attributes: &Attributes<'_, '_>,
+        span: &Id,
+        registry: &mut Registry,
+        at: At,
+    )
+        ensures { Hears ⟦<F as Filter>⟧ ⟦<L as Layer>⟧ span.now (SpanMade (plain_attributes attributes.now) span.now) (view_of at registry.old self.old) self.old registry.new self.new }
     {
         let mut context = Context::new(registry, at, Some(self.id));
         self.output
@@ -45,10 +51,10 @@ impl<L: Layer, F: Filter> Row<Filtered<L, F>> {
         &mut self,
         attributes: &Attributes<'_, '_>,
         span: &Id,
-        registry: &Registry,
+        registry: &mut Registry,
         at: At,
     )
-        ensures { TellsMade ⟦<F as Filter>⟧ ⟦<L as Layer>⟧ (SpanMade (plain_attributes attributes.now) span.now) span.now at registry.now self.old self.new }
+        ensures { TellsMade ⟦<F as Filter>⟧ ⟦<L as Layer>⟧ (SpanMade (plain_attributes attributes.now) span.now) span.now at registry.old self.old registry.new self.new }
     {
         let sees = self.sees(span, registry);
         self.passed = sees;
@@ -58,8 +64,8 @@ impl<L: Layer, F: Filter> Row<Filtered<L, F>> {
         }
     }
 
-    fn hear_record(&mut self, span: &Id, values: &Record<'_>, registry: &Registry, at: At)
-        ensures { Hears ⟦<F as Filter>⟧ ⟦<L as Layer>⟧ (Recorded span.now (plain_record values.now) (view_of at registry.now self.old)) self.old self.new }
+    fn hear_record(&mut self, span: &Id, values: &Record<'_>, registry: &mut Registry, at: At)
+        ensures { Hears ⟦<F as Filter>⟧ ⟦<L as Layer>⟧ span.now (Recorded span.now (plain_record values.now)) (view_of at registry.old self.old) self.old registry.new self.new }
     {
         let mut context = Context::new(registry, at, Some(self.id));
         self.output.filter_mut().on_record(span, values, &context);
@@ -69,16 +75,16 @@ impl<L: Layer, F: Filter> Row<Filtered<L, F>> {
     }
 
     // Values were recorded on a span.
-    pub(crate) fn record(&mut self, span: &Id, values: &Record<'_>, registry: &Registry, at: At)
-        ensures { TellsSpan ⟦<F as Filter>⟧ ⟦<L as Layer>⟧ (Recorded span.now (plain_record values.now)) span.now at registry.now self.old self.new }
+    pub(crate) fn record(&mut self, span: &Id, values: &Record<'_>, registry: &mut Registry, at: At)
+        ensures { TellsSpan ⟦<F as Filter>⟧ ⟦<L as Layer>⟧ (Recorded span.now (plain_record values.now)) span.now at registry.old self.old registry.new self.new }
     {
         if self.sees(span, registry) {
             self.hear_record(span, values, registry, at);
         }
     }
 
-    fn hear_follows(&mut self, span: &Id, follows: &Id, registry: &Registry, at: At)
-        ensures told { L.told self.old.output.layer (Followed span.now follows.now (view_of at registry.now self.old)) self.new.output.layer }
+    fn hear_follows(&mut self, span: &Id, follows: &Id, registry: &mut Registry, at: At)
+        ensures told { L.told self.old.output.layer (Followed span.now follows.now (view_of at registry.old self.old) registry.new) self.new.output.layer }
         ensures rest { self.new ≡ with_layer self.new.output.layer self.old }
     {
         let mut context = Context::new(registry, at, Some(self.id));
@@ -94,16 +100,16 @@ impl<L: Layer, F: Filter> Row<Filtered<L, F>> {
     }
 
     // A span was said to follow from another one: a filter isn't told of that.
-    pub(crate) fn follows_from(&mut self, span: &Id, follows: &Id, registry: &Registry, at: At)
-        ensures { TellsFollows ⟦<F as Filter>⟧ ⟦<L as Layer>⟧ span.now follows.now at registry.now self.old self.new }
+    pub(crate) fn follows_from(&mut self, span: &Id, follows: &Id, registry: &mut Registry, at: At)
+        ensures { TellsFollows ⟦<F as Filter>⟧ ⟦<L as Layer>⟧ span.now follows.now at registry.old self.old registry.new self.new }
     {
         if self.sees_both(span, follows, registry) {
             self.hear_follows(span, follows, registry, at);
         }
     }
 
-    fn hear_enter(&mut self, span: &Id, registry: &Registry, at: At)
-        ensures { Hears ⟦<F as Filter>⟧ ⟦<L as Layer>⟧ (Entered span.now (view_of at registry.now self.old)) self.old self.new }
+    fn hear_enter(&mut self, span: &Id, registry: &mut Registry, at: At)
+        ensures { Hears ⟦<F as Filter>⟧ ⟦<L as Layer>⟧ span.now (Entered span.now) (view_of at registry.old self.old) self.old registry.new self.new }
     {
         let mut context = Context::new(registry, at, Some(self.id));
         self.output.filter_mut().on_enter(span, &context);
@@ -111,16 +117,16 @@ impl<L: Layer, F: Filter> Row<Filtered<L, F>> {
     }
 
     // A span was entered.
-    pub(crate) fn enter(&mut self, span: &Id, registry: &Registry, at: At)
-        ensures { TellsSpan ⟦<F as Filter>⟧ ⟦<L as Layer>⟧ (Entered span.now) span.now at registry.now self.old self.new }
+    pub(crate) fn enter(&mut self, span: &Id, registry: &mut Registry, at: At)
+        ensures { TellsSpan ⟦<F as Filter>⟧ ⟦<L as Layer>⟧ (Entered span.now) span.now at registry.old self.old registry.new self.new }
     {
         if self.sees(span, registry) {
             self.hear_enter(span, registry, at);
         }
     }
 
-    fn hear_exit(&mut self, span: &Id, registry: &Registry, at: At)
-        ensures { Hears ⟦<F as Filter>⟧ ⟦<L as Layer>⟧ (Exited span.now (view_of at registry.now self.old)) self.old self.new }
+    fn hear_exit(&mut self, span: &Id, registry: &mut Registry, at: At)
+        ensures { Hears ⟦<F as Filter>⟧ ⟦<L as Layer>⟧ span.now (Exited span.now) (view_of at registry.old self.old) self.old registry.new self.new }
     {
         let mut context = Context::new(registry, at, Some(self.id));
         self.output.filter_mut().on_exit(span, &context);
@@ -128,16 +134,16 @@ impl<L: Layer, F: Filter> Row<Filtered<L, F>> {
     }
 
     // A span was left.
-    pub(crate) fn exit(&mut self, span: &Id, registry: &Registry, at: At)
-        ensures { TellsSpan ⟦<F as Filter>⟧ ⟦<L as Layer>⟧ (Exited span.now) span.now at registry.now self.old self.new }
+    pub(crate) fn exit(&mut self, span: &Id, registry: &mut Registry, at: At)
+        ensures { TellsSpan ⟦<F as Filter>⟧ ⟦<L as Layer>⟧ (Exited span.now) span.now at registry.old self.old registry.new self.new }
     {
         if self.sees(span, registry) {
             self.hear_exit(span, registry, at);
         }
     }
 
-    fn hear_close(&mut self, span: &Id, registry: &Registry, at: At)
-        ensures { Hears ⟦<F as Filter>⟧ ⟦<L as Layer>⟧ (Closed span.now (view_of at registry.now self.old)) self.old self.new }
+    fn hear_close(&mut self, span: &Id, registry: &mut Registry, at: At)
+        ensures { Hears ⟦<F as Filter>⟧ ⟦<L as Layer>⟧ span.now (Closed span.now) (view_of at registry.old self.old) self.old registry.new self.new }
     {
         let mut context = Context::new(registry, at, Some(self.id));
         self.output.filter_mut().on_close(span, &context);
@@ -145,8 +151,8 @@ impl<L: Layer, F: Filter> Row<Filtered<L, F>> {
     }
 
     // A span closes.
-    pub(crate) fn close(&mut self, span: &Id, registry: &Registry, at: At)
-        ensures { TellsSpan ⟦<F as Filter>⟧ ⟦<L as Layer>⟧ (Closed span.now) span.now at registry.now self.old self.new }
+    pub(crate) fn close(&mut self, span: &Id, registry: &mut Registry, at: At)
+        ensures { TellsSpan ⟦<F as Filter>⟧ ⟦<L as Layer>⟧ (Closed span.now) span.now at registry.old self.old registry.new self.new }
     {
         if self.sees(span, registry) {
             self.hear_close(span, registry, at);

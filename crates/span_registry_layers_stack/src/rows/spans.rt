@@ -1,6 +1,7 @@
 //! What all outputs are told of spans, in order.
 ghost use Rattle.tracing_core.specs.PlainRequests.{plain_attributes, plain_record};
 ghost use Rattle.span_registry_layers_layers.specs.Looks.{Closed, Entered, Exited, Recorded, SpanMade};
+ghost use Rattle.span_registry_layers_layers.specs.Several.{EachInTurn};
 ghost use Rattle.span_registry_layers_stack.specs.Rows.{EachBecomes};
 ghost use Rattle.span_registry_layers_stack.specs.Hearing.{TellsDispatch, TellsFollows, TellsMade, TellsSpan};
 
@@ -14,10 +15,10 @@ pub(crate) fn tell_new_span<L: Layer, F: Filter>(
     rows: &mut [Row<Filtered<L, F>>],
     attributes: &Attributes<'_, '_>,
     span: &Id,
-    registry: &Registry,
+    registry: &mut Registry,
     at: At,
 )
-    ensures { EachBecomes (TellsMade ⟦<F as Filter>⟧ ⟦<L as Layer>⟧ (SpanMade (plain_attributes attributes.now) span.now) span.now at registry.now) rows.old rows.new }
+    ensures { EachInTurn (TellsMade ⟦<F as Filter>⟧ ⟦<L as Layer>⟧ (SpanMade (plain_attributes attributes.now) span.now) span.now at) registry.old rows.old registry.new rows.new }
 {
     for row in rows.iter_mut() {
         row.new_span(attributes, span, registry, at);
@@ -29,10 +30,10 @@ pub(crate) fn tell_record<L: Layer, F: Filter>(
     rows: &mut [Row<Filtered<L, F>>],
     span: &Id,
     values: &Record<'_>,
-    registry: &Registry,
+    registry: &mut Registry,
     at: At,
 )
-    ensures { EachBecomes (TellsSpan ⟦<F as Filter>⟧ ⟦<L as Layer>⟧ (Recorded span.now (plain_record values.now)) span.now at registry.now) rows.old rows.new }
+    ensures { EachInTurn (TellsSpan ⟦<F as Filter>⟧ ⟦<L as Layer>⟧ (Recorded span.now (plain_record values.now)) span.now at) registry.old rows.old registry.new rows.new }
 {
     for row in rows.iter_mut() {
         row.record(span, values, registry, at);
@@ -44,10 +45,10 @@ pub(crate) fn tell_follows<L: Layer, F: Filter>(
     rows: &mut [Row<Filtered<L, F>>],
     span: &Id,
     follows: &Id,
-    registry: &Registry,
+    registry: &mut Registry,
     at: At,
 )
-    ensures { EachBecomes (TellsFollows ⟦<F as Filter>⟧ ⟦<L as Layer>⟧ span.now follows.now at registry.now) rows.old rows.new }
+    ensures { EachInTurn (TellsFollows ⟦<F as Filter>⟧ ⟦<L as Layer>⟧ span.now follows.now at) registry.old rows.old registry.new rows.new }
 {
     for row in rows.iter_mut() {
         row.follows_from(span, follows, registry, at);
@@ -58,10 +59,10 @@ pub(crate) fn tell_follows<L: Layer, F: Filter>(
 pub(crate) fn tell_enter<L: Layer, F: Filter>(
     rows: &mut [Row<Filtered<L, F>>],
     span: &Id,
-    registry: &Registry,
+    registry: &mut Registry,
     at: At,
 )
-    ensures { EachBecomes (TellsSpan ⟦<F as Filter>⟧ ⟦<L as Layer>⟧ (Entered span.now) span.now at registry.now) rows.old rows.new }
+    ensures { EachInTurn (TellsSpan ⟦<F as Filter>⟧ ⟦<L as Layer>⟧ (Entered span.now) span.now at) registry.old rows.old registry.new rows.new }
 {
     for row in rows.iter_mut() {
         row.enter(span, registry, at);
@@ -72,10 +73,10 @@ pub(crate) fn tell_enter<L: Layer, F: Filter>(
 pub(crate) fn tell_exit<L: Layer, F: Filter>(
     rows: &mut [Row<Filtered<L, F>>],
     span: &Id,
-    registry: &Registry,
+    registry: &mut Registry,
     at: At,
 )
-    ensures { EachBecomes (TellsSpan ⟦<F as Filter>⟧ ⟦<L as Layer>⟧ (Exited span.now) span.now at registry.now) rows.old rows.new }
+    ensures { EachInTurn (TellsSpan ⟦<F as Filter>⟧ ⟦<L as Layer>⟧ (Exited span.now) span.now at) registry.old rows.old registry.new rows.new }
 {
     for row in rows.iter_mut() {
         row.exit(span, registry, at);
@@ -86,10 +87,10 @@ pub(crate) fn tell_exit<L: Layer, F: Filter>(
 pub(crate) fn tell_close<L: Layer, F: Filter>(
     rows: &mut [Row<Filtered<L, F>>],
     span: &Id,
-    registry: &Registry,
+    registry: &mut Registry,
     at: At,
 )
-    ensures { EachBecomes (TellsSpan ⟦<F as Filter>⟧ ⟦<L as Layer>⟧ (Closed span.now) span.now at registry.now) rows.old rows.new }
+    ensures { EachInTurn (TellsSpan ⟦<F as Filter>⟧ ⟦<L as Layer>⟧ (Closed span.now) span.now at) registry.old rows.old registry.new rows.new }
 {
     for row in rows.iter_mut() {
         row.close(span, registry, at);

@@ -50,8 +50,9 @@ impl<L: Layer, F: Filter> Stack<Filtered<L, F>> {
         self.parts.ask_hint()
     }
 
-    pub(crate) fn some_passes(&self, metadata: &Metadata<'_>, at: At) -> bool
-        ensures { PassesCached ⟦<F as Filter>⟧ self.now (plain_metadata metadata.now) at result }
+    pub(crate) fn some_passes(&mut self, metadata: &Metadata<'_>, at: At) -> bool
+        ensures answer { PassesCached ⟦<F as Filter>⟧ self.old (plain_metadata metadata.now) at result }
+        ensures same { self.new ≡ self.old }
     {
         self.parts.enabled(metadata, at)
     }

@@ -1,9 +1,10 @@
 // A layer that keeps what it was told.
-ghost use Rattle.std.specs.Prelude.{◌≡◌, None, true, refl};
+ghost use Rattle.std.specs.Prelude.{◌≡◌, None, true, refl, false};
 ghost use Rattle.std.proofs.Common.{sym, subst};
 ghost use Rattle.tracing_core.specs.InterestInner.TheVariants.{Always};
 ghost use Rattle.tracing_core.specs.Steady.{InterestFits};
 ghost use Rattle.span_registry_layers_layers.specs.Combined.{same_word};
+ghost use Rattle.span_registry_layers_layers.specs.Notices.{Untouched, untouched_writes};
 ghost use Rattle.span_registry_layers_layers.specs.Numbering.{no_numbers};
 ghost use Rattle.span_registry_layers_layers.specs.Singles.{leaf_once};
 
@@ -56,7 +57,7 @@ impl Layer for Journal {
 
     ghost hint = { λ x. None };
 
-    ghost told = { λ x n y. Unit {0} };
+    ghost told = { λ x n y. Untouched n };
 
     ghost honest = { λ x. Unit {0} };
 
@@ -67,6 +68,10 @@ impl Layer for Journal {
     ghost numbered = { λ x n y t. no_numbers n };
 
     ghost once = { λ x k. leaf_once };
+
+    ghost aside = { λ x n y t. untouched_writes (λ key. false) n t };
+
+    ghost keyed = { λ x n y t key. refl };
 
     fn on_register_dispatch(&mut self, _dispatch: &WeakDispatch) {
         self.note(Told::Taken, 0);
@@ -81,7 +86,7 @@ impl Layer for Journal {
     fn ask_span(
         &self,
         _metadata: &Metadata<'_>,
-        _context: &Context<'_>,
+        _context: &mut Context<'_>,
         passes: bool,
         verdicts: FilterMap,
     ) -> (FilterMap, bool) {

@@ -1,10 +1,14 @@
-use Rattle.std.proofs.Common.{length, Bool}
+use Rattle.std.proofs.Common.{◌≡◌, length, Bool}
 use Rattle.tracing_core.specs.Metadata.{plain_metadata}
 use Rattle.span_registry_layers_stack.specs.Asked.{SomePasses}
 use Rattle.span_registry_layers_stack.proofs.rows.any_passes.Given as goal
 
 abbrev pub invariant-loop-rest : goal.invariant-loop-rest
-invariant-loop-rest g l = (b : Bool) → SomePasses g.F.Filter (plain_metadata l.metadata) l.at l.registry l.rest b → SomePasses g.F.Filter (plain_metadata l.metadata) l.at l.registry l.fn.rows b
+invariant-loop-rest g l =
+    record {
+      rest : (b : Bool) → SomePasses g.F.Filter (plain_metadata l.metadata) l.at l.fn.registry l.rest b → SomePasses g.F.Filter (plain_metadata l.metadata) l.at l.fn.registry l.fn.rows b;
+      same : l.registry ≡ l.fn.registry;
+    }
 
 abbrev pub decreases-loop-rest : goal.decreases-loop-rest
 decreases-loop-rest g l = length l.rest

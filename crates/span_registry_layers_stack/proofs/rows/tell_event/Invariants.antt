@@ -1,11 +1,12 @@
 use Rattle.std.proofs.Common.{◌≡◌, take, drop}
 use Rattle.tracing_core.specs.PlainRequests.{plain_event}
-use Rattle.span_registry_layers_stack.specs.Rows.{EachBecomes, TellsEvent}
+use Rattle.span_registry_layers_layers.specs.Several.{EachInTurn}
+use Rattle.span_registry_layers_stack.specs.Rows.{TellsEvent}
 use Rattle.span_registry_layers_stack.proofs.rows.tell_event.Given as goal
 
 abbrev pub invariant-loop-row : goal.invariant-loop-row
 invariant-loop-row g l =
     record {
-      done : EachBecomes (TellsEvent g.F.Filter g.L.Layer (plain_event l.event) l.at l.registry) (take l.row-index l.fn.rows) (take l.row-index l.rows);
+      done : EachInTurn (TellsEvent g.F.Filter g.L.Layer (plain_event l.event) l.at) l.fn.registry (take l.row-index l.fn.rows) l.registry (take l.row-index l.rows);
       left : drop l.row-index l.rows ≡ drop l.row-index l.fn.rows;
     }

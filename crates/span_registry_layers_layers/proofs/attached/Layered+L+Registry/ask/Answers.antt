@@ -5,8 +5,8 @@ use Rattle.span_registry_layers_layers.specs.Numbering.{AreNumbers}
 use Rattle.span_registry_layers_layers.proofs.Numbers.{numbers_within, same_self}
 use Rattle.span_registry_layers_layers.proofs.attached.Layered+L+Registry.ask.Goals as goal
 
-pub returns : goal.returns
-returns g c =
+pub returns-clause-kept : goal.returns-clause-kept
+returns-clause-kept g c =
     let numbers = g.L.Layer.numbers c.args.self.now.layer in
-    λ attached. subst (λ (v : View). g.L.Layer.kept c.args.self.now.layer (plain_metadata c.args.metadata.now) v true c.ask_span.result.0.passed c.ask_span.result.1) c.whole.ensures
+    λ attached. subst (λ (v : View). g.L.Layer.kept c.args.self.now.layer (plain_metadata c.args.metadata.now) v true c.ask_span.result.0.passed c.ask_span.result.1) c.new-context.ensures.view
     (c.ask_span.ensures.kept c.ask_span.result.0.passed (subst (λ (passed : List Bool). AreNumbers (length passed) numbers) (sym c.all.ensures) (numbers_within c.args.self.now.inner.filters 64 numbers attached.1 attached.0)) (same_self numbers c.ask_span.result.0.passed))

@@ -1,18 +1,23 @@
-use Rattle.std.proofs.Common.{arith, get_or, refl, subst}
+use Rattle.std.proofs.Common.{arith, refl, ◌∙◌}
 use Rattle.tracing_core.specs.PlainRequests.{plain_event}
-use Rattle.span_registry_layers_layers.specs.Looks.{view}
+use Rattle.span_registry_layers_layers.specs.Looks.{left, view}
 use Rattle.span_registry_layers_layers.specs.Notices.{Happened}
-use Rattle.span_registry_layers_layers.proofs.Loops.{becomes_next, becomes_end}
+use Rattle.span_registry_layers_layers.specs.Several.{TellsOne}
+use Rattle.span_registry_layers_layers.proofs.Loops.{turn_next, turns_end}
+use Rattle.span_registry_layers_layers.proofs.Turns.{told_on}
 use Rattle.span_registry_layers_layers.proofs.layer.several.tell_event.Goals as goal
 
 pub loop-layer-init : goal.loop-layer-init
-loop-layer-init g c = record { done = tt; left = refl }
+loop-layer-init g c = record { lent = (refl, refl, refl); done = refl; rest = refl }
 
 pub loop-layer-preserved : goal.loop-layer-preserved
 loop-layer-preserved g c =
-    let turn = becomes_next (λ x y. g.L.Layer.told x (Happened (plain_event c.args.event.now) (view c.args.context.now)) y) c.args.layers.now c.loop-layer.layers c.loop-layer.layer-index c.layer-item.result c.on_event.new.self
-    (omega arith) (omega arith) c.loop-layer.invariant.done c.loop-layer.invariant.left (subst (λ v. g.L.Layer.told (get_or c.loop-layer.layers c.loop-layer.layer-index c.layer-item.result) (Happened (plain_event c.args.event.now) v) c.on_event.new.self) c.again.ensures c.on_event.ensures) in
-    record { done = turn.0; left = turn.1 }
+    let lent = c.loop-layer.invariant.lent in
+    let own = c.on_event.ensures.lent in
+    let turn = turn_next (TellsOne g.L.Layer (Happened (plain_event c.args.event.now)) (view c.args.context.now)) (left c.args.context.now) (left c.loop-layer.context) (left c.on_event.new.context) c.args.layers.now c.loop-layer.layers c.loop-layer.layer-index c.layer-item.result c.on_event.new.self
+    (omega arith) (omega arith) c.loop-layer.invariant.done c.loop-layer.invariant.rest (told_on g.L.Layer (Happened (plain_event c.args.event.now)) c.args.context.now c.loop-layer.context _ _ _ lent c.on_event.ensures.told) in
+    record { lent = (own.0 ∙ lent.0, own.1 ∙ lent.1, own.2 ∙ lent.2); done = turn.0; rest = turn.1 }
 
-pub returns : goal.returns
-returns g c = becomes_end (λ x y. g.L.Layer.told x (Happened (plain_event c.args.event.now) (view c.args.context.now)) y) c.args.layers.now c.loop-layer.layers c.loop-layer.layer-index (omega arith) (omega arith) c.loop-layer.invariant.done
+pub returns-clause-told : goal.returns-clause-told
+returns-clause-told g c =
+    turns_end (TellsOne g.L.Layer (Happened (plain_event c.args.event.now)) (view c.args.context.now)) (left c.args.context.now) (left c.loop-layer.context) c.args.layers.now c.loop-layer.layers c.loop-layer.layer-index (omega arith) (omega arith) c.loop-layer.invariant.done

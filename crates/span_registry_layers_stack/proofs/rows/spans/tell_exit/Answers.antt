@@ -1,19 +1,18 @@
 use Rattle.std.proofs.Common.{arith, refl}
 use Rattle.span_registry_layers_layers.specs.Looks.{Exited}
 use Rattle.span_registry_layers_stack.specs.Hearing.{TellsSpan}
-use Rattle.span_registry_layers_stack.proofs.Loops.{becomes_next, becomes_end}
+use Rattle.span_registry_layers_layers.proofs.Loops.{turn_next, turns_end}
 use Rattle.span_registry_layers_stack.proofs.rows.spans.tell_exit.Goals as goal
 
 pub loop-row-init : goal.loop-row-init
-loop-row-init g c = record { done = tt; left = refl }
+loop-row-init g c = record { done = refl; left = refl }
 
 pub loop-row-preserved : goal.loop-row-preserved
 loop-row-preserved g c =
-    let turn = becomes_next (TellsSpan g.F.Filter g.L.Layer (Exited c.args.span.now) c.args.span.now c.args.at c.args.registry.now) c.args.rows.now c.loop-row.rows c.loop-row.row-index c.row-item.result c.exit.new.self
+    let turn = turn_next (TellsSpan g.F.Filter g.L.Layer (Exited c.args.span.now) c.args.span.now c.args.at) c.args.registry.now c.loop-row.registry c.exit.new.registry c.args.rows.now c.loop-row.rows c.loop-row.row-index c.row-item.result c.exit.new.self
     (omega arith) (omega arith) c.loop-row.invariant.done c.loop-row.invariant.left c.exit.ensures in
     record { done = turn.0; left = turn.1 }
 
 pub returns : goal.returns
 returns g c =
-    becomes_end (TellsSpan g.F.Filter g.L.Layer (Exited c.args.span.now) c.args.span.now c.args.at c.args.registry.now) c.args.rows.now c.loop-row.rows c.loop-row.row-index
-    (omega arith) (omega arith) c.loop-row.invariant.done
+    turns_end (TellsSpan g.F.Filter g.L.Layer (Exited c.args.span.now) c.args.span.now c.args.at) c.args.registry.now c.loop-row.registry c.args.rows.now c.loop-row.rows c.loop-row.row-index (omega arith) (omega arith) c.loop-row.invariant.done

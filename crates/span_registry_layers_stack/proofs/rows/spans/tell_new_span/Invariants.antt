@@ -1,13 +1,13 @@
 use Rattle.std.proofs.Common.{◌≡◌, take, drop}
 use Rattle.tracing_core.specs.PlainRequests.{plain_attributes}
 use Rattle.span_registry_layers_layers.specs.Looks.{SpanMade}
-use Rattle.span_registry_layers_stack.specs.Rows.{EachBecomes}
+use Rattle.span_registry_layers_layers.specs.Several.{EachInTurn}
 use Rattle.span_registry_layers_stack.specs.Hearing.{TellsMade}
 use Rattle.span_registry_layers_stack.proofs.rows.spans.tell_new_span.Given as goal
 
 abbrev pub invariant-loop-row : goal.invariant-loop-row
 invariant-loop-row g l =
     record {
-      done : EachBecomes (TellsMade g.F.Filter g.L.Layer (SpanMade (plain_attributes l.attributes) l.span) l.span l.at l.registry) (take l.row-index l.fn.rows) (take l.row-index l.rows);
+      done : EachInTurn (TellsMade g.F.Filter g.L.Layer (SpanMade (plain_attributes l.attributes) l.span) l.span l.at) l.fn.registry (take l.row-index l.fn.rows) l.registry (take l.row-index l.rows);
       left : drop l.row-index l.rows ≡ drop l.row-index l.fn.rows;
     }
