@@ -15,7 +15,8 @@ use tracing_core::{At, CurrentSpan, Event, Id, Metadata};
 
 /// Where and when a request is made, and the registry as one filter sees it: without the spans that it refused.
 ///
-/// A filter is lent it to be read. A layer that is told of something may write the slots of spans that it sees.
+/// A filter is lent it to be read. A layer that is told of something may write the slots of spans that it sees, by
+/// `extensions_mut`, under keys of its own. It isn't `Clone`: two contexts would hold one registry.
 #[derive(Drop)]
 pub struct Context<'a> {
     pub(crate) registry: &'a mut Registry,

@@ -7,7 +7,8 @@ use span_registry_layers_layers::{Filter, Filtered, Layer};
 use span_registry_layers_store::OutputKey;
 use thiserror::Error;
 
-/// An output, and the key under which it keeps slots with spans.
+/// An output, and its key. A layer that keeps slots with spans should write them under this key alone; nothing here
+/// binds the keys that a layer writes under to it.
 #[derive(Debug, Drop)]
 pub struct Output<O> {
     /// The key, which no other output of the stack has.

@@ -87,6 +87,8 @@ impl<L: Layer, F: Filter> Stack<Filtered<L, F>> {
 
     /// Tells each output, in order, of the event that its filter passes, and asks nobody where what is kept refuses it.
     ///
+    /// An output's filter is asked when those before it were told, so it and its output see the slots that those wrote.
+    ///
     /// # Errors
     ///
     /// `UnknownParent` where a parent is named that is not open, which leaves the stack as it was.

@@ -23,7 +23,7 @@ pub trait LayerExt: Layer {
     ///
     /// # Errors
     ///
-    /// `AttachError` where the registry had more than 64 filters then. Both parts come back as they were.
+    /// `AttachError` where the registry would have more than 64 filters. Both parts come back as they were.
     fn with_subscriber(
         self,
         registry: Registry,
@@ -56,7 +56,7 @@ pub trait SubscriberExt {
     ///
     /// # Errors
     ///
-    /// `AttachError` where the registry had more than 64 filters then. Both parts come back as they were.
+    /// `AttachError` where the registry would have more than 64 filters. Both parts come back as they were.
     fn with<L: Layer>(self, layer: L) -> Result<Layered<L, Registry>, AttachError<L, Registry>>
     where
         Self: Sized,
@@ -76,7 +76,7 @@ impl<M: Layer> Layered<M, Registry> {
     ///
     /// # Errors
     ///
-    /// `AttachError` where the registry had more than 64 filters then. Both parts come back as they were.
+    /// `AttachError` where the registry would have more than 64 filters. Both parts come back as they were.
     pub fn with<L: Layer>(
         self,
         layer: L,
