@@ -6,6 +6,7 @@ ghost use Rattle.tracing_appender_rolling.specs.Builders.{builder_names};
 ghost use Rattle.tracing_appender_rolling.specs.Contents.{Contents};
 ghost use Rattle.tracing_appender_rolling.specs.Moments.{is_moment};
 ghost use Rattle.tracing_core.specs.Setting.TheVariants.{Unset};
+ghost use Rattle.span_tracing_stack.specs.New.{new_stack};
 ghost use Rattle.span_tracing.specs.Skeletons.{filter_at, output_at, stack_in, value_in};
 ghost use Rattle.span_tracing.specs.Sound.{IsHonest, OwnsOne};
 ghost use Rattle.span_tracing.specs.Outputs.{refusal_by, setting_of, with_output};
@@ -91,6 +92,22 @@ impl<F: Filter> TraceParts<F> {
         }
     }
 
+    /// Makes a stack of these and takes it, or hands them back where there is no memory for it.
+    fn make_stack(&mut self, setting: Setting, filter: F, line: String) -> Result<(), StackBack<F>>
+        requires sound { IsSound ⟦<F as Filter>⟧ self.old }
+        requires none { self.old.handle ≡ None }
+        requires honest { F.honest filter }
+        ensures ok { OnOk result (HasFirst ⟦<F as Filter>⟧ self.old self.new (new_stack setting filter)) }
+        ensures back { IfErr result (λ back. (back.setting ≡ setting) × (back.filter ≡ filter)) }
+        ensures err { OnErr result (self.new ≡ self.old) }
+    {
+        let stack = Stack::new(self.alloc, setting, filter, line)?;
+        match self.add_stack(stack) {
+            Ok(()) => Ok(()),
+            Err(stack) => Err(stack.into_parts()),
+        }
+    }
+
     /// Gives the stack up again, to which only its one handle leads. Then nobody is interested in any callsite.
     fn take_stack(&mut self) -> Option<Stack<F>>
         requires sound { IsSound ⟦<F as Filter>⟧ self.old }
@@ -131,21 +148,11 @@ impl<F: Filter> TraceParts<F> {
             folder,
             line,
         } = output;
-        let setting = Setting { key, format };
-        let stack = match Stack::new(self.alloc, setting, filter, line) {
-            Ok(stack) => stack,
-            Err(back) => {
-                return Err(OutputBack {
-                    refusal: Refusal::OutOfMemory,
-                    output: output_with(back, builder, folder),
-                });
-            }
-        };
-        match self.add_stack(stack) {
+        match self.make_stack(Setting { key, format }, filter, line) {
             Ok(()) => self.build(builder, folder, moment),
-            Err(stack) => Err(OutputBack {
+            Err(back) => Err(OutputBack {
                 refusal: Refusal::OutOfMemory,
-                output: output_of(stack, builder, folder),
+                output: output_with(back, builder, folder),
             }),
         }
     }
