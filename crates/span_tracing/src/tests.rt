@@ -1,17 +1,19 @@
 //! Each call once, whole runs, and the texts of lines.
 
+mod filters;
 mod replies;
 mod runs;
 mod setups;
 mod texts;
 
-ghost use Rattle.std.specs.Prelude.{◌≡◌, IfOk, vec_len};
+ghost use Rattle.std.specs.Prelude.{◌≡◌, ◌∷◌, [], IfOk, vec_len};
 
 use crate::{
     Builder, Entry, FieldValue, Fields, FileNumber, Folder, FolderError, FolderFault, LineFormat,
     MemoryFolder, Moment, Output, OutputKey, OwnedValue, Refusal, Reply, Rotation, Route, SinkSpec,
     SpanName, Timer, Trace,
 };
+use span_registry_layers::Filter;
 use std::alloc::{AllocError, Global};
 use std::process::Abort;
 use std::test::Fail;
@@ -156,23 +158,24 @@ fn sinks_over<D: Folder>(
     Ok(sinks)
 }
 
-/// One output over the folder.
-fn outputs_over<D: Folder>(
+/// One output over the folder, under the filter.
+fn outputs_over<D: Folder, F: Filter>(
     alloc: Global,
     folder: D,
     prefix: &str,
-    filter: LevelFilter,
+    filter: F,
     timer: Timer,
-) -> Result<Vec<Output<D, LevelFilter>>, Fail>
-    ensures { IfOk result (λ outputs. vec_len outputs ≡ 1) }
+) -> Result<Vec<Output<D, F>>, Fail>
+    ensures one { IfOk result (λ outputs. vec_len outputs ≡ 1) }
+    ensures filter { IfOk result (λ outputs. (output : Output D F) → outputs.items ≡ output ∷ [] → output.filter ≡ filter) }
 {
     let sinks = sinks_over(alloc, folder, prefix)?;
     let mut outputs = Vec::with_capacity(alloc, 1)?;
     let format = LineFormat::full(timer, Fields::Default);
-    let output = Output::new(alloc, filter, format, Route::Sink(0), sinks, OutputKey(7)).map_err(
-        |refused| refused.refusal,
-    )?;
-    outputs.push_reserved(output);
+    match Output::new(alloc, filter, format, Route::Sink(0), sinks, OutputKey(7)) {
+        Ok(output) => outputs.push_reserved(output),
+        Err(refused) => return Err(refused.refusal.into()),
+    }
     Ok(outputs)
 }
 
@@ -188,7 +191,7 @@ fn metadata<'a>(
 }
 
 /// Registers all callsites, or asks for the interests in them again.
-fn register_all<D: Folder>(trace: &mut Trace<D, LevelFilter>) -> Result<[Interest; 5], Refusal> {
+fn register_all<D: Folder, F: Filter>(trace: &mut Trace<D, F>) -> Result<[Interest; 5], Refusal> {
     let outer = metadata("outer", Level::INFO, &OUTER_FIELDS, OUTER, Kind::SPAN);
     let inner = metadata("inner", Level::INFO, &INNER_FIELDS, INNER, Kind::SPAN);
     let event = metadata("event", Level::INFO, &EVENT_FIELDS, EVENT, Kind::EVENT);
@@ -204,13 +207,15 @@ fn register_all<D: Folder>(trace: &mut Trace<D, LevelFilter>) -> Result<[Interes
 }
 
 /// A trace with all callsites, two lanes, and a stack over the folder that no lane reaches yet.
-fn trace_over<D: Folder>(
+fn trace_over<D: Folder, F: Filter>(
     rt: &impl Abort,
     alloc: Global,
     folder: D,
-    filter: LevelFilter,
+    filter: F,
     timer: Timer,
-) -> Result<Trace<D, LevelFilter>, Fail> {
+) -> Result<Trace<D, F>, Fail>
+    requires { F.honest filter }
+{
     let mut trace = Trace::new(alloc);
     assert_eq!(rt; register_all(&mut trace)?, [Interest::never(); 5]);
     assert_eq!(rt; trace.thread(None, 1)?, 0);
@@ -226,12 +231,14 @@ fn trace_over<D: Folder>(
 }
 
 /// The same, over an empty folder in memory, and lanes reach the stack.
-fn set_trace(
+fn set_trace<F: Filter>(
     rt: &impl Abort,
     alloc: Global,
-    filter: LevelFilter,
+    filter: F,
     timer: Timer,
-) -> Result<Trace<MemoryFolder, LevelFilter>, Fail> {
+) -> Result<Trace<MemoryFolder, F>, Fail>
+    requires { F.honest filter }
+{
     let mut trace = trace_over(rt, alloc, MemoryFolder::new(alloc), filter, timer)?;
     assert_eq!(rt; trace.set_global_default(0), Reply::Done);
     Ok(trace)
@@ -274,9 +281,9 @@ fn span_name(stack: usize, id: u64) -> Result<SpanName, Fail> {
 }
 
 /// Compares a file with a text, if no line was missed.
-fn has_file(
+fn has_file<F: Filter>(
     rt: &impl Abort,
-    trace: &Trace<MemoryFolder, LevelFilter>,
+    trace: &Trace<MemoryFolder, F>,
     name: &str,
     text: &str,
 ) -> Result<(), Fail> {
