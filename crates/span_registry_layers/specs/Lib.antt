@@ -82,6 +82,7 @@ pub use Rattle.span_registry_layers_stack.specs.declared.output.UnknownOutput
 pub use Rattle.span_registry_layers_layers.specs.declared.layer.identity.Identity
 pub use Rattle.span_registry_layers_stack.specs.declared.row.Row
 pub use Rattle.span_registry_layers_stack.specs.Alone
+pub use Rattle.span_registry_layers_stack.specs.Keys
 pub use Rattle.span_registry_layers_stack.proofs.Numbering as NumberingProofs
 pub use Rattle.span_registry_layers_stack.proofs.Alone as AloneProofs
 pub use Rattle.span_registry_layers_stack.proofs.Single as SingleProofs

@@ -20,6 +20,6 @@ slots_in s = s.slots
 abbrev pub writing : Context → ℕ → List PlainPlace → Context
 writing c id places = record c { registry = record c.registry { now = with_slots c.registry.now id places } }
 
--- it ends with the last value behind r as the slots of that span
+-- it ends with the last value behind r as the slots of that span; `named 1` is the lifetime parameter of contexts, in the terms of the toolchain
 abbrev pub LendsSlots : MutBor Context → ℕ → Option (MutBor (List PlainPlace)) → Fml
 LendsSlots c id r = LendsIf (context.the_row (record { mir = named 1; lft = [] })) extensions.the_row c r (λ w. writing c.now id w) c.now

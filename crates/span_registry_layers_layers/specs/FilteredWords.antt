@@ -36,7 +36,7 @@ module _ {L F : Type 0} (g : Ghosts F) (h : LayerGhosts L) where
   under_keeps i x (Happened e v left) y w a both = if_keeps w.0 x (Happened e (under i.index v) left) y w.2 both
   under_keeps i x (Renamed old new v left) y w a both = if_keeps (is_seen (under i.index v) old) x (Renamed old new (under i.index v) left) y w both
   under_keeps i x (Dispatched handle) y w a both = if_keeps true x (Dispatched handle) y w both
-  under_keeps i x (Attached r) y w a both = both_keep x y (ap (λ (z : Filtered L F). z.filter) a.3) (h.stays x.layer (Attached a.0) y.layer a.2 both.1).0 both
+  under_keeps i x (Attached r) y w a both = both_keep x y (ap (λ (z : Filtered L F). z.filter) a.4) (h.stays x.layer (Attached a.1) y.layer a.3 both.1).0 both
 
   alone_keeps : (x : Filtered L F) (n : Notice) (y : Filtered L F) → ToldAlone g h x n y → Attaches g h x n y → BothKeep g h x → BothKeep g h y
   alone_keeps x (Spanned id call v left) y w a both = subst (BothKeep g h) (sym w.0) both
@@ -44,7 +44,7 @@ module _ {L F : Type 0} (g : Ghosts F) (h : LayerGhosts L) where
   alone_keeps x (Happened e v left) y w a both = subst (BothKeep g h) (sym w.0) both
   alone_keeps x (Renamed old new v left) y w a both = subst (BothKeep g h) (sym w.0) both
   alone_keeps x (Dispatched handle) y w a both = if_keeps true x (Dispatched handle) y w both
-  alone_keeps x (Attached r) y w a both = both_keep x y (ap (λ (z : Filtered L F). z.filter) a.3) (h.stays x.layer (Attached a.0) y.layer a.2 both.1).0 both
+  alone_keeps x (Attached r) y w a both = both_keep x y (ap (λ (z : Filtered L F). z.filter) a.4) (h.stays x.layer (Attached a.1) y.layer a.3 both.1).0 both
 
   at_keeps : (i : Option FilterId) (x : Filtered L F) (n : Notice) (y : Filtered L F) → ToldAt g h i x n y → Attaches g h x n y → BothKeep g h x → BothKeep g h y
   at_keeps None x n y w a both = alone_keeps x n y w a both
@@ -156,7 +156,7 @@ module _ {L F : Type 0} (g : Ghosts F) (h : LayerGhosts L) where
   under_keyed i x (Happened e v left) y w a = if_keyed w.0 x (Happened e (under i.index v) left) y w.2
   under_keyed i x (Renamed old new v left) y w a = if_keyed (is_seen (under i.index v) old) x (Renamed old new (under i.index v) left) y w
   under_keyed i x (Dispatched handle) y w a = if_keyed true x (Dispatched handle) y w
-  under_keyed i x (Attached r) y w a = λ key. h.keyed x.layer (Attached a.0) y.layer a.2 key
+  under_keyed i x (Attached r) y w a = λ key. h.keyed x.layer (Attached a.1) y.layer a.3 key
 
   alone_keyed : (x : Filtered L F) (n : Notice) (y : Filtered L F) → ToldAlone g h x n y → Attaches g h x n y → SameKeys x y
   alone_keyed x (Spanned id call v left) y w a = equal_keys x y w.0
@@ -164,7 +164,7 @@ module _ {L F : Type 0} (g : Ghosts F) (h : LayerGhosts L) where
   alone_keyed x (Happened e v left) y w a = equal_keys x y w.0
   alone_keyed x (Renamed old new v left) y w a = equal_keys x y w.0
   alone_keyed x (Dispatched handle) y w a = if_keyed true x (Dispatched handle) y w
-  alone_keyed x (Attached r) y w a = λ key. h.keyed x.layer (Attached a.0) y.layer a.2 key
+  alone_keyed x (Attached r) y w a = λ key. h.keyed x.layer (Attached a.1) y.layer a.3 key
 
   at_keyed : (i : Option FilterId) (x : Filtered L F) (n : Notice) (y : Filtered L F) → ToldAt g h i x n y → Attaches g h x n y → SameKeys x y
   at_keyed None x n y w a = alone_keyed x n y w a

@@ -1,10 +1,13 @@
 -- A layer below a filter, which is told what that filter and all filters above it pass.
-use Rattle.std.specs.Prelude.{◌≡◌, ◌&&◌, ℕ, suc, Bool, true, false, List, ◌∷◌, Option, Some, None, is_some}
+use Rattle.std.specs.Prelude.{◌≡◌, ◌&&◌, ℕ, suc, Bool, true, false, List, ◌∷◌, Option, Some, None, Result, is_some}
+use Rattle.std.specs.Result.{result_ok}
 use Rattle.tracing_core.specs.PlainMetadata.{PlainMetadata}
 use Rattle.tracing_core.specs.PlainRequests.{PlainEvent}
+use Rattle.span_registry_layers_store.specs.Gives.{FilterGives}
 use Rattle.span_registry_layers_store.specs.Registries.{RegistryValue}
 use Rattle.span_registry_layers_store.specs.Verdicts.{passes_at}
 use Rattle.span_registry_layers_store.specs.declared.filter_map.FilterId.{FilterId}
+use Rattle.span_registry_layers_store.specs.declared.filter_map.TooManyFilters.{TooManyFilters}
 use Rattle.span_registry_layers_layers.specs.Combined.{Both, Then}
 use Rattle.span_registry_layers_layers.specs.Contexts.{span_in}
 use Rattle.span_registry_layers_layers.specs.Looks.{Hook, View}
@@ -75,9 +78,11 @@ module _ {L F : Type 0} (g : Ghosts F) (h : LayerGhosts L) where
   ToldAt None x n y = ToldAlone x n y
   ToldAt (Some filter) x n y = ToldUnder filter x n y
 
-  -- it has the registry number its filter, and then those of its layer
+  -- the registry numbers its filter, where it has room for one more, and the layer is attached to the registry as it is then
   abbrev pub Attaches : Filtered L F → Notice → Filtered L F → Type 0
-  Attaches x (Attached r) y = (later : RegistryValue) × (filter : Option FilterId) × h.told x.layer (Attached later) y.layer × (y ≡ record x { layer = y.layer; id = filter })
+  Attaches x (Attached r) y =
+      (given : Result FilterId TooManyFilters) × (later : RegistryValue) × FilterGives r given later × h.told x.layer (Attached later) y.layer
+      × (y ≡ record x { layer = y.layer; id = result_ok given })
   Attaches x other y = Unit {0}
 
   abbrev pub FilteredTold : Filtered L F → Notice → Filtered L F → Type 0

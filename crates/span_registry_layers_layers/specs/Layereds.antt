@@ -56,7 +56,7 @@ abbrev pub KeptByBoth : (PlainMetadata → View → Bool → List Bool → Bool 
 KeptByBoth K J m v passes verdicts some = (a : Bool) × (b : Bool) × K m v passes verdicts a × J m v passes verdicts b × (some ≡ (a || b))
 
 module _ {A B : Type 0} (g : Ghosts A) (h : Ghosts B) where
-  -- both are told the same, the inner one first, whose slots the outer one sees; and they are attached to the registry in turn
+  -- both are told the same: of spans and events the inner one first, whose slots the outer one sees, and of a hub the outer one; and they are attached to the registry in turn, the outer one first
   abbrev pub ToldBoth : Layered A B → Notice → Layered A B → Type 0
   ToldBoth l (Spanned id call v y) m = (z : RegistryValue) × h.told l.inner (Spanned id call v z) m.inner × g.told l.layer (Spanned id call (seeing z v) y) m.layer
   ToldBoth l (Followed span follows v y) m =

@@ -56,7 +56,8 @@ module _ {L F : Type 0} (g : Ghosts F) (h : LayerGhosts L) (Alike : RegistryValu
 
   event_alone : (b d : Bool) (e : PlainEvent) (at : At) (s t : StackValue (Filtered L F)) (r : Result (Unit {0}) RequestError) → WhereKnown b s (TellsUnless g h d e at s) r t → (r ≡ event_answer b) × Alike s.registry t.registry
   event_alone true true e at s t r w = (w.0, k.equal s.registry t.registry (same _ t w.1))
-  event_alone true false e at s t r w = (w.0, rows_left g h Alike k (TellsEvent g h e at) (event_left g h Alike k g.answers e at) s.registry s t w.1)
+  event_alone true false e at s t r (done, (asked, marks, told)) =
+      (done, subst (λ x. Alike x t.registry) (ap (λ (v : StackValue (Filtered L F)). v.registry) marks.1) (rows_left g h Alike k (TellsEvent h e at) (event_left g h Alike k e at) asked.registry asked t told))
   event_alone false d e at s t r w = (w.0, kept s t w.1)
 
   abbrev SpanStands : PlainAttributes → At → StackValue (Filtered L F) → Result (Option ℕ) RequestError → StackValue (Filtered L F) → Type 0

@@ -11,3 +11,4 @@ pub mod Alone
 pub mod Soundness
 pub mod Single
 pub mod Taking
+pub mod Keys

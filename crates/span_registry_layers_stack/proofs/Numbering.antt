@@ -23,8 +23,8 @@ use Rattle.span_registry_layers_layers.specs.declared.layer.Layer.{Ghosts as Lay
 use Rattle.span_registry_layers_stack.specs.Asked.{AsksFrom, AsksRow, SomePassesBy}
 use Rattle.span_registry_layers_stack.specs.Calls.{SpanAfresh, SpanKnown}
 use Rattle.span_registry_layers_stack.specs.Numbers.{DroppedSpanTellsNobody, DroppedTellsNobody, NumbersStay, RowSaid, VerdictsAreOwn}
-use Rattle.span_registry_layers_stack.specs.Rows.{Afresh, Fresh, TellsEventBy, TellsIf, filters_of, marked, numbers_of, view_of, with_layer}
-use Rattle.span_registry_layers_stack.specs.Stacks.{PassesAsked, StackValue, TellsAfresh, WhereKnown, cleared}
+use Rattle.span_registry_layers_stack.specs.Rows.{Afresh, AsksEventBy, EachBecomes, Fresh, TellsEvent, filters_of, marked, numbers_of, view_of, with_layer, with_marks}
+use Rattle.span_registry_layers_stack.specs.Stacks.{PassesAsked, RowsInTurn, StackValue, TellsAfresh, WhereKnown, cleared}
 use Rattle.span_registry_layers_stack.specs.Steps.{clone_keeps, close_keeps, dispatch_keeps, enter_keeps, event_keeps, exit_keeps, follows_keeps, record_keeps, span_keeps}
 use Rattle.span_registry_layers_stack.specs.declared.row.Row.{Row}
 
@@ -129,32 +129,37 @@ module _ {L F : Type 0} (g : Ghosts F) (h : LayerGhosts L) where
   numbers_same s (CloseTried id at) r t m = (close_keeps g h id at s t r m).numbers
   numbers_same s (CurrentAsked at) r t m = numbers_alike s t m.1
 
-  untold : (e : PlainEvent) (at : At) (x : RegistryValue) (row : Row (Filtered L F)) (y : RegistryValue) (later : Row (Filtered L F)) → later.passed ≡ false → TellsEventBy g h (Afresh g) e at x row y later → (later ≡ marked false row) × (y ≡ x)
-  untold e at x row y later quiet told =
-      let hears : later.told ≡ false = subst (λ b. Then (g.event_answers row.output.filter e (view_of at x row)) b later.told) quiet told.1 in
-      let stays : (later.output.layer ≡ row.output.layer) × (y ≡ x) = subst (λ b. TellsIf h b row.output.layer (Happened e) (view_of at x row) y later.output.layer) hears told.2 in (
-        told.3 ∙ ap (λ b. record (with_layer later.output.layer row) { passed = b; told = later.told }) quiet ∙ ap (λ b. record (with_layer later.output.layer row) { passed = false; told = b }) hears
-            ∙ ap (λ l. marked false (with_layer l row)) stays.0,
-        stays.1,
-      )
+  -- a filter that is asked afresh answers as another such answer did
+  asked_as : (e : PlainEvent) (at : At) (x : RegistryValue) (row asked : Row (Filtered L F)) → g.honest row.output.filter → AsksEventBy g (Afresh g) e at x row asked → Afresh g row.output.filter e.metadata (view_of at x row) false → asked ≡ marked false row
+  asked_as e at x row asked honest w quiet =
+      let P = g.answers row.output.filter e.metadata (view_of at x row) in
+      let passed : asked.passed ≡ false = fresh_one P ((g.single row.output.filter honest).callsite e.metadata (view_of at x row)) asked.passed false w.0 quiet in
+      let told : asked.told ≡ false = subst (λ b. Then (g.event_answers row.output.filter e (view_of at x row)) b asked.told) passed w.1 in
+      w.2 ∙ ap (λ b. with_marks b asked.told row) passed ∙ ap (λ b. with_marks false b row) told
 
-  all_untold : (e : PlainEvent) (at : At) (x : RegistryValue) (rows : List (Row (Filtered L F))) (y : RegistryValue) (later : List (Row (Filtered L F))) → Every (λ f. g.honest f) (filters_of rows) → SomePassesBy (Afresh g) e.metadata at x rows false →
-      EachInTurn (TellsEventBy g h (Afresh g) e at) x rows y later → (later ≡ map (marked false) rows) × (y ≡ x)
-  all_untold e at x [] y [] honest quiet told = (refl, told)
-  all_untold e at x [] y (l ∷ ls) honest quiet told = absurd told
-  all_untold e at x (r ∷ rs) y [] honest quiet told = absurd told
-  all_untold e at x (r ∷ rs) y (l ∷ ls) honest quiet told =
+  all_unasked : (e : PlainEvent) (at : At) (x : RegistryValue) (rows asked : List (Row (Filtered L F))) → Every (λ f. g.honest f) (filters_of rows) → SomePassesBy (Afresh g) e.metadata at x rows false → EachBecomes (AsksEventBy g (Afresh g) e at x) rows asked → asked ≡ map (marked false) rows
+  all_unasked e at x [] [] honest quiet w = refl
+  all_unasked e at x [] (l ∷ ls) honest quiet w = absurd w
+  all_unasked e at x (r ∷ rs) [] honest quiet w = absurd w
+  all_unasked e at x (r ∷ rs) (l ∷ ls) honest quiet w =
       let refused = refused_here quiet.0 (SomePassesBy (Afresh g) e.metadata at x rs) quiet.2 in
-      let P = g.answers r.output.filter e.metadata (view_of at x r) in
-      let same : l.passed ≡ quiet.0 = fresh_one P ((g.single r.output.filter honest.0).callsite e.metadata (view_of at x r)) l.passed quiet.0 told.1.0 quiet.1 in
-      let first = untold e at x r told.0 l (same ∙ refused.0) told.1 in
-      let rest = all_untold e at x rs y ls honest.1 refused.1 (subst (λ (z : RegistryValue). EachInTurn (TellsEventBy g h (Afresh g) e at) z rs y ls) first.1 told.2) in
-      (ap (λ row. row ∷ ls) first.0 ∙ ap (λ rows. marked false r ∷ rows) rest.0, rest.1)
+      let first = asked_as e at x r l honest.0 w.0 (subst (Afresh g r.output.filter e.metadata (view_of at x r)) refused.0 quiet.1) in
+      ap (λ row. row ∷ ls) first ∙ ap (λ rows. marked false r ∷ rows) (all_unasked e at x rs ls honest.1 refused.1 w.1)
+
+  all_untold : (e : PlainEvent) (at : At) (x : RegistryValue) (rows : List (Row (Filtered L F))) (y : RegistryValue) (later : List (Row (Filtered L F))) → EachInTurn (TellsEvent h e at) x (map (marked false) rows) y later → (later ≡ map (marked false) rows) × (y ≡ x)
+  all_untold e at x [] y [] told = (refl, told)
+  all_untold e at x [] y (l ∷ ls) told = absurd told
+  all_untold e at x (r ∷ rs) y [] told = absurd told
+  all_untold e at x (r ∷ rs) y (l ∷ ls) (z, told, rest) =
+      let later = all_untold e at x rs y ls (subst (λ (q : RegistryValue). EachInTurn (TellsEvent h e at) q (map (marked false) rs) y ls) told.0.1 rest) in
+      (ap (λ row. row ∷ ls) (told.1 ∙ ap (λ layer. with_layer layer (marked false r)) told.0.0) ∙ ap (λ rows. marked false r ∷ rows) later.0, later.1)
 
   tells_nobody : (b : Bool) (e : PlainEvent) (at : At) (s t : StackValue (Filtered L F)) → Every (λ f. g.honest f) (filters_of s.rows) → PassesAsked g s e.metadata at false → WhereKnown b s (TellsAfresh g h e at s) (Ok tt) t → t ≡ cleared s
-  tells_nobody true e at s t honest quiet given =
-      let all = all_untold e at s.registry s.rows t.registry t.rows honest quiet given.1.0 in
-      given.1.1 ∙ ap (λ (rows : List (Row (Filtered L F))). record s { registry = t.registry; rows = rows }) all.0 ∙ ap (λ (x : RegistryValue). record s { registry = x; rows = map (marked false) s.rows }) all.1
+  tells_nobody true e at s t honest quiet (done, (asked, marks, told)) =
+      let same : asked ≡ cleared s = marks.1 ∙ ap (λ (rows : List (Row (Filtered L F))). record s { rows = rows }) (all_unasked e at s.registry s.rows asked.rows honest quiet marks.0) in
+      let heard = subst (λ q. RowsInTurn (TellsEvent h e at) q t) same told in
+      let all = all_untold e at s.registry s.rows t.registry t.rows heard.0 in
+      heard.1 ∙ ap (λ (rows : List (Row (Filtered L F))). record s { registry = t.registry; rows = rows }) all.0 ∙ ap (λ (x : RegistryValue). record s { registry = x; rows = map (marked false) s.rows }) all.1
   tells_nobody false e at s t honest quiet given = absurd (cc)
 
   pub nobody_told : DroppedTellsNobody g h

@@ -15,7 +15,7 @@ use Rattle.span_registry_layers_layers.specs.declared.filtered.Filtered.{Filtere
 use Rattle.span_registry_layers_layers.specs.declared.layer.Layer.{Ghosts as LayerGhosts}
 use Rattle.span_registry_layers_stack.specs.Calls.{Closes, over}
 use Rattle.span_registry_layers_stack.specs.Hearing.{ClosesEach, HearsIf, TellsFollows, TellsMade, TellsSpan, sees}
-use Rattle.span_registry_layers_stack.specs.Rows.{TellsEventBy, TellsIf, marked, view_of}
+use Rattle.span_registry_layers_stack.specs.Rows.{TellsEvent, TellsIf, marked, view_of}
 use Rattle.span_registry_layers_stack.specs.Stacks.{RowsInTurn, StackValue}
 use Rattle.span_registry_layers_stack.specs.declared.row.Row.{Row}
 
@@ -53,8 +53,8 @@ module _ {L F : Type 0} (g : Ghosts F) (h : LayerGhosts L) (Alike : RegistryValu
   pub follows_left : (id follows : ℕ) (at : At) (x : RegistryValue) (row : Row (Filtered L F)) (y : RegistryValue) (later : Row (Filtered L F)) → TellsFollows g h id follows at x row y later → Alike x y
   follows_left id follows at x row y later w = if_left (sees x id row && sees x follows row) row.output.layer (Followed id follows) (view_of at x row) y later.output.layer (λ same. same) w.0
 
-  pub event_left : (A : F → PlainMetadata → View → Bool → Type 0) (e : PlainEvent) (at : At) (x : RegistryValue) (row : Row (Filtered L F)) (y : RegistryValue) (later : Row (Filtered L F)) → TellsEventBy g h A e at x row y later → Alike x y
-  event_left A e at x row y later w = if_left later.told row.output.layer (Happened e) (view_of at x row) y later.output.layer (λ same. same) w.2
+  pub event_left : (e : PlainEvent) (at : At) (x : RegistryValue) (row : Row (Filtered L F)) (y : RegistryValue) (later : Row (Filtered L F)) → TellsEvent h e at x row y later → Alike x y
+  event_left e at x row y later w = if_left row.told row.output.layer (Happened e) (view_of at x row) y later.output.layer (λ same. same) w.0
 
   pub turns_left : {A B : Type 0} (R : RegistryValue → A → RegistryValue → B → Type 0) → ((x : RegistryValue) (row : A) (y : RegistryValue) (later : B) → R x row y later → Alike x y) → (x : RegistryValue) (rows : List A) (y : RegistryValue) (later : List B) → EachInTurn R x rows y later → Alike x y
   turns_left R f x [] y [] w = k.equal x y w

@@ -20,9 +20,9 @@ use Rattle.span_registry_layers_layers.specs.declared.filtered.Filtered.{Filtere
 use Rattle.span_registry_layers_layers.specs.declared.layer.Layer.{Ghosts as LayerGhosts}
 use Rattle.span_registry_layers_stack.specs.Asked.{AsksFrom, SomePasses, SomePassesBy}
 use Rattle.span_registry_layers_stack.specs.Calls.{SpanAfresh, SpanAsked, SpanCached, SpanKnown, SpanUnless, SpanWhere}
-use Rattle.span_registry_layers_stack.specs.Rows.{Afresh, TellsEvent, TellsEventBy, filters_of, marked, view_of}
+use Rattle.span_registry_layers_stack.specs.Rows.{Afresh, AsksEventBy, EachBecomes, TellsEvent, filters_of, marked, view_of}
 use Rattle.span_registry_layers_stack.specs.Sites.{PlainSite, is_of, is_refused_by}
-use Rattle.span_registry_layers_stack.specs.Stacks.{EventAsked, EventCached, PassesAsked, PassesCached, PassesUnless, StackValue, TellsAfresh, TellsUnless, WhereKnown, is_above, is_refused}
+use Rattle.span_registry_layers_stack.specs.Stacks.{EventAsked, EventCached, PassesAsked, PassesCached, PassesUnless, StackValue, TellsAfresh, TellsUnless, WhereKnown, cleared, is_above, is_refused}
 use Rattle.span_registry_layers_stack.specs.Words.{HintOver, Knows, Word, WordOf}
 use Rattle.span_registry_layers_stack.specs.declared.row.Row.{Row}
 
@@ -118,20 +118,25 @@ where_known s P Q true r t f w = (w.0, f w.1)
 where_known s P Q false r t f w = w
 
 module _ {L F : Type 0} (g : Ghosts F) (h : LayerGhosts L) where
-  cleared_told : (e : PlainEvent) (at : At) (x : RegistryValue) (rows : List (Row (Filtered L F))) → Every (Refuses g e.metadata) (filters_of rows) → EachInTurn (TellsEventBy g h (Afresh g) e at) x rows x (map (marked false) rows)
-  cleared_told e at x [] w = refl
-  cleared_told e at x (row ∷ rows) w = (x, (inr (refl, w.0 (view_of at x row)), refl, (refl, refl), refl), cleared_told e at x rows w.1)
+  cleared_asked : (e : PlainEvent) (at : At) (x : RegistryValue) (rows : List (Row (Filtered L F))) → Every (Refuses g e.metadata) (filters_of rows) → EachBecomes (AsksEventBy g (Afresh g) e at x) rows (map (marked false) rows)
+  cleared_asked e at x [] w = tt
+  cleared_asked e at x (row ∷ rows) w = ((inr (refl, w.0 (view_of at x row)), refl, refl), cleared_asked e at x rows w.1)
 
-  afresh_told : (e : PlainEvent) (at : At) (x : RegistryValue) (rows : List (Row (Filtered L F))) (y : RegistryValue) (later : List (Row (Filtered L F))) → EachInTurn (TellsEvent g h e at) x rows y later → EachInTurn (TellsEventBy g h (Afresh g) e at) x rows y later
-  afresh_told e at x [] y [] w = w
-  afresh_told e at x [] y (l ∷ ls) w = absurd w
-  afresh_told e at x (r ∷ rs) y [] w = absurd w
-  afresh_told e at x (r ∷ rs) y (l ∷ ls) w = (w.0, (inl w.1.0, w.1.1, w.1.2, w.1.3), afresh_told e at w.0 rs y ls w.2)
+  cleared_told : (e : PlainEvent) (at : At) (x : RegistryValue) (rows : List (Row (Filtered L F))) → EachInTurn (TellsEvent h e at) x (map (marked false) rows) x (map (marked false) rows)
+  cleared_told e at x [] = refl
+  cleared_told e at x (row ∷ rows) = (x, ((refl, refl), refl), cleared_told e at x rows)
+
+  afresh_asked : (e : PlainEvent) (at : At) (x : RegistryValue) (rows asked : List (Row (Filtered L F))) → EachBecomes (AsksEventBy g g.answers e at x) rows asked → EachBecomes (AsksEventBy g (Afresh g) e at x) rows asked
+  afresh_asked e at x [] [] w = w
+  afresh_asked e at x [] (l ∷ ls) w = absurd w
+  afresh_asked e at x (r ∷ rs) [] w = absurd w
+  afresh_asked e at x (r ∷ rs) (l ∷ ls) w = ((inl w.0.0, w.0.1, w.0.2), afresh_asked e at x rs ls w.1)
 
   unless_told : (e : PlainEvent) (at : At) (s t : StackValue (Filtered L F)) → Word g s → (b : Bool) → is_refused s e.metadata ≡ b → TellsUnless g h b e at s t → TellsAfresh g h e at s t
   unless_told e at s t w true refused same =
-      subst (TellsAfresh g h e at s) (sym same) (cleared_told e at s.registry s.rows (all_refuse g e.metadata s.hint (filters_of s.rows) s.sites w refused), refl)
-  unless_told e at s t w false refused told = (afresh_told e at s.registry s.rows t.registry t.rows told.0, told.1)
+      let refuse = all_refuse g e.metadata s.hint (filters_of s.rows) s.sites w refused in
+      subst (TellsAfresh g h e at s) (sym same) (cleared s, (cleared_asked e at s.registry s.rows refuse, refl), (cleared_told e at s.registry s.rows, refl))
+  unless_told e at s t w false refused told = (told.0, (afresh_asked e at s.registry s.rows told.0.rows told.1.0, told.1.1), told.2)
 
   -- what is answered by what is kept is what asking every filter afresh gives
   pub event_is_asked : (e : PlainEvent) (at : At) (s : StackValue (Filtered L F)) (r : Result (Unit {0}) RequestError) (t : StackValue (Filtered L F)) → Word g s → EventCached g h e at s r t → EventAsked g h e at s r t

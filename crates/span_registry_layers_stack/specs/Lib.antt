@@ -16,3 +16,4 @@ pub mod Steadiness
 pub mod Numbers
 pub mod Soundness
 pub mod Alone
+pub mod Keys

@@ -51,15 +51,23 @@ abbrev pub TellsIf : {L : Type 0} → LayerGhosts L → Bool → L → (View →
 TellsIf h true layer n v y later = h.told layer (n v y) later
 TellsIf h false layer n v y later = (later ≡ layer) × (y ≡ v.registry)
 
-module _ {L F : Type 0} (g : Ghosts F) (h : LayerGhosts L) where
-  -- its layer is told where its filter passes the callsite, by these answers, and then the event, and else stays; what the filter answered of the callsite and whether the layer was told are marked
-  abbrev pub TellsEventBy : (F → PlainMetadata → View → Bool → Type 0) → PlainEvent → At → RegistryValue → Row (Filtered L F) → RegistryValue → Row (Filtered L F) → Type 0
-  TellsEventBy A e at x row y later =
-      A row.output.filter e.metadata (view_of at x row) later.passed
-      × Then (g.event_answers row.output.filter e (view_of at x row)) later.passed later.told
-      × TellsIf h later.told row.output.layer (Happened e) (view_of at x row) y later.output.layer
-      × (later ≡ record (with_layer later.output.layer row) { passed = later.passed; told = later.told })
+-- with these marks
+abbrev pub with_marks : {O : Type 0} → Bool → Bool → Row O → Row O
+with_marks passed told row = record row { passed = passed; told = told }
+
+module _ {L F : Type 0} (g : Ghosts F) where
+  -- its filter is asked of the callsite, by these answers, and then of the event; what it answers of the callsite and whether it passes both are marked
+  abbrev pub AsksEventBy : (F → PlainMetadata → View → Bool → Type 0) → PlainEvent → At → RegistryValue → Row (Filtered L F) → Row (Filtered L F) → Type 0
+  AsksEventBy A e at x row asked =
+      A row.output.filter e.metadata (view_of at x row) asked.passed
+      × Then (g.event_answers row.output.filter e (view_of at x row)) asked.passed asked.told
+      × (asked ≡ with_marks asked.passed asked.told row)
 
   -- the same by an answer that its filter may give there
-  abbrev pub TellsEvent : PlainEvent → At → RegistryValue → Row (Filtered L F) → RegistryValue → Row (Filtered L F) → Type 0
-  TellsEvent e at x row y later = TellsEventBy g.answers e at x row y later
+  abbrev pub AsksEvent : PlainEvent → At → RegistryValue → Row (Filtered L F) → Row (Filtered L F) → Type 0
+  AsksEvent e at x row asked = AsksEventBy g.answers e at x row asked
+
+-- its layer is told of the event where it is marked so, and else stays
+abbrev pub TellsEvent : {L F : Type 0} → LayerGhosts L → PlainEvent → At → RegistryValue → Row (Filtered L F) → RegistryValue → Row (Filtered L F) → Type 0
+TellsEvent h e at x row y later =
+    TellsIf h row.told row.output.layer (Happened e) (view_of at x row) y later.output.layer × (later ≡ with_layer later.output.layer row)

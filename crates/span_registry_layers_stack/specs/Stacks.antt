@@ -8,12 +8,13 @@ use Rattle.tracing_core.specs.PlainRequests.{PlainEvent, explicit_parent}
 use Rattle.tracing_core.specs.RequestError.{RequestError}
 use Rattle.tracing_core.specs.RequestError.TheVariants.{UnknownParent}
 use Rattle.span_registry_layers_store.specs.Registries.{RegistryValue, knows}
+use Rattle.span_registry_layers_layers.specs.Looks.{View}
 use Rattle.span_registry_layers_layers.specs.Several.{EachInTurn}
 use Rattle.span_registry_layers_layers.specs.declared.filter.Filter.{Ghosts}
 use Rattle.span_registry_layers_layers.specs.declared.filtered.Filtered.{Filtered}
 use Rattle.span_registry_layers_layers.specs.declared.layer.Layer.{Ghosts as LayerGhosts}
 use Rattle.span_registry_layers_stack.specs.Asked.{SomePasses, SomePassesBy}
-use Rattle.span_registry_layers_stack.specs.Rows.{Afresh, EachBecomes, TellsEvent, TellsEventBy, marked}
+use Rattle.span_registry_layers_stack.specs.Rows.{Afresh, AsksEventBy, EachBecomes, TellsEvent, marked}
 use Rattle.span_registry_layers_stack.specs.Sites.{Keeps, PlainSite, is_refused_by, plain_site}
 use Rattle.span_registry_layers_stack.specs.declared.parts.StackParts.{StackParts}
 use Rattle.span_registry_layers_stack.specs.declared.row.Row.{Row}
@@ -72,13 +73,18 @@ module _ {L F : Type 0} (g : Ghosts F) where
   PassesAsked s m at b = SomePassesBy (Afresh g) m at s.registry s.rows b
 
 module _ {L F : Type 0} (g : Ghosts F) (h : LayerGhosts L) where
-  -- each output is told, in order, where its filter passes the event
+  -- the outputs' own filters are asked, by these answers, and then each output is told, in order, whose filter passes the event
+  abbrev pub TellsAllBy : (F → PlainMetadata → View → Bool → Type 0) → PlainEvent → At → StackValue (Filtered L F) → StackValue (Filtered L F) → Type 0
+  TellsAllBy A e at s t =
+      (asked : StackValue (Filtered L F)) × RowsBecome (AsksEventBy g A e at s.registry) s asked × RowsInTurn (TellsEvent h e at) asked t
+
+  -- the same by answers that the filters may give there
   abbrev pub TellsAll : PlainEvent → At → StackValue (Filtered L F) → StackValue (Filtered L F) → Type 0
-  TellsAll e at s t = RowsInTurn (TellsEvent g h e at) s t
+  TellsAll e at s t = TellsAllBy g.answers e at s t
 
   -- the same, each filter asked afresh
   abbrev pub TellsAfresh : PlainEvent → At → StackValue (Filtered L F) → StackValue (Filtered L F) → Type 0
-  TellsAfresh e at s t = RowsInTurn (TellsEventBy g h (Afresh g) e at) s t
+  TellsAfresh e at s t = TellsAllBy (Afresh g) e at s t
 
   abbrev pub TellsUnless : Bool → PlainEvent → At → StackValue (Filtered L F) → StackValue (Filtered L F) → Type 0
   TellsUnless true e at s t = t ≡ cleared s

@@ -19,7 +19,7 @@ use Rattle.span_registry_layers_layers.specs.declared.filter.Filter.{Ghosts}
 use Rattle.span_registry_layers_layers.specs.declared.filtered.Filtered.{Filtered}
 use Rattle.span_registry_layers_layers.specs.declared.layer.Layer.{Ghosts as LayerGhosts}
 use Rattle.span_registry_layers_stack.specs.Calls.{CloneGives, CloseGives, CloseUnless, Closes, EnterGives, ExitGives, FollowsGives, MakesSpan, RecordGives, SpanCached, SpanKnown, SpanUnless, SpanWhere, WhereTaken, over}
-use Rattle.span_registry_layers_stack.specs.Rows.{EachBecomes, TellsEvent, TellsIf, filters_of, marked, numbers_of, view_of}
+use Rattle.span_registry_layers_stack.specs.Rows.{AsksEventBy, EachBecomes, TellsEvent, TellsIf, filters_of, marked, numbers_of, view_of}
 use Rattle.span_registry_layers_stack.specs.Sites.{PlainSite}
 use Rattle.span_registry_layers_stack.specs.Hearing.{ClosesEach, HearsIf, TellsDispatch, TellsFollows, TellsMade, TellsSpan, sees}
 use Rattle.span_registry_layers_stack.specs.Stacks.{EventCached, RowsBecome, RowsInTurn, StackValue, TellsUnless, WhereKnown, cleared, is_refused}
@@ -80,12 +80,16 @@ module _ {F : Type 0} (g : Ghosts F) where
       record { honest = honest_step xs ys a w.honest; interests = sites_step sites xs ys a w.honest w.interests; hints = hints_step kept xs ys a w.honest w.hints }
 
 module _ {L F : Type 0} (g : Ghosts F) (h : LayerGhosts L) where
-  -- an output's filter steps, and the numbers of its filters stay
-  abbrev pub Stepped : Row (Filtered L F) → Row (Filtered L F) → Type 0
-  Stepped row later = Steps g row.output.filter later.output.filter × (later.id ≡ row.id) × (h.numbers later.output.layer ≡ h.numbers row.output.layer)
+  -- an output's key stays, and so do those that its layer writes under
+  abbrev pub SameKeys : Row (Filtered L F) → Row (Filtered L F) → Type 0
+  SameKeys row later = (later.key ≡ row.key) × ((key : ℕ) → h.keys later.output.layer key ≡ h.keys row.output.layer key)
 
-  stepped_put : (row later : Row (Filtered L F)) → later.output.filter ≡ row.output.filter → later.id ≡ row.id → h.numbers later.output.layer ≡ h.numbers row.output.layer → Stepped row later
-  stepped_put row later e n l = (stays_put g row.output.filter later.output.filter e, n, l)
+  -- an output's filter steps, and the numbers of its filters stay, as its keys do
+  abbrev pub Stepped : Row (Filtered L F) → Row (Filtered L F) → Type 0
+  Stepped row later = Steps g row.output.filter later.output.filter × (later.id ≡ row.id) × (h.numbers later.output.layer ≡ h.numbers row.output.layer) × SameKeys row later
+
+  stepped_put : (row later : Row (Filtered L F)) → later.output.filter ≡ row.output.filter → later.id ≡ row.id → h.numbers later.output.layer ≡ h.numbers row.output.layer → SameKeys row later → Stepped row later
+  stepped_put row later e n l k = (stays_put g row.output.filter later.output.filter e, n, l, k)
 
   -- each filter stays honest and says what it said, and what is kept stays
   pub record Keeps (s t : StackValue (Filtered L F)) : Type 0 where
@@ -93,6 +97,19 @@ module _ {L F : Type 0} (g : Ghosts F) (h : LayerGhosts L) where
     pub sites : t.sites ≡ s.sites
     pub hint : t.hint ≡ s.hint
     pub numbers : numbers_of h t.rows ≡ numbers_of h s.rows
+    pub keys : EachBecomes SameKeys s.rows t.rows
+
+  pub keys_put : (rows : List (Row (Filtered L F))) → EachBecomes SameKeys rows rows
+  keys_put [] = tt
+  keys_put (row ∷ rows) = ((refl, λ key. refl), keys_put rows)
+
+  keys_then : (rows more later : List (Row (Filtered L F))) → EachBecomes SameKeys rows more → EachBecomes SameKeys more later → EachBecomes SameKeys rows later
+  keys_then [] [] [] a b = tt
+  keys_then [] [] (l ∷ ls) a b = absurd b
+  keys_then [] (m ∷ ms) later a b = absurd a
+  keys_then (r ∷ rs) [] later a b = absurd a
+  keys_then (r ∷ rs) (m ∷ ms) [] a b = absurd b
+  keys_then (r ∷ rs) (m ∷ ms) (l ∷ ls) a b = ((b.0.0 ∙ a.0.0, λ key. b.0.1 key ∙ a.0.1 key), keys_then rs ms ls a.1 b.1)
 
   pub keeps_word : (s t : StackValue (Filtered L F)) → Keeps s t → Word g s → Word g t
   keeps_word s t k w =
@@ -100,11 +117,17 @@ module _ {L F : Type 0} (g : Ghosts F) (h : LayerGhosts L) where
       (subst (λ kept. WordOf g (filters_of t.rows) s.sites kept) (sym k.hint) (word_step g s.sites s.hint (filters_of s.rows) (filters_of t.rows) k.steps w))
 
   pub keeps_same : (s t : StackValue (Filtered L F)) → t ≡ s → Keeps s t
-  keeps_same s t e = subst (Keeps s) (sym e) (record { steps = each_put g (filters_of s.rows); sites = refl; hint = refl; numbers = refl })
+  keeps_same s t e = subst (Keeps s) (sym e) (record { steps = each_put g (filters_of s.rows); sites = refl; hint = refl; numbers = refl; keys = keys_put s.rows })
 
   pub keeps_then : (s t u : StackValue (Filtered L F)) → Keeps s t → Keeps t u → Keeps s u
   keeps_then s t u a b =
-      record { steps = each_then g (filters_of s.rows) (filters_of t.rows) (filters_of u.rows) a.steps b.steps; sites = b.sites ∙ a.sites; hint = b.hint ∙ a.hint; numbers = b.numbers ∙ a.numbers }
+      record {
+        steps = each_then g (filters_of s.rows) (filters_of t.rows) (filters_of u.rows) a.steps b.steps;
+        sites = b.sites ∙ a.sites;
+        hint = b.hint ∙ a.hint;
+        numbers = b.numbers ∙ a.numbers;
+        keys = keys_then s.rows t.rows u.rows a.keys b.keys;
+      }
 
   rows_put : (rows : List (Row (Filtered L F))) → EachBecomes (Steps g) (filters_of rows) (filters_of (map (marked false) rows))
   rows_put [] = tt
@@ -114,8 +137,12 @@ module _ {L F : Type 0} (g : Ghosts F) (h : LayerGhosts L) where
   same_numbers [] = refl
   same_numbers (row ∷ rows) = ap (λ (ns : List ℕ). row.id.index ∷ (h.numbers row.output.layer ++ ns)) (same_numbers rows)
 
+  cleared_keys : (rows : List (Row (Filtered L F))) → EachBecomes SameKeys rows (map (marked false) rows)
+  cleared_keys [] = tt
+  cleared_keys (row ∷ rows) = ((refl, λ key. refl), cleared_keys rows)
+
   pub cleared_keeps : (s t : StackValue (Filtered L F)) → t ≡ cleared s → Keeps s t
-  cleared_keeps s t e = subst (Keeps s) (sym e) (record { steps = rows_put s.rows; sites = refl; hint = refl; numbers = same_numbers s.rows })
+  cleared_keeps s t e = subst (Keeps s) (sym e) (record { steps = rows_put s.rows; sites = refl; hint = refl; numbers = same_numbers s.rows; keys = cleared_keys s.rows })
 
   each_steps : (R : Row (Filtered L F) → Row (Filtered L F) → Type 0) → ((row later : Row (Filtered L F)) → R row later → Stepped row later) →
       (rows later : List (Row (Filtered L F))) → EachBecomes R rows later → EachBecomes (Steps g) (filters_of rows) (filters_of later)
@@ -132,9 +159,15 @@ module _ {L F : Type 0} (g : Ghosts F) (h : LayerGhosts L) where
       ap (λ (id : FilterId). id.index ∷ (h.numbers l.output.layer ++ numbers_of h ls)) (f r l w.0).1
       ∙ ap (λ (ns : List ℕ). r.id.index ∷ (ns ++ numbers_of h ls)) (f r l w.0).2 ∙ ap (λ (ns : List ℕ). r.id.index ∷ (h.numbers r.output.layer ++ ns)) (each_numbers R f rs ls w.1)
 
+  each_keys : (R : Row (Filtered L F) → Row (Filtered L F) → Type 0) → ((row later : Row (Filtered L F)) → R row later → Stepped row later) → (rows later : List (Row (Filtered L F))) → EachBecomes R rows later → EachBecomes SameKeys rows later
+  each_keys R f [] [] w = tt
+  each_keys R f [] (l ∷ ls) w = absurd w
+  each_keys R f (r ∷ rs) [] w = absurd w
+  each_keys R f (r ∷ rs) (l ∷ ls) w = ((f r l w.0).3, each_keys R f rs ls w.1)
+
   dispatched_keep : (R : Row (Filtered L F) → Row (Filtered L F) → Type 0) → ((row later : Row (Filtered L F)) → R row later → Stepped row later) → (s t : StackValue (Filtered L F)) → RowsBecome R s t → Keeps s t
   dispatched_keep R f s t w =
-      record { steps = each_steps R f s.rows t.rows w.0; sites = ap (λ (v : StackValue (Filtered L F)). v.sites) w.1; hint = ap (λ (v : StackValue (Filtered L F)). v.hint) w.1; numbers = each_numbers R f s.rows t.rows w.0 }
+      record { steps = each_steps R f s.rows t.rows w.0; sites = ap (λ (v : StackValue (Filtered L F)). v.sites) w.1; hint = ap (λ (v : StackValue (Filtered L F)). v.hint) w.1; numbers = each_numbers R f s.rows t.rows w.0; keys = each_keys R f s.rows t.rows w.0 }
 
   turn_steps : (R : RegistryValue → Row (Filtered L F) → RegistryValue → Row (Filtered L F) → Type 0) → ((x : RegistryValue) (row : Row (Filtered L F)) (y : RegistryValue) (later : Row (Filtered L F)) → R x row y later → Stepped row later) →
       (x : RegistryValue) (rows : List (Row (Filtered L F))) (y : RegistryValue) (later : List (Row (Filtered L F))) → EachInTurn R x rows y later → EachBecomes Stepped rows later
@@ -151,20 +184,29 @@ module _ {L F : Type 0} (g : Ghosts F) (h : LayerGhosts L) where
         sites = ap (λ (v : StackValue (Filtered L F)). v.sites) w.1;
         hint = ap (λ (v : StackValue (Filtered L F)). v.hint) w.1;
         numbers = each_numbers Stepped (λ row later k. k) s.rows t.rows each;
+        keys = each_keys Stepped (λ row later k. k) s.rows t.rows each;
       }
 
   told_if : (b : Bool) (layer : L) (n : View → RegistryValue → Notice) (v : View) (y : RegistryValue) (later : L) → (h.told layer (n v y) later → h.numbers later ≡ h.numbers layer) → TellsIf h b layer n v y later → h.numbers later ≡ h.numbers layer
   told_if true layer n v y later f w = f w
   told_if false layer n v y later f w = ap h.numbers w.0
 
+  told_keys : (b : Bool) (layer : L) (n : View → RegistryValue → Notice) (v : View) (y : RegistryValue) (later : L) → TellsIf h b layer n v y later → (key : ℕ) → h.keys later key ≡ h.keys layer key
+  told_keys true layer n v y later w key = h.keyed layer (n v y) later w key
+  told_keys false layer n v y later w key = ap (λ (l : L). h.keys l key) w.0
+
+  same_row : (row later : Row (Filtered L F)) → later ≡ row → SameKeys row later
+  same_row row later e = (ap (λ (r : Row (Filtered L F)). r.key) e, λ key. ap (λ (r : Row (Filtered L F)). h.keys r.output.layer key) e)
+
   hears_steps : (b : Bool) (id : ℕ) (call : View → Hook) (v : View) (row : Row (Filtered L F)) (y : RegistryValue) (later : Row (Filtered L F)) → HearsIf g h b id call v row y later → Stepped row later
   hears_steps true id call v row y later w = (
     subst (Steps g row.output.filter) (sym (ap (λ (r : Row (Filtered L F)). r.output.filter) w.1)) (g.stays row.output.filter (call v)),
     ap (λ (r : Row (Filtered L F)). r.id) w.1,
     h.numbered row.output.layer (Spanned id call v y) later.output.layer w.0,
+    (ap (λ (r : Row (Filtered L F)). r.key) w.1, h.keyed row.output.layer (Spanned id call v y) later.output.layer w.0),
   )
   hears_steps false id call v row y later w =
-      stepped_put row later (ap (λ (r : Row (Filtered L F)). r.output.filter) w.0) (ap (λ (r : Row (Filtered L F)). r.id) w.0) (ap (λ (r : Row (Filtered L F)). h.numbers r.output.layer) w.0)
+      stepped_put row later (ap (λ (r : Row (Filtered L F)). r.output.filter) w.0) (ap (λ (r : Row (Filtered L F)). r.id) w.0) (ap (λ (r : Row (Filtered L F)). h.numbers r.output.layer) w.0) (same_row row later w.0)
 
   span_steps : (call : View → Hook) (id : ℕ) (at : At) (x : RegistryValue) (row : Row (Filtered L F)) (y : RegistryValue) (later : Row (Filtered L F)) → TellsSpan g h call id at x row y later → Stepped row later
   span_steps call id at x row y later w = hears_steps (sees x id row) id call (view_of at x row) row y later w
@@ -177,10 +219,12 @@ module _ {L F : Type 0} (g : Ghosts F) (h : LayerGhosts L) where
       let v = view_of at x row in
       stepped_put row later (ap (λ (r : Row (Filtered L F)). r.output.filter) w.1) (ap (λ (r : Row (Filtered L F)). r.id) w.1)
       (told_if (sees x id row && sees x follows row) row.output.layer (Followed id follows) v y later.output.layer (h.numbered row.output.layer (Followed id follows v y) later.output.layer) w.0)
+      (ap (λ (r : Row (Filtered L F)). r.key) w.1, told_keys (sees x id row && sees x follows row) row.output.layer (Followed id follows) v y later.output.layer w.0)
 
   dispatch_steps : (dispatch : Option ℕ) (row later : Row (Filtered L F)) → TellsDispatch g h dispatch row later → Stepped row later
   dispatch_steps dispatch row later w =
       stepped_put row later (ap (λ (r : Row (Filtered L F)). r.output.filter) w.1) (ap (λ (r : Row (Filtered L F)). r.id) w.1) (h.numbered row.output.layer (Dispatched dispatch) later.output.layer w.0)
+      (ap (λ (r : Row (Filtered L F)). r.key) w.1, h.keyed row.output.layer (Dispatched dispatch) later.output.layer w.0)
 
   pub dispatch_keeps : (dispatch : Option ℕ) (s t : StackValue (Filtered L F)) → RowsBecome (TellsDispatch g h dispatch) s t → Keeps s t
   dispatch_keeps dispatch s t w = dispatched_keep (TellsDispatch g h dispatch) (dispatch_steps dispatch) s t w
@@ -201,13 +245,19 @@ module _ {L F : Type 0} (g : Ghosts F) (h : LayerGhosts L) where
   enter_keeps id at s t r w =
       taken_keeps s t r (RowsInTurn (TellsSpan g h (Entered id) id at) (over w.0 s)) (rows_keep w.0 (TellsSpan g h (Entered id) id at) (span_steps (Entered id) id at) s t) w.2
 
-  each_closes : (ids : List ℕ) (at : At) (x : RegistryValue) (rows : List (Row (Filtered L F))) (y : RegistryValue) (later : List (Row (Filtered L F))) → ClosesEach g h ids at x rows y later → EachBecomes (Steps g) (filters_of rows) (filters_of later) × (numbers_of h later ≡ numbers_of h rows)
-  each_closes [] at x rows y later w = (subst (λ l. EachBecomes (Steps g) (filters_of rows) (filters_of l)) (sym w.1) (each_put g (filters_of rows)), ap (numbers_of h) w.1)
+  -- each filter steps, and numbers and keys stay
+  abbrev RowsStepped : List (Row (Filtered L F)) → List (Row (Filtered L F)) → Type 0
+  RowsStepped rows later = EachBecomes (Steps g) (filters_of rows) (filters_of later) × (numbers_of h later ≡ numbers_of h rows) × EachBecomes SameKeys rows later
+
+  each_closes : (ids : List ℕ) (at : At) (x : RegistryValue) (rows : List (Row (Filtered L F))) (y : RegistryValue) (later : List (Row (Filtered L F))) → ClosesEach g h ids at x rows y later → RowsStepped rows later
+  each_closes [] at x rows y later w =
+      (subst (λ l. EachBecomes (Steps g) (filters_of rows) (filters_of l)) (sym w.1) (each_put g (filters_of rows)), ap (numbers_of h) w.1, subst (EachBecomes SameKeys rows) (sym w.1) (keys_put rows))
   each_closes (id ∷ ids) at x rows y later (told, z, heard, gone) =
       let each = turn_steps (TellsSpan g h (Closed id) id at) (span_steps (Closed id) id at) x rows z told heard in
       let rest = each_closes ids at gone.0 told y later gone.2 in (
         each_then g (filters_of rows) (filters_of told) (filters_of later) (each_steps Stepped (λ row later k. k) rows told each) rest.0,
         rest.1 ∙ each_numbers Stepped (λ row later k. k) rows told each,
+        keys_then rows told later (each_keys Stepped (λ row later k. k) rows told each) rest.2,
       )
 
   closes_keep : (at : At) (x : RegistryValue) (s t : StackValue (Filtered L F)) → Closes g h at (over x s) t → Keeps s t
@@ -218,6 +268,7 @@ module _ {L F : Type 0} (g : Ghosts F) (h : LayerGhosts L) where
         sites = ap (λ (v : StackValue (Filtered L F)). v.sites) w.3;
         hint = ap (λ (v : StackValue (Filtered L F)). v.hint) w.3;
         numbers = each.1;
+        keys = each.2;
       }
 
   pub exit_keeps : (id : ℕ) (at : At) (s t : StackValue (Filtered L F)) → ExitGives g h id at s t → Keeps s t
@@ -233,24 +284,31 @@ module _ {L F : Type 0} (g : Ghosts F) (h : LayerGhosts L) where
       unless (Some refusal) w = keeps_same s t w.1
 
   pub clone_keeps : (id : ℕ) (s t : StackValue (Filtered L F)) (r : Result ℕ RequestError) → CloneGives id s r t → Keeps s t
-  clone_keeps id s t r w = subst (Keeps s) (sym w.1) (record { steps = each_put g (filters_of s.rows); sites = refl; hint = refl; numbers = refl })
+  clone_keeps id s t r w = subst (Keeps s) (sym w.1) (record { steps = each_put g (filters_of s.rows); sites = refl; hint = refl; numbers = refl; keys = keys_put s.rows })
 
   makes_keeps : (a : PlainAttributes) (at : At) (verdicts : List Bool) (s t : StackValue (Filtered L F)) (r : Result (Option ℕ) RequestError) → MakesSpan g h a at verdicts s r t → Keeps s t
   makes_keeps a at verdicts s t r (Ok id, x, taken, made) = rows_keep x (TellsMade g h (SpanMade a id) id at) (made_steps (SpanMade a id) id at) s t made.1
   makes_keeps a at verdicts s t r (Err e, x, taken, made) = keeps_same s t made.1
 
-  event_steps : (e : PlainEvent) (at : At) (x : RegistryValue) (row : Row (Filtered L F)) (y : RegistryValue) (later : Row (Filtered L F)) → TellsEvent g h e at x row y later → Stepped row later
+  event_steps : (e : PlainEvent) (at : At) (x : RegistryValue) (row : Row (Filtered L F)) (y : RegistryValue) (later : Row (Filtered L F)) → TellsEvent h e at x row y later → Stepped row later
   event_steps e at x row y later w =
       let v = view_of at x row in
-      stepped_put row later (ap (λ (r : Row (Filtered L F)). r.output.filter) w.3) (ap (λ (r : Row (Filtered L F)). r.id) w.3)
-      (told_if later.told row.output.layer (Happened e) v y later.output.layer (h.numbered row.output.layer (Happened e v y) later.output.layer) w.2)
+      stepped_put row later (ap (λ (r : Row (Filtered L F)). r.output.filter) w.1) (ap (λ (r : Row (Filtered L F)). r.id) w.1)
+      (told_if row.told row.output.layer (Happened e) v y later.output.layer (h.numbered row.output.layer (Happened e v y) later.output.layer) w.0)
+      (ap (λ (r : Row (Filtered L F)). r.key) w.1, told_keys row.told row.output.layer (Happened e) v y later.output.layer w.0)
+
+  asked_steps : (e : PlainEvent) (at : At) (x : RegistryValue) (row asked : Row (Filtered L F)) → AsksEventBy g g.answers e at x row asked → Stepped row asked
+  asked_steps e at x row asked w =
+      stepped_put row asked (ap (λ (r : Row (Filtered L F)). r.output.filter) w.2) (ap (λ (r : Row (Filtered L F)). r.id) w.2) (ap (λ (r : Row (Filtered L F)). h.numbers r.output.layer) w.2)
+      (ap (λ (r : Row (Filtered L F)). r.key) w.2, λ key. ap (λ (r : Row (Filtered L F)). h.keys r.output.layer key) w.2)
 
   pub event_keeps : (e : PlainEvent) (at : At) (s t : StackValue (Filtered L F)) (r : Result (Unit {0}) RequestError) → EventCached g h e at s r t → Keeps s t
   event_keeps e at s t r w = known (knows s.registry (explicit_parent e.parent)) (is_refused s e.metadata) w
     where
       known : (k b : Bool) → WhereKnown k s (TellsUnless g h b e at s) r t → Keeps s t
       known true true w = cleared_keeps s t w.1
-      known true false w = rows_keep s.registry (TellsEvent g h e at) (event_steps e at) s t w.1
+      known true false (done, (asked, marks, told)) =
+          keeps_then s asked t (dispatched_keep (AsksEventBy g g.answers e at s.registry) (asked_steps e at s.registry) s asked marks) (rows_keep asked.registry (TellsEvent h e at) (event_steps e at) asked t told)
       known false b w = keeps_same s t w.1
 
   span_where : (b : Bool) (a : PlainAttributes) (at : At) (verdicts : List Bool) (s t : StackValue (Filtered L F)) (r : Result (Option ℕ) RequestError) → SpanWhere g h b a at verdicts s r t → Keeps s t

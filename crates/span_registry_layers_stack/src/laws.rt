@@ -1,5 +1,6 @@
 //! What holds of every stack.
 ghost use Rattle.span_registry_layers_stack.specs.Alone.{RegistryStandsAlone, UnwrittenStandsAlone};
+ghost use Rattle.span_registry_layers_stack.specs.Keys.{CallsKeepToKeys, NewKeepsToKeys, TurnsKeepToKeys};
 ghost use Rattle.span_registry_layers_stack.specs.Numbers.{DroppedSpanTellsNobody, DroppedTellsNobody, NumbersStay, OneOutputDecides, VerdictsAreOwn};
 ghost use Rattle.span_registry_layers_stack.specs.Soundness.{NewIsSound, StackStaysSound};
 
@@ -46,4 +47,13 @@ pub fn registry_stands_alone<L: Layer, F: Filter>()
 /// passes it, and what is kept with it passes under each number; else it is dropped.
 pub fn one_output_decides<L: Layer, F: Filter>()
     ensures { OneOutputDecides ⟦<F as Filter>⟧ ⟦<L as Layer>⟧ }
+{}
+
+/// Where the layer of each output that a stack is made of writes slots under the output's key alone, so it is in the stack
+/// and after each of the core's calls, which keep the outputs' keys; and what such an output is told in its turn changes slots
+/// under its key alone.
+pub fn layers_keep_to_keys<L: Layer, F: Filter>()
+    ensures start { NewKeepsToKeys ⟦<F as Filter>⟧ ⟦<L as Layer>⟧ }
+    ensures call { CallsKeepToKeys ⟦<F as Filter>⟧ ⟦<L as Layer>⟧ }
+    ensures turn { TurnsKeepToKeys ⟦<F as Filter>⟧ ⟦<L as Layer>⟧ }
 {}

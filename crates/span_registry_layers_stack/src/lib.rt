@@ -12,8 +12,8 @@ mod stack;
 mod subscriber;
 
 pub use laws::{
-    dropped_events_tell_nobody, dropped_spans_tell_nobody, numbers_stay, one_output_decides,
-    registry_stands_alone, stack_registry_stays_sound, verdicts_are_own,
+    dropped_events_tell_nobody, dropped_spans_tell_nobody, layers_keep_to_keys, numbers_stay,
+    one_output_decides, registry_stands_alone, stack_registry_stays_sound, verdicts_are_own,
 };
 pub use output::{Output, StackError, StackRefusal, UnknownOutput};
 pub use stack::Stack;

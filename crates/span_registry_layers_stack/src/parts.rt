@@ -15,7 +15,7 @@ mod swapping;
 mod telling;
 
 use crate::row::Row;
-use crate::rows::{any_passes, ask_hint, ask_interest, clear_marks, tell_event};
+use crate::rows::{any_passes, ask_hint, ask_interest, clear_marks};
 use crate::site::Site;
 use crate::sites::{is_kept, refuse, renew};
 use span_registry_layers_layers::{Filter, Filtered, Layer};
@@ -111,7 +111,8 @@ impl<L: Layer, F: Filter> StackParts<Filtered<L, F>> {
     fn tell(&mut self, event: &Event<'_, '_>, at: At)
         ensures { TellsAll ⟦<F as Filter>⟧ ⟦<L as Layer>⟧ (plain_event event.now) at (plain_stack self.old) (plain_stack self.new) }
     {
-        tell_event(&mut self.rows, event, &mut self.registry, at);
+        self.ask_event(event, at);
+        self.tell_event(event, at);
     }
 
     // Tells each output that passes the event, and asks nobody where what is kept refuses it.

@@ -5,7 +5,7 @@ ghost use Rattle.tracing_core.specs.PlainRequests.{plain_event};
 ghost use Rattle.span_registry_layers_layers.specs.Combined.{Then};
 ghost use Rattle.span_registry_layers_layers.specs.Notices.{Happened};
 ghost use Rattle.span_registry_layers_stack.specs.Asked.{AsksRow};
-ghost use Rattle.span_registry_layers_stack.specs.Rows.{TellsEvent, marked, view_of, with_layer};
+ghost use Rattle.span_registry_layers_stack.specs.Rows.{AsksEvent, TellsEvent, marked, view_of, with_layer};
 ghost use Rattle.span_registry_layers_stack.specs.Swaps.{with_filter};
 
 mod spans;
@@ -114,15 +114,22 @@ impl<L: Layer, F: Filter> Row<Filtered<L, F>> {
         self.output.inner_mut().on_event(event, &mut context);
     }
 
-    // Asks its filter of the event, and tells its layer where that passes it.
-    pub(crate) fn event(&mut self, event: &Event<'_, '_>, registry: &mut Registry, at: At)
-        ensures { TellsEvent ⟦<F as Filter>⟧ ⟦<L as Layer>⟧ (plain_event event.now) at registry.old self.old registry.new self.new }
+    // Asks its filter of the event, and marks what it answers.
+    pub(crate) fn ask_event(&mut self, event: &Event<'_, '_>, registry: &mut Registry, at: At)
+        ensures asked { AsksEvent ⟦<F as Filter>⟧ (plain_event event.now) at registry.old self.old self.new }
+        ensures same { registry.new ≡ registry.old }
     {
         let passes = self.passes(event.metadata(), registry, at);
         let hears = self.hears(passes, event, registry, at);
         self.passed = passes;
         self.told = hears;
-        if hears {
+    }
+
+    // Tells its layer of the event, where that is marked.
+    pub(crate) fn tell_event(&mut self, event: &Event<'_, '_>, registry: &mut Registry, at: At)
+        ensures { TellsEvent ⟦<L as Layer>⟧ (plain_event event.now) at registry.old self.old registry.new self.new }
+    {
+        if self.told {
             self.tell(event, registry, at);
         }
     }

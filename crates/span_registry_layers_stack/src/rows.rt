@@ -6,7 +6,7 @@ ghost use Rattle.tracing_core.specs.PlainRequests.{plain_event};
 ghost use Rattle.span_registry_layers_store.specs.Verdicts.{all_pass};
 ghost use Rattle.span_registry_layers_layers.specs.Several.{EachInTurn};
 ghost use Rattle.span_registry_layers_stack.specs.Asked.{AsksFrom, CommonInterest, SomePasses, common_hint, higher_hint};
-ghost use Rattle.span_registry_layers_stack.specs.Rows.{TellsEvent, filters_of, marked};
+ghost use Rattle.span_registry_layers_stack.specs.Rows.{AsksEvent, EachBecomes, TellsEvent, filters_of, marked};
 
 mod spans;
 
@@ -18,17 +18,32 @@ pub(crate) use spans::{
 };
 use tracing_core::{At, Event, Interest, LevelFilter, Metadata};
 
-// Tells each output, in order, of the event that passes it.
+// Asks the filter of each output of the event, and marks what it answers.
+pub(crate) fn ask_event<L: Layer, F: Filter>(
+    rows: &mut [Row<Filtered<L, F>>],
+    event: &Event<'_, '_>,
+    registry: &mut Registry,
+    at: At,
+)
+    ensures asked { EachBecomes (AsksEvent ⟦<F as Filter>⟧ (plain_event event.now) at registry.old) rows.old rows.new }
+    ensures same { registry.new ≡ registry.old }
+{
+    for row in rows.iter_mut() {
+        row.ask_event(event, registry, at);
+    }
+}
+
+// Tells each output, in order, of the event, where that is marked.
 pub(crate) fn tell_event<L: Layer, F: Filter>(
     rows: &mut [Row<Filtered<L, F>>],
     event: &Event<'_, '_>,
     registry: &mut Registry,
     at: At,
 )
-    ensures { EachInTurn (TellsEvent ⟦<F as Filter>⟧ ⟦<L as Layer>⟧ (plain_event event.now) at) registry.old rows.old registry.new rows.new }
+    ensures { EachInTurn (TellsEvent ⟦<L as Layer>⟧ (plain_event event.now) at) registry.old rows.old registry.new rows.new }
 {
     for row in rows.iter_mut() {
-        row.event(event, registry, at);
+        row.tell_event(event, registry, at);
     }
 }
 

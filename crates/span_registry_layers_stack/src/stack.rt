@@ -85,9 +85,11 @@ impl<L: Layer, F: Filter> Stack<Filtered<L, F>> {
         Ok(Stack { parts })
     }
 
-    /// Tells each output, in order, of the event that its filter passes, and asks nobody where what is kept refuses it.
+    /// Asks the outputs' own filters, then tells each output, in order, whose filter passes the event; it asks nobody where
+    /// what is kept refuses it.
     ///
-    /// An output's filter is asked when those before it were told, so it and its output see the slots that those wrote.
+    /// No output's own filter sees what is written at this event. An output sees the slots that those told before it wrote,
+    /// and so does a filter in its layer, which is asked when the output is told.
     ///
     /// # Errors
     ///

@@ -7,7 +7,7 @@ use tracing_core::{
 };
 
 /// A stack whose filters are honest is steady while what it keeps is right. It wants each event whose callsite some
-/// filter passes: each filter is asked once, when the event is handed over.
+/// filter passes: each output's own filter is asked once, when the event is handed over.
 impl<L: Layer, F: Filter> Subscriber for Stack<Filtered<L, F>> {
     ghost use Rattle.std.specs.Prelude.{Some};
     ghost use Rattle.span_registry_layers_stack.specs.Asked.{CommonInterest, common_hint};

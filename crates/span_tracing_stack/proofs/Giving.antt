@@ -16,6 +16,7 @@ use Rattle.tracing_core.specs.Steady.{InterestFits}
 use Rattle.span_registry_layers.specs.Asked.{AsksFrom, CommonInterest, SomePasses, common_hint, higher_hint}
 use Rattle.span_registry_layers.specs.Caches.{all_refuse}
 use Rattle.span_registry_layers.specs.Calls.{MakesSpan, SpanCached, SpanKnown, SpanUnless, SpanWhere}
+use Rattle.span_registry_layers.specs.Combined.{Else, Then}
 use Rattle.span_registry_layers.specs.Filter.{Ghosts}
 use Rattle.span_registry_layers.specs.Filtered.{Filtered}
 use Rattle.span_registry_layers.specs.Hearing.{TellsDispatch, TellsFollows}
@@ -26,7 +27,7 @@ use Rattle.span_registry_layers.specs.Moves as outputs
 use Rattle.span_registry_layers.specs.NumberingProofs.{numbers_same}
 use Rattle.span_registry_layers.specs.Registries.{RegistryValue, knows}
 use Rattle.span_registry_layers.specs.Row.{Row}
-use Rattle.span_registry_layers.specs.Rows.{EachBecomes, TellsEvent, filters_of, marked, numbers_of, view_of}
+use Rattle.span_registry_layers.specs.Rows.{AsksEventBy, EachBecomes, TellsEvent, filters_of, marked, numbers_of, view_of}
 use Rattle.span_registry_layers.specs.Several.{EachInTurn}
 use Rattle.span_registry_layers.specs.SingleProofs.{asked_one}
 use Rattle.span_registry_layers.specs.Stacks.{EventCached, PassesCached, PassesUnless, RowsBecome, StackValue as OutputsValue, TellsUnless, WhereKnown, cleared, is_refused}
@@ -117,7 +118,7 @@ module _ {F : Type 0} (g : Ghosts F) where
     λ v b given. (subst (λ rows. Every (λ f. (v : View) (b : Bool) → g.answers f m v b → b ≡ false) (filters_of rows)) one (all_refuse g m s.hint (filters_of s.rows) s.sites w e)).0 v b given,
   )
 
-  by_first : (p b : Bool) (P : Bool → Type 0) → P p → Rattle.span_registry_layers.specs.Combined.Else (λ r. r ≡ false) p b → P b
+  by_first : (p b : Bool) (P : Bool → Type 0) → P p → Else (λ r. r ≡ false) p b → P b
   by_first true b P given e = subst P (sym e) given
   by_first false b P given e = subst P (sym e) given
 
@@ -150,14 +151,18 @@ module _ {F : Type 0} (g : Ghosts F) where
         let one = one_row h s.rows numbers in
         ap (λ rows. common_hint g (Some 0) (filters_of rows)) one.one ∙ higher_one (g.hint one.row.output.filter) ∙ sym (ap (hint_by g) (first_of h s.rows one))
 
-    told_first : (e : PlainEvent) (at : At) (x : RegistryValue) (row : Row (Filtered Identity F)) (y : RegistryValue) (later : List (Row (Filtered Identity F))) → row.id.index ≡ 0 → EachInTurn (TellsEvent g h e at) x (row ∷ []) y later →
-        MayTellBy g (Some row.output.filter) e (view_in x at) (is_told later) × (first_filter later ≡ Some row.output.filter)
-    told_first e at x row y [] first w = absurd w
-    told_first e at x row y (later ∷ (next ∷ rows)) first w = absurd w.2
-    told_first e at x row y (later ∷ []) first w =
-        let there : ℕ → View = λ n. record { at = at; registry = x; mask = Some n } in (
-          (later.passed, inl (subst (λ n. g.answers row.output.filter e.metadata (there n) later.passed) first w.1.0), subst (λ n. Rattle.span_registry_layers.specs.Combined.Then (g.event_answers row.output.filter e (there n)) later.passed later.told) first w.1.1),
-          ap (λ (r : Row (Filtered Identity F)). Some r.output.filter) w.1.3,
+    told_first : (e : PlainEvent) (at : At) (x : RegistryValue) (row : Row (Filtered Identity F)) (asked : List (Row (Filtered Identity F))) (z y : RegistryValue) (later : List (Row (Filtered Identity F))) → row.id.index ≡ 0 →
+        EachBecomes (AsksEventBy g g.answers e at x) (row ∷ []) asked → EachInTurn (TellsEvent h e at) z asked y later → MayTellBy g (Some row.output.filter) e (view_in x at) (is_told later) × (first_filter later ≡ Some row.output.filter)
+    told_first e at x row [] z y later first w t = absurd w
+    told_first e at x row (a ∷ (b ∷ bs)) z y later first w t = absurd w.1
+    told_first e at x row (a ∷ []) z y [] first w t = absurd t
+    told_first e at x row (a ∷ []) z y (later ∷ (next ∷ rows)) first w t = absurd t.2
+    told_first e at x row (a ∷ []) z y (later ∷ []) first w t =
+        let there : ℕ → View = λ n. record { at = at; registry = x; mask = Some n } in
+        let told : a.told ≡ later.told = sym (ap (λ (r : Row (Filtered Identity F)). r.told) t.1.1) in
+        let heard = subst (Then (g.event_answers row.output.filter e (there row.id.index)) a.passed) told w.0.1 in (
+          (a.passed, inl (subst (λ n. g.answers row.output.filter e.metadata (there n) a.passed) first w.0.0), subst (λ n. Then (g.event_answers row.output.filter e (there n)) a.passed later.told) first heard),
+          ap (λ (r : Row (Filtered Identity F)). Some r.output.filter) t.1.1 ∙ ap (λ (r : Row (Filtered Identity F)). Some r.output.filter) w.0.2,
         )
 
     event_where : (e : PlainEvent) (at : At) (s t : OutputsValue (Filtered Identity F)) → Word g s → (one : IsOne h s.rows) → (c : Bool) → is_refused s e.metadata ≡ c → TellsUnless g h c e at s t →
@@ -167,7 +172,8 @@ module _ {F : Type 0} (g : Ghosts F) where
           rw rows (false, inr (refl, ahead s e.metadata at one.row one.one w r), refl),
           ap (λ rows. first_filter rows) rows,
         )
-    event_where e at s t w one false r given = told_first e at s.registry one.row t.registry t.rows one.first (subst (λ rows. EachInTurn (TellsEvent g h e at) s.registry rows t.registry t.rows) one.one given.0)
+    event_where e at s t w one false r (asked, marks, told) =
+        told_first e at s.registry one.row asked.rows asked.registry t.registry t.rows one.first (subst (λ rows. EachBecomes (AsksEventBy g g.answers e at s.registry) rows asked.rows) one.one marks.0) told.0
 
     -- whether the event passes, asked of the one filter, and that it stays
     pub event_may : (e : PlainEvent) (at : At) (s t : OutputsValue (Filtered Identity F)) (done : Unit {0}) → Word g s → numbers_of h s.rows ≡ 0 ∷ [] → EventCached g h e at s (Ok done) t →

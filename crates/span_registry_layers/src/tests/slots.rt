@@ -1,11 +1,18 @@
 // What a layer keeps with spans, from its hooks.
+ghost use Rattle.std.specs.Prelude.{◌==◌};
+ghost use Rattle.span_registry_layers.specs.Aside.{SameButKeys};
+ghost use Rattle.span_registry_layers.specs.Keys.{WritesUnderOne};
+ghost use Rattle.span_registry_layers.specs.Looks.{SameLoan, left};
+
 use super::*;
 use crate::{
-    Context, ExtensionsMut, Filtered, Layer, LayerExt, Output, OutputKey, Slot, Stack, Tag,
+    Context, ContextTest, DynFilterFn, Extensions, Filter, Filtered, Layer, LayerExt, Output,
+    OutputKey, Slot, Stack, Tag, layers_keep_to_keys,
 };
 use tracing_core::{Event, Interest, LevelFilter, Record, Subscriber, WeakDispatch};
 
-/// Counts, in a slot of each span that it sees, how often the span was entered, and keeps the count of the span that closed last.
+/// Counts, in a slot of each span that it sees, how often the span was entered and how many events stood in it, and keeps the
+/// count of the span that closed last.
 #[derive(Drop)]
 struct Entries {
     key: OutputKey,
@@ -13,10 +20,32 @@ struct Entries {
 }
 
 /// The number that an output keeps with a span, and 0 where it keeps none.
-fn kept(extensions: &ExtensionsMut<'_>, key: OutputKey) -> u64 {
+fn kept(extensions: &Extensions, key: OutputKey) -> u64 {
     match extensions.get(key, Tag::Number) {
         Some(Slot::Number(count)) => *count,
         _ => 0,
+    }
+}
+
+/// The id of the span that an event stands in.
+fn span_of(event: &Event<'_, '_>, context: &Context<'_>) -> Option<Id> {
+    match context.event_span(event) {
+        None => None,
+        Some(span) => Some(span.id()),
+    }
+}
+
+impl Entries {
+    /// One more of what it counts of a span.
+    fn count(&self, span: &Id, context: &mut Context<'_>)
+        ensures lent { SameLoan context.old context.new }
+        ensures own { SameButKeys (λ key. key == self.now.key.0) (left context.old) (left context.new) }
+    {
+        let key = self.key;
+        if let Some(extensions) = context.extensions_mut(span) {
+            let count = kept(extensions, key).saturating_add(1);
+            let _before = extensions.replace(key, Tag::Number, Slot::Number(count));
+        }
     }
 }
 
@@ -102,14 +131,14 @@ impl Layer for Entries {
         true
     }
 
-    fn on_event(&mut self, _event: &Event<'_, '_>, _context: &mut Context<'_>) {}
+    fn on_event(&mut self, event: &Event<'_, '_>, context: &mut Context<'_>) {
+        if let Some(span) = span_of(event, context) {
+            self.count(&span, context);
+        }
+    }
 
     fn on_enter(&mut self, span: &Id, context: &mut Context<'_>) {
-        let key = self.key;
-        if let Some(extensions) = context.extensions_mut(span) {
-            let count = kept(&extensions, key).saturating_add(1);
-            let _before = extensions.replace(key, Tag::Number, Slot::Number(count));
-        }
+        self.count(span, context);
     }
 
     fn on_exit(&mut self, _span: &Id, _context: &mut Context<'_>) {}
@@ -117,20 +146,25 @@ impl Layer for Entries {
     fn on_close(&mut self, span: &Id, context: &mut Context<'_>) {
         let key = self.key;
         if let Some(extensions) = context.extensions_mut(span) {
-            self.closed = kept(&extensions, key);
+            self.closed = kept(extensions, key);
         }
     }
 
     fn on_id_change(&mut self, _old: &Id, _new: &Id, _context: &mut Context<'_>) {}
 }
 
-type CountOutput = Filtered<Entries, LevelFilter>;
+/// It writes slots under its own key alone.
+fn keeps_to_its_key(entries: &Entries)
+    ensures { WritesUnderOne ⟦<Entries as Layer>⟧ entries.now entries.now.key.0 }
+{}
 
-/// Two outputs that pass WARN and DEBUG.
-fn counts_of(alloc: Global) -> Result<Stack<CountOutput>, Fail> {
+type CountOutput<F> = Filtered<Entries, F>;
+
+/// Two outputs, with these filters.
+fn counts_of<F: Filter>(alloc: Global, first: F, second: F) -> Result<Stack<CountOutput<F>>, Fail> {
     let mut outputs = Vec::new(alloc);
     let mut key = 0;
-    for level in [LevelFilter::WARN, LevelFilter::DEBUG] {
+    for filter in [first, second] {
         let entries = Entries {
             key: OutputKey(key),
             closed: 0,
@@ -138,13 +172,27 @@ fn counts_of(alloc: Global) -> Result<Stack<CountOutput>, Fail> {
         outputs
             .push(Output {
                 key: OutputKey(key),
-                output: Filtered::new(entries, level),
+                output: Filtered::new(entries, filter),
             })
             .ok()
             .ok_or("room")?;
         key = 1;
     }
     Ok(Stack::new(alloc, outputs).ok().ok_or("a stack")?)
+}
+
+/// A filter that passes nothing in a span of which the first output counted two or more.
+fn until_two(alloc: Global) -> Result<DynFilterFn, Fail> {
+    let test: ContextTest = Box::new(
+        alloc,
+        |_metadata: &Metadata<'_>, context: &Context<'_>| -> bool {
+            match context.lookup_current() {
+                None => true,
+                Some(span) => kept(span.extensions(), OutputKey(0)) < 2,
+            }
+        },
+    )?;
+    Ok(DynFilterFn::new(test))
 }
 
 /// Makes a span of this level, and enters and leaves it so often.
@@ -161,7 +209,7 @@ fn passed<S: Subscriber>(stack: &mut S, level: Level, times: u64) -> Result<Id, 
 }
 
 /// What an output's layer kept of the span that closed last.
-fn closed(stack: &Stack<CountOutput>, output: usize) -> u64 {
+fn closed(stack: &Stack<CountOutput<LevelFilter>>, output: usize) -> u64 {
     match stack.output(output) {
         None => 0,
         Some(output) => output.inner().closed,
@@ -170,11 +218,45 @@ fn closed(stack: &Stack<CountOutput>, output: usize) -> u64 {
 
 #[test]
 fn surface_slots_in_hooks(rt: HostRuntime) -> Result<(), Fail> {
-    let mut stack = counts_of(rt.alloc())?;
+    layers_keep_to_keys::<Entries, LevelFilter>();
+    keeps_to_its_key(&Entries {
+        key: OutputKey(0),
+        closed: 0,
+    });
+    let mut stack = counts_of(rt.alloc(), LevelFilter::WARN, LevelFilter::DEBUG)?;
     let loud = passed(&mut stack, Level::WARN, 3)?;
     let quiet = passed(&mut stack, Level::INFO, 2)?;
     assert!(rt; stack.try_close(loud, PLACE) && closed(&stack, 0) == 3 && closed(&stack, 1) == 3);
     assert!(rt; stack.try_close(quiet, PLACE) && closed(&stack, 0) == 3 && closed(&stack, 1) == 2);
+    Ok(())
+}
+
+/// Hands an event over, on lane 0.
+fn hand(stack: &mut Stack<CountOutput<DynFilterFn>>) -> Result<(), Fail> {
+    let fields = FieldSet::new(&NAMES, Identifier(7));
+    let metadata = Metadata::new(
+        "e",
+        "app",
+        Level::INFO,
+        None,
+        None,
+        None,
+        fields,
+        Kind::EVENT,
+    );
+    stack.event(&Event::new(&metadata, fields.value_set_all(&[])), PLACE)?;
+    Ok(())
+}
+
+#[test]
+fn filters_see_no_slots_of_the_same_event(rt: HostRuntime) -> Result<(), Fail> {
+    let mut stack = counts_of(rt.alloc(), until_two(rt.alloc())?, until_two(rt.alloc())?)?;
+    let span = passed(&mut stack, Level::INFO, 0)?;
+    stack.enter(&span, PLACE)?;
+    hand(&mut stack)?;
+    assert!(rt; stack.told(0) == Some(true) && stack.told(1) == Some(true));
+    hand(&mut stack)?;
+    assert!(rt; stack.told(0) == Some(false) && stack.told(1) == Some(false));
     Ok(())
 }
 

@@ -3,8 +3,9 @@ use super::layers::Counter;
 use super::*;
 use crate::{
     Filter, Filtered, LayerExt, MetadataTest, Output, OutputKey, Stack, StackError, StackRefusal,
-    dropped_events_tell_nobody, dropped_spans_tell_nobody, filter_fn, numbers_stay,
-    one_output_decides, registry_stands_alone, stack_registry_stays_sound, verdicts_are_own,
+    dropped_events_tell_nobody, dropped_spans_tell_nobody, filter_fn, layers_keep_to_keys,
+    numbers_stay, one_output_decides, registry_stands_alone, stack_registry_stays_sound,
+    verdicts_are_own,
 };
 use tracing_core::{CurrentSpan, DefaultCallsite, Event, Hub, LevelFilter, Record};
 
@@ -230,6 +231,7 @@ fn surface_laws_of_stacks(_rt: HostRuntime) {
     dropped_events_tell_nobody::<Counter, LevelFilter>();
     dropped_spans_tell_nobody::<Counter, LevelFilter>();
     numbers_stay::<Counter, LevelFilter>();
+    layers_keep_to_keys::<Counter, LevelFilter>();
     verdicts_are_own::<Counter, LevelFilter>();
     stack_registry_stays_sound::<Counter, LevelFilter>();
     registry_stands_alone::<Counter, LevelFilter>();

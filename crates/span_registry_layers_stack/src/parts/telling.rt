@@ -1,17 +1,33 @@
-//! Telling the outputs of a stack of its spans.
-ghost use Rattle.tracing_core.specs.PlainRequests.{plain_attributes, plain_record};
+//! Telling the outputs of a stack of events and spans.
+ghost use Rattle.tracing_core.specs.PlainRequests.{plain_attributes, plain_event, plain_record};
 ghost use Rattle.span_registry_layers_layers.specs.Looks.{Closed, Entered, Exited, Recorded, SpanMade};
 ghost use Rattle.span_registry_layers_stack.specs.Hearing.{TellsDispatch, TellsFollows, TellsMade, TellsSpan};
+ghost use Rattle.span_registry_layers_stack.specs.Rows.{AsksEvent, TellsEvent};
 ghost use Rattle.span_registry_layers_stack.specs.Stacks.{RowsBecome, RowsInTurn, plain_stack};
 
 use crate::parts::StackParts;
 use crate::rows::{
-    tell_close, tell_dispatch, tell_enter, tell_exit, tell_follows, tell_new_span, tell_record,
+    ask_event, tell_close, tell_dispatch, tell_enter, tell_event, tell_exit, tell_follows,
+    tell_new_span, tell_record,
 };
 use span_registry_layers_layers::{Filter, Filtered, Layer};
-use tracing_core::{At, Attributes, Id, Record, WeakDispatch};
+use tracing_core::{At, Attributes, Event, Id, Record, WeakDispatch};
 
 impl<L: Layer, F: Filter> StackParts<Filtered<L, F>> {
+    // Asks the outputs' own filters of the event, and marks what they answer.
+    pub(super) fn ask_event(&mut self, event: &Event<'_, '_>, at: At)
+        ensures { RowsBecome (AsksEvent ⟦<F as Filter>⟧ (plain_event event.now) at (plain_stack self.old).registry) (plain_stack self.old) (plain_stack self.new) }
+    {
+        ask_event(&mut self.rows, event, &mut self.registry, at);
+    }
+
+    // Tells each output whose filter passes it.
+    pub(super) fn tell_event(&mut self, event: &Event<'_, '_>, at: At)
+        ensures { RowsInTurn (TellsEvent ⟦<L as Layer>⟧ (plain_event event.now) at) (plain_stack self.old) (plain_stack self.new) }
+    {
+        tell_event(&mut self.rows, event, &mut self.registry, at);
+    }
+
     pub(super) fn tell_new_span(&mut self, attributes: &Attributes<'_, '_>, span: &Id, at: At)
         ensures { RowsInTurn (TellsMade ⟦<F as Filter>⟧ ⟦<L as Layer>⟧ (SpanMade (plain_attributes attributes.now) span.now) span.now at) (plain_stack self.old) (plain_stack self.new) }
     {

@@ -7,6 +7,6 @@ use Rattle.span_registry_layers_stack.proofs.rows.tell_event.Given as goal
 abbrev pub invariant-loop-row : goal.invariant-loop-row
 invariant-loop-row g l =
     record {
-      done : EachInTurn (TellsEvent g.F.Filter g.L.Layer (plain_event l.event) l.at) l.fn.registry (take l.row-index l.fn.rows) l.registry (take l.row-index l.rows);
+      done : EachInTurn (TellsEvent g.L.Layer (plain_event l.event) l.at) l.fn.registry (take l.row-index l.fn.rows) l.registry (take l.row-index l.rows);
       left : drop l.row-index l.rows ≡ drop l.row-index l.fn.rows;
     }
