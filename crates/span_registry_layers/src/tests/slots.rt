@@ -160,24 +160,31 @@ fn keeps_to_its_key(entries: &Entries)
 
 type CountOutput<F> = Filtered<Entries, F>;
 
+/// One more output, with this key and this filter.
+fn add<F: Filter>(
+    outputs: &mut Vec<Output<CountOutput<F>>>,
+    key: u32,
+    filter: F,
+) -> Result<(), Fail> {
+    let entries = Entries {
+        key: OutputKey(key),
+        closed: 0,
+    };
+    outputs
+        .push(Output {
+            key: OutputKey(key),
+            output: Filtered::new(entries, filter),
+        })
+        .ok()
+        .ok_or("room")?;
+    Ok(())
+}
+
 /// Two outputs, with these filters.
 fn counts_of<F: Filter>(alloc: Global, first: F, second: F) -> Result<Stack<CountOutput<F>>, Fail> {
     let mut outputs = Vec::new(alloc);
-    let mut key = 0;
-    for filter in [first, second] {
-        let entries = Entries {
-            key: OutputKey(key),
-            closed: 0,
-        };
-        outputs
-            .push(Output {
-                key: OutputKey(key),
-                output: Filtered::new(entries, filter),
-            })
-            .ok()
-            .ok_or("room")?;
-        key = 1;
-    }
+    add(&mut outputs, 0, first)?;
+    add(&mut outputs, 1, second)?;
     Ok(Stack::new(alloc, outputs).ok().ok_or("a stack")?)
 }
 
