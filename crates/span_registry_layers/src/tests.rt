@@ -2,10 +2,12 @@
 
 mod filters;
 mod layers;
+mod place;
 mod scopes;
 mod slots;
 mod stack;
 mod store;
+mod through;
 mod trees;
 mod words;
 

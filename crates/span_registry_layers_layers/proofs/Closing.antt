@@ -1,6 +1,6 @@
 -- The next span closes, after those who were told of it wrote slots.
 use Rattle.std.proofs.Common.{◌≡◌, ℕ, true, List, [], ◌∷◌, Option, Some, None, sym, ap, ◌∙◌}
-use Rattle.tracing_core.specs.At.{At}
+use Rattle.tracing_core_requests.specs.declared.at.At.{At}
 use Rattle.span_registry_layers_store.specs.Aside.{SameButSlots, bare, ids_of}
 use Rattle.span_registry_layers_store.specs.Gives.{ClosesNext, ForgetGives, IsNext}
 use Rattle.span_registry_layers_store.specs.Registries.{PlainSpan, RegistryValue, closing_in, swept}

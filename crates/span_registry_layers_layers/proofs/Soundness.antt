@@ -1,11 +1,11 @@
 -- Why the registry of a tree of layers stays sound.
 use Rattle.std.proofs.Common.{◌≡◌, ℕ, Bool, true, false, List, Option, Some, None, Result, Ok, Err, refl, sym, ap, subst}
-use Rattle.tracing_core.specs.At.{At}
-use Rattle.tracing_core.specs.Calls.{DispatchRegistered, CallsiteRegistered, Asked, HintAsked, SpanMade, Recorded, FollowsRecorded, EventAsked, Told, Entered, Exited, Cloned, Dropped, CloseTried, CurrentAsked}
-use Rattle.tracing_core.specs.Handles.{or_same}
-use Rattle.tracing_core.specs.PlainRequests.{PlainAttributes, PlainEvent, explicit_parent}
-use Rattle.tracing_core.specs.RequestError.{RequestError}
-use Rattle.tracing_core.specs.RequestError.TheVariants.{UnknownParent}
+use Rattle.tracing_core_requests.specs.declared.at.At.{At}
+use Rattle.tracing_core_requests.specs.Calls.{DispatchRegistered, CallsiteRegistered, Asked, HintAsked, SpanMade, Recorded, FollowsRecorded, EventAsked, Told, Entered, Exited, Cloned, Dropped, CloseTried, CurrentAsked}
+use Rattle.tracing_core_requests.specs.Refusals.{or_same}
+use Rattle.tracing_core_requests.specs.PlainRequests.{PlainAttributes, PlainEvent, explicit_parent}
+use Rattle.tracing_core_requests.specs.declared.refusal.RequestError.{RequestError}
+use Rattle.tracing_core_requests.specs.declared.refusal.RequestError.TheVariants.{UnknownParent}
 use Rattle.span_registry_layers_store.specs.Gives.{close_refusal}
 use Rattle.span_registry_layers_store.specs.Laws.{IsSound}
 use Rattle.span_registry_layers_store.specs.Aside.{SameButSlots}

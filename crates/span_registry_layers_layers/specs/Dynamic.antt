@@ -3,12 +3,12 @@ use Rattle.std.specs.Prelude.{◌≡◌, ◌<◌, ℕ, Bool, true, false, nat_lt
 use Rattle.std.specs.Borrow.{Bor}
 use Rattle.std.proofs.Common.{subst, sym, ◌∙◌, arith}
 use Rattle.std.proofs.lemmas.Bool.Decides.{nat_tests}
-use Rattle.tracing_core.specs.InterestInner.TheVariants.{Never, Sometimes}
-use Rattle.tracing_core.specs.Interests.{PlainInterest}
-use Rattle.tracing_core.specs.Metadata.{plain_metadata}
-use Rattle.tracing_core.specs.PlainMetadata.{PlainMetadata}
-use Rattle.tracing_core.specs.Steady.{HintFits, InterestFits}
-use Rattle.tracing_core.specs.declared.Metadata.{Metadata}
+use Rattle.tracing_core_requests.specs.declared.interest.InterestInner.TheVariants.{Never, Sometimes}
+use Rattle.tracing_core_requests.specs.Interests.{PlainInterest}
+use Rattle.tracing_core_fields.specs.Metadata.{plain_metadata}
+use Rattle.tracing_core_fields.specs.PlainMetadata.{PlainMetadata}
+use Rattle.tracing_core_requests.specs.Steady.{HintFits, InterestFits}
+use Rattle.tracing_core_fields.specs.declared.metadata.Metadata.{Metadata}
 use Rattle.span_registry_layers_layers.specs.Honesty.{Fair}
 use Rattle.span_registry_layers_layers.specs.Looks.{View, view}
 use Rattle.span_registry_layers_layers.specs.declared.context.Context.{Context}

@@ -1,8 +1,8 @@
 -- A layer below a filter keeps its word, its numbers and its keys, and writes slots under these alone.
 use Rattle.std.specs.Prelude.{◌≡◌, ◌&&◌, ℕ, Bool, true, false, List, Option, Some, None}
 use Rattle.std.proofs.Common.{sym, ap, subst, ◌∙◌}
-use Rattle.tracing_core.specs.InterestInner.TheVariants.{Always}
-use Rattle.tracing_core.specs.Steady.{SameWord}
+use Rattle.tracing_core_requests.specs.declared.interest.InterestInner.TheVariants.{Always}
+use Rattle.tracing_core_requests.specs.Steady.{SameWord}
 use Rattle.span_registry_layers_store.specs.Aside.{SameButKeys, keys_equal}
 use Rattle.span_registry_layers_store.specs.Registries.{RegistryValue}
 use Rattle.span_registry_layers_store.specs.declared.filter_map.FilterId.{FilterId}

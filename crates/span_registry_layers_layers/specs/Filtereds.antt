@@ -1,8 +1,8 @@
 -- A layer below a filter, which is told what that filter and all filters above it pass.
 use Rattle.std.specs.Prelude.{◌≡◌, ◌&&◌, ℕ, suc, Bool, true, false, List, ◌∷◌, Option, Some, None, Result, is_some}
 use Rattle.std.specs.Result.{result_ok}
-use Rattle.tracing_core.specs.PlainMetadata.{PlainMetadata}
-use Rattle.tracing_core.specs.PlainRequests.{PlainEvent}
+use Rattle.tracing_core_fields.specs.PlainMetadata.{PlainMetadata}
+use Rattle.tracing_core_requests.specs.PlainRequests.{PlainEvent}
 use Rattle.span_registry_layers_store.specs.Gives.{FilterGives}
 use Rattle.span_registry_layers_store.specs.Registries.{RegistryValue}
 use Rattle.span_registry_layers_store.specs.Verdicts.{passes_at}

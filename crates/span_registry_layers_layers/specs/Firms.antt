@@ -3,12 +3,12 @@ use Rattle.std.specs.Prelude.{◌≡◌, ◌<◌, ◌⊎◌, ℕ, Bool, true, fa
 use Rattle.std.specs.Borrow.{Bor}
 use Rattle.std.proofs.Common.{inl, inr, sym, ap, subst, ◌∙◌, arith, true≢false}
 use Rattle.std.proofs.lemmas.Bool.Decides.{nat_tests}
-use Rattle.tracing_core.specs.InterestInner.TheVariants.{Never, Sometimes, Always}
-use Rattle.tracing_core.specs.Interests.{PlainInterest}
-use Rattle.tracing_core.specs.Metadata.{plain_metadata}
-use Rattle.tracing_core.specs.PlainMetadata.{PlainMetadata}
-use Rattle.tracing_core.specs.Steady.{HintFits}
-use Rattle.tracing_core.specs.declared.Metadata.{Metadata}
+use Rattle.tracing_core_requests.specs.declared.interest.InterestInner.TheVariants.{Never, Sometimes, Always}
+use Rattle.tracing_core_requests.specs.Interests.{PlainInterest}
+use Rattle.tracing_core_fields.specs.Metadata.{plain_metadata}
+use Rattle.tracing_core_fields.specs.PlainMetadata.{PlainMetadata}
+use Rattle.tracing_core_requests.specs.Steady.{HintFits}
+use Rattle.tracing_core_fields.specs.declared.metadata.Metadata.{Metadata}
 use Rattle.span_registry_layers_layers.specs.Combined.{SaysOf, SaysTurned, both_hints, both_interests, either_hint, either_interest, kept_by, level_interest, turned_interest}
 use Rattle.span_registry_layers_layers.specs.Dynamic.{SaysIn, hinted_interest}
 use Rattle.span_registry_layers_layers.specs.Functions.{AnswersBy, IsDetermined, SaysBy}

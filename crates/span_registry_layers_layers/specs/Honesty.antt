@@ -1,10 +1,10 @@
 -- What it means that a filter keeps its word.
 use Rattle.std.specs.Prelude.{◌≡◌, ℕ, Bool, true, List, Option}
-use Rattle.tracing_core.specs.InterestInner.TheVariants.{Always}
-use Rattle.tracing_core.specs.Interests.{PlainInterest}
-use Rattle.tracing_core.specs.PlainMetadata.{PlainMetadata}
-use Rattle.tracing_core.specs.PlainRequests.{PlainEvent}
-use Rattle.tracing_core.specs.Steady.{HintFits, InterestFits}
+use Rattle.tracing_core_requests.specs.declared.interest.InterestInner.TheVariants.{Always}
+use Rattle.tracing_core_requests.specs.Interests.{PlainInterest}
+use Rattle.tracing_core_fields.specs.PlainMetadata.{PlainMetadata}
+use Rattle.tracing_core_requests.specs.PlainRequests.{PlainEvent}
+use Rattle.tracing_core_requests.specs.Steady.{HintFits, InterestFits}
 use Rattle.span_registry_layers_layers.specs.Looks.{View}
 
 -- in each place, what it says it always passes it passes, and what it never passes, or is above its hint, it refuses

@@ -1,10 +1,10 @@
 -- Two layers as one.
 use Rattle.std.specs.Prelude.{◌≡◌, ◌||◌, ◌++◌, ℕ, Bool, true, false, List, max, Option, Some, None, refl}
 use Rattle.std.proofs.Common.{sym, ap, ◌∙◌, subst, arith}
-use Rattle.tracing_core.specs.InterestInner.TheVariants.{Never, Sometimes, Always}
-use Rattle.tracing_core.specs.Interests.{PlainInterest}
-use Rattle.tracing_core.specs.PlainMetadata.{PlainMetadata}
-use Rattle.tracing_core.specs.Steady.{HintFits, InterestFits, SameWord}
+use Rattle.tracing_core_requests.specs.declared.interest.InterestInner.TheVariants.{Never, Sometimes, Always}
+use Rattle.tracing_core_requests.specs.Interests.{PlainInterest}
+use Rattle.tracing_core_fields.specs.PlainMetadata.{PlainMetadata}
+use Rattle.tracing_core_requests.specs.Steady.{HintFits, InterestFits, SameWord}
 use Rattle.span_registry_layers_store.specs.Aside.{SameButKeys, keys_then}
 use Rattle.span_registry_layers_store.specs.Registries.{RegistryValue}
 use Rattle.span_registry_layers_layers.specs.Combined.{Both, SaysOf, joined_word, then_passed, then_refused}

@@ -1,7 +1,7 @@
 -- What a filter may look at, as plain data, and the calls that may change it.
 use Rattle.std.specs.Prelude.{◌≡◌, ℕ, Option}
-use Rattle.tracing_core.specs.At.{At}
-use Rattle.tracing_core.specs.PlainRequests.{PlainAttributes, PlainValues}
+use Rattle.tracing_core_requests.specs.declared.at.At.{At}
+use Rattle.tracing_core_requests.specs.PlainRequests.{PlainAttributes, PlainValues}
 use Rattle.span_registry_layers_store.specs.Registries.{RegistryValue}
 use Rattle.span_registry_layers_store.specs.Views.{mask_of}
 use Rattle.span_registry_layers_layers.specs.declared.context.Context.{Context}

@@ -1,6 +1,6 @@
 -- What an output is told.
 use Rattle.std.specs.Prelude.{◌≡◌, ◌+◌, ℕ, Bool, Option}
-use Rattle.tracing_core.specs.PlainRequests.{PlainEvent}
+use Rattle.tracing_core_requests.specs.PlainRequests.{PlainEvent}
 use Rattle.span_registry_layers_store.specs.Aside.{SameButKeys, SameButSlots, keys_equal}
 use Rattle.span_registry_layers_store.specs.Registries.{RegistryValue}
 use Rattle.span_registry_layers_layers.specs.Looks.{Hook, View}

@@ -1,11 +1,11 @@
 -- A filter that may be absent: where it is, all passes.
 use Rattle.std.specs.Prelude.{◌≡◌, ℕ, Bool, true, Option, Some, None}
 use Rattle.std.proofs.Common.{sym, subst, ◌∙◌}
-use Rattle.tracing_core.specs.InterestInner.TheVariants.{Always}
-use Rattle.tracing_core.specs.Interests.{PlainInterest}
-use Rattle.tracing_core.specs.PlainMetadata.{PlainMetadata}
-use Rattle.tracing_core.specs.PlainRequests.{PlainEvent}
-use Rattle.tracing_core.specs.Steady.{InterestFits, SameWord}
+use Rattle.tracing_core_requests.specs.declared.interest.InterestInner.TheVariants.{Always}
+use Rattle.tracing_core_requests.specs.Interests.{PlainInterest}
+use Rattle.tracing_core_fields.specs.PlainMetadata.{PlainMetadata}
+use Rattle.tracing_core_requests.specs.PlainRequests.{PlainEvent}
+use Rattle.tracing_core_requests.specs.Steady.{InterestFits, SameWord}
 use Rattle.span_registry_layers_layers.specs.Combined.{same_word}
 use Rattle.span_registry_layers_layers.specs.Honesty.{Fair, Firm, Single}
 use Rattle.span_registry_layers_layers.specs.Looks.{Hook, View}

@@ -1,11 +1,11 @@
 -- Several layers as one: each is told, and where one refuses, nobody is.
 use Rattle.std.specs.Prelude.{◌≡◌, ◌||◌, ◌+◌, ◌++◌, ◌<◌, ◌≤◌, ℕ, Bool, true, false, List, [], ◌∷◌, Option, Some, None, refl}
 use Rattle.std.proofs.Common.{sym, ap, subst, ◌∙◌, arith, true≢false}
-use Rattle.tracing_core.specs.InterestInner.TheVariants.{Never, Sometimes, Always}
-use Rattle.tracing_core.specs.Interests.{PlainInterest}
-use Rattle.tracing_core.specs.PlainMetadata.{PlainMetadata}
-use Rattle.tracing_core.specs.PlainRequests.{PlainEvent}
-use Rattle.tracing_core.specs.Steady.{HintFits, InterestFits, SameWord}
+use Rattle.tracing_core_requests.specs.declared.interest.InterestInner.TheVariants.{Never, Sometimes, Always}
+use Rattle.tracing_core_requests.specs.Interests.{PlainInterest}
+use Rattle.tracing_core_fields.specs.PlainMetadata.{PlainMetadata}
+use Rattle.tracing_core_requests.specs.PlainRequests.{PlainEvent}
+use Rattle.tracing_core_requests.specs.Steady.{HintFits, InterestFits, SameWord}
 use Rattle.span_registry_layers_store.specs.Aside.{SameButKeys, keys_equal, keys_then}
 use Rattle.span_registry_layers_store.specs.Registries.{RegistryValue}
 use Rattle.span_registry_layers_layers.specs.Combined.{Both, either_hint, either_interest, then_passed}

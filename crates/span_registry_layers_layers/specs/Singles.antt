@@ -2,9 +2,9 @@
 use Rattle.std.specs.Prelude.{◌≡◌, ◌||◌, not, Bool, true, false, List}
 use Rattle.std.specs.Borrow.{Bor}
 use Rattle.std.proofs.Common.{sym, ap, subst, ◌∙◌}
-use Rattle.tracing_core.specs.PlainMetadata.{PlainMetadata}
-use Rattle.tracing_core.specs.PlainRequests.{PlainEvent}
-use Rattle.tracing_core.specs.declared.Metadata.{Metadata}
+use Rattle.tracing_core_fields.specs.PlainMetadata.{PlainMetadata}
+use Rattle.tracing_core_requests.specs.PlainRequests.{PlainEvent}
+use Rattle.tracing_core_fields.specs.declared.metadata.Metadata.{Metadata}
 use Rattle.span_registry_layers_layers.specs.Combined.{Both, Either, Else, Then, Turned}
 use Rattle.span_registry_layers_layers.specs.Dynamic.{AnswersIn, IsDeterminedIn}
 use Rattle.span_registry_layers_layers.specs.Functions.{AnswersBy, IsDetermined}

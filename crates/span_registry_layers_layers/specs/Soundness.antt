@@ -1,6 +1,6 @@
 -- The registry of a tree of layers stays sound.
 use Rattle.std.specs.Prelude.{Ok}
-use Rattle.tracing_core.specs.Calls.{Call, ReplyTo}
+use Rattle.tracing_core_requests.specs.Calls.{Call, ReplyTo}
 use Rattle.span_registry_layers_store.specs.Laws.{IsSound}
 use Rattle.span_registry_layers_store.specs.Registries.{RegistryValue}
 use Rattle.span_registry_layers_layers.specs.Trees.{AttachGives, IsAttached, JoinGives, Moves}

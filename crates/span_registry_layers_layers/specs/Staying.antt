@@ -1,15 +1,15 @@
 -- Calls of a tree keep the numbers of its filters, and the word of its layers.
 use Rattle.std.specs.Prelude.{◌≡◌, ◌≤◌, ℕ, Bool, true, false, List, [], ◌∷◌, Option, Some, None, Result, Ok, Err, refl}
 use Rattle.std.proofs.Common.{◌∙◌, sym, ap, subst}
-use Rattle.tracing_core.specs.At.{At}
-use Rattle.tracing_core.specs.Calls.{Call, ReplyTo, DispatchRegistered, CallsiteRegistered, Asked, HintAsked, SpanMade, Recorded, FollowsRecorded, EventAsked, Told, Entered, Exited, Cloned, Dropped, CloseTried, CurrentAsked}
-use Rattle.tracing_core.specs.Handles.{or_same}
-use Rattle.tracing_core.specs.InterestInner.TheVariants.{Sometimes, Always}
-use Rattle.tracing_core.specs.PlainMetadata.{PlainMetadata}
-use Rattle.tracing_core.specs.PlainRequests.{PlainAttributes, explicit_parent}
-use Rattle.tracing_core.specs.RequestError.{RequestError}
-use Rattle.tracing_core.specs.RequestError.TheVariants.{UnknownParent}
-use Rattle.tracing_core.specs.Steady.{Agrees, InterestFits, SameWord}
+use Rattle.tracing_core_requests.specs.declared.at.At.{At}
+use Rattle.tracing_core_requests.specs.Calls.{Call, ReplyTo, DispatchRegistered, CallsiteRegistered, Asked, HintAsked, SpanMade, Recorded, FollowsRecorded, EventAsked, Told, Entered, Exited, Cloned, Dropped, CloseTried, CurrentAsked}
+use Rattle.tracing_core_requests.specs.Refusals.{or_same}
+use Rattle.tracing_core_requests.specs.declared.interest.InterestInner.TheVariants.{Sometimes, Always}
+use Rattle.tracing_core_fields.specs.PlainMetadata.{PlainMetadata}
+use Rattle.tracing_core_requests.specs.PlainRequests.{PlainAttributes, explicit_parent}
+use Rattle.tracing_core_requests.specs.declared.refusal.RequestError.{RequestError}
+use Rattle.tracing_core_requests.specs.declared.refusal.RequestError.TheVariants.{UnknownParent}
+use Rattle.tracing_core_requests.specs.Steady.{Agrees, InterestFits, SameWord}
 use Rattle.span_registry_layers_store.specs.Gives.{GivesUnless, clone_refusal, close_refusal, open_refusal, span_refusal}
 use Rattle.span_registry_layers_store.specs.Aside.{SameButSlots, ids_of}
 use Rattle.span_registry_layers_store.specs.Registries.{RegistryValue, closing_in, knows, under, with_entry, with_handle, with_span, without_entry, without_handle}

@@ -1,15 +1,15 @@
 -- A tree of layers over a registry: each layer is told what all filters on the way down to it pass.
 use Rattle.std.specs.Prelude.{◌≡◌, ◌<◌, ◌≤◌, ◌+◌, ℕ, Bool, true, false, List, [], ◌∷◌, Option, Some, None, Result, Ok, Err}
-use Rattle.tracing_core.specs.At.{At}
-use Rattle.tracing_core.specs.Calls.{Call, ReplyTo, DispatchRegistered, CallsiteRegistered, Asked, HintAsked, SpanMade, Recorded, FollowsRecorded, EventAsked, Told, Entered, Exited, Cloned, Dropped, CloseTried, CurrentAsked}
-use Rattle.tracing_core.specs.CurrentSpan.{CurrentSpan}
-use Rattle.tracing_core.specs.CurrentSpan.TheVariants.{Inside, Outside}
-use Rattle.tracing_core.specs.Handles.{or_refused}
-use Rattle.tracing_core.specs.InterestInner.TheVariants.{Sometimes}
-use Rattle.tracing_core.specs.PlainMetadata.{PlainMetadata}
-use Rattle.tracing_core.specs.PlainRequests.{PlainAttributes, PlainEvent, PlainValues, explicit_parent}
-use Rattle.tracing_core.specs.RequestError.{RequestError}
-use Rattle.tracing_core.specs.RequestError.TheVariants.{UnknownParent}
+use Rattle.tracing_core_requests.specs.declared.at.At.{At}
+use Rattle.tracing_core_requests.specs.Calls.{Call, ReplyTo, DispatchRegistered, CallsiteRegistered, Asked, HintAsked, SpanMade, Recorded, FollowsRecorded, EventAsked, Told, Entered, Exited, Cloned, Dropped, CloseTried, CurrentAsked}
+use Rattle.tracing_core_requests.specs.declared.current_span.CurrentSpan.{CurrentSpan}
+use Rattle.tracing_core_requests.specs.declared.current_span.CurrentSpan.TheVariants.{Inside, Outside}
+use Rattle.tracing_core_requests.specs.Refusals.{or_refused}
+use Rattle.tracing_core_requests.specs.declared.interest.InterestInner.TheVariants.{Sometimes}
+use Rattle.tracing_core_fields.specs.PlainMetadata.{PlainMetadata}
+use Rattle.tracing_core_requests.specs.PlainRequests.{PlainAttributes, PlainEvent, PlainValues, explicit_parent}
+use Rattle.tracing_core_requests.specs.declared.refusal.RequestError.{RequestError}
+use Rattle.tracing_core_requests.specs.declared.refusal.RequestError.TheVariants.{UnknownParent}
 use Rattle.span_registry_layers_store.specs.Gives.{ClosesNext, EntryGives, IsSettled, SpanGives, clone_gives, close_refusal, follow_refusal, is_closed, open_refusal}
 use Rattle.span_registry_layers_store.specs.Aside.{SameButSlots, ids_of}
 use Rattle.span_registry_layers_store.specs.Registries.{RegistryValue, closing_in, current_on, knows, swept, without_entry, without_handle}

@@ -1,8 +1,8 @@
 //! Layers over a registry, as a subscriber.
 ghost use Rattle.std.specs.Prelude.{◌≡◌, ◌≤◌, ◌+◌, nat_le, true};
 ghost use Rattle.std.specs.Option.{option_copied};
-ghost use Rattle.tracing_core.specs.Metadata.{plain_metadata};
-ghost use Rattle.tracing_core.specs.PlainRequests.{plain_attributes, plain_event, plain_record};
+ghost use Rattle.tracing_core_fields.specs.Metadata.{plain_metadata};
+ghost use Rattle.tracing_core_requests.specs.PlainRequests.{plain_attributes, plain_event, plain_record};
 ghost use Rattle.span_registry_layers_store.specs.Registries.{knows, without_entry};
 ghost use Rattle.span_registry_layers_layers.specs.Combined.{Both};
 ghost use Rattle.span_registry_layers_layers.specs.Looks.{Exited};
@@ -16,7 +16,8 @@ use crate::context::Context;
 use crate::layer::{Layer, Layered};
 use span_registry_layers_store::{FilterMap, Registry};
 use thiserror::Error;
-use tracing_core::{At, Attributes, Event, Id, Metadata, Record, RequestError};
+use tracing_core_fields::{Id, Metadata};
+use tracing_core_requests::{At, Attributes, Event, Record, RequestError};
 
 /// A registry has at most 64 filters, and so has no room for those of a layer. Both parts are as they were.
 #[derive(Debug, Drop, Error)]

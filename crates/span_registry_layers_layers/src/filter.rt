@@ -1,10 +1,10 @@
 //! What decides which spans and events an output is told.
 ghost use Rattle.std.specs.Prelude.{◌≡◌, ℕ, Bool, Option};
-ghost use Rattle.tracing_core.specs.Interests.{PlainInterest};
-ghost use Rattle.tracing_core.specs.Metadata.{plain_metadata};
-ghost use Rattle.tracing_core.specs.PlainMetadata.{PlainMetadata};
-ghost use Rattle.tracing_core.specs.PlainRequests.{PlainEvent, plain_attributes, plain_event, plain_record};
-ghost use Rattle.tracing_core.specs.Steady.{SameWord};
+ghost use Rattle.tracing_core_requests.specs.Interests.{PlainInterest};
+ghost use Rattle.tracing_core_fields.specs.Metadata.{plain_metadata};
+ghost use Rattle.tracing_core_fields.specs.PlainMetadata.{PlainMetadata};
+ghost use Rattle.tracing_core_requests.specs.PlainRequests.{PlainEvent, plain_attributes, plain_event, plain_record};
+ghost use Rattle.tracing_core_requests.specs.Steady.{SameWord};
 ghost use Rattle.span_registry_layers_layers.specs.Honesty.{Fair, Firm, Single};
 ghost use Rattle.span_registry_layers_layers.specs.Looks.{Closed, Entered, Exited, Hook, Recorded, SpanMade, View, view};
 
@@ -22,7 +22,8 @@ pub(crate) use combined::{either_hint, either_interest};
 pub use dynamic::{CallsiteTest, ContextTest, DynFilterFn, dynamic_filter_fn};
 pub use ext::FilterExt;
 pub use function::{FilterFn, MetadataTest, filter_fn};
-use tracing_core::{Attributes, Event, Id, Interest, LevelFilter, Metadata, Record};
+use tracing_core_fields::{Id, LevelFilter, Metadata};
+use tracing_core_requests::{Attributes, Event, Interest, Record};
 
 /// Decides which spans and events an output is told.
 ///

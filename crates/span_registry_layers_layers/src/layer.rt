@@ -1,10 +1,10 @@
 //! What an output does with what it is told.
 ghost use Rattle.std.specs.Prelude.{◌≡◌, ◌≤◌, ◌+◌, ℕ, Bool, false, List, [], Option, length};
-ghost use Rattle.tracing_core.specs.Interests.{PlainInterest};
-ghost use Rattle.tracing_core.specs.Metadata.{plain_metadata};
-ghost use Rattle.tracing_core.specs.PlainMetadata.{PlainMetadata};
-ghost use Rattle.tracing_core.specs.PlainRequests.{PlainEvent, plain_attributes, plain_event, plain_record};
-ghost use Rattle.tracing_core.specs.Steady.{SameWord};
+ghost use Rattle.tracing_core_requests.specs.Interests.{PlainInterest};
+ghost use Rattle.tracing_core_fields.specs.Metadata.{plain_metadata};
+ghost use Rattle.tracing_core_fields.specs.PlainMetadata.{PlainMetadata};
+ghost use Rattle.tracing_core_requests.specs.PlainRequests.{PlainEvent, plain_attributes, plain_event, plain_record};
+ghost use Rattle.tracing_core_requests.specs.Steady.{SameWord};
 ghost use Rattle.span_registry_layers_layers.specs.Honesty.{Fair, OneAnswer};
 ghost use Rattle.span_registry_layers_layers.specs.Looks.{Closed, Entered, Exited, Recorded, SameLoan, SpanMade, View, left, view};
 ghost use Rattle.span_registry_layers_layers.specs.Notices.{AddsFilters, Attached, Dispatched, Followed, Happened, Notice, Renamed, Spanned, WritesUnder};
@@ -26,7 +26,8 @@ pub use ext::{LayerExt, SubscriberExt};
 pub use identity::Identity;
 pub use layered::Layered;
 use span_registry_layers_store::{FilterMap, Registry};
-use tracing_core::{Attributes, Event, Id, Interest, LevelFilter, Metadata, Record, WeakDispatch};
+use tracing_core_fields::{Id, LevelFilter, Metadata};
+use tracing_core_requests::{Attributes, Event, Interest, Record, WeakDispatch};
 
 /// What an output does with the spans and events that it is told.
 ///

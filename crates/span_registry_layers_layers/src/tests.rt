@@ -5,7 +5,8 @@ mod trees;
 use crate::{And, Context, Filter, FilterFn, MetadataTest, Not, Or, filter_fn};
 use span_registry_layers_store::Registry;
 use std::test::Fail;
-use tracing_core::{At, FieldSet, Identifier, Interest, Kind, Level, LevelFilter, Metadata};
+use tracing_core_fields::{FieldSet, Identifier, Kind, Level, LevelFilter, Metadata};
+use tracing_core_requests::{At, Interest};
 
 const NAMES: [&str; 1] = ["n"];
 

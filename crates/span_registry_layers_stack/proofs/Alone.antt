@@ -1,11 +1,11 @@
 -- Why outputs have no say in what calls leave of the registry.
 use Rattle.std.proofs.Common.{◌≡◌, ℕ, Bool, true, false, not, List, Option, Some, None, Result, Ok, Err, refl, sym, ap, ◌∙◌, subst}
-use Rattle.tracing_core.specs.At.{At}
-use Rattle.tracing_core.specs.Calls.{Call, ReplyTo, DispatchRegistered, CallsiteRegistered, Asked, HintAsked, SpanMade, Recorded, FollowsRecorded, EventAsked, Told, Entered, Exited, Cloned, Dropped, CloseTried, CurrentAsked}
-use Rattle.tracing_core.specs.Handles.{or_refused, or_same}
-use Rattle.tracing_core.specs.PlainRequests.{PlainAttributes, PlainEvent, explicit_parent}
-use Rattle.tracing_core.specs.RequestError.{RequestError}
-use Rattle.tracing_core.specs.RequestError.TheVariants.{UnknownParent}
+use Rattle.tracing_core_requests.specs.declared.at.At.{At}
+use Rattle.tracing_core_requests.specs.Calls.{Call, ReplyTo, DispatchRegistered, CallsiteRegistered, Asked, HintAsked, SpanMade, Recorded, FollowsRecorded, EventAsked, Told, Entered, Exited, Cloned, Dropped, CloseTried, CurrentAsked}
+use Rattle.tracing_core_requests.specs.Refusals.{or_refused, or_same}
+use Rattle.tracing_core_requests.specs.PlainRequests.{PlainAttributes, PlainEvent, explicit_parent}
+use Rattle.tracing_core_requests.specs.declared.refusal.RequestError.{RequestError}
+use Rattle.tracing_core_requests.specs.declared.refusal.RequestError.TheVariants.{UnknownParent}
 use Rattle.span_registry_layers_store.specs.Aside.{SameButSlots}
 use Rattle.span_registry_layers_store.specs.Gives.{EntryGives, GivesUnless, SpanGives, close_refusal, first, is_closed, open_refusal, when}
 use Rattle.span_registry_layers_store.specs.Registries.{RegistryValue, knows, swept, without_entry, without_handle}

@@ -1,6 +1,6 @@
 -- Spans that close, one after the other.
 use Rattle.std.proofs.Common.{◌≡◌, ℕ, true, List, ◌∷◌, Option, refl, sym, subst}
-use Rattle.tracing_core.specs.At.{At}
+use Rattle.tracing_core_requests.specs.declared.at.At.{At}
 use Rattle.span_registry_layers_store.specs.Gives.{ClosesNext, ForgetGives, IsNext}
 use Rattle.span_registry_layers_store.specs.Aside.{SameButSlots, ids_of}
 use Rattle.span_registry_layers_store.specs.Registries.{RegistryValue, closing_in, without_entry}

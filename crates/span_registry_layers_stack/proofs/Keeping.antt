@@ -1,8 +1,8 @@
 -- Keeping interests of callsites.
 use Rattle.std.proofs.Common.{◌≡◌, true, List, [], ◌∷◌, map, refl, ap, ◌∙◌, subst, sym}
 use Rattle.std.specs.List.{list_any}
-use Rattle.tracing_core.specs.Interests.{PlainInterest}
-use Rattle.tracing_core.specs.PlainMetadata.{PlainMetadata}
+use Rattle.tracing_core_requests.specs.Interests.{PlainInterest}
+use Rattle.tracing_core_fields.specs.PlainMetadata.{PlainMetadata}
 use Rattle.span_registry_layers_stack.specs.Rows.{EachBecomes}
 use Rattle.span_registry_layers_stack.specs.Sites.{Keeps, KeepsIf, Renews, is_of, plain_site, renewed}
 use Rattle.span_registry_layers_stack.specs.declared.site.Site.{Site}

@@ -1,8 +1,8 @@
 -- Making spans.
 use Rattle.std.proofs.Common.{◌≡◌, ℕ, Bool, true, false, List, Option, None, Result, Ok, refl, sym, subst}
-use Rattle.tracing_core.specs.At.{At}
-use Rattle.tracing_core.specs.PlainRequests.{PlainAttributes, explicit_parent}
-use Rattle.tracing_core.specs.RequestError.{RequestError}
+use Rattle.tracing_core_requests.specs.declared.at.At.{At}
+use Rattle.tracing_core_requests.specs.PlainRequests.{PlainAttributes, explicit_parent}
+use Rattle.tracing_core_requests.specs.declared.refusal.RequestError.{RequestError}
 use Rattle.span_registry_layers_store.specs.Registries.{knows}
 use Rattle.span_registry_layers_layers.specs.declared.filter.Filter.{Ghosts}
 use Rattle.span_registry_layers_layers.specs.declared.filtered.Filtered.{Filtered}

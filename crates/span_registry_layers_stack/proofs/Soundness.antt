@@ -1,8 +1,8 @@
 -- Why the registry of a stack stays sound.
 use Rattle.std.proofs.Common.{◌≡◌, ℕ, List, Option, Some, None, Result, Ok, Err, refl, sym, ap, subst}
-use Rattle.tracing_core.specs.Calls.{Call, ReplyTo, DispatchRegistered, CallsiteRegistered, Asked, HintAsked, SpanMade, Recorded, FollowsRecorded, EventAsked, Told, Entered, Exited, Cloned, Dropped, CloseTried, CurrentAsked}
-use Rattle.tracing_core.specs.PlainRequests.{PlainAttributes}
-use Rattle.tracing_core.specs.RequestError.{RequestError}
+use Rattle.tracing_core_requests.specs.Calls.{Call, ReplyTo, DispatchRegistered, CallsiteRegistered, Asked, HintAsked, SpanMade, Recorded, FollowsRecorded, EventAsked, Told, Entered, Exited, Cloned, Dropped, CloseTried, CurrentAsked}
+use Rattle.tracing_core_requests.specs.PlainRequests.{PlainAttributes}
+use Rattle.tracing_core_requests.specs.declared.refusal.RequestError.{RequestError}
 use Rattle.span_registry_layers_store.specs.Laws.{IsSound}
 use Rattle.span_registry_layers_store.specs.Registries.{RegistryValue}
 use Rattle.span_registry_layers_store.proofs.Aside.{aside_sound}

@@ -2,7 +2,7 @@
 use Rattle.std.proofs.Common.{◌≡◌, ◌≤◌, ◌+◌, ◌-◌, ◌++◌, ℕ, suc, Bool, true, false, nat_le, nat_eq, if◌then◌else◌, length, [], ◌∷◌, refl, ap, ◌∙◌, arith, List, Option, Some, None, Result, Ok, Err, IfOk, sym, subst}
 use Rattle.std.proofs.lemmas.Bool.Decides.{nat_tests}
 use Rattle.std.proofs.lemmas.List.{append-nil}
-use Rattle.tracing_core.specs.Kept.{Every}
+use Rattle.tracing_core_requests.specs.Lists.{Every}
 use Rattle.span_registry_layers_store.specs.Registries.{RegistryValue, new_registry}
 use Rattle.span_registry_layers_layers.specs.Numbering.{AreNumbers, more_filters, numbers_from, room_after}
 use Rattle.span_registry_layers_layers.specs.declared.filter.Filter.{Ghosts}

@@ -1,7 +1,7 @@
 -- An event that outputs are told of.
 use Rattle.std.proofs.Common.{◌≡◌, true, false, refl, sym, subst, Ok}
-use Rattle.tracing_core.specs.At.{At}
-use Rattle.tracing_core.specs.PlainRequests.{PlainEvent, explicit_parent}
+use Rattle.tracing_core_requests.specs.declared.at.At.{At}
+use Rattle.tracing_core_requests.specs.PlainRequests.{PlainEvent, explicit_parent}
 use Rattle.span_registry_layers_store.specs.Registries.{knows}
 use Rattle.span_registry_layers_layers.specs.declared.filter.Filter.{Ghosts}
 use Rattle.span_registry_layers_layers.specs.declared.filtered.Filtered.{Filtered}

@@ -1,10 +1,10 @@
 -- What a call leaves of a stack's registry is what the registry's own call leaves: outputs have no say in it but whether a span is made, its verdicts, and slots.
 use Rattle.std.specs.Prelude.{◌≡◌, ℕ, Bool, true, false, Option, Some, None, Result, Ok, Err, List}
-use Rattle.tracing_core.specs.Calls.{Call, ReplyTo, DispatchRegistered, CallsiteRegistered, Asked, HintAsked, SpanMade, Recorded, FollowsRecorded, EventAsked, Told, Entered, Exited, Cloned, Dropped, CloseTried, CurrentAsked}
-use Rattle.tracing_core.specs.Handles.{or_refused}
-use Rattle.tracing_core.specs.PlainRequests.{PlainAttributes, explicit_parent}
-use Rattle.tracing_core.specs.RequestError.{RequestError}
-use Rattle.tracing_core.specs.RequestError.TheVariants.{UnknownParent}
+use Rattle.tracing_core_requests.specs.Calls.{Call, ReplyTo, DispatchRegistered, CallsiteRegistered, Asked, HintAsked, SpanMade, Recorded, FollowsRecorded, EventAsked, Told, Entered, Exited, Cloned, Dropped, CloseTried, CurrentAsked}
+use Rattle.tracing_core_requests.specs.Refusals.{or_refused}
+use Rattle.tracing_core_requests.specs.PlainRequests.{PlainAttributes, explicit_parent}
+use Rattle.tracing_core_requests.specs.declared.refusal.RequestError.{RequestError}
+use Rattle.tracing_core_requests.specs.declared.refusal.RequestError.TheVariants.{UnknownParent}
 use Rattle.span_registry_layers_store.specs.Aside.{SameButSlots}
 use Rattle.span_registry_layers_store.specs.Gives.{EntryGives, SpanGives, clone_gives, close_gives, follow_refusal, open_refusal}
 use Rattle.span_registry_layers_store.specs.Registries.{RegistryValue, current_on, knows, swept, without_entry}

@@ -1,9 +1,8 @@
 -- What is asked of all filters, afresh.
 use Rattle.std.specs.Prelude.{◌≡◌, ◌||◌, ℕ, max, Bool, false, List, [], ◌∷◌, length, Option, Some, None, slice_set}
-use Rattle.tracing_core.specs.Asking.{joined, settled}
-use Rattle.tracing_core.specs.At.{At}
-use Rattle.tracing_core.specs.Interests.{PlainInterest}
-use Rattle.tracing_core.specs.PlainMetadata.{PlainMetadata}
+use Rattle.tracing_core_requests.specs.Interests.{joined, settled, PlainInterest}
+use Rattle.tracing_core_requests.specs.declared.at.At.{At}
+use Rattle.tracing_core_fields.specs.PlainMetadata.{PlainMetadata}
 use Rattle.span_registry_layers_store.specs.Registries.{RegistryValue}
 use Rattle.span_registry_layers_layers.specs.Combined.{Either}
 use Rattle.span_registry_layers_layers.specs.Looks.{View}

@@ -2,14 +2,14 @@
 use Rattle.std.specs.Prelude.{◌≡◌, ◌||◌, ◌&&◌, ◌⊎◌, ℕ, Bool, true, false, List, [], ◌∷◌, map, Option, Some, None, Result, refl}
 use Rattle.std.specs.List.{list_any}
 use Rattle.std.proofs.Common.{inl, inr, ap, sym, ◌∙◌, subst, arith}
-use Rattle.tracing_core.specs.At.{At}
-use Rattle.tracing_core.specs.Interests.{PlainInterest, says_never}
-use Rattle.tracing_core.specs.InterestInner.TheVariants.{Never, Sometimes, Always}
-use Rattle.tracing_core.specs.Kept.{Covers, Every}
-use Rattle.tracing_core.specs.PlainMetadata.{PlainMetadata, is_same_metadata-decides}
-use Rattle.tracing_core.specs.PlainRequests.{PlainAttributes, PlainEvent, explicit_parent}
-use Rattle.tracing_core.specs.RequestError.{RequestError}
-use Rattle.tracing_core.specs.Steady.{HintFits, InterestFits}
+use Rattle.tracing_core_requests.specs.declared.at.At.{At}
+use Rattle.tracing_core_requests.specs.Interests.{PlainInterest, says_never, Covers}
+use Rattle.tracing_core_requests.specs.declared.interest.InterestInner.TheVariants.{Never, Sometimes, Always}
+use Rattle.tracing_core_requests.specs.Lists.{Every}
+use Rattle.tracing_core_fields.specs.PlainMetadata.{PlainMetadata, is_same_metadata-decides}
+use Rattle.tracing_core_requests.specs.PlainRequests.{PlainAttributes, PlainEvent, explicit_parent}
+use Rattle.tracing_core_requests.specs.declared.refusal.RequestError.{RequestError}
+use Rattle.tracing_core_requests.specs.Steady.{HintFits, InterestFits}
 use Rattle.span_registry_layers_store.specs.Registries.{RegistryValue, knows}
 use Rattle.span_registry_layers_store.specs.Verdicts.{all_pass}
 use Rattle.span_registry_layers_layers.specs.Combined.{Else}

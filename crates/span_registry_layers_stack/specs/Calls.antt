@@ -1,14 +1,14 @@
 -- What calls on spans answer, and leave of a stack.
 use Rattle.std.specs.Prelude.{◌≡◌, ◌⊎◌, ℕ, Bool, true, false, List, ◌∷◌, Option, Some, None, Result, Ok, Err}
-use Rattle.tracing_core.specs.At.{At}
-use Rattle.tracing_core.specs.CurrentSpan.{CurrentSpan}
-use Rattle.tracing_core.specs.CurrentSpan.TheVariants.{Outside, Inside}
-use Rattle.tracing_core.specs.Handles.{or_refused}
-use Rattle.tracing_core.specs.Kept.{Every}
-use Rattle.tracing_core.specs.PlainMetadata.{PlainMetadata}
-use Rattle.tracing_core.specs.PlainRequests.{PlainAttributes, PlainValues, explicit_parent}
-use Rattle.tracing_core.specs.RequestError.{RequestError}
-use Rattle.tracing_core.specs.RequestError.TheVariants.{UnknownParent}
+use Rattle.tracing_core_requests.specs.declared.at.At.{At}
+use Rattle.tracing_core_requests.specs.declared.current_span.CurrentSpan.{CurrentSpan}
+use Rattle.tracing_core_requests.specs.declared.current_span.CurrentSpan.TheVariants.{Outside, Inside}
+use Rattle.tracing_core_requests.specs.Refusals.{or_refused}
+use Rattle.tracing_core_requests.specs.Lists.{Every}
+use Rattle.tracing_core_fields.specs.PlainMetadata.{PlainMetadata}
+use Rattle.tracing_core_requests.specs.PlainRequests.{PlainAttributes, PlainValues, explicit_parent}
+use Rattle.tracing_core_requests.specs.declared.refusal.RequestError.{RequestError}
+use Rattle.tracing_core_requests.specs.declared.refusal.RequestError.TheVariants.{UnknownParent}
 use Rattle.span_registry_layers_store.specs.Gives.{ClosesNext, EntryGives, IsSettled, SpanGives, clone_gives, close_refusal, follow_refusal, is_closed, open_refusal}
 use Rattle.span_registry_layers_store.specs.Aside.{SameButSlots, ids_of}
 use Rattle.span_registry_layers_store.specs.Registries.{RegistryValue, closing_in, current_on, knows, swept, without_entry, without_handle}

@@ -1,6 +1,6 @@
 -- What outputs are told of spans.
 use Rattle.std.specs.Prelude.{◌≡◌, ◌&&◌, ℕ, Bool, true, false, List, [], ◌∷◌, Option, Some, is_some}
-use Rattle.tracing_core.specs.At.{At}
+use Rattle.tracing_core_requests.specs.declared.at.At.{At}
 use Rattle.span_registry_layers_store.specs.Gives.{ClosesNext}
 use Rattle.span_registry_layers_store.specs.Registries.{RegistryValue}
 use Rattle.span_registry_layers_store.specs.Views.{seen}

@@ -1,9 +1,9 @@
 -- Layers that write slots under the key of their own output alone.
 use Rattle.std.specs.Prelude.{◌≡◌, ◌==◌, ℕ, true, List, map}
-use Rattle.tracing_core.specs.At.{At}
-use Rattle.tracing_core.specs.Calls.{Call, ReplyTo}
-use Rattle.tracing_core.specs.Kept.{Every}
-use Rattle.tracing_core.specs.PlainRequests.{PlainEvent}
+use Rattle.tracing_core_requests.specs.declared.at.At.{At}
+use Rattle.tracing_core_requests.specs.Calls.{Call, ReplyTo}
+use Rattle.tracing_core_requests.specs.Lists.{Every}
+use Rattle.tracing_core_requests.specs.PlainRequests.{PlainEvent}
 use Rattle.span_registry_layers_store.specs.Aside.{SameButKeys}
 use Rattle.span_registry_layers_store.specs.Registries.{RegistryValue}
 use Rattle.span_registry_layers_layers.specs.Looks.{Hook, View}

@@ -1,6 +1,6 @@
 -- What a call of a stack may answer and leave.
 use Rattle.std.specs.Prelude.{◌≡◌, Bool, true, Some}
-use Rattle.tracing_core.specs.Calls.{Call, ReplyTo, DispatchRegistered, CallsiteRegistered, Asked, HintAsked, SpanMade, Recorded, FollowsRecorded, EventAsked, Told, Entered, Exited, Cloned, Dropped, CloseTried, CurrentAsked}
+use Rattle.tracing_core_requests.specs.Calls.{Call, ReplyTo, DispatchRegistered, CallsiteRegistered, Asked, HintAsked, SpanMade, Recorded, FollowsRecorded, EventAsked, Told, Entered, Exited, Cloned, Dropped, CloseTried, CurrentAsked}
 use Rattle.span_registry_layers_layers.specs.declared.filter.Filter.{Ghosts}
 use Rattle.span_registry_layers_layers.specs.declared.filtered.Filtered.{Filtered}
 use Rattle.span_registry_layers_layers.specs.declared.layer.Layer.{Ghosts as LayerGhosts}

@@ -1,11 +1,11 @@
 -- Each filter of a stack has a number of its own, so that what is kept with a span tells of each.
 use Rattle.std.specs.Prelude.{◌≡◌, ◌⊎◌, ℕ, Bool, true, false, List, [], ◌∷◌, Option, None, Result, Ok}
-use Rattle.tracing_core.specs.At.{At}
-use Rattle.tracing_core.specs.Calls.{Call, ReplyTo}
-use Rattle.tracing_core.specs.Kept.{Every}
-use Rattle.tracing_core.specs.PlainMetadata.{PlainMetadata}
-use Rattle.tracing_core.specs.PlainRequests.{PlainAttributes, PlainEvent, explicit_parent}
-use Rattle.tracing_core.specs.RequestError.{RequestError}
+use Rattle.tracing_core_requests.specs.declared.at.At.{At}
+use Rattle.tracing_core_requests.specs.Calls.{Call, ReplyTo}
+use Rattle.tracing_core_requests.specs.Lists.{Every}
+use Rattle.tracing_core_fields.specs.PlainMetadata.{PlainMetadata}
+use Rattle.tracing_core_requests.specs.PlainRequests.{PlainAttributes, PlainEvent, explicit_parent}
+use Rattle.tracing_core_requests.specs.declared.refusal.RequestError.{RequestError}
 use Rattle.span_registry_layers_store.specs.Registries.{RegistryValue, knows}
 use Rattle.span_registry_layers_store.specs.Verdicts.{all_pass, passes_at}
 use Rattle.span_registry_layers_layers.specs.Numbering.{AreNumbers}

@@ -1,8 +1,8 @@
 -- What is kept of callsites.
 use Rattle.std.specs.Prelude.{◌≡◌, ◌&&◌, ◌⊎◌, ◌++◌, Bool, true, false, List, [], ◌∷◌, map, if◌then◌else◌}
 use Rattle.std.specs.List.{list_any}
-use Rattle.tracing_core.specs.Interests.{PlainInterest, says_never}
-use Rattle.tracing_core.specs.PlainMetadata.{PlainMetadata, is_same_metadata}
+use Rattle.tracing_core_requests.specs.Interests.{PlainInterest, says_never}
+use Rattle.tracing_core_fields.specs.PlainMetadata.{PlainMetadata, is_same_metadata}
 use Rattle.span_registry_layers_store.specs.OwnedMetadatas.{owned_plain}
 use Rattle.span_registry_layers_stack.specs.declared.site.Site.{Site}
 

@@ -1,6 +1,6 @@
 -- The registry of a stack stays sound.
 use Rattle.std.specs.Prelude.{List}
-use Rattle.tracing_core.specs.Calls.{Call, ReplyTo}
+use Rattle.tracing_core_requests.specs.Calls.{Call, ReplyTo}
 use Rattle.span_registry_layers_store.specs.Laws.{IsSound}
 use Rattle.span_registry_layers_layers.specs.declared.filter.Filter.{Ghosts}
 use Rattle.span_registry_layers_layers.specs.declared.filtered.Filtered.{Filtered}

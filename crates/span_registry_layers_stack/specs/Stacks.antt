@@ -1,12 +1,12 @@
 -- A stack as a value, and what an event leaves of it.
 use Rattle.std.specs.Prelude.{◌≡◌, ◌||◌, ℕ, nat_lt, Bool, true, false, List, map, Option, Some, None, Result, Ok, Err}
 use Rattle.std.specs.List.{list_any}
-use Rattle.tracing_core.specs.At.{At}
-use Rattle.tracing_core.specs.Interests.{PlainInterest}
-use Rattle.tracing_core.specs.PlainMetadata.{PlainMetadata}
-use Rattle.tracing_core.specs.PlainRequests.{PlainEvent, explicit_parent}
-use Rattle.tracing_core.specs.RequestError.{RequestError}
-use Rattle.tracing_core.specs.RequestError.TheVariants.{UnknownParent}
+use Rattle.tracing_core_requests.specs.declared.at.At.{At}
+use Rattle.tracing_core_requests.specs.Interests.{PlainInterest}
+use Rattle.tracing_core_fields.specs.PlainMetadata.{PlainMetadata}
+use Rattle.tracing_core_requests.specs.PlainRequests.{PlainEvent, explicit_parent}
+use Rattle.tracing_core_requests.specs.declared.refusal.RequestError.{RequestError}
+use Rattle.tracing_core_requests.specs.declared.refusal.RequestError.TheVariants.{UnknownParent}
 use Rattle.span_registry_layers_store.specs.Registries.{RegistryValue, knows}
 use Rattle.span_registry_layers_layers.specs.Looks.{View}
 use Rattle.span_registry_layers_layers.specs.Several.{EachInTurn}

@@ -1,13 +1,13 @@
 -- What calls leave of the filters' word.
 use Rattle.std.specs.Prelude.{◌≡◌, ◌&&◌, ◌++◌, ℕ, Bool, true, false, List, [], ◌∷◌, map, Option, Some, None, Result, Ok, Err, refl}
 use Rattle.std.proofs.Common.{ap, sym, ◌∙◌, subst}
-use Rattle.tracing_core.specs.At.{At}
-use Rattle.tracing_core.specs.Interests.{PlainInterest}
-use Rattle.tracing_core.specs.Kept.{Every}
-use Rattle.tracing_core.specs.PlainMetadata.{PlainMetadata}
-use Rattle.tracing_core.specs.PlainRequests.{PlainAttributes, PlainEvent, PlainValues, explicit_parent}
-use Rattle.tracing_core.specs.RequestError.{RequestError}
-use Rattle.tracing_core.specs.Steady.{SameWord}
+use Rattle.tracing_core_requests.specs.declared.at.At.{At}
+use Rattle.tracing_core_requests.specs.Interests.{PlainInterest}
+use Rattle.tracing_core_requests.specs.Lists.{Every}
+use Rattle.tracing_core_fields.specs.PlainMetadata.{PlainMetadata}
+use Rattle.tracing_core_requests.specs.PlainRequests.{PlainAttributes, PlainEvent, PlainValues, explicit_parent}
+use Rattle.tracing_core_requests.specs.declared.refusal.RequestError.{RequestError}
+use Rattle.tracing_core_requests.specs.Steady.{SameWord}
 use Rattle.span_registry_layers_store.specs.Gives.{close_refusal}
 use Rattle.span_registry_layers_store.specs.declared.filter_map.FilterId.{FilterId}
 use Rattle.span_registry_layers_store.specs.Aside.{ids_of}

@@ -1,8 +1,8 @@
 -- What is kept is right.
 use Rattle.std.specs.Prelude.{◌≤◌, ℕ, List, Option, Some, None}
-use Rattle.tracing_core.specs.Interests.{PlainInterest}
-use Rattle.tracing_core.specs.Kept.{Covers, Every}
-use Rattle.tracing_core.specs.PlainMetadata.{PlainMetadata}
+use Rattle.tracing_core_requests.specs.Interests.{PlainInterest, Covers}
+use Rattle.tracing_core_requests.specs.Lists.{Every}
+use Rattle.tracing_core_fields.specs.PlainMetadata.{PlainMetadata}
 use Rattle.span_registry_layers_layers.specs.declared.filter.Filter.{Ghosts}
 use Rattle.span_registry_layers_layers.specs.declared.filtered.Filtered.{Filtered}
 use Rattle.span_registry_layers_stack.specs.Rows.{filters_of}

@@ -1,8 +1,8 @@
 //! The state of a stack.
 ghost use Rattle.std.specs.Prelude.{◌≡◌, Some, map};
 ghost use Rattle.std.specs.Option.{option_copied};
-ghost use Rattle.tracing_core.specs.Metadata.{plain_metadata};
-ghost use Rattle.tracing_core.specs.PlainRequests.{plain_event};
+ghost use Rattle.tracing_core_fields.specs.Metadata.{plain_metadata};
+ghost use Rattle.tracing_core_requests.specs.PlainRequests.{plain_event};
 ghost use Rattle.span_registry_layers_store.specs.Registries.{knows};
 ghost use Rattle.span_registry_layers_stack.specs.Asked.{CommonInterest, common_hint};
 ghost use Rattle.span_registry_layers_stack.specs.Rows.{filters_of};
@@ -21,7 +21,8 @@ use crate::sites::{is_kept, refuse, renew};
 use span_registry_layers_layers::{Filter, Filtered, Layer};
 use span_registry_layers_store::{OwnedMetadata, Registry};
 use std::alloc::Global;
-use tracing_core::{At, Event, Id, Interest, Level, LevelFilter, Metadata, RequestError};
+use tracing_core_fields::{Id, Level, LevelFilter, Metadata};
+use tracing_core_requests::{At, Event, Interest, RequestError};
 
 /// The outputs in order, the registry of their spans, and what is kept of their filters' answers.
 #[derive(Drop)]

@@ -1,7 +1,7 @@
 //! One output of a stack.
 ghost use Rattle.std.specs.Prelude.{◌≡◌, false};
-ghost use Rattle.tracing_core.specs.Metadata.{plain_metadata};
-ghost use Rattle.tracing_core.specs.PlainRequests.{plain_event};
+ghost use Rattle.tracing_core_fields.specs.Metadata.{plain_metadata};
+ghost use Rattle.tracing_core_requests.specs.PlainRequests.{plain_event};
 ghost use Rattle.span_registry_layers_layers.specs.Combined.{Then};
 ghost use Rattle.span_registry_layers_layers.specs.Notices.{Happened};
 ghost use Rattle.span_registry_layers_stack.specs.Asked.{AsksRow};
@@ -12,7 +12,8 @@ mod spans;
 
 use span_registry_layers_layers::{Context, Filter, Filtered, Layer};
 use span_registry_layers_store::{FilterId, FilterMap, OutputKey, Registry};
-use tracing_core::{At, Event, Interest, LevelFilter, Metadata};
+use tracing_core_fields::{LevelFilter, Metadata};
+use tracing_core_requests::{At, Event, Interest};
 
 /// An output, its key, the number of its filter, whether its filter passed the callsite of the last request, and whether it was told of that.
 #[derive(Drop)]

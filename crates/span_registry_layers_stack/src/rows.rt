@@ -1,8 +1,8 @@
 //! What is asked of all outputs, and told to them, in order.
 ghost use Rattle.std.specs.Prelude.{◌≡◌, None, Some, map, false};
-ghost use Rattle.tracing_core.specs.Asking.{joined, settled};
-ghost use Rattle.tracing_core.specs.Metadata.{plain_metadata};
-ghost use Rattle.tracing_core.specs.PlainRequests.{plain_event};
+ghost use Rattle.tracing_core_requests.specs.Interests.{joined, settled};
+ghost use Rattle.tracing_core_fields.specs.Metadata.{plain_metadata};
+ghost use Rattle.tracing_core_requests.specs.PlainRequests.{plain_event};
 ghost use Rattle.span_registry_layers_store.specs.Verdicts.{all_pass};
 ghost use Rattle.span_registry_layers_layers.specs.Several.{EachInTurn};
 ghost use Rattle.span_registry_layers_stack.specs.Asked.{AsksFrom, CommonInterest, SomePasses, common_hint, higher_hint};
@@ -16,7 +16,8 @@ use span_registry_layers_store::{FilterMap, Registry};
 pub(crate) use spans::{
     tell_close, tell_dispatch, tell_enter, tell_exit, tell_follows, tell_new_span, tell_record,
 };
-use tracing_core::{At, Event, Interest, LevelFilter, Metadata};
+use tracing_core_fields::{LevelFilter, Metadata};
+use tracing_core_requests::{At, Event, Interest};
 
 // Asks the filter of each output of the event, and marks what it answers.
 pub(crate) fn ask_event<L: Layer, F: Filter>(

@@ -1,12 +1,13 @@
 //! What is kept of all callsites.
 ghost use Rattle.std.specs.Prelude.{◌≡◌, map};
 ghost use Rattle.std.specs.List.{list_any};
-ghost use Rattle.tracing_core.specs.Metadata.{plain_metadata};
+ghost use Rattle.tracing_core_fields.specs.Metadata.{plain_metadata};
 ghost use Rattle.span_registry_layers_stack.specs.Rows.{EachBecomes};
 ghost use Rattle.span_registry_layers_stack.specs.Sites.{Renews, is_of, is_refused_by, plain_site};
 
 use crate::site::Site;
-use tracing_core::{Interest, Metadata};
+use tracing_core_fields::Metadata;
+use tracing_core_requests::Interest;
 
 // Whether something is kept of the callsite.
 pub(crate) fn is_kept(sites: &[Site], metadata: &Metadata<'_>) -> bool

@@ -1,8 +1,8 @@
 //! Outputs over a registry of spans.
 ghost use Rattle.std.specs.Prelude.{◌≡◌, IfOk};
-ghost use Rattle.tracing_core.specs.Kept.{Every};
-ghost use Rattle.tracing_core.specs.Metadata.{plain_metadata};
-ghost use Rattle.tracing_core.specs.PlainRequests.{plain_event};
+ghost use Rattle.tracing_core_requests.specs.Lists.{Every};
+ghost use Rattle.tracing_core_fields.specs.Metadata.{plain_metadata};
+ghost use Rattle.tracing_core_requests.specs.PlainRequests.{plain_event};
 ghost use Rattle.span_registry_layers_layers.specs.declared.filtered.Filtered.{Filtered};
 ghost use Rattle.span_registry_layers_stack.specs.New.{NewGives};
 ghost use Rattle.span_registry_layers_stack.specs.Numbers.{HasNumbers};
@@ -22,7 +22,8 @@ use crate::parts::StackParts;
 use span_registry_layers_layers::{Filter, Filtered, Layer};
 use std::alloc::Global;
 use std::marker::Model;
-use tracing_core::{At, Event, Metadata, RequestError};
+use tracing_core_fields::Metadata;
+use tracing_core_requests::{At, Event, RequestError};
 
 /// Outputs in order, over one registry of spans.
 ///

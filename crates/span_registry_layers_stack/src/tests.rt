@@ -5,9 +5,7 @@ mod counting;
 mod filters;
 mod inner;
 mod journal;
-mod place;
 mod refused;
-mod through;
 
 use crate::{Output, Stack, StackError, StackRefusal};
 use journal::{Journal, Told};
@@ -15,10 +13,8 @@ use span_registry_layers_layers::{Filter, Filtered, Layer};
 use span_registry_layers_store::OutputKey;
 use std::alloc::Global;
 use std::test::Fail;
-use tracing_core::{
-    At, Attributes, Event, FieldSet, Id, Identifier, Kind, Level, LevelFilter, Metadata, Record,
-    RequestError,
-};
+use tracing_core_fields::{FieldSet, Id, Identifier, Kind, Level, LevelFilter, Metadata};
+use tracing_core_requests::{At, Attributes, Event, Record, RequestError};
 
 const NAMES: [&str; 1] = ["n"];
 

@@ -1,7 +1,7 @@
 -- Handles of the span at a place.
 use Rattle.std.proofs.Common.{◌≡◌, ◌+◌, ◌-◌, ◌==◌, ◌||◌, Bool, if◌then◌else◌, ℕ, List, [], ◌∷◌, map, Option, true≢false, set, get_or, true, false, Some, Ok, Err, refl, ap, sym, ◌∙◌, arith}
 use Rattle.std.proofs.lemmas.Bool.Decides.{nat_tests}
-use Rattle.tracing_core.specs.RequestError.TheVariants.{UnknownSpan, TooManyHandles}
+use Rattle.tracing_core_requests.specs.declared.refusal.RequestError.TheVariants.{UnknownSpan, TooManyHandles}
 use Rattle.span_registry_layers_store.specs.Gives.{clone_gives, give_up_gives, most}
 use Rattle.span_registry_layers_store.specs.Places.{IsPlace, kin_of}
 use Rattle.span_registry_layers_store.specs.Registries.{RegistryValue, kin_in, one_less, one_more, plain_span, with_handle, without_handle}

@@ -6,10 +6,10 @@ use Rattle.std.specs.Ordering.{nat_cmp, ordering_index}
 use Rattle.std.proofs.lemmas.Bool.{cases_lt}
 use Rattle.std.proofs.lemmas.Bool.Decides.{nat_tests}
 use Rattle.std.proofs.lemmas.Cmp.{ranked}
-use Rattle.tracing_core.specs.Handles.{or_same}
-use Rattle.tracing_core.specs.Parent.{Parent}
-use Rattle.tracing_core.specs.PlainMetadata.{PlainMetadata}
-use Rattle.tracing_core.specs.RequestError.{RequestError}
+use Rattle.tracing_core_requests.specs.Refusals.{or_same}
+use Rattle.tracing_core_requests.specs.declared.requests.parent.Parent.{Parent}
+use Rattle.tracing_core_fields.specs.PlainMetadata.{PlainMetadata}
+use Rattle.tracing_core_requests.specs.declared.refusal.RequestError.{RequestError}
 use Rattle.span_registry_layers_store.specs.Gives.{GivesUnless, SpanGives, clone_gives, clone_refusal, close_gives, close_refusal, give_up_gives, span_refusal}
 use Rattle.span_registry_layers_store.specs.Keeping.{with_places}
 use Rattle.span_registry_layers_store.specs.Places.{IsPlace, kin_of}

@@ -2,13 +2,13 @@
 use Rattle.std.proofs.Common.{◌≡◌, inl, inr, ℕ, ◌<◌, List, [], ◌∷◌, ◌++◌, Bool, true, false, not, nat_lt, Option, Some, None, Result, Ok, Err, refl, sym, ap, ◌∙◌, arith}
 use Rattle.std.proofs.lemmas.Bool.{not-false}
 use Rattle.std.proofs.lemmas.Bool.Decides.{nat_tests}
-use Rattle.tracing_core.specs.Handles.{or_same}
-use Rattle.tracing_core.specs.Parent.{Parent}
-use Rattle.tracing_core.specs.Parent.TheVariants.{Root, Current, Explicit}
-use Rattle.tracing_core.specs.PlainMetadata.{PlainMetadata}
-use Rattle.tracing_core.specs.PlainRequests.{explicit_parent}
-use Rattle.tracing_core.specs.RequestError.{RequestError}
-use Rattle.tracing_core.specs.RequestError.TheVariants.{UnknownSpan, UnknownParent, IdsSpent}
+use Rattle.tracing_core_requests.specs.Refusals.{or_same}
+use Rattle.tracing_core_requests.specs.declared.requests.parent.Parent.{Parent}
+use Rattle.tracing_core_requests.specs.declared.requests.parent.Parent.TheVariants.{Root, Current, Explicit}
+use Rattle.tracing_core_fields.specs.PlainMetadata.{PlainMetadata}
+use Rattle.tracing_core_requests.specs.PlainRequests.{explicit_parent}
+use Rattle.tracing_core_requests.specs.declared.refusal.RequestError.{RequestError}
+use Rattle.tracing_core_requests.specs.declared.refusal.RequestError.TheVariants.{UnknownSpan, UnknownParent, IdsSpent}
 use Rattle.span_registry_layers_store.specs.Gives.{FilterGives, GivesUnless, SpanGives, clone_refusal, close_refusal, first, most, open_refusal, span_refusal, when}
 use Rattle.span_registry_layers_store.specs.Keeping.{Keeps, with_places}
 use Rattle.span_registry_layers_store.specs.Lanes.{lane_at, pushed, removed}

@@ -1,7 +1,7 @@
 -- A copy of what a registry keeps.
 use Rattle.std.specs.Prelude.{◌≡◌, List, Bool, map}
 use Rattle.std.specs.Arc.{arc_value}
-use Rattle.tracing_core.specs.PlainMetadata.{PlainMetadata}
+use Rattle.tracing_core_fields.specs.PlainMetadata.{PlainMetadata}
 use Rattle.span_registry_layers_store.specs.Lanes.{plain_lanes}
 use Rattle.span_registry_layers_store.specs.OwnedMetadatas.{owned_plain}
 use Rattle.span_registry_layers_store.specs.Registries.{PlainSpan, RegistryValue}

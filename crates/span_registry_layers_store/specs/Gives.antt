@@ -1,11 +1,11 @@
 -- What the calls of a registry answer and leave.
 use Rattle.std.specs.Prelude.{◌≡◌, ◌<◌, ◌≤◌, ◌+◌, ℕ, ◌==◌, nat_lt, List, [], ◌∷◌, Bool, true, false, not, Option, Some, None, Result, Ok, Err}
-use Rattle.tracing_core.specs.Handles.{or_refused, or_same}
-use Rattle.tracing_core.specs.Parent.{Parent}
-use Rattle.tracing_core.specs.PlainMetadata.{PlainMetadata}
-use Rattle.tracing_core.specs.PlainRequests.{explicit_parent}
-use Rattle.tracing_core.specs.RequestError.{RequestError}
-use Rattle.tracing_core.specs.RequestError.TheVariants.{OutOfMemory, UnknownSpan, UnknownParent, IdsSpent, TooManyHandles}
+use Rattle.tracing_core_requests.specs.Refusals.{or_refused, or_same}
+use Rattle.tracing_core_requests.specs.declared.requests.parent.Parent.{Parent}
+use Rattle.tracing_core_fields.specs.PlainMetadata.{PlainMetadata}
+use Rattle.tracing_core_requests.specs.PlainRequests.{explicit_parent}
+use Rattle.tracing_core_requests.specs.declared.refusal.RequestError.{RequestError}
+use Rattle.tracing_core_requests.specs.declared.refusal.RequestError.TheVariants.{OutOfMemory, UnknownSpan, UnknownParent, IdsSpent, TooManyHandles}
 use Rattle.span_registry_layers_store.specs.declared.filter_map.FilterId.{FilterId}
 use Rattle.span_registry_layers_store.specs.declared.filter_map.TooManyFilters.{TooManyFilters}
 use Rattle.span_registry_layers_store.specs.Registries.{PlainSpan, RegistryValue, closing_in, kin_in, knows, swept, under, with_entry, with_handle, with_span, without_handle}

@@ -1,7 +1,7 @@
 -- Metadata that owns its texts, without where they lie in memory.
 use Rattle.std.specs.Prelude.{map, string_bytes}
 use Rattle.std.specs.Option.{option_map}
-use Rattle.tracing_core.specs.PlainMetadata.{PlainMetadata}
+use Rattle.tracing_core_fields.specs.PlainMetadata.{PlainMetadata}
 use Rattle.span_registry_layers_store.specs.declared.metadata.OwnedMetadata.{OwnedMetadata}
 
 abbrev pub owned_plain : OwnedMetadata → PlainMetadata

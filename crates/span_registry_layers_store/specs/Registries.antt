@@ -1,9 +1,9 @@
 -- A registry as a value: what it keeps without where it lies in memory.
 use Rattle.std.specs.Prelude.{ℕ, ◌+◌, ◌-◌, List, [], ◌∷◌, ◌++◌, Bool, true, map, Option, Some, None}
 use Rattle.std.specs.Arc.{arc_value}
-use Rattle.tracing_core.specs.PlainMetadata.{PlainMetadata}
-use Rattle.tracing_core.specs.Parent.{Parent}
-use Rattle.tracing_core.specs.Parent.TheVariants.{Root, Current, Explicit}
+use Rattle.tracing_core_fields.specs.PlainMetadata.{PlainMetadata}
+use Rattle.tracing_core_requests.specs.declared.requests.parent.Parent.{Parent}
+use Rattle.tracing_core_requests.specs.declared.requests.parent.Parent.TheVariants.{Root, Current, Explicit}
 use Rattle.span_registry_layers_store.specs.Lanes.{lane_at, plain_lanes, pushed, removed}
 use Rattle.span_registry_layers_store.specs.OwnedMetadatas.{owned_plain}
 use Rattle.span_registry_layers_store.specs.Slots.{PlainPlace}

@@ -6,7 +6,7 @@ ghost use Rattle.span_registry_layers_store.specs.Spans.{is_entered};
 
 use crate::plain::{is_member, remove_last};
 use std::alloc::{AllocError, Global};
-use tracing_core::Id;
+use tracing_core_fields::Id;
 
 /// The entries of a lane.
 #[tactic(auto, using(crate::proofs::Lists::slice_get_map))]

@@ -2,7 +2,7 @@
 
 ghost use Rattle.std.specs.Option.{option_map};
 ghost use Rattle.std.specs.Prelude.{◌≡◌, None};
-ghost use Rattle.tracing_core.specs.Metadata.{plain_metadata};
+ghost use Rattle.tracing_core_fields.specs.Metadata.{plain_metadata};
 ghost use Rattle.span_registry_layers_store.specs.Gives.{FilterGives};
 ghost use Rattle.span_registry_layers_store.specs.Lookups.{plain_data};
 ghost use Rattle.span_registry_layers_store.specs.References.{plain_ref, ref_of};
@@ -15,7 +15,7 @@ use crate::filter_map::{FilterId, TooManyFilters};
 use crate::registry::Registry;
 use crate::span::Span;
 use crate::span_ref::SpanRef;
-use tracing_core::{Id, Metadata};
+use tracing_core_fields::{Id, Metadata};
 
 /// What is kept of a span.
 pub trait SpanData {

@@ -4,13 +4,13 @@ ghost use Rattle.std.specs.Prelude.{◌≡◌, IfOk, map, string_bytes};
 ghost use Rattle.std.specs.Option.{option_map, option_copied, option_eq};
 ghost use Rattle.std.specs.Str.{bytes_eq};
 ghost use Rattle.std.specs.Cmp.Lexicographic.{pointwise};
-ghost use Rattle.tracing_core.specs.FieldSet.{field_names, set_callsite};
-ghost use Rattle.tracing_core.specs.Metadata.{plain_metadata};
-ghost use Rattle.tracing_core.specs.PlainMetadata.{is_same_label, is_same_place, is_same_shape, is_same_metadata};
+ghost use Rattle.tracing_core_fields.specs.FieldSet.{field_names, set_callsite};
+ghost use Rattle.tracing_core_fields.specs.Metadata.{plain_metadata};
+ghost use Rattle.tracing_core_fields.specs.PlainMetadata.{is_same_label, is_same_place, is_same_shape, is_same_metadata};
 ghost use Rattle.span_registry_layers_store.specs.OwnedMetadatas.{owned_plain};
 
 use std::alloc::{AllocError, Global};
-use tracing_core::{FieldSet, Identifier, Kind, Level, Metadata};
+use tracing_core_fields::{FieldSet, Identifier, Kind, Level, Metadata};
 
 /// A copy of the metadata of a callsite.
 ///

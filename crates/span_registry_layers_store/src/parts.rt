@@ -3,9 +3,9 @@
 ghost use Rattle.std.specs.Prelude.{◌≡◌, ◌<◌, ◌≤◌, ◌+◌, IfOk, IfSome, MatchOption, None, OnErr, OnOk, Some, get_or, length, reverse, slice_get, take};
 ghost use Rattle.std.specs.Arc.{arc_value};
 ghost use Rattle.std.specs.Option.{option_map};
-ghost use Rattle.tracing_core.specs.Handles.{or_refused};
-ghost use Rattle.tracing_core.specs.Metadata.{plain_metadata};
-ghost use Rattle.tracing_core.specs.PlainRequests.{explicit_parent, plain_attributes};
+ghost use Rattle.tracing_core_requests.specs.Refusals.{or_refused};
+ghost use Rattle.tracing_core_fields.specs.Metadata.{plain_metadata};
+ghost use Rattle.tracing_core_requests.specs.PlainRequests.{explicit_parent, plain_attributes};
 ghost use Rattle.span_registry_layers_store.specs.Copies.{CopyOf};
 ghost use Rattle.span_registry_layers_store.specs.Gives.{EntryGives, FilterGives, ForgetGives, IsNext, IsSettled, SpanGives, clone_gives, close_gives, follow_refusal, give_up_gives, open_refusal};
 ghost use Rattle.span_registry_layers_store.specs.Lanes.{lane_at};
@@ -27,7 +27,8 @@ use crate::span::Span;
 use crate::table::{RegistryTable, copy_lanes, copy_spans};
 use std::alloc::{AllocError, Global};
 use std::sync::Arc;
-use tracing_core::{Attributes, Id, Metadata, RequestError};
+use tracing_core_fields::{Id, Metadata};
+use tracing_core_requests::{Attributes, RequestError};
 
 /// Open spans, lane stacks, and the metadata of callsites that spans were made at.
 #[derive(Debug, Drop)]

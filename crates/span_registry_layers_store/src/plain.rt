@@ -8,7 +8,7 @@ ghost use Rattle.span_registry_layers_store.specs.Rising.{HasId, Rises};
 use crate::lanes::is_entered;
 use crate::record::SpanRecord;
 use crate::span::Span;
-use tracing_core::Id;
+use tracing_core_fields::Id;
 
 pub(crate) fn is_member(ids: &[Id], id: Id) -> bool
     ensures { result ≡ is_member ids.now id }

@@ -3,8 +3,8 @@
 ghost use Rattle.std.specs.Prelude.{◌≡◌, ◌<◌, ◌≤◌, ◌-◌, IfNone, IfOk, IfSome, MatchOption, None};
 ghost use Rattle.std.specs.Borrow.{sem};
 ghost use Rattle.std.specs.Option.{option_map};
-ghost use Rattle.tracing_core.specs.Handles.{or_refused};
-ghost use Rattle.tracing_core.specs.PlainRequests.{plain_attributes};
+ghost use Rattle.tracing_core_requests.specs.Refusals.{or_refused};
+ghost use Rattle.tracing_core_requests.specs.PlainRequests.{plain_attributes};
 ghost use Rattle.span_registry_layers_store.specs.Copies.{CopyOf};
 ghost use Rattle.span_registry_layers_store.specs.Gives.{EntryGives, FilterGives, ForgetGives, IsNext, IsSettled, SpanGives, clone_gives, close_gives, follow_refusal, give_up_gives, most, open_refusal};
 ghost use Rattle.span_registry_layers_store.specs.Keeping.{InsertsSlot, RemovesSlot, ReplacesSlot};
@@ -26,7 +26,8 @@ use crate::span_ref::SpanRef;
 use crate::table::RegistryTable;
 use std::alloc::{AllocError, Global};
 use std::marker::Model;
-use tracing_core::{Attributes, Id, RequestError};
+use tracing_core_fields::Id;
+use tracing_core_requests::{Attributes, RequestError};
 
 /// Keeps the open spans, and the entries of each lane.
 ///

@@ -8,7 +8,7 @@ use crate::filter_map::FilterId;
 use crate::registry::Registry;
 use crate::span_ref::SpanRef;
 use std::alloc::{AllocError, Global};
-use tracing_core::Id;
+use tracing_core_fields::Id;
 
 /// A span and its ancestors, the nearest first, without those that the filter refused.
 #[derive(Clone, Copy)]

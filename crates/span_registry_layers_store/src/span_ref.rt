@@ -2,8 +2,8 @@
 
 ghost use Rattle.std.specs.Prelude.{◌≡◌};
 ghost use Rattle.std.specs.Option.{option_map};
-ghost use Rattle.tracing_core.specs.FieldSet.{field_names, set_callsite};
-ghost use Rattle.tracing_core.specs.Metadata.{plain_metadata};
+ghost use Rattle.tracing_core_fields.specs.FieldSet.{field_names, set_callsite};
+ghost use Rattle.tracing_core_fields.specs.Metadata.{plain_metadata};
 ghost use Rattle.span_registry_layers_store.specs.Registries.{kin_in};
 ghost use Rattle.span_registry_layers_store.specs.References.{plain_ref, ref_of, refs_of, scope_left};
 ghost use Rattle.span_registry_layers_store.specs.Slots.{plain_slot, slot_at};
@@ -17,7 +17,7 @@ use crate::registry::Registry;
 use crate::scope::Scope;
 use crate::slot::{OutputKey, Slot, Tag};
 use crate::span::Span;
-use tracing_core::{FieldSet, Id, Metadata};
+use tracing_core_fields::{FieldSet, Id, Metadata};
 
 /// An open span of a registry, as a filter sees it: spans that it refused are passed over.
 #[derive(Clone, Copy)]

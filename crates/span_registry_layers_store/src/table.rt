@@ -10,7 +10,7 @@ use crate::record::SpanRecord;
 use crate::span::Span;
 use std::alloc::{AllocError, Global};
 use std::sync::Arc;
-use tracing_core::Id;
+use tracing_core_fields::Id;
 
 /// An open span, without what outputs keep with it.
 #[derive(Debug, Drop)]

@@ -10,7 +10,8 @@ mod slots;
 use crate::{FilterId, FilterMap, OutputKey, Registry, ScopeFromRoot, Tag};
 use std::alloc::Global;
 use std::test::Fail;
-use tracing_core::{Attributes, FieldSet, Id, Identifier, Kind, Level, Metadata, RequestError};
+use tracing_core_fields::{FieldSet, Id, Identifier, Kind, Level, Metadata};
+use tracing_core_requests::{Attributes, RequestError};
 
 const NAMES: [&str; 1] = ["n"];
 

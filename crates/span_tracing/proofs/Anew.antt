@@ -5,7 +5,7 @@ use Rattle.tracing_core.specs.Callsite.{Ghosts as SiteGhosts}
 use Rattle.tracing_core.specs.Commands.{Rebuilt}
 use Rattle.tracing_core.specs.Entry.{Entry}
 use Rattle.tracing_core.specs.Interests.{PlainInterest}
-use Rattle.tracing_core.specs.Kept.{Every}
+use Rattle.tracing_core.specs.Lists.{Every}
 use Rattle.tracing_core.specs.Refreshing.{Joins, RowRefreshed, Raises, Refreshed}
 use Rattle.tracing_core.specs.Row.{Row}
 use Rattle.tracing_core.specs.Subscriber.{Ghosts}

@@ -12,7 +12,8 @@ use Rattle.tracing_core.specs.Commands.{AnswerGives, AskGivesAt, GateGives, Gate
 use Rattle.tracing_core.specs.Handles.{changed, entry_of}
 use Rattle.tracing_core.specs.Interests.{PlainInterest}
 use Rattle.tracing_core.specs.InterestInner.TheVariants.{Never, Sometimes, Always}
-use Rattle.tracing_core.specs.Kept.{Every, IsTrueRow}
+use Rattle.tracing_core.specs.Lists.{Every}
+use Rattle.tracing_core.specs.Kept.{IsTrueRow}
 use Rattle.tracing_core.specs.Level.{IsRank}
 use Rattle.tracing_core.specs.PlainMetadata.{PlainMetadata}
 use Rattle.tracing_core.specs.Row.{Row}

@@ -3,16 +3,16 @@ use Rattle.std.proofs.Common.{◌≡◌, ℕ, max, List, [], ◌∷◌, ◌++◌
 use Rattle.std.specs.Prelude.{unwrap_or}
 use Rattle.std.specs.Option.{option_map}
 use Rattle.std.proofs.lemmas.Option.{same_Some}
-use Rattle.tracing_core.specs.Asking.{Each, Registers, Hints, AskedAll, RowAsked, joined, settled, level_of}
+use Rattle.tracing_core.specs.Asking.{Each, Registers, Hints, AskedAll, RowAsked, level_of}
+use Rattle.tracing_core.specs.Interests.{joined, settled, PlainInterest}
 use Rattle.tracing_core.specs.Calls.{Call, ReplyTo, CallsiteRegistered, HintAsked}
 use Rattle.tracing_core.specs.Commands.{Rebuilt, Registered, new_row}
 use Rattle.tracing_core.specs.Entry.{Entry}
-use Rattle.tracing_core.specs.Interests.{PlainInterest}
 use Rattle.tracing_core.specs.PlainMetadata.{PlainMetadata}
 use Rattle.tracing_core.specs.Row.{Row}
 use Rattle.tracing_core.specs.Setting.{Setting}
 use Rattle.tracing_core.specs.Sound.{Ascends, AreDistinct, IsSound as IsSoundHub, identifiers, serials}
-use Rattle.tracing_core.specs.Kept.{Every}
+use Rattle.tracing_core.specs.Lists.{Every}
 use Rattle.span_registry_layers.specs.Filter.{Ghosts}
 use Rattle.span_tracing_stack.specs.Answers.{SaysBy, hint_by}
 use Rattle.span_tracing_stack.specs.Moves.{Gives, StackMoves}
@@ -62,7 +62,7 @@ pub hub_alike : {F : Type 0} (t u : Table (StackValue F) Site) → u ≡ record 
 hub_alike {F = F} t u rest same sound = record {
   numbers = subst (λ (v : Table (StackValue F) Site). Ascends 0 (serials u.entries) v.next) (sym rest) (subst (λ ns. Ascends 0 ns t.next) (sym same) sound.numbers);
   apart = subst (λ (v : Table (StackValue F) Site). AreDistinct (identifiers v.rows)) (sym rest) sound.apart;
-  sites = subst (λ (v : Table (StackValue F) Site). Rattle.tracing_core.specs.Kept.Every (Rattle.tracing_core.specs.Kept.IsTrueRow ghosts) v.rows) (sym rest) sound.sites;
+  sites = subst (λ (v : Table (StackValue F) Site). Rattle.tracing_core.specs.Lists.Every (Rattle.tracing_core.specs.Kept.IsTrueRow ghosts) v.rows) (sym rest) sound.sites;
 }
 
 all_mapped : {A : Type 0} (P Q : A → Type 0) (xs : List A) → ((x : A) → P x → Q x) → Every P xs → Every Q xs

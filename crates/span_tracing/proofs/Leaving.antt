@@ -5,12 +5,12 @@ use Rattle.std.specs.Option.{option_map}
 use Rattle.std.proofs.lemmas.Bool.{eqb-true}
 use Rattle.std.proofs.lemmas.Option.{same_Some, slice_get-get_or}
 use Rattle.tracing_core.specs.At.{At}
-use Rattle.tracing_core.specs.Calls.{SpanMade, Recorded, FollowsRecorded, Told, Entered, Exited, Cloned, CloseTried}
+use Rattle.tracing_core.specs.Calls.{SpanMade, Recorded, FollowsRecorded, Told, Entered, Exited, Cloned, CloseTried, Call, ReplyTo}
 use Rattle.tracing_core.specs.Defaults.{was_set}
 use Rattle.tracing_core.specs.FieldValue.{FieldValue}
 use Rattle.tracing_core.specs.OwnedValues.{owned_entries}
 use Rattle.tracing_core.specs.PlainRequests.{PlainValues}
-use Rattle.tracing_core.specs.Handles.{or_same as or_left}
+use Rattle.tracing_core.specs.Refusals.{or_same as or_left}
 use Rattle.tracing_core.specs.Handing.{HubGives}
 use Rattle.tracing_core.specs.RequestError.{RequestError}
 use Rattle.tracing_core.specs.RequestError.TheVariants.{OutOfMemory, UnknownSpan, UnknownParent, IdsSpent, TooManyHandles}
@@ -18,7 +18,6 @@ use Rattle.span_registry_layers.specs.Alone.{says_closed}
 use Rattle.span_registry_layers.specs.Filter.{Ghosts}
 use Rattle.span_tracing_stack.specs.Answers.{MayBy, StepsBy, view_in}
 use Rattle.span_tracing_stack.specs.Moves.{CloneGives, EntryGives, EventGives, EventTold, Gives, RecordGives, SpanGives, StackMoves, TellsRecord, quiet}
-use Rattle.tracing_core.specs.Calls.{Call, ReplyTo}
 use Rattle.tracing_core.specs.Table.{Table}
 use Rattle.span_tracing_machine.specs.declared.fate.Fate.{Fate}
 use Rattle.span_registry_layers.specs.Gives as gives

@@ -3,7 +3,7 @@ use Rattle.std.specs.Prelude.{◌≡◌, ℕ, List, [], ◌∷◌, length, map, 
 use Rattle.tracing_core.specs.Asking.{level_of}
 use Rattle.tracing_core.specs.Interests.{PlainInterest}
 use Rattle.tracing_core.specs.InterestInner.TheVariants.{Never}
-use Rattle.tracing_core.specs.Kept.{Every}
+use Rattle.tracing_core.specs.Lists.{Every}
 use Rattle.tracing_core.specs.PlainMetadata.{PlainMetadata}
 use Rattle.tracing_core.specs.Entry.{Entry}
 use Rattle.tracing_core.specs.Lane.TheVariants.{Running}

@@ -4,7 +4,7 @@ use Rattle.std.proofs.Common.{◌≡◌, ℕ, zero, suc, ◌<◌, ◌≤◌, Lis
 use Rattle.std.proofs.lemmas.Bool.{not-false}
 use Rattle.std.proofs.lemmas.Bool.Decides.{nat_tests}
 use Rattle.std.proofs.lemmas.List.{length-set}
-use Rattle.tracing_core.specs.Handles.{or_same as or_left}
+use Rattle.tracing_core.specs.Refusals.{or_same as or_left}
 use Rattle.tracing_core.specs.PlainRequests.{explicit_parent}
 use Rattle.tracing_core.specs.RequestError.{RequestError}
 use Rattle.tracing_core.specs.RequestError.TheVariants as errors

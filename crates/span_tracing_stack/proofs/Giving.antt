@@ -4,10 +4,9 @@ use Rattle.std.proofs.lemmas.Bool.Decides.{nat_tests}
 use Rattle.tracing_core.specs.At.{At}
 use Rattle.tracing_core.specs.Calls.{Call, ReplyTo, DispatchRegistered, CallsiteRegistered, Asked, HintAsked, SpanMade, Recorded, FollowsRecorded, EventAsked, Told, Entered, Exited, Cloned, Dropped, CloseTried, CurrentAsked}
 use Rattle.tracing_core.specs.CurrentSpan.{CurrentSpan}
-use Rattle.tracing_core.specs.Handles.{or_refused}
-use Rattle.tracing_core.specs.Interests.{PlainInterest}
-use Rattle.tracing_core.specs.Asking.{joined, settled}
-use Rattle.tracing_core.specs.Kept.{Every}
+use Rattle.tracing_core.specs.Refusals.{or_refused}
+use Rattle.tracing_core.specs.Interests.{PlainInterest, joined, settled}
+use Rattle.tracing_core.specs.Lists.{Every}
 use Rattle.tracing_core.specs.PlainMetadata.{PlainMetadata}
 use Rattle.tracing_core.specs.PlainRequests.{PlainAttributes, PlainEvent, PlainValues, explicit_parent}
 use Rattle.tracing_core.specs.RequestError.{RequestError}

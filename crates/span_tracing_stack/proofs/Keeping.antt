@@ -4,10 +4,10 @@ use Rattle.tracing_core.specs.At.{At}
 use Rattle.tracing_core.specs.Calls.{DispatchRegistered, CallsiteRegistered, HintAsked, SpanMade, Recorded, FollowsRecorded, Told, Entered, Exited, Cloned, CloseTried}
 use Rattle.tracing_core.specs.Interests.{PlainInterest}
 use Rattle.tracing_core.specs.PlainMetadata.{PlainMetadata}
-use Rattle.tracing_core.specs.Kept.{Every}
+use Rattle.tracing_core.specs.Lists.{Every}
 use Rattle.tracing_core.specs.PlainRequests.{PlainAttributes, PlainEvent, PlainValues}
 use Rattle.tracing_core.specs.RequestError.{RequestError}
-use Rattle.tracing_core.specs.Handles.{or_same}
+use Rattle.tracing_core.specs.Refusals.{or_same}
 use Rattle.span_registry_layers.specs.Alone.{WritesNothing}
 use Rattle.span_registry_layers.specs.AloneProofs.{registry_unwritten}
 use Rattle.span_registry_layers.specs.Calls.{CloneGives, CloseGives, EnterGives, ExitGives, FollowsGives, RecordGives, SpanCached}

@@ -9,11 +9,13 @@ pub use tracing_core_fields::{
     constant_kinds, filters_read_their_names, levels_read_their_names, numbers_are_read_as_usize,
 };
 pub use tracing_core_hub::{
-    AddError, At, Attributes, Book, Callsite, Command, CommandError, CommandReply, Current,
-    CurrentSpan, DefaultCallsite, DefaultGuard, Dispatch, Event, HandleCount, HandleError, Hub,
-    HubTable, Interest, KeptInterest, Lane, NoRoom, NoSubscriber, Record, RegisterError,
-    RequestError, SetDefaultError, SetGlobalDefaultError, Setting, Subscriber, TooManyHandles,
-    UnknownLane, WeakDispatch, WrongLane, interests_join_in_any_order,
+    AddError, Book, Command, CommandError, CommandReply, DefaultCallsite, DefaultGuard, Dispatch,
+    HandleCount, HandleError, Hub, HubTable, KeptInterest, Lane, NoRoom, RegisterError,
+    SetDefaultError, SetGlobalDefaultError, Setting, TooManyHandles, UnknownLane, WrongLane,
+};
+pub use tracing_core_requests::{
+    At, Attributes, Callsite, Current, CurrentSpan, Event, Interest, NoSubscriber, Record,
+    RequestError, Subscriber, WeakDispatch, interests_join_in_any_order,
 };
 pub use tracing_core_values::{DebugValue, DisplayValue, Empty, Value, debug, display};
 

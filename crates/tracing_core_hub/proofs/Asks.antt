@@ -1,12 +1,12 @@
 -- What asking one subscriber gives, by its place.
 use Rattle.std.proofs.Common.{◌≡◌, ℕ, ◌<◌, ◌≤◌, Bool, true, false, List, length, get_or, set, Option, Some, refl, ap, sym, ◌∙◌, arith}
 use Rattle.tracing_core_fields.specs.PlainMetadata.{PlainMetadata}
-use Rattle.tracing_core_hub.specs.Calls.{Asked}
+use Rattle.tracing_core_requests.specs.Calls.{Asked}
 use Rattle.tracing_core_hub.specs.Commands.{AskGives, becomes}
 use Rattle.tracing_core_hub.specs.Handles.{entry_of, is_of}
-use Rattle.tracing_core_hub.specs.declared.at.At.{At}
+use Rattle.tracing_core_requests.specs.declared.at.At.{At}
 use Rattle.tracing_core_hub.specs.declared.hub.parts.Entry.{Entry}
-use Rattle.tracing_core_hub.specs.declared.subscriber.Subscriber.{Ghosts}
+use Rattle.tracing_core_requests.specs.declared.subscriber.Subscriber.{Ghosts}
 use Rattle.tracing_core_hub.proofs.Entries.{entry_at, changed_at, entry_absent}
 
 module _ {S : Type 0} (g : Ghosts S) (m : PlainMetadata) (place : At) (serial : Option ℕ) (number : ℕ) (es : List (Entry S)) (is : serial ≡ Some number) where

@@ -5,16 +5,16 @@ use Rattle.tracing_core_fields.specs.PlainMetadata.{PlainMetadata}
 use Rattle.tracing_core_hub.specs.Asking.{level_of}
 use Rattle.tracing_core_hub.specs.Commands.{AskGives, AskGivesAt, AnswerGives, GateGives, GateGivesAt, known, known_by, reached, row_of}
 use Rattle.tracing_core_hub.specs.Handles.{entry_of}
-use Rattle.tracing_core_hub.specs.Interests.{PlainInterest}
-use Rattle.tracing_core_hub.specs.Kept.{Covers, IsTrueRow, RowRight, Kept}
-use Rattle.tracing_core_hub.specs.Steady.{InterestFits, HintFits}
+use Rattle.tracing_core_requests.specs.Interests.{PlainInterest, Covers}
+use Rattle.tracing_core_hub.specs.Kept.{IsTrueRow, RowRight, Kept}
+use Rattle.tracing_core_requests.specs.Steady.{InterestFits, HintFits}
 use Rattle.tracing_core_hub.specs.Table.{Table}
-use Rattle.tracing_core_hub.specs.declared.at.At.{At}
-use Rattle.tracing_core_hub.specs.declared.callsite.Callsite.{Ghosts as SiteGhosts}
+use Rattle.tracing_core_requests.specs.declared.at.At.{At}
+use Rattle.tracing_core_requests.specs.declared.callsite.Callsite.{Ghosts as SiteGhosts}
 use Rattle.tracing_core_hub.specs.declared.hub.parts.Entry.{Entry}
 use Rattle.tracing_core_hub.specs.declared.hub.parts.Row.{Row}
-use Rattle.tracing_core_hub.specs.declared.interest.InterestInner.TheVariants.{Never, Sometimes, Always}
-use Rattle.tracing_core_hub.specs.declared.subscriber.Subscriber.{Ghosts}
+use Rattle.tracing_core_requests.specs.declared.interest.InterestInner.TheVariants.{Never, Sometimes, Always}
+use Rattle.tracing_core_requests.specs.declared.subscriber.Subscriber.{Ghosts}
 use Rattle.tracing_core_hub.proofs.Keeping.{row_every}
 
 refused : (hint : Option ℕ) (greatest level : ℕ) (p : Bool) → HintFits hint level p → level_of hint ≤ greatest → level ≤ 5 → nat_le level greatest ≡ false → p ≡ false

@@ -2,13 +2,13 @@
 use Rattle.std.proofs.Common.{◌≡◌, ℕ, ◌<◌, ◌≤◌, List, length, get_or, set, Option, Some, None, refl, sym, ◌∙◌, subst}
 use Rattle.std.specs.Prelude.{slice_get}
 use Rattle.std.proofs.lemmas.Option.{slice_get_past, slice_get-get_or}
-use Rattle.tracing_core_hub.specs.Calls.{Call, ReplyTo}
+use Rattle.tracing_core_requests.specs.Calls.{Call, ReplyTo}
 use Rattle.tracing_core_hub.specs.Commands.{becomes}
 use Rattle.tracing_core_hub.specs.Handing.{CallGives, CallGivesAt}
 use Rattle.tracing_core_hub.specs.Lent.{IsPlaceOrEnd, living_of}
-use Rattle.tracing_core_hub.specs.NoReplies.{no_reply}
+use Rattle.tracing_core_requests.specs.NoReplies.{no_reply}
 use Rattle.tracing_core_hub.specs.declared.hub.parts.Entry.{Entry}
-use Rattle.tracing_core_hub.specs.declared.subscriber.Subscriber.{Ghosts}
+use Rattle.tracing_core_requests.specs.declared.subscriber.Subscriber.{Ghosts}
 
 -- past the end, the handle leads to nobody
 pub nobody_there : {S : Type 0} (dispatch : Option ℕ) (es : List (Entry S)) (i : ℕ) → IsPlaceOrEnd dispatch es i → length es ≤ i → living_of dispatch es ≡ None

@@ -2,19 +2,20 @@
 use Rattle.std.proofs.Common.{◌≡◌, ℕ, ◌≤◌, Bool, true, false, max, List, [], ◌∷◌, Option, Some, None, refl, ap, sym, ◌∙◌, subst, arith, ◌⊎◌, inl, inr}
 use Rattle.std.specs.Prelude.{if◌then◌else◌}
 use Rattle.tracing_core_fields.specs.PlainMetadata.{PlainMetadata}
-use Rattle.tracing_core_hub.specs.Asking.{Each, Registers, Hints, RowAsked, joined, settled, level_of}
-use Rattle.tracing_core_hub.specs.Calls.{CallsiteRegistered, HintAsked}
+use Rattle.tracing_core_hub.specs.Asking.{Each, Registers, Hints, RowAsked, level_of}
+use Rattle.tracing_core_requests.specs.Interests.{joined, settled, PlainInterest, common, Covers}
+use Rattle.tracing_core_requests.specs.Calls.{CallsiteRegistered, HintAsked}
 use Rattle.tracing_core_hub.specs.Commands.{Rebuilt, becomes, known, row_of, is_at}
 use Rattle.tracing_core_hub.specs.Handles.{entry_of, is_of}
-use Rattle.tracing_core_hub.specs.Interests.{PlainInterest, common}
-use Rattle.tracing_core_hub.specs.Kept.{Covers, Every, IsTrueRow, RowRight, Kept, asked_anew}
-use Rattle.tracing_core_hub.specs.Steady.{IsReal, SameWord}
+use Rattle.tracing_core_requests.specs.Lists.{Every}
+use Rattle.tracing_core_hub.specs.Kept.{IsTrueRow, RowRight, Kept, asked_anew}
+use Rattle.tracing_core_requests.specs.Steady.{IsReal, SameWord}
 use Rattle.tracing_core_hub.specs.Table.{Table}
-use Rattle.tracing_core_hub.specs.declared.callsite.Callsite.{Ghosts as SiteGhosts}
+use Rattle.tracing_core_requests.specs.declared.callsite.Callsite.{Ghosts as SiteGhosts}
 use Rattle.tracing_core_hub.specs.declared.hub.parts.Entry.{Entry}
 use Rattle.tracing_core_hub.specs.declared.hub.parts.Row.{Row}
-use Rattle.tracing_core_hub.specs.declared.interest.InterestInner.TheVariants.{Never, Sometimes, Always}
-use Rattle.tracing_core_hub.specs.declared.subscriber.Subscriber.{Ghosts}
+use Rattle.tracing_core_requests.specs.declared.interest.InterestInner.TheVariants.{Never, Sometimes, Always}
+use Rattle.tracing_core_requests.specs.declared.subscriber.Subscriber.{Ghosts}
 
 pub covers_self : (j : PlainInterest) → Covers j j
 covers_self Never = refl

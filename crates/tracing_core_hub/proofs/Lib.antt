@@ -1,4 +1,3 @@
-pub mod Boxes
 pub mod Entries
 pub mod Loops
 pub mod Asks

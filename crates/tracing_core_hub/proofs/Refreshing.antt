@@ -2,21 +2,22 @@
 use Rattle.std.proofs.Common.{◌≡◌, ℕ, ◌≤◌, Bool, true, false, max, List, [], ◌∷◌, Option, Some, None, refl, ap, sym, ◌∙◌, subst, arith, ◌⊎◌, inl, inr}
 use Rattle.std.specs.Prelude.{if◌then◌else◌}
 use Rattle.tracing_core_fields.specs.PlainMetadata.{PlainMetadata}
-use Rattle.tracing_core_hub.specs.Asking.{Each, Registers, Hints, RowAsked, joined, settled, level_of}
-use Rattle.tracing_core_hub.specs.Calls.{CallsiteRegistered, HintAsked}
+use Rattle.tracing_core_hub.specs.Asking.{Each, Registers, Hints, RowAsked, level_of}
+use Rattle.tracing_core_requests.specs.Interests.{joined, settled, PlainInterest, common, Covers}
+use Rattle.tracing_core_requests.specs.Calls.{CallsiteRegistered, HintAsked}
 use Rattle.tracing_core_hub.specs.Commands.{Rebuilt, becomes}
 use Rattle.tracing_core_hub.specs.Handles.{entry_of, is_of}
-use Rattle.tracing_core_hub.specs.Interests.{PlainInterest, common}
 use Rattle.tracing_core_hub.specs.Keeping.{IsNever, IsOff}
-use Rattle.tracing_core_hub.specs.Kept.{Covers, Every, IsTrueRow, RowRight, Kept, asked_anew}
+use Rattle.tracing_core_requests.specs.Lists.{Every}
+use Rattle.tracing_core_hub.specs.Kept.{IsTrueRow, RowRight, Kept, asked_anew}
 use Rattle.tracing_core_hub.specs.Refreshing.{Answers, Answered, Joins, RowRefreshed, Tells, Told, Raises, Refreshed}
 use Rattle.tracing_core_hub.specs.Sound.{Ascends, AreDistinct, IsSound, serials, identifiers}
-use Rattle.tracing_core_hub.specs.Steady.{IsReal, SameWord}
+use Rattle.tracing_core_requests.specs.Steady.{IsReal, SameWord}
 use Rattle.tracing_core_hub.specs.Table.{Table}
-use Rattle.tracing_core_hub.specs.declared.callsite.Callsite.{Ghosts as SiteGhosts}
+use Rattle.tracing_core_requests.specs.declared.callsite.Callsite.{Ghosts as SiteGhosts}
 use Rattle.tracing_core_hub.specs.declared.hub.parts.Entry.{Entry}
 use Rattle.tracing_core_hub.specs.declared.hub.parts.Row.{Row}
-use Rattle.tracing_core_hub.specs.declared.subscriber.Subscriber.{Ghosts}
+use Rattle.tracing_core_requests.specs.declared.subscriber.Subscriber.{Ghosts}
 use Rattle.tracing_core_hub.proofs.Keeping.{both_words, covers_left, covers_right, covers_self, entry_head, entry_tail, right_onward, same_word}
 use Rattle.tracing_core_hub.proofs.Living.{each_serials}
 

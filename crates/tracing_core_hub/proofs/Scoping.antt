@@ -4,14 +4,14 @@ use Rattle.std.specs.Borrow.{Bor, MutBor}
 use Rattle.std.specs.Fn.{Once}
 use Rattle.tracing_core_hub.specs.Commands.{reached}
 use Rattle.tracing_core_hub.specs.Defaults.{guard_of, locally}
-use Rattle.tracing_core_hub.specs.Handles.{or_same}
+use Rattle.tracing_core_requests.specs.Refusals.{or_same}
 use Rattle.tracing_core_hub.specs.Keeping.{Keeps, KeepsLiving}
 use Rattle.tracing_core_hub.specs.Scopes.{BodyLeaves, CallsLeave, CalledInside, CurrentGives, CurrentGivesAt, DefaultGives, DefaultGivesAt, WithDefaultGives, is_outside, marked}
 use Rattle.tracing_core_hub.specs.Table.{Table}
-use Rattle.tracing_core_hub.specs.declared.callsite.Callsite.{Ghosts as SiteGhosts}
+use Rattle.tracing_core_requests.specs.declared.callsite.Callsite.{Ghosts as SiteGhosts}
 use Rattle.tracing_core_hub.specs.declared.guard.WrongLane.{WrongLane}
 use Rattle.tracing_core_hub.specs.declared.refusal.SetDefaultError.{SetDefaultError}
-use Rattle.tracing_core_hub.specs.declared.subscriber.Subscriber.{Ghosts}
+use Rattle.tracing_core_requests.specs.declared.subscriber.Subscriber.{Ghosts}
 use Rattle.tracing_core_hub.proofs.Words.{default_keeps, itself_living, living_from, living_then, reset_keeps, same_keeps}
 
 -- what holds of marks, of nothing done, and of one step after another, holds of a call if it holds of f

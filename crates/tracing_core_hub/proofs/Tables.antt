@@ -5,8 +5,8 @@ use Rattle.tracing_core_hub.specs.Asking.{RowAsked}
 use Rattle.tracing_core_hub.specs.Table.{Table}
 use Rattle.tracing_core_hub.specs.declared.hub.parts.Entry.{Entry}
 use Rattle.tracing_core_hub.specs.declared.hub.parts.Row.{Row}
-use Rattle.tracing_core_hub.specs.declared.subscriber.Subscriber.{Ghosts}
-use Rattle.tracing_core_hub.specs.declared.callsite.Callsite.{Ghosts as SiteGhosts}
+use Rattle.tracing_core_requests.specs.declared.subscriber.Subscriber.{Ghosts}
+use Rattle.tracing_core_requests.specs.declared.callsite.Callsite.{Ghosts as SiteGhosts}
 
 pub none_of : {A : Type 0} (o : Option A) → is_some o ≡ false → o ≡ None
 none_of None e = refl

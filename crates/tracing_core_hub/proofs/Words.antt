@@ -4,21 +4,23 @@ use Rattle.std.specs.Prelude.{if◌then◌else◌, ◌==◌, slice_get, OnOk, On
 use Rattle.std.specs.Cmp.{unsigned_Decides}
 use Rattle.tracing_core_fields.specs.PlainMetadata.{PlainMetadata}
 use Rattle.tracing_core_hub.specs.Asking.{level_of}
-use Rattle.tracing_core_hub.specs.Calls.{Call, ReplyTo, Asked, CallsiteRegistered, DispatchRegistered}
+use Rattle.tracing_core_requests.specs.Calls.{Call, ReplyTo, Asked, CallsiteRegistered, DispatchRegistered}
 use Rattle.tracing_core_hub.specs.Commands.{AskGives, AskGivesAt, AnswerGives, GateGives, GateGivesAt, AddGives, Rebuilt, Registered, RegisterGives, RegisterGivesAt, TakeGives, becomes, kept_alike, known, living, new_row, reached, row_of}
 use Rattle.tracing_core_hub.specs.Defaults.{holding, letting_go, globally, global_refusal, locally, default_refusal, given_up, end_gives, end_gives_at, reset_gives, reset_gives_at, running}
 use Rattle.tracing_core_hub.specs.Handing.{CallGives, CallGivesAt, HubGives}
-use Rattle.tracing_core_hub.specs.Handles.{entry_of, changed, without, is_of, held, given_back, given_back_at, hold_refusal, one_more, one_less, or_same}
-use Rattle.tracing_core_hub.specs.Interests.{PlainInterest}
+use Rattle.tracing_core_hub.specs.Handles.{entry_of, changed, without, is_of, held, given_back, given_back_at, hold_refusal, one_more, one_less}
+use Rattle.tracing_core_requests.specs.Refusals.{or_same}
+use Rattle.tracing_core_requests.specs.Interests.{PlainInterest, Covers}
 use Rattle.tracing_core_hub.specs.Keeping.{Keeps, KeepsLiving, KeepsOthers, KeepsBy, StaysRight}
-use Rattle.tracing_core_hub.specs.Kept.{Covers, Every, IsTrueRow, RowRight, Kept, asked_anew}
+use Rattle.tracing_core_requests.specs.Lists.{Every}
+use Rattle.tracing_core_hub.specs.Kept.{IsTrueRow, RowRight, Kept, asked_anew}
 use Rattle.tracing_core_hub.specs.Lent.{lent_to, given_as}
 use Rattle.tracing_core_hub.specs.Refreshing.{Refreshed}
 use Rattle.tracing_core_hub.specs.Sound.{Ascends, IsSound, serials}
-use Rattle.tracing_core_hub.specs.Steady.{IsReal, IsRealCall, SameWord}
+use Rattle.tracing_core_requests.specs.Steady.{IsReal, IsRealCall, SameWord}
 use Rattle.tracing_core_hub.specs.Table.{Table, chosen}
-use Rattle.tracing_core_hub.specs.declared.at.At.{At}
-use Rattle.tracing_core_hub.specs.declared.callsite.Callsite.{Ghosts as SiteGhosts}
+use Rattle.tracing_core_requests.specs.declared.at.At.{At}
+use Rattle.tracing_core_requests.specs.declared.callsite.Callsite.{Ghosts as SiteGhosts}
 use Rattle.tracing_core_hub.specs.declared.guard.DefaultGuard.{DefaultGuard}
 use Rattle.tracing_core_hub.specs.declared.guard.WrongLane.{WrongLane}
 use Rattle.tracing_core_hub.specs.declared.refusal.AddError.{AddError}
@@ -31,7 +33,7 @@ use Rattle.tracing_core_hub.specs.declared.hub.parts.Row.{Row}
 use Rattle.tracing_core_hub.specs.declared.hub.parts.Lane.{Lane}
 use Rattle.tracing_core_hub.specs.declared.hub.parts.Lane.TheVariants.{Ended, Running}
 use Rattle.tracing_core_hub.specs.declared.hub.parts.Setting.{Setting}
-use Rattle.tracing_core_hub.specs.declared.subscriber.Subscriber.{Ghosts}
+use Rattle.tracing_core_requests.specs.declared.subscriber.Subscriber.{Ghosts}
 use Rattle.tracing_core_hub.proofs.Keeping.{asked_one, right_onward, row_every, same_word}
 use Rattle.tracing_core_hub.proofs.Living.{by_bool, if_either, changed_own, changed_other, without_own, without_other, serials_changed, ascends_without, absent_above, entry_appended, entry_last}
 use Rattle.tracing_core_hub.proofs.Later.{below_next, later_added, later_alike, later_then, later_without}

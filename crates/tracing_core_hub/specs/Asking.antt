@@ -1,13 +1,13 @@
 -- Asking all subscribers, in order.
 use Rattle.std.specs.Prelude.{◌≡◌, ℕ, max, false, List, [], ◌∷◌, Option, Some, None}
 use Rattle.tracing_core_fields.specs.PlainMetadata.{PlainMetadata}
-use Rattle.tracing_core_hub.specs.Calls.{CallsiteRegistered, HintAsked}
-use Rattle.tracing_core_hub.specs.Interests.{PlainInterest, common}
+use Rattle.tracing_core_requests.specs.Calls.{CallsiteRegistered, HintAsked}
+use Rattle.tracing_core_requests.specs.Interests.{PlainInterest, common}
 use Rattle.tracing_core_hub.specs.declared.hub.parts.Entry.{Entry}
 use Rattle.tracing_core_hub.specs.declared.hub.parts.Row.{Row}
-use Rattle.tracing_core_hub.specs.declared.interest.InterestInner.TheVariants.{Never}
-use Rattle.tracing_core_hub.specs.declared.subscriber.Subscriber.{Ghosts}
-use Rattle.tracing_core_hub.specs.declared.callsite.Callsite.{Ghosts as SiteGhosts}
+use Rattle.tracing_core_requests.specs.declared.interest.InterestInner.TheVariants.{Never}
+use Rattle.tracing_core_requests.specs.declared.subscriber.Subscriber.{Ghosts}
+use Rattle.tracing_core_requests.specs.declared.callsite.Callsite.{Ghosts as SiteGhosts}
 
 -- each element in turn becomes another, and what is gathered goes on from one to the next
 abbrev pub Each : {K A : Type 0} → (K → A → A → K → Type 0) → K → List A → List A → K → Type 0
@@ -15,16 +15,6 @@ Each R k [] [] last = last ≡ k
 Each R k [] (y ∷ ys) last = ⊥
 Each R k (x ∷ xs) [] last = ⊥
 Each {K = K} R k (x ∷ xs) (y ∷ ys) last = (j : K) × R k x y j × Each R j xs ys last
-
--- the common interest with those before, where there were any
-abbrev pub joined : Option PlainInterest → PlainInterest → Option PlainInterest
-joined None answer = Some answer
-joined (Some interest) answer = Some (common interest answer)
-
--- never where nobody was asked
-abbrev pub settled : Option PlainInterest → PlainInterest
-settled None = Never
-settled (Some interest) = interest
 
 -- an absent hint counts as the most verbose level
 abbrev pub level_of : Option ℕ → ℕ

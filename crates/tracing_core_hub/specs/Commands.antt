@@ -2,21 +2,21 @@
 use Rattle.std.specs.Prelude.{◌≡◌, ℕ, ◌+◌, ◌==◌, nat_le, Bool, true, false, if◌then◌else◌, List, [], ◌∷◌, ◌++◌, Option, Some, None, Result, Ok, Err, slice_get}
 use Rattle.tracing_core_fields.specs.PlainMetadata.{PlainMetadata, is_same_metadata}
 use Rattle.tracing_core_hub.specs.Asking.{Each, RowAsked, Hints}
-use Rattle.tracing_core_hub.specs.Calls.{Asked, DispatchRegistered}
+use Rattle.tracing_core_requests.specs.Calls.{Asked, DispatchRegistered}
 use Rattle.tracing_core_hub.specs.Handles.{entry_of, changed, most}
-use Rattle.tracing_core_hub.specs.Interests.{PlainInterest}
+use Rattle.tracing_core_requests.specs.Interests.{PlainInterest}
 use Rattle.tracing_core_hub.specs.Refreshing.{Refreshed}
 use Rattle.tracing_core_hub.specs.Table.{Table, chosen, own_setting, effective}
-use Rattle.tracing_core_hub.specs.declared.at.At.{At}
+use Rattle.tracing_core_requests.specs.declared.at.At.{At}
 use Rattle.tracing_core_hub.specs.declared.refusal.AddError.{AddError}
 use Rattle.tracing_core_hub.specs.declared.refusal.AddError.TheVariants as add
 use Rattle.tracing_core_hub.specs.declared.refusal.RegisterError.{RegisterError}
 use Rattle.tracing_core_hub.specs.declared.refusal.RegisterError.TheVariants as registering
 use Rattle.tracing_core_hub.specs.declared.hub.parts.Entry.{Entry}
 use Rattle.tracing_core_hub.specs.declared.hub.parts.Row.{Row}
-use Rattle.tracing_core_hub.specs.declared.interest.InterestInner.TheVariants.{Never, Sometimes, Always}
-use Rattle.tracing_core_hub.specs.declared.subscriber.Subscriber.{Ghosts}
-use Rattle.tracing_core_hub.specs.declared.callsite.Callsite.{Ghosts as SiteGhosts}
+use Rattle.tracing_core_requests.specs.declared.interest.InterestInner.TheVariants.{Never, Sometimes, Always}
+use Rattle.tracing_core_requests.specs.declared.subscriber.Subscriber.{Ghosts}
+use Rattle.tracing_core_requests.specs.declared.callsite.Callsite.{Ghosts as SiteGhosts}
 
 abbrev pub is_at : {C : Type 0} → ℕ → Row C → Bool
 is_at identifier row = row.identifier == identifier

@@ -1,8 +1,8 @@
 -- Callsites that keep what they are told.
 use Rattle.tracing_core_fields.specs.Metadata.{plain_metadata}
 use Rattle.tracing_core_fields.specs.PlainMetadata.{PlainMetadata}
-use Rattle.tracing_core_hub.specs.Interests.{PlainInterest}
-use Rattle.tracing_core_hub.specs.declared.interest.InterestInner.TheVariants.{Never}
+use Rattle.tracing_core_requests.specs.Interests.{PlainInterest}
+use Rattle.tracing_core_requests.specs.declared.interest.InterestInner.TheVariants.{Never}
 use Rattle.tracing_core_hub.specs.declared.callsite.default.DefaultCallsite.{DefaultCallsite}
 
 abbrev pub site_metadata : DefaultCallsite → PlainMetadata

@@ -1,12 +1,12 @@
 -- Requests that are handed to the subscriber of a handle.
 use Rattle.std.specs.Prelude.{◌≡◌, ℕ, List, Option, Some, None}
-use Rattle.tracing_core_hub.specs.Calls.{Call, ReplyTo}
+use Rattle.tracing_core_requests.specs.Calls.{Call, ReplyTo}
 use Rattle.tracing_core_hub.specs.Commands.{becomes}
 use Rattle.tracing_core_hub.specs.Lent.{living_of, living_changed}
-use Rattle.tracing_core_hub.specs.NoReplies.{no_reply}
+use Rattle.tracing_core_requests.specs.NoReplies.{no_reply}
 use Rattle.tracing_core_hub.specs.Table.{Table}
 use Rattle.tracing_core_hub.specs.declared.hub.parts.Entry.{Entry}
-use Rattle.tracing_core_hub.specs.declared.subscriber.Subscriber.{Ghosts}
+use Rattle.tracing_core_requests.specs.declared.subscriber.Subscriber.{Ghosts}
 
 module _ {S : Type 0} (g : Ghosts S) where
   abbrev pub CallGivesAt : (c : Call) → Option ℕ → List (Entry S) → Option (Entry S) → ReplyTo c → List (Entry S) → Type 0

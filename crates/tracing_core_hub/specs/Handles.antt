@@ -46,16 +46,6 @@ abbrev pub held : {S : Type 0} → Option ℕ → List (Entry S) → List (Entry
 held None es = es
 held (Some serial) es = changed serial one_more es
 
--- the refusal, or the answer
-abbrev pub or_refused : {A B : Type 0} → Option B → A → Result A B
-or_refused None a = Ok a
-or_refused (Some e) a = Err e
-
--- what was before a refusal, or what is after
-abbrev pub or_same : {A B : Type 0} → Option B → A → A → A
-or_same None before after = after
-or_same (Some e) before after = before
-
 -- the subscriber whose last handle was given back, and who is left
 abbrev pub given_back_at : {S : Type 0} → ℕ → List (Entry S) → Option (Entry S) → Option S × List (Entry S)
 given_back_at serial es None = (None, es)

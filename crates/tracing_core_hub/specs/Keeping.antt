@@ -1,14 +1,15 @@
 -- What a command leaves of what a hub knows.
 use Rattle.std.specs.Prelude.{◌≡◌, ◌<◌, ◌≤◌, ◌⊎◌, ℕ, Bool, true, false, Some, None}
 use Rattle.tracing_core_hub.specs.Handles.{entry_of}
-use Rattle.tracing_core_hub.specs.Kept.{Every, Kept}
+use Rattle.tracing_core_requests.specs.Lists.{Every}
+use Rattle.tracing_core_hub.specs.Kept.{Kept}
 use Rattle.tracing_core_hub.specs.Sound.{IsSound}
 use Rattle.tracing_core_hub.specs.Table.{Table}
-use Rattle.tracing_core_hub.specs.declared.callsite.Callsite.{Ghosts as SiteGhosts}
+use Rattle.tracing_core_requests.specs.declared.callsite.Callsite.{Ghosts as SiteGhosts}
 use Rattle.tracing_core_hub.specs.declared.hub.parts.Entry.{Entry}
 use Rattle.tracing_core_hub.specs.declared.hub.parts.Row.{Row}
-use Rattle.tracing_core_hub.specs.declared.interest.InterestInner.TheVariants.{Never}
-use Rattle.tracing_core_hub.specs.declared.subscriber.Subscriber.{Ghosts}
+use Rattle.tracing_core_requests.specs.declared.interest.InterestInner.TheVariants.{Never}
+use Rattle.tracing_core_requests.specs.declared.subscriber.Subscriber.{Ghosts}
 
 abbrev pub IsNever : {C : Type 0} → Row C → Type 0
 IsNever row = row.interest ≡ Never

@@ -1,17 +1,8 @@
-pub mod Interests
-pub mod PlainRequests
-pub mod Calls
-pub mod Steady
-pub mod NoReplies
 pub mod Table
 pub mod Handles
 pub mod Asking
 pub mod Commands
 pub mod Defaults
-pub mod Attributes
-pub mod Records
-pub mod Events
-pub mod Currents
 pub mod DefaultCallsites
 pub mod Lent
 pub mod Kept

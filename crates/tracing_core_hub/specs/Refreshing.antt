@@ -1,14 +1,14 @@
 -- Asking again whoever was never asked or was lent since, and maybe others.
 use Rattle.std.specs.Prelude.{◌≡◌, ◌≤◌, ◌⊎◌, ℕ, max, false, List, Option, None}
-use Rattle.tracing_core_hub.specs.Asking.{Each, joined, settled, level_of}
-use Rattle.tracing_core_hub.specs.Calls.{CallsiteRegistered, HintAsked}
-use Rattle.tracing_core_hub.specs.Interests.{PlainInterest}
-use Rattle.tracing_core_hub.specs.Kept.{Covers, Kept}
+use Rattle.tracing_core_hub.specs.Asking.{Each, level_of}
+use Rattle.tracing_core_requests.specs.Interests.{joined, settled, PlainInterest, Covers}
+use Rattle.tracing_core_requests.specs.Calls.{CallsiteRegistered, HintAsked}
+use Rattle.tracing_core_hub.specs.Kept.{Kept}
 use Rattle.tracing_core_hub.specs.Table.{Table}
-use Rattle.tracing_core_hub.specs.declared.callsite.Callsite.{Ghosts as SiteGhosts}
+use Rattle.tracing_core_requests.specs.declared.callsite.Callsite.{Ghosts as SiteGhosts}
 use Rattle.tracing_core_hub.specs.declared.hub.parts.Entry.{Entry}
 use Rattle.tracing_core_hub.specs.declared.hub.parts.Row.{Row}
-use Rattle.tracing_core_hub.specs.declared.subscriber.Subscriber.{Ghosts}
+use Rattle.tracing_core_requests.specs.declared.subscriber.Subscriber.{Ghosts}
 
 module _ {S C : Type 0} (g : Ghosts S) (h : SiteGhosts C) (t : Table S C) where
   -- this is true of the subscriber of the number, if what the table keeps is right of it

@@ -3,12 +3,13 @@ use Rattle.std.specs.Prelude.{◌≡◌, ℕ, Bool, true, false, List, [], ◌�
 use Rattle.std.specs.Option.{option_map}
 use Rattle.tracing_core_hub.specs.Commands.{AddGives, GateGives, RegisterGives, Rebuilt, reached, row_of}
 use Rattle.tracing_core_hub.specs.Defaults.{was_set, holding, letting_go, global_refusal, globally, default_refusal, locally, guard_of, running, end_gives, reset_gives}
-use Rattle.tracing_core_hub.specs.Handles.{given_back, hold_refusal, or_refused, or_same}
+use Rattle.tracing_core_hub.specs.Handles.{given_back, hold_refusal}
+use Rattle.tracing_core_requests.specs.Refusals.{or_refused, or_same}
 use Rattle.tracing_core_hub.specs.Keeping.{KeepsBy}
 use Rattle.tracing_core_hub.specs.Refreshing.{Refreshed}
 use Rattle.tracing_core_hub.specs.Table.{Table}
-use Rattle.tracing_core_hub.specs.declared.at.At.{At}
-use Rattle.tracing_core_hub.specs.declared.callsite.Callsite.{Ghosts as SiteGhosts}
+use Rattle.tracing_core_requests.specs.declared.at.At.{At}
+use Rattle.tracing_core_requests.specs.declared.callsite.Callsite.{Ghosts as SiteGhosts}
 use Rattle.tracing_core_hub.specs.declared.guard.DefaultGuard.{DefaultGuard}
 use Rattle.tracing_core_hub.specs.declared.guard.WrongLane.{WrongLane}
 use Rattle.tracing_core_hub.specs.declared.hub.parts.Lane.{Lane}
@@ -26,7 +27,7 @@ use Rattle.tracing_core_hub.specs.declared.run.command.Command.TheVariants as co
 use Rattle.tracing_core_hub.specs.declared.run.command.CommandError.TheVariants as error
 use Rattle.tracing_core_hub.specs.declared.run.command.CommandReply.{CommandReply}
 use Rattle.tracing_core_hub.specs.declared.run.command.CommandReply.TheVariants as reply
-use Rattle.tracing_core_hub.specs.declared.subscriber.Subscriber.{Ghosts}
+use Rattle.tracing_core_requests.specs.declared.subscriber.Subscriber.{Ghosts}
 
 -- what each handle, each weak handle and each guard leads to, by number; what is spent leads nowhere
 pub record PlainBook : Type 0 where

@@ -1,8 +1,9 @@
 -- What is true of every hub.
 use Rattle.std.specs.Prelude.{◌≡◌, ◌≤◌, ◌+◌, ℕ, List, [], ◌∷◌, map}
-use Rattle.tracing_core_hub.specs.Kept.{Every, IsTrueRow}
+use Rattle.tracing_core_requests.specs.Lists.{Every}
+use Rattle.tracing_core_hub.specs.Kept.{IsTrueRow}
 use Rattle.tracing_core_hub.specs.Table.{Table}
-use Rattle.tracing_core_hub.specs.declared.callsite.Callsite.{Ghosts as SiteGhosts}
+use Rattle.tracing_core_requests.specs.declared.callsite.Callsite.{Ghosts as SiteGhosts}
 use Rattle.tracing_core_hub.specs.declared.hub.parts.Entry.{Entry}
 use Rattle.tracing_core_hub.specs.declared.hub.parts.Row.{Row}
 

@@ -41,34 +41,3 @@ impl Dispatch {
         self.serial
     }
 }
-
-/// A handle that doesn't keep its subscriber in the hub. A contract sees it as the number of the
-/// subscriber.
-#[derive(Clone, Copy, Debug)]
-pub struct WeakDispatch {
-    serial: Option<u64>,
-}
-
-impl Model for WeakDispatch {
-    ghost use Rattle.std.specs.Prelude.{ℕ, Option};
-
-    ghost Value = { Option ℕ };
-
-    ghost view = { λ dispatch. dispatch.serial };
-
-    ghost inverse = { λ serial. record { serial = serial } };
-}
-
-impl WeakDispatch {
-    pub(crate) fn new(serial: Option<u64>) -> WeakDispatch
-        ensures { result ≡ serial }
-    {
-        WeakDispatch { serial }
-    }
-
-    pub(crate) fn serial(&self) -> Option<u64>
-        ensures { result ≡ self.now }
-    {
-        self.serial
-    }
-}

@@ -8,6 +8,7 @@ ghost use Rattle.tracing_core_hub.specs.declared.hub.parts.Setting.TheVariants.{
 
 mod asking;
 mod defaults;
+mod dispatching;
 mod entries;
 mod gate;
 mod handing;
@@ -22,14 +23,13 @@ mod scoped;
 mod table;
 mod taking;
 
-use crate::callsite::Callsite;
-use crate::subscriber::Subscriber;
 use parts::{Entry, Row};
 pub use parts::{Lane, Setting};
 use std::alloc::{AllocError, Global};
 use std::marker::Model;
 pub use table::{HandleCount, HubTable, KeptInterest};
 use tracing_core_fields::LevelFilter;
+use tracing_core_requests::{Callsite, Subscriber};
 
 /// Subscribers that handles lead to, callsites with their common interests, and the defaults of lanes.
 ///

@@ -1,7 +1,8 @@
 //! A boxed filter is one.
 use crate::context::Context;
 use crate::filter::Filter;
-use tracing_core::{Attributes, Event, Id, Interest, LevelFilter, Metadata, Record};
+use tracing_core_fields::{Id, LevelFilter, Metadata};
+use tracing_core_requests::{Attributes, Event, Interest, Record};
 
 /// The box answers what the filter in it does.
 impl Filter for Box<dyn Filter> {

@@ -6,7 +6,8 @@ ghost use Rattle.span_registry_layers_layers.specs.Singles.{both_single, either_
 
 use crate::context::Context;
 use crate::filter::Filter;
-use tracing_core::{Attributes, Event, Id, Interest, LevelFilter, Metadata, Record};
+use tracing_core_fields::{Id, LevelFilter, Metadata};
+use tracing_core_requests::{Attributes, Event, Interest, Record};
 
 /// Passes what both filters pass.
 #[derive(Clone, Copy, Debug, Drop)]
@@ -56,8 +57,8 @@ impl<A> Not<A> {
 }
 
 impl<A: Filter, B: Filter> Filter for And<A, B> {
-    ghost use Rattle.tracing_core.specs.Interests.{PlainInterest};
-    ghost use Rattle.tracing_core.specs.PlainMetadata.{PlainMetadata};
+    ghost use Rattle.tracing_core_requests.specs.Interests.{PlainInterest};
+    ghost use Rattle.tracing_core_fields.specs.PlainMetadata.{PlainMetadata};
     ghost use Rattle.span_registry_layers_layers.specs.Combined.{Both, SaysOf, both_fair, both_hints, both_interests, joined_word};
 
     ghost answers = { λ f m v r. Both (A.answers f.a m v) (B.answers f.b m v) r };
@@ -126,8 +127,8 @@ impl<A: Filter, B: Filter> Filter for And<A, B> {
 }
 
 impl<A: Filter, B: Filter> Filter for Or<A, B> {
-    ghost use Rattle.tracing_core.specs.Interests.{PlainInterest};
-    ghost use Rattle.tracing_core.specs.PlainMetadata.{PlainMetadata};
+    ghost use Rattle.tracing_core_requests.specs.Interests.{PlainInterest};
+    ghost use Rattle.tracing_core_fields.specs.PlainMetadata.{PlainMetadata};
     ghost use Rattle.span_registry_layers_layers.specs.Combined.{Either, SaysOf, either_fair, either_hint, either_interest, joined_word};
 
     ghost answers = { λ f m v r. Either (A.answers f.a m v) (B.answers f.b m v) r };
@@ -196,8 +197,8 @@ impl<A: Filter, B: Filter> Filter for Or<A, B> {
 }
 
 impl<A: Filter> Filter for Not<A> {
-    ghost use Rattle.tracing_core.specs.Interests.{PlainInterest};
-    ghost use Rattle.tracing_core.specs.PlainMetadata.{PlainMetadata};
+    ghost use Rattle.tracing_core_requests.specs.Interests.{PlainInterest};
+    ghost use Rattle.tracing_core_fields.specs.PlainMetadata.{PlainMetadata};
     ghost use Rattle.span_registry_layers_layers.specs.Combined.{SaysTurned, Turned, turned_fair, turned_word};
 
     ghost answers = { λ f m v r. Turned (A.answers f.a m v) r };

@@ -8,7 +8,8 @@ ghost use Rattle.span_registry_layers_layers.specs.Singles.{dynamic_single};
 
 use crate::context::Context;
 use crate::filter::Filter;
-use tracing_core::{Attributes, Event, Id, Interest, LevelFilter, Metadata, Record};
+use tracing_core_fields::{Id, LevelFilter, Metadata};
+use tracing_core_requests::{Attributes, Event, Interest, Record};
 
 /// Decides by metadata and by what the context shows.
 pub type ContextTest = Box<dyn Fn(&Metadata<'_>, &Context<'_>) -> bool>;

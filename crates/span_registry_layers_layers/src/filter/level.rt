@@ -6,7 +6,8 @@ ghost use Rattle.span_registry_layers_layers.specs.Singles.{function_single};
 
 use crate::context::Context;
 use crate::filter::Filter;
-use tracing_core::{Attributes, Event, Id, Interest, LevelFilter, Metadata, Record};
+use tracing_core_fields::{Id, LevelFilter, Metadata};
+use tracing_core_requests::{Attributes, Event, Interest, Record};
 
 /// Passes what is at most as verbose as the filter's level.
 impl Filter for LevelFilter {

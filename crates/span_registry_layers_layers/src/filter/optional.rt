@@ -1,7 +1,8 @@
 //! A filter that may be absent.
 use crate::context::Context;
 use crate::filter::Filter;
-use tracing_core::{Attributes, Event, Id, Interest, LevelFilter, Metadata, Record};
+use tracing_core_fields::{Id, LevelFilter, Metadata};
+use tracing_core_requests::{Attributes, Event, Interest, Record};
 
 /// Passes all where it is absent.
 impl<F: Filter> Filter for Option<F> {

@@ -1,13 +1,14 @@
 //! A boxed layer is one.
 ghost use Rattle.std.proofs.Common.{subst, sym};
 ghost use Rattle.std.specs.Prelude.{◌≡◌};
-ghost use Rattle.tracing_core.specs.Steady.{SameWord};
+ghost use Rattle.tracing_core_requests.specs.Steady.{SameWord};
 ghost use Rattle.span_registry_layers_layers.specs.Numbering.{NumbersStay};
 
 use crate::context::Context;
 use crate::layer::Layer;
 use span_registry_layers_store::{FilterMap, Registry};
-use tracing_core::{Attributes, Event, Id, Interest, LevelFilter, Metadata, Record, WeakDispatch};
+use tracing_core_fields::{Id, LevelFilter, Metadata};
+use tracing_core_requests::{Attributes, Event, Interest, Record, WeakDispatch};
 
 /// The box does and answers what the layer in it does.
 impl Layer for Box<dyn Layer> {

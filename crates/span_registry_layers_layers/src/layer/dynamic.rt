@@ -1,7 +1,7 @@
 //! A stored closure that looks at the context, as a layer that vetoes what it refuses.
 ghost use Rattle.std.proofs.Common.{subst, sym};
 ghost use Rattle.std.specs.Prelude.{◌≡◌, true, false, refl};
-ghost use Rattle.tracing_core.specs.Steady.{SameWord};
+ghost use Rattle.tracing_core_requests.specs.Steady.{SameWord};
 ghost use Rattle.span_registry_layers_layers.specs.Combined.{same_word};
 ghost use Rattle.span_registry_layers_layers.specs.Dynamic.{AnswersIn, SaysIn};
 ghost use Rattle.span_registry_layers_layers.specs.Honesty.{Fair};
@@ -13,7 +13,8 @@ use crate::context::Context;
 use crate::filter::{CallsiteTest, ContextTest, DynFilterFn, Filter};
 use crate::layer::Layer;
 use span_registry_layers_store::{FilterMap, Registry};
-use tracing_core::{Attributes, Event, Id, Interest, LevelFilter, Metadata, Record, WeakDispatch};
+use tracing_core_fields::{Id, LevelFilter, Metadata};
+use tracing_core_requests::{Attributes, Event, Interest, Record, WeakDispatch};
 
 /// Nobody is told of what the closure refuses.
 impl Layer for DynFilterFn {

@@ -1,7 +1,7 @@
 //! A layer below a filter, as a layer.
 ghost use Rattle.std.specs.Prelude.{◌≡◌, ◌&&◌, None, true};
-ghost use Rattle.tracing_core.specs.InterestInner.TheVariants.{Always};
-ghost use Rattle.tracing_core.specs.PlainRequests.{plain_attributes, plain_event, plain_record};
+ghost use Rattle.tracing_core_requests.specs.declared.interest.InterestInner.TheVariants.{Always};
+ghost use Rattle.tracing_core_requests.specs.PlainRequests.{plain_attributes, plain_event, plain_record};
 ghost use Rattle.span_registry_layers_layers.specs.Combined.{same_word};
 ghost use Rattle.span_registry_layers_layers.specs.Filtereds.{HearsEvent, HearsFollows, HearsId, HearsSpan, MayPass, is_seen};
 ghost use Rattle.span_registry_layers_layers.specs.Identities.{idle_fair};
@@ -12,7 +12,8 @@ use crate::filter::Filter;
 use crate::filtered::Filtered;
 use crate::layer::Layer;
 use span_registry_layers_store::{FilterMap, Registry};
-use tracing_core::{Attributes, Event, Id, Interest, LevelFilter, Metadata, Record, WeakDispatch};
+use tracing_core_fields::{Id, LevelFilter, Metadata};
+use tracing_core_requests::{Attributes, Event, Interest, Record, WeakDispatch};
 
 /// The layer is told of the events that its filter, asked afresh, passes, and of calls on the spans that the filter and
 /// all filters above it passed when they were made. It vetoes nothing, whatever the layer says.

@@ -1,6 +1,6 @@
 //! A layer that does nothing.
 ghost use Rattle.std.specs.Prelude.{◌≡◌, None, true, false, refl};
-ghost use Rattle.tracing_core.specs.InterestInner.TheVariants.{Always};
+ghost use Rattle.tracing_core_requests.specs.declared.interest.InterestInner.TheVariants.{Always};
 ghost use Rattle.span_registry_layers_layers.specs.Combined.{same_word};
 ghost use Rattle.span_registry_layers_layers.specs.Identities.{idle_fair};
 ghost use Rattle.span_registry_layers_layers.specs.Notices.{Untouched, untouched_writes};
@@ -10,7 +10,8 @@ ghost use Rattle.span_registry_layers_layers.specs.Singles.{leaf_once};
 use crate::context::Context;
 use crate::layer::Layer;
 use span_registry_layers_store::{FilterMap, Registry};
-use tracing_core::{Attributes, Event, Id, Interest, LevelFilter, Metadata, Record, WeakDispatch};
+use tracing_core_fields::{Id, LevelFilter, Metadata};
+use tracing_core_requests::{Attributes, Event, Interest, Record, WeakDispatch};
 
 /// A layer that does nothing with what it is told, and vetoes nothing.
 #[derive(Clone, Copy, Debug, Drop)]

@@ -5,7 +5,8 @@ ghost use Rattle.span_registry_layers_layers.specs.Layereds.{picked_hint, picked
 use crate::context::Context;
 use crate::layer::Layer;
 use span_registry_layers_store::{FilterMap, Registry};
-use tracing_core::{Attributes, Event, Id, Interest, LevelFilter, Metadata, Record, WeakDispatch};
+use tracing_core_fields::{Id, LevelFilter, Metadata};
+use tracing_core_requests::{Attributes, Event, Interest, Record, WeakDispatch};
 
 /// A layer over an inner one, or over a registry.
 ///

@@ -1,7 +1,7 @@
 //! A level filter as a layer that vetoes what it refuses.
 ghost use Rattle.std.proofs.Common.{subst, sym};
 ghost use Rattle.std.specs.Prelude.{◌≡◌, Some, nat_le, true, false, refl};
-ghost use Rattle.tracing_core.specs.Steady.{SameWord};
+ghost use Rattle.tracing_core_requests.specs.Steady.{SameWord};
 ghost use Rattle.span_registry_layers_layers.specs.Combined.{level_fair, level_interest, same_word};
 ghost use Rattle.span_registry_layers_layers.specs.Notices.{Untouched, untouched_writes};
 ghost use Rattle.span_registry_layers_layers.specs.Numbering.{no_numbers};
@@ -10,7 +10,8 @@ ghost use Rattle.span_registry_layers_layers.specs.Singles.{leaf_once};
 use crate::context::Context;
 use crate::layer::Layer;
 use span_registry_layers_store::{FilterMap, Registry};
-use tracing_core::{Attributes, Event, Id, Interest, LevelFilter, Metadata, Record, WeakDispatch};
+use tracing_core_fields::{Id, LevelFilter, Metadata};
+use tracing_core_requests::{Attributes, Event, Interest, Record, WeakDispatch};
 
 /// Nobody is told of what is more verbose than the level.
 impl Layer for LevelFilter {

@@ -2,7 +2,8 @@
 use crate::context::Context;
 use crate::layer::Layer;
 use span_registry_layers_store::{FilterMap, Registry};
-use tracing_core::{Attributes, Event, Id, Interest, LevelFilter, Metadata, Record, WeakDispatch};
+use tracing_core_fields::{Id, LevelFilter, Metadata};
+use tracing_core_requests::{Attributes, Event, Interest, Record, WeakDispatch};
 
 /// Where it is absent it vetoes nothing, but its hint is that it passes nothing: an absent layer doesn't keep its
 /// word.

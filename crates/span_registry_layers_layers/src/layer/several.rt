@@ -1,24 +1,24 @@
 //! Several layers as one.
-ghost use Rattle.std.specs.Prelude.{◌≡◌, ◌≤◌, ◌+◌, Bool, List, length};
-ghost use Rattle.tracing_core.specs.Metadata.{plain_metadata};
-ghost use Rattle.tracing_core.specs.PlainRequests.{plain_attributes, plain_event, plain_record};
-ghost use Rattle.tracing_core.specs.InterestInner.TheVariants.{Never};
+ghost use Rattle.std.specs.Prelude.{◌≡◌, ◌≤◌, ◌+◌, Bool, List, length, Some};
+ghost use Rattle.tracing_core_fields.specs.Metadata.{plain_metadata};
+ghost use Rattle.tracing_core_requests.specs.PlainRequests.{plain_attributes, plain_event, plain_record};
+ghost use Rattle.tracing_core_requests.specs.declared.interest.InterestInner.TheVariants.{Never};
 ghost use Rattle.span_registry_layers_layers.specs.Looks.{Closed, Entered, Exited, Recorded, SameLoan, SpanMade, left, view};
 ghost use Rattle.span_registry_layers_layers.specs.Notices.{AddsFilters, Attached, Dispatched, Followed, Happened, Renamed, Spanned};
 ghost use Rattle.span_registry_layers_layers.specs.Several.{AllAnswer, AllAnswerEvents, EachTold, KeptByEach, SaysFrom, TellsInTurn, ToldEach, filters_of, hint_from, numbers_of};
-ghost use Rattle.std.specs.Prelude.{Some};
 ghost use Rattle.span_registry_layers_layers.specs.Numbering.{AreNumbers, SameBut, SameOf, more_filters, numbers_from, room_after};
 
 use crate::context::Context;
 use crate::filter::{either_hint, either_interest};
 use crate::layer::Layer;
 use span_registry_layers_store::{FilterMap, Registry};
-use tracing_core::{Attributes, Event, Id, Interest, LevelFilter, Metadata, Record, WeakDispatch};
+use tracing_core_fields::{Id, LevelFilter, Metadata};
+use tracing_core_requests::{Attributes, Event, Interest, Record, WeakDispatch};
 
 /// Each layer is told in turn, and where one refuses, nobody is. They keep their word where there is one, and each of them
 /// keeps its own and always wants all.
 impl<L: Layer> Layer for Vec<L> {
-    ghost use Rattle.tracing_core.specs.InterestInner.TheVariants.{Never};
+    ghost use Rattle.tracing_core_requests.specs.declared.interest.InterestInner.TheVariants.{Never};
     ghost use Rattle.std.specs.Prelude.{Some};
     ghost use Rattle.span_registry_layers_layers.specs.Several as several;
 

@@ -1,6 +1,6 @@
 // A layer that counts what it is told.
 ghost use Rattle.std.specs.Prelude.{◌≡◌, None, true, false, refl};
-ghost use Rattle.tracing_core.specs.InterestInner.TheVariants.{Always};
+ghost use Rattle.tracing_core_requests.specs.declared.interest.InterestInner.TheVariants.{Always};
 ghost use Rattle.span_registry_layers_layers.specs.Combined.{same_word};
 ghost use Rattle.span_registry_layers_layers.specs.Identities.{idle_fair};
 ghost use Rattle.span_registry_layers_layers.specs.Notices.{Untouched, untouched_writes};
@@ -9,7 +9,8 @@ ghost use Rattle.span_registry_layers_layers.specs.Singles.{leaf_once};
 
 use crate::{Context, Layer};
 use span_registry_layers_store::{FilterMap, Registry};
-use tracing_core::{Attributes, Event, Id, Interest, LevelFilter, Metadata, Record, WeakDispatch};
+use tracing_core_fields::{Id, LevelFilter, Metadata};
+use tracing_core_requests::{Attributes, Event, Interest, Record, WeakDispatch};
 
 #[derive(Clone, Copy, Debug, PartialEq, Eq, Drop)]
 pub struct Heard {

@@ -5,10 +5,8 @@ use crate::{And, Filter, Filtered, Layer, LayerExt, MetadataTest, SubscriberExt,
 use span_registry_layers_store::Registry;
 use std::alloc::Global;
 use std::test::Fail;
-use tracing_core::{
-    Attributes, CurrentSpan, Event, FieldSet, Id, Identifier, Kind, Level, LevelFilter, Metadata,
-    Record, RequestError, Subscriber,
-};
+use tracing_core_fields::{FieldSet, Id, Identifier, Kind, Level, LevelFilter, Metadata};
+use tracing_core_requests::{Attributes, CurrentSpan, Event, Record, RequestError, Subscriber};
 
 type Below = Filtered<Heard, LevelFilter>;
 

@@ -1,7 +1,7 @@
 //! Calls on the spans of a stack.
 ghost use Rattle.std.specs.Prelude.{◌≡◌};
-ghost use Rattle.tracing_core.specs.Metadata.{plain_metadata};
-ghost use Rattle.tracing_core.specs.PlainRequests.{plain_attributes, plain_record};
+ghost use Rattle.tracing_core_fields.specs.Metadata.{plain_metadata};
+ghost use Rattle.tracing_core_requests.specs.PlainRequests.{plain_attributes, plain_record};
 ghost use Rattle.span_registry_layers_store.specs.Registries.{kin_in};
 ghost use Rattle.span_registry_layers_store.specs.Spans.{is_open};
 ghost use Rattle.span_registry_layers_stack.specs.Calls.{AsksUnless, CloneGives, CloseGives, Closes, ClosesOne, EnterGives, ExitGives, FollowsGives, MakesSpan, RecordGives, SpanCached, current_in};
@@ -11,7 +11,8 @@ use crate::parts::StackParts;
 use crate::rows::ask_span;
 use span_registry_layers_layers::{Filter, Filtered, Layer};
 use span_registry_layers_store::FilterMap;
-use tracing_core::{At, Attributes, CurrentSpan, Id, Metadata, Record, RequestError};
+use tracing_core_fields::{Id, Metadata};
+use tracing_core_requests::{At, Attributes, CurrentSpan, Record, RequestError};
 
 impl<O> StackParts<O> {
     // Counts one more handle of a span.

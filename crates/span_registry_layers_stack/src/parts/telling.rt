@@ -1,5 +1,5 @@
 //! Telling the outputs of a stack of events and spans.
-ghost use Rattle.tracing_core.specs.PlainRequests.{plain_attributes, plain_event, plain_record};
+ghost use Rattle.tracing_core_requests.specs.PlainRequests.{plain_attributes, plain_event, plain_record};
 ghost use Rattle.span_registry_layers_layers.specs.Looks.{Closed, Entered, Exited, Recorded, SpanMade};
 ghost use Rattle.span_registry_layers_stack.specs.Hearing.{TellsDispatch, TellsFollows, TellsMade, TellsSpan};
 ghost use Rattle.span_registry_layers_stack.specs.Rows.{AsksEvent, TellsEvent};
@@ -11,7 +11,8 @@ use crate::rows::{
     tell_new_span, tell_record,
 };
 use span_registry_layers_layers::{Filter, Filtered, Layer};
-use tracing_core::{At, Attributes, Event, Id, Record, WeakDispatch};
+use tracing_core_fields::Id;
+use tracing_core_requests::{At, Attributes, Event, Record, WeakDispatch};
 
 impl<L: Layer, F: Filter> StackParts<Filtered<L, F>> {
     // Asks the outputs' own filters of the event, and marks what they answer.

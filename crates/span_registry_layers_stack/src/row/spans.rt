@@ -1,6 +1,6 @@
 //! What one output is told of spans.
 ghost use Rattle.std.specs.Prelude.{◌≡◌, ◌&&◌};
-ghost use Rattle.tracing_core.specs.PlainRequests.{plain_attributes, plain_record};
+ghost use Rattle.tracing_core_requests.specs.PlainRequests.{plain_attributes, plain_record};
 ghost use Rattle.span_registry_layers_layers.specs.Looks.{Closed, Entered, Exited, Recorded, SpanMade};
 ghost use Rattle.span_registry_layers_layers.specs.Notices.{Followed};
 ghost use Rattle.span_registry_layers_stack.specs.Rows.{view_of, with_layer};
@@ -9,7 +9,8 @@ ghost use Rattle.span_registry_layers_stack.specs.Hearing.{Hears, TellsDispatch,
 use crate::row::Row;
 use span_registry_layers_layers::{Context, Filter, Filtered, Layer};
 use span_registry_layers_store::Registry;
-use tracing_core::{At, Attributes, Id, Record, WeakDispatch};
+use tracing_core_fields::Id;
+use tracing_core_requests::{At, Attributes, Record, WeakDispatch};
 
 impl<O> Row<O> {
     // Whether it sees the span: the span is open, and the filter passed it when it was made.

@@ -1,5 +1,5 @@
 //! What all outputs are told of spans, in order.
-ghost use Rattle.tracing_core.specs.PlainRequests.{plain_attributes, plain_record};
+ghost use Rattle.tracing_core_requests.specs.PlainRequests.{plain_attributes, plain_record};
 ghost use Rattle.span_registry_layers_layers.specs.Looks.{Closed, Entered, Exited, Recorded, SpanMade};
 ghost use Rattle.span_registry_layers_layers.specs.Several.{EachInTurn};
 ghost use Rattle.span_registry_layers_stack.specs.Rows.{EachBecomes};
@@ -8,7 +8,8 @@ ghost use Rattle.span_registry_layers_stack.specs.Hearing.{TellsDispatch, TellsF
 use crate::row::Row;
 use span_registry_layers_layers::{Filter, Filtered, Layer};
 use span_registry_layers_store::Registry;
-use tracing_core::{At, Attributes, Id, Record, WeakDispatch};
+use tracing_core_fields::Id;
+use tracing_core_requests::{At, Attributes, Record, WeakDispatch};
 
 // A span was made: those that passed it are told.
 pub(crate) fn tell_new_span<L: Layer, F: Filter>(

@@ -1,7 +1,7 @@
 //! Calls of a stack, on its parts.
 ghost use Rattle.std.specs.Prelude.{◌≡◌, Some};
-ghost use Rattle.tracing_core.specs.Metadata.{plain_metadata};
-ghost use Rattle.tracing_core.specs.PlainRequests.{plain_attributes, plain_event, plain_record};
+ghost use Rattle.tracing_core_fields.specs.Metadata.{plain_metadata};
+ghost use Rattle.tracing_core_requests.specs.PlainRequests.{plain_attributes, plain_event, plain_record};
 ghost use Rattle.span_registry_layers_stack.specs.Asked.{CommonInterest, common_hint};
 ghost use Rattle.span_registry_layers_stack.specs.Calls.{CloneGives, CloseGives, EnterGives, ExitGives, FollowsGives, RecordGives, SpanCached, current_in};
 ghost use Rattle.span_registry_layers_stack.specs.Rows.{filters_of};
@@ -10,10 +10,8 @@ ghost use Rattle.span_registry_layers_stack.specs.Stacks.{EventCached, PassesCac
 
 use crate::stack::Stack;
 use span_registry_layers_layers::{Filter, Filtered, Layer};
-use tracing_core::{
-    At, Attributes, CurrentSpan, Event, Id, Interest, LevelFilter, Metadata, Record, RequestError,
-    WeakDispatch,
-};
+use tracing_core_fields::{Id, LevelFilter, Metadata};
+use tracing_core_requests::{At, Attributes, CurrentSpan, Event, Interest, Record, RequestError, WeakDispatch};
 
 impl<O> Stack<O> {
     pub(crate) fn hand_clone(&mut self, span: &Id) -> Result<Id, RequestError>

@@ -1,12 +1,13 @@
 //! Calls on the spans of a stack.
 ghost use Rattle.std.specs.Prelude.{◌≡◌};
-ghost use Rattle.tracing_core.specs.PlainRequests.{plain_attributes, plain_record};
+ghost use Rattle.tracing_core_requests.specs.PlainRequests.{plain_attributes, plain_record};
 ghost use Rattle.span_registry_layers_stack.specs.Calls.{CloneGives, CloseGives, EnterGives, ExitGives, FollowsGives, RecordGives, SpanAsked, SpanCached, current_in};
 ghost use Rattle.span_registry_layers_stack.specs.Words.{Word};
 
 use crate::stack::Stack;
 use span_registry_layers_layers::{Filter, Filtered, Layer};
-use tracing_core::{At, Attributes, CurrentSpan, Id, Record, RequestError};
+use tracing_core_fields::Id;
+use tracing_core_requests::{At, Attributes, CurrentSpan, Record, RequestError};
 
 impl<O> Stack<O> {
     /// The span that a lane is in.

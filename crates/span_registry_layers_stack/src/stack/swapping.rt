@@ -2,7 +2,7 @@
 ghost use Rattle.std.specs.Borrow.{sem};
 ghost use Rattle.std.specs.Option.{option_map};
 ghost use Rattle.std.specs.Prelude.{◌≡◌, IfSome, OnOk, slice_get};
-ghost use Rattle.tracing_core.specs.Kept.{Every};
+ghost use Rattle.tracing_core_requests.specs.Lists.{Every};
 ghost use Rattle.span_registry_layers_layers.specs.declared.filtered.Filtered.{Filtered};
 ghost use Rattle.span_registry_layers_stack.specs.Loans.{LendsFiltered, LendsOutput, forgotten, put_output};
 ghost use Rattle.span_registry_layers_stack.specs.Rows.{filters_of, numbers_of};

@@ -1,6 +1,6 @@
 // What outputs are told.
 use super::*;
-use tracing_core::CurrentSpan;
+use tracing_core_requests::CurrentSpan;
 
 #[test]
 fn each_output_is_told_what_its_filter_passes(rt: HostRuntime) -> Result<(), Fail> {

@@ -1,13 +1,13 @@
 // A filter that counts how often it is asked: a stack that keeps a refusal asks nobody.
 ghost use Rattle.std.specs.Prelude.{◌≡◌, nat_le};
-ghost use Rattle.tracing_core.specs.Interests.{PlainInterest};
+ghost use Rattle.tracing_core_requests.specs.Interests.{PlainInterest};
 ghost use Rattle.span_registry_layers_layers.specs.Combined.{level_fair, level_interest, same_word};
 ghost use Rattle.span_registry_layers_layers.specs.Firms.{level_firm};
 
 use super::*;
 use span_registry_layers_layers::Context;
 use std::cell::Cell;
-use tracing_core::{Interest, Subscriber};
+use tracing_core_requests::{Interest, Subscriber};
 
 /// Passes callsites that are at most as verbose as a level, and all events there or none.
 #[derive(Drop)]

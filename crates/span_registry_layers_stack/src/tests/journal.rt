@@ -1,8 +1,8 @@
 // A layer that keeps what it was told.
 ghost use Rattle.std.specs.Prelude.{◌≡◌, None, true, refl, false};
 ghost use Rattle.std.proofs.Common.{sym, subst};
-ghost use Rattle.tracing_core.specs.InterestInner.TheVariants.{Always};
-ghost use Rattle.tracing_core.specs.Steady.{InterestFits};
+ghost use Rattle.tracing_core_requests.specs.declared.interest.InterestInner.TheVariants.{Always};
+ghost use Rattle.tracing_core_requests.specs.Steady.{InterestFits};
 ghost use Rattle.span_registry_layers_layers.specs.Combined.{same_word};
 ghost use Rattle.span_registry_layers_layers.specs.Notices.{Untouched, untouched_writes};
 ghost use Rattle.span_registry_layers_layers.specs.Numbering.{no_numbers};
@@ -11,7 +11,8 @@ ghost use Rattle.span_registry_layers_layers.specs.Singles.{leaf_once};
 use span_registry_layers_layers::{Context, Layer};
 use span_registry_layers_store::{FilterMap, Registry};
 use std::alloc::Global;
-use tracing_core::{Attributes, Event, Id, Interest, LevelFilter, Metadata, Record, WeakDispatch};
+use tracing_core_fields::{Id, LevelFilter, Metadata};
+use tracing_core_requests::{Attributes, Event, Interest, Record, WeakDispatch};
 
 #[derive(Clone, Copy, Debug, PartialEq, Eq)]
 pub enum Told {
@@ -47,7 +48,7 @@ impl Journal {
 }
 
 impl Layer for Journal {
-    ghost use Rattle.tracing_core.specs.Interests.{PlainInterest};
+    ghost use Rattle.tracing_core_requests.specs.Interests.{PlainInterest};
 
     ghost answers = { λ x m v b. b ≡ true };
 

@@ -124,8 +124,8 @@ fn surface_hub_lanes(rt: HostRuntime) -> Result<(), Fail> {
     let made = hub.new_span_here(&attributes, moment(lane))?;
     assert!(rt; made == Id::from_u64(0xDEAD));
     assert!(rt; matches!(hub.current_span_here(moment(lane)), CurrentSpan::Unknown));
-    Event::dispatch(&mut hub, &metadata, values, moment(lane))?;
-    Event::child_of(&mut hub, made, &metadata, values, moment(lane))?;
+    hub.dispatch_event(&metadata, values, moment(lane))?;
+    hub.dispatch_child_of(made, &metadata, values, moment(lane))?;
     Ok(())
 }
 

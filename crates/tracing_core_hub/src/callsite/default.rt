@@ -2,13 +2,12 @@
 ghost use Rattle.std.specs.Prelude.{◌≡◌};
 ghost use Rattle.tracing_core_fields.specs.Metadata.{plain_metadata};
 ghost use Rattle.tracing_core_hub.specs.DefaultCallsites.{site_metadata, site_interest};
-ghost use Rattle.tracing_core_hub.specs.declared.interest.InterestInner.TheVariants.{Never};
+ghost use Rattle.tracing_core_requests.specs.declared.interest.InterestInner.TheVariants.{Never};
 
 mod registering;
 
-use crate::callsite::Callsite;
-use crate::interest::{Interest, InterestInner};
 use tracing_core_fields::Metadata;
+use tracing_core_requests::{Callsite, Interest, InterestInner, inner_of, interest_of};
 
 /// A callsite that keeps its metadata, and the interest that it is told.
 /// [`Hub::register`](crate::Hub::register) registers it.
@@ -35,7 +34,7 @@ impl<'a> DefaultCallsite<'a> {
     pub fn interest(&self) -> Interest
         ensures { result ≡ site_interest self.now }
     {
-        Interest::of(self.interest)
+        interest_of(self.interest)
     }
 }
 
@@ -45,7 +44,7 @@ impl Callsite for DefaultCallsite<'_> {
     ghost interest_of = { site_interest };
 
     fn set_interest(&mut self, interest: Interest) {
-        self.interest = interest.inner();
+        self.interest = inner_of(interest);
     }
 
     fn metadata(&self) -> Metadata<'_> {

@@ -1,13 +1,12 @@
 //! Asking subscribers of callsites and for their hints.
 ghost use Rattle.std.specs.Prelude.{◌≡◌, None, max};
 ghost use Rattle.tracing_core_fields.specs.Metadata.{plain_metadata};
-ghost use Rattle.tracing_core_hub.specs.Asking.{Each, Registers, Hints, AskedAll, RowAsked, joined, settled, level_of};
+ghost use Rattle.tracing_core_hub.specs.Asking.{Each, Registers, Hints, AskedAll, RowAsked, level_of};
+ghost use Rattle.tracing_core_requests.specs.Interests.{joined, settled};
 
-use crate::callsite::Callsite;
 use crate::hub::parts::{Entry, Row};
-use crate::interest::Interest;
-use crate::subscriber::Subscriber;
 use tracing_core_fields::{LevelFilter, Metadata};
+use tracing_core_requests::{Callsite, Interest, Subscriber};
 
 // The common interest with those before, where there were any.
 fn join(before: Option<Interest>, answer: Interest) -> Option<Interest>

@@ -2,11 +2,10 @@
 ghost use Rattle.std.specs.Option.{is_some};
 ghost use Rattle.std.specs.Prelude.{◌≡◌, ◌<◌, length, slice_get};
 ghost use Rattle.tracing_core_hub.specs.Defaults.{was_set, setting_to, global_refusal, globally, default_refusal, guard_of, locally, end_gives, reset_gives, given_up, running};
-ghost use Rattle.tracing_core_hub.specs.Handles.{or_refused, or_same};
+ghost use Rattle.tracing_core_requests.specs.Refusals.{or_refused, or_same};
 ghost use Rattle.tracing_core_hub.specs.Keeping.{Keeps, KeepsLiving};
 ghost use Rattle.tracing_core_hub.specs.Table.{chosen};
 
-use crate::callsite::Callsite;
 use crate::dispatch::Dispatch;
 use crate::guard::{DefaultGuard, WrongLane};
 use crate::hub::Hub;
@@ -14,7 +13,7 @@ use crate::hub::entries::{give_back, take_handle};
 use crate::hub::lending::hold_refusal;
 use crate::hub::parts::{Lane, Setting, lane_at};
 use crate::refusal::{SetDefaultError, SetGlobalDefaultError, UnknownLane};
-use crate::subscriber::Subscriber;
+use tracing_core_requests::{Callsite, Subscriber};
 
 impl Setting {
     fn to(dispatch: &Dispatch) -> Setting

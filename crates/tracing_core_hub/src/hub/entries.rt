@@ -1,7 +1,8 @@
 //! Entries by the numbers of their subscribers, and their handles.
 ghost use Rattle.std.specs.Prelude.{◌≡◌, ◌<◌, true, false, length, MatchOption};
 ghost use Rattle.std.specs.List.{AllWithin, HoldsAt};
-ghost use Rattle.tracing_core_hub.specs.Handles.{is_of, hold_refusal, held, or_refused, or_same, given_back};
+ghost use Rattle.tracing_core_hub.specs.Handles.{is_of, hold_refusal, held, given_back};
+ghost use Rattle.tracing_core_requests.specs.Refusals.{or_refused, or_same};
 
 use crate::hub::parts::Entry;
 use crate::refusal::HandleError;

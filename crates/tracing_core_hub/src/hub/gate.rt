@@ -6,15 +6,11 @@ ghost use Rattle.tracing_core_hub.specs.Keeping.{Keeps};
 ghost use Rattle.tracing_core_hub.specs.Kept.{Kept};
 ghost use Rattle.tracing_core_hub.specs.Table.{own_setting, effective, chosen};
 
-use crate::at::At;
-use crate::callsite::Callsite;
-use crate::dispatch::WeakDispatch;
 use crate::hub::Hub;
 use crate::hub::parts::{Entry, Lane, Row, Setting, lane_at};
 use crate::hub::rows::find_row;
-use crate::interest::Interest;
-use crate::subscriber::Subscriber;
 use tracing_core_fields::Identifier;
+use tracing_core_requests::{At, Callsite, Interest, Subscriber, WeakDispatch, weak_of};
 
 // The lane's own default.
 pub(crate) fn setting_of(lanes: &[Lane], lane: u64) -> Setting
@@ -51,7 +47,7 @@ impl<S, C> Hub<S, C> {
     pub fn reached(&self, lane: u64) -> WeakDispatch
         ensures { result ≡ reached self.now lane }
     {
-        WeakDispatch::new(self.reached_serial(lane))
+        weak_of(self.reached_serial(lane))
     }
 
     // The callsite with the identifier.

@@ -1,22 +1,18 @@
 //! Handing requests over to the subscriber of a handle.
 ghost use Rattle.std.specs.Prelude.{◌≡◌};
 ghost use Rattle.tracing_core_fields.specs.Metadata.{plain_metadata};
-ghost use Rattle.tracing_core_hub.specs.Calls.{SpanMade, Recorded, FollowsRecorded, EventAsked, Told, Entered, Exited, Cloned, Dropped, CloseTried, CurrentAsked};
+ghost use Rattle.tracing_core_requests.specs.Calls.{SpanMade, Recorded, FollowsRecorded, EventAsked, Told, Entered, Exited, Cloned, Dropped, CloseTried, CurrentAsked};
 ghost use Rattle.tracing_core_hub.specs.Commands.{AskGives};
 ghost use Rattle.tracing_core_hub.specs.Handing.{CallGives, HubGives};
-ghost use Rattle.tracing_core_hub.specs.PlainRequests.{plain_attributes, plain_event, plain_record};
+ghost use Rattle.tracing_core_requests.specs.PlainRequests.{plain_attributes, plain_event, plain_record};
 
-use crate::at::At;
-use crate::current_span::CurrentSpan;
 use crate::dispatch::Dispatch;
 use crate::hub::Hub;
 use crate::hub::lending::place_or_end;
 use crate::hub::parts::Entry;
 use crate::hub::rows::ask_one;
-use crate::refusal::RequestError;
-use crate::requests::{Attributes, Event, Record};
-use crate::subscriber::{NoSubscriber, Subscriber};
 use tracing_core_fields::{Id, Metadata};
+use tracing_core_requests::{At, Attributes, CurrentSpan, Event, NoSubscriber, Record, RequestError, Subscriber};
 
 fn new_span_at<S: Subscriber>(
     entries: &mut [Entry<S>],

@@ -1,16 +1,16 @@
 //! Making further handles, and giving them back.
 ghost use Rattle.std.specs.Prelude.{◌≡◌};
 ghost use Rattle.tracing_core_hub.specs.Defaults.{holding, upgrade_answer};
-ghost use Rattle.tracing_core_hub.specs.Handles.{hold_refusal, given_back, or_refused, or_same};
+ghost use Rattle.tracing_core_hub.specs.Handles.{hold_refusal, given_back};
+ghost use Rattle.tracing_core_requests.specs.Refusals.{or_refused, or_same};
 ghost use Rattle.tracing_core_hub.specs.Keeping.{Keeps, KeepsLiving};
 
-use crate::callsite::Callsite;
-use crate::dispatch::{Dispatch, WeakDispatch};
+use crate::dispatch::Dispatch;
 use crate::hub::Hub;
 use crate::hub::entries::{give_back, take_handle};
 use crate::hub::lending::hold_refusal;
 use crate::refusal::{HandleError, TooManyHandles};
-use crate::subscriber::Subscriber;
+use tracing_core_requests::{Callsite, Subscriber, WeakDispatch, serial_of, weak_of};
 
 impl<S, C> Hub<S, C> {
     // Why there can't be a further handle to the subscriber of the number.
@@ -33,7 +33,7 @@ impl<S, C> Hub<S, C> {
     pub fn downgrade(&self, dispatch: &Dispatch) -> WeakDispatch
         ensures { result ≡ dispatch.now }
     {
-        WeakDispatch::new(dispatch.serial())
+        weak_of(dispatch.serial())
     }
 
     // One handle more, where the subscriber lives.
@@ -41,8 +41,8 @@ impl<S, C> Hub<S, C> {
         ensures answer { result ≡ upgrade_answer dispatch.now (hold_refusal dispatch.now self.old.entries) }
         ensures left { self.new ≡ or_same (hold_refusal dispatch.now self.old.entries) self.old (holding self.old dispatch.now) }
     {
-        match take_handle(&mut self.entries, dispatch.serial()) {
-            Ok(()) => Ok(Some(Dispatch::new(dispatch.serial()))),
+        match take_handle(&mut self.entries, serial_of(dispatch)) {
+            Ok(()) => Ok(Some(Dispatch::new(serial_of(dispatch)))),
             Err(HandleError::Unknown) => Ok(None),
             Err(HandleError::TooMany) => Err(TooManyHandles(())),
         }

@@ -7,13 +7,12 @@ ghost use Rattle.tracing_core_hub.specs.Keeping.{KeepsOthers};
 ghost use Rattle.tracing_core_hub.specs.Lent.{living_of, lent_to, IsPlaceOrEnd, IsPlaceToLend};
 ghost use Rattle.tracing_core_hub.specs.Lending.{LendsSubscriber};
 
-use crate::callsite::Callsite;
 use crate::dispatch::Dispatch;
 use crate::hub::Hub;
 use crate::hub::entries::place_of;
 use crate::hub::parts::Entry;
 use crate::refusal::HandleError;
-use crate::subscriber::Subscriber;
+use tracing_core_requests::{Callsite, Subscriber};
 
 impl<S, C> Hub<S, C> {
     /// The subscriber that the handle leads to.

@@ -1,8 +1,8 @@
 //! What a hub keeps.
 ghost use Rattle.std.specs.Prelude.{◌≡◌, ◌<◌, slice_get, length, IfSome};
 
-use crate::interest::Interest;
 use tracing_core_fields::Level;
+use tracing_core_requests::Interest;
 
 // A subscriber that some handle leads to.
 #[derive(Drop)]

@@ -1,9 +1,9 @@
 //! What the type of a level says of metadata.
 ghost use Rattle.tracing_core_fields.specs.Metadata.{plain_metadata};
-ghost use Rattle.tracing_core_hub.specs.Steady.{IsReal};
+ghost use Rattle.tracing_core_requests.specs.Steady.{IsReal};
 
-use crate::callsite::Callsite;
 use tracing_core_fields::Metadata;
+use tracing_core_requests::Callsite;
 
 // The level of metadata is one of the five.
 pub(crate) fn is_real(metadata: &Metadata<'_>)

@@ -1,26 +1,20 @@
 //! Requests of a lane, to the subscriber that it reaches.
 ghost use Rattle.std.specs.Prelude.{◌≡◌, Some};
 ghost use Rattle.tracing_core_fields.specs.Metadata.{plain_metadata};
-ghost use Rattle.tracing_core_hub.specs.Calls.{CallsiteRegistered, CurrentAsked, SpanMade, Told};
+ghost use Rattle.tracing_core_requests.specs.Calls.{CallsiteRegistered, CurrentAsked, SpanMade, Told};
 ghost use Rattle.tracing_core_hub.specs.Commands.{AskGives, reached};
 ghost use Rattle.tracing_core_hub.specs.Handing.{CallGives, HubGives};
 ghost use Rattle.tracing_core_hub.specs.Keeping.{Keeps};
 ghost use Rattle.tracing_core_hub.specs.Lent.{living_of};
-ghost use Rattle.tracing_core_hub.specs.PlainRequests.{plain_attributes, plain_event};
+ghost use Rattle.tracing_core_requests.specs.PlainRequests.{plain_attributes, plain_event};
 
-use crate::at::At;
-use crate::callsite::Callsite;
-use crate::current_span::CurrentSpan;
 use crate::dispatch::Dispatch;
 use crate::hub::Hub;
 use crate::hub::lending::place_or_end;
 use crate::hub::parts::Entry;
 use crate::hub::ranks::is_real;
-use crate::interest::Interest;
-use crate::refusal::RequestError;
-use crate::requests::{Attributes, Event};
-use crate::subscriber::Subscriber;
 use tracing_core_fields::{Id, Metadata};
+use tracing_core_requests::{At, Attributes, Callsite, CurrentSpan, Event, Interest, RequestError, Subscriber, serial_of};
 
 fn register_callsite_at<S: Subscriber>(
     entries: &mut [Entry<S>],
@@ -43,7 +37,7 @@ impl<S, C> Hub<S, C> {
     pub(crate) fn reached_handle(&self, lane: u64) -> Dispatch
         ensures { result ≡ reached self.now lane }
     {
-        Dispatch::new(self.reached(lane).serial())
+        Dispatch::new(serial_of(&self.reached(lane)))
     }
 }
 

@@ -1,22 +1,17 @@
 //! Requests through the hub, to the subscriber of a handle.
 ghost use Rattle.std.specs.Prelude.{◌≡◌};
 ghost use Rattle.tracing_core_fields.specs.Metadata.{plain_metadata};
-ghost use Rattle.tracing_core_hub.specs.Calls.{SpanMade, Recorded, FollowsRecorded, EventAsked, Told, Entered, Exited, Cloned, Dropped, CloseTried, CurrentAsked};
+ghost use Rattle.tracing_core_requests.specs.Calls.{SpanMade, Recorded, FollowsRecorded, EventAsked, Told, Entered, Exited, Cloned, Dropped, CloseTried, CurrentAsked};
 ghost use Rattle.tracing_core_hub.specs.Commands.{AskGives};
 ghost use Rattle.tracing_core_hub.specs.Handing.{HubGives};
 ghost use Rattle.tracing_core_hub.specs.Keeping.{Keeps};
-ghost use Rattle.tracing_core_hub.specs.PlainRequests.{plain_attributes, plain_event, plain_record};
+ghost use Rattle.tracing_core_requests.specs.PlainRequests.{plain_attributes, plain_event, plain_record};
 
-use crate::at::At;
-use crate::callsite::Callsite;
-use crate::current_span::CurrentSpan;
 use crate::dispatch::Dispatch;
 use crate::hub::Hub;
 use crate::hub::ranks::is_real;
-use crate::refusal::RequestError;
-use crate::requests::{Attributes, Event, Record};
-use crate::subscriber::Subscriber;
 use tracing_core_fields::{Id, Metadata};
+use tracing_core_requests::{At, Attributes, Callsite, CurrentSpan, Event, Record, RequestError, Subscriber};
 
 impl<S: Subscriber, C: Callsite> Hub<S, C> {
     /// Whether the subscriber of the handle wants a span or an event of the callsite.

@@ -3,16 +3,13 @@ ghost use Rattle.std.specs.Prelude.{◌≡◌, if◌then◌else◌, Some, None};
 ghost use Rattle.tracing_core_fields.specs.PlainMetadata.{is_same_metadata};
 ghost use Rattle.std.specs.Option.{option_map};
 ghost use Rattle.tracing_core_fields.specs.Metadata.{plain_metadata};
-ghost use Rattle.tracing_core_hub.specs.Calls.{Asked};
+ghost use Rattle.tracing_core_requests.specs.Calls.{Asked};
 ghost use Rattle.tracing_core_hub.specs.Commands.{row_of, known, AnswerGives, AskGives, new_row};
 
-use crate::at::At;
-use crate::callsite::Callsite;
 use crate::hub::entries::place_of;
 use crate::hub::parts::{Entry, Row};
-use crate::interest::Interest;
-use crate::subscriber::Subscriber;
 use tracing_core_fields::{Level, LevelFilter, Metadata};
+use tracing_core_requests::{At, Callsite, Interest, Subscriber};
 
 // The callsite with the identifier.
 pub(crate) fn find_row<C>(rows: &[Row<C>], identifier: u64) -> Option<&Row<C>>

@@ -3,12 +3,11 @@ ghost use Rattle.std.specs.Prelude.{◌≡◌, slice_set};
 ghost use Rattle.tracing_core_hub.specs.Keeping.{Keeps, KeepsLiving};
 ghost use Rattle.tracing_core_hub.specs.Scopes.{BodyLeaves, CallsLeave, CurrentGives, DefaultGives, WithDefaultGives, is_outside, marked};
 
-use crate::callsite::Callsite;
 use crate::dispatch::Dispatch;
 use crate::guard::WrongLane;
 use crate::hub::Hub;
 use crate::refusal::SetDefaultError;
-use crate::subscriber::Subscriber;
+use tracing_core_requests::{Callsite, Subscriber};
 
 // Sets the mark of a lane, where there is one.
 #[tactic(auto, using(crate::proofs::Books::set_past))]

@@ -4,9 +4,9 @@ ghost use Rattle.tracing_core_hub.specs.Copies.{CopyOf, handles_of, kept_of};
 
 use crate::hub::Hub;
 use crate::hub::parts::{Entry, Lane, Row, Setting};
-use crate::interest::Interest;
 use std::alloc::{AllocError, Global};
 use tracing_core_fields::{Identifier, LevelFilter};
+use tracing_core_requests::Interest;
 
 /// How many handles lead to the subscriber of a number.
 #[derive(Clone, Copy, Debug)]

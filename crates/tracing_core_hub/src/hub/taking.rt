@@ -3,19 +3,18 @@ ghost use Rattle.std.specs.Prelude.{◌≡◌, ◌==◌, Some, None, [], true, I
 ghost use Rattle.tracing_core_hub.specs.Commands.{Rebuilt, AddGives, RegisterGives, TakeGives, kept_alike, row_of};
 ghost use Rattle.tracing_core_hub.specs.Handles.{entry_of, most};
 ghost use Rattle.tracing_core_hub.specs.Keeping.{Keeps, IsOff};
-ghost use Rattle.tracing_core_hub.specs.Kept.{Every, IsTrueRow, Kept, asked_anew};
+ghost use Rattle.tracing_core_requests.specs.Lists.{Every};
+ghost use Rattle.tracing_core_hub.specs.Kept.{IsTrueRow, Kept, asked_anew};
 ghost use Rattle.tracing_core_hub.specs.Refreshing.{Refreshed};
 ghost use Rattle.tracing_core_hub.specs.Sound.{IsSound};
 
-use crate::callsite::Callsite;
-use crate::dispatch::{Dispatch, WeakDispatch};
+use crate::dispatch::Dispatch;
 use crate::hub::Hub;
 use crate::hub::asking::{ask_hints, ask_rows};
 use crate::hub::parts::{Entry, Row};
 use crate::hub::ranks::is_real_callsite;
-use crate::interest::Interest;
 use crate::refusal::{AddError, RegisterError};
-use crate::subscriber::Subscriber;
+use tracing_core_requests::{Callsite, Interest, Subscriber, weak_of};
 
 impl<S: Subscriber, C: Callsite> Hub<S, C> {
     /// Asks all subscribers of each callsite and for their hints, and keeps what they say: the common
@@ -78,7 +77,7 @@ impl<S: Subscriber, C: Callsite> Hub<S, C> {
         }
         let serial = self.next;
         let mut subscriber = subscriber;
-        subscriber.on_register_dispatch(&WeakDispatch::new(Some(serial)));
+        subscriber.on_register_dispatch(&weak_of(Some(serial)));
         self.entries.push_reserved(Entry {
             serial,
             handles: 1,

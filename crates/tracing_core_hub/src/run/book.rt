@@ -3,10 +3,11 @@ ghost use Rattle.std.specs.Prelude.{◌≡◌, ◌<◌, ◌∷◌, [], ◌++◌,
 ghost use Rattle.std.specs.Option.{option_map};
 ghost use Rattle.tracing_core_hub.specs.Running.{empty_book, item_of, named, spent_by};
 
-use crate::dispatch::{Dispatch, WeakDispatch};
+use crate::dispatch::Dispatch;
 use crate::guard::DefaultGuard;
 use std::alloc::Global;
 use std::marker::Model;
+use tracing_core_requests::WeakDispatch;
 
 /// The handles, weak handles and guards that commands made. Each of the three is numbered from 0 in order
 /// of making, and no number is used again.

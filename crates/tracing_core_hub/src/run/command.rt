@@ -1,11 +1,8 @@
 //! What a hub can be told to do, and what it replies.
-use crate::at::At;
-use crate::interest::Interest;
-use crate::refusal::{
-    AddError, HandleError, RegisterError, SetDefaultError, SetGlobalDefaultError,
-};
+use crate::refusal::{AddError, HandleError, RegisterError, SetDefaultError, SetGlobalDefaultError};
 use thiserror::Error;
 use tracing_core_fields::{Identifier, LevelFilter};
+use tracing_core_requests::{At, Interest};
 
 /// What a hub can be told to do. Handles, weak handles and guards are named by the numbers that a
 /// [`Book`](crate::Book) gave them, and where a handle can be left out, none is the one to no subscriber.

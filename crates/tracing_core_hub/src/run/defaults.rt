@@ -4,14 +4,13 @@ ghost use Rattle.tracing_core_hub.specs.Defaults.{end_gives};
 ghost use Rattle.tracing_core_hub.specs.Keeping.{Keeps, KeepsLiving};
 ghost use Rattle.tracing_core_hub.specs.Running.{SetDefaultRuns, ThreadRuns, end_reply, global_gives, global_reply, item_of, reset_runs, reset_runs_by, named};
 
-use crate::callsite::Callsite;
 use crate::dispatch::Dispatch;
 use crate::guard::{DefaultGuard, WrongLane};
 use crate::hub::Hub;
 use crate::refusal::{SetDefaultError, SetGlobalDefaultError, UnknownLane};
 use crate::run::book::{find_named, keep, put_back, spend};
 use crate::run::command::{CommandError, CommandReply};
-use crate::subscriber::Subscriber;
+use tracing_core_requests::{Callsite, Subscriber};
 
 fn end_reply<S, C>(answer: Result<Option<S>, UnknownLane>) -> CommandReply<S, C>
     ensures { result ≡ end_reply answer }

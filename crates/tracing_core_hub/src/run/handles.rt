@@ -3,13 +3,12 @@ ghost use Rattle.std.specs.Prelude.{◌≡◌};
 ghost use Rattle.tracing_core_hub.specs.Keeping.{Keeps, KeepsLiving};
 ghost use Rattle.tracing_core_hub.specs.Running.{AddRuns, CloneRuns, DowngradeRuns, UpgradeRuns, release_gives, upgrade_refused};
 
-use crate::callsite::Callsite;
-use crate::dispatch::{Dispatch, WeakDispatch};
+use crate::dispatch::Dispatch;
 use crate::hub::Hub;
 use crate::refusal::{AddError, HandleError};
 use crate::run::book::{find_handle, keep, spend};
 use crate::run::command::{CommandError, CommandReply};
-use crate::subscriber::Subscriber;
+use tracing_core_requests::{Callsite, Subscriber, WeakDispatch, serial_of};
 
 // What is replied where a weak handle doesn't become a handle.
 fn upgrade_refused<S, C>(error: HandleError) -> CommandReply<S, C>
@@ -97,7 +96,7 @@ impl<S: Subscriber, C: Callsite> Hub<S, C> {
         let Some(dispatch) = weak.get(number as usize) else {
             return CommandReply::Refused(CommandError::UnknownWeakHandle);
         };
-        if let Some(error) = self.further_refusal(dispatch.serial()) {
+        if let Some(error) = self.further_refusal(serial_of(dispatch)) {
             return upgrade_refused(error);
         }
         if handles.reserve(1).is_err() {

@@ -1,16 +1,14 @@
 //! Carrying out commands.
 ghost use Rattle.std.specs.Prelude.{◌≡◌, IfErr, IfOk, OnErr};
 ghost use Rattle.tracing_core_hub.specs.Keeping.{Keeps, KeepsLiving};
-ghost use Rattle.tracing_core_hub.specs.Kept.{Every};
+ghost use Rattle.tracing_core_requests.specs.Lists.{Every};
 ghost use Rattle.tracing_core_hub.specs.Running.{CommandGives, CommandKeeps, CommandsGive, GateRuns, GivesNothingUp, RegisterRuns};
 
-use crate::at::At;
-use crate::callsite::Callsite;
 use crate::hub::Hub;
 use crate::run::book::Book;
 use crate::run::command::{Command, CommandError, CommandReply, NoRoom};
-use crate::subscriber::Subscriber;
 use tracing_core_fields::Identifier;
+use tracing_core_requests::{At, Callsite, Subscriber, serial_of};
 
 impl<S: Subscriber, C: Callsite> Hub<S, C> {
     fn run_register(&mut self, callsite: C) -> CommandReply<S, C>
@@ -67,7 +65,7 @@ impl<S: Subscriber, C: Callsite> Hub<S, C> {
             Command::Release(handle) => self.run_release(&mut book.handles, handle),
             Command::Gate(identifier, at) => self.run_gate(identifier, at),
             Command::Interest(identifier) => CommandReply::Kept(self.interest(identifier)),
-            Command::Reached(lane) => CommandReply::Reached(self.reached(lane).serial()),
+            Command::Reached(lane) => CommandReply::Reached(serial_of(&self.reached(lane))),
         }
     }
 

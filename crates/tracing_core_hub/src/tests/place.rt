@@ -1,8 +1,8 @@
 // A callsite that owns what it is made of.
-ghost use Rattle.tracing_core_hub.specs.Interests.{PlainInterest};
+ghost use Rattle.tracing_core_requests.specs.Interests.{PlainInterest};
 
-use crate::{Callsite, Interest};
 use tracing_core_fields::{FieldSet, Identifier, Kind, Level, Metadata};
+use tracing_core_requests::{Callsite, Interest};
 
 #[derive(Drop)]
 pub struct Place {

@@ -5,6 +5,7 @@ use crate::tests::place::Place;
 use crate::*;
 use std::test::Fail;
 use tracing_core_fields::{FieldSet, Id, Identifier, Level, LevelFilter};
+use tracing_core_requests::{At, Attributes, CurrentSpan, Event, Interest};
 
 fn moment(lane: u64) -> At {
     At {
@@ -76,12 +77,11 @@ fn requests_of_a_lane_reach_its_default(rt: HostRuntime) -> Result<(), Fail> {
     let attributes = Attributes::new(&metadata, fields.value_set_all(&[]));
     assert_eq!(rt; hub.new_span_here(&attributes, moment(lane)), Ok(None));
     assert_eq!(rt;
-        Event::dispatch(&mut hub, &metadata, fields.value_set_all(&[]), moment(lane)),
+        hub.dispatch_event(&metadata, fields.value_set_all(&[]), moment(lane)),
         Ok(())
     );
     assert_eq!(rt;
-        Event::child_of(
-            &mut hub,
+        hub.dispatch_child_of(
             Id::from_u64(2),
             &metadata,
             fields.value_set_all(&[]),

@@ -5,6 +5,7 @@ use crate::tests::place::Place;
 use crate::*;
 use std::test::Fail;
 use tracing_core_fields::{FieldSet, Identifier, Level};
+use tracing_core_requests::Interest;
 
 #[test]
 fn a_callsite_is_registered_once(rt: HostRuntime) -> Result<(), Fail> {

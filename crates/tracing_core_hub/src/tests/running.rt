@@ -5,6 +5,7 @@ use crate::*;
 use std::alloc::{AllocError, Global};
 use std::test::Fail;
 use tracing_core_fields::{Identifier, Level, LevelFilter};
+use tracing_core_requests::{At, Interest};
 
 type Told = CommandReply<Everything, Place>;
 

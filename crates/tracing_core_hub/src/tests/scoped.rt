@@ -3,6 +3,7 @@ use crate::tests::everything::Everything;
 use crate::tests::place::Place;
 use crate::*;
 use std::test::Fail;
+use tracing_core_requests::Interest;
 
 #[test]
 fn the_default_is_lent_once(rt: HostRuntime) -> Result<(), Fail> {

@@ -1,5 +1,5 @@
 use Rattle.std.proofs.Common.{◌≡◌, length, Bool}
-use Rattle.tracing_core.specs.Metadata.{plain_metadata}
+use Rattle.tracing_core_fields.specs.Metadata.{plain_metadata}
 use Rattle.span_registry_layers_stack.specs.Asked.{SomePasses}
 use Rattle.span_registry_layers_stack.proofs.rows.any_passes.Given as goal
 

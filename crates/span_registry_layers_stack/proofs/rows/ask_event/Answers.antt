@@ -1,5 +1,5 @@
 use Rattle.std.proofs.Common.{arith, get_or, refl, subst, ◌∙◌}
-use Rattle.tracing_core.specs.PlainRequests.{plain_event}
+use Rattle.tracing_core_requests.specs.PlainRequests.{plain_event}
 use Rattle.span_registry_layers_store.specs.Registries.{RegistryValue}
 use Rattle.span_registry_layers_stack.specs.Rows.{AsksEvent}
 use Rattle.span_registry_layers_stack.proofs.Loops.{becomes_next, becomes_end}

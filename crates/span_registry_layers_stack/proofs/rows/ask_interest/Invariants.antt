@@ -1,6 +1,6 @@
 use Rattle.std.proofs.Common.{length, None}
-use Rattle.tracing_core.specs.Interests.{PlainInterest}
-use Rattle.tracing_core.specs.Metadata.{plain_metadata}
+use Rattle.tracing_core_requests.specs.Interests.{PlainInterest}
+use Rattle.tracing_core_fields.specs.Metadata.{plain_metadata}
 use Rattle.span_registry_layers_stack.specs.Asked.{InterestFrom}
 use Rattle.span_registry_layers_stack.specs.Rows.{filters_of}
 use Rattle.span_registry_layers_stack.proofs.rows.ask_interest.Given as goal

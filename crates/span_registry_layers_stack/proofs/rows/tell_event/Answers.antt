@@ -1,5 +1,5 @@
 use Rattle.std.proofs.Common.{arith, refl}
-use Rattle.tracing_core.specs.PlainRequests.{plain_event}
+use Rattle.tracing_core_requests.specs.PlainRequests.{plain_event}
 use Rattle.span_registry_layers_stack.specs.Rows.{TellsEvent}
 use Rattle.span_registry_layers_layers.proofs.Loops.{turn_next, turns_end}
 use Rattle.span_registry_layers_stack.proofs.rows.tell_event.Goals as goal

@@ -1,5 +1,5 @@
 use Rattle.std.proofs.Common.{arith, refl}
-use Rattle.tracing_core.specs.Metadata.{plain_metadata}
+use Rattle.tracing_core_fields.specs.Metadata.{plain_metadata}
 use Rattle.span_registry_layers_stack.specs.Sites.{Renews}
 use Rattle.span_registry_layers_stack.proofs.Loops.{becomes_next, becomes_end}
 use Rattle.span_registry_layers_stack.proofs.sites.renew.Goals as goal

@@ -1,5 +1,5 @@
 use Rattle.std.proofs.Common.{◌≡◌, take, drop}
-use Rattle.tracing_core.specs.Metadata.{plain_metadata}
+use Rattle.tracing_core_fields.specs.Metadata.{plain_metadata}
 use Rattle.span_registry_layers_stack.specs.Rows.{EachBecomes}
 use Rattle.span_registry_layers_stack.specs.Sites.{Renews}
 use Rattle.span_registry_layers_stack.proofs.sites.renew.Given as goal

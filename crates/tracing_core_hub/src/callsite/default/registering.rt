@@ -4,11 +4,10 @@ ghost use Rattle.tracing_core_hub.specs.Commands.{RegisterGives};
 ghost use Rattle.tracing_core_hub.specs.DefaultCallsites.{site_interest, site_metadata, untold};
 ghost use Rattle.tracing_core_hub.specs.Keeping.{Keeps};
 
-use crate::callsite::{Callsite, DefaultCallsite};
+use crate::callsite::DefaultCallsite;
 use crate::hub::Hub;
-use crate::interest::{Interest, InterestInner};
 use crate::refusal::RegisterError;
-use crate::subscriber::Subscriber;
+use tracing_core_requests::{Callsite, Interest, InterestInner, Subscriber, inner_of};
 
 impl<'a> DefaultCallsite<'a> {
     // The same callsite, in nobody's interest.
@@ -35,7 +34,7 @@ impl<'a> DefaultCallsite<'a> {
         ensures keeps { Keeps ⟦<S as Subscriber>⟧ ⟦<DefaultCallsite<'a> as Callsite>⟧ hub.old hub.new }
     {
         let interest = hub.register(self.untold())?;
-        self.interest = interest.inner();
+        self.interest = inner_of(interest);
         Ok(interest)
     }
 }

@@ -1,5 +1,5 @@
 use Rattle.std.proofs.Common.{Bool, List, length, subst, sym, true}
-use Rattle.tracing_core.specs.Metadata.{plain_metadata}
+use Rattle.tracing_core_fields.specs.Metadata.{plain_metadata}
 use Rattle.span_registry_layers_layers.specs.Looks.{View}
 use Rattle.span_registry_layers_layers.specs.Numbering.{AreNumbers}
 use Rattle.span_registry_layers_layers.proofs.Numbers.{numbers_within, same_self}

@@ -1,5 +1,5 @@
 use Rattle.std.proofs.Common.{◌-◌, Bool, List, drop, length, subst, sym, take}
-use Rattle.tracing_core.specs.Metadata.{plain_metadata}
+use Rattle.tracing_core_fields.specs.Metadata.{plain_metadata}
 use Rattle.span_registry_layers_layers.specs.Looks.{View, view}
 use Rattle.span_registry_layers_layers.specs.Numbering.{AreNumbers, SameOf}
 use Rattle.span_registry_layers_layers.specs.Several.{KeptByEach, numbers_of}

@@ -1,5 +1,5 @@
 use Rattle.std.proofs.Common.{length, Bool}
-use Rattle.tracing_core.specs.Metadata.{plain_metadata}
+use Rattle.tracing_core_fields.specs.Metadata.{plain_metadata}
 use Rattle.span_registry_layers_layers.specs.Looks.{view}
 use Rattle.span_registry_layers_layers.specs.Several.{AllAnswer}
 use Rattle.span_registry_layers_layers.proofs.layer.several.all_enabled.Given as goal

@@ -1,5 +1,5 @@
 use Rattle.std.proofs.Common.{length, Bool}
-use Rattle.tracing_core.specs.PlainRequests.{plain_event}
+use Rattle.tracing_core_requests.specs.PlainRequests.{plain_event}
 use Rattle.span_registry_layers_layers.specs.Looks.{view}
 use Rattle.span_registry_layers_layers.specs.Several.{AllAnswerEvents}
 use Rattle.span_registry_layers_layers.proofs.layer.several.all_event_enabled.Given as goal

@@ -1,7 +1,7 @@
 use Rattle.std.proofs.Common.{length}
-use Rattle.tracing_core.specs.InterestInner.TheVariants.{Never}
-use Rattle.tracing_core.specs.Interests.{PlainInterest}
-use Rattle.tracing_core.specs.Metadata.{plain_metadata}
+use Rattle.tracing_core_requests.specs.declared.interest.InterestInner.TheVariants.{Never}
+use Rattle.tracing_core_requests.specs.Interests.{PlainInterest}
+use Rattle.tracing_core_fields.specs.Metadata.{plain_metadata}
 use Rattle.span_registry_layers_layers.specs.Several.{SaysFrom}
 use Rattle.span_registry_layers_layers.proofs.layer.several.joined_interest.Given as goal
 

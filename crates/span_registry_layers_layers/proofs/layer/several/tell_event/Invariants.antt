@@ -1,5 +1,5 @@
 use Rattle.std.proofs.Common.{◌≡◌, take, drop}
-use Rattle.tracing_core.specs.PlainRequests.{plain_event}
+use Rattle.tracing_core_requests.specs.PlainRequests.{plain_event}
 use Rattle.span_registry_layers_layers.specs.Looks.{SameLoan, left, view}
 use Rattle.span_registry_layers_layers.specs.Notices.{Happened}
 use Rattle.span_registry_layers_layers.specs.Several.{EachInTurn, TellsOne}

@@ -1,5 +1,5 @@
 use Rattle.std.proofs.Common.{sym, ap, ◌∙◌}
-use Rattle.tracing_core.specs.PlainRequests.{plain_event}
+use Rattle.tracing_core_requests.specs.PlainRequests.{plain_event}
 use Rattle.span_registry_layers_store.specs.Registries.{knows}
 use Rattle.span_registry_layers_stack.specs.Stacks.{is_refused, plain_stack}
 use Rattle.span_registry_layers_stack.proofs.Telling.{event_told}

@@ -1,7 +1,7 @@
 use Rattle.std.proofs.Common.{◌≡◌, sym, subst, take, drop, length, ◌++◌, arith, ap, ◌∙◌, map}
 use Rattle.std.proofs.lemmas.List.{with_items_is}
 use Rattle.std.specs.List.{list_any}
-use Rattle.tracing_core.specs.Metadata.{plain_metadata}
+use Rattle.tracing_core_fields.specs.Metadata.{plain_metadata}
 use Rattle.span_registry_layers_stack.specs.Rows.{EachBecomes}
 use Rattle.span_registry_layers_stack.specs.Sites.{Keeps, Renews, is_of, plain_site}
 use Rattle.span_registry_layers_stack.proofs.Keeping.{keeps_renewed}

@@ -1,5 +1,5 @@
 use Rattle.std.proofs.Common.{refl, subst, ◌∙◌}
-use Rattle.tracing_core.specs.PlainRequests.{plain_event}
+use Rattle.tracing_core_requests.specs.PlainRequests.{plain_event}
 use Rattle.span_registry_layers_layers.specs.Combined.{Then}
 use Rattle.span_registry_layers_store.specs.Registries.{RegistryValue}
 use Rattle.span_registry_layers_stack.specs.Rows.{view_of}

@@ -1,5 +1,5 @@
 use Rattle.std.proofs.Common.{◌≡◌, take, drop}
-use Rattle.tracing_core.specs.PlainRequests.{plain_attributes}
+use Rattle.tracing_core_requests.specs.PlainRequests.{plain_attributes}
 use Rattle.span_registry_layers_layers.specs.Looks.{SpanMade}
 use Rattle.span_registry_layers_layers.specs.Several.{EachInTurn}
 use Rattle.span_registry_layers_stack.specs.Hearing.{TellsMade}

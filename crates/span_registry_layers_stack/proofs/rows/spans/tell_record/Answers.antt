@@ -1,5 +1,5 @@
 use Rattle.std.proofs.Common.{arith, refl}
-use Rattle.tracing_core.specs.PlainRequests.{plain_record}
+use Rattle.tracing_core_requests.specs.PlainRequests.{plain_record}
 use Rattle.span_registry_layers_layers.specs.Looks.{Recorded}
 use Rattle.span_registry_layers_stack.specs.Hearing.{TellsSpan}
 use Rattle.span_registry_layers_layers.proofs.Loops.{turn_next, turns_end}

@@ -1,4 +1,4 @@
-use Rattle.tracing_core.specs.Metadata.{plain_metadata}
+use Rattle.tracing_core_fields.specs.Metadata.{plain_metadata}
 use Rattle.span_registry_layers_stack.specs.Caches.{passes_is_asked}
 use Rattle.span_registry_layers_stack.proofs.stack.Stack+Filtered+L+F.enabled.Goals as goal
 

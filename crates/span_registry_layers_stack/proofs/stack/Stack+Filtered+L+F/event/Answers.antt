@@ -1,4 +1,4 @@
-use Rattle.tracing_core.specs.PlainRequests.{plain_event}
+use Rattle.tracing_core_requests.specs.PlainRequests.{plain_event}
 use Rattle.span_registry_layers_stack.specs.Caches.{event_is_asked}
 use Rattle.span_registry_layers_stack.specs.Steps.{event_keeps, keeps_word}
 use Rattle.span_registry_layers_stack.proofs.stack.Stack+Filtered+L+F.event.Goals as goal

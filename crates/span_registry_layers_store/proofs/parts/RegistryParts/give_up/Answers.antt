@@ -1,8 +1,7 @@
 use Rattle.std.proofs.Common.{◌∙◌, List, ap, sym, subst, refl, Ok}
-use Rattle.span_registry_layers_store.specs.Places.{IsPlace}
+use Rattle.span_registry_layers_store.specs.Places.{IsPlace, kin_of}
 use Rattle.span_registry_layers_store.specs.Registries.{PlainSpan, plain_registry}
 use Rattle.span_registry_layers_store.proofs.Handles.{give_up_none, give_up_some, handles_there, less_there, no_handles}
-use Rattle.span_registry_layers_store.specs.Places.{kin_of}
 use Rattle.span_registry_layers_store.specs.Spans.{is_open}
 use Rattle.span_registry_layers_store.proofs.Rising.{rising_slice}
 use Rattle.span_registry_layers_store.proofs.parts.RegistryParts.give_up.Goals as goal

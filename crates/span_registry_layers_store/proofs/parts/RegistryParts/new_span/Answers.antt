@@ -1,6 +1,6 @@
 use Rattle.std.proofs.Common.{◌≡◌, ◌∙◌, ℕ, Option, ap, sym, arith}
-use Rattle.tracing_core.specs.PlainMetadata.{PlainMetadata}
-use Rattle.tracing_core.specs.Metadata.{plain_metadata}
+use Rattle.tracing_core_fields.specs.PlainMetadata.{PlainMetadata}
+use Rattle.tracing_core_fields.specs.Metadata.{plain_metadata}
 use Rattle.span_registry_layers_store.specs.Registries.{next_number, plain_registry, with_span}
 use Rattle.span_registry_layers_store.proofs.Making.{lacks, makes}
 use Rattle.span_registry_layers_store.proofs.parts.RegistryParts.new_span.Goals as goal

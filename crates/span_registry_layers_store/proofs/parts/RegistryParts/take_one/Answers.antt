@@ -1,9 +1,8 @@
 use Rattle.std.proofs.Common.{◌∙◌, List, ap, sym, subst, Ok}
-use Rattle.span_registry_layers_store.specs.Places.{IsPlace}
+use Rattle.span_registry_layers_store.specs.Places.{IsPlace, kin_of}
 use Rattle.span_registry_layers_store.specs.Registries.{PlainSpan, plain_registry}
 use Rattle.span_registry_layers_store.proofs.Handles.{clone_full, clone_more, clone_unknown, handles_there, is_there, more_there}
 use Rattle.span_registry_layers_store.proofs.Mapped.{open_mapped}
-use Rattle.span_registry_layers_store.specs.Places.{kin_of}
 use Rattle.span_registry_layers_store.specs.Spans.{is_open}
 use Rattle.span_registry_layers_store.proofs.Rising.{rising_slice}
 use Rattle.span_registry_layers_store.proofs.parts.RegistryParts.take_one.Goals as goal

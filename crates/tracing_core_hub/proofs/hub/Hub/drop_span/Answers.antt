@@ -1,4 +1,4 @@
-use Rattle.tracing_core_hub.specs.Calls.{Dropped}
+use Rattle.tracing_core_requests.specs.Calls.{Dropped}
 use Rattle.tracing_core_hub.proofs.Words.{call_keeps}
 use Rattle.tracing_core_hub.proofs.hub.Hub.drop_span.Goals as goal
 

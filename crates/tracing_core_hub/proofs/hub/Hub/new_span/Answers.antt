@@ -1,7 +1,7 @@
 use Rattle.std.proofs.Common.{subst}
-use Rattle.tracing_core_hub.specs.Calls.{SpanMade}
-use Rattle.tracing_core_hub.specs.PlainRequests.{plain_attributes}
-use Rattle.tracing_core_hub.specs.Steady.{IsReal}
+use Rattle.tracing_core_requests.specs.Calls.{SpanMade}
+use Rattle.tracing_core_requests.specs.PlainRequests.{plain_attributes}
+use Rattle.tracing_core_requests.specs.Steady.{IsReal}
 use Rattle.tracing_core_hub.proofs.Words.{call_keeps}
 use Rattle.tracing_core_hub.proofs.hub.Hub.new_span.Goals as goal
 

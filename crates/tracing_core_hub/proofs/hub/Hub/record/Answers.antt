@@ -1,5 +1,5 @@
-use Rattle.tracing_core_hub.specs.Calls.{Recorded}
-use Rattle.tracing_core_hub.specs.PlainRequests.{plain_record}
+use Rattle.tracing_core_requests.specs.Calls.{Recorded}
+use Rattle.tracing_core_requests.specs.PlainRequests.{plain_record}
 use Rattle.tracing_core_hub.proofs.Words.{call_keeps}
 use Rattle.tracing_core_hub.proofs.hub.Hub.record.Goals as goal
 

@@ -1,4 +1,4 @@
-use Rattle.tracing_core_hub.specs.Calls.{FollowsRecorded}
+use Rattle.tracing_core_requests.specs.Calls.{FollowsRecorded}
 use Rattle.tracing_core_hub.proofs.Words.{call_keeps}
 use Rattle.tracing_core_hub.proofs.hub.Hub.record_follows_from.Goals as goal
 

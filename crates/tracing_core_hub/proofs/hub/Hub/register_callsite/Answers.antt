@@ -1,5 +1,5 @@
 use Rattle.tracing_core_fields.specs.Metadata.{plain_metadata}
-use Rattle.tracing_core_hub.specs.Calls.{CallsiteRegistered}
+use Rattle.tracing_core_requests.specs.Calls.{CallsiteRegistered}
 use Rattle.tracing_core_hub.proofs.Words.{call_keeps}
 use Rattle.tracing_core_hub.proofs.hub.Hub.register_callsite.Goals as goal
 

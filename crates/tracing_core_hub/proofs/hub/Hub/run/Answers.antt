@@ -1,6 +1,6 @@
 use Rattle.std.proofs.Common.{◌≡◌, ◌∷◌, ◌∙◌, ap, sym, subst, length, arith}
 use Rattle.std.specs.Vec.Iter.{into_iter_items}
-use Rattle.tracing_core_hub.specs.Kept.{Every}
+use Rattle.tracing_core_requests.specs.Lists.{Every}
 use Rattle.tracing_core_hub.specs.Running.{GivesNothingUp, gives_up}
 use Rattle.tracing_core_hub.proofs.Runs.{begins, goes_on, ends}
 use Rattle.tracing_core_hub.proofs.Words.{itself_keeps, itself_living, keeps_by, keeps_then, living_by, living_then}

@@ -1,7 +1,7 @@
 use Rattle.std.proofs.Common.{◌≡◌, ◌+◌, ◌≤◌, length, vec_len, vec_capacity}
 use Rattle.std.specs.Vec.Iter.{into_iter_items, into_iter_len}
 use Rattle.tracing_core_hub.specs.Keeping.{Keeps, KeepsLiving}
-use Rattle.tracing_core_hub.specs.Kept.{Every}
+use Rattle.tracing_core_requests.specs.Lists.{Every}
 use Rattle.tracing_core_hub.specs.Running.{GivesNothingUp}
 use Rattle.tracing_core_hub.proofs.Runs.{Onward}
 use Rattle.tracing_core_hub.proofs.hub.Hub.run.Given as goal

@@ -1,4 +1,4 @@
-use Rattle.tracing_core_hub.specs.Calls.{CloseTried}
+use Rattle.tracing_core_requests.specs.Calls.{CloseTried}
 use Rattle.tracing_core_hub.proofs.Words.{call_keeps}
 use Rattle.tracing_core_hub.proofs.hub.Hub.try_close.Goals as goal
 

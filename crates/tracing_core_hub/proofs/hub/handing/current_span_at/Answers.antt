@@ -1,5 +1,5 @@
 use Rattle.std.proofs.Common.{arith}
-use Rattle.tracing_core_hub.specs.Calls.{CurrentAsked}
+use Rattle.tracing_core_requests.specs.Calls.{CurrentAsked}
 use Rattle.tracing_core_hub.proofs.Handed.{to_nobody, to_somebody}
 use Rattle.tracing_core_hub.proofs.hub.handing.current_span_at.Goals as goal
 

@@ -1,6 +1,6 @@
 use Rattle.std.proofs.Common.{arith}
-use Rattle.tracing_core_hub.specs.Calls.{EventAsked}
-use Rattle.tracing_core_hub.specs.PlainRequests.{plain_event}
+use Rattle.tracing_core_requests.specs.Calls.{EventAsked}
+use Rattle.tracing_core_requests.specs.PlainRequests.{plain_event}
 use Rattle.tracing_core_hub.proofs.Handed.{to_nobody, to_somebody}
 use Rattle.tracing_core_hub.proofs.hub.handing.event_enabled_at.Goals as goal
 

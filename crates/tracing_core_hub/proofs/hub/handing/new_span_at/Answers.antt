@@ -1,5 +1,5 @@
-use Rattle.tracing_core_hub.specs.Calls.{SpanMade}
-use Rattle.tracing_core_hub.specs.PlainRequests.{plain_attributes}
+use Rattle.tracing_core_requests.specs.Calls.{SpanMade}
+use Rattle.tracing_core_requests.specs.PlainRequests.{plain_attributes}
 use Rattle.tracing_core_hub.proofs.Handed.{to_somebody}
 use Rattle.tracing_core_hub.proofs.hub.handing.new_span_at.Goals as goal
 

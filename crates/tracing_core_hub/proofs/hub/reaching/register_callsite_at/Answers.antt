@@ -1,6 +1,6 @@
 use Rattle.std.proofs.Common.{arith}
 use Rattle.tracing_core_fields.specs.Metadata.{plain_metadata}
-use Rattle.tracing_core_hub.specs.Calls.{CallsiteRegistered}
+use Rattle.tracing_core_requests.specs.Calls.{CallsiteRegistered}
 use Rattle.tracing_core_hub.proofs.Handed.{nobody_there, to_nobody, to_somebody}
 use Rattle.tracing_core_hub.proofs.hub.reaching.register_callsite_at.Goals as goal
 

@@ -1,5 +1,5 @@
 use Rattle.std.proofs.Common.{subst}
-use Rattle.tracing_core.specs.Metadata.{plain_metadata}
+use Rattle.tracing_core_fields.specs.Metadata.{plain_metadata}
 use Rattle.span_registry_layers_layers.specs.Looks.{view}
 use Rattle.span_registry_layers_layers.proofs.filter.boxed.BoxDynFilterFilter.enabled.Goals as goal
 

@@ -1,5 +1,5 @@
 use Rattle.std.proofs.Common.{ap, ◌∙◌}
-use Rattle.tracing_core.specs.PlainRequests.{plain_record}
+use Rattle.tracing_core_requests.specs.PlainRequests.{plain_record}
 use Rattle.span_registry_layers_layers.specs.Looks.{Recorded, view}
 use Rattle.span_registry_layers_layers.proofs.filter.boxed.BoxDynFilterFilter.on_record.Goals as goal
 

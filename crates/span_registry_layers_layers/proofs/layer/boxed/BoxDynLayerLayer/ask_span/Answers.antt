@@ -1,5 +1,5 @@
 use Rattle.std.proofs.Common.{List, Bool, length, subst}
-use Rattle.tracing_core.specs.Metadata.{plain_metadata}
+use Rattle.tracing_core_fields.specs.Metadata.{plain_metadata}
 use Rattle.span_registry_layers_layers.specs.Looks.{view}
 use Rattle.span_registry_layers_layers.specs.Numbering.{AreNumbers, SameBut, SameOf}
 use Rattle.span_registry_layers_layers.proofs.layer.boxed.BoxDynLayerLayer.ask_span.Goals as goal

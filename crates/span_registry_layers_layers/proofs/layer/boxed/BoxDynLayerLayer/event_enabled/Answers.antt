@@ -1,5 +1,5 @@
 use Rattle.std.proofs.Common.{subst}
-use Rattle.tracing_core.specs.PlainRequests.{plain_event}
+use Rattle.tracing_core_requests.specs.PlainRequests.{plain_event}
 use Rattle.span_registry_layers_layers.specs.Looks.{view}
 use Rattle.span_registry_layers_layers.proofs.layer.boxed.BoxDynLayerLayer.event_enabled.Goals as goal
 

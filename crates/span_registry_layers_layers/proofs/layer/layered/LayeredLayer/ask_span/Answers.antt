@@ -1,5 +1,5 @@
 use Rattle.std.proofs.Common.{ℕ, length, subst, sym}
-use Rattle.tracing_core.specs.Metadata.{plain_metadata}
+use Rattle.tracing_core_fields.specs.Metadata.{plain_metadata}
 use Rattle.span_registry_layers_layers.specs.Looks.{View}
 use Rattle.span_registry_layers_layers.specs.Numbering.{AreNumbers}
 use Rattle.span_registry_layers_layers.proofs.Numbers.{numbers_first, numbers_second, or_first, or_second, same_first, same_second}

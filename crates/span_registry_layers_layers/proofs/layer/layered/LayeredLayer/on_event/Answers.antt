@@ -1,4 +1,4 @@
-use Rattle.tracing_core.specs.PlainRequests.{plain_event}
+use Rattle.tracing_core_requests.specs.PlainRequests.{plain_event}
 use Rattle.span_registry_layers_layers.specs.Looks.{left}
 use Rattle.span_registry_layers_layers.specs.Notices.{Happened}
 use Rattle.span_registry_layers_layers.proofs.Turns.{told_on}

@@ -1,4 +1,4 @@
-use Rattle.tracing_core.specs.PlainRequests.{plain_attributes}
+use Rattle.tracing_core_requests.specs.PlainRequests.{plain_attributes}
 use Rattle.span_registry_layers_layers.specs.Looks.{SpanMade, left}
 use Rattle.span_registry_layers_layers.specs.Notices.{Spanned}
 use Rattle.span_registry_layers_layers.proofs.Turns.{told_on}

@@ -1,5 +1,5 @@
 use Rattle.std.proofs.Common.{sym, ap, ◌∙◌, subst}
-use Rattle.tracing_core.specs.PlainRequests.{plain_attributes}
+use Rattle.tracing_core_requests.specs.PlainRequests.{plain_attributes}
 use Rattle.span_registry_layers_store.specs.Registries.{knows}
 use Rattle.span_registry_layers_layers.specs.declared.filtered.Filtered.{Filtered}
 use Rattle.span_registry_layers_stack.specs.Calls.{AsksUnless, MakesSpan}

@@ -1,5 +1,5 @@
 use Rattle.std.proofs.Common.{subst}
-use Rattle.tracing_core.specs.PlainRequests.{plain_event}
+use Rattle.tracing_core_requests.specs.PlainRequests.{plain_event}
 use Rattle.span_registry_layers_stack.specs.Stacks.{EventCached, plain_stack}
 use Rattle.span_registry_layers_stack.proofs.stack.handing.Stack+Filtered+L+F.hand_event.Goals as goal
 

@@ -1,5 +1,5 @@
 use Rattle.std.proofs.Common.{subst}
-use Rattle.tracing_core.specs.PlainRequests.{plain_record}
+use Rattle.tracing_core_requests.specs.PlainRequests.{plain_record}
 use Rattle.span_registry_layers_stack.specs.Calls.{RecordGives}
 use Rattle.span_registry_layers_stack.specs.Stacks.{plain_stack}
 use Rattle.span_registry_layers_stack.proofs.stack.handing.Stack+Filtered+L+F.hand_record.Goals as goal

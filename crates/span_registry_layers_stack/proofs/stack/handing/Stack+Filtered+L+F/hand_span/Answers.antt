@@ -1,5 +1,5 @@
 use Rattle.std.proofs.Common.{subst}
-use Rattle.tracing_core.specs.PlainRequests.{plain_attributes}
+use Rattle.tracing_core_requests.specs.PlainRequests.{plain_attributes}
 use Rattle.span_registry_layers_stack.specs.Calls.{SpanCached}
 use Rattle.span_registry_layers_stack.specs.Stacks.{plain_stack}
 use Rattle.span_registry_layers_stack.proofs.stack.handing.Stack+Filtered+L+F.hand_span.Goals as goal

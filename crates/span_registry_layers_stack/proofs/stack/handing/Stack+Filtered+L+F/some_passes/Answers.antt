@@ -1,5 +1,5 @@
 use Rattle.std.proofs.Common.{subst, ◌∙◌}
-use Rattle.tracing_core.specs.Metadata.{plain_metadata}
+use Rattle.tracing_core_fields.specs.Metadata.{plain_metadata}
 use Rattle.span_registry_layers_stack.specs.Stacks.{PassesCached}
 use Rattle.span_registry_layers_stack.proofs.stack.handing.Stack+Filtered+L+F.some_passes.Goals as goal
 

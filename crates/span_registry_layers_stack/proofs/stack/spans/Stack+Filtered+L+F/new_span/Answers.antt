@@ -1,4 +1,4 @@
-use Rattle.tracing_core.specs.PlainRequests.{plain_attributes}
+use Rattle.tracing_core_requests.specs.PlainRequests.{plain_attributes}
 use Rattle.span_registry_layers_stack.specs.Caches.{span_is_asked}
 use Rattle.span_registry_layers_stack.specs.Steps.{keeps_word, span_keeps}
 use Rattle.span_registry_layers_stack.proofs.stack.spans.Stack+Filtered+L+F.new_span.Goals as goal

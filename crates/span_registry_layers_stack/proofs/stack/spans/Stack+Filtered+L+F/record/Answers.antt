@@ -1,4 +1,4 @@
-use Rattle.tracing_core.specs.PlainRequests.{plain_record}
+use Rattle.tracing_core_requests.specs.PlainRequests.{plain_record}
 use Rattle.span_registry_layers_stack.specs.Steps.{keeps_word, record_keeps}
 use Rattle.span_registry_layers_stack.proofs.stack.spans.Stack+Filtered+L+F.record.Goals as goal
 

@@ -1,0 +1,11 @@
+pub mod Lists
+pub mod Refusals
+pub mod Interests
+pub mod PlainRequests
+pub mod Calls
+pub mod Steady
+pub mod NoReplies
+pub mod Attributes
+pub mod Records
+pub mod Events
+pub mod Currents
