@@ -2,7 +2,9 @@
 use crate::stack::Stack;
 use span_registry_layers_layers::{Filter, Filtered, Layer};
 use tracing_core_fields::{Id, LevelFilter, Metadata};
-use tracing_core_requests::{At, Attributes, CurrentSpan, Event, Interest, Record, RequestError, Subscriber, WeakDispatch};
+use tracing_core_requests::{
+    At, Attributes, CurrentSpan, Event, Interest, Record, RequestError, Subscriber, WeakDispatch,
+};
 
 /// A stack whose filters are honest is steady while what it keeps is right. It wants each event whose callsite some
 /// filter passes: each output's own filter is asked once, when the event is handed over.

@@ -11,7 +11,10 @@ mod scoped;
 
 use everything::Everything;
 use place::Place;
-use tracing_core_requests::{At, Attributes, Callsite, CurrentSpan, Event, Interest, NoSubscriber, Record, RequestError, Subscriber};
+use tracing_core_requests::{
+    At, Attributes, Callsite, CurrentSpan, Event, Interest, NoSubscriber, Record, RequestError,
+    Subscriber,
+};
 
 fn at(lane: u64) -> At {
     At {

@@ -2,7 +2,9 @@
 use crate::layer::{Layer, Layered};
 use span_registry_layers_store::Registry;
 use tracing_core_fields::{Id, LevelFilter, Metadata};
-use tracing_core_requests::{At, Attributes, CurrentSpan, Event, Interest, Record, RequestError, Subscriber, WeakDispatch};
+use tracing_core_requests::{
+    At, Attributes, CurrentSpan, Event, Interest, Record, RequestError, Subscriber, WeakDispatch,
+};
 
 /// Each layer is told what all filters on the way down to it pass, asked afresh; of a span what they said when it was made.
 ///

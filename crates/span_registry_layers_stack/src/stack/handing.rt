@@ -11,7 +11,9 @@ ghost use Rattle.span_registry_layers_stack.specs.Stacks.{EventCached, PassesCac
 use crate::stack::Stack;
 use span_registry_layers_layers::{Filter, Filtered, Layer};
 use tracing_core_fields::{Id, LevelFilter, Metadata};
-use tracing_core_requests::{At, Attributes, CurrentSpan, Event, Interest, Record, RequestError, WeakDispatch};
+use tracing_core_requests::{
+    At, Attributes, CurrentSpan, Event, Interest, Record, RequestError, WeakDispatch,
+};
 
 impl<O> Stack<O> {
     pub(crate) fn hand_clone(&mut self, span: &Id) -> Result<Id, RequestError>

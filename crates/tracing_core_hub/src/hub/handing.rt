@@ -12,7 +12,9 @@ use crate::hub::lending::place_or_end;
 use crate::hub::parts::Entry;
 use crate::hub::rows::ask_one;
 use tracing_core_fields::{Id, Metadata};
-use tracing_core_requests::{At, Attributes, CurrentSpan, Event, NoSubscriber, Record, RequestError, Subscriber};
+use tracing_core_requests::{
+    At, Attributes, CurrentSpan, Event, NoSubscriber, Record, RequestError, Subscriber,
+};
 
 fn new_span_at<S: Subscriber>(
     entries: &mut [Entry<S>],

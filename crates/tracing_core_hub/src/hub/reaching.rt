@@ -14,7 +14,9 @@ use crate::hub::lending::place_or_end;
 use crate::hub::parts::Entry;
 use crate::hub::ranks::is_real;
 use tracing_core_fields::{Id, Metadata};
-use tracing_core_requests::{At, Attributes, Callsite, CurrentSpan, Event, Interest, RequestError, Subscriber, serial_of};
+use tracing_core_requests::{
+    At, Attributes, Callsite, CurrentSpan, Event, Interest, RequestError, Subscriber, serial_of,
+};
 
 fn register_callsite_at<S: Subscriber>(
     entries: &mut [Entry<S>],

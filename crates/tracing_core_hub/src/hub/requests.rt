@@ -11,7 +11,9 @@ use crate::dispatch::Dispatch;
 use crate::hub::Hub;
 use crate::hub::ranks::is_real;
 use tracing_core_fields::{Id, Metadata};
-use tracing_core_requests::{At, Attributes, Callsite, CurrentSpan, Event, Record, RequestError, Subscriber};
+use tracing_core_requests::{
+    At, Attributes, Callsite, CurrentSpan, Event, Record, RequestError, Subscriber,
+};
 
 impl<S: Subscriber, C: Callsite> Hub<S, C> {
     /// Whether the subscriber of the handle wants a span or an event of the callsite.

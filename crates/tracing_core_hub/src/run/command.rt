@@ -1,5 +1,7 @@
 //! What a hub can be told to do, and what it replies.
-use crate::refusal::{AddError, HandleError, RegisterError, SetDefaultError, SetGlobalDefaultError};
+use crate::refusal::{
+    AddError, HandleError, RegisterError, SetDefaultError, SetGlobalDefaultError,
+};
 use thiserror::Error;
 use tracing_core_fields::{Identifier, LevelFilter};
 use tracing_core_requests::{At, Interest};
