@@ -40,7 +40,7 @@ pub use Rattle.span_registry_layers_stack.specs.Rows
 pub use Rattle.span_registry_layers_stack.specs.Sites
 pub use Rattle.span_registry_layers_stack.specs.Asked
 pub use Rattle.span_registry_layers_stack.specs.Stacks
-pub use Rattle.span_registry_layers_stack.specs.Words
+pub use Rattle.span_registry_layers_stack.specs.CacheValidity
 pub use Rattle.span_registry_layers_stack.specs.Hearing
 pub use Rattle.span_registry_layers_stack.specs.Calls
 pub use Rattle.span_registry_layers_stack.specs.New

@@ -1,7 +1,7 @@
 -- Why the registry of a tree of layers stays sound.
 use Rattle.std.proofs.Common.{◌≡◌, ℕ, Bool, true, false, List, Option, Some, None, Result, Ok, Err, refl, sym, ap, subst}
 use Rattle.tracing_core_requests.specs.declared.at.At.{At}
-use Rattle.tracing_core_requests.specs.Calls.{DispatchRegistered, CallsiteRegistered, Asked, HintAsked, SpanMade, Recorded, FollowsRecorded, EventAsked, Told, Entered, Exited, Cloned, Dropped, CloseTried, CurrentAsked}
+use Rattle.tracing_core_requests.specs.Calls.{DispatchRegistered, CallsiteRegistered, Asked, HintAsked, SpanMade, Recorded, FollowsRecorded, EventAsked, EventDispatched, Entered, Exited, Cloned, Dropped, CloseTried, CurrentAsked}
 use Rattle.tracing_core_requests.specs.Refusals.{or_same}
 use Rattle.tracing_core_requests.specs.PlainRequests.{PlainAttributes, PlainEvent, explicit_parent}
 use Rattle.tracing_core_requests.specs.declared.refusal.RequestError.{RequestError}
@@ -92,7 +92,7 @@ module _ {L : Type 0} (g : Ghosts L) where
   tree_sound s (FollowsRecorded id follows at) r t m attached sound =
       taken_sound (Followed id follows (whole at s.inner)) s.inner s t r (λ heard. (g.aside s.layer (Followed id follows (whole at s.inner) t.inner) t.layer heard).0) m.1 sound sound
   tree_sound s (EventAsked e at) r t m attached sound = same_sound s t m.1 sound
-  tree_sound s (Told e at) r t m attached sound = event_sound e at s r t m sound
+  tree_sound s (EventDispatched e at) r t m attached sound = event_sound e at s r t m sound
   tree_sound s (Entered id at) r t m attached sound =
       taken_sound (Spanned id (looks.Entered id) (whole at m.0)) m.0 s t r (hook_aside id (looks.Entered id) at m.0 s t) m.2 ((stays_sound s.inner sound).entry at.lane id r m.0 m.1) sound
   tree_sound s (Exited id at) r t m attached sound =

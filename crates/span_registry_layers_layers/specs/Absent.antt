@@ -28,13 +28,13 @@ module _ {L : Type 0} (g : Ghosts L) where
   hint_of None = Some 0
   hint_of (Some l) = g.hint l
 
-  abbrev pub ToldOf : Option L → Notice → Option L → Type 0
-  ToldOf None n None = Untouched n
-  ToldOf None n (Some m) = ⊥
-  ToldOf (Some l) n None = ⊥
-  ToldOf (Some l) n (Some m) = g.told l n m
+  abbrev pub NotifiedOf : Option L → Notice → Option L → Type 0
+  NotifiedOf None n None = Untouched n
+  NotifiedOf None n (Some m) = ⊥
+  NotifiedOf (Some l) n None = ⊥
+  NotifiedOf (Some l) n (Some m) = g.told l n m
 
-  -- an absent one doesn't keep its word
+  -- an absent one isn't consistent
   abbrev pub IsHonest : Option L → Type 0
   IsHonest None = ⊥
   IsHonest (Some l) = g.honest l
@@ -43,7 +43,7 @@ module _ {L : Type 0} (g : Ghosts L) where
   absent_fair None k = absurd k
   absent_fair (Some l) k = g.fair l k
 
-  pub absent_stays : (o : Option L) (n : Notice) (p : Option L) → ToldOf o n p → IsHonest o → IsHonest p × SameWord (SaysOf o) (SaysOf p) (hint_of o) (hint_of p)
+  pub absent_stays : (o : Option L) (n : Notice) (p : Option L) → NotifiedOf o n p → IsHonest o → IsHonest p × SameWord (SaysOf o) (SaysOf p) (hint_of o) (hint_of p)
   absent_stays None n p t k = absurd k
   absent_stays (Some l) n None t k = absurd t
   absent_stays (Some l) n (Some m) t k = g.stays l n m t k
@@ -60,7 +60,7 @@ module _ {L : Type 0} (g : Ghosts L) where
   KeptOf None m v passes verdicts some = some ≡ false
   KeptOf (Some l) m v passes verdicts some = g.kept l m v passes verdicts some
 
-  pub absent_numbered : (o : Option L) (n : Notice) (p : Option L) → ToldOf o n p → NumbersStay n (numbers_of o) (numbers_of p)
+  pub absent_numbered : (o : Option L) (n : Notice) (p : Option L) → NotifiedOf o n p → NumbersStay n (numbers_of o) (numbers_of p)
   absent_numbered None n None t = no_numbers n
   absent_numbered None n (Some m) t = absurd t
   absent_numbered (Some l) n None t = absurd t
@@ -74,13 +74,13 @@ module _ {L : Type 0} (g : Ghosts L) where
   keys_of None key = false
   keys_of (Some l) key = g.keys l key
 
-  pub absent_aside : (o : Option L) (n : Notice) (p : Option L) → ToldOf o n p → WritesUnder (keys_of o) n
+  pub absent_aside : (o : Option L) (n : Notice) (p : Option L) → NotifiedOf o n p → WritesUnder (keys_of o) n
   absent_aside None n None t = untouched_writes (λ key. false) n t
   absent_aside None n (Some m) t = absurd t
   absent_aside (Some l) n None t = absurd t
   absent_aside (Some l) n (Some m) t = g.aside l n m t
 
-  pub absent_keyed : (o : Option L) (n : Notice) (p : Option L) → ToldOf o n p → (key : ℕ) → keys_of p key ≡ keys_of o key
+  pub absent_keyed : (o : Option L) (n : Notice) (p : Option L) → NotifiedOf o n p → (key : ℕ) → keys_of p key ≡ keys_of o key
   absent_keyed None n None t key = refl
   absent_keyed None n (Some m) t key = absurd t
   absent_keyed (Some l) n None t key = absurd t

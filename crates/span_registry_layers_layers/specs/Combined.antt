@@ -1,4 +1,4 @@
--- What the filters of this crate answer, and that they keep their word.
+-- What the filters of this crate answer, and that they are consistent.
 use Rattle.std.specs.Prelude.{◌≡◌, ◌<◌, ℕ, Bool, true, false, not, nat_le, min, max, Option, Some, None, refl}
 use Rattle.std.proofs.Common.{sym, ap, subst, ◌∙◌, arith, true≢false}
 use Rattle.std.proofs.lemmas.Bool.Decides.{nat_tests}

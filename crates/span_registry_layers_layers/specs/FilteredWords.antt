@@ -1,4 +1,4 @@
--- A layer below a filter keeps its word, its numbers and its keys, and writes slots under these alone.
+-- A layer below a filter stays consistent, keeps its numbers and its keys, and writes slots under these alone.
 use Rattle.std.specs.Prelude.{◌≡◌, ◌&&◌, ℕ, Bool, true, false, List, Option, Some, None}
 use Rattle.std.proofs.Common.{sym, ap, subst, ◌∙◌}
 use Rattle.tracing_core_requests.specs.declared.interest.InterestInner.TheVariants.{Always}
@@ -7,7 +7,7 @@ use Rattle.span_registry_layers_store.specs.Aside.{SameButKeys, keys_equal}
 use Rattle.span_registry_layers_store.specs.Registries.{RegistryValue}
 use Rattle.span_registry_layers_store.specs.declared.filter_map.FilterId.{FilterId}
 use Rattle.span_registry_layers_layers.specs.Combined.{same_word}
-use Rattle.span_registry_layers_layers.specs.Filtereds.{Attaches, BothKeep, FilteredKept, FilteredTold, KeptAt, KeptUnder, HearsIf, LayerToldIf, ToldAlone, ToldAt, ToldUnder, is_seen, numbers_in, own_number, under}
+use Rattle.span_registry_layers_layers.specs.Filtereds.{Attaches, BothKeep, FilteredKept, FilteredTold, KeptAt, KeptUnder, HearsIf, LayerToldIf, NotifiedAlone, NotifiedAt, NotifiedUnder, is_seen, numbers_in, own_number, under}
 use Rattle.span_registry_layers_layers.specs.Honesty.{OneAnswer}
 use Rattle.span_registry_layers_layers.specs.Looks.{Hook, View}
 use Rattle.span_registry_layers_layers.specs.Notices.{Attached, Dispatched, Followed, Happened, Notice, Renamed, Spanned, Untouched, WritesUnder, untouched_writes}
@@ -30,7 +30,7 @@ module _ {L F : Type 0} (g : Ghosts F) (h : LayerGhosts L) where
       (subst g.honest (sym (ap (λ (z : Filtered L F). z.filter) w.1)) (g.stays x.filter (call v) both.0).0, (h.stays x.layer (Spanned id call v left) y.layer w.0 both.1).0)
   hears_keeps false x id call v left y w both = subst (BothKeep g h) (sym w.0) both
 
-  under_keeps : (i : FilterId) (x : Filtered L F) (n : Notice) (y : Filtered L F) → ToldUnder g h i x n y → Attaches g h x n y → BothKeep g h x → BothKeep g h y
+  under_keeps : (i : FilterId) (x : Filtered L F) (n : Notice) (y : Filtered L F) → NotifiedUnder g h i x n y → Attaches g h x n y → BothKeep g h x → BothKeep g h y
   under_keeps i x (Spanned id call v left) y w a both = hears_keeps (is_seen (under i.index v) id) x id call (under i.index v) left y w both
   under_keeps i x (Followed span follows v left) y w a both = if_keeps (is_seen (under i.index v) span && is_seen (under i.index v) follows) x (Followed span follows (under i.index v) left) y w both
   under_keeps i x (Happened e v left) y w a both = if_keeps w.0 x (Happened e (under i.index v) left) y w.2 both
@@ -38,7 +38,7 @@ module _ {L F : Type 0} (g : Ghosts F) (h : LayerGhosts L) where
   under_keeps i x (Dispatched handle) y w a both = if_keeps true x (Dispatched handle) y w both
   under_keeps i x (Attached r) y w a both = both_keep x y (ap (λ (z : Filtered L F). z.filter) a.4) (h.stays x.layer (Attached a.1) y.layer a.3 both.1).0 both
 
-  alone_keeps : (x : Filtered L F) (n : Notice) (y : Filtered L F) → ToldAlone g h x n y → Attaches g h x n y → BothKeep g h x → BothKeep g h y
+  alone_keeps : (x : Filtered L F) (n : Notice) (y : Filtered L F) → NotifiedAlone g h x n y → Attaches g h x n y → BothKeep g h x → BothKeep g h y
   alone_keeps x (Spanned id call v left) y w a both = subst (BothKeep g h) (sym w.0) both
   alone_keeps x (Followed span follows v left) y w a both = subst (BothKeep g h) (sym w.0) both
   alone_keeps x (Happened e v left) y w a both = subst (BothKeep g h) (sym w.0) both
@@ -46,7 +46,7 @@ module _ {L F : Type 0} (g : Ghosts F) (h : LayerGhosts L) where
   alone_keeps x (Dispatched handle) y w a both = if_keeps true x (Dispatched handle) y w both
   alone_keeps x (Attached r) y w a both = both_keep x y (ap (λ (z : Filtered L F). z.filter) a.4) (h.stays x.layer (Attached a.1) y.layer a.3 both.1).0 both
 
-  at_keeps : (i : Option FilterId) (x : Filtered L F) (n : Notice) (y : Filtered L F) → ToldAt g h i x n y → Attaches g h x n y → BothKeep g h x → BothKeep g h y
+  at_keeps : (i : Option FilterId) (x : Filtered L F) (n : Notice) (y : Filtered L F) → NotifiedAt g h i x n y → Attaches g h x n y → BothKeep g h x → BothKeep g h y
   at_keeps None x n y w a both = alone_keeps x n y w a both
   at_keeps (Some i) x n y w a both = under_keeps i x n y w a both
 
@@ -64,7 +64,7 @@ module _ {L F : Type 0} (g : Ghosts F) (h : LayerGhosts L) where
   hears_same true x id call v left y w = same_numbers x y (ap (λ (z : Filtered L F). z.id) w.1) (h.numbered x.layer (Spanned id call v left) y.layer w.0)
   hears_same false x id call v left y w = ap (numbers_in g h) w.0
 
-  under_same : (i : FilterId) (x : Filtered L F) (n : Notice) (y : Filtered L F) → ToldUnder g h i x n y → NumbersStay n (numbers_in g h x) (numbers_in g h y)
+  under_same : (i : FilterId) (x : Filtered L F) (n : Notice) (y : Filtered L F) → NotifiedUnder g h i x n y → NumbersStay n (numbers_in g h x) (numbers_in g h y)
   under_same i x (Spanned id call v left) y w = hears_same (is_seen (under i.index v) id) x id call (under i.index v) left y w
   under_same i x (Followed span follows v left) y w =
       if_same (is_seen (under i.index v) span && is_seen (under i.index v) follows) x (Followed span follows (under i.index v) left) y (h.numbered x.layer (Followed span follows (under i.index v) left) y.layer) w
@@ -73,7 +73,7 @@ module _ {L F : Type 0} (g : Ghosts F) (h : LayerGhosts L) where
   under_same i x (Dispatched handle) y w = if_same true x (Dispatched handle) y (h.numbered x.layer (Dispatched handle) y.layer) w
   under_same i x (Attached r) y w = tt
 
-  alone_same : (x : Filtered L F) (n : Notice) (y : Filtered L F) → ToldAlone g h x n y → NumbersStay n (numbers_in g h x) (numbers_in g h y)
+  alone_same : (x : Filtered L F) (n : Notice) (y : Filtered L F) → NotifiedAlone g h x n y → NumbersStay n (numbers_in g h x) (numbers_in g h y)
   alone_same x (Spanned id call v left) y w = ap (numbers_in g h) w.0
   alone_same x (Followed span follows v left) y w = ap (numbers_in g h) w.0
   alone_same x (Happened e v left) y w = ap (numbers_in g h) w.0
@@ -81,7 +81,7 @@ module _ {L F : Type 0} (g : Ghosts F) (h : LayerGhosts L) where
   alone_same x (Dispatched handle) y w = if_same true x (Dispatched handle) y (h.numbered x.layer (Dispatched handle) y.layer) w
   alone_same x (Attached r) y w = tt
 
-  at_same : (i : Option FilterId) (x : Filtered L F) (n : Notice) (y : Filtered L F) → ToldAt g h i x n y → NumbersStay n (numbers_in g h x) (numbers_in g h y)
+  at_same : (i : Option FilterId) (x : Filtered L F) (n : Notice) (y : Filtered L F) → NotifiedAt g h i x n y → NumbersStay n (numbers_in g h x) (numbers_in g h y)
   at_same None x n y w = alone_same x n y w
   at_same (Some i) x n y w = under_same i x n y w
 
@@ -112,7 +112,7 @@ module _ {L F : Type 0} (g : Ghosts F) (h : LayerGhosts L) where
   hears_aside true x id call v left y w = h.aside x.layer (Spanned id call v left) y.layer w.0
   hears_aside false x id call v left y w = keys_equal (Keys x) v.registry left w.1
 
-  under_aside : (i : FilterId) (x : Filtered L F) (n : Notice) (y : Filtered L F) → ToldUnder g h i x n y → WritesUnder (Keys x) n
+  under_aside : (i : FilterId) (x : Filtered L F) (n : Notice) (y : Filtered L F) → NotifiedUnder g h i x n y → WritesUnder (Keys x) n
   under_aside i x (Spanned id call v left) y w = hears_aside (is_seen (under i.index v) id) x id call (under i.index v) left y w
   under_aside i x (Followed span follows v left) y w = if_aside (is_seen (under i.index v) span && is_seen (under i.index v) follows) x (Followed span follows (under i.index v) left) y w
   under_aside i x (Happened e v left) y w = if_aside w.0 x (Happened e (under i.index v) left) y w.2
@@ -120,7 +120,7 @@ module _ {L F : Type 0} (g : Ghosts F) (h : LayerGhosts L) where
   under_aside i x (Dispatched handle) y w = tt
   under_aside i x (Attached r) y w = tt
 
-  alone_aside : (x : Filtered L F) (n : Notice) (y : Filtered L F) → ToldAlone g h x n y → WritesUnder (Keys x) n
+  alone_aside : (x : Filtered L F) (n : Notice) (y : Filtered L F) → NotifiedAlone g h x n y → WritesUnder (Keys x) n
   alone_aside x (Spanned id call v left) y w = keys_equal (Keys x) v.registry left w.1
   alone_aside x (Followed span follows v left) y w = keys_equal (Keys x) v.registry left w.1
   alone_aside x (Happened e v left) y w = keys_equal (Keys x) v.registry left w.1
@@ -128,7 +128,7 @@ module _ {L F : Type 0} (g : Ghosts F) (h : LayerGhosts L) where
   alone_aside x (Dispatched handle) y w = tt
   alone_aside x (Attached r) y w = tt
 
-  at_aside : (i : Option FilterId) (x : Filtered L F) (n : Notice) (y : Filtered L F) → ToldAt g h i x n y → WritesUnder (Keys x) n
+  at_aside : (i : Option FilterId) (x : Filtered L F) (n : Notice) (y : Filtered L F) → NotifiedAt g h i x n y → WritesUnder (Keys x) n
   at_aside None x n y w = alone_aside x n y w
   at_aside (Some i) x n y w = under_aside i x n y w
 
@@ -150,7 +150,7 @@ module _ {L F : Type 0} (g : Ghosts F) (h : LayerGhosts L) where
   hears_keyed true x id call v left y w key = h.keyed x.layer (Spanned id call v left) y.layer w.0 key
   hears_keyed false x id call v left y w key = equal_keys x y w.0 key
 
-  under_keyed : (i : FilterId) (x : Filtered L F) (n : Notice) (y : Filtered L F) → ToldUnder g h i x n y → Attaches g h x n y → SameKeys x y
+  under_keyed : (i : FilterId) (x : Filtered L F) (n : Notice) (y : Filtered L F) → NotifiedUnder g h i x n y → Attaches g h x n y → SameKeys x y
   under_keyed i x (Spanned id call v left) y w a = hears_keyed (is_seen (under i.index v) id) x id call (under i.index v) left y w
   under_keyed i x (Followed span follows v left) y w a = if_keyed (is_seen (under i.index v) span && is_seen (under i.index v) follows) x (Followed span follows (under i.index v) left) y w
   under_keyed i x (Happened e v left) y w a = if_keyed w.0 x (Happened e (under i.index v) left) y w.2
@@ -158,7 +158,7 @@ module _ {L F : Type 0} (g : Ghosts F) (h : LayerGhosts L) where
   under_keyed i x (Dispatched handle) y w a = if_keyed true x (Dispatched handle) y w
   under_keyed i x (Attached r) y w a = λ key. h.keyed x.layer (Attached a.1) y.layer a.3 key
 
-  alone_keyed : (x : Filtered L F) (n : Notice) (y : Filtered L F) → ToldAlone g h x n y → Attaches g h x n y → SameKeys x y
+  alone_keyed : (x : Filtered L F) (n : Notice) (y : Filtered L F) → NotifiedAlone g h x n y → Attaches g h x n y → SameKeys x y
   alone_keyed x (Spanned id call v left) y w a = equal_keys x y w.0
   alone_keyed x (Followed span follows v left) y w a = equal_keys x y w.0
   alone_keyed x (Happened e v left) y w a = equal_keys x y w.0
@@ -166,7 +166,7 @@ module _ {L F : Type 0} (g : Ghosts F) (h : LayerGhosts L) where
   alone_keyed x (Dispatched handle) y w a = if_keyed true x (Dispatched handle) y w
   alone_keyed x (Attached r) y w a = λ key. h.keyed x.layer (Attached a.1) y.layer a.3 key
 
-  at_keyed : (i : Option FilterId) (x : Filtered L F) (n : Notice) (y : Filtered L F) → ToldAt g h i x n y → Attaches g h x n y → SameKeys x y
+  at_keyed : (i : Option FilterId) (x : Filtered L F) (n : Notice) (y : Filtered L F) → NotifiedAt g h i x n y → Attaches g h x n y → SameKeys x y
   at_keyed None x n y w a = alone_keyed x n y w a
   at_keyed (Some i) x n y w a = under_keyed i x n y w a
 

@@ -47,11 +47,11 @@ module _ {L F : Type 0} (g : Ghosts F) (h : LayerGhosts L) where
   abbrev pub HearsFollows : Filtered L F → ℕ → ℕ → View → RegistryValue → Filtered L F → Type 0
   HearsFollows x span follows v left y = LayerToldIf (is_seen v span && is_seen v follows) x (Followed span follows v left) y
 
-  -- what the filter, asked afresh, may answer of an event
+  -- what the filter, asked again, may answer of an event
   abbrev pub MayPass : F → PlainEvent → View → Bool → Type 0
   MayPass filter e v b = Both (g.answers filter e.metadata v) (g.event_answers filter e v) b
 
-  -- an event is told where the filter, asked afresh, passes it
+  -- an event is told where the filter, asked again, passes it
   abbrev pub HearsEvent : Filtered L F → PlainEvent → View → RegistryValue → Filtered L F → Type 0
   HearsEvent x e v left y = (b : Bool) × MayPass x.filter e v b × LayerToldIf b x (Happened e v left) y
 
@@ -60,23 +60,23 @@ module _ {L F : Type 0} (g : Ghosts F) (h : LayerGhosts L) where
   HearsId x old new v left y = LayerToldIf (is_seen v old) x (Renamed old new v left) y
 
   -- with a number: calls on a span are told by what was said of it when it was made
-  abbrev pub ToldUnder : FilterId → Filtered L F → Notice → Filtered L F → Type 0
-  ToldUnder filter x (Spanned id call v left) y = HearsSpan x id call (under filter.index v) left y
-  ToldUnder filter x (Followed span follows v left) y = HearsFollows x span follows (under filter.index v) left y
-  ToldUnder filter x (Happened e v left) y = HearsEvent x e (under filter.index v) left y
-  ToldUnder filter x (Renamed old new v left) y = HearsId x old new (under filter.index v) left y
-  ToldUnder filter x (Dispatched handle) y = LayerToldIf true x (Dispatched handle) y
-  ToldUnder filter x (Attached r) y = Unit {0}
+  abbrev pub NotifiedUnder : FilterId → Filtered L F → Notice → Filtered L F → Type 0
+  NotifiedUnder filter x (Spanned id call v left) y = HearsSpan x id call (under filter.index v) left y
+  NotifiedUnder filter x (Followed span follows v left) y = HearsFollows x span follows (under filter.index v) left y
+  NotifiedUnder filter x (Happened e v left) y = HearsEvent x e (under filter.index v) left y
+  NotifiedUnder filter x (Renamed old new v left) y = HearsId x old new (under filter.index v) left y
+  NotifiedUnder filter x (Dispatched handle) y = LayerToldIf true x (Dispatched handle) y
+  NotifiedUnder filter x (Attached r) y = Unit {0}
 
   -- without a number it tells nobody of spans and events
-  abbrev pub ToldAlone : Filtered L F → Notice → Filtered L F → Type 0
-  ToldAlone x (Dispatched handle) y = LayerToldIf true x (Dispatched handle) y
-  ToldAlone x (Attached r) y = Unit {0}
-  ToldAlone x other y = (y ≡ x) × Untouched other
+  abbrev pub NotifiedAlone : Filtered L F → Notice → Filtered L F → Type 0
+  NotifiedAlone x (Dispatched handle) y = LayerToldIf true x (Dispatched handle) y
+  NotifiedAlone x (Attached r) y = Unit {0}
+  NotifiedAlone x other y = (y ≡ x) × Untouched other
 
-  abbrev pub ToldAt : Option FilterId → Filtered L F → Notice → Filtered L F → Type 0
-  ToldAt None x n y = ToldAlone x n y
-  ToldAt (Some filter) x n y = ToldUnder filter x n y
+  abbrev pub NotifiedAt : Option FilterId → Filtered L F → Notice → Filtered L F → Type 0
+  NotifiedAt None x n y = NotifiedAlone x n y
+  NotifiedAt (Some filter) x n y = NotifiedUnder filter x n y
 
   -- the registry numbers its filter, where it has room for one more, and the layer is attached to the registry as it is then
   abbrev pub Attaches : Filtered L F → Notice → Filtered L F → Type 0
@@ -86,9 +86,9 @@ module _ {L F : Type 0} (g : Ghosts F) (h : LayerGhosts L) where
   Attaches x other y = Unit {0}
 
   abbrev pub FilteredTold : Filtered L F → Notice → Filtered L F → Type 0
-  FilteredTold x n y = ToldAt x.id x n y × Attaches x n y
+  FilteredTold x n y = NotifiedAt x.id x n y × Attaches x n y
 
-  -- what is kept of the filter is what all filters down to it, asked afresh, said when the span was made
+  -- what is kept of the filter is what all filters down to it, asked again, said when the span was made
   abbrev pub KeptUnder : FilterId → Filtered L F → PlainMetadata → View → Bool → List Bool → Bool → Type 0
   KeptUnder filter x m v passes verdicts some =
       (own : Bool) × Then (g.answers x.filter m (under filter.index v)) passes own × (passes_at verdicts filter.index ≡ own)
@@ -107,6 +107,6 @@ module _ {L F : Type 0} (g : Ghosts F) (h : LayerGhosts L) where
   abbrev pub filters_in : Filtered L F → ℕ
   filters_in x = suc (h.filters x.layer)
 
-  -- the filter and the layer keep their word
+  -- the filter and the layer are consistent
   abbrev pub BothKeep : Filtered L F → Type 0
   BothKeep x = g.honest x.filter × h.honest x.layer

@@ -1,4 +1,4 @@
--- What it means that a filter keeps its word.
+-- What it means that a filter is consistent.
 use Rattle.std.specs.Prelude.{◌≡◌, ℕ, Bool, true, List, Option}
 use Rattle.tracing_core_requests.specs.declared.interest.InterestInner.TheVariants.{Always}
 use Rattle.tracing_core_requests.specs.Interests.{PlainInterest}

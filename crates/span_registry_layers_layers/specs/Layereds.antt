@@ -57,14 +57,14 @@ KeptByBoth K J m v passes verdicts some = (a : Bool) × (b : Bool) × K m v pass
 
 module _ {A B : Type 0} (g : Ghosts A) (h : Ghosts B) where
   -- both are told the same: of spans and events the inner one first, whose slots the outer one sees, and of a hub the outer one; and they are attached to the registry in turn, the outer one first
-  abbrev pub ToldBoth : Layered A B → Notice → Layered A B → Type 0
-  ToldBoth l (Spanned id call v y) m = (z : RegistryValue) × h.told l.inner (Spanned id call v z) m.inner × g.told l.layer (Spanned id call (seeing z v) y) m.layer
-  ToldBoth l (Followed span follows v y) m =
+  abbrev pub NotifiedBoth : Layered A B → Notice → Layered A B → Type 0
+  NotifiedBoth l (Spanned id call v y) m = (z : RegistryValue) × h.told l.inner (Spanned id call v z) m.inner × g.told l.layer (Spanned id call (seeing z v) y) m.layer
+  NotifiedBoth l (Followed span follows v y) m =
       (z : RegistryValue) × h.told l.inner (Followed span follows v z) m.inner × g.told l.layer (Followed span follows (seeing z v) y) m.layer
-  ToldBoth l (Happened e v y) m = (z : RegistryValue) × h.told l.inner (Happened e v z) m.inner × g.told l.layer (Happened e (seeing z v) y) m.layer
-  ToldBoth l (Renamed old new v y) m = (z : RegistryValue) × h.told l.inner (Renamed old new v z) m.inner × g.told l.layer (Renamed old new (seeing z v) y) m.layer
-  ToldBoth l (Dispatched handle) m = g.told l.layer (Dispatched handle) m.layer × h.told l.inner (Dispatched handle) m.inner
-  ToldBoth l (Attached x) m = (y : RegistryValue) × AddsFilters x y × g.told l.layer (Attached x) m.layer × h.told l.inner (Attached y) m.inner
+  NotifiedBoth l (Happened e v y) m = (z : RegistryValue) × h.told l.inner (Happened e v z) m.inner × g.told l.layer (Happened e (seeing z v) y) m.layer
+  NotifiedBoth l (Renamed old new v y) m = (z : RegistryValue) × h.told l.inner (Renamed old new v z) m.inner × g.told l.layer (Renamed old new (seeing z v) y) m.layer
+  NotifiedBoth l (Dispatched handle) m = g.told l.layer (Dispatched handle) m.layer × h.told l.inner (Dispatched handle) m.inner
+  NotifiedBoth l (Attached x) m = (y : RegistryValue) × AddsFilters x y × g.told l.layer (Attached x) m.layer × h.told l.inner (Attached y) m.inner
 
   abbrev pub BothHonest : Layered A B → Type 0
   BothHonest l = g.honest l.layer × h.honest l.inner
@@ -80,7 +80,7 @@ module _ {A B : Type 0} (g : Ghosts A) (h : Ghosts B) where
       let inner = h.stays l.inner k m.inner b honest.1 in
       ((outer.0, inner.0), joined_word picked_interest picked_hint outer.1 inner.1)
 
-  pub both_stay : (l : Layered A B) (n : Notice) (m : Layered A B) → ToldBoth l n m → BothHonest l → BothHonest m × SameWords l m
+  pub both_stay : (l : Layered A B) (n : Notice) (m : Layered A B) → NotifiedBoth l n m → BothHonest l → BothHonest m × SameWords l m
   both_stay l (Spanned id call v y) m t = stays_each l m (Spanned id call (seeing t.0 v) y) (Spanned id call v t.0) t.2 t.1
   both_stay l (Followed span follows v y) m t = stays_each l m (Followed span follows (seeing t.0 v) y) (Followed span follows v t.0) t.2 t.1
   both_stay l (Happened e v y) m t = stays_each l m (Happened e (seeing t.0 v) y) (Happened e v t.0) t.2 t.1
@@ -94,7 +94,7 @@ module _ {A B : Type 0} (g : Ghosts A) (h : Ghosts B) where
   joined_numbers : (l m : Layered A B) → g.numbers m.layer ≡ g.numbers l.layer → h.numbers m.inner ≡ h.numbers l.inner → BothNumbers m ≡ BothNumbers l
   joined_numbers l m a b = ap (λ (ns : List ℕ). ns ++ h.numbers m.inner) a ∙ ap (λ (ns : List ℕ). g.numbers l.layer ++ ns) b
 
-  pub both_numbered : (l : Layered A B) (n : Notice) (m : Layered A B) → ToldBoth l n m → NumbersStay n (BothNumbers l) (BothNumbers m)
+  pub both_numbered : (l : Layered A B) (n : Notice) (m : Layered A B) → NotifiedBoth l n m → NumbersStay n (BothNumbers l) (BothNumbers m)
   both_numbered l (Spanned id call v y) m t = joined_numbers l m (g.numbered l.layer (Spanned id call (seeing t.0 v) y) m.layer t.2) (h.numbered l.inner (Spanned id call v t.0) m.inner t.1)
   both_numbered l (Followed span follows v y) m t =
       joined_numbers l m (g.numbered l.layer (Followed span follows (seeing t.0 v) y) m.layer t.2) (h.numbered l.inner (Followed span follows v t.0) m.inner t.1)
@@ -109,7 +109,7 @@ module _ {A B : Type 0} (g : Ghosts A) (h : Ghosts B) where
   aside_each : (l : Layered A B) (x z y : RegistryValue) → SameButKeys (h.keys l.inner) x z → SameButKeys (g.keys l.layer) z y → SameButKeys (keys_of l) x y
   aside_each l x z y a b = keys_then (h.keys l.inner) (g.keys l.layer) x z y a b
 
-  pub both_aside : (l : Layered A B) (n : Notice) (m : Layered A B) → ToldBoth l n m → WritesUnder (keys_of l) n
+  pub both_aside : (l : Layered A B) (n : Notice) (m : Layered A B) → NotifiedBoth l n m → WritesUnder (keys_of l) n
   both_aside l (Spanned id call v y) m t = aside_each l v.registry t.0 y (h.aside l.inner (Spanned id call v t.0) m.inner t.1) (g.aside l.layer (Spanned id call (seeing t.0 v) y) m.layer t.2)
   both_aside l (Followed span follows v y) m t = aside_each l v.registry t.0 y (h.aside l.inner (Followed span follows v t.0) m.inner t.1) (g.aside l.layer (Followed span follows (seeing t.0 v) y) m.layer t.2)
   both_aside l (Happened e v y) m t = aside_each l v.registry t.0 y (h.aside l.inner (Happened e v t.0) m.inner t.1) (g.aside l.layer (Happened e (seeing t.0 v) y) m.layer t.2)
@@ -120,7 +120,7 @@ module _ {A B : Type 0} (g : Ghosts A) (h : Ghosts B) where
   keyed_each : (l m : Layered A B) (n k : Notice) → g.told l.layer n m.layer → h.told l.inner k m.inner → (key : ℕ) → keys_of m key ≡ keys_of l key
   keyed_each l m n k a b key = ap (λ p. p || h.keys m.inner key) (g.keyed l.layer n m.layer a key) ∙ ap (λ q. g.keys l.layer key || q) (h.keyed l.inner k m.inner b key)
 
-  pub both_keyed : (l : Layered A B) (n : Notice) (m : Layered A B) → ToldBoth l n m → (key : ℕ) → keys_of m key ≡ keys_of l key
+  pub both_keyed : (l : Layered A B) (n : Notice) (m : Layered A B) → NotifiedBoth l n m → (key : ℕ) → keys_of m key ≡ keys_of l key
   both_keyed l (Spanned id call v y) m t key = keyed_each l m (Spanned id call (seeing t.0 v) y) (Spanned id call v t.0) t.2 t.1 key
   both_keyed l (Followed span follows v y) m t key = keyed_each l m (Followed span follows (seeing t.0 v) y) (Followed span follows v t.0) t.2 t.1 key
   both_keyed l (Happened e v y) m t key = keyed_each l m (Happened e (seeing t.0 v) y) (Happened e v t.0) t.2 t.1 key

@@ -96,15 +96,15 @@ module _ {L : Type 0} (g : Ghosts L) where
   TellsInTurn n v xs y ys = EachInTurn (TellsOne n v) v.registry xs y ys
 
   -- each is told the same in turn, and they are attached to the registry in turn
-  abbrev pub ToldEach : List L → Notice → List L → Type 0
-  ToldEach xs (Spanned id call v y) ys = TellsInTurn (Spanned id call) v xs y ys
-  ToldEach xs (Followed span follows v y) ys = TellsInTurn (Followed span follows) v xs y ys
-  ToldEach xs (Happened e v y) ys = TellsInTurn (Happened e) v xs y ys
-  ToldEach xs (Renamed old new v y) ys = TellsInTurn (Renamed old new) v xs y ys
-  ToldEach xs (Dispatched handle) ys = EachTold (Dispatched handle) xs ys
-  ToldEach xs (Attached x) ys = (z : RegistryValue) × AttachedEach x xs ys z
+  abbrev pub NotifiedEach : List L → Notice → List L → Type 0
+  NotifiedEach xs (Spanned id call v y) ys = TellsInTurn (Spanned id call) v xs y ys
+  NotifiedEach xs (Followed span follows v y) ys = TellsInTurn (Followed span follows) v xs y ys
+  NotifiedEach xs (Happened e v y) ys = TellsInTurn (Happened e) v xs y ys
+  NotifiedEach xs (Renamed old new v y) ys = TellsInTurn (Renamed old new) v xs y ys
+  NotifiedEach xs (Dispatched handle) ys = EachTold (Dispatched handle) xs ys
+  NotifiedEach xs (Attached x) ys = (z : RegistryValue) × AttachedEach x xs ys z
 
-  -- each keeps its word, and always wants all
+  -- each is consistent, and always wants all
   abbrev pub EachWants : List L → Type 0
   EachWants [] = Unit {0}
   EachWants (x ∷ xs) = g.honest x × ((m : PlainMetadata) → g.says x m Always) × EachWants xs
@@ -141,7 +141,7 @@ module _ {L : Type 0} (g : Ghosts L) where
         covers_fits (hint_from (Some 0) (x ∷ xs)) m.level b (covers_from (either_hint (Some 0) (g.hint x)) xs m.level (covers_first (g.hint x) m.level a.0 first ((g.fair x k.0).below m v a.0 a.1)));
   }
 
-  -- the word of two lists is the same, whatever was said before
+  -- two lists say the same, whatever was said before
   abbrev SameFrom : List L → List L → Type 0
   SameFrom xs ys = (i : PlainInterest) (h : Option ℕ) → SameWord (SaysFrom i xs) (SaysFrom i ys) (hint_from h xs) (hint_from h ys)
 
@@ -200,7 +200,7 @@ module _ {L : Type 0} (g : Ghosts L) where
   honest_attached r z (x ∷ xs) [] t k = absurd t
   honest_attached r z (x ∷ xs) (y ∷ ys) t k = let all = attached_stays r z (x ∷ xs) (y ∷ ys) t k in (all.0, all.1 Never (Some 0))
 
-  pub several_stay : (xs : List L) (n : Notice) (ys : List L) → ToldEach xs n ys → IsHonest xs → IsHonest ys × SameWord (SaysFrom Never xs) (SaysFrom Never ys) (hint_from (Some 0) xs) (hint_from (Some 0) ys)
+  pub several_stay : (xs : List L) (n : Notice) (ys : List L) → NotifiedEach xs n ys → IsHonest xs → IsHonest ys × SameWord (SaysFrom Never xs) (SaysFrom Never ys) (hint_from (Some 0) xs) (hint_from (Some 0) ys)
   several_stay xs (Spanned id call v y) ys t = honest_turn (Spanned id call) v xs y ys t
   several_stay xs (Followed span follows v y) ys t = honest_turn (Followed span follows) v xs y ys t
   several_stay xs (Happened e v y) ys t = honest_turn (Happened e) v xs y ys t
@@ -236,7 +236,7 @@ module _ {L : Type 0} (g : Ghosts L) where
   turn_numbers n v f x (l ∷ ls) y [] t = absurd t
   turn_numbers n v f x (l ∷ ls) y (m ∷ ms) t = joined_numbers l m ls ms (f x t.0 l m t.1) (turn_numbers n v f t.0 ls y ms t.2)
 
-  pub each_numbered : (n : Notice) (xs ys : List L) → ToldEach xs n ys → NumbersStay n (numbers_of xs) (numbers_of ys)
+  pub each_numbered : (n : Notice) (xs ys : List L) → NotifiedEach xs n ys → NumbersStay n (numbers_of xs) (numbers_of ys)
   each_numbered (Spanned id call v y) xs ys t = turn_numbers (Spanned id call) v (λ x z l m told. g.numbered l (Spanned id call (seeing x v) z) m told) v.registry xs y ys t
   each_numbered (Followed span follows v y) xs ys t = turn_numbers (Followed span follows) v (λ x z l m told. g.numbered l (Followed span follows (seeing x v) z) m told) v.registry xs y ys t
   each_numbered (Happened e v y) xs ys t = turn_numbers (Happened e) v (λ x z l m told. g.numbered l (Happened e (seeing x v) z) m told) v.registry xs y ys t
@@ -263,7 +263,7 @@ module _ {L : Type 0} (g : Ghosts L) where
   turn_aside n v f x (l ∷ ls) y (m ∷ ms) t = keys_then (g.keys l) (keys_of ls) x t.0 y (f x t.0 l m t.1) (turn_aside n v f t.0 ls y ms t.2)
 
   -- they write under the keys of all of them
-  pub each_aside : (n : Notice) (xs ys : List L) → ToldEach xs n ys → WritesUnder (keys_of xs) n
+  pub each_aside : (n : Notice) (xs ys : List L) → NotifiedEach xs n ys → WritesUnder (keys_of xs) n
   each_aside (Spanned id call v y) xs ys t = turn_aside (Spanned id call) v (λ x z l m told. g.aside l (Spanned id call (seeing x v) z) m told) v.registry xs y ys t
   each_aside (Followed span follows v y) xs ys t = turn_aside (Followed span follows) v (λ x z l m told. g.aside l (Followed span follows (seeing x v) z) m told) v.registry xs y ys t
   each_aside (Happened e v y) xs ys t = turn_aside (Happened e) v (λ x z l m told. g.aside l (Happened e (seeing x v) z) m told) v.registry xs y ys t
@@ -292,7 +292,7 @@ module _ {L : Type 0} (g : Ghosts L) where
   attached_keyed x z (l ∷ ls) [] t key = absurd t
   attached_keyed x z (l ∷ ls) (m ∷ ms) t key = joined_keys l m ls ms key (g.keyed l (Attached x) m t.2 key) (attached_keyed t.0 z ls ms t.3 key)
 
-  pub each_keyed : (n : Notice) (xs ys : List L) → ToldEach xs n ys → (key : ℕ) → keys_of ys key ≡ keys_of xs key
+  pub each_keyed : (n : Notice) (xs ys : List L) → NotifiedEach xs n ys → (key : ℕ) → keys_of ys key ≡ keys_of xs key
   each_keyed (Spanned id call v y) xs ys t = turn_keyed (Spanned id call) v v.registry xs y ys t
   each_keyed (Followed span follows v y) xs ys t = turn_keyed (Followed span follows) v v.registry xs y ys t
   each_keyed (Happened e v y) xs ys t = turn_keyed (Happened e) v v.registry xs y ys t

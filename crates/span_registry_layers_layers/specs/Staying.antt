@@ -1,8 +1,8 @@
--- Calls of a tree keep the numbers of its filters, and the word of its layers.
+-- Calls of a tree keep the numbers of its filters, and leave its layers consistent.
 use Rattle.std.specs.Prelude.{◌≡◌, ◌≤◌, ℕ, Bool, true, false, List, [], ◌∷◌, Option, Some, None, Result, Ok, Err, refl}
 use Rattle.std.proofs.Common.{◌∙◌, sym, ap, subst}
 use Rattle.tracing_core_requests.specs.declared.at.At.{At}
-use Rattle.tracing_core_requests.specs.Calls.{Call, ReplyTo, DispatchRegistered, CallsiteRegistered, Asked, HintAsked, SpanMade, Recorded, FollowsRecorded, EventAsked, Told, Entered, Exited, Cloned, Dropped, CloseTried, CurrentAsked}
+use Rattle.tracing_core_requests.specs.Calls.{Call, ReplyTo, DispatchRegistered, CallsiteRegistered, Asked, HintAsked, SpanMade, Recorded, FollowsRecorded, EventAsked, EventDispatched, Entered, Exited, Cloned, Dropped, CloseTried, CurrentAsked}
 use Rattle.tracing_core_requests.specs.Refusals.{or_same}
 use Rattle.tracing_core_requests.specs.declared.interest.InterestInner.TheVariants.{Sometimes, Always}
 use Rattle.tracing_core_fields.specs.PlainMetadata.{PlainMetadata}
@@ -33,15 +33,15 @@ kept_filters None x y e = e
 kept_filters (Some refusal) x y e = refl
 
 module _ {L : Type 0} (g : Ghosts L) where
-  -- the layers keep their word, and veto nothing
+  -- the layers are consistent, and veto nothing
   abbrev pub Wants : L → Type 0
   Wants l = g.honest l × ((m : PlainMetadata) → g.says l m Always)
 
-  -- an attached tree of such layers keeps its word
+  -- an attached tree of such layers is consistent
   abbrev pub IsSteady : Layered L RegistryValue → Type 0
   IsSteady s = Wants s.layer × IsAttached g s
 
-  -- the numbers stay, and what keeps its word keeps it
+  -- the numbers stay, and what is consistent stays so
   abbrev Reaches : L → L → Type 0
   Reaches l m = (g.numbers m ≡ g.numbers l) × (Wants l → Wants m)
 
@@ -129,7 +129,7 @@ module _ {L : Type 0} (g : Ghosts L) where
       let followed = Followed id follows (whole at s.inner) in
       taken r s t (LayersTold g followed s) (told followed s.inner s t refl (g.numbered s.layer (followed t.inner) t.layer) (λ heard. (g.aside s.layer (followed t.inner) t.layer heard).0)) w.1
   moved s (EventAsked e at) r t w attached = none s t w.1
-  moved s (Told e at) r t w attached = known (knows s.inner (explicit_parent e.parent)) w
+  moved s (EventDispatched e at) r t w attached = known (knows s.inner (explicit_parent e.parent)) w
     where
       heard : (b : Bool) → Where b (LayersTold g (Happened e (whole at s.inner)) s t) (t ≡ s) → Moved s t
       heard true k = let happened = Happened e (whole at s.inner) in told happened s.inner s t refl (g.numbered s.layer (happened t.inner) t.layer) (λ heard. (g.aside s.layer (happened t.inner) t.layer heard).0) k

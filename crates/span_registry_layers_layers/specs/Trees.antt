@@ -1,7 +1,7 @@
 -- A tree of layers over a registry: each layer is told what all filters on the way down to it pass.
 use Rattle.std.specs.Prelude.{◌≡◌, ◌<◌, ◌≤◌, ◌+◌, ℕ, Bool, true, false, List, [], ◌∷◌, Option, Some, None, Result, Ok, Err}
 use Rattle.tracing_core_requests.specs.declared.at.At.{At}
-use Rattle.tracing_core_requests.specs.Calls.{Call, ReplyTo, DispatchRegistered, CallsiteRegistered, Asked, HintAsked, SpanMade, Recorded, FollowsRecorded, EventAsked, Told, Entered, Exited, Cloned, Dropped, CloseTried, CurrentAsked}
+use Rattle.tracing_core_requests.specs.Calls.{Call, ReplyTo, DispatchRegistered, CallsiteRegistered, Asked, HintAsked, SpanMade, Recorded, FollowsRecorded, EventAsked, EventDispatched, Entered, Exited, Cloned, Dropped, CloseTried, CurrentAsked}
 use Rattle.tracing_core_requests.specs.declared.current_span.CurrentSpan.{CurrentSpan}
 use Rattle.tracing_core_requests.specs.declared.current_span.CurrentSpan.TheVariants.{Inside, Outside}
 use Rattle.tracing_core_requests.specs.Refusals.{or_refused}
@@ -87,7 +87,7 @@ module _ {L : Type 0} (g : Ghosts L) where
   abbrev pub IsDropped : Layered L RegistryValue → Result (Option ℕ) RequestError → Layered L RegistryValue → Type 0
   IsDropped s r t = (r ≡ Ok None) × (t ≡ s)
 
-  -- a span is made with what its filters say of it, asked afresh, where one of the layers is to be told
+  -- a span is made with what its filters say of it, asked again, where one of the layers is to be told
   abbrev pub AsksSpan : PlainAttributes → At → Layered L RegistryValue → Result (Option ℕ) RequestError → Layered L RegistryValue → Type 0
   AsksSpan a at s r t =
       (verdicts : List Bool) × (some : Bool) × g.kept s.layer a.metadata (whole at s.inner) true verdicts some × Where some (MakesSpan a at verdicts s r t) (IsDropped s r t)
@@ -155,7 +155,7 @@ module _ {L : Type 0} (g : Ghosts L) where
   Moves s (Recorded id values at) r t = RecordGives id values at s r t
   Moves s (FollowsRecorded id follows at) r t = FollowsGives id follows at s r t
   Moves s (EventAsked e at) r t = (r ≡ true) × (t ≡ s)
-  Moves s (Told e at) r t = EventGives e at s r t
+  Moves s (EventDispatched e at) r t = EventGives e at s r t
   Moves s (Entered id at) r t = EnterGives id at s r t
   Moves s (Exited id at) r t = ExitGives id at s t
   Moves s (Cloned id at) r t = CloneGives id s r t

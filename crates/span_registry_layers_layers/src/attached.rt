@@ -38,7 +38,7 @@ fn has_room<L: Layer>(layer: &L, registry: &Registry) -> bool
 
 // The layer, and the registry that numbers its filters.
 fn number<L: Layer>(layer: L, registry: Registry) -> Layered<L, Registry>
-    ensures told { L.told layer (Attached registry) result.layer }
+    ensures notified { L.told layer (Attached registry) result.layer }
     ensures numbers { registry.filters + L.filters layer ≤ 64 → (result.inner ≡ more_filters (L.filters layer) registry) × (L.numbers result.layer ≡ numbers_from registry.filters (L.filters layer)) }
 {
     let mut layer = layer;

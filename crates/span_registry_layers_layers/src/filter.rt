@@ -46,7 +46,7 @@ pub trait Filter: Drop {
     // What a call makes of it.
     ghost after: { Self → Hook → Self };
 
-    // Which values keep their word.
+    // Which values are consistent.
     ghost honest: { Self → Type 0 };
 
     ghost fair: { (x : Self) → honest x → Fair (answers x) (says x) (hint x) };

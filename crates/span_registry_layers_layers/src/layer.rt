@@ -35,7 +35,7 @@ use tracing_core_requests::{Attributes, Event, Interest, Record, WeakDispatch};
 /// make of it is a relation. What it may write is slots under its `keys`; all else of the registry stays, but that
 /// `on_layer` may number filters. Where nothing is said of `keys` there are none, so that the registry stays as it was; a
 /// layer that writes says in `told` what it writes, by the registry that the notice holds as it is left. An honest layer
-/// keeps its word as an honest filter does, whatever it is told.
+/// is consistent as an honest filter does, whatever it is told.
 pub trait Layer: Drop {
     // What it may answer of a callsite, by what it may look at.
     ghost answers: { Self → PlainMetadata → View → Bool → Type 0 };
@@ -52,7 +52,7 @@ pub trait Layer: Drop {
     // What a notice may make of it.
     ghost told: { Self → Notice → Self → Type 0 };
 
-    // Which values keep their word.
+    // Which values are consistent.
     ghost honest: { Self → Type 0 };
 
     // How many filters it has.
@@ -85,7 +85,7 @@ pub trait Layer: Drop {
 
     /// It was attached to a registry, which it may have number its filters.
     fn on_layer(&mut self, registry: &mut Registry)
-        ensures told { told self.old (Attached registry.old) self.new }
+        ensures notified { told self.old (Attached registry.old) self.new }
         ensures filters { AddsFilters registry.old registry.new }
         // Its filters are numbered in turn, where there is room for all of them.
         ensures numbers { registry.old.filters + filters self.old ≤ 64 → (registry.new ≡ more_filters (filters self.old) registry.old) × (numbers self.new ≡ numbers_from registry.old.filters (filters self.old)) };
@@ -121,7 +121,7 @@ pub trait Layer: Drop {
     /// A span was made.
     fn on_new_span(&mut self, attributes: &Attributes<'_, '_>, span: &Id, context: &mut Context<'_>)
         ensures lent { SameLoan context.old context.new }
-        ensures told { told self.old (Spanned span.now (SpanMade (plain_attributes attributes.now) span.now) (view context.old) (left context.new)) self.new };
+        ensures notified { told self.old (Spanned span.now (SpanMade (plain_attributes attributes.now) span.now) (view context.old) (left context.new)) self.new };
 
     /// The most verbose level that passes, where it knows one.
     fn max_level_hint(&self) -> Option<LevelFilter>
@@ -130,12 +130,12 @@ pub trait Layer: Drop {
     /// Values were recorded on a span.
     fn on_record(&mut self, span: &Id, values: &Record<'_>, context: &mut Context<'_>)
         ensures lent { SameLoan context.old context.new }
-        ensures told { told self.old (Spanned span.now (Recorded span.now (plain_record values.now)) (view context.old) (left context.new)) self.new };
+        ensures notified { told self.old (Spanned span.now (Recorded span.now (plain_record values.now)) (view context.old) (left context.new)) self.new };
 
     /// A span was said to follow from another one.
     fn on_follows_from(&mut self, span: &Id, follows: &Id, context: &mut Context<'_>)
         ensures lent { SameLoan context.old context.new }
-        ensures told { told self.old (Followed span.now follows.now (view context.old) (left context.new)) self.new };
+        ensures notified { told self.old (Followed span.now follows.now (view context.old) (left context.new)) self.new };
 
     /// Whether an event passes, whose callsite does. Where it refuses, nobody is told.
     fn event_enabled(&self, event: &Event<'_, '_>, context: &Context<'_>) -> bool
@@ -144,25 +144,25 @@ pub trait Layer: Drop {
     /// An event happened.
     fn on_event(&mut self, event: &Event<'_, '_>, context: &mut Context<'_>)
         ensures lent { SameLoan context.old context.new }
-        ensures told { told self.old (Happened (plain_event event.now) (view context.old) (left context.new)) self.new };
+        ensures notified { told self.old (Happened (plain_event event.now) (view context.old) (left context.new)) self.new };
 
     /// A span was entered.
     fn on_enter(&mut self, span: &Id, context: &mut Context<'_>)
         ensures lent { SameLoan context.old context.new }
-        ensures told { told self.old (Spanned span.now (Entered span.now) (view context.old) (left context.new)) self.new };
+        ensures notified { told self.old (Spanned span.now (Entered span.now) (view context.old) (left context.new)) self.new };
 
     /// A span was left.
     fn on_exit(&mut self, span: &Id, context: &mut Context<'_>)
         ensures lent { SameLoan context.old context.new }
-        ensures told { told self.old (Spanned span.now (Exited span.now) (view context.old) (left context.new)) self.new };
+        ensures notified { told self.old (Spanned span.now (Exited span.now) (view context.old) (left context.new)) self.new };
 
     /// A span closes: it can still be looked at.
     fn on_close(&mut self, span: &Id, context: &mut Context<'_>)
         ensures lent { SameLoan context.old context.new }
-        ensures told { told self.old (Spanned span.now (Closed span.now) (view context.old) (left context.new)) self.new };
+        ensures notified { told self.old (Spanned span.now (Closed span.now) (view context.old) (left context.new)) self.new };
 
     /// A span has another id. No stack of this crate calls it.
     fn on_id_change(&mut self, old: &Id, new: &Id, context: &mut Context<'_>)
         ensures lent { SameLoan context.old context.new }
-        ensures told { told self.old (Renamed old.now new.now (view context.old) (left context.new)) self.new };
+        ensures notified { told self.old (Renamed old.now new.now (view context.old) (left context.new)) self.new };
 }

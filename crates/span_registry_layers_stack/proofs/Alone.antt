@@ -1,7 +1,7 @@
 -- Why outputs have no say in what calls leave of the registry.
 use Rattle.std.proofs.Common.{◌≡◌, ℕ, Bool, true, false, not, List, Option, Some, None, Result, Ok, Err, refl, sym, ap, ◌∙◌, subst}
 use Rattle.tracing_core_requests.specs.declared.at.At.{At}
-use Rattle.tracing_core_requests.specs.Calls.{Call, ReplyTo, DispatchRegistered, CallsiteRegistered, Asked, HintAsked, SpanMade, Recorded, FollowsRecorded, EventAsked, Told, Entered, Exited, Cloned, Dropped, CloseTried, CurrentAsked}
+use Rattle.tracing_core_requests.specs.Calls.{Call, ReplyTo, DispatchRegistered, CallsiteRegistered, Asked, HintAsked, SpanMade, Recorded, FollowsRecorded, EventAsked, EventDispatched, Entered, Exited, Cloned, Dropped, CloseTried, CurrentAsked}
 use Rattle.tracing_core_requests.specs.Refusals.{or_refused, or_same}
 use Rattle.tracing_core_requests.specs.PlainRequests.{PlainAttributes, PlainEvent, explicit_parent}
 use Rattle.tracing_core_requests.specs.declared.refusal.RequestError.{RequestError}
@@ -108,7 +108,7 @@ module _ {L F : Type 0} (g : Ghosts F) (h : LayerGhosts L) (Alike : RegistryValu
   stands_alone s (FollowsRecorded id follows at) r t m =
       (s.registry, (m.0, refl), taken (TellsFollows g h id follows at) (follows_left g h Alike k id follows at) s t r m.1)
   stands_alone s (EventAsked e at) r t m = (s.registry, refl, kept s t m.1)
-  stands_alone s (Told e at) r t m =
+  stands_alone s (EventDispatched e at) r t m =
       let told = event_alone (knows s.registry (explicit_parent e.parent)) (is_refused s e.metadata) e at s t r m in (s.registry, (told.0, refl), told.1)
   stands_alone s (Entered id at) r t m =
       (m.0, m.1, entered (TellsSpan g h (looks.Entered id) id at) (span_left g h Alike k (looks.Entered id) id at) id at s t r m.0 m.1 m.2)

@@ -2,7 +2,7 @@
 use Rattle.std.proofs.Common.{◌≡◌, ◌==◌, ◌&&◌, ℕ, suc, Bool, true, false, List, [], ◌∷◌, map, refl, sym, ap, ◌∙◌, subst, arith}
 use Rattle.std.proofs.lemmas.Bool.Decides.{nat_tests}
 use Rattle.tracing_core_requests.specs.declared.at.At.{At}
-use Rattle.tracing_core_requests.specs.Calls.{DispatchRegistered, CallsiteRegistered, Asked, HintAsked, SpanMade, Recorded, FollowsRecorded, EventAsked, Told, Entered, Exited, Cloned, Dropped, CloseTried, CurrentAsked}
+use Rattle.tracing_core_requests.specs.Calls.{DispatchRegistered, CallsiteRegistered, Asked, HintAsked, SpanMade, Recorded, FollowsRecorded, EventAsked, EventDispatched, Entered, Exited, Cloned, Dropped, CloseTried, CurrentAsked}
 use Rattle.tracing_core_requests.specs.Lists.{Every}
 use Rattle.tracing_core_requests.specs.PlainRequests.{PlainEvent}
 use Rattle.span_registry_layers_store.specs.Aside.{SameButKeys, keys_equal}
@@ -61,7 +61,7 @@ module _ {L F : Type 0} (g : Ghosts F) (h : LayerGhosts L) where
   calls_kept s (Recorded id values at) r t m = stays s t (record_keeps g h id values at s t r m).keys
   calls_kept s (FollowsRecorded id follows at) r t m = stays s t (follows_keeps g h id follows at s t r m).keys
   calls_kept s (EventAsked e at) r t m = stays s t (same_keys s t (rows_of s t m.1))
-  calls_kept s (Told e at) r t m = stays s t (event_keeps g h e at s t r m).keys
+  calls_kept s (EventDispatched e at) r t m = stays s t (event_keeps g h e at s t r m).keys
   calls_kept s (Entered id at) r t m = stays s t (enter_keeps g h id at s t r m).keys
   calls_kept s (Exited id at) r t m = stays s t (exit_keeps g h id at s t m).keys
   calls_kept s (Cloned id at) r t m = stays s t (clone_keeps g h id s t r m).keys

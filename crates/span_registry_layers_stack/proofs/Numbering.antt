@@ -3,7 +3,7 @@ use Rattle.std.proofs.Common.{◌≡◌, ◌<◌, ◌==◌, ◌++◌, ◌||◌, 
 use Rattle.std.proofs.lemmas.Bool.Decides.{nat_tests}
 use Rattle.std.proofs.lemmas.List.Folds.{list_any-append}
 use Rattle.tracing_core_requests.specs.declared.at.At.{At}
-use Rattle.tracing_core_requests.specs.Calls.{DispatchRegistered, CallsiteRegistered, Asked, HintAsked, SpanMade, Recorded, FollowsRecorded, EventAsked, Told, Entered, Exited, Cloned, Dropped, CloseTried, CurrentAsked}
+use Rattle.tracing_core_requests.specs.Calls.{DispatchRegistered, CallsiteRegistered, Asked, HintAsked, SpanMade, Recorded, FollowsRecorded, EventAsked, EventDispatched, Entered, Exited, Cloned, Dropped, CloseTried, CurrentAsked}
 use Rattle.tracing_core_requests.specs.Lists.{Every}
 use Rattle.tracing_core_fields.specs.PlainMetadata.{PlainMetadata}
 use Rattle.tracing_core_requests.specs.PlainRequests.{PlainAttributes, PlainEvent, explicit_parent}
@@ -121,7 +121,7 @@ module _ {L F : Type 0} (g : Ghosts F) (h : LayerGhosts L) where
   numbers_same s (Recorded id values at) r t m = (record_keeps g h id values at s t r m).numbers
   numbers_same s (FollowsRecorded id follows at) r t m = (follows_keeps g h id follows at s t r m).numbers
   numbers_same s (EventAsked e at) r t m = numbers_alike s t m.1
-  numbers_same s (Told e at) r t m = (event_keeps g h e at s t r m).numbers
+  numbers_same s (EventDispatched e at) r t m = (event_keeps g h e at s t r m).numbers
   numbers_same s (Entered id at) r t m = (enter_keeps g h id at s t r m).numbers
   numbers_same s (Exited id at) r t m = (exit_keeps g h id at s t m).numbers
   numbers_same s (Cloned id at) r t m = (clone_keeps g h id s t r m).numbers
@@ -129,7 +129,7 @@ module _ {L F : Type 0} (g : Ghosts F) (h : LayerGhosts L) where
   numbers_same s (CloseTried id at) r t m = (close_keeps g h id at s t r m).numbers
   numbers_same s (CurrentAsked at) r t m = numbers_alike s t m.1
 
-  -- a filter that is asked afresh answers as another such answer did
+  -- a filter that is asked again answers as another such answer did
   asked_as : (e : PlainEvent) (at : At) (x : RegistryValue) (row asked : Row (Filtered L F)) → g.honest row.output.filter → AsksEventBy g (Afresh g) e at x row asked → Afresh g row.output.filter e.metadata (view_of at x row) false → asked ≡ marked false row
   asked_as e at x row asked honest w quiet =
       let P = g.answers row.output.filter e.metadata (view_of at x row) in

@@ -1,6 +1,6 @@
 -- Why the registry of a stack stays sound.
 use Rattle.std.proofs.Common.{◌≡◌, ℕ, List, Option, Some, None, Result, Ok, Err, refl, sym, ap, subst}
-use Rattle.tracing_core_requests.specs.Calls.{Call, ReplyTo, DispatchRegistered, CallsiteRegistered, Asked, HintAsked, SpanMade, Recorded, FollowsRecorded, EventAsked, Told, Entered, Exited, Cloned, Dropped, CloseTried, CurrentAsked}
+use Rattle.tracing_core_requests.specs.Calls.{Call, ReplyTo, DispatchRegistered, CallsiteRegistered, Asked, HintAsked, SpanMade, Recorded, FollowsRecorded, EventAsked, EventDispatched, Entered, Exited, Cloned, Dropped, CloseTried, CurrentAsked}
 use Rattle.tracing_core_requests.specs.PlainRequests.{PlainAttributes}
 use Rattle.tracing_core_requests.specs.declared.refusal.RequestError.{RequestError}
 use Rattle.span_registry_layers_store.specs.Laws.{IsSound}
@@ -33,7 +33,7 @@ alone_sound x (SpanMade a at) r y w sound = span_sound x a at.lane r y w sound
 alone_sound x (Recorded id values at) r y w sound = equal_sound x y w.1 sound
 alone_sound x (FollowsRecorded id follows at) r y w sound = equal_sound x y w.1 sound
 alone_sound x (EventAsked e at) r y w sound = equal_sound x y w sound
-alone_sound x (Told e at) r y w sound = equal_sound x y w.1 sound
+alone_sound x (EventDispatched e at) r y w sound = equal_sound x y w.1 sound
 alone_sound x (Entered id at) r y w sound = (stays_sound x sound).entry at.lane id r y w
 alone_sound x (Exited id at) r y w sound = subst IsSound (sym w) ((stays_sound x sound).exit at.lane id)
 alone_sound x (Cloned id at) r y w sound = subst IsSound (sym (ap (λ (p : Result ℕ RequestError × RegistryValue). p.1) w)) ((stays_sound x sound).handle id)

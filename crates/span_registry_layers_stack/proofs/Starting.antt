@@ -15,7 +15,7 @@ use Rattle.span_registry_layers_stack.specs.Numbers.{HasNumbers}
 use Rattle.span_registry_layers_stack.specs.Rows.{filters_of, numbers_of}
 use Rattle.span_registry_layers_stack.specs.Stacks.{StackValue}
 use Rattle.span_registry_layers_stack.specs.Steadiness.{hints_over}
-use Rattle.span_registry_layers_stack.specs.Words.{Word, WordOf}
+use Rattle.span_registry_layers_stack.specs.CacheValidity.{CacheIsValid, CacheIsValidFor}
 use Rattle.span_registry_layers_stack.specs.declared.output.Output.{Output}
 use Rattle.span_registry_layers_stack.specs.declared.output.StackError.{StackError}
 use Rattle.span_registry_layers_stack.specs.declared.output.StackRefusal.{StackRefusal}
@@ -23,7 +23,7 @@ use Rattle.span_registry_layers_stack.specs.declared.output.StackError.TheVarian
 use Rattle.span_registry_layers_stack.specs.declared.row.Row.{Row}
 
 module _ {L F : Type 0} (h : LayerGhosts L) (g : Ghosts F) where
-  made_word : (rows : List (Row (Filtered L F))) → Every (λ f. g.honest f) (filters_of rows) → WordOf g (filters_of rows) [] (common_hint g (Some 0) (filters_of rows))
+  made_word : (rows : List (Row (Filtered L F))) → Every (λ f. g.honest f) (filters_of rows) → CacheIsValidFor g (filters_of rows) [] (common_hint g (Some 0) (filters_of rows))
   made_word rows honest = record { honest = honest; interests = tt; hints = hints_over g (filters_of rows) (Some 0) }
 
   honest_made : (x : RegistryValue) (outputs : List (Output (Filtered L F))) (rows : List (Row (Filtered L F))) → RowsFrom h x outputs rows → Every (λ (o : Output (Filtered L F)). g.honest o.output.filter) outputs → Every (λ f. g.honest f) (filters_of rows)
@@ -35,14 +35,14 @@ module _ {L F : Type 0} (h : LayerGhosts L) (g : Ghosts F) where
     honest_made (more_filters (suc (h.filters output.output.layer)) x) outputs rows w.1 honest.1,
   )
 
-  pub new_honest : (outputs : List (Output (Filtered L F))) (refusal : Option StackError) (r : Result (StackValue (Filtered L F)) (StackRefusal (Filtered L F))) → NewUnless h g refusal outputs r → Every (λ (o : Output (Filtered L F)). g.honest o.output.filter) outputs → IfOk r (λ s. Word g s)
-  new_honest outputs None (Ok s) e honest = subst (Word g) (sym e.1) (made_word s.rows (honest_made new_registry outputs s.rows e.0 honest))
+  pub new_honest : (outputs : List (Output (Filtered L F))) (refusal : Option StackError) (r : Result (StackValue (Filtered L F)) (StackRefusal (Filtered L F))) → NewUnless h g refusal outputs r → Every (λ (o : Output (Filtered L F)). g.honest o.output.filter) outputs → IfOk r (λ s. CacheIsValid g s)
+  new_honest outputs None (Ok s) e honest = subst (CacheIsValid g) (sym e.1) (made_word s.rows (honest_made new_registry outputs s.rows e.0 honest))
   new_honest outputs None (Err refusal) e honest = tt
   new_honest outputs (Some refusal) (Ok s) e honest = absurd e
   new_honest outputs (Some refusal) (Err other) e honest = tt
 
-  pub new_word : (outputs : List (Output (Filtered L F))) (refusal : Option StackError) (r : Result (StackValue (Filtered L F)) (StackRefusal (Filtered L F))) → NewUnless h g refusal outputs r → IfOk r (λ s. Every (λ f. g.honest f) (filters_of s.rows) → Word g s)
-  new_word outputs None (Ok s) e = λ honest. subst (Word g) (sym e.1) (made_word s.rows honest)
+  pub new_word : (outputs : List (Output (Filtered L F))) (refusal : Option StackError) (r : Result (StackValue (Filtered L F)) (StackRefusal (Filtered L F))) → NewUnless h g refusal outputs r → IfOk r (λ s. Every (λ f. g.honest f) (filters_of s.rows) → CacheIsValid g s)
+  new_word outputs None (Ok s) e = λ honest. subst (CacheIsValid g) (sym e.1) (made_word s.rows honest)
   new_word outputs None (Err refusal) e = tt
   new_word outputs (Some refusal) (Ok s) e = absurd e
   new_word outputs (Some refusal) (Err other) e = tt

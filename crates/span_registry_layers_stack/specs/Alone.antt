@@ -1,6 +1,6 @@
 -- What a call leaves of a stack's registry is what the registry's own call leaves: outputs have no say in it but whether a span is made, its verdicts, and slots.
 use Rattle.std.specs.Prelude.{◌≡◌, ℕ, Bool, true, false, Option, Some, None, Result, Ok, Err, List}
-use Rattle.tracing_core_requests.specs.Calls.{Call, ReplyTo, DispatchRegistered, CallsiteRegistered, Asked, HintAsked, SpanMade, Recorded, FollowsRecorded, EventAsked, Told, Entered, Exited, Cloned, Dropped, CloseTried, CurrentAsked}
+use Rattle.tracing_core_requests.specs.Calls.{Call, ReplyTo, DispatchRegistered, CallsiteRegistered, Asked, HintAsked, SpanMade, Recorded, FollowsRecorded, EventAsked, EventDispatched, Entered, Exited, Cloned, Dropped, CloseTried, CurrentAsked}
 use Rattle.tracing_core_requests.specs.Refusals.{or_refused}
 use Rattle.tracing_core_requests.specs.PlainRequests.{PlainAttributes, explicit_parent}
 use Rattle.tracing_core_requests.specs.declared.refusal.RequestError.{RequestError}
@@ -42,7 +42,7 @@ AloneGives x (SpanMade a at) r y = SpanAlone x a at.lane r y
 AloneGives x (Recorded id values at) r y = (r ≡ or_refused (open_refusal x id) tt) × (y ≡ x)
 AloneGives x (FollowsRecorded id follows at) r y = (r ≡ or_refused (follow_refusal x id follows) tt) × (y ≡ x)
 AloneGives x (EventAsked e at) r y = y ≡ x
-AloneGives x (Told e at) r y = (r ≡ event_answer (knows x (explicit_parent e.parent))) × (y ≡ x)
+AloneGives x (EventDispatched e at) r y = (r ≡ event_answer (knows x (explicit_parent e.parent))) × (y ≡ x)
 AloneGives x (Entered id at) r y = EntryGives x at.lane id r y
 AloneGives x (Exited id at) r y = y ≡ swept (without_entry x at.lane id)
 AloneGives x (Cloned id at) r y = (r, y) ≡ clone_gives x id

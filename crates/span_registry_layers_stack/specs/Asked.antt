@@ -1,4 +1,4 @@
--- What is asked of all filters, afresh.
+-- What is asked of all filters again.
 use Rattle.std.specs.Prelude.{◌≡◌, ◌||◌, ℕ, max, Bool, false, List, [], ◌∷◌, length, Option, Some, None, slice_set}
 use Rattle.tracing_core_requests.specs.Interests.{joined, settled, PlainInterest}
 use Rattle.tracing_core_requests.specs.declared.at.At.{At}

@@ -21,9 +21,9 @@ use Rattle.span_registry_layers_layers.specs.declared.layer.Layer.{Ghosts as Lay
 use Rattle.span_registry_layers_stack.specs.Asked.{AsksFrom, SomePasses, SomePassesBy}
 use Rattle.span_registry_layers_stack.specs.Calls.{SpanAfresh, SpanAsked, SpanCached, SpanKnown, SpanUnless, SpanWhere}
 use Rattle.span_registry_layers_stack.specs.Rows.{Afresh, AsksEventBy, EachBecomes, TellsEvent, filters_of, marked, view_of}
-use Rattle.span_registry_layers_stack.specs.Sites.{PlainSite, is_of, is_refused_by}
+use Rattle.span_registry_layers_stack.specs.Sites.{PlainCachedInterest, is_of, is_refused_by}
 use Rattle.span_registry_layers_stack.specs.Stacks.{EventAsked, EventCached, PassesAsked, PassesCached, PassesUnless, StackValue, TellsAfresh, TellsUnless, WhereKnown, cleared, is_above, is_refused}
-use Rattle.span_registry_layers_stack.specs.Words.{HintOver, Knows, Word, WordOf}
+use Rattle.span_registry_layers_stack.specs.CacheValidity.{HintOver, Knows, CacheIsValid, CacheIsValidFor}
 use Rattle.span_registry_layers_stack.specs.declared.row.Row.{Row}
 
 pub by_hint : (own kept : Option ℕ) (level : ℕ) (p : Bool) → HintFits own level p → HintOver own kept → is_above kept level ≡ true → p ≡ false
@@ -60,7 +60,7 @@ module _ {F : Type 0} (g : Ghosts F) where
   abbrev pub Refuses : PlainMetadata → F → Type 0
   Refuses m f = (v : View) (b : Bool) → g.answers f m v b → b ≡ false
 
-  site_known : (m : PlainMetadata) (site : PlainSite) (fs : List F) → is_refused_by m site ≡ true → Every (Knows g site.metadata site.interest) fs → Every (Knows g m Never) fs
+  site_known : (m : PlainMetadata) (site : PlainCachedInterest) (fs : List F) → is_refused_by m site ≡ true → Every (Knows g site.metadata site.interest) fs → Every (Knows g m Never) fs
   site_known m site fs e w =
       let both = both_true (says_never site.interest) (is_of m site) e in
       subst (λ n. Every (Knows g n Never) fs) ((is_same_metadata-decides site.metadata m).0 both.1)
@@ -70,7 +70,7 @@ module _ {F : Type 0} (g : Ghosts F) where
   by_sites P here later (inl e) f k = f e
   by_sites P here later (inr e) f k = k e
 
-  pub never_known : (m : PlainMetadata) (fs : List F) (sites : List PlainSite) → list_any (is_refused_by m) sites ≡ true → Every (λ site. Every (Knows g site.metadata site.interest) fs) sites → Every (Knows g m Never) fs
+  pub never_known : (m : PlainMetadata) (fs : List F) (sites : List PlainCachedInterest) → list_any (is_refused_by m) sites ≡ true → Every (λ site. Every (Knows g site.metadata site.interest) fs) sites → Every (Knows g m Never) fs
   never_known m fs [] e w = absurd (cc)
   never_known m fs (site ∷ sites) e w =
       by_sites (Every (Knows g m Never) fs) (is_refused_by m site) (list_any (is_refused_by m) sites) (either_true (is_refused_by m site) (list_any (is_refused_by m) sites) e)
@@ -84,7 +84,7 @@ module _ {F : Type 0} (g : Ghosts F) where
   all_never m [] a b = tt
   all_never m (f ∷ fs) a b = (λ v p w. by_never b.0.0 p b.0.2 ((g.fair f a.0).interest m v p b.0.0 w b.0.1), all_never m fs a.1 b.1)
 
-  pub all_refuse : (m : PlainMetadata) (h : Option ℕ) (fs : List F) (sites : List PlainSite) → WordOf g fs sites h → (is_above h m.level || list_any (is_refused_by m) sites) ≡ true → Every (Refuses m) fs
+  pub all_refuse : (m : PlainMetadata) (h : Option ℕ) (fs : List F) (sites : List PlainCachedInterest) → CacheIsValidFor g fs sites h → (is_above h m.level || list_any (is_refused_by m) sites) ≡ true → Every (Refuses m) fs
   all_refuse m h fs sites w e = each (either_true (is_above h m.level) (list_any (is_refused_by m) sites) e)
     where
       each : (is_above h m.level ≡ true) ⊎ (list_any (is_refused_by m) sites ≡ true) → Every (Refuses m) fs
@@ -102,7 +102,7 @@ module _ {F : Type 0} (g : Ghosts F) where
     afresh_passes m at x (row ∷ rows) b w =
         (w.0, inl w.1, else_known (SomePasses g m at x rows) (SomePassesBy (Afresh g) m at x rows) w.0 b (afresh_passes m at x rows b) w.2)
 
-    pub passes_is_asked : (s : StackValue (Filtered L F)) (m : PlainMetadata) (at : At) (b : Bool) → Word g s → PassesCached g s m at b → PassesAsked g s m at b
+    pub passes_is_asked : (s : StackValue (Filtered L F)) (m : PlainMetadata) (at : At) (b : Bool) → CacheIsValid g s → PassesCached g s m at b → PassesAsked g s m at b
     passes_is_asked s m at b w given = unless (is_refused s m) refl given
       where
         unless : (c : Bool) → is_refused s m ≡ c → PassesUnless g c s m at b → PassesAsked g s m at b
@@ -132,14 +132,14 @@ module _ {L F : Type 0} (g : Ghosts F) (h : LayerGhosts L) where
   afresh_asked e at x (r ∷ rs) [] w = absurd w
   afresh_asked e at x (r ∷ rs) (l ∷ ls) w = ((inl w.0.0, w.0.1, w.0.2), afresh_asked e at x rs ls w.1)
 
-  unless_told : (e : PlainEvent) (at : At) (s t : StackValue (Filtered L F)) → Word g s → (b : Bool) → is_refused s e.metadata ≡ b → TellsUnless g h b e at s t → TellsAfresh g h e at s t
+  unless_told : (e : PlainEvent) (at : At) (s t : StackValue (Filtered L F)) → CacheIsValid g s → (b : Bool) → is_refused s e.metadata ≡ b → TellsUnless g h b e at s t → TellsAfresh g h e at s t
   unless_told e at s t w true refused same =
       let refuse = all_refuse g e.metadata s.hint (filters_of s.rows) s.sites w refused in
       subst (TellsAfresh g h e at s) (sym same) (cleared s, (cleared_asked e at s.registry s.rows refuse, refl), (cleared_told e at s.registry s.rows, refl))
   unless_told e at s t w false refused told = (told.0, (afresh_asked e at s.registry s.rows told.0.rows told.1.0, told.1.1), told.2)
 
-  -- what is answered by what is kept is what asking every filter afresh gives
-  pub event_is_asked : (e : PlainEvent) (at : At) (s : StackValue (Filtered L F)) (r : Result (Unit {0}) RequestError) (t : StackValue (Filtered L F)) → Word g s → EventCached g h e at s r t → EventAsked g h e at s r t
+  -- what is answered by what is kept is what asking every filter again gives
+  pub event_is_asked : (e : PlainEvent) (at : At) (s : StackValue (Filtered L F)) (r : Result (Unit {0}) RequestError) (t : StackValue (Filtered L F)) → CacheIsValid g s → EventCached g h e at s r t → EventAsked g h e at s r t
   event_is_asked e at s r t w told =
       where_known s (TellsUnless g h (is_refused s e.metadata) e at s) (TellsAfresh g h e at s) (knows s.registry (explicit_parent e.parent)) r t (unless_told e at s t w (is_refused s e.metadata) refl) told
 
@@ -157,12 +157,12 @@ module _ {L F : Type 0} (g : Ghosts F) (h : LayerGhosts L) where
   span_where_afresh true verdicts a at s r t asked made = inr (verdicts, asked, made)
   span_where_afresh false verdicts a at s r t asked dropped = inl ((none_passed a.metadata at s.registry s.rows all_pass false verdicts asked).1, dropped.0, dropped.1)
 
-  span_afresh : (a : PlainAttributes) (at : At) (s : StackValue (Filtered L F)) (r : Result (Option ℕ) RequestError) (t : StackValue (Filtered L F)) → Word g s → (b : Bool) → is_refused s a.metadata ≡ b → SpanUnless g h b a at s r t → SpanAfresh g h a at s r t
+  span_afresh : (a : PlainAttributes) (at : At) (s : StackValue (Filtered L F)) (r : Result (Option ℕ) RequestError) (t : StackValue (Filtered L F)) → CacheIsValid g s → (b : Bool) → is_refused s a.metadata ≡ b → SpanUnless g h b a at s r t → SpanAfresh g h a at s r t
   span_afresh a at s r t w true refused dropped =
       inl (all_refuse_afresh g a.metadata at s.registry s.rows (all_refuse g a.metadata s.hint (filters_of s.rows) s.sites w refused), dropped.0, dropped.1)
   span_afresh a at s r t w false refused given = span_where_afresh given.1 given.0 a at s r t given.2 given.3
 
-  pub span_is_asked : (a : PlainAttributes) (at : At) (s : StackValue (Filtered L F)) (r : Result (Option ℕ) RequestError) (t : StackValue (Filtered L F)) → Word g s → SpanCached g h a at s r t → SpanAsked g h a at s r t
+  pub span_is_asked : (a : PlainAttributes) (at : At) (s : StackValue (Filtered L F)) (r : Result (Option ℕ) RequestError) (t : StackValue (Filtered L F)) → CacheIsValid g s → SpanCached g h a at s r t → SpanAsked g h a at s r t
   span_is_asked a at s r t w given = known (knows s.registry (explicit_parent a.parent)) given
     where
       known : (k : Bool) → SpanKnown g h k s (SpanUnless g h (is_refused s a.metadata) a at s) r t → SpanKnown g h k s (SpanAfresh g h a at s) r t

@@ -107,11 +107,11 @@ module _ {L F : Type 0} (g : Ghosts F) (h : LayerGhosts L) where
   SpanBy a at s r t =
       (verdicts : List Bool) × (some : Bool) × AsksFrom g h a.metadata at s.registry all_pass false s.rows verdicts some × SpanWhere some a at verdicts s r t
 
-  -- each output's filter, asked afresh, refuses the callsite
+  -- each output's filter, asked again, refuses the callsite
   abbrev pub AllRefuse : PlainMetadata → At → StackValue (Filtered L F) → Type 0
   AllRefuse m at s = Every (λ (row : Row (Filtered L F)). Afresh g row.output.filter m (view_of at s.registry row) false) s.rows
 
-  -- the same, each output's filter asked afresh: where all refuse it is dropped, and else made
+  -- the same, each output's filter asked again: where all refuse it is dropped, and else made
   abbrev pub SpanAfresh : PlainAttributes → At → StackValue (Filtered L F) → Result (Option ℕ) RequestError → StackValue (Filtered L F) → Type 0
   SpanAfresh a at s r t =
       (AllRefuse a.metadata at s × (r ≡ Ok None) × (t ≡ cleared s))
@@ -125,7 +125,7 @@ module _ {L F : Type 0} (g : Ghosts F) (h : LayerGhosts L) where
   SpanKnown true s gives r t = gives r t
   SpanKnown false s gives r t = (r ≡ Err UnknownParent) × (t ≡ s)
 
-  -- a span is made where its named parent is open and some filter, asked afresh, passes it; else it is dropped
+  -- a span is made where its named parent is open and some filter, asked again, passes it; else it is dropped
   abbrev pub SpanAsked : PlainAttributes → At → StackValue (Filtered L F) → Result (Option ℕ) RequestError → StackValue (Filtered L F) → Type 0
   SpanAsked a at s r t = SpanKnown (knows s.registry (explicit_parent a.parent)) s (SpanAfresh a at s) r t
 

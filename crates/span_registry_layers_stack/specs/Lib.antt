@@ -2,7 +2,7 @@ pub mod Rows
 pub mod Sites
 pub mod Asked
 pub mod Stacks
-pub mod Words
+pub mod CacheValidity
 pub mod Hearing
 pub mod Calls
 pub mod New

@@ -1,6 +1,6 @@
 -- What a call of a stack may answer and leave.
 use Rattle.std.specs.Prelude.{◌≡◌, Bool, true, Some}
-use Rattle.tracing_core_requests.specs.Calls.{Call, ReplyTo, DispatchRegistered, CallsiteRegistered, Asked, HintAsked, SpanMade, Recorded, FollowsRecorded, EventAsked, Told, Entered, Exited, Cloned, Dropped, CloseTried, CurrentAsked}
+use Rattle.tracing_core_requests.specs.Calls.{Call, ReplyTo, DispatchRegistered, CallsiteRegistered, Asked, HintAsked, SpanMade, Recorded, FollowsRecorded, EventAsked, EventDispatched, Entered, Exited, Cloned, Dropped, CloseTried, CurrentAsked}
 use Rattle.span_registry_layers_layers.specs.declared.filter.Filter.{Ghosts}
 use Rattle.span_registry_layers_layers.specs.declared.filtered.Filtered.{Filtered}
 use Rattle.span_registry_layers_layers.specs.declared.layer.Layer.{Ghosts as LayerGhosts}
@@ -20,7 +20,7 @@ module _ {L F : Type 0} (g : Ghosts F) (h : LayerGhosts L) where
   Moves s (Recorded id values at) r t = RecordGives g h id values at s r t
   Moves s (FollowsRecorded id follows at) r t = FollowsGives g h id follows at s r t
   Moves s (EventAsked e at) r t = (r ≡ true) × (t ≡ s)
-  Moves s (Told e at) r t = EventCached g h e at s r t
+  Moves s (EventDispatched e at) r t = EventCached g h e at s r t
   Moves s (Entered id at) r t = EnterGives g h id at s r t
   Moves s (Exited id at) r t = ExitGives g h id at s t
   Moves s (Cloned id at) r t = CloneGives id s r t

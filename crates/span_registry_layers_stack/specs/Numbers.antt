@@ -40,7 +40,7 @@ module _ {L F : Type 0} (g : Ghosts F) (h : LayerGhosts L) where
       (m : PlainMetadata) (at : At) (s : StackValue (Filtered L F)) (verdicts : List Bool) (some : Bool) → HasNumbers h s → AsksFrom g h m at s.registry all_pass false s.rows verdicts some →
       Every (RowSaid m at s.registry verdicts) s.rows
 
-  -- the one output's filter, asked afresh, refused the span, which is dropped; or it passed it, and the span is made with verdicts that all pass
+  -- the one output's filter, asked again, refused the span, which is dropped; or it passed it, and the span is made with verdicts that all pass
   abbrev pub OneDecides : PlainAttributes → At → Row (Filtered L F) → StackValue (Filtered L F) → Result (Option ℕ) RequestError → StackValue (Filtered L F) → Type 0
   OneDecides a at row s r t =
       (Afresh g row.output.filter a.metadata (view_of at s.registry row) false × (r ≡ Ok None) × (t ≡ cleared s))
@@ -52,7 +52,7 @@ module _ {L F : Type 0} (g : Ghosts F) (h : LayerGhosts L) where
       (a : PlainAttributes) (at : At) (row : Row (Filtered L F)) (s : StackValue (Filtered L F)) (r : Result (Option ℕ) RequestError) (t : StackValue (Filtered L F)) → s.rows ≡ row ∷ [] → numbers_of h (row ∷ []) ≡ 0 ∷ [] →
       knows s.registry (explicit_parent a.parent) ≡ true → SpanAsked g h a at s r t → OneDecides a at row s r t
 
-  -- an event that no filter passes, asked afresh, changes no layer and no filter, where the filters are honest
+  -- an event that no filter passes, asked again, changes no layer and no filter, where the filters are honest
   abbrev pub DroppedTellsNobody : Type 0
   DroppedTellsNobody =
       (e : PlainEvent) (at : At) (s t : StackValue (Filtered L F)) → Every (λ f. g.honest f) (filters_of s.rows) → PassesAsked g s e.metadata at false → EventAsked g h e at s (Ok tt) t → t ≡ cleared s

@@ -42,7 +42,7 @@ with_layer layer row = record row { output = record row.output { layer = layer }
 abbrev pub Fresh : (Bool → Type 0) → Bool → Type 0
 Fresh P b = P b ⊎ ((b ≡ false) × ((a : Bool) → P a → a ≡ false))
 
--- whether a filter passes a callsite in a place, asked afresh
+-- whether a filter passes a callsite in a place, asked again
 abbrev pub Afresh : {F : Type 0} → Ghosts F → F → PlainMetadata → View → Bool → Type 0
 Afresh g f m v b = Fresh (g.answers f m v) b
 

@@ -15,7 +15,7 @@ use Rattle.span_registry_layers_layers.specs.declared.filtered.Filtered.{Filtere
 use Rattle.span_registry_layers_layers.specs.declared.layer.Layer.{Ghosts as LayerGhosts}
 use Rattle.span_registry_layers_stack.specs.Asked.{SomePasses, SomePassesBy}
 use Rattle.span_registry_layers_stack.specs.Rows.{Afresh, AsksEventBy, EachBecomes, TellsEvent, marked}
-use Rattle.span_registry_layers_stack.specs.Sites.{Keeps, PlainSite, is_refused_by, plain_site}
+use Rattle.span_registry_layers_stack.specs.Sites.{CachesInterest, PlainCachedInterest, is_refused_by, plain_cached_interest}
 use Rattle.span_registry_layers_stack.specs.declared.parts.StackParts.{StackParts}
 use Rattle.span_registry_layers_stack.specs.declared.row.Row.{Row}
 
@@ -23,11 +23,11 @@ use Rattle.span_registry_layers_stack.specs.declared.row.Row.{Row}
 pub record StackValue (O : Type 0) : Type 0 where
   pub registry : RegistryValue
   pub rows : List (Row O)
-  pub sites : List PlainSite
+  pub sites : List PlainCachedInterest
   pub hint : Option ℕ
 
 abbrev pub plain_stack : {O : Type 0} → StackParts O → StackValue O
-plain_stack s = record { registry = s.registry; rows = s.rows.items; sites = map plain_site s.sites.items; hint = s.hint }
+plain_stack s = record { registry = s.registry; rows = s.rows.items; sites = map plain_cached_interest s.sites.items; hint = s.hint }
 
 -- a level is above the hint, where there is one
 abbrev pub is_above : Option ℕ → ℕ → Bool
@@ -68,7 +68,7 @@ module _ {L F : Type 0} (g : Ghosts F) where
   abbrev pub PassesCached : StackValue (Filtered L F) → PlainMetadata → At → Bool → Type 0
   PassesCached s m at b = PassesUnless (is_refused s m) s m at b
 
-  -- the same, each filter asked afresh
+  -- the same, each filter asked again
   abbrev pub PassesAsked : StackValue (Filtered L F) → PlainMetadata → At → Bool → Type 0
   PassesAsked s m at b = SomePassesBy (Afresh g) m at s.registry s.rows b
 
@@ -82,7 +82,7 @@ module _ {L F : Type 0} (g : Ghosts F) (h : LayerGhosts L) where
   abbrev pub TellsAll : PlainEvent → At → StackValue (Filtered L F) → StackValue (Filtered L F) → Type 0
   TellsAll e at s t = TellsAllBy g.answers e at s t
 
-  -- the same, each filter asked afresh
+  -- the same, each filter asked again
   abbrev pub TellsAfresh : PlainEvent → At → StackValue (Filtered L F) → StackValue (Filtered L F) → Type 0
   TellsAfresh e at s t = TellsAllBy (Afresh g) e at s t
 
@@ -90,7 +90,7 @@ module _ {L F : Type 0} (g : Ghosts F) (h : LayerGhosts L) where
   TellsUnless true e at s t = t ≡ cleared s
   TellsUnless false e at s t = TellsAll e at s t
 
-  -- an event, every filter asked afresh
+  -- an event, every filter asked again
   abbrev pub EventAsked : PlainEvent → At → StackValue (Filtered L F) → Result (Unit {0}) RequestError → StackValue (Filtered L F) → Type 0
   EventAsked e at s r t = WhereKnown (knows s.registry (explicit_parent e.parent)) s (TellsAfresh e at s) r t
 
@@ -100,4 +100,4 @@ module _ {L F : Type 0} (g : Ghosts F) (h : LayerGhosts L) where
 
 -- an interest is kept of a callsite, where there is room
 abbrev pub Registers : {O : Type 0} → PlainMetadata → PlainInterest → StackValue O → StackValue O → Type 0
-Registers m k s t = Keeps m k s.sites t.sites × (t ≡ record s { sites = t.sites })
+Registers m k s t = CachesInterest m k s.sites t.sites × (t ≡ record s { sites = t.sites })

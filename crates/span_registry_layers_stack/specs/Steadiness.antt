@@ -1,10 +1,10 @@
--- A stack of honest filters keeps its word.
+-- A stack of honest filters is consistent.
 use Rattle.std.specs.Prelude.{◌≡◌, ◌↔◌, ◌⊎◌, ◌++◌, ℕ, Bool, true, false, if◌then◌else◌, List, [], ◌∷◌, map, Option, Some, None, refl}
 use Rattle.std.specs.List.{list_any}
 use Rattle.std.proofs.Common.{inl, inr, ap, sym, ◌∙◌, subst, arith, true≢false}
 use Rattle.tracing_core_requests.specs.Interests.{joined, PlainInterest, common, Covers}
 use Rattle.tracing_core_requests.specs.declared.at.At.{At}
-use Rattle.tracing_core_requests.specs.Calls.{Call, ReplyTo, DispatchRegistered, CallsiteRegistered, Asked, HintAsked, SpanMade, Recorded, FollowsRecorded, EventAsked, Told, Entered, Exited, Cloned, Dropped, CloseTried, CurrentAsked}
+use Rattle.tracing_core_requests.specs.Calls.{Call, ReplyTo, DispatchRegistered, CallsiteRegistered, Asked, HintAsked, SpanMade, Recorded, FollowsRecorded, EventAsked, EventDispatched, Entered, Exited, Cloned, Dropped, CloseTried, CurrentAsked}
 use Rattle.tracing_core_requests.specs.declared.interest.InterestInner.TheVariants.{Never, Sometimes, Always}
 use Rattle.tracing_core_requests.specs.Lists.{Every}
 use Rattle.tracing_core_fields.specs.PlainMetadata.{PlainMetadata, is_same_metadata-decides}
@@ -19,10 +19,10 @@ use Rattle.span_registry_layers_stack.specs.Asked.{CommonInterest, InterestFrom,
 use Rattle.span_registry_layers_stack.specs.Caches.{Refuses, all_below, all_never, by_hint, either_true, never_known}
 use Rattle.span_registry_layers_stack.specs.Moves.{Moves}
 use Rattle.span_registry_layers_stack.specs.Rows.{EachBecomes, filters_of, view_of}
-use Rattle.span_registry_layers_stack.specs.Sites.{KeepsIf, PlainSite, is_of, is_refused_by, renewed}
+use Rattle.span_registry_layers_stack.specs.Sites.{CachesInterestIf, PlainCachedInterest, is_of, is_refused_by, renewed}
 use Rattle.span_registry_layers_stack.specs.Stacks.{PassesCached, PassesUnless, Registers, StackValue, is_above, is_refused, with_hint}
-use Rattle.span_registry_layers_stack.specs.Steps.{Keeps, Steps, clone_keeps, close_keeps, dispatch_keeps, enter_keeps, event_keeps, exit_keeps, follows_keeps, keeps_same, keeps_word, record_keeps, span_keeps}
-use Rattle.span_registry_layers_stack.specs.Words.{HintOver, Knows, Word, WordOf}
+use Rattle.span_registry_layers_stack.specs.Steps.{PreservesFilters, Steps, clone_keeps, close_keeps, dispatch_keeps, enter_keeps, event_keeps, exit_keeps, follows_keeps, keeps_same, keeps_word, record_keeps, span_keeps}
+use Rattle.span_registry_layers_stack.specs.CacheValidity.{HintOver, Knows, CacheIsValid, CacheIsValidFor}
 use Rattle.span_registry_layers_stack.specs.declared.row.Row.{Row}
 
 covers_self : (j : PlainInterest) → Covers j j
@@ -110,7 +110,7 @@ module _ {F : Type 0} (g : Ghosts F) where
   hints_over [] h = tt
   hints_over (f ∷ fs) h = (over_start fs (higher_hint h (g.hint f)) (g.hint f) (over_joined h (g.hint f)), hints_over fs (higher_hint h (g.hint f)))
 
-  pub word_hinted : {L : Type 0} (s : StackValue (Filtered L F)) → Word g s → Word g (with_hint (common_hint g (Some 0) (filters_of s.rows)) s)
+  pub word_hinted : {L : Type 0} (s : StackValue (Filtered L F)) → CacheIsValid g s → CacheIsValid g (with_hint (common_hint g (Some 0) (filters_of s.rows)) s)
   word_hinted s w = record { honest = w.honest; interests = w.interests; hints = hints_over (filters_of s.rows) (Some 0) }
 
   hint_step : (fs gs : List F) (h : Option ℕ) → Every (λ f. g.honest f) fs → EachBecomes (Steps g) fs gs → common_hint g h gs ≡ common_hint g h fs
@@ -163,7 +163,7 @@ module _ {F : Type 0} (g : Ghosts F) where
         (fits_own Always known.0 given.0 known.2 ((g.fair row.output.filter honest.0).interest m (view_of at x row) given.0 known.0 given.1 known.1)) given.2
 
     -- what is kept refuses nothing that every filter always passes
-    not_refused : (m : PlainMetadata) (at : At) (x : RegistryValue) (h : Option ℕ) (sites : List PlainSite) (rows : List (Row (Filtered L F))) → WordOf g (filters_of rows) sites h → CommonInterest g m (filters_of rows) Always →
+    not_refused : (m : PlainMetadata) (at : At) (x : RegistryValue) (h : Option ℕ) (sites : List PlainCachedInterest) (rows : List (Row (Filtered L F))) → CacheIsValidFor g (filters_of rows) sites h → CommonInterest g m (filters_of rows) Always →
         (is_above h m.level ≡ true) ⊎ (list_any (is_refused_by m) sites ≡ true) → ⊥
     not_refused m at x h sites [] w says e = none_always says
     not_refused m at x h sites (row ∷ rows) w says (inl above) =
@@ -177,12 +177,12 @@ module _ {F : Type 0} (g : Ghosts F) where
         let kept = (never_known g m (filters_of (row ∷ rows)) sites never w.interests).0 in
         none_always ((g.firm f w.honest.0).one m Always Never (subst (g.says f m) known.2 known.1) (subst (g.says f m) kept.2 kept.1))
 
-    pub refused_fits : (s : StackValue (Filtered L F)) (m : PlainMetadata) (at : At) (k : PlainInterest) → Word g s → is_refused s m ≡ true → CommonInterest g m (filters_of s.rows) k → InterestFits k false
+    pub refused_fits : (s : StackValue (Filtered L F)) (m : PlainMetadata) (at : At) (k : PlainInterest) → CacheIsValid g s → is_refused s m ≡ true → CommonInterest g m (filters_of s.rows) k → InterestFits k false
     refused_fits s m at Never w e says = refl
     refused_fits s m at Sometimes w e says = tt
     refused_fits s m at Always w e says = absurd (not_refused m at s.registry s.hint s.sites s.rows w says (either_true (is_above s.hint m.level) (list_any (is_refused_by m) s.sites) e))
 
-    passes_fits : (s : StackValue (Filtered L F)) (m : PlainMetadata) (at : At) (b : Bool) (k : PlainInterest) → Word g s → (c : Bool) → is_refused s m ≡ c → PassesUnless g c s m at b → CommonInterest g m (filters_of s.rows) k → InterestFits k b
+    passes_fits : (s : StackValue (Filtered L F)) (m : PlainMetadata) (at : At) (b : Bool) (k : PlainInterest) → CacheIsValid g s → (c : Bool) → is_refused s m ≡ c → PassesUnless g c s m at b → CommonInterest g m (filters_of s.rows) k → InterestFits k b
     passes_fits s m at b k w true e given says = subst (InterestFits k) (sym given) (refused_fits s m at k w e says)
     passes_fits s m at b k w false e given says = any_fits m at s.registry k s.rows b w.honest says given
 
@@ -190,7 +190,7 @@ module _ {F : Type 0} (g : Ghosts F) where
     passes_refused s m at b w true given = given
     passes_refused s m at b w false given = refused_by_all m at s.registry s.rows b w given
 
-    pub stack_fair : (s : StackValue (Filtered L F)) → Word g s → Agrees (PassesCached g s) (λ m k. CommonInterest g m (filters_of s.rows) k) (common_hint g (Some 0) (filters_of s.rows))
+    pub stack_fair : (s : StackValue (Filtered L F)) → CacheIsValid g s → Agrees (PassesCached g s) (λ m k. CommonInterest g m (filters_of s.rows) k) (common_hint g (Some 0) (filters_of s.rows))
     stack_fair s w =
         let fs = filters_of s.rows in
         record {
@@ -205,22 +205,22 @@ module _ {F : Type 0} (g : Ghosts F) where
     some_one m at x (row ∷ rows) w a b p q =
         either_one (g.answers row.output.filter m (view_of at x row)) (SomePasses g m at x rows) ((g.single row.output.filter w.0).callsite m (view_of at x row)) (some_one m at x rows w.1) a b p q
 
-    passes_one : (s : StackValue (Filtered L F)) (m : PlainMetadata) (at : At) → Word g s → (c : Bool) → One (PassesUnless g c s m at)
+    passes_one : (s : StackValue (Filtered L F)) (m : PlainMetadata) (at : At) → CacheIsValid g s → (c : Bool) → One (PassesUnless g c s m at)
     passes_one s m at w true a b p q = p ∙ sym q
     passes_one s m at w false a b p q = some_one m at s.registry s.rows w.honest a b p q
 
     -- asked twice in one place, it answers the same
-    pub stack_single : (s : StackValue (Filtered L F)) (m : PlainMetadata) (at : At) (a b : Bool) → IsReal m → Word g s → PassesCached g s m at a → PassesCached g s m at b → a ≡ b
+    pub stack_single : (s : StackValue (Filtered L F)) (m : PlainMetadata) (at : At) (a b : Bool) → IsReal m → CacheIsValid g s → PassesCached g s m at a → PassesCached g s m at b → a ≡ b
     stack_single s m at a b real w x y = passes_one s m at w (is_refused s m) a b x y
 
   -- an interest that is right is kept
-  renewed_right : (b : Bool) (m : PlainMetadata) (k : PlainInterest) (fs : List F) (site : PlainSite) → is_of m site ≡ b → Every (Knows g m k) fs → Every (Knows g site.metadata site.interest) fs → Every (Knows g (renewed m k site).metadata (renewed m k site).interest) fs
+  renewed_right : (b : Bool) (m : PlainMetadata) (k : PlainInterest) (fs : List F) (site : PlainCachedInterest) → is_of m site ≡ b → Every (Knows g m k) fs → Every (Knows g site.metadata site.interest) fs → Every (Knows g (renewed m k site).metadata (renewed m k site).interest) fs
   renewed_right true m k fs site e new old =
-      subst (λ (c : PlainSite). Every (Knows g c.metadata c.interest) fs) (sym (ap (λ b. if b then record site { interest = k } else site) e))
+      subst (λ (c : PlainCachedInterest). Every (Knows g c.metadata c.interest) fs) (sym (ap (λ b. if b then record site { interest = k } else site) e))
       (subst (λ n. Every (Knows g n k) fs) (sym ((is_same_metadata-decides site.metadata m).0 e)) new)
-  renewed_right false m k fs site e new old = subst (λ (c : PlainSite). Every (Knows g c.metadata c.interest) fs) (sym (ap (λ b. if b then record site { interest = k } else site) e)) old
+  renewed_right false m k fs site e new old = subst (λ (c : PlainCachedInterest). Every (Knows g c.metadata c.interest) fs) (sym (ap (λ b. if b then record site { interest = k } else site) e)) old
 
-  all_renewed : (m : PlainMetadata) (k : PlainInterest) (fs : List F) (sites : List PlainSite) → Every (Knows g m k) fs → Every (λ site. Every (Knows g site.metadata site.interest) fs) sites → Every (λ site. Every (Knows g site.metadata site.interest) fs) (map (renewed m k) sites)
+  all_renewed : (m : PlainMetadata) (k : PlainInterest) (fs : List F) (sites : List PlainCachedInterest) → Every (Knows g m k) fs → Every (λ site. Every (Knows g site.metadata site.interest) fs) sites → Every (λ site. Every (Knows g site.metadata site.interest) fs) (map (renewed m k) sites)
   all_renewed m k fs [] new w = tt
   all_renewed m k fs (site ∷ sites) new w = (renewed_right (is_of m site) m k fs site refl new w.0, all_renewed m k fs sites new w.1)
 
@@ -228,16 +228,16 @@ module _ {F : Type 0} (g : Ghosts F) where
   every_append P [] x w p = (p, tt)
   every_append P (y ∷ ys) x w p = (w.0, every_append P ys x w.1 p)
 
-  sites_kept : (b : Bool) (m : PlainMetadata) (k : PlainInterest) (fs : List F) (sites later : List PlainSite) → KeepsIf b m k sites later → Every (Knows g m k) fs → Every (λ site. Every (Knows g site.metadata site.interest) fs) sites → Every (λ site. Every (Knows g site.metadata site.interest) fs) later
+  sites_kept : (b : Bool) (m : PlainMetadata) (k : PlainInterest) (fs : List F) (sites later : List PlainCachedInterest) → CachesInterestIf b m k sites later → Every (Knows g m k) fs → Every (λ site. Every (Knows g site.metadata site.interest) fs) sites → Every (λ site. Every (Knows g site.metadata site.interest) fs) later
   sites_kept true m k fs sites later e new w = subst (Every (λ site. Every (Knows g site.metadata site.interest) fs)) (sym e) (all_renewed m k fs sites new w)
   sites_kept false m k fs sites later (inl e) new w = subst (Every (λ site. Every (Knows g site.metadata site.interest) fs)) (sym e) w
   sites_kept false m k fs sites later (inr e) new w =
-      subst (Every (λ site. Every (Knows g site.metadata site.interest) fs)) (sym e) (every_append (λ (site : PlainSite). Every (Knows g site.metadata site.interest) fs) sites (record { metadata = m; interest = k }) w new)
+      subst (Every (λ site. Every (Knows g site.metadata site.interest) fs)) (sym e) (every_append (λ (site : PlainCachedInterest). Every (Knows g site.metadata site.interest) fs) sites (record { metadata = m; interest = k }) w new)
 
-  pub word_registered : {L : Type 0} (s t : StackValue (Filtered L F)) (m : PlainMetadata) (k : PlainInterest) → CommonInterest g m (filters_of s.rows) k → Registers m k s t → Word g s → Word g t
+  pub word_registered : {L : Type 0} (s t : StackValue (Filtered L F)) (m : PlainMetadata) (k : PlainInterest) → CommonInterest g m (filters_of s.rows) k → Registers m k s t → CacheIsValid g s → CacheIsValid g t
   word_registered s t m k says kept w =
       let fs = filters_of s.rows in
-      subst (Word g) (sym kept.1)
+      subst (CacheIsValid g) (sym kept.1)
       (record {
         honest = w.honest;
         interests = sites_kept (list_any (is_of m) s.sites) m k fs s.sites t.sites kept.0 (all_known m fs k says) w.interests;
@@ -251,7 +251,7 @@ module _ {L F : Type 0} (g : Ghosts F) (h : LayerGhosts L) where
   abbrev SameWords : StackValue (Filtered L F) → StackValue (Filtered L F) → Type 0
   SameWords s t = SameWord (λ m k. CommonInterest g m (filters_of s.rows) k) (λ m k. CommonInterest g m (filters_of t.rows) k) (common_hint g (Some 0) (filters_of s.rows)) (common_hint g (Some 0) (filters_of t.rows))
 
-  pub same_word : (s t : StackValue (Filtered L F)) → Word g s → Keeps g h s t → SameWord (λ m k. CommonInterest g m (filters_of s.rows) k) (λ m k. CommonInterest g m (filters_of t.rows) k) (common_hint g (Some 0) (filters_of s.rows)) (common_hint g (Some 0) (filters_of t.rows))
+  pub same_word : (s t : StackValue (Filtered L F)) → CacheIsValid g s → PreservesFilters g h s t → SameWord (λ m k. CommonInterest g m (filters_of s.rows) k) (λ m k. CommonInterest g m (filters_of t.rows) k) (common_hint g (Some 0) (filters_of s.rows)) (common_hint g (Some 0) (filters_of t.rows))
   same_word s t w k =
       record {
         onward = λ m j says. interest_step g m (filters_of s.rows) (filters_of t.rows) None j w.honest k.steps says;
@@ -259,7 +259,7 @@ module _ {L F : Type 0} (g : Ghosts F) (h : LayerGhosts L) where
         same_hint = hint_step g (filters_of s.rows) (filters_of t.rows) (Some 0) w.honest k.steps;
       }
 
-  after_keeping : (s t : StackValue (Filtered L F)) → Word g s → Keeps g h s t → Word g t × SameWords s t
+  after_keeping : (s t : StackValue (Filtered L F)) → CacheIsValid g s → PreservesFilters g h s t → CacheIsValid g t × SameWords s t
   after_keeping s t w k = (keeps_word g h s t k w, same_word s t w k)
 
   same_filters : (s t : StackValue (Filtered L F)) → filters_of t.rows ≡ filters_of s.rows → SameWords s t
@@ -270,18 +270,18 @@ module _ {L F : Type 0} (g : Ghosts F) (h : LayerGhosts L) where
         same_hint = ap (common_hint g (Some 0)) e;
       }
 
-  pub stack_stays : (s : StackValue (Filtered L F)) (c : Call) (r : ReplyTo c) (t : StackValue (Filtered L F)) → IsRealCall c → Moves g h s c r t → Word g s → Word g t × SameWords s t
+  pub stack_stays : (s : StackValue (Filtered L F)) (c : Call) (r : ReplyTo c) (t : StackValue (Filtered L F)) → IsRealCall c → Moves g h s c r t → CacheIsValid g s → CacheIsValid g t × SameWords s t
   stack_stays s (DispatchRegistered dispatch) r t real m w = after_keeping s t w (dispatch_keeps g h dispatch s t m)
   stack_stays s (CallsiteRegistered n) r t real m w =
       (word_registered g s t n r m.0 m.1 w, same_filters s t (ap (λ (v : StackValue (Filtered L F)). filters_of v.rows) m.1.1))
   stack_stays s (Asked n at) r t real m w = after_keeping s t w (keeps_same g h s t m.1)
   stack_stays s HintAsked r t real m w =
-      (subst (Word g) (sym (m.1 ∙ ap (λ hint. with_hint hint s) m.0)) (word_hinted g s w), same_filters s t (ap (λ (v : StackValue (Filtered L F)). filters_of v.rows) m.1))
+      (subst (CacheIsValid g) (sym (m.1 ∙ ap (λ hint. with_hint hint s) m.0)) (word_hinted g s w), same_filters s t (ap (λ (v : StackValue (Filtered L F)). filters_of v.rows) m.1))
   stack_stays s (SpanMade a at) r t real m w = after_keeping s t w (span_keeps g h a at s t r m)
   stack_stays s (Recorded id values at) r t real m w = after_keeping s t w (record_keeps g h id values at s t r m)
   stack_stays s (FollowsRecorded id follows at) r t real m w = after_keeping s t w (follows_keeps g h id follows at s t r m)
   stack_stays s (EventAsked e at) r t real m w = after_keeping s t w (keeps_same g h s t m.1)
-  stack_stays s (Told e at) r t real m w = after_keeping s t w (event_keeps g h e at s t r m)
+  stack_stays s (EventDispatched e at) r t real m w = after_keeping s t w (event_keeps g h e at s t r m)
   stack_stays s (Entered id at) r t real m w = after_keeping s t w (enter_keeps g h id at s t r m)
   stack_stays s (Exited id at) r t real m w = after_keeping s t w (exit_keeps g h id at s t m)
   stack_stays s (Cloned id at) r t real m w = after_keeping s t w (clone_keeps g h id s t r m)

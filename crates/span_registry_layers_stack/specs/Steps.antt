@@ -20,10 +20,10 @@ use Rattle.span_registry_layers_layers.specs.declared.filtered.Filtered.{Filtere
 use Rattle.span_registry_layers_layers.specs.declared.layer.Layer.{Ghosts as LayerGhosts}
 use Rattle.span_registry_layers_stack.specs.Calls.{CloneGives, CloseGives, CloseUnless, Closes, EnterGives, ExitGives, FollowsGives, MakesSpan, RecordGives, SpanCached, SpanKnown, SpanUnless, SpanWhere, WhereTaken, over}
 use Rattle.span_registry_layers_stack.specs.Rows.{AsksEventBy, EachBecomes, TellsEvent, TellsIf, filters_of, marked, numbers_of, view_of}
-use Rattle.span_registry_layers_stack.specs.Sites.{PlainSite}
+use Rattle.span_registry_layers_stack.specs.Sites.{PlainCachedInterest}
 use Rattle.span_registry_layers_stack.specs.Hearing.{ClosesEach, HearsIf, TellsDispatch, TellsFollows, TellsMade, TellsSpan, sees}
 use Rattle.span_registry_layers_stack.specs.Stacks.{EventCached, RowsBecome, RowsInTurn, StackValue, TellsUnless, WhereKnown, cleared, is_refused}
-use Rattle.span_registry_layers_stack.specs.Words.{HintOver, Knows, Word, WordOf}
+use Rattle.span_registry_layers_stack.specs.CacheValidity.{HintOver, Knows, CacheIsValid, CacheIsValidFor}
 use Rattle.span_registry_layers_stack.specs.declared.row.Row.{Row}
 
 module _ {F : Type 0} (g : Ghosts F) where
@@ -65,7 +65,7 @@ module _ {F : Type 0} (g : Ghosts F) where
   knows_step m k (x ∷ xs) [] a w n = absurd a
   knows_step m k (x ∷ xs) (y ∷ ys) a w n = ((n.0.0, (a.0 w.0).1.onward m n.0.0 n.0.1, n.0.2), knows_step m k xs ys a.1 w.1 n.1)
 
-  sites_step : (sites : List PlainSite) (xs ys : List F) → EachBecomes Steps xs ys → Every (λ f. g.honest f) xs → Every (λ site. Every (Knows g site.metadata site.interest) xs) sites → Every (λ site. Every (Knows g site.metadata site.interest) ys) sites
+  sites_step : (sites : List PlainCachedInterest) (xs ys : List F) → EachBecomes Steps xs ys → Every (λ f. g.honest f) xs → Every (λ site. Every (Knows g site.metadata site.interest) xs) sites → Every (λ site. Every (Knows g site.metadata site.interest) ys) sites
   sites_step [] xs ys a w n = tt
   sites_step (c ∷ cs) xs ys a w n = (knows_step c.metadata c.interest xs ys a w n.0, sites_step cs xs ys a w n.1)
 
@@ -75,7 +75,7 @@ module _ {F : Type 0} (g : Ghosts F) where
   hints_step kept (x ∷ xs) [] a w n = absurd a
   hints_step kept (x ∷ xs) (y ∷ ys) a w n = (subst (λ own. HintOver own kept) (sym (a.0 w.0).1.same_hint) n.0, hints_step kept xs ys a.1 w.1 n.1)
 
-  pub word_step : (sites : List PlainSite) (kept : Option ℕ) (xs ys : List F) → EachBecomes Steps xs ys → WordOf g xs sites kept → WordOf g ys sites kept
+  pub word_step : (sites : List PlainCachedInterest) (kept : Option ℕ) (xs ys : List F) → EachBecomes Steps xs ys → CacheIsValidFor g xs sites kept → CacheIsValidFor g ys sites kept
   word_step sites kept xs ys a w =
       record { honest = honest_step xs ys a w.honest; interests = sites_step sites xs ys a w.honest w.interests; hints = hints_step kept xs ys a w.honest w.hints }
 
@@ -92,7 +92,7 @@ module _ {L F : Type 0} (g : Ghosts F) (h : LayerGhosts L) where
   stepped_put row later e n l k = (stays_put g row.output.filter later.output.filter e, n, l, k)
 
   -- each filter stays honest and says what it said, and what is kept stays
-  pub record Keeps (s t : StackValue (Filtered L F)) : Type 0 where
+  pub record PreservesFilters (s t : StackValue (Filtered L F)) : Type 0 where
     pub steps : EachBecomes (Steps g) (filters_of s.rows) (filters_of t.rows)
     pub sites : t.sites ≡ s.sites
     pub hint : t.hint ≡ s.hint
@@ -111,15 +111,15 @@ module _ {L F : Type 0} (g : Ghosts F) (h : LayerGhosts L) where
   keys_then (r ∷ rs) (m ∷ ms) [] a b = absurd b
   keys_then (r ∷ rs) (m ∷ ms) (l ∷ ls) a b = ((b.0.0 ∙ a.0.0, λ key. b.0.1 key ∙ a.0.1 key), keys_then rs ms ls a.1 b.1)
 
-  pub keeps_word : (s t : StackValue (Filtered L F)) → Keeps s t → Word g s → Word g t
+  pub keeps_word : (s t : StackValue (Filtered L F)) → PreservesFilters s t → CacheIsValid g s → CacheIsValid g t
   keeps_word s t k w =
-      subst (λ cs. WordOf g (filters_of t.rows) cs t.hint) (sym k.sites)
-      (subst (λ kept. WordOf g (filters_of t.rows) s.sites kept) (sym k.hint) (word_step g s.sites s.hint (filters_of s.rows) (filters_of t.rows) k.steps w))
+      subst (λ cs. CacheIsValidFor g (filters_of t.rows) cs t.hint) (sym k.sites)
+      (subst (λ kept. CacheIsValidFor g (filters_of t.rows) s.sites kept) (sym k.hint) (word_step g s.sites s.hint (filters_of s.rows) (filters_of t.rows) k.steps w))
 
-  pub keeps_same : (s t : StackValue (Filtered L F)) → t ≡ s → Keeps s t
-  keeps_same s t e = subst (Keeps s) (sym e) (record { steps = each_put g (filters_of s.rows); sites = refl; hint = refl; numbers = refl; keys = keys_put s.rows })
+  pub keeps_same : (s t : StackValue (Filtered L F)) → t ≡ s → PreservesFilters s t
+  keeps_same s t e = subst (PreservesFilters s) (sym e) (record { steps = each_put g (filters_of s.rows); sites = refl; hint = refl; numbers = refl; keys = keys_put s.rows })
 
-  pub keeps_then : (s t u : StackValue (Filtered L F)) → Keeps s t → Keeps t u → Keeps s u
+  pub keeps_then : (s t u : StackValue (Filtered L F)) → PreservesFilters s t → PreservesFilters t u → PreservesFilters s u
   keeps_then s t u a b =
       record {
         steps = each_then g (filters_of s.rows) (filters_of t.rows) (filters_of u.rows) a.steps b.steps;
@@ -141,8 +141,8 @@ module _ {L F : Type 0} (g : Ghosts F) (h : LayerGhosts L) where
   cleared_keys [] = tt
   cleared_keys (row ∷ rows) = ((refl, λ key. refl), cleared_keys rows)
 
-  pub cleared_keeps : (s t : StackValue (Filtered L F)) → t ≡ cleared s → Keeps s t
-  cleared_keeps s t e = subst (Keeps s) (sym e) (record { steps = rows_put s.rows; sites = refl; hint = refl; numbers = same_numbers s.rows; keys = cleared_keys s.rows })
+  pub cleared_keeps : (s t : StackValue (Filtered L F)) → t ≡ cleared s → PreservesFilters s t
+  cleared_keeps s t e = subst (PreservesFilters s) (sym e) (record { steps = rows_put s.rows; sites = refl; hint = refl; numbers = same_numbers s.rows; keys = cleared_keys s.rows })
 
   each_steps : (R : Row (Filtered L F) → Row (Filtered L F) → Type 0) → ((row later : Row (Filtered L F)) → R row later → Stepped row later) →
       (rows later : List (Row (Filtered L F))) → EachBecomes R rows later → EachBecomes (Steps g) (filters_of rows) (filters_of later)
@@ -165,7 +165,7 @@ module _ {L F : Type 0} (g : Ghosts F) (h : LayerGhosts L) where
   each_keys R f (r ∷ rs) [] w = absurd w
   each_keys R f (r ∷ rs) (l ∷ ls) w = ((f r l w.0).3, each_keys R f rs ls w.1)
 
-  dispatched_keep : (R : Row (Filtered L F) → Row (Filtered L F) → Type 0) → ((row later : Row (Filtered L F)) → R row later → Stepped row later) → (s t : StackValue (Filtered L F)) → RowsBecome R s t → Keeps s t
+  dispatched_keep : (R : Row (Filtered L F) → Row (Filtered L F) → Type 0) → ((row later : Row (Filtered L F)) → R row later → Stepped row later) → (s t : StackValue (Filtered L F)) → RowsBecome R s t → PreservesFilters s t
   dispatched_keep R f s t w =
       record { steps = each_steps R f s.rows t.rows w.0; sites = ap (λ (v : StackValue (Filtered L F)). v.sites) w.1; hint = ap (λ (v : StackValue (Filtered L F)). v.hint) w.1; numbers = each_numbers R f s.rows t.rows w.0; keys = each_keys R f s.rows t.rows w.0 }
 
@@ -176,7 +176,7 @@ module _ {L F : Type 0} (g : Ghosts F) (h : LayerGhosts L) where
   turn_steps R f x (r ∷ rs) y [] w = absurd w
   turn_steps R f x (r ∷ rs) y (l ∷ ls) w = (f x r w.0 l w.1, turn_steps R f w.0 rs y ls w.2)
 
-  pub rows_keep : (x : RegistryValue) (R : RegistryValue → Row (Filtered L F) → RegistryValue → Row (Filtered L F) → Type 0) → ((x : RegistryValue) (row : Row (Filtered L F)) (y : RegistryValue) (later : Row (Filtered L F)) → R x row y later → Stepped row later) → (s t : StackValue (Filtered L F)) → RowsInTurn R (over x s) t → Keeps s t
+  pub rows_keep : (x : RegistryValue) (R : RegistryValue → Row (Filtered L F) → RegistryValue → Row (Filtered L F) → Type 0) → ((x : RegistryValue) (row : Row (Filtered L F)) (y : RegistryValue) (later : Row (Filtered L F)) → R x row y later → Stepped row later) → (s t : StackValue (Filtered L F)) → RowsInTurn R (over x s) t → PreservesFilters s t
   rows_keep x R f s t w =
       let each = turn_steps R f x s.rows t.registry t.rows w.0 in
       record {
@@ -226,22 +226,22 @@ module _ {L F : Type 0} (g : Ghosts F) (h : LayerGhosts L) where
       stepped_put row later (ap (λ (r : Row (Filtered L F)). r.output.filter) w.1) (ap (λ (r : Row (Filtered L F)). r.id) w.1) (h.numbered row.output.layer (Dispatched dispatch) later.output.layer w.0)
       (ap (λ (r : Row (Filtered L F)). r.key) w.1, h.keyed row.output.layer (Dispatched dispatch) later.output.layer w.0)
 
-  pub dispatch_keeps : (dispatch : Option ℕ) (s t : StackValue (Filtered L F)) → RowsBecome (TellsDispatch g h dispatch) s t → Keeps s t
+  pub dispatch_keeps : (dispatch : Option ℕ) (s t : StackValue (Filtered L F)) → RowsBecome (TellsDispatch g h dispatch) s t → PreservesFilters s t
   dispatch_keeps dispatch s t w = dispatched_keep (TellsDispatch g h dispatch) (dispatch_steps dispatch) s t w
 
-  taken_keeps : {A : Type 0} (s t : StackValue (Filtered L F)) (r : Result A RequestError) (leaves : StackValue (Filtered L F) → Type 0) → (leaves t → Keeps s t) → WhereTaken r s leaves t → Keeps s t
+  taken_keeps : {A : Type 0} (s t : StackValue (Filtered L F)) (r : Result A RequestError) (leaves : StackValue (Filtered L F) → Type 0) → (leaves t → PreservesFilters s t) → WhereTaken r s leaves t → PreservesFilters s t
   taken_keeps s t (Ok done) leaves f w = f w
   taken_keeps s t (Err e) leaves f w = keeps_same s t w
 
-  pub record_keeps : (id : ℕ) (values : PlainValues) (at : At) (s t : StackValue (Filtered L F)) (r : Result (Unit {0}) RequestError) → RecordGives g h id values at s r t → Keeps s t
+  pub record_keeps : (id : ℕ) (values : PlainValues) (at : At) (s t : StackValue (Filtered L F)) (r : Result (Unit {0}) RequestError) → RecordGives g h id values at s r t → PreservesFilters s t
   record_keeps id values at s t r w =
       taken_keeps s t r (RowsInTurn (TellsSpan g h (Recorded id values) id at) s) (rows_keep s.registry (TellsSpan g h (Recorded id values) id at) (span_steps (Recorded id values) id at) s t) w.1
 
-  pub follows_keeps : (id follows : ℕ) (at : At) (s t : StackValue (Filtered L F)) (r : Result (Unit {0}) RequestError) → FollowsGives g h id follows at s r t → Keeps s t
+  pub follows_keeps : (id follows : ℕ) (at : At) (s t : StackValue (Filtered L F)) (r : Result (Unit {0}) RequestError) → FollowsGives g h id follows at s r t → PreservesFilters s t
   follows_keeps id follows at s t r w =
       taken_keeps s t r (RowsInTurn (TellsFollows g h id follows at) s) (rows_keep s.registry (TellsFollows g h id follows at) (follows_steps id follows at) s t) w.1
 
-  pub enter_keeps : (id : ℕ) (at : At) (s t : StackValue (Filtered L F)) (r : Result (Unit {0}) RequestError) → EnterGives g h id at s r t → Keeps s t
+  pub enter_keeps : (id : ℕ) (at : At) (s t : StackValue (Filtered L F)) (r : Result (Unit {0}) RequestError) → EnterGives g h id at s r t → PreservesFilters s t
   enter_keeps id at s t r w =
       taken_keeps s t r (RowsInTurn (TellsSpan g h (Entered id) id at) (over w.0 s)) (rows_keep w.0 (TellsSpan g h (Entered id) id at) (span_steps (Entered id) id at) s t) w.2
 
@@ -260,7 +260,7 @@ module _ {L F : Type 0} (g : Ghosts F) (h : LayerGhosts L) where
         keys_then rows told later (each_keys Stepped (λ row later k. k) rows told each) rest.2,
       )
 
-  closes_keep : (at : At) (x : RegistryValue) (s t : StackValue (Filtered L F)) → Closes g h at (over x s) t → Keeps s t
+  closes_keep : (at : At) (x : RegistryValue) (s t : StackValue (Filtered L F)) → Closes g h at (over x s) t → PreservesFilters s t
   closes_keep at x s t w =
       let each = each_closes (ids_of (closing_in x)) at x s.rows t.registry t.rows w.0 in
       record {
@@ -271,22 +271,22 @@ module _ {L F : Type 0} (g : Ghosts F) (h : LayerGhosts L) where
         keys = each.2;
       }
 
-  pub exit_keeps : (id : ℕ) (at : At) (s t : StackValue (Filtered L F)) → ExitGives g h id at s t → Keeps s t
+  pub exit_keeps : (id : ℕ) (at : At) (s t : StackValue (Filtered L F)) → ExitGives g h id at s t → PreservesFilters s t
   exit_keeps id at s t w =
       let x = without_entry s.registry at.lane id in
       keeps_then s w.0 t (rows_keep x (TellsSpan g h (Exited id) id at) (span_steps (Exited id) id at) s w.0 w.1) (closes_keep at w.0.registry w.0 t w.2)
 
-  pub close_keeps : (id : ℕ) (at : At) (s t : StackValue (Filtered L F)) (r : Bool) → CloseGives g h id at s r t → Keeps s t
+  pub close_keeps : (id : ℕ) (at : At) (s t : StackValue (Filtered L F)) (r : Bool) → CloseGives g h id at s r t → PreservesFilters s t
   close_keeps id at s t r w = unless (close_refusal s.registry id) w
     where
-      unless : (refusal : Option RequestError) → CloseUnless g h refusal id at s r t → Keeps s t
+      unless : (refusal : Option RequestError) → CloseUnless g h refusal id at s r t → PreservesFilters s t
       unless None w = closes_keep at (without_handle s.registry id) s t w.1
       unless (Some refusal) w = keeps_same s t w.1
 
-  pub clone_keeps : (id : ℕ) (s t : StackValue (Filtered L F)) (r : Result ℕ RequestError) → CloneGives id s r t → Keeps s t
-  clone_keeps id s t r w = subst (Keeps s) (sym w.1) (record { steps = each_put g (filters_of s.rows); sites = refl; hint = refl; numbers = refl; keys = keys_put s.rows })
+  pub clone_keeps : (id : ℕ) (s t : StackValue (Filtered L F)) (r : Result ℕ RequestError) → CloneGives id s r t → PreservesFilters s t
+  clone_keeps id s t r w = subst (PreservesFilters s) (sym w.1) (record { steps = each_put g (filters_of s.rows); sites = refl; hint = refl; numbers = refl; keys = keys_put s.rows })
 
-  makes_keeps : (a : PlainAttributes) (at : At) (verdicts : List Bool) (s t : StackValue (Filtered L F)) (r : Result (Option ℕ) RequestError) → MakesSpan g h a at verdicts s r t → Keeps s t
+  makes_keeps : (a : PlainAttributes) (at : At) (verdicts : List Bool) (s t : StackValue (Filtered L F)) (r : Result (Option ℕ) RequestError) → MakesSpan g h a at verdicts s r t → PreservesFilters s t
   makes_keeps a at verdicts s t r (Ok id, x, taken, made) = rows_keep x (TellsMade g h (SpanMade a id) id at) (made_steps (SpanMade a id) id at) s t made.1
   makes_keeps a at verdicts s t r (Err e, x, taken, made) = keeps_same s t made.1
 
@@ -302,23 +302,23 @@ module _ {L F : Type 0} (g : Ghosts F) (h : LayerGhosts L) where
       stepped_put row asked (ap (λ (r : Row (Filtered L F)). r.output.filter) w.2) (ap (λ (r : Row (Filtered L F)). r.id) w.2) (ap (λ (r : Row (Filtered L F)). h.numbers r.output.layer) w.2)
       (ap (λ (r : Row (Filtered L F)). r.key) w.2, λ key. ap (λ (r : Row (Filtered L F)). h.keys r.output.layer key) w.2)
 
-  pub event_keeps : (e : PlainEvent) (at : At) (s t : StackValue (Filtered L F)) (r : Result (Unit {0}) RequestError) → EventCached g h e at s r t → Keeps s t
+  pub event_keeps : (e : PlainEvent) (at : At) (s t : StackValue (Filtered L F)) (r : Result (Unit {0}) RequestError) → EventCached g h e at s r t → PreservesFilters s t
   event_keeps e at s t r w = known (knows s.registry (explicit_parent e.parent)) (is_refused s e.metadata) w
     where
-      known : (k b : Bool) → WhereKnown k s (TellsUnless g h b e at s) r t → Keeps s t
+      known : (k b : Bool) → WhereKnown k s (TellsUnless g h b e at s) r t → PreservesFilters s t
       known true true w = cleared_keeps s t w.1
       known true false (done, (asked, marks, told)) =
           keeps_then s asked t (dispatched_keep (AsksEventBy g g.answers e at s.registry) (asked_steps e at s.registry) s asked marks) (rows_keep asked.registry (TellsEvent h e at) (event_steps e at) asked t told)
       known false b w = keeps_same s t w.1
 
-  span_where : (b : Bool) (a : PlainAttributes) (at : At) (verdicts : List Bool) (s t : StackValue (Filtered L F)) (r : Result (Option ℕ) RequestError) → SpanWhere g h b a at verdicts s r t → Keeps s t
+  span_where : (b : Bool) (a : PlainAttributes) (at : At) (verdicts : List Bool) (s t : StackValue (Filtered L F)) (r : Result (Option ℕ) RequestError) → SpanWhere g h b a at verdicts s r t → PreservesFilters s t
   span_where true a at verdicts s t r w = makes_keeps a at verdicts s t r w
   span_where false a at verdicts s t r w = cleared_keeps s t w.1
 
-  pub span_keeps : (a : PlainAttributes) (at : At) (s t : StackValue (Filtered L F)) (r : Result (Option ℕ) RequestError) → SpanCached g h a at s r t → Keeps s t
+  pub span_keeps : (a : PlainAttributes) (at : At) (s t : StackValue (Filtered L F)) (r : Result (Option ℕ) RequestError) → SpanCached g h a at s r t → PreservesFilters s t
   span_keeps a at s t r w = known (knows s.registry (explicit_parent a.parent)) (is_refused s a.metadata) w
     where
-      known : (k b : Bool) → SpanKnown g h k s (SpanUnless g h b a at s) r t → Keeps s t
+      known : (k b : Bool) → SpanKnown g h k s (SpanUnless g h b a at s) r t → PreservesFilters s t
       known true true w = cleared_keeps s t w.1
       known true false w = span_where w.1 a at w.0 s t r w.3
       known false b w = keeps_same s t w.1

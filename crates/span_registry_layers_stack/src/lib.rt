@@ -1,12 +1,12 @@
 //! The stack: outputs, each told exactly what its filter passes.
 #![tactic(auto)]
 
+mod cached_interest;
 mod laws;
 mod output;
 mod parts;
 mod row;
 mod rows;
-mod site;
 mod sites;
 mod stack;
 mod subscriber;

@@ -6,7 +6,7 @@ ghost use Rattle.tracing_core_requests.specs.PlainRequests.{plain_event};
 ghost use Rattle.span_registry_layers_store.specs.Registries.{knows};
 ghost use Rattle.span_registry_layers_stack.specs.Asked.{CommonInterest, common_hint};
 ghost use Rattle.span_registry_layers_stack.specs.Rows.{filters_of};
-ghost use Rattle.span_registry_layers_stack.specs.Sites.{Keeps, plain_site};
+ghost use Rattle.span_registry_layers_stack.specs.Sites.{CachesInterest, plain_cached_interest};
 ghost use Rattle.span_registry_layers_stack.specs.Stacks.{EventCached, PassesCached, Registers, TellsAll, cleared, is_above, is_refused, plain_stack, with_hint};
 
 mod new;
@@ -14,9 +14,9 @@ mod spans;
 mod swapping;
 mod telling;
 
+use crate::cached_interest::CachedInterest;
 use crate::row::Row;
 use crate::rows::{any_passes, ask_hint, ask_interest, clear_marks};
-use crate::site::Site;
 use crate::sites::{is_kept, refuse, renew};
 use span_registry_layers_layers::{Filter, Filtered, Layer};
 use span_registry_layers_store::{OwnedMetadata, Registry};
@@ -30,7 +30,7 @@ pub(crate) struct StackParts<O> {
     pub(crate) alloc: Global,
     pub(crate) registry: Registry,
     pub(crate) rows: Vec<Row<O>>,
-    pub(crate) sites: Vec<Site>,
+    pub(crate) sites: Vec<CachedInterest>,
     pub(crate) hint: Option<LevelFilter>,
 }
 
@@ -63,13 +63,13 @@ impl<O> StackParts<O> {
 
     // Keeps the interest, where there is room.
     fn keep(&mut self, metadata: &Metadata<'_>, interest: Interest)
-        ensures sites { Keeps (plain_metadata metadata.now) interest (map plain_site self.old.sites.items) (map plain_site self.new.sites.items) }
-        ensures rest { plain_stack self.new ≡ record (plain_stack self.old) { sites = map plain_site self.new.sites.items } }
+        ensures sites { CachesInterest (plain_metadata metadata.now) interest (map plain_cached_interest self.old.sites.items) (map plain_cached_interest self.new.sites.items) }
+        ensures rest { plain_stack self.new ≡ record (plain_stack self.old) { sites = map plain_cached_interest self.new.sites.items } }
     {
         if is_kept(&self.sites, metadata) {
             renew(&mut self.sites, metadata, interest);
         } else if let Ok(metadata) = OwnedMetadata::new(self.alloc, metadata) {
-            let _room = self.sites.push(Site { metadata, interest });
+            let _room = self.sites.push(CachedInterest { metadata, interest });
         }
     }
 
@@ -85,7 +85,7 @@ impl<L: Layer, F: Filter> StackParts<Filtered<L, F>> {
     // Asks all filters of a callsite, and keeps what they have in common where there is room.
     pub(crate) fn register(&mut self, metadata: &Metadata<'_>) -> Interest
         ensures answer { CommonInterest ⟦<F as Filter>⟧ (plain_metadata metadata.now) (filters_of self.old.rows.items) result }
-        ensures left { Registers (plain_metadata metadata.now) result (plain_stack self.old) (plain_stack self.new) }
+        ensures state { Registers (plain_metadata metadata.now) result (plain_stack self.old) (plain_stack self.new) }
     {
         let interest = ask_interest(&self.rows, metadata);
         self.keep(metadata, interest);
@@ -95,7 +95,7 @@ impl<L: Layer, F: Filter> StackParts<Filtered<L, F>> {
     // Asks all filters for their hint, and keeps it.
     pub(crate) fn ask_hint(&mut self) -> Option<LevelFilter>
         ensures answer { result ≡ common_hint ⟦<F as Filter>⟧ (Some 0) (filters_of self.old.rows.items) }
-        ensures left { plain_stack self.new ≡ with_hint result (plain_stack self.old) }
+        ensures state { plain_stack self.new ≡ with_hint result (plain_stack self.old) }
     {
         self.hint = ask_hint(&self.rows);
         self.hint

@@ -108,7 +108,7 @@ impl<L: Layer, F: Filter> Row<Filtered<L, F>> {
 
     // Tells its layer of the event.
     fn tell(&mut self, event: &Event<'_, '_>, registry: &mut Registry, at: At)
-        ensures told { L.told self.old.output.layer (Happened (plain_event event.now) (view_of at registry.old self.old) registry.new) self.new.output.layer }
+        ensures notified { L.told self.old.output.layer (Happened (plain_event event.now) (view_of at registry.old self.old) registry.new) self.new.output.layer }
         ensures rest { self.new ≡ with_layer self.new.output.layer self.old }
     {
         let mut context = Context::new(registry, at, Some(self.id));

@@ -8,7 +8,7 @@ ghost use Rattle.span_registry_layers_stack.specs.New.{NewGives};
 ghost use Rattle.span_registry_layers_stack.specs.Numbers.{HasNumbers};
 ghost use Rattle.span_registry_layers_stack.specs.Rows.{filters_of};
 ghost use Rattle.span_registry_layers_stack.specs.Stacks.{EventAsked, EventCached, PassesAsked, PassesCached};
-ghost use Rattle.span_registry_layers_stack.specs.Words.{Word};
+ghost use Rattle.span_registry_layers_stack.specs.CacheValidity.{CacheIsValid};
 ghost use Rattle.span_registry_layers_stack.specs.declared.output.Output.{Output};
 
 mod handing;
@@ -28,7 +28,7 @@ use tracing_core_requests::{At, Event, RequestError};
 /// Outputs in order, over one registry of spans.
 ///
 /// It keeps what its filters have in common of callsites, and their hint, and asks nobody where these refuse. While
-/// what is kept is right, which a contract says by `Word`, each call is what asking every filter afresh gives.
+/// what is kept is right, which a contract says by `CacheIsValid`, each call is what asking every filter again gives.
 ///
 /// A contract sees a stack as a `StackValue`.
 #[derive(Drop)]
@@ -58,8 +58,8 @@ impl<L: Layer, F: Filter> Stack<Filtered<L, F>> {
         ensures exact { NewGives ⟦<L as Layer>⟧ ⟦<F as Filter>⟧ outputs.items result }
         ensures numbers { IfOk result (λ s. HasNumbers ⟦<L as Layer>⟧ s) }
         // What is kept is right of honest filters.
-        ensures kept { IfOk result (λ s. Every (λ f. F.honest f) (filters_of s.rows) → Word ⟦<F as Filter>⟧ s) }
-        ensures honest { Every (λ (o : Output (Filtered L F)). F.honest o.output.filter) outputs.items → IfOk result (λ s. Word ⟦<F as Filter>⟧ s) }
+        ensures kept { IfOk result (λ s. Every (λ f. F.honest f) (filters_of s.rows) → CacheIsValid ⟦<F as Filter>⟧ s) }
+        ensures honest { Every (λ (o : Output (Filtered L F)). F.honest o.output.filter) outputs.items → IfOk result (λ s. CacheIsValid ⟦<F as Filter>⟧ s) }
     {
         Stack::build(alloc, outputs)
     }
@@ -97,9 +97,9 @@ impl<L: Layer, F: Filter> Stack<Filtered<L, F>> {
     /// `UnknownParent` where a parent is named that is not open, which leaves the stack as it was.
     pub fn event(&mut self, event: &Event<'_, '_>, at: At) -> Result<(), RequestError>
         ensures exact { EventCached ⟦<F as Filter>⟧ ⟦<L as Layer>⟧ (plain_event event.now) at self.old result self.new }
-        // While what is kept is right, this is asking every filter afresh, and what is kept stays right.
-        ensures asking { Word ⟦<F as Filter>⟧ self.old → EventAsked ⟦<F as Filter>⟧ ⟦<L as Layer>⟧ (plain_event event.now) at self.old result self.new }
-        ensures kept { Word ⟦<F as Filter>⟧ self.old → Word ⟦<F as Filter>⟧ self.new }
+        // While what is kept is right, this is asking every filter again, and what is kept stays right.
+        ensures asking { CacheIsValid ⟦<F as Filter>⟧ self.old → EventAsked ⟦<F as Filter>⟧ ⟦<L as Layer>⟧ (plain_event event.now) at self.old result self.new }
+        ensures kept { CacheIsValid ⟦<F as Filter>⟧ self.old → CacheIsValid ⟦<F as Filter>⟧ self.new }
     {
         self.hand_event(event, at)
     }
@@ -107,7 +107,7 @@ impl<L: Layer, F: Filter> Stack<Filtered<L, F>> {
     /// Whether some output's filter passes what is made of the callsite there and then. It leaves no mark.
     pub fn enabled(&mut self, metadata: &Metadata<'_>, at: At) -> bool
         ensures exact { PassesCached ⟦<F as Filter>⟧ self.old (plain_metadata metadata.now) at result }
-        ensures asking { Word ⟦<F as Filter>⟧ self.old → PassesAsked ⟦<F as Filter>⟧ self.old (plain_metadata metadata.now) at result }
+        ensures asking { CacheIsValid ⟦<F as Filter>⟧ self.old → PassesAsked ⟦<F as Filter>⟧ self.old (plain_metadata metadata.now) at result }
         ensures same { self.new ≡ self.old }
     {
         self.some_passes(metadata, at)

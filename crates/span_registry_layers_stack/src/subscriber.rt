@@ -15,7 +15,7 @@ impl<L: Layer, F: Filter> Subscriber for Stack<Filtered<L, F>> {
     ghost use Rattle.span_registry_layers_stack.specs.Rows.{filters_of};
     ghost use Rattle.span_registry_layers_stack.specs.Stacks.{PassesCached};
     ghost use Rattle.span_registry_layers_stack.specs.Steadiness.{asked_stays, stack_fair, stack_quiet, stack_single, stack_stays};
-    ghost use Rattle.span_registry_layers_stack.specs.Words.{Word};
+    ghost use Rattle.span_registry_layers_stack.specs.CacheValidity.{CacheIsValid};
 
     ghost answers = { λ x m at b. PassesCached ⟦<F as Filter>⟧ x m at b };
 
@@ -25,7 +25,7 @@ impl<L: Layer, F: Filter> Subscriber for Stack<Filtered<L, F>> {
 
     ghost moves = { λ x c r y. Moves ⟦<F as Filter>⟧ ⟦<L as Layer>⟧ x c r y };
 
-    ghost steady = { λ x. Word ⟦<F as Filter>⟧ x };
+    ghost steady = { λ x. CacheIsValid ⟦<F as Filter>⟧ x };
 
     ghost fair = { λ x k. stack_fair ⟦<F as Filter>⟧ x k };
 

@@ -8,7 +8,7 @@ mod journal;
 mod refused;
 
 use crate::{Output, Stack, StackError, StackRefusal};
-use journal::{Journal, Told};
+use journal::{Journal, Notification};
 use span_registry_layers_layers::{Filter, Filtered, Layer};
 use span_registry_layers_store::OutputKey;
 use std::alloc::Global;
@@ -76,7 +76,7 @@ fn make<L: Layer, F: Filter>(
 fn was_told<F: Filter>(
     stack: &Stack<Filtered<Journal, F>>,
     output: usize,
-    told: &[(Told, u64)],
+    told: &[(Notification, u64)],
 ) -> bool {
     match stack.output(output) {
         None => false,

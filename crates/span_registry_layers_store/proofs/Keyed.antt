@@ -2,7 +2,7 @@
 use Rattle.std.proofs.Common.{◌≡◌, ℕ, List, [], ◌∷◌, map, filter, Bool, true, false, ◌==◌, ◌&&◌, if◌then◌else◌, Option, Some, None, Result, Ok, Err, refl, ap, sym, ◌∙◌, subst, arith}
 use Rattle.std.proofs.lemmas.Bool.Decides.{nat_tests}
 use Rattle.span_registry_layers_store.specs.Aside.{SameButKeys, SlotsKeepToTheirKey, keys_equal, own_slots, under_key}
-use Rattle.span_registry_layers_store.specs.Keeping.{InsertsSlot, Keeps, RemovesSlot, ReplacesSlot, with_places, with_slots}
+use Rattle.span_registry_layers_store.specs.Keeping.{InsertsSlot, ChangesSlots, RemovesSlot, ReplacesSlot, with_places, with_slots}
 use Rattle.span_registry_layers_store.specs.Registries.{PlainSpan, RegistryValue, kin_in}
 use Rattle.span_registry_layers_store.specs.Slots.{InsertGives, PlainPlace, PlainSlot, RemoveGives, ReplaceGives, is_at, is_same_tag, with_slot, without_slot}
 use Rattle.span_registry_layers_store.specs.Spans.{changed, found}
@@ -83,7 +83,7 @@ remove_keeps ps qs key other t r not w = ap (own other) w.1 ∙ taken_other ps k
 
 -- a call on the slots of a span, where it is open
 kept_by : {R : Type 0} (o : Option PlainSpan) (x : RegistryValue) (id : ℕ) (keys : ℕ → Bool) (gives : List PlainPlace → R → List PlainPlace → Type 0) (refuses : R → Type 0) (r : R) (y : RegistryValue) → found kin_in x.spans id ≡ o →
-    ((ps qs : List PlainPlace) (key : ℕ) → keys key ≡ false → gives ps r qs → own key qs ≡ own key ps) → Keeps o x id gives refuses r y → SameButKeys keys x y
+    ((ps qs : List PlainPlace) (key : ℕ) → keys key ≡ false → gives ps r qs → own key qs ≡ own key ps) → ChangesSlots o x id gives refuses r y → SameButKeys keys x y
 kept_by None x id keys gives refuses r y is f w = keys_equal keys x y w.1
 kept_by (Some s) x id keys gives refuses r y is f w =
     subst (SameButKeys keys x) (sym w.2) (written_under x id keys s w.0 is (λ key none. f s.slots w.0 key none w.1))

@@ -21,7 +21,7 @@ pub mod Entering
 pub mod Pushing
 pub mod Ancestry
 pub mod Changing
-pub mod Told
+pub mod ClosingOrder
 pub mod Sound
 pub mod Lending
 pub mod Aside

@@ -20,7 +20,7 @@ use Rattle.span_registry_layers_store.specs.Spans.{changed, is_open, keep_if, op
 use Rattle.span_registry_layers_store.specs.declared.record.SpanRecord.{SpanRecord}
 use Rattle.span_registry_layers_store.specs.declared.parts.RegistryParts.{RegistryParts}
 use Rattle.span_registry_layers_store.specs.declared.span.Span.{Span}
-use Rattle.span_registry_layers_store.proofs.Changing.{KeepsKin, changed_below}
+use Rattle.span_registry_layers_store.proofs.Changing.{PreservesKinship, changed_below}
 use Rattle.span_registry_layers_store.proofs.Placing.{differs, place_here, place_later}
 use Rattle.span_registry_layers_store.proofs.Sweeping.{below_more, swept_all}
 
@@ -86,11 +86,11 @@ pub rises_removed : (least : ℕ) (xs : List Span) (place : ℕ) → Rises kin_i
 rises_removed least xs place rise = rises_plain least (without xs place) (rises_without kin_of least xs place (rises_mapped least xs rise))
 
 -- a change that leaves ids
-changed_if : (b : Bool) (f : PlainSpan → PlainSpan) (k : KeepsKin f) (least : ℕ) (s : PlainSpan) (ss later : List PlainSpan) → Rises kin_in least (s ∷ ss) → Rises kin_in (s.kin.id + 1) later → Rises kin_in least (if b then f s ∷ ss else s ∷ later)
+changed_if : (b : Bool) (f : PlainSpan → PlainSpan) (k : PreservesKinship f) (least : ℕ) (s : PlainSpan) (ss later : List PlainSpan) → Rises kin_in least (s ∷ ss) → Rises kin_in (s.kin.id + 1) later → Rises kin_in least (if b then f s ∷ ss else s ∷ later)
 changed_if true f k least s ss later rise others = rw (k.same_id s) rise
 changed_if false f k least s ss later rise others = (rise.0, others)
 
-pub rises_changed : (f : PlainSpan → PlainSpan) (k : KeepsKin f) (least : ℕ) (ss : List PlainSpan) (id : ℕ) → Rises kin_in least ss → Rises kin_in least (changed kin_in f ss id)
+pub rises_changed : (f : PlainSpan → PlainSpan) (k : PreservesKinship f) (least : ℕ) (ss : List PlainSpan) (id : ℕ) → Rises kin_in least ss → Rises kin_in least (changed kin_in f ss id)
 rises_changed f k least [] id rise = tt
 rises_changed f k least (s ∷ ss) id rise = changed_if (s.kin.id == id) f k least s ss (changed kin_in f ss id) rise (rises_changed f k (s.kin.id + 1) ss id rise.1)
 
@@ -154,17 +154,17 @@ swept_rising x rising = record {
 pub exit_rising : (x y : RegistryValue) (lane id : ℕ) → y ≡ swept (without_entry x lane id) → IsRising x → IsRising y
 exit_rising x y lane id is rising = rw is (swept_rising (without_entry x lane id) (record { rise = rising.rise; below = rising.below }))
 
-changed_rising : (f : PlainSpan → PlainSpan) (k : KeepsKin f) (x : RegistryValue) (id : ℕ) → IsRising x → IsRising (record x { spans = changed kin_in f x.spans id })
+changed_rising : (f : PlainSpan → PlainSpan) (k : PreservesKinship f) (x : RegistryValue) (id : ℕ) → IsRising x → IsRising (record x { spans = changed kin_in f x.spans id })
 changed_rising f k x id rising = record { rise = rises_changed f k 0 x.spans id rising.rise; below = changed_below f k x.next_id x.spans id rising.below }
 
 same_rising : (o : Option RequestError) (x y : RegistryValue) → IsRising x → IsRising y → IsRising (or_same o x y)
 same_rising None x y rising done = done
 same_rising (Some refusal) x y rising done = rising
 
-more_keeps : KeepsKin one_more
+more_keeps : PreservesKinship one_more
 more_keeps = record { same_id = λ s. refl; same_parent = λ s. refl }
 
-less_keeps : KeepsKin one_less
+less_keeps : PreservesKinship one_less
 less_keeps = record { same_id = λ s. refl; same_parent = λ s. refl }
 
 abbrev left_of : {A : Type 0} → A × RegistryValue → RegistryValue

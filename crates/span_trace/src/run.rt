@@ -7,13 +7,13 @@ use tracing_core::LevelFilter;
 
 /// The replies so far, and which callsite each span is of.
 #[derive(Debug, Drop)]
-struct Told {
+struct Replies {
     replies: Vec<Reply>,
     /// The callsites of the spans that were made. Ids are given in order from 1, so that of span N stands at place N - 1.
     sites: Vec<u64>,
 }
 
-impl Told {
+impl Replies {
     /// Runs the steps, which are then done.
     fn run(
         &mut self,
@@ -45,7 +45,7 @@ pub(crate) fn run_steps(
     callsites: &[CallsiteLine],
     lines: Vec<StepLine>,
 ) -> Result<Vec<Reply>, AllocError> {
-    let mut told = Told {
+    let mut told = Replies {
         replies: Vec::new(alloc),
         sites: Vec::new(alloc),
     };

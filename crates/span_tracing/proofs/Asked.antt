@@ -6,14 +6,14 @@ use Rattle.tracing_core.specs.Asking.{Each, Registers, Hints, RowAsked}
 use Rattle.tracing_core.specs.Calls.{Call, ReplyTo, CallsiteRegistered, HintAsked, DispatchRegistered}
 use Rattle.tracing_core.specs.Commands.{AddGives, Rebuilt, RegisterGives, RegisterGivesAt, Registered, kept_alike, living, new_row, row_of}
 use Rattle.tracing_core.specs.Defaults.{was_set}
-use Rattle.tracing_core.specs.Setting.TheVariants.{Unset}
+use Rattle.tracing_core.specs.LaneDefault.TheVariants.{Unset}
 use Rattle.tracing_core.specs.Sound.{IsSound as IsSoundHub}
 use Rattle.tracing_core.specs.Handles.{given_back, given_back_at}
 use Rattle.tracing_core.specs.Interests.{PlainInterest}
 use Rattle.tracing_core.specs.PlainMetadata.{PlainMetadata}
-use Rattle.tracing_core.specs.Entry.{Entry}
+use Rattle.tracing_core.specs.RegisteredSubscriber.{RegisteredSubscriber}
 use Rattle.tracing_core.specs.RegisterError.TheVariants.{Taken, OutOfMemory}
-use Rattle.tracing_core.specs.Row.{Row}
+use Rattle.tracing_core.specs.RegisteredCallsite.{RegisteredCallsite}
 use Rattle.tracing_core.specs.Lane.{Lane}
 use Rattle.tracing_core.specs.Subscriber.{Ghosts as SubscriberGhosts}
 use Rattle.span_registry_layers.specs.Filter.{Ghosts}
@@ -25,13 +25,13 @@ use Rattle.tracing_core.specs.Callsite.{Ghosts as SiteGhosts}
 use Rattle.tracing_core.specs.Table.{Table}
 use Rattle.span_tracing_machine.specs.Skeleton.{PlainCallsite}
 use Rattle.span_tracing.specs.Skeletons.{PlainThread, plain_callsite, plain_thread, stack_of, stack_in, value_with, value_in}
-use Rattle.span_tracing.specs.Sound.{IsHonest, IsSound, HasFirst, HasOnly, OwnsOne, KeepsCallsites, LeadsTo, StackSays}
+use Rattle.span_tracing.specs.Sound.{IsHonest, IsSound, HasFirst, HasOnly, OwnsOne, HubHasCallsites, LeadsTo, StackSays}
 use Rattle.span_tracing.specs.Telling.{own_metadata}
-use Rattle.span_tracing.specs.contracts.site.SiteCallsite.TheImpl.{ghosts}
+use Rattle.span_tracing.specs.contracts.hub_callsite.SiteCallsite.TheImpl.{ghosts}
 use Rattle.span_tracing.specs.declared.callsite.Callsite.{Callsite}
 use Rattle.span_tracing.specs.declared.parts.Thread.{Thread}
 use Rattle.span_tracing.specs.declared.parts.TraceParts.{TraceParts}
-use Rattle.span_tracing.specs.declared.site.Site.{Site}
+use Rattle.span_tracing.specs.declared.hub_callsite.HubCallsite.{HubCallsite}
 use Rattle.std.specs.Option.{option_map}
 use Rattle.span_tracing.proofs.Anew.{AreLent, all_asked}
 use Rattle.span_tracing.proofs.Handed.{found, same_number}
@@ -51,70 +51,70 @@ unfolding Gives
 dispatch_same g x d y moved = moved.gives
 
 -- registering a callsite that isn't known
-pub taken_new : {S : Type 0} (g : SubscriberGhosts S) (t u : Table S Site) (site : Site) (k : PlainInterest) → row_of (ghosts.metadata_of site).callsite t.rows ≡ None → RegisterGives g ghosts t site (Ok k) u → Registered g ghosts t site k u
+pub taken_new : {S : Type 0} (g : SubscriberGhosts S) (t u : Table S HubCallsite) (site : HubCallsite) (k : PlainInterest) → row_of (ghosts.metadata_of site).callsite t.rows ≡ None → RegisterGives g ghosts t site (Ok k) u → Registered g ghosts t site k u
 taken_new g t u site k unknown given = subst (λ o. RegisterGivesAt g ghosts t site (kept_alike ghosts (ghosts.metadata_of site) o) (Ok k) u) unknown given
 
-pub never_known : {S : Type 0} (g : SubscriberGhosts S) (t u : Table S Site) (site back : Site) → row_of (ghosts.metadata_of site).callsite t.rows ≡ None → RegisterGives g ghosts t site (Err (Taken back)) u → ⊥
+pub never_known : {S : Type 0} (g : SubscriberGhosts S) (t u : Table S HubCallsite) (site back : HubCallsite) → row_of (ghosts.metadata_of site).callsite t.rows ≡ None → RegisterGives g ghosts t site (Err (Taken back)) u → ⊥
 never_known g t u site back unknown given = subst (λ o. RegisterGivesAt g ghosts t site (kept_alike ghosts (ghosts.metadata_of site) o) (Err (Taken back)) u) unknown given
 
 -- one that finds no memory
-pub out_of_memory : {S : Type 0} (g : SubscriberGhosts S) (t u : Table S Site) (site back : Site) → row_of (ghosts.metadata_of site).callsite t.rows ≡ None → RegisterGives g ghosts t site (Err (OutOfMemory back)) u → u ≡ t
+pub out_of_memory : {S : Type 0} (g : SubscriberGhosts S) (t u : Table S HubCallsite) (site back : HubCallsite) → row_of (ghosts.metadata_of site).callsite t.rows ≡ None → RegisterGives g ghosts t site (Err (OutOfMemory back)) u → u ≡ t
 out_of_memory g t u site back unknown given = (subst (λ o. RegisterGivesAt g ghosts t site (kept_alike ghosts (ghosts.metadata_of site) o) (Err (OutOfMemory back)) u) unknown given).1
 
 -- with the same callsites and the same hub, all is as it was
-pub unchanged_value : {F : Type 0} (p : TraceParts F) (callsites : Vec Callsite Global) (u : Table (StackValue F) Site) → callsites.items ≡ p.callsites.items → u ≡ p.hub → value_in (record p { callsites = callsites; hub = u }) ≡ value_in p
+pub unchanged_value : {F : Type 0} (p : TraceParts F) (callsites : Vec Callsite Global) (u : Table (StackValue F) HubCallsite) → callsites.items ≡ p.callsites.items → u ≡ p.hub → value_in (record p { callsites = callsites; hub = u }) ≡ value_in p
 unchanged_value {F = F} p callsites u is same =
     let ts = map plain_thread p.threads.items in
-    ap (λ (h : Table (StackValue F) Site). value_with (map plain_callsite callsites.items) ts (was_set h.global) p.starved (stack_of p.handle h.entries)) same
+    ap (λ (h : Table (StackValue F) HubCallsite). value_with (map plain_callsite callsites.items) ts (was_set h.global) p.starved (stack_of p.handle h.entries)) same
     ∙ ap (λ (cs : List Callsite). value_with (map plain_callsite cs) ts (was_set p.hub.global) p.starved (stack_in p)) is
 
-pub unchanged_sound : {F : Type 0} (g : Ghosts F) (p : TraceParts F) (callsites : Vec Callsite Global) (u : Table (StackValue F) Site) → IsSound g p → callsites.items ≡ p.callsites.items → u ≡ p.hub → IsSound g (record p { callsites = callsites; hub = u })
+pub unchanged_sound : {F : Type 0} (g : Ghosts F) (p : TraceParts F) (callsites : Vec Callsite Global) (u : Table (StackValue F) HubCallsite) → IsSound g p → callsites.items ≡ p.callsites.items → u ≡ p.hub → IsSound g (record p { callsites = callsites; hub = u })
 unchanged_sound {F = F} g p callsites u sound is same =
-    subst (λ (h : Table (StackValue F) Site). IsSound g (record p { callsites = callsites; hub = h })) (sym same)
+    subst (λ (h : Table (StackValue F) HubCallsite). IsSound g (record p { callsites = callsites; hub = h })) (sym same)
     (record {
       only = sound.only;
       lanes = sound.lanes;
       hub = sound.hub;
-      kept = subst (λ (cs : List Callsite). KeepsCallsites g (stack_in p) cs p.hub) (sym is) sound.kept;
+      kept = subst (λ (cs : List Callsite). HubHasCallsites g (stack_in p) cs p.hub) (sym is) sound.kept;
       honest = sound.honest;
     })
 
 module _ {F : Type 0} (g : Ghosts F) where
-  entries_same : (m : PlainMetadata) (es fs : List (Entry (StackValue F))) (before after : Option PlainInterest) → Each (Registers (stack_ghosts g) m) before es fs after → fs ≡ es
+  entries_same : (m : PlainMetadata) (es fs : List (RegisteredSubscriber (StackValue F))) (before after : Option PlainInterest) → Each (Registers (stack_ghosts g) m) before es fs after → fs ≡ es
   entries_same m [] [] before after w = refl
   entries_same m [] (f ∷ fs) before after w = absurd w
   entries_same m (e ∷ es) [] before after w = absurd w
   entries_same m (e ∷ es) (f ∷ fs) before after (j, (k, says, moved, is, joined), rest) =
-      ap (λ (x : Entry (StackValue F)). x ∷ fs) (is ∙ ap (λ (s : StackValue F). record e { subscriber = s }) (register_same g e.subscriber m k f.subscriber moved))
-      ∙ ap (λ (xs : List (Entry (StackValue F))). e ∷ xs) (entries_same m es fs j after rest)
+      ap (λ (x : RegisteredSubscriber (StackValue F)). x ∷ fs) (is ∙ ap (λ (s : StackValue F). record e { subscriber = s }) (register_same g e.subscriber m k f.subscriber moved))
+      ∙ ap (λ (xs : List (RegisteredSubscriber (StackValue F))). e ∷ xs) (entries_same m es fs j after rest)
 
-  pub row_same : (h : SiteGhosts Site) (es fs : List (Entry (StackValue F))) (row later : Row Site) → RowAsked (stack_ghosts g) h es row later fs → fs ≡ es
+  pub row_same : (h : SiteGhosts HubCallsite) (es fs : List (RegisteredSubscriber (StackValue F))) (row later : RegisteredCallsite HubCallsite) → RowAsked (stack_ghosts g) h es row later fs → fs ≡ es
   row_same h es fs row later w = entries_same (h.metadata_of row.callsite) es fs None w.0.0 w.0.1
 
-  pub registered_same : (h : SiteGhosts Site) (t u : Table (StackValue F) Site) (site : Site) (k : PlainInterest) → Registered (stack_ghosts g) h t site k u → u.entries ≡ t.entries
+  pub registered_same : (h : SiteGhosts HubCallsite) (t u : Table (StackValue F) HubCallsite) (site : HubCallsite) (k : PlainInterest) → Registered (stack_ghosts g) h t site k u → u.entries ≡ t.entries
   registered_same h t u site k w = row_same h t.entries u.entries (new_row h site) w.row w.asked
 
-  rows_same : (h : SiteGhosts Site) (es fs : List (Entry (StackValue F))) (rows later : List (Row Site)) → Each (RowAsked (stack_ghosts g) h) es rows later fs → fs ≡ es
+  rows_same : (h : SiteGhosts HubCallsite) (es fs : List (RegisteredSubscriber (StackValue F))) (rows later : List (RegisteredCallsite HubCallsite)) → Each (RowAsked (stack_ghosts g) h) es rows later fs → fs ≡ es
   rows_same h es fs [] [] w = w
   rows_same h es fs [] (r ∷ rs) w = absurd w
   rows_same h es fs (r ∷ rs) [] w = absurd w
   rows_same h es fs (r ∷ rs) (s ∷ ss) (j, asked, rest) = rows_same h j fs rs ss rest ∙ row_same h es j r s asked
 
-  hints_one : (e : Entry (StackValue F)) (fs : List (Entry (StackValue F))) (before after : ℕ) → Each (Hints (stack_ghosts g)) before (e ∷ []) fs after → fs ≡ (record e { lent = false }) ∷ []
+  hints_one : (e : RegisteredSubscriber (StackValue F)) (fs : List (RegisteredSubscriber (StackValue F))) (before after : ℕ) → Each (Hints (stack_ghosts g)) before (e ∷ []) fs after → fs ≡ (record e { lent = false }) ∷ []
   hints_one e [] before after w = absurd w
   hints_one e (f ∷ []) before after (j, (moved, is, level), rest) =
-      ap (λ (x : Entry (StackValue F)). x ∷ []) (is ∙ ap (λ (s : StackValue F). record e { lent = false; subscriber = s }) (hint_same g e.subscriber _ f.subscriber moved))
+      ap (λ (x : RegisteredSubscriber (StackValue F)). x ∷ []) (is ∙ ap (λ (s : StackValue F). record e { lent = false; subscriber = s }) (hint_same g e.subscriber _ f.subscriber moved))
   hints_one e (f ∷ (d ∷ ds)) before after (j, hint, rest) = absurd rest
 
   -- the stack after a rebuild that it alone was asked in
-  pub rebuilt_one : (h : SiteGhosts Site) (t u : Table (StackValue F) Site) (e : Entry (StackValue F)) → t.entries ≡ e ∷ [] → Rebuilt (stack_ghosts g) h t u → u.entries ≡ (record e { lent = false }) ∷ []
+  pub rebuilt_one : (h : SiteGhosts HubCallsite) (t u : Table (StackValue F) HubCallsite) (e : RegisteredSubscriber (StackValue F)) → t.entries ≡ e ∷ [] → Rebuilt (stack_ghosts g) h t u → u.entries ≡ (record e { lent = false }) ∷ []
   rebuilt_one h t u e one w = hints_one e u.entries 0 u.greatest (subst (λ es. Each (Hints (stack_ghosts g)) 0 es u.entries u.greatest) (rows_same h t.entries w.asked t.rows u.rows w.rows ∙ one) w.hints)
 
 length_more : {A : Type 0} (xs : List A) (x : A) → length (xs ++ x ∷ []) ≡ length xs + 1
 length_more xs x = length-append xs (x ∷ [])
 
 -- one lane more
-pub lane_more : {F : Type 0} (p : TraceParts F) (threads : Vec Thread Global) (u : Table (StackValue F) Site) (t : Thread) (ls : List Lane) (marks : List Bool) → threads.items ≡ p.threads.items ++ t ∷ [] → u ≡ record (p.hub) { lanes = ls; entered = marks } →
+pub lane_more : {F : Type 0} (p : TraceParts F) (threads : Vec Thread Global) (u : Table (StackValue F) HubCallsite) (t : Thread) (ls : List Lane) (marks : List Bool) → threads.items ≡ p.threads.items ++ t ∷ [] → u ≡ record (p.hub) { lanes = ls; entered = marks } →
     value_in (record p { threads = threads; hub = u }) ≡ record (value_in p) {
       skeleton = record ((value_in p).skeleton) { lanes = (value_in p).skeleton.lanes + 1 };
       threads = (value_in p).threads ++ plain_thread t ∷ [];
@@ -123,17 +123,17 @@ lane_more {F = F} p threads u t ls marks is rest =
     let cs = map plain_callsite p.callsites.items in
     let ts = map plain_thread p.threads.items in
     let old = value_in p in
-    ap (λ (h : Table (StackValue F) Site). value_with cs (map plain_thread threads.items) (was_set h.global) p.starved (stack_of p.handle h.entries)) rest
+    ap (λ (h : Table (StackValue F) HubCallsite). value_with cs (map plain_thread threads.items) (was_set h.global) p.starved (stack_of p.handle h.entries)) rest
     ∙ ap (λ (xs : List PlainThread). value_with cs xs (was_set p.hub.global) p.starved (stack_in p)) (ap (map plain_thread) is ∙ map_more plain_thread p.threads.items t)
     ∙ ap (λ (lanes : ℕ). record old { skeleton = record (old.skeleton) { lanes = lanes }; threads = ts ++ plain_thread t ∷ [] }) (length_more ts (plain_thread t))
 
 -- one callsite more
-pub callsite_more : {F : Type 0} (p : TraceParts F) (callsites : Vec Callsite Global) (u : Table (StackValue F) Site) (c : Callsite) (rows : List (Row Site)) → callsites.items ≡ p.callsites.items ++ c ∷ [] → u.entries ≡ p.hub.entries → u ≡ record (p.hub) { entries = u.entries; rows = rows } →
+pub callsite_more : {F : Type 0} (p : TraceParts F) (callsites : Vec Callsite Global) (u : Table (StackValue F) HubCallsite) (c : Callsite) (rows : List (RegisteredCallsite HubCallsite)) → callsites.items ≡ p.callsites.items ++ c ∷ [] → u.entries ≡ p.hub.entries → u ≡ record (p.hub) { entries = u.entries; rows = rows } →
     value_in (record p { callsites = callsites; hub = u }) ≡ record (value_in p) { skeleton = record ((value_in p).skeleton) { callsites = (value_in p).skeleton.callsites ++ plain_callsite c ∷ [] } }
 callsite_more {F = F} p callsites u c rows is same rest =
     let ts = map plain_thread p.threads.items in
-    ap (λ (es : List (Entry (StackValue F))). value_with (map plain_callsite callsites.items) ts (was_set u.global) p.starved (stack_of p.handle es)) same
-    ∙ ap (λ (h : Table (StackValue F) Site). value_with (map plain_callsite callsites.items) ts (was_set h.global) p.starved (stack_in p)) rest
+    ap (λ (es : List (RegisteredSubscriber (StackValue F))). value_with (map plain_callsite callsites.items) ts (was_set u.global) p.starved (stack_of p.handle es)) same
+    ∙ ap (λ (h : Table (StackValue F) HubCallsite). value_with (map plain_callsite callsites.items) ts (was_set h.global) p.starved (stack_in p)) rest
     ∙ ap (λ (cs : List PlainCallsite). value_with cs ts (was_set p.hub.global) p.starved (stack_in p)) (ap (map plain_callsite) is ∙ map_more plain_callsite p.callsites.items c)
 
 -- the same metadata by the same identifier
@@ -142,41 +142,41 @@ own_same a b e = ap (λ (c : PlainCallsite). record (c.metadata) { callsite = c.
 
 module _ {F : Type 0} (g : Ghosts F) where
   -- a callsite that the hub took, and what it answered of it
-  pub sound_more : (p : TraceParts F) (callsites : Vec Callsite Global) (u : Table (StackValue F) Site) (c : Callsite) (site : Site) (k : PlainInterest) → IsSound g p → callsites.items ≡ p.callsites.items ++ c ∷ [] → plain_callsite site.callsite ≡ plain_callsite c → Registered (stack_ghosts g) ghosts p.hub site k u → IsSoundHub ghosts u →
+  pub sound_more : (p : TraceParts F) (callsites : Vec Callsite Global) (u : Table (StackValue F) HubCallsite) (c : Callsite) (site : HubCallsite) (k : PlainInterest) → IsSound g p → callsites.items ≡ p.callsites.items ++ c ∷ [] → plain_callsite site.callsite ≡ plain_callsite c → Registered (stack_ghosts g) ghosts p.hub site k u → IsSoundHub ghosts u →
       IsSound g (record p { callsites = callsites; hub = u }) × StackSays g (stack_in p) (own_metadata c) k
   sound_more p callsites u c site k sound is same w hub =
       let one = only_one p.handle p.hub.global p.hub.entries sound.only in
       let stack = only_stack p.handle p.hub.global p.hub.entries sound.only in
       let entries = registered_same g ghosts p.hub u site k w in
       let rest = w.kept in
-      let taken = registered_keeps g p.hub u p.callsites.items c site k one (own_same site.callsite c same) w (subst (λ o. KeepsCallsites g o p.callsites.items p.hub) stack sound.kept) in
-      let still = ap (λ (es : List (Entry (StackValue F))). stack_of p.handle es) entries in (
+      let taken = registered_keeps g p.hub u p.callsites.items c site k one (own_same site.callsite c same) w (subst (λ o. HubHasCallsites g o p.callsites.items p.hub) stack sound.kept) in
+      let still = ap (λ (es : List (RegisteredSubscriber (StackValue F))). stack_of p.handle es) entries in (
         record {
-          only = subst (λ (h : Table (StackValue F) Site). HasOnly p.handle h.global u.entries) (sym rest) (subst (λ es. HasOnly p.handle p.hub.global es) (sym entries) sound.only);
-          lanes = ap (λ (h : Table (StackValue F) Site). h.lanes) rest ∙ sound.lanes;
+          only = subst (λ (h : Table (StackValue F) HubCallsite). HasOnly p.handle h.global u.entries) (sym rest) (subst (λ es. HasOnly p.handle p.hub.global es) (sym entries) sound.only);
+          lanes = ap (λ (h : Table (StackValue F) HubCallsite). h.lanes) rest ∙ sound.lanes;
           hub = hub;
-          kept = subst (λ (cs : List Callsite). KeepsCallsites g (stack_of p.handle u.entries) cs u) (sym is) (subst (λ o. KeepsCallsites g o (p.callsites.items ++ c ∷ []) u) (sym (still ∙ stack)) taken.0);
+          kept = subst (λ (cs : List Callsite). HubHasCallsites g (stack_of p.handle u.entries) cs u) (sym is) (subst (λ o. HubHasCallsites g o (p.callsites.items ++ c ∷ []) u) (sym (still ∙ stack)) taken.0);
           honest = subst (IsHonest g) (sym still) sound.honest;
         },
         subst (λ o. StackSays g o (own_metadata c) k) (sym stack) taken.1,
       )
 
   -- the hub takes its first stack
-  pub first_stack : (p : TraceParts F) (u : Table (StackValue F) Site) (s : StackValue F) (d : Option ℕ) → IsSound g p → p.handle ≡ None → IsHonest g (Some s) → AddGives (stack_ghosts g) ghosts p.hub s (Ok d) u → IsSoundHub ghosts u → HasFirst g p (record p { handle = Some d; hub = u }) s
+  pub first_stack : (p : TraceParts F) (u : Table (StackValue F) HubCallsite) (s : StackValue F) (d : Option ℕ) → IsSound g p → p.handle ≡ None → IsHonest g (Some s) → AddGives (stack_ghosts g) ghosts p.hub s (Ok d) u → IsSoundHub ghosts u → HasFirst g p (record p { handle = Some d; hub = u }) s
   first_stack p u s d sound none honest gives hub =
       let z = gives.1.0 in
       let e = living p.hub.next z in
       let before = subst (λ o. HasOnly o p.hub.global p.hub.entries) none sound.only in
-      let one : p.hub.entries ++ e ∷ [] ≡ e ∷ [] = ap (λ (es : List (Entry (StackValue F))). es ++ e ∷ []) before.0 in
-      let with_it : Table (StackValue F) Site = record (p.hub) { entries = p.hub.entries ++ e ∷ []; next = p.hub.next + 1 } in
-      let rebuilt = all_asked (stack_ghosts g) ghosts with_it u (subst (λ (es : List (Entry (StackValue F))). AreLent es) (sym one) (refl, tt)) gives.1.2 in
+      let one : p.hub.entries ++ e ∷ [] ≡ e ∷ [] = ap (λ (es : List (RegisteredSubscriber (StackValue F))). es ++ e ∷ []) before.0 in
+      let with_it : Table (StackValue F) HubCallsite = record (p.hub) { entries = p.hub.entries ++ e ∷ []; next = p.hub.next + 1 } in
+      let rebuilt = all_asked (stack_ghosts g) ghosts with_it u (subst (λ (es : List (RegisteredSubscriber (StackValue F))). AreLent es) (sym one) (refl, tt)) gives.1.2 in
       let left = rebuilt_one g ghosts with_it u e one rebuilt in
-      let last : Entry (StackValue F) = record e { lent = false } in
+      let last : RegisteredSubscriber (StackValue F) = record e { lent = false } in
       let same = dispatch_same g s (Some p.hub.next) z gives.1.1 in
-      let global : u.global ≡ p.hub.global = ap (λ (t : Table (StackValue F) Site). t.global) rebuilt.rest in
+      let global : u.global ≡ p.hub.global = ap (λ (t : Table (StackValue F) HubCallsite). t.global) rebuilt.rest in
       let stack =
-      ap (λ (n : Option ℕ). stack_of (Some n) u.entries) gives.0 ∙ ap (λ (es : List (Entry (StackValue F))). stack_of (Some (Some p.hub.next)) es) left
-      ∙ ap (λ (o : Option (Entry (StackValue F))). option_map (λ (x : Entry (StackValue F)). x.subscriber) o) (found last)
+      ap (λ (n : Option ℕ). stack_of (Some n) u.entries) gives.0 ∙ ap (λ (es : List (RegisteredSubscriber (StackValue F))). stack_of (Some (Some p.hub.next)) es) left
+      ∙ ap (λ (o : Option (RegisteredSubscriber (StackValue F))). option_map (λ (x : RegisteredSubscriber (StackValue F)). x.subscriber) o) (found last)
       ∙ ap (λ (x : StackValue F). Some x) same in
       let kept = rebuilt_keeps g (row_same g ghosts) with_it u p.callsites.items (subst IsOneAtMost (sym one) tt) rebuilt sound.kept.numbers sound.kept.metadata in
       let there : stack_of (Some d) u.entries ≡ stack_at (p.hub.entries ++ e ∷ []) =
@@ -185,9 +185,9 @@ module _ {F : Type 0} (g : Ghosts F) where
         owns = (last, left, gives.0, refl);
         sound = record {
           only = (last, left, gives.0, (λ unset. refl), subst (λ setting. LeadsTo setting last.serial) (sym (global ∙ before.1)) tt);
-          lanes = ap (λ (t : Table (StackValue F) Site). t.lanes) rebuilt.rest ∙ sound.lanes;
+          lanes = ap (λ (t : Table (StackValue F) HubCallsite). t.lanes) rebuilt.rest ∙ sound.lanes;
           hub = hub;
-          kept = subst (λ o. KeepsCallsites g o p.callsites.items u) (sym there) kept;
+          kept = subst (λ o. HubHasCallsites g o p.callsites.items u) (sym there) kept;
           honest = subst (IsHonest g) (sym stack) honest;
         };
         stack = stack;
@@ -195,26 +195,26 @@ module _ {F : Type 0} (g : Ghosts F) where
         global = global;
       }
 
-  rebuilt_none : (t u : Table (StackValue F) Site) → t.entries ≡ [] → Rebuilt (stack_ghosts g) ghosts t u → u.entries ≡ []
+  rebuilt_none : (t u : Table (StackValue F) HubCallsite) → t.entries ≡ [] → Rebuilt (stack_ghosts g) ghosts t u → u.entries ≡ []
   rebuilt_none t u none w = hints_none u.entries (subst (λ es. Each (Hints (stack_ghosts g)) 0 es u.entries u.greatest) (rows_same g ghosts t.entries w.asked t.rows u.rows w.rows ∙ none) w.hints)
     where
-      hints_none : (fs : List (Entry (StackValue F))) → Each (Hints (stack_ghosts g)) 0 [] fs u.greatest → fs ≡ []
+      hints_none : (fs : List (RegisteredSubscriber (StackValue F))) → Each (Hints (stack_ghosts g)) 0 [] fs u.greatest → fs ≡ []
       hints_none [] each = refl
       hints_none (f ∷ fs) each = absurd each
 
   -- the hub without a stack, after a rebuild
-  pub emptied : (p : TraceParts F) (u : Table (StackValue F) Site) → IsSound g p → p.hub.global ≡ Unset → Rebuilt (stack_ghosts g) ghosts (record (p.hub) { entries = [] }) u → IsSoundHub ghosts u → IsSound g (record p { handle = None; hub = u })
+  pub emptied : (p : TraceParts F) (u : Table (StackValue F) HubCallsite) → IsSound g p → p.hub.global ≡ Unset → Rebuilt (stack_ghosts g) ghosts (record (p.hub) { entries = [] }) u → IsSoundHub ghosts u → IsSound g (record p { handle = None; hub = u })
   emptied p u sound unset w hub = record {
-    only = (rebuilt_none (record (p.hub) { entries = [] }) u refl w, ap (λ (t : Table (StackValue F) Site). t.global) w.rest ∙ unset);
-    lanes = ap (λ (t : Table (StackValue F) Site). t.lanes) w.rest ∙ sound.lanes;
+    only = (rebuilt_none (record (p.hub) { entries = [] }) u refl w, ap (λ (t : Table (StackValue F) HubCallsite). t.global) w.rest ∙ unset);
+    lanes = ap (λ (t : Table (StackValue F) HubCallsite). t.lanes) w.rest ∙ sound.lanes;
     hub = hub;
     kept = rebuilt_keeps g (row_same g ghosts) (record (p.hub) { entries = [] }) u p.callsites.items tt w sound.kept.numbers sound.kept.metadata;
     honest = tt;
   }
 
 -- the one handle that is given back
-pub given_one : {F : Type 0} (dispatch : Option ℕ) (es : List (Entry (StackValue F))) → OwnsOne (Some dispatch) es → (given_back dispatch es).1 ≡ []
+pub given_one : {F : Type 0} (dispatch : Option ℕ) (es : List (RegisteredSubscriber (StackValue F))) → OwnsOne (Some dispatch) es → (given_back dispatch es).1 ≡ []
 given_one {F = F} dispatch es owns =
     let e = owns.0 in
-    ap (λ d. (given_back d es).1) owns.2 ∙ ap (λ (xs : List (Entry (StackValue F))). (given_back (Some e.serial) xs).1) owns.1
-    ∙ ap (λ (o : Option (Entry (StackValue F))). (given_back_at e.serial (e ∷ []) o).1) (found e) ∙ let last = owns.3 in rw (last, same_number e.serial) refl
+    ap (λ d. (given_back d es).1) owns.2 ∙ ap (λ (xs : List (RegisteredSubscriber (StackValue F))). (given_back (Some e.serial) xs).1) owns.1
+    ∙ ap (λ (o : Option (RegisteredSubscriber (StackValue F))). (given_back_at e.serial (e ∷ []) o).1) (found e) ∙ let last = owns.3 in rw (last, same_number e.serial) refl

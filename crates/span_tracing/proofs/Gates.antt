@@ -13,16 +13,16 @@ use Rattle.tracing_core.specs.Handles.{changed, entry_of}
 use Rattle.tracing_core.specs.Interests.{PlainInterest}
 use Rattle.tracing_core.specs.InterestInner.TheVariants.{Never, Sometimes, Always}
 use Rattle.tracing_core.specs.Lists.{Every}
-use Rattle.tracing_core.specs.Kept.{IsTrueRow}
+use Rattle.tracing_core.specs.ValidCaches.{IsTrueRow}
 use Rattle.tracing_core.specs.Level.{IsRank}
 use Rattle.tracing_core.specs.PlainMetadata.{PlainMetadata}
-use Rattle.tracing_core.specs.Row.{Row}
-use Rattle.tracing_core.specs.Entry.{Entry}
+use Rattle.tracing_core.specs.RegisteredCallsite.{RegisteredCallsite}
+use Rattle.tracing_core.specs.RegisteredSubscriber.{RegisteredSubscriber}
 use Rattle.tracing_core.specs.Sound.{identifiers}
 use Rattle.tracing_core.specs.Steady.{HintFits, IsReal}
 use Rattle.tracing_core.specs.Lane.TheVariants.{Running}
-use Rattle.tracing_core.specs.Setting.{Setting}
-use Rattle.tracing_core.specs.Setting.TheVariants.{Unset, Nothing, To}
+use Rattle.tracing_core.specs.LaneDefault.{LaneDefault}
+use Rattle.tracing_core.specs.LaneDefault.TheVariants.{Unset, Nothing, To}
 use Rattle.tracing_core.specs.Table.{Table, chosen, effective, own_setting}
 use Rattle.span_registry_layers.specs.Filter.{Ghosts}
 use Rattle.span_registry_layers.specs.Looks.{View}
@@ -37,10 +37,10 @@ use Rattle.span_tracing.specs.Skeletons.{filter_at, plain_callsite, registry_in,
 use Rattle.span_tracing.specs.Sound.{HasOnly, IsHonest, IsSound, StackSays, greatest_of}
 use Rattle.span_tracing.specs.Stored.{mask_by}
 use Rattle.span_tracing.specs.Telling.{own_metadata}
-use Rattle.span_tracing.specs.contracts.site.SiteCallsite.TheImpl.{ghosts}
+use Rattle.span_tracing.specs.contracts.hub_callsite.SiteCallsite.TheImpl.{ghosts}
 use Rattle.span_tracing.specs.declared.callsite.Callsite.{Callsite}
 use Rattle.span_tracing.specs.declared.parts.TraceParts.{TraceParts}
-use Rattle.span_tracing.specs.declared.site.Site.{Site}
+use Rattle.span_tracing.specs.declared.hub_callsite.HubCallsite.{HubCallsite}
 use Rattle.span_tracing.proofs.Filters.{answers_by, says_by, stack_ghosts}
 use Rattle.span_tracing.proofs.Handed.{found}
 use Rattle.span_tracing.proofs.Keeping.{only_stack, stack_at}
@@ -95,14 +95,14 @@ module _ {F : Type 0} (g : Ghosts F) where
       by_level false e is = inr (λ c a. above (g.hint f) m.level greatest c ((g.fair f honest).below m v c a) top real e ∙ (let e : false ≡ b = cc in e))
 
   -- what is kept of a callsite that is known, and nothing of one that isn't
-  abbrev pub RowFits : Option (StackValue F) → Option PlainCallsite → Option (Row Site) → Type 0
+  abbrev pub RowFits : Option (StackValue F) → Option PlainCallsite → Option (RegisteredCallsite HubCallsite) → Type 0
   RowFits stack None None = Unit {0}
   RowFits stack None (Some row) = ⊥
   RowFits stack (Some c) None = ⊥
   RowFits stack (Some c) (Some row) = StackSays g stack (made_with c) row.interest × (own_metadata row.callsite.callsite ≡ made_with c) × (row.level ≡ c.metadata.level) × IsReal (made_with c)
 
-  rows_fit : (stack : Option (StackValue F)) (cs : List Callsite) (rows : List (Row Site)) (number : ℕ) → identifiers rows ≡ map (λ (c : Callsite). c.number) cs → map (λ (row : Row Site). own_metadata row.callsite.callsite) rows ≡ map own_metadata cs →
-      Every (λ (row : Row Site). StackSays g stack (own_metadata row.callsite.callsite) row.interest) rows → Every (IsTrueRow ghosts) rows → RowFits stack (first_of (map plain_callsite cs) number) (row_of number rows)
+  rows_fit : (stack : Option (StackValue F)) (cs : List Callsite) (rows : List (RegisteredCallsite HubCallsite)) (number : ℕ) → identifiers rows ≡ map (λ (c : Callsite). c.number) cs → map (λ (row : RegisteredCallsite HubCallsite). own_metadata row.callsite.callsite) rows ≡ map own_metadata cs →
+      Every (λ (row : RegisteredCallsite HubCallsite). StackSays g stack (own_metadata row.callsite.callsite) row.interest) rows → Every (IsTrueRow ghosts) rows → RowFits stack (first_of (map plain_callsite cs) number) (row_of number rows)
   rows_fit stack [] [] number n m k all = tt
   rows_fit stack [] (row ∷ rows) number n m k all = absurd (cc)
   rows_fit stack (c ∷ cs) [] number n m k all = absurd (cc)
@@ -134,14 +134,14 @@ module _ {F : Type 0} (g : Ghosts F) where
   stack_says (Some x) m k w = says_by g x.filter m k w
 
   -- the interest that is kept of a callsite
-  pub interest_known : (stack : Option (StackValue F)) (c : Option PlainCallsite) (row : Option (Row Site)) → RowFits stack c row → is_some (option_map (λ (r : Row Site). r.interest) row) ≡ is_some c
+  pub interest_known : (stack : Option (StackValue F)) (c : Option PlainCallsite) (row : Option (RegisteredCallsite HubCallsite)) → RowFits stack c row → is_some (option_map (λ (r : RegisteredCallsite HubCallsite). r.interest) row) ≡ is_some c
   interest_known stack None None fits = refl
   interest_known stack None (Some row) fits = absurd fits
   interest_known stack (Some c) None fits = absurd fits
   interest_known stack (Some c) (Some row) fits = refl
 
-  pub interest_says : (stack : Option (StackValue F)) (c : Option PlainCallsite) (row : Option (Row Site)) → RowFits stack c row →
-      IfSome (option_map (λ (r : Row Site). r.interest) row) (λ k. (site : PlainCallsite) → c ≡ Some site → Says g (filter_at stack) (made_with site) k)
+  pub interest_says : (stack : Option (StackValue F)) (c : Option PlainCallsite) (row : Option (RegisteredCallsite HubCallsite)) → RowFits stack c row →
+      IfSome (option_map (λ (r : RegisteredCallsite HubCallsite). r.interest) row) (λ k. (site : PlainCallsite) → c ≡ Some site → Says g (filter_at stack) (made_with site) k)
   interest_says stack None None fits = tt
   interest_says stack None (Some row) fits = absurd fits
   interest_says stack (Some c) None fits = absurd fits
@@ -154,12 +154,12 @@ own_unset (suc n) zero h = refl
 own_unset (suc n) (suc lane) h = own_unset n lane (omega arith)
 
 -- where a global default is set, it is the one stack
-pub record Reaches {F : Type 0} (handle : Option (Option ℕ)) (global : Setting) (entries : List (Entry (StackValue F))) : Type 0 where
-  pub entry : Entry (StackValue F)
+pub record Reaches {F : Type 0} (handle : Option (Option ℕ)) (global : LaneDefault) (entries : List (RegisteredSubscriber (StackValue F))) : Type 0 where
+  pub entry : RegisteredSubscriber (StackValue F)
   pub one : entries ≡ entry ∷ []
   pub leads : chosen (effective Unset global) ≡ Some entry.serial
 
-pub reached_at : {F : Type 0} (handle : Option (Option ℕ)) (global : Setting) (entries : List (Entry (StackValue F))) → HasOnly handle global entries → was_set global ≡ true → Reaches handle global entries
+pub reached_at : {F : Type 0} (handle : Option (Option ℕ)) (global : LaneDefault) (entries : List (RegisteredSubscriber (StackValue F))) → HasOnly handle global entries → was_set global ≡ true → Reaches handle global entries
 reached_at None global entries only set = absurd (true≢false (sym set ∙ ap was_set only.1))
 reached_at (Some dispatch) Unset entries only set = absurd (cc)
 reached_at (Some dispatch) Nothing entries only set = absurd only.4
@@ -175,11 +175,11 @@ module _ {F : Type 0} (g : Ghosts F) where
   unfolding Gives
   asked_same x m at r y moved = (moved.gives.1, moved.gives.0)
 
-  changed_same : (e : Entry (StackValue F)) (y : StackValue F) → y ≡ e.subscriber → changed e.serial (becomes y) (e ∷ []) ≡ e ∷ []
+  changed_same : (e : RegisteredSubscriber (StackValue F)) (y : StackValue F) → y ≡ e.subscriber → changed e.serial (becomes y) (e ∷ []) ≡ e ∷ []
   changed_same e y is = rw (Rattle.span_tracing.proofs.Handed.same_number e.serial) (ap (λ (s : StackValue F). (record e { subscriber = s }) ∷ []) is)
 
   -- the hub answers what is known, or asks the stack
-  answered : (e : Entry (StackValue F)) (row : Row Site) (at : At) (c : PlainCallsite) (greatest : ℕ) (o : Option Bool) (answer : Bool) (fs : List (Entry (StackValue F))) → HonestBy g e.subscriber.filter → RowFits g (Some e.subscriber) (Some c) (Some row) →
+  answered : (e : RegisteredSubscriber (StackValue F)) (row : RegisteredCallsite HubCallsite) (at : At) (c : PlainCallsite) (greatest : ℕ) (o : Option Bool) (answer : Bool) (fs : List (RegisteredSubscriber (StackValue F))) → HonestBy g e.subscriber.filter → RowFits g (Some e.subscriber) (Some c) (Some row) →
       greatest ≡ level_of (hint_by g e.subscriber.filter) → known greatest row.level row.interest ≡ o → AnswerGives (stack_ghosts g) ghosts row at o (Some e.serial) (e ∷ []) answer fs →
       (fs ≡ e ∷ []) × WouldPass g e.subscriber.filter (made_with c) (view_in e.subscriber.registry at) answer
   answered e row at c greatest (Some b) answer fs honest fits top is w =
@@ -193,7 +193,7 @@ module _ {F : Type 0} (g : Ghosts F) where
       )
 
   -- where the stack is reached
-  gate_reached : (e : Entry (StackValue F)) (t u : Table (StackValue F) Site) (at : At) (c : Option PlainCallsite) (row : Option (Row Site)) (result : Option Bool) → t.entries ≡ e ∷ [] → reached t at.lane ≡ Some e.serial → HonestBy g e.subscriber.filter → RowFits g (Some e.subscriber) c row →
+  gate_reached : (e : RegisteredSubscriber (StackValue F)) (t u : Table (StackValue F) HubCallsite) (at : At) (c : Option PlainCallsite) (row : Option (RegisteredCallsite HubCallsite)) (result : Option Bool) → t.entries ≡ e ∷ [] → reached t at.lane ≡ Some e.serial → HonestBy g e.subscriber.filter → RowFits g (Some e.subscriber) c row →
       t.greatest ≡ level_of (hint_by g e.subscriber.filter) → GateGivesAt (stack_ghosts g) ghosts t row at result u →
       (u ≡ t) × AskedOf true c (λ c b. WouldPass g e.subscriber.filter (made_with c) (view_in e.subscriber.registry at) b) (mask_by result)
   gate_reached e t u at None None result one leads honest fits top w = (w.1, ap mask_by w.0)
@@ -205,12 +205,12 @@ module _ {F : Type 0} (g : Ghosts F) where
       subst (λ es. AnswerGives (stack_ghosts g) ghosts row at (known t.greatest row.level row.interest) (Some e.serial) es answer u.entries) one
       (subst (λ o. AnswerGives (stack_ghosts g) ghosts row at (known t.greatest row.level row.interest) o t.entries answer u.entries) leads w.0.2) in
       let given = answered e row at c t.greatest (known t.greatest row.level row.interest) answer u.entries honest fits top refl asked in (
-        w.1 ∙ ap (λ (es : List (Entry (StackValue F))). record t { entries = es }) (given.0 ∙ sym one),
+        w.1 ∙ ap (λ (es : List (RegisteredSubscriber (StackValue F))). record t { entries = es }) (given.0 ∙ sym one),
         (answer, given.1, ap mask_by w.0.1),
       )
 
   -- the gate changes nothing, and tells what the stack's filter answers
-  pub gate_tells : (p : TraceParts F) (u : Table (StackValue F) Site) (number : ℕ) (at : At) (result : Option Bool) → IsSound g p → at.lane < length p.threads.items → was_set p.hub.global ≡ true → GateGives (stack_ghosts g) ghosts p.hub number at result u →
+  pub gate_tells : (p : TraceParts F) (u : Table (StackValue F) HubCallsite) (number : ℕ) (at : At) (result : Option Bool) → IsSound g p → at.lane < length p.threads.items → was_set p.hub.global ≡ true → GateGives (stack_ghosts g) ghosts p.hub number at result u →
       (u ≡ p.hub) × AskedOf true (callsite_named (map plain_callsite p.callsites.items) number) (λ c b. WouldPass g (filter_at (stack_in p)) (made_with c) (view_in (registry_in (stack_in p)) at) b) (mask_by result)
   gate_tells p u number at result sound within set gives =
       let there = reached_at p.handle p.hub.global p.hub.entries sound.only set in
@@ -234,7 +234,7 @@ module _ {F : Type 0} (g : Ghosts F) where
   pub no_row : (p : TraceParts F) (number : ℕ) → IsSound g p → callsite_named (map plain_callsite p.callsites.items) number ≡ None → row_of number p.hub.rows ≡ None
   no_row p number sound none = by_row (row_of number p.hub.rows) (subst (λ o. RowFits g (stack_in p) o (row_of number p.hub.rows)) none (row_fits g p number sound))
     where
-      by_row : (o : Option (Row Site)) → RowFits g (stack_in p) None o → o ≡ None
+      by_row : (o : Option (RegisteredCallsite HubCallsite)) → RowFits g (stack_in p) None o → o ≡ None
       by_row None fits = refl
       by_row (Some row) fits = absurd fits
 

@@ -7,8 +7,8 @@ use Rattle.tracing_core.specs.Commands.{becomes}
 use Rattle.tracing_core.specs.Handles.{entry_of, changed}
 use Rattle.tracing_core.specs.Handing.{CallGives, CallGivesAt}
 use Rattle.tracing_core.specs.Lent.{living_of, living_changed}
-use Rattle.tracing_core.specs.Entry.{Entry}
-use Rattle.tracing_core.specs.Setting as hub
+use Rattle.tracing_core.specs.RegisteredSubscriber.{RegisteredSubscriber}
+use Rattle.tracing_core.specs.LaneDefault as hub
 use Rattle.span_registry_layers.specs.Filter.{Ghosts}
 use Rattle.span_tracing_stack.specs.Moves.{StackMoves}
 use Rattle.span_tracing_stack.specs.Stacks.{StackValue}
@@ -17,7 +17,7 @@ use Rattle.span_tracing.specs.Skeletons.{stack_of}
 use Rattle.span_tracing.specs.Sound.{HasOnly}
 
 -- the stack took the call, and is still the only one
-pub record OneCall {F : Type 0} (g : Ghosts F) (dispatch : Option ℕ) (global : hub.Setting) (es fs : List (Entry (StackValue F))) (c : Call) (reply : ReplyTo c) : Type 0 where
+pub record OneCall {F : Type 0} (g : Ghosts F) (dispatch : Option ℕ) (global : hub.Setting) (es fs : List (RegisteredSubscriber (StackValue F))) (c : Call) (reply : ReplyTo c) : Type 0 where
   pub before : StackValue F
   pub after : StackValue F
   pub stood : stack_of (Some dispatch) es ≡ Some before
@@ -28,13 +28,13 @@ pub record OneCall {F : Type 0} (g : Ghosts F) (dispatch : Option ℕ) (global :
 pub same_number : (n : ℕ) → (n == n) ≡ true
 same_number n = grind (arith, nat_tests)
 
-pub found : {F : Type 0} (e : Entry (StackValue F)) → entry_of e.serial (e ∷ []) ≡ Some e
+pub found : {F : Type 0} (e : RegisteredSubscriber (StackValue F)) → entry_of e.serial (e ∷ []) ≡ Some e
 found e = rw (same_number e.serial) refl
 
-changed_one : {F : Type 0} (e : Entry (StackValue F)) (f : Entry (StackValue F) → Entry (StackValue F)) → changed e.serial f (e ∷ []) ≡ f e ∷ []
+changed_one : {F : Type 0} (e : RegisteredSubscriber (StackValue F)) (f : RegisteredSubscriber (StackValue F) → RegisteredSubscriber (StackValue F)) → changed e.serial f (e ∷ []) ≡ f e ∷ []
 changed_one e f = rw (same_number e.serial) refl
 
-pub one_call : {F : Type 0} (g : Ghosts F) (c : Call) (dispatch : Option ℕ) (global : hub.Setting) (es fs : List (Entry (StackValue F))) (reply : ReplyTo c) → HasOnly (Some dispatch) global es → CallGives (stack_ghosts g) c dispatch es reply fs → OneCall g dispatch global es fs c reply
+pub one_call : {F : Type 0} (g : Ghosts F) (c : Call) (dispatch : Option ℕ) (global : hub.Setting) (es fs : List (RegisteredSubscriber (StackValue F))) (reply : ReplyTo c) → HasOnly (Some dispatch) global es → CallGives (stack_ghosts g) c dispatch es reply fs → OneCall g dispatch global es fs c reply
 one_call {F = F} g c dispatch global es fs reply has gives =
     let e = has.0 in
     let one = has.1 in
@@ -48,8 +48,8 @@ one_call {F = F} g c dispatch global es fs reply has gives =
     record {
       before = e.subscriber;
       after = given.0;
-      stood = ap (λ (o : Option (Entry (StackValue F))). option_map (λ (x : Entry (StackValue F)). x.subscriber) o) living;
-      stands = ap (λ (o : Option (Entry (StackValue F))). option_map (λ (x : Entry (StackValue F)). x.subscriber) o) lives;
+      stood = ap (λ (o : Option (RegisteredSubscriber (StackValue F))). option_map (λ (x : RegisteredSubscriber (StackValue F)). x.subscriber) o) living;
+      stands = ap (λ (o : Option (RegisteredSubscriber (StackValue F))). option_map (λ (x : RegisteredSubscriber (StackValue F)). x.subscriber) o) lives;
       moved = given.1;
       only = (later, left, is, has.3, has.4);
     }

@@ -8,7 +8,7 @@ use Rattle.tracing_appender_rolling.specs.Names.{FileNames}
 use Rattle.tracing_appender_rolling.specs.Builders.{builder_names}
 use Rattle.tracing_appender_rolling.specs.Contents.{Contents, bytes_at}
 use Rattle.tracing_appender_rolling.specs.Sinks.{Handed, PlainSink, period_in, period_name, file_text, period_text}
-use Rattle.tracing_appender_rolling.specs.Appenders.{KeepsKnown}
+use Rattle.tracing_appender_rolling.specs.Appenders.{MatchesKnownSink}
 use Rattle.tracing_appender_rolling.specs.declared.appender.RollingFileAppender.{RollingFileAppender}
 use Rattle.tracing_appender_rolling.specs.FileNumber.{FileNumber}
 use Rattle.tracing_appender_rolling.proofs.ByPeriod.{by_period}
@@ -25,9 +25,9 @@ all_both [] ys f g = g
 all_both (x ∷ xs) ys f g = (f.0, all_both xs ys f.1 g)
 
 -- known contents hold the texts of their sink
-known_holds : (contents : Option Contents) (c : Contents) (names : FileNames) (boundary : Option ℤ) (current : FileNumber) (s : PlainSink) → contents ≡ Some c → KeepsKnown contents names boundary current s → (name : List ℕ) → bytes_at c.files name ≡ file_text s name
+known_holds : (contents : Option Contents) (c : Contents) (names : FileNames) (boundary : Option ℤ) (current : FileNumber) (s : PlainSink) → contents ≡ Some c → MatchesKnownSink contents names boundary current s → (name : List ℕ) → bytes_at c.files name ≡ file_text s name
 known_holds contents c names boundary current s is keeps =
-    (subst (λ (x : Option Contents). KeepsKnown x names boundary current s) is keeps).files
+    (subst (λ (x : Option Contents). MatchesKnownSink x names boundary current s) is keeps).files
 
 sink_holds : {D : Type 0} (contents : D → Option Contents) (sink : Option (RollingFileAppender D)) (s : PlainSink) (c : Contents) → AgreesOption contents sink (Some s) → folder_of contents sink ≡ Some c → (name : List ℕ) → bytes_at c.files name ≡ file_text s name
 sink_holds contents None s c agrees is = absurd agrees

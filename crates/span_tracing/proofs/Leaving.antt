@@ -5,7 +5,7 @@ use Rattle.std.specs.Option.{option_map}
 use Rattle.std.proofs.lemmas.Bool.{eqb-true}
 use Rattle.std.proofs.lemmas.Option.{same_Some, slice_get-get_or}
 use Rattle.tracing_core.specs.At.{At}
-use Rattle.tracing_core.specs.Calls.{SpanMade, Recorded, FollowsRecorded, Told, Entered, Exited, Cloned, CloseTried, Call, ReplyTo}
+use Rattle.tracing_core.specs.Calls.{SpanMade, Recorded, FollowsRecorded, EventDispatched, Entered, Exited, Cloned, CloseTried, Call, ReplyTo}
 use Rattle.tracing_core.specs.Defaults.{was_set}
 use Rattle.tracing_core.specs.FieldValue.{FieldValue}
 use Rattle.tracing_core.specs.OwnedValues.{owned_entries}
@@ -42,7 +42,7 @@ use Rattle.span_tracing.proofs.Filters.{passes_by, stack_ghosts, tells_by}
 use Rattle.span_tracing.specs.declared.action.Request.{Request}
 use Rattle.span_tracing.specs.declared.callsite.Callsite.{Callsite}
 use Rattle.span_tracing.specs.declared.parts.TraceParts.{TraceParts}
-use Rattle.span_tracing.specs.declared.site.Site.{Site}
+use Rattle.span_tracing.specs.declared.hub_callsite.HubCallsite.{HubCallsite}
 use Rattle.span_tracing.proofs.Handed.{OneCall, one_call}
 use Rattle.span_tracing.proofs.Parting.{start_same, line_same, parent_known, event_decided, with_stack, has_only, stack_before, stack_after, value_before, value_after, sound_after}
 use Rattle.span_tracing.proofs.Values.{all_named, given_same, own_same, owned_list}
@@ -100,7 +100,7 @@ bytes_more (t ∷ ts) id more = by_test (t.id == id) refl (bytes_more ts id more
     by_test true e later = rw e refl
     by_test false e later = rw e (ap (λ xs. t ∷ xs) later)
 
-module _ {F : Type 0} (g : Ghosts F) (p : TraceParts F) (u : Table (StackValue F) Site) (dispatch : Option ℕ) (handle : p.handle ≡ Some dispatch) (sound : IsSound g p) where
+module _ {F : Type 0} (g : Ghosts F) (p : TraceParts F) (u : Table (StackValue F) HubCallsite) (dispatch : Option ℕ) (handle : p.handle ≡ Some dispatch) (sound : IsSound g p) where
   abbrev new : TraceParts F
   new = record p { hub = u }
 
@@ -167,11 +167,11 @@ module _ {F : Type 0} (g : Ghosts F) (p : TraceParts F) (u : Table (StackValue F
       let passed = subst (λ e. PassesEvent g x.filter e (view_in x.registry (place_at r.lane r.moment)) b) (sym (event_same c r) ∙ ap (λ s. event_at s (plain_request r)) (at_place c place site at is)) w in
       subst (λ (v : StateValue F). PassesEvent g v.filter (event_at site (plain_request r)) (view_in v.skeleton.registry (place_at r.lane r.moment)) b) (sym old) passed
 
-  pub tells : (c : Callsite) (r : Request) (place : ℕ) (reply : Result (Unit {0}) RequestError) → HubGives (stack_ghosts g) (Told (event_of c r) (place_at r.lane r.moment)) dispatch p.hub reply u → slice_get cs place ≡ Some (plain_callsite c) → parent_refusal (skeleton_of (value_in p)) r.parent ≡ None → TellsEvent g p new (plain_request r) place
+  pub tells : (c : Callsite) (r : Request) (place : ℕ) (reply : Result (Unit {0}) RequestError) → HubGives (stack_ghosts g) (EventDispatched (event_of c r) (place_at r.lane r.moment)) dispatch p.hub reply u → slice_get cs place ≡ Some (plain_callsite c) → parent_refusal (skeleton_of (value_in p)) r.parent ≡ None → TellsEvent g p new (plain_request r) place
   unfolding Gives
   tells c r place reply gives at parent =
       let rest = gives.1 in
-      let one = the_call (Told (event_of c r) (place_at r.lane r.moment)) reply gives in
+      let one = the_call (EventDispatched (event_of c r) (place_at r.lane r.moment)) reply gives in
       let x = one.before in
       let y = one.after in
       let old = before rest x one.stood in

@@ -3,10 +3,10 @@ use Rattle.std.proofs.Common.{◌≡◌, ℕ, Bool, true, false, List, map, Opti
 use Rattle.std.specs.Prelude.{slice_get}
 use Rattle.tracing_core.specs.Defaults.{was_set}
 use Rattle.tracing_core.specs.Table.{Table}
-use Rattle.tracing_core.specs.Row.{Row}
+use Rattle.tracing_core.specs.RegisteredCallsite.{RegisteredCallsite}
 use Rattle.tracing_core.specs.RequestError.{RequestError}
 use Rattle.tracing_core.specs.RequestError.TheVariants.{OutOfMemory, UnknownSpan, UnknownParent, IdsSpent, TooManyHandles}
-use Rattle.tracing_core.specs.Calls.{SpanMade, Told, Entered, Exited, CloseTried}
+use Rattle.tracing_core.specs.Calls.{SpanMade, EventDispatched, Entered, Exited, CloseTried}
 use Rattle.tracing_core.specs.Handing.{HubGives}
 use Rattle.span_tracing_machine.specs.declared.call.Parent.{Parent}
 use Rattle.span_tracing_machine.specs.declared.call.Parent.TheVariants.{Contextual, Root, Explicit}
@@ -20,15 +20,15 @@ use Rattle.span_registry_layers.specs.Registries.{under}
 use Rattle.span_registry_layers.specs.Filter.{Ghosts}
 use Rattle.span_tracing_stack.specs.Answers.{HonestBy, MayTellBy, SaysBy, StepsBy, hint_by, view_in}
 use Rattle.span_tracing_stack.specs.Moves.{EventGives, EventTold}
-use Rattle.span_tracing_stack.specs.Stacks.{PlainTold, StackValue, knows_parent, line_in, plain_time}
+use Rattle.span_tracing_stack.specs.Stacks.{PlainOutcome, StackValue, knows_parent, line_in, plain_time}
 use Rattle.span_tracing.specs.Actions.{plain_request}
 use Rattle.span_tracing.specs.Skeletons.{plain_callsite, plain_thread, stack_of, stack_in, skeleton_with, value_with, value_in, told_in}
-use Rattle.span_tracing.specs.Sound.{IsHonest, IsSound, HasOnly, KeepsCallsites, StackSays, greatest_of}
+use Rattle.span_tracing.specs.Sound.{IsHonest, IsSound, HasOnly, HubHasCallsites, StackSays, greatest_of}
 use Rattle.span_tracing.specs.Telling.{own_metadata, values_of, event_of}
 use Rattle.span_tracing.specs.declared.action.Request.{Request}
 use Rattle.span_tracing.specs.declared.callsite.Callsite.{Callsite}
 use Rattle.span_tracing.specs.declared.parts.TraceParts.{TraceParts}
-use Rattle.span_tracing.specs.declared.site.Site.{Site}
+use Rattle.span_tracing.specs.declared.hub_callsite.HubCallsite.{HubCallsite}
 use Rattle.tracing_core.specs.Asking.{level_of}
 use Rattle.tracing_core.specs.At.{At}
 use Rattle.tracing_core.specs.Interests.{PlainInterest}
@@ -91,7 +91,7 @@ hint_later g None (Some later) w h = absurd w
 hint_later g (Some f) None w h = absurd w
 hint_later g (Some f) (Some later) w h = (w h).1.same_hint
 
-module _ {F : Type 0} (g : Ghosts F) (p : TraceParts F) (u : Table (StackValue F) Site) (dispatch : Option ℕ) (handle : p.handle ≡ Some dispatch) (sound : IsSound g p) (rest : u ≡ record (p.hub) { entries = u.entries }) where
+module _ {F : Type 0} (g : Ghosts F) (p : TraceParts F) (u : Table (StackValue F) HubCallsite) (dispatch : Option ℕ) (handle : p.handle ≡ Some dispatch) (sound : IsSound g p) (rest : u ≡ record (p.hub) { entries = u.entries }) where
   abbrev pub later : TraceParts F
   later = record p { hub = u }
 
@@ -113,7 +113,7 @@ module _ {F : Type 0} (g : Ghosts F) (p : TraceParts F) (u : Table (StackValue F
   pub value_after : (y : StackValue F) → stack_of (Some dispatch) u.entries ≡ Some y → value_in later ≡ with_stack (Some y)
   value_after y stands =
       ap (λ o. value_with (map plain_callsite p.callsites.items) (map plain_thread p.threads.items) (was_set u.global) p.starved o) (stack_after y stands)
-      ∙ ap (λ (t : Table (StackValue F) Site). value_with (map plain_callsite p.callsites.items) (map plain_thread p.threads.items) (was_set t.global) p.starved (Some y)) rest
+      ∙ ap (λ (t : Table (StackValue F) HubCallsite). value_with (map plain_callsite p.callsites.items) (map plain_thread p.threads.items) (was_set t.global) p.starved (Some y)) rest
 
   -- the stack that took the call says what it said
   pub sound_after : (x y : StackValue F) → stack_of (Some dispatch) p.hub.entries ≡ Some x → stack_of (Some dispatch) u.entries ≡ Some y → StepsBy g x.filter y.filter → HasOnly (Some dispatch) p.hub.global u.entries → IsSound g later
@@ -122,12 +122,12 @@ module _ {F : Type 0} (g : Ghosts F) (p : TraceParts F) (u : Table (StackValue F
       let after = stack_after y stands in
       let honest : HonestBy g x.filter = subst (IsHonest g) before sound.honest in
       record {
-        only = subst (λ h. HasOnly h u.global u.entries) (sym handle) (subst (λ (t : Table (StackValue F) Site). HasOnly (Some dispatch) t.global u.entries) (sym rest) only);
-        lanes = ap (λ (t : Table (StackValue F) Site). t.lanes) rest ∙ sound.lanes;
+        only = subst (λ h. HasOnly h u.global u.entries) (sym handle) (subst (λ (t : Table (StackValue F) HubCallsite). HasOnly (Some dispatch) t.global u.entries) (sym rest) only);
+        lanes = ap (λ (t : Table (StackValue F) HubCallsite). t.lanes) rest ∙ sound.lanes;
         hub = hub_alike p.hub u rest (same_serials dispatch p.hub.global p.hub.global p.hub.entries u.entries has_only only) sound.hub;
         kept =
-            subst (λ o. KeepsCallsites g o p.callsites.items u) (sym after)
-            (kept_alike g (Some x) (Some y) p.callsites.items p.hub u (ap (λ (t : Table (StackValue F) Site). t.rows) rest) (ap (λ (t : Table (StackValue F) Site). t.greatest) rest)
-            (λ m k. says_later g x.filter y.filter m k steps honest) (ap level_of (hint_later g x.filter y.filter steps honest)) (subst (λ o. KeepsCallsites g o p.callsites.items p.hub) before sound.kept));
+            subst (λ o. HubHasCallsites g o p.callsites.items u) (sym after)
+            (kept_alike g (Some x) (Some y) p.callsites.items p.hub u (ap (λ (t : Table (StackValue F) HubCallsite). t.rows) rest) (ap (λ (t : Table (StackValue F) HubCallsite). t.greatest) rest)
+            (λ m k. says_later g x.filter y.filter m k steps honest) (ap level_of (hint_later g x.filter y.filter steps honest)) (subst (λ o. HubHasCallsites g o p.callsites.items p.hub) before sound.kept));
         honest = subst (IsHonest g) (sym after) (honest_later g x.filter y.filter steps honest);
       }

@@ -19,7 +19,7 @@ use Rattle.span_tracing_machine.specs.declared.call.EnabledCall.{EnabledCall}
 use Rattle.span_tracing_machine.specs.Skeleton.{Mask, PlainCallsite, Skeleton}
 use Rattle.span_tracing_machine.specs.State.{callsite_named, event_line, handed_at, list_at, offer_of}
 use Rattle.span_tracing_stack.specs.Answers.{view_in}
-use Rattle.span_tracing_stack.specs.Stacks.{PlainTold, Quiet, line_told, text_told}
+use Rattle.span_tracing_stack.specs.Stacks.{PlainOutcome, Quiet, line_told, text_told}
 use Rattle.span_tracing.specs.declared.requests.SpanError.{SpanError}
 use Rattle.span_tracing.specs.declared.requests.SpanError.TheVariants.{IdsSpent, OutOfMemory}
 use Rattle.span_tracing.specs.declared.steps.EventDone.{EventDone}
@@ -89,7 +89,7 @@ pub takes_none : {D : Type 0} (contents : D → Option Contents) (sink : Option 
 takes_none contents sink = λ s agrees. subst (AgreesOption contents sink) (sym (sink_still s)) agrees
 
 -- a text's fate by what the stack told
-fate_given : {A : Type 0} (told : PlainTold) (fate : Fate) (list : A) → told ≡ text_told fate → given_by (fate_of told) list ≡ given_by fate list
+fate_given : {A : Type 0} (told : PlainOutcome) (fate : Fate) (list : A) → told ≡ text_told fate → given_by (fate_of told) list ≡ given_by fate list
 fate_given told Whole list e = rw e refl
 fate_given told Missed list e = rw e refl
 fate_given told Unwritten list e = rw e refl
@@ -150,7 +150,7 @@ module _ {F : Type 0} (g : Ghosts F) where
     starved = rw (made_some v.skeleton e.callsite false place known) refl;
   }
 
-  pub event_went : {D : Type 0} (contents : D → Option Contents) (v : StateValue F) (e : Request) (place : ℕ) (b : Bool) (told : PlainTold) (done : EventDone) (old new : Option (RollingFileAppender D)) → known_place v.skeleton.callsites e.callsite false ≡ Some place →
+  pub event_went : {D : Type 0} (contents : D → Option Contents) (v : StateValue F) (e : Request) (place : ℕ) (b : Bool) (told : PlainOutcome) (done : EventDone) (old new : Option (RollingFileAppender D)) → known_place v.skeleton.callsites e.callsite false ≡ Some place →
       AskedOf v.skeleton.is_global (callsite_named v.skeleton.callsites e.callsite) (λ c b. WouldPass g v.filter (made_with c) (view_in v.skeleton.registry (place_at e.lane e.moment)) b) (mask_by (Some true)) →
       ((c : PlainCallsite) → slice_get v.skeleton.callsites place ≡ Some c → PassesEvent g v.filter (event_at c e) (view_in v.skeleton.registry (place_at e.lane e.moment)) b) →
       EventLeft b (event_line v.skeleton v.texts (time_in v.output) e place) told →
@@ -236,7 +236,7 @@ module _ {F : Type 0} (g : Ghosts F) where
   unfolding refusal_of
   ids_there s n place known h = rw (sym (span_unasked s n) ∙ h, made_some s n.callsite true place known) refl
 
-  pub span_made : (v later : StateValue F) (n : Request) (place id : ℕ) (told : PlainTold) (fate : Fate) → known_place v.skeleton.callsites n.callsite true ≡ Some place → refusal_of v.skeleton (SpanStep n) [] ≡ None →
+  pub span_made : (v later : StateValue F) (n : Request) (place id : ℕ) (told : PlainOutcome) (fate : Fate) → known_place v.skeleton.callsites n.callsite true ≡ Some place → refusal_of v.skeleton (SpanStep n) [] ≡ None →
       AskedOf v.skeleton.is_global (callsite_named v.skeleton.callsites n.callsite) (λ c b. WouldPass g v.filter (made_with c) (view_in v.skeleton.registry (place_at n.lane n.moment)) b) (mask_by (Some true)) → PassesSpan g v n place true →
       v.skeleton.registry.next_id ≤ 18446744073709551615 → id ≡ v.skeleton.registry.next_id → told ≡ text_told fate → Heard g v (with_made v n place fate) later →
       SpanDone g v (record later { starved = count_by later.starved (fate_of told) }) n (record { name = named_as (Some id); fate = fate_of told; answer = Some true })

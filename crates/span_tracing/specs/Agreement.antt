@@ -23,8 +23,8 @@ use Rattle.span_tracing.specs.Skeletons.{StateValue, skeleton_of, threads_of, te
 use Rattle.span_tracing.specs.Stored.{WantsRoom}
 
 -- the lanes' threads and the output's setting stay
-abbrev pub KeepsSetup : {F : Type 0} → StateValue F → StateValue F → Type 0
-KeepsSetup old new = (threads_of new ≡ threads_of old) × (new.output ≡ old.output)
+abbrev pub PreservesSetup : {F : Type 0} → StateValue F → StateValue F → Type 0
+PreservesSetup old new = (threads_of new ≡ threads_of old) × (new.output ≡ old.output)
 
 abbrev pub turn_of : PlainStep → Mask → List Fate → Turn
 turn_of step mask fates = record { step = step; mask = mask; fates = fates }
@@ -38,7 +38,7 @@ pub record FollowsStep {D F : Type 0} (g : Ghosts F) (contents : D → Option Co
   pub filter : FilterAfter g (tells_filter old.state.skeleton step mask) old.state.filter new.state.filter
   pub skeleton : new.state.skeleton ≡ after old.state.skeleton step mask
   pub fates : List Fate
-  pub kept : KeepsSetup old.state new.state
+  pub kept : PreservesSetup old.state new.state
   pub agreed : (p : Plain) → Agrees old.state p →
       (reply ≡ plain_reply p (turn_of step mask fates))
       × Agrees new.state (plain_after p (turn_of step mask fates))
@@ -78,7 +78,7 @@ skeleton_run s (reply ∷ replies) (turn ∷ turns) = skeleton_run (skeleton_lef
 abbrev pub tells_by : Reply → Skeleton → Turn → Bool
 tells_by reply s turn = if is_memory reply then false else tells_filter s turn.step turn.mask
 
--- at each step the filter is asked afresh, and is as it was, or with the same word where it was told of a span; want of memory is answered
+-- at each step the filter is asked again, and is as it was, or with the same word where it was told of a span; want of memory is answered
 -- where nothing else stands in the way, for a span that the filter passed or an entry
 abbrev pub GoesInTurn : {F : Type 0} → Ghosts F → Option F → Skeleton → List Reply → List Turn → Option F → Type 0
 GoesInTurn g filter s [] [] later = later ≡ filter
@@ -91,7 +91,7 @@ GoesInTurn {F = F} g filter s (reply ∷ replies) (turn ∷ turns) later =
 
 -- steps in order, as they went
 pub record FollowsRun {D F : Type 0} (contents : D → Option Contents) (old new : Trace D F) (replies : List Reply) (turns : List Turn) : Type 0 where
-  pub kept : KeepsSetup old.state new.state
+  pub kept : PreservesSetup old.state new.state
   pub agreed : (p : Plain) → Agrees old.state p →
       (replies ≡ replies_of p turns)
       × Agrees new.state (plain_run p turns)

@@ -12,7 +12,7 @@ use Rattle.span_tracing_machine.specs.Skeleton.{PlainCallsite}
 use Rattle.span_tracing_machine.specs.State.{event_line}
 use Rattle.span_registry_layers.specs.Filter.{Ghosts}
 use Rattle.span_tracing_stack.specs.Answers.{StepsBy, view_in}
-use Rattle.span_tracing_stack.specs.Stacks.{PlainTold, Quiet, is_starved, line_told, text_told}
+use Rattle.span_tracing_stack.specs.Stacks.{PlainOutcome, Quiet, is_starved, line_told, text_told}
 use Rattle.span_tracing.specs.declared.parts.TraceParts.{TraceParts}
 use Rattle.span_tracing.specs.Masks.{Passes, PassesEvent, event_at, place_at}
 use Rattle.span_tracing.specs.Skeletons.{StateValue, value_in, stack_in, told_in, time_in}
@@ -64,7 +64,7 @@ abbrev pub with_recorded : {F : Type 0} → StateValue F → ℕ → List FieldL
 with_recorded v id more = record v { texts = with_more_text v.texts id more }
 
 -- what became of a text, by what the stack last told
-abbrev pub fate_of : PlainTold → Fate
+abbrev pub fate_of : PlainOutcome → Fate
 fate_of told = if is_starved told then Missed else Whole
 
 -- how the refusals of a stack are told
@@ -81,7 +81,7 @@ IdsFit IdsSpent next = 18446744073709551615 < next
 IdsFit OutOfMemory next = next ≤ 18446744073709551615
 
 -- what an event that was told or not left of the stack's last line
-abbrev pub EventLeft : Bool → List ℕ → PlainTold → Type 0
+abbrev pub EventLeft : Bool → List ℕ → PlainOutcome → Type 0
 EventLeft false line told = told ≡ Quiet
 EventLeft true line told = (fate : Fate) × (told ≡ line_told fate line)
 

@@ -2,12 +2,12 @@
 use Rattle.std.specs.Prelude.{ℕ, List, [], length, map, Bool, false, Option, Some, None, is_some, string_bytes}
 use Rattle.std.specs.Option.{option_map}
 use Rattle.tracing_core.specs.Defaults.{was_set}
-use Rattle.tracing_core.specs.Entry.{Entry}
+use Rattle.tracing_core.specs.RegisteredSubscriber.{RegisteredSubscriber}
 use Rattle.tracing_core.specs.Lent.{living_of}
 use Rattle.span_tracing_machine.specs.Skeleton.{Skeleton, PlainCallsite}
 use Rattle.span_tracing_machine.specs.State.{PlainText}
 use Rattle.span_registry_layers.specs.Registries.{RegistryValue, new_registry}
-use Rattle.span_tracing_stack.specs.Stacks.{PlainTold, Quiet, StackValue, plain_time}
+use Rattle.span_tracing_stack.specs.Stacks.{PlainOutcome, Quiet, StackValue, plain_time}
 use Rattle.span_tracing_stack.specs.declared.setting.Setting.{Setting}
 use Rattle.span_tracing.specs.declared.callsite.Callsite.{Callsite}
 use Rattle.span_tracing.specs.declared.parts.Thread.{Thread}
@@ -61,9 +61,9 @@ time_in None = None
 time_in (Some s) = plain_time s.format.timer
 
 -- the stack that a handle leads to
-abbrev pub stack_of : {F : Type 0} → Option (Option ℕ) → List (Entry (StackValue F)) → Option (StackValue F)
+abbrev pub stack_of : {F : Type 0} → Option (Option ℕ) → List (RegisteredSubscriber (StackValue F)) → Option (StackValue F)
 stack_of None entries = None
-stack_of {F = F} (Some dispatch) entries = option_map (λ (e : Entry (StackValue F)). e.subscriber) (living_of dispatch entries)
+stack_of {F = F} (Some dispatch) entries = option_map (λ (e : RegisteredSubscriber (StackValue F)). e.subscriber) (living_of dispatch entries)
 
 abbrev pub stack_in : {F : Type 0} → TraceParts F → Option (StackValue F)
 stack_in p = stack_of p.handle p.hub.entries
@@ -85,7 +85,7 @@ abbrev pub texts_in : {F : Type 0} → Option (StackValue F) → List PlainText
 texts_in None = []
 texts_in (Some x) = x.texts
 
-abbrev pub told_in : {F : Type 0} → Option (StackValue F) → PlainTold
+abbrev pub told_in : {F : Type 0} → Option (StackValue F) → PlainOutcome
 told_in None = Quiet
 told_in (Some x) = x.told
 

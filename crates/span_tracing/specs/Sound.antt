@@ -5,11 +5,11 @@ use Rattle.tracing_core.specs.Interests.{PlainInterest}
 use Rattle.tracing_core.specs.InterestInner.TheVariants.{Never}
 use Rattle.tracing_core.specs.Lists.{Every}
 use Rattle.tracing_core.specs.PlainMetadata.{PlainMetadata}
-use Rattle.tracing_core.specs.Entry.{Entry}
+use Rattle.tracing_core.specs.RegisteredSubscriber.{RegisteredSubscriber}
 use Rattle.tracing_core.specs.Lane.TheVariants.{Running}
-use Rattle.tracing_core.specs.Row.{Row}
-use Rattle.tracing_core.specs.Setting.{Setting}
-use Rattle.tracing_core.specs.Setting.TheVariants.{Unset, Nothing, To}
+use Rattle.tracing_core.specs.RegisteredCallsite.{RegisteredCallsite}
+use Rattle.tracing_core.specs.LaneDefault.{LaneDefault}
+use Rattle.tracing_core.specs.LaneDefault.TheVariants.{Unset, Nothing, To}
 use Rattle.tracing_core.specs.Sound.{IsSound as IsSoundHub, identifiers}
 use Rattle.tracing_core.specs.Table.{Table}
 use Rattle.span_registry_layers.specs.Filter.{Ghosts}
@@ -17,27 +17,27 @@ use Rattle.span_tracing_stack.specs.Answers.{HonestBy, SaysBy, hint_by}
 use Rattle.span_tracing_stack.specs.Stacks.{StackValue}
 use Rattle.span_tracing.specs.declared.callsite.Callsite.{Callsite}
 use Rattle.span_tracing.specs.declared.parts.TraceParts.{TraceParts}
-use Rattle.span_tracing.specs.declared.site.Site.{Site}
-use Rattle.span_tracing.specs.contracts.site.SiteCallsite.TheImpl.{ghosts}
+use Rattle.span_tracing.specs.declared.hub_callsite.HubCallsite.{HubCallsite}
+use Rattle.span_tracing.specs.contracts.hub_callsite.SiteCallsite.TheImpl.{ghosts}
 use Rattle.span_tracing.specs.Skeletons.{stack_in}
 use Rattle.span_tracing.specs.Telling.{own_metadata}
 
 -- where a default was set, it is the subscriber of the number
-abbrev pub LeadsTo : Setting → ℕ → Type 0
+abbrev pub LeadsTo : LaneDefault → ℕ → Type 0
 LeadsTo Unset serial = Unit {0}
 LeadsTo Nothing serial = ⊥
 LeadsTo (To number) serial = number ≡ serial
 
 -- the hub has the stack alone, which one handle leads to until a global default is set, and then this default too
-abbrev pub HasOnly : {F : Type 0} → Option (Option ℕ) → Setting → List (Entry (StackValue F)) → Type 0
+abbrev pub HasOnly : {F : Type 0} → Option (Option ℕ) → LaneDefault → List (RegisteredSubscriber (StackValue F)) → Type 0
 HasOnly None global entries = (entries ≡ []) × (global ≡ Unset)
 HasOnly {F = F} (Some dispatch) global entries =
-    (e : Entry (StackValue F)) × (entries ≡ e ∷ []) × (dispatch ≡ Some e.serial) × (global ≡ Unset → e.handles ≡ 1) × LeadsTo global e.serial
+    (e : RegisteredSubscriber (StackValue F)) × (entries ≡ e ∷ []) × (dispatch ≡ Some e.serial) × (global ≡ Unset → e.handles ≡ 1) × LeadsTo global e.serial
 
 -- one handle leads to the one stack
-abbrev pub OwnsOne : {F : Type 0} → Option (Option ℕ) → List (Entry (StackValue F)) → Type 0
+abbrev pub OwnsOne : {F : Type 0} → Option (Option ℕ) → List (RegisteredSubscriber (StackValue F)) → Type 0
 OwnsOne None entries = ⊥
-OwnsOne {F = F} (Some dispatch) entries = (e : Entry (StackValue F)) × (entries ≡ e ∷ []) × (dispatch ≡ Some e.serial) × (e.handles ≡ 1)
+OwnsOne {F = F} (Some dispatch) entries = (e : RegisteredSubscriber (StackValue F)) × (entries ≡ e ∷ []) × (dispatch ≡ Some e.serial) × (e.handles ≡ 1)
 
 module _ {F : Type 0} (g : Ghosts F) where
   -- what the stack says of a callsite; where there is none nobody is interested
@@ -55,10 +55,10 @@ module _ {F : Type 0} (g : Ghosts F) where
   IsHonest (Some x) = HonestBy g x.filter
 
   -- the hub has these callsites, in order, with an interest that the stack says of each, and its greatest level is the stack's
-  pub record KeepsCallsites (stack : Option (StackValue F)) (callsites : List Callsite) (hub : Table (StackValue F) Site) : Type 0 where
+  pub record HubHasCallsites (stack : Option (StackValue F)) (callsites : List Callsite) (hub : Table (StackValue F) HubCallsite) : Type 0 where
     pub numbers : identifiers hub.rows ≡ map (λ (c : Callsite). c.number) callsites
-    pub metadata : map (λ (row : Row Site). own_metadata row.callsite.callsite) hub.rows ≡ map own_metadata callsites
-    pub interests : Every (λ (row : Row Site). StackSays stack (own_metadata row.callsite.callsite) row.interest) hub.rows
+    pub metadata : map (λ (row : RegisteredCallsite HubCallsite). own_metadata row.callsite.callsite) hub.rows ≡ map own_metadata callsites
+    pub interests : Every (λ (row : RegisteredCallsite HubCallsite). StackSays stack (own_metadata row.callsite.callsite) row.interest) hub.rows
     pub greatest : hub.greatest ≡ greatest_of stack
 
   pub record IsSound (p : TraceParts F) : Type 0 where
@@ -66,7 +66,7 @@ module _ {F : Type 0} (g : Ghosts F) where
     -- no lane has a default of its own
     pub lanes : p.hub.lanes ≡ replicate (length p.threads.items) (Running Unset)
     pub hub : IsSoundHub ghosts p.hub
-    pub kept : KeepsCallsites (stack_in p) p.callsites.items p.hub
+    pub kept : HubHasCallsites (stack_in p) p.callsites.items p.hub
     pub honest : IsHonest (stack_in p)
 
   -- the hub took its first stack

@@ -11,8 +11,8 @@ ghost use Rattle.span_tracing.specs.Skeletons.{plain_callsite, skeleton_of, thre
 
 use crate::callsite::Callsite;
 use crate::checks::place_of;
+use crate::hub_callsite::HubCallsite;
 use crate::parts::{Thread, TraceParts};
-use crate::site::Site;
 use span_registry_layers::Filter;
 use std::alloc::AllocError;
 use tracing_core::{Identifier, Interest, Metadata, RegisterError};
@@ -53,7 +53,7 @@ impl<F: Filter> TraceParts<F> {
     {
         let callsite = Callsite::new(self.alloc, number, metadata)?;
         let copy = Callsite::new(self.alloc, number, metadata)?;
-        let site = Site {
+        let site = HubCallsite {
             callsite: copy,
             interest: Interest::never(),
         };

@@ -1,7 +1,7 @@
 //! Requests that the hub hands to the stack.
 
 ghost use Rattle.std.specs.Prelude.{◌≡◌};
-ghost use Rattle.tracing_core.specs.Calls.{Recorded, SpanMade, Told};
+ghost use Rattle.tracing_core.specs.Calls.{Recorded, SpanMade, EventDispatched};
 ghost use Rattle.tracing_core.specs.Handing.{HubGives};
 ghost use Rattle.tracing_core.specs.PlainRequests.{plain_attributes, plain_event};
 ghost use Rattle.span_tracing.specs.Masks.{place_at};
@@ -9,7 +9,7 @@ ghost use Rattle.span_tracing.specs.Telling.{attributes_of, event_of, values_wit
 
 use crate::action::{RecordRequest, Request};
 use crate::callsite::Callsite;
-use crate::site::Site;
+use crate::hub_callsite::HubCallsite;
 use span_registry_layers::Filter;
 use span_tracing_machine::Parent;
 use span_tracing_stack::Stack;
@@ -31,12 +31,12 @@ pub(crate) fn at_of(lane: usize, moment: Moment) -> At
 
 /// Hands an event at the callsite to the stack.
 pub(crate) fn hand_event<F: Filter>(
-    hub: &mut Hub<Stack<F>, Site>,
+    hub: &mut Hub<Stack<F>, HubCallsite>,
     handle: &Dispatch,
     callsite: &Callsite,
     event: &Request<'_>,
 ) -> Result<(), RequestError>
-    ensures { HubGives ⟦<Stack<F> as Subscriber>⟧ (Told (event_of callsite.now event.now) (place_at event.now.lane event.now.moment)) handle.now hub.old result hub.new }
+    ensures { HubGives ⟦<Stack<F> as Subscriber>⟧ (EventDispatched (event_of callsite.now event.now) (place_at event.now.lane event.now.moment)) handle.now hub.old result hub.new }
 {
     let metadata = callsite.metadata();
     let values = metadata.fields().value_set_indexed(event.values);
@@ -53,7 +53,7 @@ pub(crate) fn hand_event<F: Filter>(
 
 /// Hands a new span at the callsite to the stack.
 pub(crate) fn hand_span<F: Filter>(
-    hub: &mut Hub<Stack<F>, Site>,
+    hub: &mut Hub<Stack<F>, HubCallsite>,
     handle: &Dispatch,
     callsite: &Callsite,
     span: &Request<'_>,
@@ -75,7 +75,7 @@ pub(crate) fn hand_span<F: Filter>(
 
 /// Hands values for a span of the callsite to the stack.
 pub(crate) fn hand_record<F: Filter>(
-    hub: &mut Hub<Stack<F>, Site>,
+    hub: &mut Hub<Stack<F>, HubCallsite>,
     handle: &Dispatch,
     callsite: &Callsite,
     id: Id,

@@ -10,7 +10,7 @@ ghost use Rattle.span_tracing.specs.Skeletons.{plain_callsite, registry_in, told
 
 use crate::callsite::Callsite;
 use crate::checks::place_of;
-use crate::site::Site;
+use crate::hub_callsite::HubCallsite;
 use span_registry_layers::Filter;
 use span_tracing_stack::Stack;
 use std::alloc::Global;
@@ -29,7 +29,7 @@ pub(crate) struct TraceParts<F: Filter> {
     pub(crate) alloc: Global,
     pub(crate) callsites: Vec<Callsite>,
     pub(crate) threads: Vec<Thread>,
-    pub(crate) hub: Hub<Stack<F>, Site>,
+    pub(crate) hub: Hub<Stack<F>, HubCallsite>,
     /// The stack's handle, where there is a stack.
     pub(crate) handle: Option<Dispatch>,
     /// How many texts and lines found no memory; it stops at the greatest number.

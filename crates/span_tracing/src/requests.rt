@@ -68,7 +68,7 @@ impl<F: Filter> TraceParts<F> {
         moment: Moment,
     ) -> EventDone
         requires { is_moment moment ≡ true }
-        ensures told { (fate : Fate) (line : List ℕ) → told_in (stack_in self.now) ≡ line_told fate line →
+        ensures notified { (fate : Fate) (line : List ℕ) → told_in (stack_in self.now) ≡ line_told fate line →
             (result.answer ≡ Some true) × TakesLines D.contents sink.old sink.new (handed_by result.fate (handed_at moment line)) }
         ensures dropped { told_in (stack_in self.now) ≡ Quiet → (result ≡ record { fate = Fate.Whole; answer = Some false }) × (sink.new ≡ sink.old) }
     {
@@ -167,7 +167,7 @@ impl<F: Filter> TraceParts<F> {
         requires sound { IsSound ⟦<F as Filter>⟧ self.old }
         requires there { is_open kin_in (registry_in (stack_in self.old)).spans id ≡ true }
         ensures sound { IsSound ⟦<F as Filter>⟧ self.new }
-        ensures left { Heard ⟦<F as Filter>⟧ (value_in self.old) (without_entry (value_in self.old) lane id) (value_in self.new) }
+        ensures state { Heard ⟦<F as Filter>⟧ (value_in self.old) (without_entry (value_in self.old) lane id) (value_in self.new) }
     {
         let Some(handle) = &self.handle else {
             return;
@@ -181,7 +181,7 @@ impl<F: Filter> TraceParts<F> {
         requires there { is_open kin_in (registry_in (stack_in self.old)).spans id ≡ true }
         requires fewer { ¬ (handles_of kin_in (registry_in (stack_in self.old)).spans id ≡ 18446744073709551615) }
         ensures sound { IsSound ⟦<F as Filter>⟧ self.new }
-        ensures left { value_in self.new ≡ with_one (value_in self.old) id }
+        ensures state { value_in self.new ≡ with_one (value_in self.old) id }
     {
         let Some(handle) = &self.handle else {
             return;
@@ -194,7 +194,7 @@ impl<F: Filter> TraceParts<F> {
     pub(crate) fn tell_follows(&mut self, id: Id, follows: Id, lane: usize, moment: Moment)
         requires { IsSound ⟦<F as Filter>⟧ self.old }
         ensures sound { IsSound ⟦<F as Filter>⟧ self.new }
-        ensures left { value_in self.new ≡ value_in self.old }
+        ensures state { value_in self.new ≡ value_in self.old }
     {
         let Some(handle) = &self.handle else {
             return;
@@ -209,7 +209,7 @@ impl<F: Filter> TraceParts<F> {
         requires sound { IsSound ⟦<F as Filter>⟧ self.old }
         requires some { ¬ (handles_of kin_in (registry_in (stack_in self.old)).spans id ≡ 0) }
         ensures sound { IsSound ⟦<F as Filter>⟧ self.new }
-        ensures left { Heard ⟦<F as Filter>⟧ (value_in self.old) (without_one (value_in self.old) id) (value_in self.new) }
+        ensures state { Heard ⟦<F as Filter>⟧ (value_in self.old) (without_one (value_in self.old) id) (value_in self.new) }
         ensures closed { result ≡ not (is_open kin_in (skeleton_of (without_one (value_in self.old) id)).registry.spans id) }
     {
         let Some(handle) = &self.handle else {
@@ -224,7 +224,7 @@ impl<F: Filter> TraceParts<F> {
         requires there { (skeleton_of (value_in self.old)).has_stack ≡ true }
         requires first { (skeleton_of (value_in self.old)).is_global ≡ false }
         ensures sound { IsSound ⟦<F as Filter>⟧ self.new }
-        ensures left { value_in self.new ≡ globally (value_in self.old) }
+        ensures state { value_in self.new ≡ globally (value_in self.old) }
     {
         let Some(handle) = &self.handle else {
             return;

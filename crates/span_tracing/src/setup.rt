@@ -94,7 +94,7 @@ impl<D: Folder, F: Filter> Trace<D, F> {
             IfOk result (λ interest. Says ⟦<F as Filter>⟧ self.old.state.filter (made_with (record { number = identifier.0; metadata = plain_metadata metadata.now })) interest) }
         ensures again { IfOk result (λ interest. (c : PlainCallsite) → callsite_named (skeleton_of self.old.state).callsites identifier.0 ≡ Some c →
             Says ⟦<F as Filter>⟧ self.old.state.filter (made_with c) interest) }
-        ensures left { OnOk result (self.new.state ≡ with_callsite self.old.state (record { number = identifier.0; metadata = plain_metadata metadata.now })) }
+        ensures state { OnOk result (self.new.state ≡ with_callsite self.old.state (record { number = identifier.0; metadata = plain_metadata metadata.now })) }
         ensures files { self.new.sink ≡ self.old.sink }
         ensures starved { self.new.state.starved ≡ self.old.state.starved }
         ensures err { OnErr result (value_of self.new ≡ value_of self.old) }
@@ -126,7 +126,7 @@ impl<D: Folder, F: Filter> Trace<D, F> {
         ensures number { IfOk result (λ lane. lane ≡ (skeleton_of self.old.state).lanes) }
         ensures ok { OnOk result ((p : Plain) → Agrees self.old.state p → Agrees self.new.state (with_lane p)) }
         ensures thread { OnOk result (threads_of self.new.state ≡ threads_of self.old.state ++ (record { name = option_copied name.entry; number = thread_id }) ∷ []) }
-        ensures left { OnOk result (self.new.state ≡ with_thread self.old.state (record { name = option_copied name.entry; number = thread_id })) }
+        ensures state { OnOk result (self.new.state ≡ with_thread self.old.state (record { name = option_copied name.entry; number = thread_id })) }
         ensures sink { self.new.sink ≡ self.old.sink }
         ensures starved { self.new.state.starved ≡ self.old.state.starved }
         ensures err { OnErr result (value_of self.new ≡ value_of self.old) }
@@ -158,7 +158,7 @@ impl<D: Folder, F: Filter> Trace<D, F> {
         ensures moment { OnOk result (is_moment moment ≡ true) }
         ensures starved { self.new.state.starved ≡ self.old.state.starved }
         ensures kept { OnOk result ((output : Output D F) → outputs.items ≡ output ∷ [] → (self.new.state.output ≡ Some (setting_of output)) × (self.new.state.filter ≡ Some output.filter)) }
-        ensures left { OnOk result ((output : Output D F) → outputs.items ≡ output ∷ [] → self.new.state ≡ with_output self.old.state (setting_of output) output.filter) }
+        ensures state { OnOk result ((output : Output D F) → outputs.items ≡ output ∷ [] → self.new.state ≡ with_output self.old.state (setting_of output) output.filter) }
         ensures ok { OnOk result ((output : Output D F) → outputs.items ≡ output ∷ [] → (p : Plain) → Agrees self.old.state p →
             Agrees self.new.state (with_stack p (plain_output D.contents output moment))) }
         ensures files { OnOk result ((output : Output D F) → outputs.items ≡ output ∷ [] → MayOpen (D.contents output.folder) (output_names output) → (p : Plain) →

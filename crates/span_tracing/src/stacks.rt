@@ -5,7 +5,7 @@ ghost use Rattle.tracing_appender_rolling.specs.Appenders.{AgreesSink, HandsBack
 ghost use Rattle.tracing_appender_rolling.specs.Builders.{builder_names};
 ghost use Rattle.tracing_appender_rolling.specs.Contents.{Contents};
 ghost use Rattle.tracing_appender_rolling.specs.Moments.{is_moment};
-ghost use Rattle.tracing_core.specs.Setting.TheVariants.{Unset};
+ghost use Rattle.tracing_core.specs.LaneDefault.TheVariants.{Unset};
 ghost use Rattle.span_tracing_stack.specs.New.{new_stack};
 ghost use Rattle.span_tracing.specs.Skeletons.{filter_at, output_at, stack_in, value_in};
 ghost use Rattle.span_tracing.specs.Sound.{IsHonest, OwnsOne};
@@ -115,7 +115,7 @@ impl<F: Filter> TraceParts<F> {
         requires unset { self.old.hub.global ≡ Unset }
         ensures stack { result ≡ stack_in self.old }
         ensures sound { IsSound ⟦<F as Filter>⟧ self.new }
-        ensures left { self.new ≡ record self.old { handle = None; hub = self.new.hub } }
+        ensures state { self.new ≡ record self.old { handle = None; hub = self.new.hub } }
     {
         let handle = std::mem::replace(&mut self.handle, None)?;
         let stack = self.hub.release(handle);
@@ -175,7 +175,7 @@ impl<F: Filter> TraceParts<F> {
         ensures err { OnErr result (self.new ≡ record self.old { handle = None; hub = self.new.hub }) }
         ensures setting { IfErr result (λ back. output_at (stack_in self.old) ≡ Some (setting_of back.output)) }
         ensures filter { IfErr result (λ back. filter_at (stack_in self.old) ≡ Some back.output.filter) }
-        ensures told { IfErr result (λ back. (error : FolderError) × (back.refusal ≡ refusal_by error)) }
+        ensures notified { IfErr result (λ back. (error : FolderError) × (back.refusal ≡ refusal_by error)) }
         ensures names { IfErr result (λ back. output_names back.output ≡ builder_names builder) }
         ensures known { (c : Contents) → D.contents folder ≡ Some c → MayOpen (Some c) (builder_names builder) →
             IfErr result (λ back. (back.refusal ≡ Refusal.OutOfMemory) × HandsBack c (builder_names builder) (D.contents back.output.folder)) }

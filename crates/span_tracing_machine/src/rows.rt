@@ -36,7 +36,7 @@ pub fn row_missed()
 /// A span that closes at its last exit leaves nothing.
 pub fn row_span_cycle()
     ensures replies { CycleReplies }
-    ensures left { CycleLeft }
+    ensures state { CycleLeft }
 {}
 
 /// A span with two handles closes at the second that is given up.
@@ -54,13 +54,13 @@ pub fn row_records()
 /// That a span follows from another one is refused by stacks, then by spans, and nothing of it is kept.
 pub fn row_follows()
     ensures replies { FollowsReplies }
-    ensures left { FollowsLeaves }
+    ensures state { FollowsLeaves }
 {}
 
 /// Asking whether a request would be made goes by the filter and the reached stack, and leaves no mark.
 pub fn row_enabled()
     ensures replies { EnabledReplies }
-    ensures left { EnabledLeaves }
+    ensures state { EnabledLeaves }
 {}
 
 /// A question is refused by its lane, then its moment, then its callsite.
@@ -76,7 +76,7 @@ pub fn row_hint()
 /// A span inside a span: both stand in an event's line from the root, and the outer one closes with the inner one.
 pub fn row_nested_spans()
     ensures file { NestedFile }
-    ensures left { NestedLeft }
+    ensures state { NestedLeft }
 {}
 
 /// An event stands under no span, or under the one that it names, whatever span its lane is in.
@@ -98,7 +98,7 @@ pub fn row_span_parents()
 pub fn row_refused_parents()
     ensures early { EarlyParents }
     ensures refused { RefusedParents }
-    ensures left { RefusedLeave }
+    ensures state { RefusedLeave }
     ensures closed { ClosedParent }
     ensures bare { NoStackParents }
 {}

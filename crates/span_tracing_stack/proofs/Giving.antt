@@ -2,7 +2,7 @@
 use Rattle.std.proofs.Common.{◌≡◌, ◌⊎◌, inl, inr, ◌<◌, ◌≤◌, ℕ, ◌+◌, max, nat_lt, ◌++◌, Bool, true, false, ◌||◌, not, List, [], ◌∷◌, map, slice_set, Option, Some, None, Result, Ok, Err, refl, sym, ap, ◌∙◌, subst, arith}
 use Rattle.std.proofs.lemmas.Bool.Decides.{nat_tests}
 use Rattle.tracing_core.specs.At.{At}
-use Rattle.tracing_core.specs.Calls.{Call, ReplyTo, DispatchRegistered, CallsiteRegistered, Asked, HintAsked, SpanMade, Recorded, FollowsRecorded, EventAsked, Told, Entered, Exited, Cloned, Dropped, CloseTried, CurrentAsked}
+use Rattle.tracing_core.specs.Calls.{Call, ReplyTo, DispatchRegistered, CallsiteRegistered, Asked, HintAsked, SpanMade, Recorded, FollowsRecorded, EventAsked, EventDispatched, Entered, Exited, Cloned, Dropped, CloseTried, CurrentAsked}
 use Rattle.tracing_core.specs.CurrentSpan.{CurrentSpan}
 use Rattle.tracing_core.specs.Refusals.{or_refused}
 use Rattle.tracing_core.specs.Interests.{PlainInterest, joined, settled}
@@ -33,7 +33,7 @@ use Rattle.span_registry_layers.specs.Stacks.{EventCached, PassesCached, PassesU
 use Rattle.span_registry_layers.specs.Steadiness.{refused_fits}
 use Rattle.span_registry_layers.specs.Steps.{Steps, clone_keeps, close_keeps, dispatch_keeps, each_put, enter_keeps, event_keeps, exit_keeps, follows_keeps, record_keeps, span_keeps}
 use Rattle.span_registry_layers.specs.Verdicts.{all_pass}
-use Rattle.span_registry_layers.specs.Words.{Word}
+use Rattle.span_registry_layers.specs.CacheValidity.{CacheIsValid}
 use Rattle.span_tracing_stack.specs.Answers.{May, MayBy, MayTellBy, RefusesAhead, SaysBy, StepsBy, hint_by, view_in}
 use Rattle.span_tracing_stack.specs.Stacks.{first_filter, is_told}
 
@@ -98,7 +98,7 @@ module _ {F : Type 0} (g : Ghosts F) where
     moves_steps s (Recorded id values at) r t m = (record_keeps g h id values at s t r m).steps
     moves_steps s (FollowsRecorded id follows at) r t m = (follows_keeps g h id follows at s t r m).steps
     moves_steps s (EventAsked e at) r t m = rows_steps s t (rows_in s t m.1)
-    moves_steps s (Told e at) r t m = (event_keeps g h e at s t r m).steps
+    moves_steps s (EventDispatched e at) r t m = (event_keeps g h e at s t r m).steps
     moves_steps s (Entered id at) r t m = (enter_keeps g h id at s t r m).steps
     moves_steps s (Exited id at) r t m = (exit_keeps g h id at s t m).steps
     moves_steps s (Cloned id at) r t m = (clone_keeps g h id s t r m).steps
@@ -111,7 +111,7 @@ module _ {F : Type 0} (g : Ghosts F) where
     filter_steps s c r t m = first_steps s.rows t.rows (moves_steps s c r t m)
 
   -- what is kept refuses a callsite that the filter passes nowhere
-  ahead : (s : OutputsValue (Filtered Identity F)) (m : PlainMetadata) (at : At) (row : Row (Filtered Identity F)) → s.rows ≡ row ∷ [] → Word g s → is_refused s m ≡ true → RefusesAhead g m row.output.filter
+  ahead : (s : OutputsValue (Filtered Identity F)) (m : PlainMetadata) (at : At) (row : Row (Filtered Identity F)) → s.rows ≡ row ∷ [] → CacheIsValid g s → is_refused s m ≡ true → RefusesAhead g m row.output.filter
   ahead s m at row one w e = (
     λ k says. refused_fits g s m at k w e (subst (λ rows. CommonInterest g m (filters_of rows) k) (sym one) (k, says, sym (settled_one k))),
     λ v b given. (subst (λ rows. Every (λ f. (v : View) (b : Bool) → g.answers f m v b → b ≡ false) (filters_of rows)) one (all_refuse g m s.hint (filters_of s.rows) s.sites w e)).0 v b given,
@@ -121,7 +121,7 @@ module _ {F : Type 0} (g : Ghosts F) where
   by_first true b P given e = subst P (sym e) given
   by_first false b P given e = subst P (sym e) given
 
-  may_where : (s : OutputsValue (Filtered Identity F)) (m : PlainMetadata) (at : At) (b : Bool) (row : Row (Filtered Identity F)) → s.rows ≡ row ∷ [] → Word g s → (c : Bool) → is_refused s m ≡ c → PassesUnless g c s m at b → May g row.output.filter m (view_of at s.registry row) b
+  may_where : (s : OutputsValue (Filtered Identity F)) (m : PlainMetadata) (at : At) (b : Bool) (row : Row (Filtered Identity F)) → s.rows ≡ row ∷ [] → CacheIsValid g s → (c : Bool) → is_refused s m ≡ c → PassesUnless g c s m at b → May g row.output.filter m (view_of at s.registry row) b
   may_where s m at b row one w true e given = inr (given, ahead s m at row one w e)
   may_where s m at b row one w false e given =
       let asked = subst (λ rows. SomePasses g m at s.registry rows b) one given in
@@ -132,7 +132,7 @@ module _ {F : Type 0} (g : Ghosts F) where
 
   module _ (h : LayerGhosts Identity) where
     -- whether the callsite passes, asked of the one filter
-    pub passes_may : (s : OutputsValue (Filtered Identity F)) (m : PlainMetadata) (at : At) (b : Bool) → Word g s → numbers_of h s.rows ≡ 0 ∷ [] → PassesCached g s m at b → MayBy g (first_filter s.rows) m (view_in s.registry at) b
+    pub passes_may : (s : OutputsValue (Filtered Identity F)) (m : PlainMetadata) (at : At) (b : Bool) → CacheIsValid g s → numbers_of h s.rows ≡ 0 ∷ [] → PassesCached g s m at b → MayBy g (first_filter s.rows) m (view_in s.registry at) b
     passes_may s m at b w numbers given =
         let one = one_row h s.rows numbers in
         subst (λ o. MayBy g o m (view_in s.registry at) b) (sym (first_of h s.rows one))
@@ -164,7 +164,7 @@ module _ {F : Type 0} (g : Ghosts F) where
           ap (λ (r : Row (Filtered Identity F)). Some r.output.filter) t.1.1 ∙ ap (λ (r : Row (Filtered Identity F)). Some r.output.filter) w.0.2,
         )
 
-    event_where : (e : PlainEvent) (at : At) (s t : OutputsValue (Filtered Identity F)) → Word g s → (one : IsOne h s.rows) → (c : Bool) → is_refused s e.metadata ≡ c → TellsUnless g h c e at s t →
+    event_where : (e : PlainEvent) (at : At) (s t : OutputsValue (Filtered Identity F)) → CacheIsValid g s → (one : IsOne h s.rows) → (c : Bool) → is_refused s e.metadata ≡ c → TellsUnless g h c e at s t →
         MayTellBy g (Some one.row.output.filter) e (view_in s.registry at) (is_told t.rows) × (first_filter t.rows ≡ Some one.row.output.filter)
     event_where e at s t w one true r given =
         let rows : t.rows ≡ marked false one.row ∷ [] = ap (λ (v : OutputsValue (Filtered Identity F)). v.rows) given ∙ ap (map (marked false)) one.one in (
@@ -175,7 +175,7 @@ module _ {F : Type 0} (g : Ghosts F) where
         told_first e at s.registry one.row asked.rows asked.registry t.registry t.rows one.first (subst (λ rows. EachBecomes (AsksEventBy g g.answers e at s.registry) rows asked.rows) one.one marks.0) told.0
 
     -- whether the event passes, asked of the one filter, and that it stays
-    pub event_may : (e : PlainEvent) (at : At) (s t : OutputsValue (Filtered Identity F)) (done : Unit {0}) → Word g s → numbers_of h s.rows ≡ 0 ∷ [] → EventCached g h e at s (Ok done) t →
+    pub event_may : (e : PlainEvent) (at : At) (s t : OutputsValue (Filtered Identity F)) (done : Unit {0}) → CacheIsValid g s → numbers_of h s.rows ≡ 0 ∷ [] → EventCached g h e at s (Ok done) t →
         (knows s.registry (explicit_parent e.parent) ≡ true) × MayTellBy g (first_filter s.rows) e (view_in s.registry at) (is_told t.rows) × (first_filter t.rows ≡ first_filter s.rows)
     event_may e at s t done w numbers given = known (knows s.registry (explicit_parent e.parent)) refl given
       where
@@ -218,12 +218,12 @@ module _ {F : Type 0} (g : Ghosts F) where
         let asked = asked_one g h a.metadata at s.registry one.row verdicts one.first one.none (subst (λ rows. AsksFrom g h a.metadata at s.registry all_pass false rows verdicts true) one.one asks) in
         inr (subst (λ o. MayBy g o a.metadata (view_in s.registry at) true) (sym (first_of h s.rows one)) (may_there one.row.output.filter a.metadata at s.registry true one.row.id.index one.first (inl asked.0)), subst (λ v. MakesSpan g h a at v s r t) asked.1 made)
 
-    span_where : (a : PlainAttributes) (at : At) (s : OutputsValue (Filtered Identity F)) (r : Result (Option ℕ) RequestError) (t : OutputsValue (Filtered Identity F)) → Word g s → (one : IsOne h s.rows) → (c : Bool) → is_refused s a.metadata ≡ c → SpanUnless g h c a at s r t → Decides a at s r t
+    span_where : (a : PlainAttributes) (at : At) (s : OutputsValue (Filtered Identity F)) (r : Result (Option ℕ) RequestError) (t : OutputsValue (Filtered Identity F)) → CacheIsValid g s → (one : IsOne h s.rows) → (c : Bool) → is_refused s a.metadata ≡ c → SpanUnless g h c a at s r t → Decides a at s r t
     span_where a at s r t w one true e given =
         inl (subst (λ o. MayBy g o a.metadata (view_in s.registry at) false) (sym (first_of h s.rows one)) (inr (refl, ahead s a.metadata at one.row one.one w e)), given.0, given.1)
     span_where a at s r t w one false e given = span_by a at s r t one given.0 given.1 given.2 given.3
 
-    pub span_decides : (a : PlainAttributes) (at : At) (s : OutputsValue (Filtered Identity F)) (r : Result (Option ℕ) RequestError) (t : OutputsValue (Filtered Identity F)) → Word g s → numbers_of h s.rows ≡ 0 ∷ [] → SpanCached g h a at s r t → Comes a at s r t
+    pub span_decides : (a : PlainAttributes) (at : At) (s : OutputsValue (Filtered Identity F)) (r : Result (Option ℕ) RequestError) (t : OutputsValue (Filtered Identity F)) → CacheIsValid g s → numbers_of h s.rows ≡ 0 ∷ [] → SpanCached g h a at s r t → Comes a at s r t
     span_decides a at s r t w numbers given = known (knows s.registry (explicit_parent a.parent)) refl given
       where
         known : (k : Bool) → knows s.registry (explicit_parent a.parent) ≡ k → SpanKnown g h k s (SpanUnless g h (is_refused s a.metadata) a at s) r t → Comes a at s r t

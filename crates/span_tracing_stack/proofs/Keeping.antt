@@ -1,7 +1,7 @@
 -- Why ids rise in the texts of a stack after each call, and what its one output comes to.
 use Rattle.std.proofs.Common.{◌≡◌, ℕ, ◌+◌, suc, Bool, ◌++◌, List, [], ◌∷◌, Option, Some, None, Result, Ok, Err, refl, sym, ap, ◌∙◌, subst}
 use Rattle.tracing_core.specs.At.{At}
-use Rattle.tracing_core.specs.Calls.{DispatchRegistered, CallsiteRegistered, HintAsked, SpanMade, Recorded, FollowsRecorded, Told, Entered, Exited, Cloned, CloseTried}
+use Rattle.tracing_core.specs.Calls.{DispatchRegistered, CallsiteRegistered, HintAsked, SpanMade, Recorded, FollowsRecorded, EventDispatched, Entered, Exited, Cloned, CloseTried}
 use Rattle.tracing_core.specs.Interests.{PlainInterest}
 use Rattle.tracing_core.specs.PlainMetadata.{PlainMetadata}
 use Rattle.tracing_core.specs.Lists.{Every}
@@ -28,7 +28,7 @@ use Rattle.span_registry_layers.specs.Stacks.{EventCached, StackValue as Outputs
 use Rattle.span_registry_layers.specs.Steadiness.{word_hinted, word_registered}
 use Rattle.span_registry_layers.specs.Steps.{dispatch_keeps, keeps_word}
 use Rattle.span_registry_layers.specs.Taking.{PopsOutput}
-use Rattle.span_registry_layers.specs.Words.{Word}
+use Rattle.span_registry_layers.specs.CacheValidity.{CacheIsValid}
 use Rattle.span_tracing_machine.specs.State.{PlainText}
 use Rattle.span_tracing_machine.specs.declared.fate.Fate.{Fate}
 use Rattle.span_tracing_stack.specs.Outputs.{IsNewOutput}
@@ -63,43 +63,43 @@ module _ {F : Type 0} (g : Ghosts F) (h : LayerGhosts Identity) (idle : WritesNo
 
   pub hinted_right : (r : Option ℕ) → outputs.Moves g h s HintAsked r t → IsRight g h t texts
   hinted_right r w =
-      right_alike g h idle s t HintAsked r texts w right (λ word. subst (Word g) (sym (w.1 ∙ ap (λ hint. with_hint hint s) w.0)) (word_hinted g s word))
+      right_alike g h idle s t HintAsked r texts w right (λ word. subst (CacheIsValid g) (sym (w.1 ∙ ap (λ hint. with_hint hint s) w.0)) (word_hinted g s word))
       (next_in g h idle s t (registry_unwritten g h idle s HintAsked r t w))
 
-  pub followed_right : (id follows : ℕ) (at : At) (r : Result (Unit {0}) RequestError) → FollowsGives g h id follows at s r t → (Word g s → Word g t) → IsRight g h t texts
+  pub followed_right : (id follows : ℕ) (at : At) (r : Result (Unit {0}) RequestError) → FollowsGives g h id follows at s r t → (CacheIsValid g s → CacheIsValid g t) → IsRight g h t texts
   followed_right id follows at r w word = right_alike g h idle s t (FollowsRecorded id follows at) r texts w right word (next_in g h idle s t (registry_unwritten g h idle s (FollowsRecorded id follows at) r t w).1)
 
-  pub entered_right : (id : ℕ) (at : At) (r : Result (Unit {0}) RequestError) → EnterGives g h id at s r t → (Word g s → Word g t) → IsRight g h t texts
+  pub entered_right : (id : ℕ) (at : At) (r : Result (Unit {0}) RequestError) → EnterGives g h id at s r t → (CacheIsValid g s → CacheIsValid g t) → IsRight g h t texts
   entered_right id at r w word =
       right_alike g h idle s t (Entered id at) r texts w right word (entry_next (open_refusal s.registry id) s.registry (with_entry s.registry at.lane id) t.registry r refl (registry_unwritten g h idle s (Entered id at) r t w))
 
-  pub cloned_right : (id : ℕ) (at : At) (r : Result ℕ RequestError) → CloneGives id s r t → (Word g s → Word g t) → IsRight g h t texts
+  pub cloned_right : (id : ℕ) (at : At) (r : Result ℕ RequestError) → CloneGives id s r t → (CacheIsValid g s → CacheIsValid g t) → IsRight g h t texts
   cloned_right id at r w word =
       right_alike g h idle s t (Cloned id at) r texts w right word
       (ap (λ (p : Result ℕ RequestError × RegistryValue). p.1.next_id) w.0 ∙ next_same (clone_refusal s.registry id) s.registry (with_handle s.registry id) refl)
 
-  pub exited_right : (id : ℕ) (at : At) → ExitGives g h id at s t → (Word g s → Word g t) → IsRight g h t (open_texts t.registry.spans texts)
+  pub exited_right : (id : ℕ) (at : At) → ExitGives g h id at s t → (CacheIsValid g s → CacheIsValid g t) → IsRight g h t (open_texts t.registry.spans texts)
   exited_right id at w word =
       right_by g h idle s t (Exited id at) tt texts (open_texts t.registry.spans texts) w right word
       (subst (λ n. AreRising (open_texts t.registry.spans texts) n) (sym (ap (λ (x : RegistryValue). x.next_id) (registry_unwritten g h idle s (Exited id at) tt t w))) (open_rising t.registry.spans texts s.registry.next_id right.rising))
 
-  pub closed_right : (id : ℕ) (at : At) (r : Bool) → CloseGives g h id at s r t → (Word g s → Word g t) → IsRight g h t (open_texts t.registry.spans texts)
+  pub closed_right : (id : ℕ) (at : At) (r : Bool) → CloseGives g h id at s r t → (CacheIsValid g s → CacheIsValid g t) → IsRight g h t (open_texts t.registry.spans texts)
   closed_right id at r w word =
       right_by g h idle s t (CloseTried id at) r texts (open_texts t.registry.spans texts) w right word
       (subst (λ n. AreRising (open_texts t.registry.spans texts) n) (sym (ap (λ (x : RegistryValue). x.next_id) (registry_unwritten g h idle s (CloseTried id at) r t w).1 ∙ next_closed s.registry id)) (open_rising t.registry.spans texts s.registry.next_id right.rising))
 
-  pub recorded_right : (id : ℕ) (values : PlainValues) (at : At) (r : Result (Unit {0}) RequestError) (fate : Fate) (later : List PlainText) → RecordGives g h id values at s r t → (Word g s → Word g t) → AddsFields texts id values fate later → IsRight g h t later
+  pub recorded_right : (id : ℕ) (values : PlainValues) (at : At) (r : Result (Unit {0}) RequestError) (fate : Fate) (later : List PlainText) → RecordGives g h id values at s r t → (CacheIsValid g s → CacheIsValid g t) → AddsFields texts id values fate later → IsRight g h t later
   recorded_right id values at r fate later w word adds =
       right_by g h idle s t (Recorded id values at) r texts later w right word
       (rw (adds.2, ap (λ (x : RegistryValue). x.next_id) (registry_unwritten g h idle s (Recorded id values at) r t w).1) (bytes_rising texts s.registry.next_id id adds.0 right.rising))
 
-  pub unrecorded_right : (id : ℕ) (values : PlainValues) (at : At) (r : Result (Unit {0}) RequestError) → RecordGives g h id values at s r t → (Word g s → Word g t) → IsRight g h t texts
+  pub unrecorded_right : (id : ℕ) (values : PlainValues) (at : At) (r : Result (Unit {0}) RequestError) → RecordGives g h id values at s r t → (CacheIsValid g s → CacheIsValid g t) → IsRight g h t texts
   unrecorded_right id values at r w word = right_alike g h idle s t (Recorded id values at) r texts w right word (next_in g h idle s t (registry_unwritten g h idle s (Recorded id values at) r t w).1)
 
-  pub told_right : (e : PlainEvent) (at : At) (r : Result (Unit {0}) RequestError) → EventCached g h e at s r t → (Word g s → Word g t) → IsRight g h t texts
-  told_right e at r w word = right_alike g h idle s t (Told e at) r texts w right word (next_in g h idle s t (registry_unwritten g h idle s (Told e at) r t w).1)
+  pub told_right : (e : PlainEvent) (at : At) (r : Result (Unit {0}) RequestError) → EventCached g h e at s r t → (CacheIsValid g s → CacheIsValid g t) → IsRight g h t texts
+  told_right e at r w word = right_alike g h idle s t (EventDispatched e at) r texts w right word (next_in g h idle s t (registry_unwritten g h idle s (EventDispatched e at) r t w).1)
 
-  pub made_right : (a : PlainAttributes) (at : At) (id : ℕ) (text : PlainText) → SpanCached g h a at s (Ok (Some id)) t → (Word g s → Word g t) → text.id ≡ s.registry.next_id → t.registry.next_id ≡ s.registry.next_id + 1 → IsRight g h t (texts ++ text ∷ [])
+  pub made_right : (a : PlainAttributes) (at : At) (id : ℕ) (text : PlainText) → SpanCached g h a at s (Ok (Some id)) t → (CacheIsValid g s → CacheIsValid g t) → text.id ≡ s.registry.next_id → t.registry.next_id ≡ s.registry.next_id + 1 → IsRight g h t (texts ++ text ∷ [])
   made_right a at id text w word own more =
       right_by g h idle s t (SpanMade a at) (Ok (Some id)) texts (texts ++ text ∷ []) w right word (subst (λ n. AreRising (texts ++ text ∷ []) n) (sym more) (more_rising texts text s.registry.next_id own right.rising))
 
@@ -126,7 +126,7 @@ module _ {F : Type 0} (h : LayerGhosts Identity) where
     is_new (Some refusal) outputs s w = absurd w
 
     new_one : ((layer : Identity) → h.filters layer ≡ 0) → (output : Output (Filtered Identity F)) (s : OutputsValue (Filtered Identity F)) (rows : List (Row (Filtered Identity F))) → s.rows ≡ rows → RowsFrom h new_registry (output ∷ []) rows →
-        s.registry ≡ more_filters (suc (h.filters output.output.layer) + 0) new_registry → (g.honest output.output.filter → Word g s) → IsNewOutput g h output.output.filter s
+        s.registry ≡ more_filters (suc (h.filters output.output.layer) + 0) new_registry → (g.honest output.output.filter → CacheIsValid g s) → IsNewOutput g h output.output.filter s
     new_one none output s [] same w own word = absurd w
     new_one none output s (row ∷ (row2 ∷ rows)) same w own word = absurd w.1
     new_one none output s (row ∷ []) same w own word =
@@ -140,7 +140,7 @@ module _ {F : Type 0} (h : LayerGhosts Identity) where
 
     -- a stack that was made of one output
     pub new_output : ((layer : Identity) → h.filters layer ≡ 0) → (filter : F) (outputs : List (Output (Filtered Identity F))) (output : Output (Filtered Identity F)) (s : OutputsValue (Filtered Identity F)) → outputs ≡ output ∷ [] → output.output.filter ≡ filter →
-        NewGives h g outputs (Ok s) → (Every (λ (o : Output (Filtered Identity F)). g.honest o.output.filter) outputs → Word g s) → IsNewOutput g h filter s
+        NewGives h g outputs (Ok s) → (Every (λ (o : Output (Filtered Identity F)). g.honest o.output.filter) outputs → CacheIsValid g s) → IsNewOutput g h filter s
     new_output none filter outputs output s one own given word =
         let new = subst (λ os. IsNew h g os s) one (is_new (new_refusal h outputs) outputs s given) in
         subst (λ f. IsNewOutput g h f s) own
@@ -153,10 +153,10 @@ refused_same (Some refusal) x left y n error w = w.1
 
 module _ {F : Type 0} (g : Ghosts F) (h : LayerGhosts Identity) (idle : WritesNothing h) (s t : OutputsValue (Filtered Identity F)) (texts : List PlainText) (right : IsRight g h s texts) (a : PlainAttributes) (at : At) where
   -- a span that was not made leaves the texts
-  pub dropped_right : SpanCached g h a at s (Ok None) t → (Word g s → Word g t) → IsRight g h t texts
+  pub dropped_right : SpanCached g h a at s (Ok None) t → (CacheIsValid g s → CacheIsValid g t) → IsRight g h t texts
   dropped_right w word = right_alike g h idle s t (SpanMade a at) (Ok None) texts w right word (next_in g h idle s t (registry_unwritten g h idle s (SpanMade a at) (Ok None) t w).1)
 
-  pub refused_right : (error : RequestError) → SpanCached g h a at s (Err error) t → (Word g s → Word g t) → IsRight g h t texts
+  pub refused_right : (error : RequestError) → SpanCached g h a at s (Err error) t → (CacheIsValid g s → CacheIsValid g t) → IsRight g h t texts
   refused_right error w word =
       let alone = registry_unwritten g h idle s (SpanMade a at) (Err error) t w in
       right_alike g h idle s t (SpanMade a at) (Err error) texts w right word

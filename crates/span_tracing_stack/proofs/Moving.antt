@@ -2,7 +2,7 @@
 use Rattle.std.proofs.Common.{◌≡◌, ◌⊎◌, inl, inr, ◌<◌, ◌≤◌, ◌+◌, ◌++◌, ℕ, nat_lt, Bool, true, false, not, List, [], ◌∷◌, map, Option, Some, None, Result, Ok, Err, IsSome, refl, sym, ap, ◌∙◌, subst, arith}
 use Rattle.std.proofs.lemmas.Bool.Decides.{nat_tests}
 use Rattle.tracing_core.specs.At.{At}
-use Rattle.tracing_core.specs.Calls.{Call, ReplyTo, DispatchRegistered, CallsiteRegistered, Asked, HintAsked, SpanMade, Recorded, FollowsRecorded, EventAsked, Told, Entered, Exited, Cloned, Dropped, CloseTried, CurrentAsked}
+use Rattle.tracing_core.specs.Calls.{Call, ReplyTo, DispatchRegistered, CallsiteRegistered, Asked, HintAsked, SpanMade, Recorded, FollowsRecorded, EventAsked, EventDispatched, Entered, Exited, Cloned, Dropped, CloseTried, CurrentAsked}
 use Rattle.tracing_core.specs.CurrentSpan.{CurrentSpan}
 use Rattle.tracing_core.specs.Refusals.{or_refused}
 use Rattle.tracing_core.specs.Interests.{PlainInterest}
@@ -29,7 +29,7 @@ use Rattle.span_registry_layers.specs.Several.{EachInTurn}
 use Rattle.span_registry_layers.specs.Spans.{is_open}
 use Rattle.span_registry_layers.specs.Stacks.{EventCached, PassesCached, RowsInTurn, StackValue as OutputsValue}
 use Rattle.span_registry_layers.specs.Verdicts.{all_pass}
-use Rattle.span_registry_layers.specs.Words.{Word}
+use Rattle.span_registry_layers.specs.CacheValidity.{CacheIsValid}
 use Rattle.span_registry_layers.specs.WrittenProofs.{all_kept, made_left, rows_left}
 use Rattle.span_tracing_machine.specs.State.{PlainText}
 use Rattle.span_tracing_machine.specs.declared.fate.Fate.{Fate}
@@ -38,7 +38,7 @@ use Rattle.span_tracing_stack.specs.Moves.{EventTold, Gives, SpanGives, StackMov
 use Rattle.span_tracing_stack.specs.Recording.{AddsFields}
 use Rattle.span_tracing_stack.specs.Right.{IsRight}
 use Rattle.span_tracing_stack.specs.Rising.{AreRising}
-use Rattle.span_tracing_stack.specs.Stacks.{PlainTold, Quiet, StackValue, first_filter, is_told, open_texts, plain_state, plain_text, shown_with, span_text, text_told}
+use Rattle.span_tracing_stack.specs.Stacks.{PlainOutcome, Quiet, StackValue, first_filter, is_told, open_texts, plain_state, plain_text, shown_with, span_text, text_told}
 use Rattle.span_tracing_stack.specs.declared.setting.Setting.{Setting}
 use Rattle.span_tracing_stack.specs.declared.state.StackState.{StackState}
 use Rattle.span_tracing_stack.proofs.Giving.{Comes, event_may, event_refused, filter_steps, hint_one, passes_may, says_one, span_decides}
@@ -69,7 +69,7 @@ refused_when false x n error left y w = inr (refl, w.0)
 
 module _ {F : Type 0} where
   -- the registry and the filter are what is shown of the outputs
-  shown_same : (s t : OutputsValue (Filtered Identity F)) (setting : Setting) (texts : List PlainText) (told : PlainTold) → t.registry ≡ s.registry → first_filter t.rows ≡ first_filter s.rows → shown_with t setting texts told ≡ shown_with s setting texts told
+  shown_same : (s t : OutputsValue (Filtered Identity F)) (setting : Setting) (texts : List PlainText) (told : PlainOutcome) → t.registry ≡ s.registry → first_filter t.rows ≡ first_filter s.rows → shown_with t setting texts told ≡ shown_with s setting texts told
   shown_same s t setting texts told registry filter =
       ap (λ (x : RegistryValue). record { registry = x; filter = first_filter t.rows; setting = setting; texts = texts; told = told }) registry
       ∙ ap (λ f. record { registry = s.registry; filter = f; setting = setting; texts = texts; told = told }) filter
@@ -80,17 +80,17 @@ module _ {F : Type 0} where
 
 module _ {F : Type 0} (g : Ghosts F) (h : LayerGhosts Identity) (idle : WritesNothing h) where
   -- what the outputs take leaves all right
-  pub right_by : (s t : OutputsValue (Filtered Identity F)) (c : Call) (r : ReplyTo c) (texts later : List PlainText) → outputs.Moves g h s c r t → IsRight g h s texts → (Word g s → Word g t) → AreRising later t.registry.next_id → IsRight g h t later
+  pub right_by : (s t : OutputsValue (Filtered Identity F)) (c : Call) (r : ReplyTo c) (texts later : List PlainText) → outputs.Moves g h s c r t → IsRight g h s texts → (CacheIsValid g s → CacheIsValid g t) → AreRising later t.registry.next_id → IsRight g h t later
   right_by s t c r texts later m right word rising = record { rising = rising; word = word right.word; numbers = numbers_same g h s c r t m ∙ right.numbers }
 
   -- the same where no span is made and no text changes
-  pub right_alike : (s t : OutputsValue (Filtered Identity F)) (c : Call) (r : ReplyTo c) (texts : List PlainText) → outputs.Moves g h s c r t → IsRight g h s texts → (Word g s → Word g t) → t.registry.next_id ≡ s.registry.next_id → IsRight g h t texts
+  pub right_alike : (s t : OutputsValue (Filtered Identity F)) (c : Call) (r : ReplyTo c) (texts : List PlainText) → outputs.Moves g h s c r t → IsRight g h s texts → (CacheIsValid g s → CacheIsValid g t) → t.registry.next_id ≡ s.registry.next_id → IsRight g h t texts
   right_alike s t c r texts m right word same = right_by s t c r texts texts m right word (subst (λ n. AreRising texts n) (sym same) right.rising)
 
   pub next_in : (s t : OutputsValue (Filtered Identity F)) → t.registry ≡ s.registry → t.registry.next_id ≡ s.registry.next_id
   next_in s t e = ap (λ (x : RegistryValue). x.next_id) e
 
-  moved : (s t : OutputsValue (Filtered Identity F)) (c : Call) (r : ReplyTo c) (setting : Setting) (texts later : List PlainText) (told new : PlainTold) → outputs.Moves g h s c r t →
+  moved : (s t : OutputsValue (Filtered Identity F)) (c : Call) (r : ReplyTo c) (setting : Setting) (texts later : List PlainText) (told new : PlainOutcome) → outputs.Moves g h s c r t →
       Gives g (shown_with s setting texts told) c r (shown_with t setting later new) → StackMoves g (shown_with s setting texts told) c r (shown_with t setting later new)
   moved s t c r setting texts later told new m given = record { gives = given; setting = refl; steps = filter_steps g h s c r t m }
 
@@ -106,7 +106,7 @@ module _ {F : Type 0} (g : Ghosts F) (h : LayerGhosts Identity) (idle : WritesNo
   follows_first id follows at x (r ∷ rs) y [] w = absurd w
   follows_first id follows at x (r ∷ rs) y (s ∷ ss) w = ap (λ (row : Row (Filtered Identity F)). Some row.output.filter) w.1.1
 
-  module _ (setting : Setting) (texts : List PlainText) (told : PlainTold) where
+  module _ (setting : Setting) (texts : List PlainText) (told : PlainOutcome) where
     -- the stack before
     abbrev old_stack : OutputsValue (Filtered Identity F) → StackValue F
     old_stack s = shown_with s setting texts told
@@ -119,7 +119,7 @@ module _ {F : Type 0} (g : Ghosts F) (h : LayerGhosts Identity) (idle : WritesNo
     unfolding Gives
     registered s t m k numbers w = moved s t (CallsiteRegistered m) k setting texts texts told told w (says_one g h s m k numbers w.0, ap (λ v. old_stack v) w.1.1)
 
-    pub asked : (s : OutputsValue (Filtered Identity F)) (m : PlainMetadata) (at : At) (b : Bool) → Word g s → numbers_of h s.rows ≡ 0 ∷ [] → PassesCached g s m at b → StackMoves g (old_stack s) (Asked m at) b (old_stack s)
+    pub asked : (s : OutputsValue (Filtered Identity F)) (m : PlainMetadata) (at : At) (b : Bool) → CacheIsValid g s → numbers_of h s.rows ≡ 0 ∷ [] → PassesCached g s m at b → StackMoves g (old_stack s) (Asked m at) b (old_stack s)
     unfolding Gives
     asked s m at b word numbers given = moved s s (Asked m at) b setting texts texts told told (given, refl) (passes_may g h s m at b word numbers given, refl)
 
@@ -195,26 +195,26 @@ module _ {F : Type 0} (g : Ghosts F) (h : LayerGhosts Identity) (idle : WritesNo
         moved s t (Recorded id values at) (Err error) setting texts texts told Quiet w
         (subst (λ e. Rattle.span_tracing_stack.specs.Moves.RecordGives (old_stack s) id values (Err e) (shown_with t setting texts Quiet)) (sym why.1) (why.0, ap (λ v. shown_with v setting texts Quiet) w.1))
 
-    pub event_moved : (s t : OutputsValue (Filtered Identity F)) (e : PlainEvent) (at : At) (done : Unit {0}) (b : Bool) (new : PlainTold) → Word g s → numbers_of h s.rows ≡ 0 ∷ [] → EventCached g h e at s (Ok done) t → is_told t.rows ≡ b →
-        (t.registry ≡ s.registry → first_filter t.rows ≡ first_filter s.rows → EventTold b (old_stack s) e at.lane (shown_with t setting texts new)) → StackMoves g (old_stack s) (Told e at) (Ok done) (shown_with t setting texts new)
+    pub event_moved : (s t : OutputsValue (Filtered Identity F)) (e : PlainEvent) (at : At) (done : Unit {0}) (b : Bool) (new : PlainOutcome) → CacheIsValid g s → numbers_of h s.rows ≡ 0 ∷ [] → EventCached g h e at s (Ok done) t → is_told t.rows ≡ b →
+        (t.registry ≡ s.registry → first_filter t.rows ≡ first_filter s.rows → EventTold b (old_stack s) e at.lane (shown_with t setting texts new)) → StackMoves g (old_stack s) (EventDispatched e at) (Ok done) (shown_with t setting texts new)
     unfolding Gives
     event_moved s t e at done b new word numbers w is told_by =
         let may = event_may g h e at s t done word numbers w in
-        moved s t (Told e at) (Ok done) setting texts texts told new w
-        (may.0, (b, subst (λ b. MayTell g (old_stack s) e at b) is may.1, told_by (registry_unwritten g h idle s (Told e at) (Ok done) t w).1 may.2))
+        moved s t (EventDispatched e at) (Ok done) setting texts texts told new w
+        (may.0, (b, subst (λ b. MayTell g (old_stack s) e at b) is may.1, told_by (registry_unwritten g h idle s (EventDispatched e at) (Ok done) t w).1 may.2))
 
     pub event_untold : (s t : OutputsValue (Filtered Identity F)) (e : PlainEvent) (lane : ℕ) → t.registry ≡ s.registry → first_filter t.rows ≡ first_filter s.rows → EventTold false (old_stack s) e lane (shown_with t setting texts Quiet)
     event_untold s t e lane registry filter = shown_same s t setting texts Quiet registry filter
 
-    pub event_lined : (s t : OutputsValue (Filtered Identity F)) (e : PlainEvent) (lane : ℕ) (new : PlainTold) → TellsLine (shown_with t setting texts Quiet) e lane new → t.registry ≡ s.registry → first_filter t.rows ≡ first_filter s.rows → EventTold true (old_stack s) e lane (shown_with t setting texts new)
+    pub event_lined : (s t : OutputsValue (Filtered Identity F)) (e : PlainEvent) (lane : ℕ) (new : PlainOutcome) → TellsLine (shown_with t setting texts Quiet) e lane new → t.registry ≡ s.registry → first_filter t.rows ≡ first_filter s.rows → EventTold true (old_stack s) e lane (shown_with t setting texts new)
     event_lined s t e lane new line registry filter =
         (new, subst (λ (x : RegistryValue). TellsLine (record { registry = x; filter = first_filter t.rows; setting = setting; texts = texts; told = Quiet }) e lane new) registry line, shown_same s t setting texts new registry filter)
 
-    pub event_unknown : (s t : OutputsValue (Filtered Identity F)) (e : PlainEvent) (at : At) (error : RequestError) → EventCached g h e at s (Err error) t → StackMoves g (old_stack s) (Told e at) (Err error) (shown_with t setting texts Quiet)
+    pub event_unknown : (s t : OutputsValue (Filtered Identity F)) (e : PlainEvent) (at : At) (error : RequestError) → EventCached g h e at s (Err error) t → StackMoves g (old_stack s) (EventDispatched e at) (Err error) (shown_with t setting texts Quiet)
     unfolding Gives
     event_unknown s t e at error w =
         let why = event_refused g h e at s t error w in
-        moved s t (Told e at) (Err error) setting texts texts told Quiet w
+        moved s t (EventDispatched e at) (Err error) setting texts texts told Quiet w
         (subst (λ e2. Rattle.span_tracing_stack.specs.Moves.EventGives g (old_stack s) e at (Err e2) (shown_with t setting texts Quiet)) (sym why.1) (why.0, ap (λ v. shown_with v setting texts Quiet) why.2))
 
     -- what a new span comes to
@@ -239,7 +239,7 @@ module _ {F : Type 0} (g : Ghosts F) (h : LayerGhosts Identity) (idle : WritesNo
         let why = subst (λ k. GivesUnless (first (when (not k) UnknownParent) (when (nat_lt most s.registry.next_id) IdsSpent)) s.registry s.registry.next_id made_of (Err own) x) known given in
         (made.1, refused_when (nat_lt most s.registry.next_id) s.registry s.registry.next_id error made_of x (subst (λ e. GivesUnless (first (when (not true) UnknownParent) (when (nat_lt most s.registry.next_id) IdsSpent)) s.registry s.registry.next_id made_of (Err e) x) same why))
 
-    pub span_made : (s t : OutputsValue (Filtered Identity F)) (a : PlainAttributes) (at : At) (id : ℕ) (fate : Fate) → Word g s → numbers_of h s.rows ≡ 0 ∷ [] → SpanCached g h a at s (Ok (Some id)) t →
+    pub span_made : (s t : OutputsValue (Filtered Identity F)) (a : PlainAttributes) (at : At) (id : ℕ) (fate : Fate) → CacheIsValid g s → numbers_of h s.rows ≡ 0 ∷ [] → SpanCached g h a at s (Ok (Some id)) t →
         StackMoves g (old_stack s) (SpanMade a at) (Ok (Some id)) (shown_with t setting (texts ++ (record { id = id; bytes = span_text a.values fate }) ∷ []) (text_told fate))
         × (id ≡ s.registry.next_id) × (t.registry.next_id ≡ s.registry.next_id + 1)
     unfolding Gives
@@ -256,7 +256,7 @@ module _ {F : Type 0} (g : Ghosts F) (h : LayerGhosts Identity) (idle : WritesNo
             ∙ ap (λ (x : RegistryValue). record { registry = x; filter = first_filter t.rows; setting = setting; texts = texts ++ (record { id = s.registry.next_id; bytes = span_text a.values fate }) ∷ []; told = text_told fate }) facts.2 in
             (moved s t (SpanMade a at) (Ok (Some id)) setting texts (texts ++ (record { id = id; bytes = span_text a.values fate }) ∷ []) told (text_told fate) w (known, d.0, facts.0, facts.1, (fate, is)), facts.1, ap (λ (x : RegistryValue). x.next_id) facts.2)
 
-    pub span_dropped : (s t : OutputsValue (Filtered Identity F)) (a : PlainAttributes) (at : At) → Word g s → numbers_of h s.rows ≡ 0 ∷ [] → SpanCached g h a at s (Ok None) t → StackMoves g (old_stack s) (SpanMade a at) (Ok None) (shown_with t setting texts Quiet)
+    pub span_dropped : (s t : OutputsValue (Filtered Identity F)) (a : PlainAttributes) (at : At) → CacheIsValid g s → numbers_of h s.rows ≡ 0 ∷ [] → SpanCached g h a at s (Ok None) t → StackMoves g (old_stack s) (SpanMade a at) (Ok None) (shown_with t setting texts Quiet)
     unfolding Gives
     span_dropped s t a at word numbers w = by (span_decides g h a at s (Ok None) t word numbers w)
       where
@@ -268,7 +268,7 @@ module _ {F : Type 0} (g : Ghosts F) (h : LayerGhosts Identity) (idle : WritesNo
             let filter = ap (λ (v : OutputsValue (Filtered Identity F)). first_filter v.rows) d.2 ∙ marked_first s.rows in
             moved s t (SpanMade a at) (Ok None) setting texts texts told Quiet w (known, d.0, shown_same s t setting texts Quiet (ap (λ (v : OutputsValue (Filtered Identity F)). v.registry) d.2) filter)
 
-    pub span_refused : (s t : OutputsValue (Filtered Identity F)) (a : PlainAttributes) (at : At) (error : RequestError) → Word g s → numbers_of h s.rows ≡ 0 ∷ [] → SpanCached g h a at s (Err error) t → StackMoves g (old_stack s) (SpanMade a at) (Err error) (shown_with t setting texts Quiet)
+    pub span_refused : (s t : OutputsValue (Filtered Identity F)) (a : PlainAttributes) (at : At) (error : RequestError) → CacheIsValid g s → numbers_of h s.rows ≡ 0 ∷ [] → SpanCached g h a at s (Err error) t → StackMoves g (old_stack s) (SpanMade a at) (Err error) (shown_with t setting texts Quiet)
     unfolding Gives
     span_refused s t a at error word numbers w = moved s t (SpanMade a at) (Err error) setting texts texts told Quiet w (by (span_decides g h a at s (Err error) t word numbers w))
       where
@@ -287,7 +287,7 @@ module _ {F : Type 0} (g : Ghosts F) (h : LayerGhosts Identity) (idle : WritesNo
         by (inr (known, inl d)) = absurd (let e = d.1 in cc)
         by (inr (known, inr d)) = let facts = refused_facts a at s t error known d.1 in told_by known d.0 facts.0 facts.1
 
-    room_gives : (s : OutputsValue (Filtered Identity F)) (a : PlainAttributes) (at : At) (r : Result (Option ℕ) RequestError) → Word g s → numbers_of h s.rows ≡ 0 ∷ [] → (k : Bool) → knows s.registry (explicit_parent a.parent) ≡ k → RoomWanted g k a at s r →
+    room_gives : (s : OutputsValue (Filtered Identity F)) (a : PlainAttributes) (at : At) (r : Result (Option ℕ) RequestError) → CacheIsValid g s → numbers_of h s.rows ≡ 0 ∷ [] → (k : Bool) → knows s.registry (explicit_parent a.parent) ≡ k → RoomWanted g k a at s r →
         SpanGives g (old_stack s) a at r (shown_with s setting texts Quiet)
     room_gives s a at r word numbers false is w = subst (λ r. SpanGives g (old_stack s) a at r (shown_with s setting texts Quiet)) (sym w) (is, refl)
     room_gives s a at (Ok None) word numbers true is w = (is, passes_may g h s a.metadata at false word numbers w, refl)
@@ -299,7 +299,7 @@ module _ {F : Type 0} (g : Ghosts F) (h : LayerGhosts Identity) (idle : WritesNo
     room_gives s a at (Err TooManyHandles) word numbers true is w = absurd w
 
     -- a span that found no room for its text
-    pub no_room : (s : OutputsValue (Filtered Identity F)) (a : PlainAttributes) (at : At) (r : Result (Option ℕ) RequestError) → Word g s → numbers_of h s.rows ≡ 0 ∷ [] → WantsRoom g a at s r → StackMoves g (old_stack s) (SpanMade a at) r (shown_with s setting texts Quiet)
+    pub no_room : (s : OutputsValue (Filtered Identity F)) (a : PlainAttributes) (at : At) (r : Result (Option ℕ) RequestError) → CacheIsValid g s → numbers_of h s.rows ≡ 0 ∷ [] → WantsRoom g a at s r → StackMoves g (old_stack s) (SpanMade a at) r (shown_with s setting texts Quiet)
     unfolding Gives
     no_room s a at r word numbers w =
         record { gives = room_gives s a at r word numbers (knows s.registry (explicit_parent a.parent)) refl w; setting = refl; steps = filter_steps g h s (CurrentAsked at) (inside (current_on s.registry at.lane)) s (refl, refl) }
@@ -321,6 +321,6 @@ pub right_to : {F : Type 0} (g : Ghosts F) (h : LayerGhosts Identity) (s t : Out
 right_to g h s t texts later right outputs same = rw (outputs, same) right
 
 -- a state whose texts are others
-pub shown_state : {F : Type 0} (a b : StackState F) (later : List PlainText) (told : PlainTold) → b ≡ record a { texts = b.texts } → map plain_text b.texts.items ≡ later → plain_state b told ≡ shown_with a.outputs a.setting later told
+pub shown_state : {F : Type 0} (a b : StackState F) (later : List PlainText) (told : PlainOutcome) → b ≡ record a { texts = b.texts } → map plain_text b.texts.items ≡ later → plain_state b told ≡ shown_with a.outputs a.setting later told
 shown_state a b later told rest texts =
     ap (λ (s : StackState _). shown_with s.outputs s.setting (map plain_text b.texts.items) told) rest ∙ ap (λ ts. shown_with a.outputs a.setting ts told) texts

@@ -1,7 +1,7 @@
 -- What a call of a stack may answer and leave.
 use Rattle.std.specs.Prelude.{◌≡◌, ◌<◌, ◌≤◌, ℕ, Bool, true, false, Option, Some, None, Result, Ok, Err, IsSome}
 use Rattle.tracing_core.specs.At.{At}
-use Rattle.tracing_core.specs.Calls.{Call, ReplyTo, DispatchRegistered, CallsiteRegistered, Asked, HintAsked, SpanMade, Recorded, FollowsRecorded, EventAsked, Told, Entered, Exited, Cloned, Dropped, CloseTried, CurrentAsked}
+use Rattle.tracing_core.specs.Calls.{Call, ReplyTo, DispatchRegistered, CallsiteRegistered, Asked, HintAsked, SpanMade, Recorded, FollowsRecorded, EventAsked, EventDispatched, Entered, Exited, Cloned, Dropped, CloseTried, CurrentAsked}
 use Rattle.tracing_core.specs.Refusals.{or_refused}
 use Rattle.tracing_core.specs.PlainRequests.{PlainAttributes, PlainEvent, PlainValues, explicit_parent}
 use Rattle.tracing_core.specs.RequestError.{RequestError}
@@ -18,7 +18,7 @@ use Rattle.span_registry_layers.specs.Stacks.{PassesCached, StackValue as Output
 use Rattle.span_tracing_machine.specs.declared.fate.Fate.{Fate}
 use Rattle.span_tracing_stack.specs.Answers.{MayPass, MayTell, SaysBy, StepsBy, hint_by}
 use Rattle.span_tracing_stack.specs.Recording.{AddsFields}
-use Rattle.span_tracing_stack.specs.Stacks.{PlainTold, Quiet, StackValue, knows_parent, left_with, line_in, line_told, text_told, with_exit, with_span}
+use Rattle.span_tracing_stack.specs.Stacks.{PlainOutcome, Quiet, StackValue, knows_parent, left_with, line_in, line_told, text_told, with_exit, with_span}
 
 module _ {F : Type 0} where
   -- a refusal leaves the stack but for what it last told
@@ -34,13 +34,13 @@ module _ {F : Type 0} where
   registry_left x y = record x { registry = y.registry; filter = y.filter; told = Quiet }
 
   -- the line is told, or that it found no memory
-  abbrev pub TellsLine : StackValue F → PlainEvent → ℕ → PlainTold → Type 0
+  abbrev pub TellsLine : StackValue F → PlainEvent → ℕ → PlainOutcome → Type 0
   TellsLine x e lane told = (fate : Fate) × (told ≡ line_told fate (line_in x e lane))
 
   -- an event of which the output is told has its line, or misses it
   abbrev pub EventTold : Bool → StackValue F → PlainEvent → ℕ → StackValue F → Type 0
   EventTold false x e lane y = y ≡ quiet x
-  EventTold true x e lane y = (told : PlainTold) × TellsLine x e lane told × (y ≡ record x { told = told })
+  EventTold true x e lane y = (told : PlainOutcome) × TellsLine x e lane told × (y ≡ record x { told = told })
 
   -- what was recorded of an open span stands in its text, or that misses it alone
   abbrev pub TellsRecord : StackValue F → ℕ → PlainValues → StackValue F → Type 0
@@ -110,7 +110,7 @@ module _ {F : Type 0} (g : Ghosts F) where
   Gives x (Recorded span values at) r y = RecordGives x span values r y
   Gives x (FollowsRecorded span follows at) r y = (r ≡ or_refused (store.follow_refusal x.registry span follows) tt) × (y ≡ x)
   Gives x (EventAsked e at) r y = (r ≡ true) × (y ≡ x)
-  Gives x (Told e at) r y = EventGives x e at r y
+  Gives x (EventDispatched e at) r y = EventGives x e at r y
   Gives x (Entered id at) r y = EntryGives x id at.lane r y
   Gives x (Exited id at) r y = y ≡ heard y.filter (quiet (with_exit x at.lane id))
   Gives x (Cloned id at) r y = CloneGives x id r y

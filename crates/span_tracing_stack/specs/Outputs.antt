@@ -10,7 +10,7 @@ use Rattle.span_registry_layers.specs.Output.{Output}
 use Rattle.span_registry_layers.specs.Registries.{new_registry}
 use Rattle.span_registry_layers.specs.Rows.{numbers_of}
 use Rattle.span_registry_layers.specs.Stacks.{StackValue as OutputsValue}
-use Rattle.span_registry_layers.specs.Words.{Word}
+use Rattle.span_registry_layers.specs.CacheValidity.{CacheIsValid}
 use Rattle.span_tracing_stack.specs.Stacks.{first_filter}
 
 -- one output has the filter, or it comes back
@@ -23,7 +23,7 @@ pub record IsNewOutput {F : Type 0} (g : Ghosts F) (h : LayerGhosts Identity) (f
   pub registry : s.registry ≡ more_filters 1 new_registry
   pub own : first_filter s.rows ≡ Some filter
   pub numbers : numbers_of h s.rows ≡ 0 ∷ []
-  pub word : g.honest filter → Word g s
+  pub word : g.honest filter → CacheIsValid g s
 
 abbrev pub GivesOutputs : {F : Type 0} → Ghosts F → LayerGhosts Identity → F → Result (OutputsValue (Filtered Identity F)) F → Type 0
 GivesOutputs g h filter (Ok s) = IsNewOutput g h filter s

@@ -22,16 +22,16 @@ use Rattle.span_tracing_stack.specs.declared.format.Timer.TheVariants.{FixedText
 use Rattle.span_tracing_stack.specs.declared.setting.Setting.{Setting}
 use Rattle.span_tracing_stack.specs.declared.state.StackState.{StackState}
 use Rattle.span_tracing_stack.specs.declared.text.SpanText.{SpanText}
-use Rattle.span_tracing_stack.specs.declared.told.Told.{Told}
-use Rattle.span_tracing_stack.specs.declared.told.Told.TheVariants as told
+use Rattle.span_tracing_stack.specs.declared.request_outcome.RequestOutcome.{RequestOutcome}
+use Rattle.span_tracing_stack.specs.declared.request_outcome.RequestOutcome.TheVariants as told
 
 -- the last request wanted no text and no line, or found memory for its text; found none for its text or line; or has this line
-pub data PlainTold : Type 0 where
-  Quiet : PlainTold
-  Starved : PlainTold
-  Says : List ℕ → PlainTold
+pub data PlainOutcome : Type 0 where
+  Quiet : PlainOutcome
+  Starved : PlainOutcome
+  Says : List ℕ → PlainOutcome
 
-abbrev pub plain_told : Told → List ℕ → PlainTold
+abbrev pub plain_told : RequestOutcome → List ℕ → PlainOutcome
 plain_told told.Nothing line = Quiet
 plain_told told.Missed line = Starved
 plain_told told.Line line = Says line
@@ -42,7 +42,7 @@ pub record StackValue (F : Type 0) : Type 0 where
   pub filter : Option F
   pub setting : Setting
   pub texts : List PlainText
-  pub told : PlainTold
+  pub told : PlainOutcome
 
 abbrev pub plain_text : SpanText → PlainText
 plain_text t = record { id = t.id; bytes = string_bytes t.text }
@@ -57,11 +57,11 @@ first_filter [] = None
 first_filter (row ∷ rows) = Some row.output.filter
 
 -- outputs with the rest as a value: without what is kept of the filter's answers
-abbrev pub shown_with : {F : Type 0} → OutputsValue (Filtered Identity F) → Setting → List PlainText → PlainTold → StackValue F
+abbrev pub shown_with : {F : Type 0} → OutputsValue (Filtered Identity F) → Setting → List PlainText → PlainOutcome → StackValue F
 shown_with outputs setting texts told = record { registry = outputs.registry; filter = first_filter outputs.rows; setting = setting; texts = texts; told = told }
 
 -- a state as a value, with what the last request came to
-abbrev pub plain_state : {F : Type 0} → StackState F → PlainTold → StackValue F
+abbrev pub plain_state : {F : Type 0} → StackState F → PlainOutcome → StackValue F
 plain_state s told = shown_with s.outputs s.setting (map plain_text s.texts.items) told
 
 -- whether the one output was told of the last event
@@ -97,12 +97,12 @@ line_in x e lane =
     e.metadata.target e.values.names e.values.entries
 
 -- what is told of a text or a line by whether it found memory
-abbrev pub line_told : Fate → List ℕ → PlainTold
+abbrev pub line_told : Fate → List ℕ → PlainOutcome
 line_told Whole line = Says line
 line_told Missed line = Starved
 line_told Unwritten line = Starved
 
-abbrev pub text_told : Fate → PlainTold
+abbrev pub text_told : Fate → PlainOutcome
 text_told Whole = Quiet
 text_told Missed = Starved
 text_told Unwritten = Starved
@@ -129,12 +129,12 @@ abbrev pub with_exit : {F : Type 0} → StackValue F → ℕ → ℕ → StackVa
 with_exit x lane id = left_with (swept (without_entry x.registry lane id)) x
 
 -- the line that was told, and whether a text or a line found no memory
-abbrev pub line_said : PlainTold → Option (List ℕ)
+abbrev pub line_said : PlainOutcome → Option (List ℕ)
 line_said Quiet = None
 line_said Starved = None
 line_said (Says line) = Some line
 
-abbrev pub is_starved : PlainTold → Bool
+abbrev pub is_starved : PlainOutcome → Bool
 is_starved Quiet = false
 is_starved Starved = true
 is_starved (Says line) = false

@@ -1,4 +1,4 @@
--- Why a stack keeps its word.
+-- Why a stack is consistent.
 use Rattle.std.specs.Prelude.{◌≡◌, ◌↔◌, ℕ, ◌<◌, Bool, true, false, Option, Some, None, refl}
 use Rattle.std.proofs.Common.{inl, inr, sym, ◌∙◌, subst}
 use Rattle.tracing_core.specs.At.{At}

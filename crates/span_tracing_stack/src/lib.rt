@@ -5,13 +5,13 @@ mod fields;
 mod format;
 mod line;
 mod outputs;
+mod request_outcome;
 mod scope;
 mod setting;
 mod stack;
 mod state;
 mod subscriber;
 mod text;
-mod told;
 
 pub use format::{Fields, LineFormat, Timer};
 pub use setting::Setting;

@@ -8,9 +8,9 @@ ghost use Rattle.span_tracing_stack.specs.New.{StackGives};
 ghost use Rattle.span_tracing_stack.specs.Stacks.{line_said, is_starved};
 
 use crate::outputs::{filter_of, outputs_of};
+use crate::request_outcome::RequestOutcome;
 use crate::setting::Setting;
 use crate::state::StackState;
-use crate::told::Told;
 use span_registry_layers::{Filter, Identity, Layer};
 use std::alloc::Global;
 use std::marker::Model;
@@ -22,7 +22,7 @@ use tracing_core::Id;
 #[derive(Drop)]
 pub struct Stack<F: Filter> {
     pub(crate) state: StackState<F>,
-    pub(crate) told: Told,
+    pub(crate) told: RequestOutcome,
     // The last line, and the ids of its spans; their room is used again.
     pub(crate) line: String,
     pub(crate) ids: Vec<Id>,
@@ -82,7 +82,7 @@ impl<F: Filter> Stack<F> {
                 outputs,
                 texts: Vec::new(alloc),
             },
-            told: Told::Nothing,
+            told: RequestOutcome::Nothing,
             line,
             ids: Vec::new(alloc),
         })
@@ -137,9 +137,9 @@ impl<F: Filter> Stack<F> {
         ensures { option_copied result ≡ line_said self.now.told }
     {
         match self.told {
-            Told::Nothing => None,
-            Told::Missed => None,
-            Told::Line => Some(self.line.as_str()),
+            RequestOutcome::Nothing => None,
+            RequestOutcome::Missed => None,
+            RequestOutcome::Line => Some(self.line.as_str()),
         }
     }
 
@@ -147,6 +147,6 @@ impl<F: Filter> Stack<F> {
     pub fn is_starved(&self) -> bool
         ensures { result ≡ is_starved self.now.told }
     {
-        matches!(self.told, Told::Missed)
+        matches!(self.told, RequestOutcome::Missed)
     }
 }

@@ -13,10 +13,10 @@ ghost use Rattle.span_tracing_stack.specs.Stacks.{Quiet, is_told, open_texts, pl
 use crate::fields::{push_event, text_of};
 use crate::line::push_head;
 use crate::outputs::Outputs;
+use crate::request_outcome::RequestOutcome;
 use crate::scope::fill_scope;
 use crate::setting::Setting;
 use crate::text::{SpanText, add_fields, drop_texts};
-use crate::told::Told;
 use span_tracing_machine::Fate;
 use std::alloc::{AllocError, Global};
 use tracing_core::{Attributes, Event, Id, Record};
@@ -132,14 +132,14 @@ impl<F> StackState<F> {
         ids: &mut Vec<Id>,
         event: &Event<'_, '_>,
         lane: u64,
-    ) -> Told
+    ) -> RequestOutcome
         requires { Rises 0 (map plain_text self.now.texts.items) }
         ensures { TellsLine (plain_state self.now Quiet) (plain_event event.now) lane (plain_told result (string_bytes line.new)) }
     {
         let start = self.parent_of(lane, event);
         match self.write_line(line, ids, event, start) {
-            Ok(()) => Told::Line,
-            Err(_) => Told::Missed,
+            Ok(()) => RequestOutcome::Line,
+            Err(_) => RequestOutcome::Missed,
         }
     }
 }

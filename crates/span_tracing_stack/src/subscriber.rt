@@ -5,10 +5,10 @@ ghost use Rattle.tracing_core.specs.PlainRequests.{plain_attributes};
 ghost use Rattle.span_tracing_stack.specs.Moves.{WantsRoom};
 ghost use Rattle.span_tracing_stack.specs.Stacks.{plain_told, text_told};
 
+use crate::request_outcome::RequestOutcome;
 use crate::stack::Stack;
 use crate::state::StackState;
 use crate::text::SpanText;
-use crate::told::Told;
 use span_registry_layers::{Filter, Identity, Layer};
 use span_tracing_machine::Fate;
 use tracing_core::{
@@ -16,15 +16,15 @@ use tracing_core::{
     Subscriber, WeakDispatch,
 };
 
-impl Told {
+impl RequestOutcome {
     // What a span comes to by what became of its text.
-    fn of_text(fate: Fate) -> Told
+    fn of_text(fate: Fate) -> RequestOutcome
         ensures { (line : List ℕ) → plain_told result line ≡ text_told fate }
     {
         match fate {
-            Fate::Whole => Told::Nothing,
-            Fate::Missed => Told::Missed,
-            Fate::Unwritten => Told::Missed,
+            Fate::Whole => RequestOutcome::Nothing,
+            Fate::Missed => RequestOutcome::Missed,
+            Fate::Unwritten => RequestOutcome::Missed,
         }
     }
 }
@@ -98,7 +98,7 @@ impl<F: Filter> Subscriber for Stack<F> {
         attributes: &Attributes<'_, '_>,
         at: At,
     ) -> Result<Option<Id>, RequestError> {
-        self.told = Told::Nothing;
+        self.told = RequestOutcome::Nothing;
         if self.state.texts.reserve(1).is_err() {
             return self.state.refuse_span(attributes, at);
         }
@@ -110,15 +110,15 @@ impl<F: Filter> Subscriber for Stack<F> {
             id,
             text: made.text,
         });
-        self.told = Told::of_text(made.fate);
+        self.told = RequestOutcome::of_text(made.fate);
         Ok(Some(id))
     }
 
     fn record(&mut self, span: &Id, values: &Record<'_>, at: At) -> Result<(), RequestError> {
-        self.told = Told::Nothing;
+        self.told = RequestOutcome::Nothing;
         self.state.outputs.record(span, values, at)?;
         let fate = self.state.record(*span, values);
-        self.told = Told::of_text(fate);
+        self.told = RequestOutcome::of_text(fate);
         Ok(())
     }
 
@@ -131,7 +131,7 @@ impl<F: Filter> Subscriber for Stack<F> {
     }
 
     fn event(&mut self, event: &Event<'_, '_>, at: At) -> Result<(), RequestError> {
-        self.told = Told::Nothing;
+        self.told = RequestOutcome::Nothing;
         self.state.outputs.event(event, at)?;
         if self.state.is_told() {
             self.told = self
@@ -142,29 +142,29 @@ impl<F: Filter> Subscriber for Stack<F> {
     }
 
     fn enter(&mut self, span: &Id, at: At) -> Result<(), RequestError> {
-        self.told = Told::Nothing;
+        self.told = RequestOutcome::Nothing;
         self.state.outputs.enter(span, at)
     }
 
     fn exit(&mut self, span: &Id, at: At) {
-        self.told = Told::Nothing;
+        self.told = RequestOutcome::Nothing;
         self.state.outputs.exit(span, at);
         self.state.drop_texts();
     }
 
     fn clone_span(&mut self, span: &Id, _at: At) -> Result<Id, RequestError> {
-        self.told = Told::Nothing;
+        self.told = RequestOutcome::Nothing;
         self.state.outputs.clone_span(span)
     }
 
     fn drop_span(&mut self, span: Id, at: At) {
-        self.told = Told::Nothing;
+        self.told = RequestOutcome::Nothing;
         let _closed = self.state.outputs.try_close(span, at);
         self.state.drop_texts();
     }
 
     fn try_close(&mut self, span: Id, at: At) -> bool {
-        self.told = Told::Nothing;
+        self.told = RequestOutcome::Nothing;
         let closed = self.state.outputs.try_close(span, at);
         self.state.drop_texts();
         closed

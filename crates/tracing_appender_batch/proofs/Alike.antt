@@ -5,7 +5,7 @@ use Rattle.tracing_appender_rolling.specs.Moments.{is_due}
 use Rattle.tracing_appender_rolling.specs.FolderError.{FolderError}
 use Rattle.tracing_appender_rolling.specs.Names.{FileNames}
 use Rattle.tracing_appender_rolling.specs.FileNumber.{FileNumber}
-use Rattle.tracing_appender_rolling.specs.Contents.{Contents, Kept, Outcome, IsSound, appended, taken, called, if_refused, refusal, flush_plain}
+use Rattle.tracing_appender_rolling.specs.Contents.{Contents, StoredFile, Outcome, IsSound, appended, taken, called, if_refused, refusal, flush_plain}
 use Rattle.tracing_appender_rolling.specs.Looks.{Held, IsHeld, LookedTo, tried, failed_by, end_at, try_at}
 use Rattle.tracing_appender_rolling.specs.Tries.{Tried}
 use Rattle.tracing_appender_rolling.specs.FolderError.TheVariants.{Fault, OutOfMemory}
@@ -136,7 +136,7 @@ module _ (names : FileNames) (m : Moment) where
           open_file = sym file ∙ sym over.current_same;
           counts = near.counts ∙ sym held.counts ∙ sym over.counted;
           files =
-              ap (λ (fs : List Kept). appended fs other.current.index line) near.files
+              ap (λ (fs : List StoredFile). appended fs other.current.index line) near.files
               ∙ ap (λ f. appended h.contents.files f line) (ap (λ f. f.index) (sym file))
               ∙ sym w.left.files_are
               ∙ ap (λ (d : Contents). d.files) (sym kept);

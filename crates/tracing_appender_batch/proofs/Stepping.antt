@@ -160,7 +160,6 @@ module _ {D : Type 0} (contents : D → Option Contents) (names : FileNames) (m 
         left_added a b next done line c p is start (so.left before.0 c p is start) (left before.1);
   }
 
-  -- the end
   pub left_ends : (a b next : RollingFileAppender D) (done : List (List ℕ)) (c : Contents) (p : PrunedSink) → AgreesLeft contents a p → LeftSoFar p done c a b → ((q : PrunedSink) → AgreesLeft contents b q → AgreesLeft contents next q) → next.faults ≡ b.faults → next.current ≡ b.current → ((fs : List ℕ) → IsOpenIn (contents b.folder) fs → IsOpenIn (contents next.folder) fs) → LinesLeft contents p done m c a next
   left_ends a b next [] c p agrees same flush counts current stay = (flush p (subst (λ (x : RollingFileAppender D). AgreesLeft contents x p) (sym same) agrees), counts ∙ ap (λ (x : RollingFileAppender D). x.faults) same)
   left_ends a b next (l ∷ ls) c p agrees (removed, gone, left, kept, opens) flush counts current stay =

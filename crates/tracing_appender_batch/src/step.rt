@@ -81,7 +81,7 @@ fn write_line<D: Folder>(
         AgreesSink D.contents appender.new (with_handed s (record { line = line.now; moment = moment })) }
     ensures handed { (h : Held) → Holds D.contents appender.old h →
         HandsOne D.contents (builder_names appender.old.builder) moment h line.now result appender.new }
-    ensures left { is_missed result ≡ false → (c : Contents) (p : PrunedSink) → D.contents appender.old.folder ≡ Some c → AgreesLeft D.contents appender.old p →
+    ensures state { is_missed result ≡ false → (c : Contents) (p : PrunedSink) → D.contents appender.old.folder ≡ Some c → AgreesLeft D.contents appender.old p →
         HandsLeft D.contents p line.now moment c appender.old appender.new }
     ensures names { builder_names appender.new.builder ≡ builder_names appender.old.builder }
 {
@@ -94,7 +94,7 @@ fn write_line<D: Folder>(
 
 fn flush_if<D: Folder>(appender: &mut RollingFileAppender<D>, whole: bool)
     ensures agrees { (s : PlainSink) → AgreesSink D.contents appender.old s → AgreesSink D.contents appender.new s }
-    ensures left { (p : PrunedSink) → AgreesLeft D.contents appender.old p → AgreesLeft D.contents appender.new p }
+    ensures state { (p : PrunedSink) → AgreesLeft D.contents appender.old p → AgreesLeft D.contents appender.new p }
     ensures faults { appender.new.faults ≡ appender.old.faults }
     ensures current { appender.new.current ≡ appender.old.current }
     ensures opens { (files : List ℕ) → IsOpenIn (D.contents appender.old.folder) files → IsOpenIn (D.contents appender.new.folder) files }
@@ -125,7 +125,7 @@ pub fn batch<D: Folder>(
     ensures handed { (h : Held) → Holds D.contents appender.old h →
         HandsAll D.contents (builder_names appender.old.builder) moment h (lines_in k queue.old) result.missed appender.new }
     // over a folder that refuses nothing, with retention or a link too
-    ensures left { result.missed ≡ 0 → (c : Contents) (p : PrunedSink) → D.contents appender.old.folder ≡ Some c → AgreesLeft D.contents appender.old p →
+    ensures state { result.missed ≡ 0 → (c : Contents) (p : PrunedSink) → D.contents appender.old.folder ≡ Some c → AgreesLeft D.contents appender.old p →
         LinesLeft D.contents p (lines_in k queue.old) moment c appender.old appender.new }
 {
     let mut taken = 0;

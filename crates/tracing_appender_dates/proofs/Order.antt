@@ -139,7 +139,6 @@ first_below Day s t lt = inl (omega (arith, signed_arith, lt))
 first_below Week s t lt = inl (omega (arith, signed_arith, lt))
 first_below Whole s t lt = absurd (omega (arith, signed_arith, lt))
 
--- names
 pub below_less : (xs ys : List ℕ) → Below xs ys → slice_cmp nat_cmp xs ys ≡ Less
 below_less [] ys h = absurd h
 below_less (x ∷ xs) [] h = absurd h

@@ -67,7 +67,7 @@ stamps_apart kind s t is_s is_t e =
     ap (λ d. (d *ℤ pos 86400) +ℤ pos (told_part kind (clock_at s))) front.0 ∙ ap (λ n. (day_at t *ℤ pos 86400) +ℤ pos n) part
 
 -- reading a clock
-pub record ToldClock (kind : PeriodKind) (bytes : List ℕ) (clock : ℕ) : Type 0 where
+pub record ReadsClock (kind : PeriodKind) (bytes : List ℕ) (clock : ℕ) : Type 0 where
   pub small : clock < 86400
   pub whole : told_part kind clock ≡ clock
   pub text : bytes ≡ clock_part kind clock

@@ -14,7 +14,7 @@ use Rattle.std.proofs.lemmas.Bool.{false_from_ne_true, false≢true}
 use Rattle.std.proofs.lemmas.List.{take_more}
 use Rattle.tracing_appender_folders.specs.declared.memory.FileEntry.{FileEntry}
 use Rattle.tracing_appender_folders.specs.declared.memory.MemoryFile.{MemoryFile}
-use Rattle.tracing_appender_folders.specs.Contents.{Kept, has_name, bytes_at}
+use Rattle.tracing_appender_folders.specs.Contents.{StoredFile, has_name, bytes_at}
 use Rattle.tracing_appender_folders.specs.Memory.{kept_of}
 use Rattle.tracing_appender_folders.specs.Entries.{entry_at, comes_before, with_entry, IsRising}
 
@@ -152,7 +152,7 @@ unfolding IsStrictlySortedBy
 rising_none = tt
 
 -- one more file of the folder
-bytes_push : (fs : List Kept) (k : Kept) (q : List ℕ) → bytes_at (fs ++ k ∷ []) q ≡ or_else (bytes_at fs q) (only (has_name q k) k.bytes)
+bytes_push : (fs : List StoredFile) (k : StoredFile) (q : List ℕ) → bytes_at (fs ++ k ∷ []) q ≡ or_else (bytes_at fs q) (only (has_name q k) k.bytes)
 bytes_push [] k q = refl
 bytes_push (f ∷ fs) k q = later_case (has_name q f) f.bytes (bytes_at fs q) (bytes_at (fs ++ k ∷ []) q) (only (has_name q k) k.bytes) (bytes_push fs k q)
 
@@ -163,7 +163,7 @@ map_push (g ∷ fs) f = ap (λ ks. kept_of g ∷ ks) (map_push fs f)
 pub bytes_more : (files : List MemoryFile) (i : ℕ) (f : MemoryFile) (q : List ℕ) → i < length files → f ≡ get_or files i f → bytes_at (map kept_of (take (i + 1) files)) q ≡ or_else (bytes_at (map kept_of (take i files)) q) (only (has_name q (kept_of f)) f.bytes.items)
 bytes_more files i f q lt is =
     ap (λ (fs : List MemoryFile). bytes_at (map kept_of fs) q) (take_more files i f lt ∙ ap (λ (g : MemoryFile). take i files ++ g ∷ []) (sym is))
-    ∙ ap (λ (fs : List Kept). bytes_at fs q) (map_push (take i files) f)
+    ∙ ap (λ (fs : List StoredFile). bytes_at fs q) (map_push (take i files) f)
     ∙ bytes_push (map kept_of (take i files)) (kept_of f) q
 
 -- the entries so far are the files so far

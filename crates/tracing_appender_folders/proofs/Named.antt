@@ -8,7 +8,7 @@ use Rattle.std.specs.Str.{bytes_eq}
 use Rattle.std.proofs.lemmas.List.{take_more}
 use Rattle.tracing_appender_folders.specs.declared.memory.MemoryLink.{MemoryLink}
 use Rattle.tracing_appender_folders.specs.declared.memory.MemoryFolder.{MemoryFolder}
-use Rattle.tracing_appender_folders.specs.Contents.{has_name, file_named, link_place, Kept, Listed, listing, listed_file, listed_link, appended, unnamed}
+use Rattle.tracing_appender_folders.specs.Contents.{has_name, file_named, link_place, StoredFile, Listed, listing, listed_file, listed_link, appended, unnamed}
 use Rattle.tracing_appender_folders.specs.Memory.{kept_of, link_of, memory_contents, files_listed, links_listed, target_at}
 
 position-map : {X Y : Type 0} (f : X → Y) (p : Y → Bool) (i : ℕ) (xs : List X) → position_from p i (map f xs) ≡ position_from (λ x. p (f x)) i xs
@@ -40,7 +40,7 @@ appended-kept [] i old new bytes lt is e = absurd (omega arith)
 appended-kept (f ∷ files) zero old new bytes lt is e = ap (λ k. k ∷ map kept_of files) (e ∙ ap (λ (m : MemoryFile). record { name = string_bytes m.name; stands = m.stands; created = m.created; bytes = m.bytes.items ++ bytes }) is)
 appended-kept (f ∷ files) (suc i) old new bytes lt is e = ap (λ ks. kept_of f ∷ ks) (appended-kept files i old new bytes (omega arith) is e)
 
-pub appended_past : (files : List Kept) (i : ℕ) (bytes : List ℕ) → length files ≤ i → appended files i bytes ≡ files
+pub appended_past : (files : List StoredFile) (i : ℕ) (bytes : List ℕ) → length files ≤ i → appended files i bytes ≡ files
 appended_past [] i bytes le = refl
 appended_past (f ∷ files) zero bytes le = absurd (omega arith)
 appended_past (f ∷ files) (suc i) bytes le = ap (λ ks. f ∷ ks) (appended_past files i bytes (omega arith))
@@ -55,14 +55,13 @@ unnamed-kept [] i old new lt is e = absurd (omega arith)
 unnamed-kept (f ∷ files) zero old new lt is e = ap (λ k. k ∷ map kept_of files) (e ∙ ap (λ (m : MemoryFile). record { name = string_bytes m.name; stands = false; created = m.created; bytes = m.bytes.items }) is)
 unnamed-kept (f ∷ files) (suc i) old new lt is e = ap (λ ks. kept_of f ∷ ks) (unnamed-kept files i old new (omega arith) is e)
 
--- listings
-filter_one : (x : Kept) (rest : List Kept) (more : List Listed) → map listed_file rest ≡ more → (b : Bool) → map listed_file (cond b (x ∷ rest) rest) ≡ cond b (listed_file x ∷ more) more
+filter_one : (x : StoredFile) (rest : List StoredFile) (more : List Listed) → map listed_file rest ≡ more → (b : Bool) → map listed_file (cond b (x ∷ rest) rest) ≡ cond b (listed_file x ∷ more) more
 filter_one x rest more e true = ap (λ r. listed_file x ∷ r) e
 filter_one x rest more e false = e
 
-filter-files : (files : List MemoryFile) → map listed_file (filter (λ (f : Kept). f.stands) (map kept_of files)) ≡ files_listed files
+filter-files : (files : List MemoryFile) → map listed_file (filter (λ (f : StoredFile). f.stands) (map kept_of files)) ≡ files_listed files
 filter-files [] = refl
-filter-files (f ∷ fs) = filter_one (kept_of f) (filter (λ (k : Kept). k.stands) (map kept_of fs)) (files_listed fs) (filter-files fs) f.stands
+filter-files (f ∷ fs) = filter_one (kept_of f) (filter (λ (k : StoredFile). k.stands) (map kept_of fs)) (files_listed fs) (filter-files fs) f.stands
 
 map-links : (links : List MemoryLink) → map listed_link (map link_of links) ≡ links_listed links
 map-links [] = refl

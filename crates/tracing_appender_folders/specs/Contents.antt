@@ -10,7 +10,7 @@ use Rattle.tracing_appender_folders.specs.declared.fault.FolderError.TheVariants
 use Rattle.tracing_appender_folders.specs.declared.fault.FileNumber.{FileNumber}
 
 -- a file that was ever made here: whether its name still stands for it, its creation moment where it is known, its bytes
-pub record Kept : Type 0 where
+pub record StoredFile : Type 0 where
   pub name : List ℕ
   pub stands : Bool
   pub created : Option Moment
@@ -25,7 +25,7 @@ pub data Outcome : Type 0 where
 -- the files in order of making, the links with what they name, the numbers of the files that are open, in the order of their opening, whether the directories
 -- were made, the number of the file that was flushed last, and what becomes of each coming call, from 0
 pub record Contents : Type 0 where
-  pub files : List Kept
+  pub files : List StoredFile
   pub links : List (List ℕ × List ℕ)
   pub open_files : List ℕ
   pub has_dirs : Bool
@@ -48,10 +48,10 @@ abbrev pub IsSound : Contents → Type 0
 IsSound c = (n : ℕ) → c.coming n ≡ Done
 
 -- the file that the name stands for
-abbrev pub has_name : List ℕ → Kept → Bool
+abbrev pub has_name : List ℕ → StoredFile → Bool
 has_name name file = file.stands && bytes_eq file.name name
 
-abbrev pub file_named : List ℕ → List Kept → Option ℕ
+abbrev pub file_named : List ℕ → List StoredFile → Option ℕ
 file_named name files = position_from (has_name name) 0 files
 
 -- the link under a name
@@ -62,24 +62,24 @@ abbrev pub link_named : List ℕ → List (List ℕ × List ℕ) → Bool
 link_named name links = is_some (link_place name links)
 
 -- the bytes of the file that the name stands for
-abbrev pub bytes_at : List Kept → List ℕ → Option (List ℕ)
+abbrev pub bytes_at : List StoredFile → List ℕ → Option (List ℕ)
 bytes_at [] name = None
 bytes_at (file ∷ files) name = if has_name name file then Some file.bytes else bytes_at files name
 
 -- the file at a place with more bytes
-abbrev pub appended : List Kept → ℕ → List ℕ → List Kept
+abbrev pub appended : List StoredFile → ℕ → List ℕ → List StoredFile
 appended [] place bytes = []
 appended (file ∷ files) zero bytes = record file { bytes = file.bytes ++ bytes } ∷ files
 appended (file ∷ files) (suc place) bytes = file ∷ appended files place bytes
 
 -- the file at a place without its name
-abbrev pub unnamed : List Kept → ℕ → List Kept
+abbrev pub unnamed : List StoredFile → ℕ → List StoredFile
 unnamed [] place = []
 unnamed (file ∷ files) zero = record file { stands = false } ∷ files
 unnamed (file ∷ files) (suc place) = file ∷ unnamed files place
 
 -- a new file of no bytes
-abbrev pub fresh : List ℕ → Kept
+abbrev pub fresh : List ℕ → StoredFile
 fresh name = record { name = name; stands = true; created = None; bytes = [] }
 
 abbrev pub Answer : Type 0 → Type 0
@@ -140,7 +140,7 @@ pub record Listed : Type 0 where
   pub plain : Bool
   pub created : Option Moment
 
-abbrev pub listed_file : Kept → Listed
+abbrev pub listed_file : StoredFile → Listed
 listed_file f = record { name = f.name; plain = true; created = f.created }
 
 abbrev pub listed_link : List ℕ × List ℕ → Listed

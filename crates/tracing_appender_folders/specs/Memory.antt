@@ -3,9 +3,9 @@ use Rattle.std.specs.Str.{bytes_eq}
 use Rattle.tracing_appender_folders.specs.declared.memory.MemoryFile.{MemoryFile}
 use Rattle.tracing_appender_folders.specs.declared.memory.MemoryLink.{MemoryLink}
 use Rattle.tracing_appender_folders.specs.declared.memory.MemoryFolder.{MemoryFolder}
-use Rattle.tracing_appender_folders.specs.Contents.{Kept, Contents, Done, Listed, listed_file, listed_link}
+use Rattle.tracing_appender_folders.specs.Contents.{StoredFile, Contents, Done, Listed, listed_file, listed_link}
 
-abbrev pub kept_of : MemoryFile → Kept
+abbrev pub kept_of : MemoryFile → StoredFile
 kept_of f = record { name = string_bytes f.name; stands = f.stands; created = f.created; bytes = f.bytes.items }
 
 abbrev pub link_of : MemoryLink → List ℕ × List ℕ
@@ -26,7 +26,7 @@ abbrev pub nothing_there : Contents
 nothing_there = record { files = []; links = []; open_files = []; has_dirs = false; last_flushed = None; coming = λ n. Done }
 
 -- a file put under its name: in place of the one for which the name stood, else last
-abbrev pub put_at : List Kept → Option ℕ → Kept → List Kept
+abbrev pub put_at : List StoredFile → Option ℕ → StoredFile → List StoredFile
 put_at files (Some place) file = slice_set files place file
 put_at files None file = files ++ file ∷ []
 

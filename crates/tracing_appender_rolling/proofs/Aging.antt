@@ -21,7 +21,7 @@ use Rattle.tracing_appender_dates.proofs.Naming.{around_same, first_told}
 use Rattle.tracing_appender_dates.proofs.Stamping.{stamps_apart}
 use Rattle.tracing_appender_folders.specs.declared.moment.Moment.{Moment}
 use Rattle.tracing_appender_folders.specs.Moments.{is_moment, is_earlier, period_at}
-use Rattle.tracing_appender_folders.specs.Contents.{Kept, Contents, Listed, has_name, bytes_at, listing, listed_file, listed_link}
+use Rattle.tracing_appender_folders.specs.Contents.{StoredFile, Contents, Listed, has_name, bytes_at, listing, listed_file, listed_link}
 use Rattle.tracing_appender_rolling.specs.Names.{FileNames, joined, file_name}
 use Rattle.tracing_appender_rolling.specs.Sinks.{Handed, Placed, PlainSink, placed, placed_lines, running_moment, with_handed, period_in, period_name, lies_in, was_opened, file_text}
 use Rattle.tracing_appender_rolling.specs.Retention.{PlainCandidate, Tells, counted_from, made_of, begins, ends, with_candidate, IsCandidates, goes}
@@ -88,11 +88,11 @@ lookup P x (y ∷ ys) all (inl e) = subst P e all.0
 lookup P x (y ∷ ys) all (inr there) = lookup P x ys all.1 there
 
 -- a name with bytes stands for a file
-standing : (q : List ℕ) (fs : List Kept) → is_some (bytes_at fs q) ≡ true → (f : Kept) × In f fs × (f.stands ≡ true) × (f.name ≡ q)
+standing : (q : List ℕ) (fs : List StoredFile) → is_some (bytes_at fs q) ≡ true → (f : StoredFile) × In f fs × (f.stands ≡ true) × (f.name ≡ q)
 standing q [] e = absurd (false≢true e)
 standing q (f ∷ fs) e = by_case (has_name q f) refl e (standing q fs)
   where
-    by_case : (b : Bool) → has_name q f ≡ b → is_some (cond b (Some f.bytes) (bytes_at fs q)) ≡ true → (is_some (bytes_at fs q) ≡ true → (g : Kept) × In g fs × (g.stands ≡ true) × (g.name ≡ q)) → (g : Kept) × In g (f ∷ fs) × (g.stands ≡ true) × (g.name ≡ q)
+    by_case : (b : Bool) → has_name q f ≡ b → is_some (cond b (Some f.bytes) (bytes_at fs q)) ≡ true → (is_some (bytes_at fs q) ≡ true → (g : StoredFile) × In g fs × (g.stands ≡ true) × (g.name ≡ q)) → (g : StoredFile) × In g (f ∷ fs) × (g.stands ≡ true) × (g.name ≡ q)
     by_case true has some more = let b = has_both q f has in (f, inl refl, b.0, b.1)
     by_case false has some more = let r = more some in (r.0, inr r.1, r.2, r.3)
 
@@ -249,7 +249,6 @@ module _ (s : PlainSink) (is_o : is_moment s.opened ≡ true) (all : AllByRecurs
   never_before n k less (inl same) = not_below_self n (ap (order n) (sym same) ∙ less)
   never_before n k less (inr more) = not_below_self n (nat_list_cmp_total.trans n k n less more)
 
-  -- lines
   pub line_keeps : (gone : List ℕ → Bool) (h : Handed) → is_moment h.moment ≡ true → ((n : List ℕ) → gone n ≡ true → was_opened s n ≡ true) → (name later : List ℕ) → order name later ≡ Less → (was_opened s name ≡ true → gone name ≡ true) → was_opened (with_handed s h) name ≡ true → gone later ≡ true → gone name ≡ true
   line_keeps gone h is_h gone_opened name later less old opened is_gone = by_case (was_opened s name) refl
     where
@@ -324,8 +323,8 @@ module _ (s : PlainSink) (is_o : is_moment s.opened ≡ true) (all : AllByRecurs
         let (k, at_k, goes_k, name_k) = named_doomed limit cs cs later gone in
         let (f, at_f, stands_f, name_f) = standing name c.files stands in
         let n : PlainCandidate = record { name = (listed_file f).name; made = at_second (named_second s.names.kind one.0.seconds) } in
-        let in_list = in_first (listed_file f) (map listed_file (filter (λ (g : Kept). g.stands) c.files)) (map listed_link c.links) (in_map listed_file f (filter (λ (g : Kept). g.stands) c.files) (in_filter (λ (g : Kept). g.stands) f c.files at_f stands_f)) in
-        let none_f = lookup (λ (g : Kept). g.stands ≡ true → was_opened s g.name ≡ true → g.created ≡ None) f c.files undated at_f stands_f (ap (was_opened s) name_f ∙ opened_one) in
+        let in_list = in_first (listed_file f) (map listed_file (filter (λ (g : StoredFile). g.stands) c.files)) (map listed_link c.links) (in_map listed_file f (filter (λ (g : StoredFile). g.stands) c.files) (in_filter (λ (g : StoredFile). g.stands) f c.files at_f stands_f)) in
+        let none_f = lookup (λ (g : StoredFile). g.stands ≡ true → was_opened s g.name ≡ true → g.created ≡ None) f c.files undated at_f stands_f (ap (was_opened s) name_f ∙ opened_one) in
         let at_n = listed_candidate s.names (listing c) cs (listed_file f) n.made are in_list (λ told tells. made_at name one.0 one.1 one.3 (listed_file f) told refl none_f name_f tells) in
         let made_k = made_later k (candidate_listed s.names (listing c) cs k are at_k) name_k in
         let first = from_before n k (inl (inl (subst (λ (m : Moment). n.made.seconds <ℤ m.seconds) (sym made_k) seconds))) in
@@ -335,18 +334,18 @@ module _ (s : PlainSink) (is_o : is_moment s.opened ≡ true) (all : AllByRecurs
         some_same a b e = cc
 
         made_later : (k : PlainCandidate) → ComesOf s.names (listing c) k → k.name ≡ later → k.made ≡ at_second (named_second s.names.kind two.0.seconds)
-        made_later k (l, at_l, name_l, (told, tells, made)) name_k = by_file (in_map_from listed_file l (filter (λ (g : Kept). g.stands) c.files) (map listed_link c.links) at_l)
+        made_later k (l, at_l, name_l, (told, tells, made)) name_k = by_file (in_map_from listed_file l (filter (λ (g : StoredFile). g.stands) c.files) (map listed_link c.links) at_l)
           where
             link_made : (ls : List (List ℕ × List ℕ)) → In l (map listed_link ls) → l.plain ≡ false
             link_made [] there = absurd there
             link_made (x ∷ xs) (inl e) = sym (ap (λ (y : Listed). y.plain) e)
             link_made (x ∷ xs) (inr there) = link_made xs there
 
-            by_file : ((g : Kept) × In g (filter (λ (x : Kept). x.stands) c.files) × (listed_file g ≡ l)) ⊎ In l (map listed_link c.links) → k.made ≡ at_second (named_second s.names.kind two.0.seconds)
+            by_file : ((g : StoredFile) × In g (filter (λ (x : StoredFile). x.stands) c.files) × (listed_file g ≡ l)) ⊎ In l (map listed_link c.links) → k.made ≡ at_second (named_second s.names.kind two.0.seconds)
             by_file (inl (g, at_g, is_l)) =
-                let r = filter_from (λ (x : Kept). x.stands) g c.files at_g in
+                let r = filter_from (λ (x : StoredFile). x.stands) g c.files at_g in
                 let name_g : g.name ≡ later = ap (λ (y : Listed). y.name) is_l ∙ sym name_l ∙ name_k in
-                let none_g = lookup (λ (x : Kept). x.stands ≡ true → was_opened s x.name ≡ true → x.created ≡ None) g c.files undated r.0 r.1 (ap (was_opened s) name_g ∙ opened_two) in
+                let none_g = lookup (λ (x : StoredFile). x.stands ≡ true → was_opened s x.name ≡ true → x.created ≡ None) g c.files undated r.0 r.1 (ap (was_opened s) name_g ∙ opened_two) in
                 some_same k.made (at_second (named_second s.names.kind two.0.seconds))
                 (sym made ∙ made_at later two.0 two.1 two.3 l told (sym (ap (λ (y : Listed). y.plain) is_l)) (sym (ap (λ (y : Listed). y.created) is_l) ∙ none_g) (sym name_l ∙ name_k) tells)
             by_file (inr there) =

@@ -15,13 +15,13 @@ use Rattle.tracing_appender_rolling.specs.declared.appender.RollingFileAppender.
 use Rattle.tracing_appender_folders.specs.Moments.{period_at, is_due}
 use Rattle.tracing_appender_rolling.specs.Names.{FileNames, file_name, is_bad_name, HasBadLink, HasGoodLink}
 use Rattle.tracing_appender_folders.specs.Contents.{Contents, Gives, written}
-use Rattle.tracing_appender_rolling.specs.Appenders.{AgreesSink, KeepsKnown, FailedAt, LooksAt, MayOpen, HandsBack}
-use Rattle.tracing_appender_rolling.specs.Builds.{Explains, ToldBuild, build_error}
+use Rattle.tracing_appender_rolling.specs.Appenders.{AgreesSink, MatchesKnownSink, FailedAt, LooksAt, MayOpen, HandsBack}
+use Rattle.tracing_appender_rolling.specs.Builds.{Explains, ReportsBuild, build_error}
 use Rattle.tracing_appender_rolling.specs.Looks.{Held, IsHeld, LookedTo, LookMissed, Starved, Switches}
 use Rattle.tracing_appender_rolling.specs.Faults.{after_write, unit_of}
 use Rattle.tracing_appender_rolling.specs.Builders.{builder_names}
 use Rattle.tracing_appender_rolling.specs.Sinks.{PlainSink, with_handed}
-use Rattle.tracing_appender_rolling.specs.Telling.{ToldError}
+use Rattle.tracing_appender_rolling.specs.Telling.{ReportsError}
 use Rattle.tracing_appender_rolling.specs.Writes.{WritesAll}
 use Rattle.tracing_appender_rolling.specs.Handing.{HandedOver, HandsLine, WrittenOnce, WritesOnce, is_starved}
 use Rattle.tracing_appender_rolling.proofs.PeriodFacts.{moment_second, name_is}
@@ -40,7 +40,7 @@ pub explained : {D : Type 0} (contents : D → Option Contents) (names : FileNam
 explained contents names folder m context (Fault fault) back name link failed known = (name, link, failed)
 explained contents names folder m context OutOfMemory back name link failed known = (name, link, record { left = failed; handed_back = λ c is may. (known c is may).1 })
 
-pub told_build : (n m : ℕ) (context : InitContext) (e : FolderError) → ToldError n e m → ToldBuild n (build_error context e) m
+pub told_build : (n m : ℕ) (context : InitContext) (e : FolderError) → ReportsError n e m → ReportsBuild n (build_error context e) m
 told_build n m context (Fault fault) told = told
 told_build n m context OutOfMemory told = told
 
@@ -100,7 +100,7 @@ writes_once contents names m h bytes r a b looks still counted gives =
 
 -- a fault comes of no folder that refuses nothing
 unfaulted_known : {D : Type 0} (contents : D → Option Contents) (bytes : List ℕ) (fault : FolderFault) (b : RollingFileAppender D) (t : PlainSink) (current : FileNumber) (known : Option Contents) → WritesAll known current bytes (Err (Fault fault)) (contents b.folder) → ((c : Contents) → known ≡ Some c → Fault fault ≡ OutOfMemory) → AgreesSink contents b t
-unfaulted_known contents bytes fault b t current None left never = subst (λ (o : Option Contents). KeepsKnown o (builder_names b.builder) b.boundary b.current t) (sym left) tt
+unfaulted_known contents bytes fault b t current None left never = subst (λ (o : Option Contents). MatchesKnownSink o (builder_names b.builder) b.boundary b.current t) (sym left) tt
 unfaulted_known contents bytes fault b t current (Some c) writes never = let e : Fault fault ≡ OutOfMemory = never c refl in cc
 
 -- a line whose writes did not find no memory is the sink's

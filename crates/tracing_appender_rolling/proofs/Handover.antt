@@ -16,12 +16,12 @@ use Rattle.tracing_appender_rolling.specs.Looks.{Switches}
 use Rattle.tracing_appender_rolling.specs.Faults.{after_write, unit_of}
 use Rattle.tracing_appender_rolling.specs.Appenders.{running_period}
 use Rattle.tracing_appender_rolling.specs.Writes.{WritesAll}
-use Rattle.tracing_appender_rolling.specs.Remaining.{PrunedSink, IsOpenIn, OpensAfter, without, with_line, IsRemoved, IsRemovedAt, KeepsLeft, AgreesLeft, HandsLeft}
+use Rattle.tracing_appender_rolling.specs.Remaining.{PrunedSink, IsOpenIn, OpensAfter, without, with_line, IsRemoved, IsRemovedAt, MatchesPrunedSink, AgreesLeft, HandsLeft}
 use Rattle.tracing_appender_rolling.proofs.Writing.{still_sound, sound_fails, took, no_fault}
 use Rattle.tracing_appender_rolling.proofs.Lasting.{look_left, push_left, same_left, switches_left}
 
 abbrev pub LeftIn : Option Contents → FileNames → Option ℤ → FileNumber → PrunedSink → Type 0
-LeftIn known names boundary current p = (c : Contents) × (known ≡ Some c) × KeepsLeft c names boundary current p
+LeftIn known names boundary current p = (c : Contents) × (known ≡ Some c) × MatchesPrunedSink c names boundary current p
 
 abbrev pub Handed : Option Contents → FileNames → Option ℤ → FileNumber → FileNumber → PrunedSink → Moment → Contents → Type 0
 Handed after names boundary before current p m c =
@@ -43,7 +43,7 @@ look_early_left known names boundary current m c p is_m early is left =
 
 pub look_due_left : (E : Type 0) (known after : Option Contents) (names : FileNames) (boundary end : Option ℤ) (current file : FileNumber) (faults l : Faults) (done : Unit {0}) (m : Moment) (c : Contents) (p : PrunedSink) → is_moment m ≡ true → is_due boundary m.seconds ≡ true → known ≡ Some c → Switches {E = E} names m boundary current faults known (Ok done) end file l after → LeftIn known names boundary current p → Handed after names end current file p m c × (l ≡ faults)
 look_due_left E known after names boundary end current file faults l done m c p is_m due is switched left =
-    let k = subst (λ (x : Contents). KeepsLeft x names boundary current p) (same_contents known c left.0 is left.1) left.2 in
+    let k = subst (λ (x : Contents). MatchesPrunedSink x names boundary current p) (same_contents known c left.0 is left.1) left.2 in
     let past = ap (λ b. is_due b m.seconds) (sym k.boundary_same) ∙ due in
     let at = subst (λ (o : Option Contents). Switches {E = E} names m boundary current faults o (Ok done) end file l after) is switched in
     let r = switches_left c names boundary end current file faults l p m after is_m due k at in

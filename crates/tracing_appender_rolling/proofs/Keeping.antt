@@ -11,12 +11,12 @@ use Rattle.tracing_appender_folders.specs.declared.fault.FolderError.{FolderErro
 use Rattle.tracing_appender_folders.specs.declared.fault.FolderError.TheVariants.{Fault, OutOfMemory}
 use Rattle.tracing_appender_folders.specs.Moments.{is_moment, period_at, end_of, is_due, latest_of}
 use Rattle.tracing_appender_rolling.specs.Names.{FileNames, file_name}
-use Rattle.tracing_appender_folders.specs.Contents.{Contents, Kept, Answer, Gives, IsSound, called, closed, flushed, file_named, link_named, bytes_at, appended, fresh, open_at, written}
+use Rattle.tracing_appender_folders.specs.Contents.{Contents, StoredFile, Answer, Gives, IsSound, called, closed, flushed, file_named, link_named, bytes_at, appended, fresh, open_at, written}
 use Rattle.tracing_appender_rolling.specs.Sinks.{PlainSink, Handed, with_handed, running_moment, period_in, period_name}
 use Rattle.tracing_appender_rolling.specs.Pruning.{PrunedBy, UnprunedBy}
 use Rattle.tracing_appender_rolling.specs.Tries.{Tried, MissedFile, opened_twice, opened_linked, after_opening}
 use Rattle.tracing_appender_rolling.specs.Looks.{Held, IsHeld, SwitchedTo, Switches, tried, Starved, try_at, name_at, end_at}
-use Rattle.tracing_appender_rolling.specs.Appenders.{Keeps, KeepsKnown, MayOpen, fresh_sink, running_period, found_in}
+use Rattle.tracing_appender_rolling.specs.Appenders.{MatchesSink, MatchesKnownSink, MayOpen, fresh_sink, running_period, found_in}
 use Rattle.tracing_appender_rolling.specs.Writes.{Unchanged, WritesAll}
 use Rattle.tracing_appender_rolling.proofs.PeriodFacts.{same_period, later_period, opening_free}
 use Rattle.tracing_appender_folders.proofs.Content.{after_line, appended-nil, stands_from, stands_to, stands_still, fresh_stands, more_bytes, no_bytes, fresh_bytes}
@@ -77,12 +77,12 @@ pub no_failure : (t : Tried) (f : InitFailure) (file : FileNumber) (left : Conte
 no_failure t f file left is told = let e : Ok file ≡ Err f = ap (λ (x : Tried). x.0) (sym is) ∙ told in cc
 
 -- the building
-pub build_known : (c : Contents) (names : FileNames) (m : Moment) (file : FileNumber) → is_moment m ≡ true → MayOpen (Some c) names → (opened_twice (name_at names m) c).0 ≡ Ok file → Keeps (opened_twice (name_at names m) c).1 names (end_at names m) file (fresh_sink names m (Some c))
+pub build_known : (c : Contents) (names : FileNames) (m : Moment) (file : FileNumber) → is_moment m ≡ true → MayOpen (Some c) names → (opened_twice (name_at names m) c).0 ≡ Ok file → MatchesSink (opened_twice (name_at names m) c).1 names (end_at names m) file (fresh_sink names m (Some c))
 build_known c names m file is_m may answer =
     let t = sound_try c (name_at names m) may.0 (may.1 m m is_m is_m) in
     let same = answer_file (opened_twice (name_at names m) c) file t.file t.left t.is answer in
     let left = ap (λ (x : Tried). x.1) t.is in
-    subst (λ (d : Contents). Keeps d names (end_at names m) file (fresh_sink names m (Some c))) (sym left)
+    subst (λ (d : Contents). MatchesSink d names (end_at names m) file (fresh_sink names m (Some c))) (sym left)
     (record {
       names_same = refl;
       all = may.2;
@@ -94,7 +94,7 @@ build_known c names m file is_m may answer =
     })
 
 -- a look before the boundary
-look_known : (c : Contents) (names : FileNames) (boundary : Option ℤ) (current : FileNumber) (s : PlainSink) (m : Moment) → is_due boundary m.seconds ≡ false → Keeps c names boundary current s → Keeps c names boundary current (with_handed s (record { line = []; moment = m }))
+look_known : (c : Contents) (names : FileNames) (boundary : Option ℤ) (current : FileNumber) (s : PlainSink) (m : Moment) → is_due boundary m.seconds ≡ false → MatchesSink c names boundary current s → MatchesSink c names boundary current (with_handed s (record { line = []; moment = m }))
 look_known c names boundary current s m early k =
     let h : Handed = record { line = []; moment = m } in
     let period : running_period (with_handed s h) ≡ running_period s = ap (period_in s) (running_more s.opened s.handed h) ∙ same_period s.names.kind (running_moment s.opened s.handed) m (ap (λ b. is_due b m.seconds) (sym k.boundary_same) ∙ early) in
@@ -114,12 +114,12 @@ look_known c names boundary current s m early k =
           ∙ sym (file_more s h name);
     }
 
-pub look_early : (known : Option Contents) (names : FileNames) (boundary : Option ℤ) (current : FileNumber) (s : PlainSink) (m : Moment) → is_due boundary m.seconds ≡ false → KeepsKnown known names boundary current s → KeepsKnown known names boundary current (with_handed s (record { line = []; moment = m }))
+pub look_early : (known : Option Contents) (names : FileNames) (boundary : Option ℤ) (current : FileNumber) (s : PlainSink) (m : Moment) → is_due boundary m.seconds ≡ false → MatchesKnownSink known names boundary current s → MatchesKnownSink known names boundary current (with_handed s (record { line = []; moment = m }))
 look_early None names boundary current s m early k = tt
 look_early (Some c) names boundary current s m early k = look_known c names boundary current s m early k
 
 -- a folder with the same files and links
-same_keeps : (c d : Contents) (names : FileNames) (boundary : Option ℤ) (current : FileNumber) (s : PlainSink) → Keeps c names boundary current s → IsSound d → d.links ≡ c.links → d.files ≡ c.files → Keeps d names boundary current s
+same_keeps : (c d : Contents) (names : FileNames) (boundary : Option ℤ) (current : FileNumber) (s : PlainSink) → MatchesSink c names boundary current s → IsSound d → d.links ≡ c.links → d.files ≡ c.files → MatchesSink d names boundary current s
 same_keeps c d names boundary current s k sound links files = record {
   names_same = k.names_same;
   all = k.all;
@@ -127,7 +127,7 @@ same_keeps c d names boundary current s k sound links files = record {
   sound = sound;
   unlinked = λ x is_x. ap (link_named (period_name s (period_in s x))) links ∙ k.unlinked x is_x;
   current_same = ap (file_named (period_name s (running_period s))) files ∙ k.current_same;
-  files = λ name. ap (λ (fs : List Kept). bytes_at fs name) files ∙ k.files name;
+  files = λ name. ap (λ (fs : List StoredFile). bytes_at fs name) files ∙ k.files name;
 }
 
 -- want of memory without a limit and a link
@@ -151,7 +151,7 @@ module _ (names : FileNames) (boundary : Option ℤ) (current : FileNumber) (fau
   abbrev pub seen : PlainSink
   seen = with_handed s (record { line = []; moment = m })
 
-  module _ (c : Contents) (k : Keeps c names boundary current s) where
+  module _ (c : Contents) (k : MatchesSink c names boundary current s) where
     past : is_due (end_of s.names.kind (running_period s)) m.seconds ≡ true
     past = ap (λ b. is_due b m.seconds) (sym k.boundary_same) ∙ due
 
@@ -176,7 +176,7 @@ module _ (names : FileNames) (boundary : Option ℤ) (current : FileNumber) (fau
     same : placing.name_at s m ≡ period_name s (period_in s m)
     same = ap (λ r. period_name s (period_in s r)) later
 
-    pub switch_known : Keeps try.left names (end_at names m) try.file seen
+    pub switch_known : MatchesSink try.left names (end_at names m) try.file seen
     switch_known = record {
       names_same = k.names_same;
       all = k.all;
@@ -201,47 +201,47 @@ module _ (names : FileNames) (boundary : Option ℤ) (current : FileNumber) (fau
         (ap (λ x. tried (before x is.pruned) (try_at names m is.pruned)) none.0 ∙ ap (λ (d : Contents). tried (before faults d) (try_at names m d)) none.1 ∙ ap (tried (before faults c)) try_is)
         is.held
 
-    shut : Keeps (closed try.left current).1 names (end_at names m) try.file seen
+    shut : MatchesSink (closed try.left current).1 names (end_at names m) try.file seen
     shut =
         let left = closed_files try.left current in
         same_keeps try.left (closed try.left current).1 names (end_at names m) try.file seen switch_known (closed_sound try.left current try.opens.sound) left.1 left.0
 
-    pub switch_keeps : (after : Option Contents) (b : Option ℤ) (f : FileNumber) (l : Faults) → SwitchedTo names m (held c) b f l after → KeepsKnown after names b f seen
+    pub switch_keeps : (after : Option Contents) (b : Option ℤ) (f : FileNumber) (l : Faults) → SwitchedTo names m (held c) b f l after → MatchesKnownSink after names b f seen
     switch_keeps after b f l is =
         let h = at_held after b f l is in
-        subst (λ (o : Option Contents). KeepsKnown o names b f seen) (sym h.folder)
-        (subst (λ x. Keeps (closed try.left current).1 names x f seen) (sym h.until) (subst (λ x. Keeps (closed try.left current).1 names (end_at names m) x seen) (sym h.open_file) shut))
+        subst (λ (o : Option Contents). MatchesKnownSink o names b f seen) (sym h.folder)
+        (subst (λ x. MatchesSink (closed try.left current).1 names x f seen) (sym h.until) (subst (λ x. MatchesSink (closed try.left current).1 names (end_at names m) x seen) (sym h.open_file) shut))
 
     pub switch_counts : (after : Option Contents) (b : Option ℤ) (f : FileNumber) (l : Faults) → SwitchedTo names m (held c) b f l after → l ≡ faults
     switch_counts after b f l is = (at_held after b f l is).counts
 
     -- a look that found no memory
-    pub switch_misses : (after : Option Contents) → Starved names m faults c after → KeepsKnown after names boundary current s
+    pub switch_misses : (after : Option Contents) → Starved names m faults c after → MatchesKnownSink after names boundary current s
     switch_misses after starved =
         let left = starved_unchanged names m faults c after (ap (λ (n : FileNames). n.limit) k.names_same ∙ k.all.unlimited) (ap (λ (n : FileNames). n.latest) k.names_same ∙ k.all.linkless) starved in
-        subst (λ (o : Option Contents). KeepsKnown o names boundary current s) (sym left.left.is)
+        subst (λ (o : Option Contents). MatchesKnownSink o names boundary current s) (sym left.left.is)
         (same_keeps c left.left.contents names boundary current s k (still_sound left.left k.sound) left.left.links_stay left.left.files_are)
 
-  pub look_switches : (E : Type 0) (known after : Option Contents) (done : Unit {0}) (b : Option ℤ) (f : FileNumber) (l : Faults) → Switches {E = E} names m boundary current faults known (Ok done) b f l after → KeepsKnown known names boundary current s → KeepsKnown after names b f seen
-  look_switches E None after done b f l left k = subst (λ (o : Option Contents). KeepsKnown o names b f seen) (sym left) tt
+  pub look_switches : (E : Type 0) (known after : Option Contents) (done : Unit {0}) (b : Option ℤ) (f : FileNumber) (l : Faults) → Switches {E = E} names m boundary current faults known (Ok done) b f l after → MatchesKnownSink known names boundary current s → MatchesKnownSink after names b f seen
+  look_switches E None after done b f l left k = subst (λ (o : Option Contents). MatchesKnownSink o names b f seen) (sym left) tt
   look_switches E (Some c) after done b f l is k = switch_keeps c k after b f l is
 
-  pub look_misses : {E : Type 0} (known after : Option Contents) (e : E) (b : Option ℤ) (f : FileNumber) (l : Faults) → Switches names m boundary current faults known (Err e) b f l after → KeepsKnown known names boundary current s → KeepsKnown after names boundary current s
-  look_misses None after e b f l left k = subst (λ (o : Option Contents). KeepsKnown o names boundary current s) (sym left) tt
+  pub look_misses : {E : Type 0} (known after : Option Contents) (e : E) (b : Option ℤ) (f : FileNumber) (l : Faults) → Switches names m boundary current faults known (Err e) b f l after → MatchesKnownSink known names boundary current s → MatchesKnownSink after names boundary current s
+  look_misses None after e b f l left k = subst (λ (o : Option Contents). MatchesKnownSink o names boundary current s) (sym left) tt
   look_misses (Some c) after e b f l starved k = switch_misses c k after starved
 
-  pub look_counts : (E : Type 0) (c : Contents) (known after : Option Contents) (done : Unit {0}) (b : Option ℤ) (f : FileNumber) (l : Faults) → known ≡ Some c → Switches {E = E} names m boundary current faults known (Ok done) b f l after → KeepsKnown known names boundary current s → l ≡ faults
+  pub look_counts : (E : Type 0) (c : Contents) (known after : Option Contents) (done : Unit {0}) (b : Option ℤ) (f : FileNumber) (l : Faults) → known ≡ Some c → Switches {E = E} names m boundary current faults known (Ok done) b f l after → MatchesKnownSink known names boundary current s → l ≡ faults
   look_counts E c None after done b f l e is k = cc
   look_counts E c (Some d) after done b f l e is k = switch_counts d k after b f l is
 
 -- a flush
-pub flush_keeps : (known after : Option Contents) (names : FileNames) (boundary : Option ℤ) (current : FileNumber) (s : PlainSink) (r : Result (Unit {0}) FolderError) → IfErr r (λ e. e ≢ OutOfMemory) → Gives (λ x. flushed x current) known r after → KeepsKnown known names boundary current s → KeepsKnown after names boundary current s
+pub flush_keeps : (known after : Option Contents) (names : FileNames) (boundary : Option ℤ) (current : FileNumber) (s : PlainSink) (r : Result (Unit {0}) FolderError) → IfErr r (λ e. e ≢ OutOfMemory) → Gives (λ x. flushed x current) known r after → MatchesKnownSink known names boundary current s → MatchesKnownSink after names boundary current s
 flush_keeps None after names boundary current s r fed gives k =
-    subst (λ (o : Option Contents). KeepsKnown o names boundary current s) (sym (stays_unknown (λ x. flushed x current) r after gives)) tt
+    subst (λ (o : Option Contents). MatchesKnownSink o names boundary current s) (sym (stays_unknown (λ x. flushed x current) r after gives)) tt
 flush_keeps (Some c) after names boundary current s r fed gives k =
     let d = (flushed c current).1 in
     let still = flush_still c current in
-    subst (λ (o : Option Contents). KeepsKnown o names boundary current s) (sym (fed_leaves (λ x. flushed x current) c r after fed gives))
+    subst (λ (o : Option Contents). MatchesKnownSink o names boundary current s) (sym (fed_leaves (λ x. flushed x current) c r after fed gives))
     (same_keeps c d names boundary current s k (λ n. still.next n ∙ k.sound (suc n)) still.links still.files)
 
 -- an appender that differs in its folder alone
@@ -252,7 +252,7 @@ pub still_current : {D : Type 0} (a b : RollingFileAppender D) (f : D) → recor
 still_current a b f e = ap (λ (x : RollingFileAppender _). x.current) e
 
 -- bytes to the current file
-push_known : (c d : Contents) (names : FileNames) (boundary : Option ℤ) (current : FileNumber) (s : PlainSink) (m : Moment) (bytes : List ℕ) → Keeps c names boundary current (with_handed s (record { line = []; moment = m })) → IsSound d → d.links ≡ c.links → d.files ≡ appended c.files current.index bytes → Keeps d names boundary current (with_handed s (record { line = bytes; moment = m }))
+push_known : (c d : Contents) (names : FileNames) (boundary : Option ℤ) (current : FileNumber) (s : PlainSink) (m : Moment) (bytes : List ℕ) → MatchesSink c names boundary current (with_handed s (record { line = []; moment = m })) → IsSound d → d.links ≡ c.links → d.files ≡ appended c.files current.index bytes → MatchesSink d names boundary current (with_handed s (record { line = bytes; moment = m }))
 push_known c d names boundary current s m bytes k sound links files =
     let before : Handed = record { line = []; moment = m } in
     let after : Handed = record { line = bytes; moment = m } in
@@ -272,34 +272,34 @@ push_known c d names boundary current s m bytes k sound links files =
           ∙ stands_to mine (appended c.files current.index bytes) 0 current.index (stands_still mine bytes c.files current.index current.index stands)
           ∙ ap Some (omega arith);
       files = λ name.
-          ap (λ (fs : List Kept). bytes_at fs name) files
+          ap (λ (fs : List StoredFile). bytes_at fs name) files
           ∙ more_bytes mine name bytes c.files current.index stands
           ∙ ap (λ n. after_line (bytes_eq n name) (bytes_at c.files name) bytes) (sym same)
           ∙ ap (λ t. after_line (bytes_eq (placing.name_at s m) name) t bytes) (k.files name)
           ∙ sym (file_two_steps s m bytes name);
     }
 
-pub push_keeps : (known after : Option Contents) (names : FileNames) (boundary : Option ℤ) (current : FileNumber) (s : PlainSink) (m : Moment) (bytes : List ℕ) (done : Unit {0}) → WritesAll known current bytes (Ok done) after → KeepsKnown known names boundary current (with_handed s (record { line = []; moment = m })) → KeepsKnown after names boundary current (with_handed s (record { line = bytes; moment = m }))
-push_keeps None after names boundary current s m bytes done left k = subst (λ (o : Option Contents). KeepsKnown o names boundary current (with_handed s (record { line = bytes; moment = m }))) (sym left) tt
+pub push_keeps : (known after : Option Contents) (names : FileNames) (boundary : Option ℤ) (current : FileNumber) (s : PlainSink) (m : Moment) (bytes : List ℕ) (done : Unit {0}) → WritesAll known current bytes (Ok done) after → MatchesKnownSink known names boundary current (with_handed s (record { line = []; moment = m })) → MatchesKnownSink after names boundary current (with_handed s (record { line = bytes; moment = m }))
+push_keeps None after names boundary current s m bytes done left k = subst (λ (o : Option Contents). MatchesKnownSink o names boundary current (with_handed s (record { line = bytes; moment = m }))) (sym left) tt
 push_keeps (Some c) after names boundary current s m bytes done writes k =
-    subst (λ (o : Option Contents). KeepsKnown o names boundary current (with_handed s (record { line = bytes; moment = m }))) (sym writes.left.is)
+    subst (λ (o : Option Contents). MatchesKnownSink o names boundary current (with_handed s (record { line = bytes; moment = m }))) (sym writes.left.is)
     (push_known c writes.left.contents names boundary current s m bytes k (still_sound writes.left k.sound) writes.left.links_stay writes.left.files_are)
 
-pub push_misses : (known after : Option Contents) (names : FileNames) (boundary : Option ℤ) (current : FileNumber) (s : PlainSink) (bytes : List ℕ) (e : FolderError) → WritesAll known current bytes (Err e) after → KeepsKnown known names boundary current s → KeepsKnown after names boundary current s
-push_misses None after names boundary current s bytes e left k = subst (λ (o : Option Contents). KeepsKnown o names boundary current s) (sym left) tt
+pub push_misses : (known after : Option Contents) (names : FileNames) (boundary : Option ℤ) (current : FileNumber) (s : PlainSink) (bytes : List ℕ) (e : FolderError) → WritesAll known current bytes (Err e) after → MatchesKnownSink known names boundary current s → MatchesKnownSink after names boundary current s
+push_misses None after names boundary current s bytes e left k = subst (λ (o : Option Contents). MatchesKnownSink o names boundary current s) (sym left) tt
 push_misses (Some c) after names boundary current s bytes e writes k =
     let l = writes.left in
     let none = sound_fails c current bytes e after k.sound writes in
     let same : l.contents.files ≡ c.files = l.files_are ∙ ap (λ n. appended c.files current.index (take n bytes)) none.1 ∙ appended-nil c.files current.index in
-    subst (λ (o : Option Contents). KeepsKnown o names boundary current s) (sym l.is)
+    subst (λ (o : Option Contents). MatchesKnownSink o names boundary current s) (sym l.is)
     (same_keeps c l.contents names boundary current s k (still_sound l k.sound) l.links_stay same)
 
 -- an answer of writes
-pub push_ok : (known after : Option Contents) (names : FileNames) (boundary : Option ℤ) (current : FileNumber) (bytes : List ℕ) (r : Result (Unit {0}) FolderError) → WritesAll known current bytes r after → OnOk r ((s : PlainSink) (m : Moment) → KeepsKnown known names boundary current (with_handed s (record { line = []; moment = m })) → KeepsKnown after names boundary current (with_handed s (record { line = bytes; moment = m })))
+pub push_ok : (known after : Option Contents) (names : FileNames) (boundary : Option ℤ) (current : FileNumber) (bytes : List ℕ) (r : Result (Unit {0}) FolderError) → WritesAll known current bytes r after → OnOk r ((s : PlainSink) (m : Moment) → MatchesKnownSink known names boundary current (with_handed s (record { line = []; moment = m })) → MatchesKnownSink after names boundary current (with_handed s (record { line = bytes; moment = m })))
 push_ok known after names boundary current bytes (Ok done) writes = λ s m k. push_keeps known after names boundary current s m bytes done writes k
 push_ok known after names boundary current bytes (Err e) writes = tt
 
-pub push_err : (known after : Option Contents) (names : FileNames) (boundary : Option ℤ) (current : FileNumber) (bytes : List ℕ) (r : Result (Unit {0}) FolderError) → WritesAll known current bytes r after → OnErr r ((s : PlainSink) → KeepsKnown known names boundary current s → KeepsKnown after names boundary current s)
+pub push_err : (known after : Option Contents) (names : FileNames) (boundary : Option ℤ) (current : FileNumber) (bytes : List ℕ) (r : Result (Unit {0}) FolderError) → WritesAll known current bytes r after → OnErr r ((s : PlainSink) → MatchesKnownSink known names boundary current s → MatchesKnownSink after names boundary current s)
 push_err known after names boundary current bytes (Ok done) writes = tt
 push_err known after names boundary current bytes (Err e) writes = λ s k. push_misses known after names boundary current s bytes e writes k
 
@@ -307,17 +307,17 @@ push_err known after names boundary current bytes (Err e) writes = λ s k. push_
 abbrev Once : Option Contents → FileNumber → List ℕ → Result ℕ FolderError → Option Contents → Type 0
 Once known current bytes r after = Gives (λ c. written c current bytes) known r after
 
-pub once_ok : (known after : Option Contents) (names : FileNames) (boundary : Option ℤ) (current : FileNumber) (bytes : List ℕ) (r : Result ℕ FolderError) → Once known current bytes r after → IfOk r (λ n. (s : PlainSink) (m : Moment) → KeepsKnown known names boundary current (with_handed s (record { line = []; moment = m })) → KeepsKnown after names boundary current (with_handed s (record { line = take n bytes; moment = m })))
+pub once_ok : (known after : Option Contents) (names : FileNames) (boundary : Option ℤ) (current : FileNumber) (bytes : List ℕ) (r : Result ℕ FolderError) → Once known current bytes r after → IfOk r (λ n. (s : PlainSink) (m : Moment) → MatchesKnownSink known names boundary current (with_handed s (record { line = []; moment = m })) → MatchesKnownSink after names boundary current (with_handed s (record { line = take n bytes; moment = m })))
 once_ok known after names boundary current bytes (Err e) gives = tt
-once_ok None after names boundary current bytes (Ok n) left = λ s m k. subst (λ (o : Option Contents). KeepsKnown o names boundary current (with_handed s (record { line = take n bytes; moment = m }))) (sym left) tt
+once_ok None after names boundary current bytes (Ok n) left = λ s m k. subst (λ (o : Option Contents). MatchesKnownSink o names boundary current (with_handed s (record { line = take n bytes; moment = m }))) (sym left) tt
 once_ok (Some c) after names boundary current bytes (Ok n) gives = λ s m k.
     let t = took c current bytes n (c.coming 0) refl gives.0 in
-    subst (λ (o : Option Contents). KeepsKnown o names boundary current (with_handed s (record { line = take n bytes; moment = m }))) (sym gives.1)
+    subst (λ (o : Option Contents). MatchesKnownSink o names boundary current (with_handed s (record { line = take n bytes; moment = m }))) (sym gives.1)
     (push_known c (written c current bytes).1 names boundary current s m (take n bytes) k (λ j. t.next j ∙ k.sound (suc j)) t.links t.files)
 
-pub once_err : (known after : Option Contents) (names : FileNames) (boundary : Option ℤ) (current : FileNumber) (bytes : List ℕ) (r : Result ℕ FolderError) → Once known current bytes r after → OnErr r ((s : PlainSink) → KeepsKnown known names boundary current s → KeepsKnown after names boundary current s)
+pub once_err : (known after : Option Contents) (names : FileNames) (boundary : Option ℤ) (current : FileNumber) (bytes : List ℕ) (r : Result ℕ FolderError) → Once known current bytes r after → OnErr r ((s : PlainSink) → MatchesKnownSink known names boundary current s → MatchesKnownSink after names boundary current s)
 once_err known after names boundary current bytes (Ok n) gives = tt
-once_err None after names boundary current bytes (Err e) left = λ s k. subst (λ (o : Option Contents). KeepsKnown o names boundary current s) (sym left) tt
+once_err None after names boundary current bytes (Err e) left = λ s k. subst (λ (o : Option Contents). MatchesKnownSink o names boundary current s) (sym left) tt
 once_err (Some c) after names boundary current bytes (Err OutOfMemory) left = λ s k.
-    subst (λ (o : Option Contents). KeepsKnown o names boundary current s) (sym left) (same_keeps c (called c) names boundary current s k (λ n. k.sound (suc n)) refl refl)
+    subst (λ (o : Option Contents). MatchesKnownSink o names boundary current s) (sym left) (same_keeps c (called c) names boundary current s k (λ n. k.sound (suc n)) refl refl)
 once_err (Some c) after names boundary current bytes (Err (Fault f)) gives = λ s k. absurd (no_fault c current bytes f k.sound gives.0)

@@ -11,7 +11,7 @@ use Rattle.tracing_appender_folders.specs.declared.fault.FolderFault.{FolderFaul
 use Rattle.tracing_appender_rolling.specs.declared.init.InitContext.{InitContext}
 use Rattle.tracing_appender_folders.specs.declared.fault.FolderError.TheVariants.{Fault}
 use Rattle.tracing_appender_folders.specs.Moments.{is_moment, period_at, end_of, is_due, latest_of}
-use Rattle.tracing_appender_folders.specs.Contents.{Contents, Kept, Outcome, listing, IsSound, if_refused, refusal, close_plain, without_number, closed, has_name, file_named, link_named, bytes_at, appended}
+use Rattle.tracing_appender_folders.specs.Contents.{Contents, StoredFile, Outcome, listing, IsSound, if_refused, refusal, close_plain, without_number, closed, has_name, file_named, link_named, bytes_at, appended}
 use Rattle.tracing_appender_folders.specs.Memory.{target_at}
 use Rattle.tracing_appender_folders.proofs.Openings.{closed_files, closed_sound}
 use Rattle.tracing_appender_folders.proofs.Content.{after_line, stands_from, stands_to, stands_still, more_bytes, no_bytes}
@@ -22,7 +22,7 @@ use Rattle.tracing_appender_rolling.specs.Sinks.{PlainSink, Handed, Placed, plac
 use Rattle.tracing_appender_rolling.specs.Tries.{Tried, failure, opened_linked}
 use Rattle.tracing_appender_rolling.specs.Looks.{Held, IsHeld, SwitchedTo, tried, try_at, name_at, end_at}
 use Rattle.tracing_appender_rolling.specs.Appenders.{running_period, IsOpenedAt, FailedTry}
-use Rattle.tracing_appender_rolling.specs.Remaining.{PrunedSink, IsOpenIn, pruned_text, without, with_line, is_named, IsRemoved, StandOnce, Leads, KeepsLeft, MayKeep, fresh_pruned, LeftByPeriod}
+use Rattle.tracing_appender_rolling.specs.Remaining.{PrunedSink, IsOpenIn, pruned_text, without, with_line, is_named, IsRemoved, StandOnce, Leads, MatchesPrunedSink, MayOpenSink, fresh_pruned, LeftByPeriod}
 use Rattle.tracing_appender_rolling.proofs.PeriodFacts.{same_period, later_period, opening_free}
 use Rattle.tracing_appender_rolling.proofs.Files.{placed_at, placed_more, running_more, file_more, file_fresh, file_two_steps}
 use Rattle.tracing_appender_rolling.proofs.Files as placing
@@ -42,7 +42,7 @@ none_stays true o e = refl
 none_stays false o e = e
 
 -- the building
-module _ (c : Contents) (names : FileNames) (m : Moment) (is_m : is_moment m ≡ true) (may : MayKeep c names) (l : Faults) (d : Contents) (r : Retention names no_faults l c d) where
+module _ (c : Contents) (names : FileNames) (m : Moment) (is_m : is_moment m ≡ true) (may : MayOpenSink c names) (l : Faults) (d : Contents) (r : Retention names no_faults l c d) where
   abbrev first_name : List ℕ
   first_name = name_at names m
 
@@ -54,7 +54,7 @@ module _ (c : Contents) (names : FileNames) (m : Moment) (is_m : is_moment m ≡
       latest_try names.latest d first_name r.leaves.sound r.leaves.once (ap (link_named first_name) r.leaves.links ∙ may.unlinked m m is_m is_m) (link_differs names m m is_m is_m may.good_link)
       (λ link e. r.leaves.bytes link ∙ none_stays (is_named link r.removed) (bytes_at c.files link) (may.link_free link e))
 
-  pub build_left : KeepsLeft first_try.left names (end_at names m) first_try.file first
+  pub build_left : MatchesPrunedSink first_try.left names (end_at names m) first_try.file first
   build_left =
       let t = first_try in
       record {
@@ -144,7 +144,7 @@ leads_still None name c d links none leads = tt
 leads_still (Some link) name c d links none leads = (none link leads.0, ap (λ (ls : List (List ℕ × List ℕ)). target_at ls link) links ∙ leads.1)
 
 -- a look from the boundary on
-module _ (c : Contents) (names : FileNames) (boundary : Option ℤ) (current : FileNumber) (p : PrunedSink) (m : Moment) (is_m : is_moment m ≡ true) (due : is_due boundary m.seconds ≡ true) (k : KeepsLeft c names boundary current p) (f l : Faults) (d : Contents) (r : Retention names f l c d) where
+module _ (c : Contents) (names : FileNames) (boundary : Option ℤ) (current : FileNumber) (p : PrunedSink) (m : Moment) (is_m : is_moment m ≡ true) (due : is_due boundary m.seconds ≡ true) (k : MatchesPrunedSink c names boundary current p) (f l : Faults) (d : Contents) (r : Retention names f l c d) where
   abbrev s : PlainSink
   s = p.sink
 
@@ -199,7 +199,7 @@ module _ (c : Contents) (names : FileNames) (boundary : Option ℤ) (current : F
   same : placing.name_at q.sink m ≡ new
   same = ap (λ x. period_name s (period_in s x)) later
 
-  pub switch_left : KeepsLeft try.left names (end_at names m) try.file looked
+  pub switch_left : MatchesPrunedSink try.left names (end_at names m) try.file looked
   switch_left = record {
     names_same = k.names_same;
     good_link = k.good_link;
@@ -221,7 +221,7 @@ module _ (c : Contents) (names : FileNames) (boundary : Option ℤ) (current : F
   }
 
 -- a look before it
-pub look_left : (c : Contents) (names : FileNames) (boundary : Option ℤ) (current : FileNumber) (p : PrunedSink) (m : Moment) → is_moment m ≡ true → is_due boundary m.seconds ≡ false → KeepsLeft c names boundary current p → KeepsLeft c names boundary current (with_line p [] m)
+pub look_left : (c : Contents) (names : FileNames) (boundary : Option ℤ) (current : FileNumber) (p : PrunedSink) (m : Moment) → is_moment m ≡ true → is_due boundary m.seconds ≡ false → MatchesPrunedSink c names boundary current p → MatchesPrunedSink c names boundary current (with_line p [] m)
 look_left c names boundary current p m is_m early k =
     let s = p.sink in
     let h : Handed = record { line = []; moment = m } in
@@ -249,19 +249,19 @@ look_left c names boundary current p m is_m early k =
     }
 
 -- bytes to the current file
-none_appended : (q : List ℕ) (fs : List Kept) (i : ℕ) (bytes : List ℕ) → bytes_at fs q ≡ None → bytes_at (appended fs i bytes) q ≡ None
+none_appended : (q : List ℕ) (fs : List StoredFile) (i : ℕ) (bytes : List ℕ) → bytes_at fs q ≡ None → bytes_at (appended fs i bytes) q ≡ None
 none_appended q [] i bytes e = refl
 none_appended q (f ∷ fs) zero bytes e =
     let s = none_first q f fs (has_name q f) e in ap (λ b. cond b (Some (f.bytes ++ bytes)) (bytes_at fs q)) s.0 ∙ s.1
 none_appended q (f ∷ fs) (suc i) bytes e =
     let s = none_first q f fs (has_name q f) e in ap (λ b. cond b (Some f.bytes) (bytes_at (appended fs i bytes) q)) s.0 ∙ none_appended q fs i bytes s.1
 
-once_appended : (fs : List Kept) (i : ℕ) (bytes : List ℕ) → StandOnce fs → StandOnce (appended fs i bytes)
+once_appended : (fs : List StoredFile) (i : ℕ) (bytes : List ℕ) → StandOnce fs → StandOnce (appended fs i bytes)
 once_appended [] i bytes once = tt
 once_appended (f ∷ fs) zero bytes once = once
 once_appended (f ∷ fs) (suc i) bytes once = (λ e. none_appended f.name fs i bytes (once.0 e), once_appended fs i bytes once.1)
 
-pub push_left : (c d : Contents) (names : FileNames) (boundary : Option ℤ) (current : FileNumber) (p : PrunedSink) (m : Moment) (bytes : List ℕ) → KeepsLeft c names boundary current (with_line p [] m) → IsSound d → d.links ≡ c.links → d.files ≡ appended c.files current.index bytes → KeepsLeft d names boundary current (with_line p bytes m)
+pub push_left : (c d : Contents) (names : FileNames) (boundary : Option ℤ) (current : FileNumber) (p : PrunedSink) (m : Moment) (bytes : List ℕ) → MatchesPrunedSink c names boundary current (with_line p [] m) → IsSound d → d.links ≡ c.links → d.files ≡ appended c.files current.index bytes → MatchesPrunedSink d names boundary current (with_line p bytes m)
 push_left c d names boundary current p m bytes k sound links files =
     let s = p.sink in
     let before : Handed = record { line = []; moment = m } in
@@ -271,7 +271,7 @@ push_left c d names boundary current p m bytes k sound links files =
     let same : placing.name_at s m ≡ mine = ap (λ r. period_name s (period_in s r)) (sym (running_more s.opened s.handed before)) in
     let stands = stands_from mine c.files current.index k.current_same in
     let left = current_left c (with_line p [] m) mine current.index k.current_same (k.files mine) in
-    let fits = λ (q : List ℕ) (e : bytes_at c.files q ≡ None). ap (λ (fs : List Kept). bytes_at fs q) files ∙ none_appended q c.files current.index bytes e in
+    let fits = λ (q : List ℕ) (e : bytes_at c.files q ≡ None). ap (λ (fs : List StoredFile). bytes_at fs q) files ∙ none_appended q c.files current.index bytes e in
     record {
       names_same = k.names_same;
       good_link = k.good_link;
@@ -289,7 +289,7 @@ push_left c d names boundary current p m bytes k sound links files =
           ∙ ap Some (omega arith);
       gone_opened = λ name gone. opened_alike s m bytes name (k.gone_opened name gone);
       files = λ name.
-          ap (λ (fs : List Kept). bytes_at fs name) files
+          ap (λ (fs : List StoredFile). bytes_at fs name) files
           ∙ more_bytes mine name bytes c.files current.index stands
           ∙ ap (λ o. after_line (bytes_eq mine name) o bytes) (k.files name)
           ∙ line_text (bytes_eq mine name) (p.gone name) (file_text (with_handed s before) name) bytes (λ e. subst (λ (n : List ℕ). p.gone n ≡ false) ((bytes_eq-Decides mine name).0 e) left)
@@ -309,7 +309,7 @@ push_left c d names boundary current p m bytes k sound links files =
         ∙ is
 
 -- a folder with the same files and links
-pub same_left : (c d : Contents) (names : FileNames) (boundary : Option ℤ) (current : FileNumber) (p : PrunedSink) → KeepsLeft c names boundary current p → IsSound d → d.links ≡ c.links → d.files ≡ c.files → KeepsLeft d names boundary current p
+pub same_left : (c d : Contents) (names : FileNames) (boundary : Option ℤ) (current : FileNumber) (p : PrunedSink) → MatchesPrunedSink c names boundary current p → IsSound d → d.links ≡ c.links → d.files ≡ c.files → MatchesPrunedSink d names boundary current p
 same_left c d names boundary current p k sound links files = record {
   names_same = k.names_same;
   good_link = k.good_link;
@@ -319,25 +319,25 @@ same_left c d names boundary current p k sound links files = record {
   sound = sound;
   once = subst StandOnce (sym files) k.once;
   unlinked = λ x is. ap (link_named (period_name p.sink (period_in p.sink x))) links ∙ k.unlinked x is;
-  link = leads_still p.sink.names.latest (period_name p.sink (running_period p.sink)) c d links (λ q e. ap (λ (fs : List Kept). bytes_at fs q) files ∙ e) k.link;
+  link = leads_still p.sink.names.latest (period_name p.sink (running_period p.sink)) c d links (λ q e. ap (λ (fs : List StoredFile). bytes_at fs q) files ∙ e) k.link;
   current_same = ap (file_named (period_name p.sink (running_period p.sink))) files ∙ k.current_same;
   gone_opened = k.gone_opened;
-  files = λ name. ap (λ (fs : List Kept). bytes_at fs name) files ∙ k.files name;
+  files = λ name. ap (λ (fs : List StoredFile). bytes_at fs name) files ∙ k.files name;
 }
 
 -- a building over a folder whose contents are known
-pub opens_left : (c : Contents) (names : FileNames) (m : Moment) (current : FileNumber) (boundary : Option ℤ) (faults : Faults) (after : Option Contents) → is_moment m ≡ true → MayKeep c names → IsOpenedAt names m c current boundary faults after →
-    (removed : List (List ℕ)) × IsRemoved names.limit names (listing c) removed × ((d : Contents) × (after ≡ Some d) × KeepsLeft d names boundary current (fresh_pruned names m c removed)) × (faults ≡ no_faults) × IsOpenIn after (c.open_files ++ current.index ∷ [])
+pub opens_left : (c : Contents) (names : FileNames) (m : Moment) (current : FileNumber) (boundary : Option ℤ) (faults : Faults) (after : Option Contents) → is_moment m ≡ true → MayOpenSink c names → IsOpenedAt names m c current boundary faults after →
+    (removed : List (List ℕ)) × IsRemoved names.limit names (listing c) removed × ((d : Contents) × (after ≡ Some d) × MatchesPrunedSink d names boundary current (fresh_pruned names m c removed)) × (faults ≡ no_faults) × IsOpenIn after (c.open_files ++ current.index ∷ [])
 opens_left c names m current boundary faults after is_m may is =
     let r = retained names no_faults faults c is.pruned may.sound may.once is.retention in
     let t = first_try c names m is_m may faults is.pruned r in
     let same = answer_file (try_at names m is.pruned) current t.file t.left t.is is.answered in
     let opens = t.open_files ∙ ap (λ (fs : List ℕ). fs ++ t.file.index ∷ []) r.leaves.open_stay ∙ ap (λ (f : FileNumber). c.open_files ++ f.index ∷ []) same in
-    let kept = subst (λ (n : FileNumber). KeepsLeft t.left names (end_at names m) n (fresh_pruned names m c r.removed)) same (build_left c names m is_m may faults is.pruned r) in
-    (r.removed, r.is_removed, (t.left, is.left ∙ ap (λ (x : Tried). Some x.1) t.is, subst (λ (b : Option ℤ). KeepsLeft t.left names b current (fresh_pruned names m c r.removed)) (sym is.until) kept), r.counts, subst (λ (o : Option Contents). IsOpenIn o (c.open_files ++ current.index ∷ [])) (sym (is.left ∙ ap (λ (x : Tried). Some x.1) t.is)) opens)
+    let kept = subst (λ (n : FileNumber). MatchesPrunedSink t.left names (end_at names m) n (fresh_pruned names m c r.removed)) same (build_left c names m is_m may faults is.pruned r) in
+    (r.removed, r.is_removed, (t.left, is.left ∙ ap (λ (x : Tried). Some x.1) t.is, subst (λ (b : Option ℤ). MatchesPrunedSink t.left names b current (fresh_pruned names m c r.removed)) (sym is.until) kept), r.counts, subst (λ (o : Option Contents). IsOpenIn o (c.open_files ++ current.index ∷ [])) (sym (is.left ∙ ap (λ (x : Tried). Some x.1) t.is)) opens)
 
 -- and one that failed
-pub fails_left : (c : Contents) (names : FileNames) (m : Moment) (context : InitContext) (fault : FolderFault) (after : Option Contents) → is_moment m ≡ true → MayKeep c names → FailedTry names m c context fault after → ⊥
+pub fails_left : (c : Contents) (names : FileNames) (m : Moment) (context : InitContext) (fault : FolderFault) (after : Option Contents) → is_moment m ≡ true → MayOpenSink c names → FailedTry names m c context fault after → ⊥
 fails_left c names m context fault after is_m may is =
     let r = retained names no_faults is.counted c is.pruned may.sound may.once is.retention in
     let t = first_try c names m is_m may is.counted is.pruned r in
@@ -348,8 +348,8 @@ closed_open : (c : Contents) (file : FileNumber) → IsSound c → (closed c fil
 closed_open c file sound = ap (λ (o : Outcome). (if_refused o (λ e. refusal e c) (close_plain file c)).1.open_files) (sound 0)
 
 -- a look at a moment over a folder whose contents are known
-pub switches_left : (c : Contents) (names : FileNames) (boundary end : Option ℤ) (current file : FileNumber) (faults l : Faults) (p : PrunedSink) (m : Moment) (after : Option Contents) → is_moment m ≡ true → is_due boundary m.seconds ≡ true → KeepsLeft c names boundary current p → SwitchedTo names m (record { boundary = boundary; current = current; faults = faults; contents = c }) end file l after →
-    (removed : List (List ℕ)) × IsRemoved names.limit names (listing c) removed × ((d : Contents) × (after ≡ Some d) × KeepsLeft d names end file (with_line (without removed p) [] m)) × (l ≡ faults)
+pub switches_left : (c : Contents) (names : FileNames) (boundary end : Option ℤ) (current file : FileNumber) (faults l : Faults) (p : PrunedSink) (m : Moment) (after : Option Contents) → is_moment m ≡ true → is_due boundary m.seconds ≡ true → MatchesPrunedSink c names boundary current p → SwitchedTo names m (record { boundary = boundary; current = current; faults = faults; contents = c }) end file l after →
+    (removed : List (List ℕ)) × IsRemoved names.limit names (listing c) removed × ((d : Contents) × (after ≡ Some d) × MatchesPrunedSink d names end file (with_line (without removed p) [] m)) × (l ≡ faults)
     × IsOpenIn after (without_number current.index (c.open_files ++ file.index ∷ []))
 switches_left c names boundary end current file faults l p m after is_m due k is =
     let r = retained names faults is.counted c is.pruned k.sound k.once is.retention in
@@ -364,7 +364,7 @@ switches_left c names boundary end current file faults l p m after is_m due k is
     let opens =
     closed_open t.left current t.sound
     ∙ ap (without_number current.index) (t.open_files ∙ ap (λ (fs : List ℕ). fs ++ t.file.index ∷ []) r.leaves.open_stay ∙ ap (λ (f : FileNumber). c.open_files ++ f.index ∷ []) (sym h.open_file)) in
-    (r.removed, r.is_removed, (end_left, h.folder, subst (λ (b : Option ℤ). KeepsLeft end_left names b file seen) (sym h.until) (subst (λ (n : FileNumber). KeepsLeft end_left names (end_at names m) n seen) (sym h.open_file) left)), h.counts ∙ r.counts, subst (λ (o : Option Contents). IsOpenIn o (without_number current.index (c.open_files ++ file.index ∷ []))) (sym h.folder) opens)
+    (r.removed, r.is_removed, (end_left, h.folder, subst (λ (b : Option ℤ). MatchesPrunedSink end_left names b file seen) (sym h.until) (subst (λ (n : FileNumber). MatchesPrunedSink end_left names (end_at names m) n seen) (sym h.open_file) left)), h.counts ∙ r.counts, subst (λ (o : Option Contents). IsOpenIn o (without_number current.index (c.open_files ++ file.index ∷ []))) (sym h.folder) opens)
 
 -- files by period
 pub left_by_period : LeftByPeriod

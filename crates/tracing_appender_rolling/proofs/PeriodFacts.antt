@@ -102,7 +102,6 @@ later_period kind r m e =
     let after = false_from_ne_true (int_le m.seconds r.seconds) (λ h. omega (arith, signed_arith, h, more)) in
     ap (λ t. cond (cond t (int_le r.seconds m.seconds && nat_lt r.nanoseconds m.nanoseconds) true) m r) after
 
--- names
 name_by_kind : (kind : PeriodKind) (prefix suffix : Option (List ℕ)) (s : ℤ) → dated.name_at kind prefix suffix s ≡ joined kind prefix (stamp kind (or_itself (first_second kind (period_of kind s)) s)) suffix
 name_by_kind Minute prefix suffix s = refl
 name_by_kind Hour prefix suffix s = refl

@@ -14,7 +14,6 @@ use Rattle.tracing_appender_folders.specs.Listings.{listed_of}
 use Rattle.tracing_appender_rolling.specs.Retention.{PlainCandidate, candidate_of, with_candidate, made_of, Tells, IsAdded, IsCandidates, goes}
 use Rattle.tracing_appender_rolling.specs.Pruning.{doomed_of, removed_all, Removes, LeftAt}
 
--- candidates
 added_behind : (name : List ℕ) (made : Option Moment) (rest more : List PlainCandidate) → with_candidate name made rest ++ more ≡ with_candidate name made (rest ++ more)
 added_behind name None rest more = refl
 added_behind name (Some m) rest more = refl
@@ -36,7 +35,6 @@ candidates_more names entries i e old new lt is h (date, tells, added) =
     subst (λ (xs : List PlainCandidate). IsCandidates names (map listed_of (take (i + 1) entries)) xs) (sym added)
     (subst (λ (ls : List Listed). IsCandidates names ls (old ++ with_candidate (listed_of e).name (made_of names (listed_of e) date) [])) (sym grown) (one_more names (map listed_of (take i entries)) old (listed_of e) date h tells))
 
--- removals
 removed_both : (xs ys : List (List ℕ)) (at : Faults × Contents) → removed_all (xs ++ ys) at ≡ removed_all ys (removed_all xs at)
 removed_both [] ys at = refl
 removed_both (x ∷ xs) ys at = removed_both xs ys _

@@ -6,7 +6,7 @@ use Rattle.std.specs.Str.{bytes_eq}
 use Rattle.std.proofs.lemmas.Bool.{false≢true, false_from_ne_true}
 use Rattle.std.proofs.lemmas.Slice.Eq.{bytes_eq-Decides}
 use Rattle.tracing_appender_folders.specs.declared.moment.Moment.{Moment}
-use Rattle.tracing_appender_folders.specs.Contents.{Contents, Kept, Listed, Answer, Outcome, IsSound, called, has_name, file_named, bytes_at, unnamed, fresh, if_refused, refusal, remove_at, remove_plain, removed, listing, listed_file, listed_link, list_plain, names_listed}
+use Rattle.tracing_appender_folders.specs.Contents.{Contents, StoredFile, Listed, Answer, Outcome, IsSound, called, has_name, file_named, bytes_at, unnamed, fresh, if_refused, refusal, remove_at, remove_plain, removed, listing, listed_file, listed_link, list_plain, names_listed}
 use Rattle.tracing_appender_folders.proofs.Content.{StandsAt, stands_from, none_step, added_other}
 use Rattle.tracing_appender_rolling.specs.declared.faults.Faults.{Faults}
 use Rattle.tracing_appender_rolling.specs.Names.{FileNames}
@@ -16,21 +16,21 @@ use Rattle.tracing_appender_rolling.specs.Remaining.{is_named, IsRemoved, StandO
 use Rattle.tracing_appender_rolling.proofs.Sparing.{bytes_unnamed}
 
 -- bytes and places of a name
-pub none_first : (q : List ℕ) (f : Kept) (fs : List Kept) (b : Bool) → cond b (Some f.bytes) (bytes_at fs q) ≡ None → (b ≡ false) × (bytes_at fs q ≡ None)
+pub none_first : (q : List ℕ) (f : StoredFile) (fs : List StoredFile) (b : Bool) → cond b (Some f.bytes) (bytes_at fs q) ≡ None → (b ≡ false) × (bytes_at fs q ≡ None)
 none_first q f fs true e = cc
 none_first q f fs false e = (refl, e)
 
-pub named_none : (q : List ℕ) (fs : List Kept) (k : ℕ) → bytes_at fs q ≡ None → position_from (has_name q) k fs ≡ None
+pub named_none : (q : List ℕ) (fs : List StoredFile) (k : ℕ) → bytes_at fs q ≡ None → position_from (has_name q) k fs ≡ None
 named_none q [] k e = refl
 named_none q (f ∷ fs) k e =
     let s = none_first q f fs (has_name q f) e in ap (λ b. cond b (Some k) (position_from (has_name q) (k + 1) fs)) s.0 ∙ named_none q fs (k + 1) s.1
 
-none_by : (q : List ℕ) (fs : List Kept) (k : ℕ) → position_from (has_name q) k fs ≡ None → bytes_at fs q ≡ None
+none_by : (q : List ℕ) (fs : List StoredFile) (k : ℕ) → position_from (has_name q) k fs ≡ None → bytes_at fs q ≡ None
 none_by q [] k e = refl
 none_by q (f ∷ fs) k e = let s = none_step q f fs k (has_name q f) refl e in ap (λ b. cond b (Some f.bytes) (bytes_at fs q)) s.0 ∙ none_by q fs (k + 1) s.1
 
 -- a name with bytes stands for a file
-pub named_some : (q : List ℕ) (fs : List Kept) → is_some (bytes_at fs q) ≡ true → (i : ℕ) × (file_named q fs ≡ Some i)
+pub named_some : (q : List ℕ) (fs : List StoredFile) → is_some (bytes_at fs q) ≡ true → (i : ℕ) × (file_named q fs ≡ Some i)
 named_some q fs e = by_case (file_named q fs) refl
   where
     by_case : (o : Option ℕ) → file_named q fs ≡ o → (i : ℕ) × (file_named q fs ≡ Some i)
@@ -44,31 +44,31 @@ both : (a b : Bool) → (a && b) ≡ true → both_true a b
 both true b e = (refl, e)
 both false b e = cc
 
-pub has_both : (q : List ℕ) (f : Kept) → has_name q f ≡ true → (f.stands ≡ true) × (f.name ≡ q)
+pub has_both : (q : List ℕ) (f : StoredFile) → has_name q f ≡ true → (f.stands ≡ true) × (f.name ≡ q)
 has_both q f has = let b = both f.stands (bytes_eq f.name q) has in (b.0, (bytes_eq-Decides f.name q).0 b.1)
 
-pub has_own : (f : Kept) → f.stands ≡ true → has_name f.name f ≡ true
+pub has_own : (f : StoredFile) → f.stands ≡ true → has_name f.name f ≡ true
 has_own f is = ap (λ b. b && bytes_eq f.name f.name) is ∙ (bytes_eq-Decides f.name f.name).1 refl
 
 -- a name that was taken from its file
-bytes_gone : (n : List ℕ) (fs : List Kept) (i : ℕ) → StandsAt n fs i → StandOnce fs → bytes_at (unnamed fs i) n ≡ None
+bytes_gone : (n : List ℕ) (fs : List StoredFile) (i : ℕ) → StandsAt n fs i → StandOnce fs → bytes_at (unnamed fs i) n ≡ None
 bytes_gone n [] i h once = absurd h
 bytes_gone n (f ∷ fs) zero h once = let b = has_both n f h in subst (λ (q : List ℕ). bytes_at fs q ≡ None) b.1 (once.0 b.0)
 bytes_gone n (f ∷ fs) (suc i) h once = ap (λ b. cond b (Some f.bytes) (bytes_at (unnamed fs i) n)) h.0 ∙ bytes_gone n fs i h.1 once.1
 
-none_unnamed : (q : List ℕ) (fs : List Kept) (i : ℕ) → bytes_at fs q ≡ None → bytes_at (unnamed fs i) q ≡ None
+none_unnamed : (q : List ℕ) (fs : List StoredFile) (i : ℕ) → bytes_at fs q ≡ None → bytes_at (unnamed fs i) q ≡ None
 none_unnamed q [] i e = refl
 none_unnamed q (f ∷ fs) zero e = (none_first q f fs (has_name q f) e).1
 none_unnamed q (f ∷ fs) (suc i) e =
     let s = none_first q f fs (has_name q f) e in ap (λ b. cond b (Some f.bytes) (bytes_at (unnamed fs i) q)) s.0 ∙ none_unnamed q fs i s.1
 
-once_unnamed : (fs : List Kept) (i : ℕ) → StandOnce fs → StandOnce (unnamed fs i)
+once_unnamed : (fs : List StoredFile) (i : ℕ) → StandOnce fs → StandOnce (unnamed fs i)
 once_unnamed [] i once = tt
 once_unnamed (f ∷ fs) zero once = (λ e. absurd (false≢true e), once.1)
 once_unnamed (f ∷ fs) (suc i) once = (λ e. none_unnamed f.name fs i (once.0 e), once_unnamed fs i once.1)
 
 -- a new file of a name that stood for none
-pub once_added : (name : List ℕ) (fs : List Kept) (k : ℕ) → position_from (has_name name) k fs ≡ None → StandOnce fs → StandOnce (fs ++ fresh name ∷ [])
+pub once_added : (name : List ℕ) (fs : List StoredFile) (k : ℕ) → position_from (has_name name) k fs ≡ None → StandOnce fs → StandOnce (fs ++ fresh name ∷ [])
 once_added name [] k free once = (λ e. refl, tt)
 once_added name (f ∷ fs) k free once =
     let s = none_step name f fs k (has_name name f) refl free in
@@ -88,7 +88,7 @@ abbrev pub Distinct : List (List ℕ) → Type 0
 Distinct [] = Unit {0}
 Distinct (n ∷ ns) = AllByRecursion (λ m. bytes_eq n m ≡ false) ns × Distinct ns
 
-abbrev pub AllStand : List Kept → List (List ℕ) → Type 0
+abbrev pub AllStand : List StoredFile → List (List ℕ) → Type 0
 AllStand fs names = AllByRecursion (λ n. is_some (bytes_at fs n) ≡ true) names
 
 -- what a removal of names leaves
@@ -102,11 +102,11 @@ pub record Removal (c d : Contents) (gone : List (List ℕ)) : Type 0 where
 apart_by : (n m : List ℕ) → bytes_eq n m ≡ false → n ≢ m
 apart_by n m miss same = false≢true (sym miss ∙ (bytes_eq-Decides n m).1 same)
 
-still_stand : (n : List ℕ) (fs : List Kept) (i : ℕ) → StandsAt n fs i → (ns : List (List ℕ)) → AllByRecursion (λ m. bytes_eq n m ≡ false) ns → AllStand fs ns → AllStand (unnamed fs i) ns
+still_stand : (n : List ℕ) (fs : List StoredFile) (i : ℕ) → StandsAt n fs i → (ns : List (List ℕ)) → AllByRecursion (λ m. bytes_eq n m ≡ false) ns → AllStand fs ns → AllStand (unnamed fs i) ns
 still_stand n fs i h [] apart all = tt
 still_stand n fs i h (m ∷ ms) apart all = (ap is_some (bytes_unnamed n m fs i h (apart_by n m apart.0)) ∙ all.0, still_stand n fs i h ms apart.1 all.1)
 
-more_gone : (n q : List ℕ) (ns : List (List ℕ)) (fs : List Kept) (i : ℕ) → StandsAt n fs i → StandOnce fs → cond (is_named q ns) None (bytes_at (unnamed fs i) q) ≡ cond (bytes_eq n q || is_named q ns) None (bytes_at fs q)
+more_gone : (n q : List ℕ) (ns : List (List ℕ)) (fs : List StoredFile) (i : ℕ) → StandsAt n fs i → StandOnce fs → cond (is_named q ns) None (bytes_at (unnamed fs i) q) ≡ cond (bytes_eq n q || is_named q ns) None (bytes_at fs q)
 more_gone n q ns fs i h once = by_case (bytes_eq n q) refl
   where
     none_both : (b : Bool) → cond b None (bytes_at [] q) ≡ None
@@ -137,7 +137,7 @@ no_links : (names : FileNames) (links : List (List ℕ × List ℕ)) (cs : List 
 no_links names [] cs is = is
 no_links names (l ∷ ls) cs (date, rest, tells, more, is) = is ∙ no_links names ls rest more
 
-stand_more : (f : Kept) (fs : List Kept) (ns : List (List ℕ)) → AllStand fs ns → AllStand (f ∷ fs) ns
+stand_more : (f : StoredFile) (fs : List StoredFile) (ns : List (List ℕ)) → AllStand fs ns → AllStand (f ∷ fs) ns
 stand_more f fs [] all = tt
 stand_more f fs (n ∷ ns) all = (by_case (has_name n f), stand_more f fs ns all.1)
   where
@@ -145,25 +145,25 @@ stand_more f fs (n ∷ ns) all = (by_case (has_name n f), stand_more f fs ns all
     by_case true = refl
     by_case false = all.0
 
-all_apart : (q : List ℕ) (fs : List Kept) → bytes_at fs q ≡ None → (ns : List (List ℕ)) → AllStand fs ns → AllByRecursion (λ m. bytes_eq q m ≡ false) ns
+all_apart : (q : List ℕ) (fs : List StoredFile) → bytes_at fs q ≡ None → (ns : List (List ℕ)) → AllStand fs ns → AllByRecursion (λ m. bytes_eq q m ≡ false) ns
 all_apart q fs none [] all = tt
 all_apart q fs none (n ∷ ns) all =
     (false_from_ne_true (bytes_eq q n) (λ same. false≢true (sym (ap is_some (subst (λ (m : List ℕ). bytes_at fs m ≡ None) ((bytes_eq-Decides q n).0 same) none)) ∙ all.0)), all_apart q fs none ns all.1)
 
-abbrev Fine : List Kept → List PlainCandidate → Type 0
+abbrev Fine : List StoredFile → List PlainCandidate → Type 0
 Fine fs cs = Distinct (map name_in cs) × AllStand fs (map name_in cs)
 
-fine_more : (f : Kept) (fs : List Kept) (made : Option Moment) (rest : List PlainCandidate) → f.stands ≡ true → bytes_at fs f.name ≡ None → Fine fs rest → Fine (f ∷ fs) (with_candidate f.name made rest)
+fine_more : (f : StoredFile) (fs : List StoredFile) (made : Option Moment) (rest : List PlainCandidate) → f.stands ≡ true → bytes_at fs f.name ≡ None → Fine fs rest → Fine (f ∷ fs) (with_candidate f.name made rest)
 fine_more f fs None rest stands none fine = (fine.0, stand_more f fs (map name_in rest) fine.1)
 fine_more f fs (Some m) rest stands none fine =
     ((all_apart f.name fs none (map name_in rest) fine.1, fine.0), (ap (λ b. is_some (cond b (Some f.bytes) (bytes_at fs f.name))) (has_own f stands), stand_more f fs (map name_in rest) fine.1))
 
-fine_first : (names : FileNames) (f : Kept) (fs : List Kept) (links : List (List ℕ × List ℕ)) (cs : List PlainCandidate) → StandOnce (f ∷ fs) → ((ds : List PlainCandidate) → IsCandidates names (map listed_file (filter (λ f. f.stands) fs) ++ map listed_link links) ds → Fine fs ds) → (b : Bool) → f.stands ≡ b → IsCandidates names (map listed_file (cond b (f ∷ filter (λ f. f.stands) fs) (filter (λ f. f.stands) fs)) ++ map listed_link links) cs → Fine (f ∷ fs) cs
+fine_first : (names : FileNames) (f : StoredFile) (fs : List StoredFile) (links : List (List ℕ × List ℕ)) (cs : List PlainCandidate) → StandOnce (f ∷ fs) → ((ds : List PlainCandidate) → IsCandidates names (map listed_file (filter (λ f. f.stands) fs) ++ map listed_link links) ds → Fine fs ds) → (b : Bool) → f.stands ≡ b → IsCandidates names (map listed_file (cond b (f ∷ filter (λ f. f.stands) fs) (filter (λ f. f.stands) fs)) ++ map listed_link links) cs → Fine (f ∷ fs) cs
 fine_first names f fs links cs once rests true stands (date, rest, tells, more, e) =
     subst (Fine (f ∷ fs)) (sym e) (fine_more f fs (made_of names (listed_file f) date) rest stands (once.0 stands) (rests rest more))
 fine_first names f fs links cs once rests false stands more = let fine = rests cs more in (fine.0, stand_more f fs (map name_in cs) fine.1)
 
-fine_by : (names : FileNames) (fs : List Kept) (links : List (List ℕ × List ℕ)) (cs : List PlainCandidate) → StandOnce fs → IsCandidates names (map listed_file (filter (λ f. f.stands) fs) ++ map listed_link links) cs → Fine fs cs
+fine_by : (names : FileNames) (fs : List StoredFile) (links : List (List ℕ × List ℕ)) (cs : List PlainCandidate) → StandOnce fs → IsCandidates names (map listed_file (filter (λ f. f.stands) fs) ++ map listed_link links) cs → Fine fs cs
 fine_by names [] links cs once is = subst (Fine []) (sym (no_links names links cs is)) (tt, tt)
 fine_by names (f ∷ fs) links cs once is = fine_first names f fs links cs once (λ ds more. fine_by names fs links ds once.1 more) f.stands refl is
 
@@ -176,11 +176,11 @@ apart_some : (q : List ℕ) (g : PlainCandidate → Bool) (cs : List PlainCandid
 apart_some q g [] all = tt
 apart_some q g (c ∷ cs) all = apart_first q c (filter g cs) all.0 (apart_some q g cs all.1) (g c)
 
-fine_first_of : (fs : List Kept) (c : PlainCandidate) (some : List PlainCandidate) → AllByRecursion (λ m. bytes_eq c.name m ≡ false) (map name_in some) → is_some (bytes_at fs c.name) ≡ true → Fine fs some → (b : Bool) → Fine fs (cond b (c ∷ some) some)
+fine_first_of : (fs : List StoredFile) (c : PlainCandidate) (some : List PlainCandidate) → AllByRecursion (λ m. bytes_eq c.name m ≡ false) (map name_in some) → is_some (bytes_at fs c.name) ≡ true → Fine fs some → (b : Bool) → Fine fs (cond b (c ∷ some) some)
 fine_first_of fs c some apart stands fine true = ((apart, fine.0), (stands, fine.1))
 fine_first_of fs c some apart stands fine false = fine
 
-fine_some : (fs : List Kept) (g : PlainCandidate → Bool) (cs : List PlainCandidate) → Fine fs cs → Fine fs (filter g cs)
+fine_some : (fs : List StoredFile) (g : PlainCandidate → Bool) (cs : List PlainCandidate) → Fine fs cs → Fine fs (filter g cs)
 fine_some fs g [] fine = (tt, tt)
 fine_some fs g (c ∷ cs) fine = fine_first_of fs c (filter g cs) (apart_some c.name g cs fine.0.0) fine.1.0 (fine_some fs g cs (fine.0.1, fine.1.1)) (g c)
 

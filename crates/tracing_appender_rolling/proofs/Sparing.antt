@@ -1,12 +1,12 @@
 -- Removals leave other names' bytes.
 use Rattle.std.proofs.Common.{◌≡◌, ◌≢◌, ℕ, zero, suc, List, [], ◌∷◌, cond, refl, ap, sym, ◌∙◌, Option, Some, None, inl, inr}
 use Rattle.tracing_appender_rolling.specs.declared.faults.Faults.{Faults}
-use Rattle.tracing_appender_folders.specs.Contents.{Contents, Kept, Outcome, Done, Refuses, Short, has_name, file_named, bytes_at, unnamed, if_refused, refusal, remove_at, removed}
+use Rattle.tracing_appender_folders.specs.Contents.{Contents, StoredFile, Outcome, Done, Refuses, Short, has_name, file_named, bytes_at, unnamed, if_refused, refusal, remove_at, removed}
 use Rattle.tracing_appender_rolling.specs.Pruning.{after_removal}
 use Rattle.tracing_appender_rolling.specs.Reading.{RetentionSpares}
 use Rattle.tracing_appender_folders.proofs.Content.{StandsAt, stands_from, one_name}
 
-pub bytes_unnamed : (n q : List ℕ) (fs : List Kept) (i : ℕ) → StandsAt n fs i → n ≢ q → bytes_at (unnamed fs i) q ≡ bytes_at fs q
+pub bytes_unnamed : (n q : List ℕ) (fs : List StoredFile) (i : ℕ) → StandsAt n fs i → n ≢ q → bytes_at (unnamed fs i) q ≡ bytes_at fs q
 bytes_unnamed n q [] i h apart = absurd h
 bytes_unnamed n q (f ∷ fs) zero h apart = sym (ap (λ b. cond b (Some f.bytes) (bytes_at fs q)) (one_name n q f h apart))
 bytes_unnamed n q (f ∷ fs) (suc i) h apart = ap (cond (has_name q f) (Some f.bytes)) (bytes_unnamed n q fs i h.1 apart)

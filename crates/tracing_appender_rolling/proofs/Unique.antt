@@ -12,7 +12,7 @@ use Rattle.tracing_appender_folders.specs.declared.fault.FolderFault.{FolderFaul
 use Rattle.tracing_appender_folders.specs.declared.fault.FolderError.{FolderError}
 use Rattle.tracing_appender_folders.specs.declared.fault.FolderError.TheVariants.{Fault, OutOfMemory}
 use Rattle.tracing_appender_folders.specs.Moments.{is_due}
-use Rattle.tracing_appender_folders.specs.Contents.{Contents, Kept, Answer, Outcome, Done, Refuses, Short, Listed, appended, taken, names_listed}
+use Rattle.tracing_appender_folders.specs.Contents.{Contents, StoredFile, Answer, Outcome, Done, Refuses, Short, Listed, appended, taken, names_listed}
 use Rattle.tracing_appender_rolling.specs.declared.faults.Faults.{Faults}
 use Rattle.tracing_appender_rolling.specs.Names.{FileNames}
 use Rattle.tracing_appender_rolling.specs.Faults.{after_write}
@@ -73,7 +73,6 @@ looked_once true names m h one two x y =
     ∙ ap after (pruned_once names h.faults x.counted y.counted x.pruned y.pruned names.limit h.contents x.retention y.retention)
     ∙ sym (held_is two (after (y.counted, y.pruned)) y.held)
 
--- writes
 takes_none : (o : Outcome) → taken o 0 ≡ 0
 takes_none Done = refl
 takes_none (Refuses fault) = refl
@@ -113,14 +112,14 @@ module _ (c : Contents) (len : ℕ) where
 
 contents_same : (a b : Contents) → a.files ≡ b.files → a.links ≡ b.links → a.open_files ≡ b.open_files → a.has_dirs ≡ b.has_dirs → a.last_flushed ≡ b.last_flushed → ((n : ℕ) → a.coming n ≡ b.coming n) → a ≡ b
 contents_same a b files links opens dirs flushes comes =
-    ap (λ (x : List Kept). record a { files = x }) files
+    ap (λ (x : List StoredFile). record a { files = x }) files
     ∙ ap (λ (x : List (List ℕ × List ℕ)). record b { links = x; open_files = a.open_files; has_dirs = a.has_dirs; last_flushed = a.last_flushed; coming = a.coming }) links
     ∙ ap (λ (x : List ℕ). record b { open_files = x; has_dirs = a.has_dirs; last_flushed = a.last_flushed; coming = a.coming }) opens
     ∙ ap (λ (x : Bool). record b { has_dirs = x; last_flushed = a.last_flushed; coming = a.coming }) dirs
     ∙ ap (λ (x : Option ℕ). record b { last_flushed = x; coming = a.coming }) flushes
     ∙ ap (λ (x : ℕ → Outcome). record b { coming = x }) (fun_ext comes)
 
-left_once : (c : Contents) (files others : List Kept) (dirs : Bool) (n k : ℕ) (p q : Option Contents) → files ≡ others → n ≡ k → Left c files dirs n p → Left c others dirs k q → p ≡ q
+left_once : (c : Contents) (files others : List StoredFile) (dirs : Bool) (n k : ℕ) (p q : Option Contents) → files ≡ others → n ≡ k → Left c files dirs n p → Left c others dirs k q → p ≡ q
 left_once c files others dirs n k p q same calls x y =
     x.is
     ∙ ap Some

@@ -9,15 +9,15 @@ use Rattle.tracing_appender_folders.specs.declared.fault.FolderFault.{FolderFaul
 use Rattle.tracing_appender_folders.specs.declared.fault.FolderFault.TheVariants.{WriteZero}
 use Rattle.tracing_appender_folders.specs.declared.fault.FolderError.{FolderError}
 use Rattle.tracing_appender_folders.specs.declared.fault.FolderError.TheVariants.{Fault, OutOfMemory}
-use Rattle.tracing_appender_folders.specs.Contents.{Contents, Kept, Answer, Gives, IsSound, Outcome, Done, Refuses, Short, appended, written, write_plain, taken, refusal, if_refused, called}
+use Rattle.tracing_appender_folders.specs.Contents.{Contents, StoredFile, Answer, Gives, IsSound, Outcome, Done, Refuses, Short, appended, written, write_plain, taken, refusal, if_refused, called}
 use Rattle.tracing_appender_rolling.specs.Writes.{Left, taken_by, Takes, FailsWith, WroteSome, Wrote, WritesAll}
 use Rattle.tracing_appender_folders.proofs.Content.{appended-nil}
 
 -- a second part at the same place
-appended_twice : (fs : List Kept) (i : ℕ) (a b : List ℕ) → appended (appended fs i a) i b ≡ appended fs i (a ++ b)
+appended_twice : (fs : List StoredFile) (i : ℕ) (a b : List ℕ) → appended (appended fs i a) i b ≡ appended fs i (a ++ b)
 appended_twice [] i a b = refl
 appended_twice (f ∷ fs) zero a b = ap (λ (t : List ℕ). record { name = f.name; stands = f.stands; created = f.created; bytes = t } ∷ fs) (append_assoc f.bytes a b)
-appended_twice (f ∷ fs) (suc i) a b = ap (λ (r : List Kept). f ∷ r) (appended_twice fs i a b)
+appended_twice (f ∷ fs) (suc i) a b = ap (λ (r : List StoredFile). f ∷ r) (appended_twice fs i a b)
 
 take_length : (m : ℕ) (xs : List ℕ) → take (length (take m xs)) xs ≡ take m xs
 take_length zero xs = refl
@@ -158,7 +158,7 @@ module _ (start : Option Contents) (file : FileNumber) (bytes : List ℕ) (from 
       record {
         contents = d;
         is = gave;
-        files_are = t.files ∙ ap (λ (fs : List Kept). appended fs file.index (take n part)) l.files_are ∙ appended_twice c.files file.index (take from bytes) (take n part) ∙ ap (appended c.files file.index) both;
+        files_are = t.files ∙ ap (λ (fs : List StoredFile). appended fs file.index (take n part)) l.files_are ∙ appended_twice c.files file.index (take from bytes) (take n part) ∙ ap (appended c.files file.index) both;
         links_stay = t.links ∙ l.links_stay;
         open_stay = t.opens ∙ l.open_stay;
         dirs_are = t.dirs ∙ l.dirs_are;
@@ -259,7 +259,7 @@ ends start file bytes from now done going all =
     })
 
 -- a folder that refuses nothing goes on so
-pub still_sound : {c : Contents} {files : List Kept} {dirs : Bool} {calls : ℕ} {after : Option Contents} (l : Left c files dirs calls after) → IsSound c → IsSound l.contents
+pub still_sound : {c : Contents} {files : List StoredFile} {dirs : Bool} {calls : ℕ} {after : Option Contents} (l : Left c files dirs calls after) → IsSound c → IsSound l.contents
 still_sound {calls = calls} l sound n = l.comes n ∙ sound (calls + n)
 
 pub no_fault : (d : Contents) (file : FileNumber) (part : List ℕ) (f : FolderFault) → IsSound d → (written d file part).0 ≡ Err (Fault f) → ⊥

@@ -25,15 +25,15 @@ abbrev pub running_period : PlainSink → ℤ
 running_period s = period_in s (running_moment s.opened s.handed)
 
 -- no file goes and no link is made
-pub record KeepsAll (names : FileNames) : Type 0 where
+pub record KeepsEveryFile (names : FileNames) : Type 0 where
   pub unlimited : names.limit ≡ None
   pub linkless : names.latest ≡ None
 
 -- the folder refuses nothing, takes each write whole, and has no link under the name of a log file of the sink, which keeps all of them; the boundary is the
 -- end of the running moment's period, the current file is that period's, and each file holds its text
-pub record Keeps (c : Contents) (names : FileNames) (boundary : Option ℤ) (current : FileNumber) (s : PlainSink) : Type 0 where
+pub record MatchesSink (c : Contents) (names : FileNames) (boundary : Option ℤ) (current : FileNumber) (s : PlainSink) : Type 0 where
   pub names_same : names ≡ s.names
-  pub all : KeepsAll s.names
+  pub all : KeepsEveryFile s.names
   pub boundary_same : boundary ≡ end_of s.names.kind (running_period s)
   pub sound : IsSound c
   pub unlinked : (m : Moment) → is_moment m ≡ true → link_named (period_name s (period_in s m)) c.links ≡ false
@@ -41,12 +41,12 @@ pub record Keeps (c : Contents) (names : FileNames) (boundary : Option ℤ) (cur
   pub files : (name : List ℕ) → bytes_at c.files name ≡ file_text s name
 
 -- nothing is said of a folder whose contents aren't known
-abbrev pub KeepsKnown : Option Contents → FileNames → Option ℤ → FileNumber → PlainSink → Type 0
-KeepsKnown None names boundary current s = Unit {0}
-KeepsKnown (Some c) names boundary current s = Keeps c names boundary current s
+abbrev pub MatchesKnownSink : Option Contents → FileNames → Option ℤ → FileNumber → PlainSink → Type 0
+MatchesKnownSink None names boundary current s = Unit {0}
+MatchesKnownSink (Some c) names boundary current s = MatchesSink c names boundary current s
 
 abbrev pub AgreesSink : {D : Type 0} → (D → Option Contents) → RollingFileAppender D → PlainSink → Type 0
-AgreesSink contents a s = KeepsKnown (contents a.folder) (builder_names a.builder) a.boundary a.current s
+AgreesSink contents a s = MatchesKnownSink (contents a.folder) (builder_names a.builder) a.boundary a.current s
 
 -- the appender stands for this one
 abbrev pub Holds : {D : Type 0} → (D → Option Contents) → RollingFileAppender D → Held → Type 0
@@ -100,7 +100,7 @@ MayOpen None names = Unit {0}
 MayOpen (Some c) names =
     IsSound c
     × ((opened m : Moment) → is_moment opened ≡ true → is_moment m ≡ true → link_named (file_name names opened.seconds (period_at names.kind m)) c.links ≡ false)
-    × KeepsAll names
+    × KeepsEveryFile names
 
 -- the folder comes back: the same bytes under each name, and a sink may be opened over it again
 abbrev pub HandsBack : Contents → FileNames → Option Contents → Type 0

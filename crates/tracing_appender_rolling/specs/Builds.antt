@@ -12,9 +12,9 @@ use Rattle.tracing_appender_rolling.specs.declared.appender.RollingFileAppender.
 use Rattle.tracing_appender_rolling.specs.Names.{FileNames, is_bad_name, HasBadLink, HasGoodLink}
 use Rattle.tracing_appender_rolling.specs.Builders.{builder_names}
 use Rattle.tracing_appender_folders.specs.Contents.{Contents}
-use Rattle.tracing_appender_rolling.specs.Remaining.{MayKeep, OpensLeft}
+use Rattle.tracing_appender_rolling.specs.Remaining.{MayOpenSink, OpensLeft}
 use Rattle.tracing_appender_rolling.specs.Faults.{no_faults}
-use Rattle.tracing_appender_rolling.specs.Telling.{Keeps, Rises, Counts}
+use Rattle.tracing_appender_rolling.specs.Telling.{DoesNotFall, Rises, Counts}
 use Rattle.tracing_appender_rolling.specs.Looks.{Starved}
 use Rattle.tracing_appender_rolling.specs.Appenders.{AgreesSink, IsOpened, FailedAt, MayOpen, HandsBack, fresh_sink}
 
@@ -30,7 +30,7 @@ pub record IsBuilt {D : Type 0} (contents : D → Option Contents) (failed : D �
   pub names_same : builder_names a.builder ≡ names
   pub agrees : MayOpen (contents folder) names → AgreesSink contents a (fresh_sink names m (contents folder))
   pub opened : (c : Contents) → contents folder ≡ Some c → IsOpened contents names m c a
-  pub left : (c : Contents) → contents folder ≡ Some c → MayKeep c names → OpensLeft contents names m c a
+  pub left : (c : Contents) → contents folder ≡ Some c → MayOpenSink c names → OpensLeft contents names m c a
   pub counted : Counts (failed folder) no_faults a.faults (failed a.folder)
 
 -- there was no memory: what the folder has then, which is the same bytes under each name where it refuses nothing and the sink keeps all files
@@ -47,16 +47,16 @@ Explains contents names folder m (Init e) back =
 Explains contents names folder m OutOfMemory back = (is_bad_name names ≡ false) × HasGoodLink names × IsStarved contents names folder m back
 
 -- a fault is told only where the folder's count rose, and names are told of a folder that was asked nothing
-abbrev pub ToldBuild : ℕ → BuildError → ℕ → Type 0
-ToldBuild n BadName m = m ≡ n
-ToldBuild n BadLinkName m = m ≡ n
-ToldBuild n (Init e) m = Rises n m
-ToldBuild n OutOfMemory m = Keeps n m
+abbrev pub ReportsBuild : ℕ → BuildError → ℕ → Type 0
+ReportsBuild n BadName m = m ≡ n
+ReportsBuild n BadLinkName m = m ≡ n
+ReportsBuild n (Init e) m = Rises n m
+ReportsBuild n OutOfMemory m = DoesNotFall n m
 
 pub record IsRefused {D : Type 0} (contents : D → Option Contents) (failed : D → ℕ) (names : FileNames) (folder : D) (m : Moment) (r : BuildRefusal D) : Type 0 where
   pub names_same : builder_names r.builder ≡ names
   pub explained : Explains contents names folder m r.error r.folder
-  pub told : ToldBuild (failed folder) r.error (failed r.folder)
+  pub told : ReportsBuild (failed folder) r.error (failed r.folder)
 
 abbrev pub Builds : {D : Type 0} → (D → Option Contents) → (D → ℕ) → FileNames → D → Moment → Result (RollingFileAppender D) (BuildRefusal D) → Type 0
 Builds contents failed names folder m (Ok a) = IsBuilt contents failed names folder m a

@@ -12,7 +12,6 @@ use Rattle.tracing_appender_rolling.specs.Retention.{PlainCandidate, IsCandidate
 abbrev pub doomed_of : ℕ → List PlainCandidate → List PlainCandidate → List (List ℕ)
 doomed_of limit cs some = map (λ (c : PlainCandidate). c.name) (filter (goes limit cs) some)
 
--- of all of them
 abbrev pub doomed : ℕ → List PlainCandidate → List (List ℕ)
 doomed limit cs = doomed_of limit cs cs
 

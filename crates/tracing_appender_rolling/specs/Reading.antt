@@ -6,7 +6,7 @@ use Rattle.std.specs.Cmp.Lexicographic.{slice_cmp}
 use Rattle.std.specs.Ordering.{nat_cmp}
 use Rattle.std.specs.declared.cmp.Ordering.TheVariants.{Less}
 use Rattle.tracing_appender_rolling.specs.declared.faults.Faults.{Faults}
-use Rattle.tracing_appender_folders.specs.Contents.{Contents, Kept, bytes_at, listing}
+use Rattle.tracing_appender_folders.specs.Contents.{Contents, StoredFile, bytes_at, listing}
 use Rattle.tracing_appender_folders.specs.declared.fault.FileNumber.{FileNumber}
 use Rattle.tracing_appender_rolling.specs.Names.{FileNames}
 use Rattle.tracing_appender_rolling.specs.Pruning.{removed_all}
@@ -14,7 +14,7 @@ use Rattle.tracing_appender_folders.specs.Moments.{is_moment, latest_of}
 use Rattle.tracing_appender_folders.specs.declared.moment.Moment.{Moment}
 use Rattle.tracing_appender_rolling.specs.Sinks.{Handed, Placed, PlainSink, placed, running_moment, period_in, period_name, was_opened, file_text}
 use Rattle.tracing_appender_rolling.specs.Retention.{PlainCandidate, is_before, goes}
-use Rattle.tracing_appender_rolling.specs.Remaining.{PrunedSink, pruned_text, IsRemoved, KeepsLeft, without, with_line}
+use Rattle.tracing_appender_rolling.specs.Remaining.{PrunedSink, pruned_text, IsRemoved, MatchesPrunedSink, without, with_line}
 
 -- a sink to which these were handed over, with a line between them
 abbrev pub between : PlainSink → List Handed → List ℕ → Moment → List Handed → PlainSink
@@ -58,12 +58,12 @@ abbrev pub OldestAreGone : PrunedSink → Type 0
 OldestAreGone p = (name later : List ℕ) → slice_cmp nat_cmp name later ≡ Less → was_opened p.sink name ≡ true → p.gone later ≡ true → p.gone name ≡ true
 
 -- the sink's files have no moment of their making
-abbrev pub Undated : PlainSink → List Kept → Type 0
-Undated s files = AllByRecursion (λ (f : Kept). f.stands ≡ true → was_opened s f.name ≡ true → f.created ≡ None) files
+abbrev pub Undated : PlainSink → List StoredFile → Type 0
+Undated s files = AllByRecursion (λ (f : StoredFile). f.stands ≡ true → was_opened s f.name ≡ true → f.created ≡ None) files
 
 -- retention keeps it so, where the sink's files have no moment of their making
 abbrev pub OldestStayGone : Type 0
-OldestStayGone = (c : Contents) (names : FileNames) (boundary : Option ℤ) (current : FileNumber) (p : PrunedSink) (removed : List (List ℕ)) → KeepsLeft c names boundary current p → Undated p.sink c.files →
+OldestStayGone = (c : Contents) (names : FileNames) (boundary : Option ℤ) (current : FileNumber) (p : PrunedSink) (removed : List (List ℕ)) → MatchesPrunedSink c names boundary current p → Undated p.sink c.files →
     OldestAreGone p → IsRemoved p.sink.names.limit p.sink.names (listing c) removed → OldestAreGone (without removed p)
 
 -- and so do lines

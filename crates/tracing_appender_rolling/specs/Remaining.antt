@@ -5,7 +5,7 @@ use Rattle.std.specs.Str.{bytes_eq}
 use Rattle.tracing_appender_folders.specs.declared.moment.Moment.{Moment}
 use Rattle.tracing_appender_folders.specs.declared.fault.FileNumber.{FileNumber}
 use Rattle.tracing_appender_folders.specs.Moments.{is_moment, period_at, end_of, is_due}
-use Rattle.tracing_appender_folders.specs.Contents.{Contents, Kept, Listed, IsSound, file_named, link_named, bytes_at, listing, without_number}
+use Rattle.tracing_appender_folders.specs.Contents.{Contents, StoredFile, Listed, IsSound, file_named, link_named, bytes_at, listing, without_number}
 use Rattle.tracing_appender_folders.specs.Memory.{target_at}
 use Rattle.tracing_appender_rolling.specs.declared.appender.RollingFileAppender.{RollingFileAppender}
 use Rattle.tracing_appender_rolling.specs.Names.{FileNames, file_name, HasGoodLink}
@@ -50,7 +50,7 @@ IsRemovedAt true names listed removed = IsRemoved names.limit names listed remov
 IsRemovedAt false names listed removed = removed ≡ []
 
 -- each name stands for one file
-abbrev pub StandOnce : List Kept → Type 0
+abbrev pub StandOnce : List StoredFile → Type 0
 StandOnce [] = Unit {0}
 StandOnce (file ∷ files) = (file.stands ≡ true → bytes_at files file.name ≡ None) × StandOnce files
 
@@ -61,7 +61,7 @@ Leads (Some link) name c = (bytes_at c.files link ≡ None) × (target_at c.link
 
 -- The folder refuses nothing and takes each write whole, each name in it stands for one file, and it has no link under the name of a log file of the sink. The
 -- boundary is the end of the running moment's period, the current file is that period's, the link leads to it, and each name has its text.
-pub record KeepsLeft (c : Contents) (names : FileNames) (boundary : Option ℤ) (current : FileNumber) (p : PrunedSink) : Type 0 where
+pub record MatchesPrunedSink (c : Contents) (names : FileNames) (boundary : Option ℤ) (current : FileNumber) (p : PrunedSink) : Type 0 where
   pub names_same : names ≡ p.sink.names
   pub good_link : HasGoodLink p.sink.names
   pub opened_moment : is_moment p.sink.opened ≡ true
@@ -77,11 +77,11 @@ pub record KeepsLeft (c : Contents) (names : FileNames) (boundary : Option ℤ) 
 
 -- the same of an appender over a folder whose contents are known
 abbrev pub AgreesLeft : {D : Type 0} → (D → Option Contents) → RollingFileAppender D → PrunedSink → Type 0
-AgreesLeft contents a p = (c : Contents) × (contents a.folder ≡ Some c) × KeepsLeft c (builder_names a.builder) a.boundary a.current p
+AgreesLeft contents a p = (c : Contents) × (contents a.folder ≡ Some c) × MatchesPrunedSink c (builder_names a.builder) a.boundary a.current p
 
 -- a folder over which such a sink may be opened: it refuses nothing, each name stands for one file, no link stands under a name of a log file, and no file
 -- under that of the link, which is no name of a log file
-pub record MayKeep (c : Contents) (names : FileNames) : Type 0 where
+pub record MayOpenSink (c : Contents) (names : FileNames) : Type 0 where
   pub good_link : HasGoodLink names
   pub sound : IsSound c
   pub once : StandOnce c.files

@@ -4,10 +4,10 @@ use Rattle.tracing_appender_folders.specs.declared.fault.FolderError.{FolderErro
 use Rattle.tracing_appender_folders.specs.declared.fault.FolderError.TheVariants.{Fault, OutOfMemory}
 use Rattle.tracing_appender_folders.specs.declared.fault.FolderFault.TheVariants.{WriteZero}
 use Rattle.tracing_appender_folders.specs.declared.fault.FileNumber.{FileNumber}
-use Rattle.tracing_appender_folders.specs.Contents.{Contents, Kept, Outcome, Done, Refuses, Short, appended, taken}
+use Rattle.tracing_appender_folders.specs.Contents.{Contents, StoredFile, Outcome, Done, Refuses, Short, appended, taken}
 
 -- these files, these directories or none, and links, open files and the last flush as before, after so many calls
-pub record Left (c : Contents) (files : List Kept) (dirs : Bool) (calls : ℕ) (after : Option Contents) : Type 0 where
+pub record Left (c : Contents) (files : List StoredFile) (dirs : Bool) (calls : ℕ) (after : Option Contents) : Type 0 where
   pub contents : Contents
   pub is : after ≡ Some contents
   pub files_are : contents.files ≡ files

@@ -9,10 +9,10 @@ ghost use Rattle.tracing_appender_rolling.specs.Builders.{builder_names};
 ghost use Rattle.tracing_appender_rolling.specs.Sinks.{PlainSink, with_handed};
 ghost use Rattle.tracing_appender_rolling.specs.Tries.{TriesFile};
 ghost use Rattle.tracing_appender_rolling.specs.Writes.{WritesAll};
-ghost use Rattle.tracing_appender_rolling.specs.Telling.{Counts, ToldAll, ToldError, ToldTry};
+ghost use Rattle.tracing_appender_rolling.specs.Telling.{Counts, ReportsAll, ReportsError, ReportsTry};
 ghost use Rattle.tracing_appender_rolling.specs.Faults.{no_faults};
 ghost use Rattle.tracing_appender_rolling.specs.Appenders.{Begins};
-ghost use Rattle.tracing_appender_rolling.specs.Remaining.{MayKeep, OpensLeft};
+ghost use Rattle.tracing_appender_rolling.specs.Remaining.{MayOpenSink, OpensLeft};
 
 use crate::builder::Builder;
 use crate::faults::Faults;
@@ -81,12 +81,12 @@ impl<D: Folder> RollingFileAppender<D> {
         ensures known { (c : Contents) → D.contents folder ≡ Some c → MayOpen (Some c) (builder_names builder) →
             IfErr result (λ refusal. (refusal.error ≡ FolderError.OutOfMemory) × HandsBack c (builder_names builder) (D.contents refusal.folder)) }
         // over a folder that refuses nothing, with retention or a link too
-        ensures left { (c : Contents) → D.contents folder ≡ Some c → MayKeep c (builder_names builder) →
+        ensures state { (c : Contents) → D.contents folder ≡ Some c → MayOpenSink c (builder_names builder) →
             IfOk result (λ appender. OpensLeft D.contents (builder_names builder) moment c appender) }
-        ensures starved { (c : Contents) → D.contents folder ≡ Some c → MayKeep c (builder_names builder) → IfErr result (λ refusal. refusal.error ≡ FolderError.OutOfMemory) }
+        ensures starved { (c : Contents) → D.contents folder ≡ Some c → MayOpenSink c (builder_names builder) → IfErr result (λ refusal. refusal.error ≡ FolderError.OutOfMemory) }
         ensures back { IfErr result (λ refusal. builder_names refusal.builder ≡ builder_names builder) }
         ensures counted { IfOk result (λ appender. Counts (D.failed folder) no_faults appender.faults (D.failed appender.folder)) }
-        ensures told { IfErr result (λ refusal. ToldError (D.failed folder) refusal.error (D.failed refusal.folder)) }
+        ensures error { IfErr result (λ refusal. ReportsError (D.failed folder) refusal.error (D.failed refusal.folder)) }
     {
         match open_first(alloc, &builder, &mut folder, moment) {
             Ok(opened) => Ok(RollingFileAppender {
@@ -136,7 +136,7 @@ impl<D: Folder> RollingFileAppender<D> {
         ensures unfaulted { (c : Contents) (s : PlainSink) → D.contents self.old.folder ≡ Some c → AgreesSink D.contents self.old s →
             self.new.faults ≡ self.old.faults }
         // over a folder that refuses nothing, with retention or a link too
-        ensures left { OnOk result ((c : Contents) (p : PrunedSink) → D.contents self.old.folder ≡ Some c → AgreesLeft D.contents self.old p →
+        ensures state { OnOk result ((c : Contents) (p : PrunedSink) → D.contents self.old.folder ≡ Some c → AgreesLeft D.contents self.old p →
             HandsLeft D.contents p [] moment c self.old self.new) }
         ensures names { builder_names self.new.builder ≡ builder_names self.old.builder }
         ensures counted { Counts (D.failed self.old.folder) self.old.faults self.new.faults (D.failed self.new.folder) }
@@ -194,10 +194,10 @@ impl<D: Folder> RollingFileAppender<D> {
         ensures still { self.new ≡ record self.old { folder = self.new.folder; faults = self.new.faults } }
         ensures unfaulted { (c : Contents) (s : PlainSink) → D.contents self.old.folder ≡ Some c → AgreesSink D.contents self.old s →
             (self.new.faults ≡ self.old.faults) × IfErr result (λ e. e ≡ FolderError.OutOfMemory) }
-        ensures left { OnOk result ((p : PrunedSink) (m : Moment) → AgreesLeft D.contents self.old (with_line p [] m) → AgreesLeft D.contents self.new (with_line p bytes.now m)) }
+        ensures state { OnOk result ((p : PrunedSink) (m : Moment) → AgreesLeft D.contents self.old (with_line p [] m) → AgreesLeft D.contents self.new (with_line p bytes.now m)) }
         ensures starved { IfErr result (λ e. (p : PrunedSink) → AgreesLeft D.contents self.old p → (e ≡ FolderError.OutOfMemory) × AgreesLeft D.contents self.new p) }
         ensures names { builder_names self.new.builder ≡ builder_names self.old.builder }
-        ensures told { ToldAll (D.failed self.old.folder) result (length bytes.now) (D.failed self.new.folder) }
+        ensures error { ReportsAll (D.failed self.old.folder) result (length bytes.now) (D.failed self.new.folder) }
     {
         let outcome = write_all(&mut self.folder, self.current, bytes);
         self.faults = self.faults.after_write(outcome);
@@ -237,7 +237,7 @@ fn open_first<D: Folder>(
     ensures begins { Begins (builder_names builder.now) moment (D.contents folder.old) result (D.contents folder.new) }
     ensures faults { (builder_names builder.now).limit ≡ None → IfOk result (λ opened. opened.faults ≡ no_faults) }
     ensures counted { IfOk result (λ opened. Counts (D.failed folder.old) no_faults opened.faults (D.failed folder.new)) }
-    ensures told { ToldTry (D.failed folder.old) result (D.failed folder.new) }
+    ensures error { ReportsTry (D.failed folder.old) result (D.failed folder.new) }
 {
     let starved = InitFailure {
         context: InitContext::File,
@@ -258,7 +258,7 @@ fn open_first<D: Folder>(
 /// Writes until all bytes are taken.
 fn write_all<D: Folder>(folder: &mut D, file: FileNumber, bytes: &[u8]) -> Result<(), FolderError>
     ensures written { WritesAll (D.contents folder.old) file bytes.now result (D.contents folder.new) }
-    ensures told { ToldAll (D.failed folder.old) result (length bytes.now) (D.failed folder.new) }
+    ensures error { ReportsAll (D.failed folder.old) result (length bytes.now) (D.failed folder.new) }
 {
     let mut from = 0;
     while from < bytes.len() {

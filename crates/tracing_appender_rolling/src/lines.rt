@@ -5,7 +5,7 @@ ghost use Rattle.tracing_appender_folders.specs.Moments.{is_moment, is_due};
 ghost use Rattle.tracing_appender_rolling.specs.Builders.{builder_names};
 ghost use Rattle.tracing_appender_folders.specs.Contents.{Contents, Gives, failures_after, flushed, written};
 ghost use Rattle.tracing_appender_rolling.specs.Faults.{after_write, unit_of};
-ghost use Rattle.tracing_appender_rolling.specs.Telling.{Counts, CountsLine, ToldAll, ToldCall, ToldWrites};
+ghost use Rattle.tracing_appender_rolling.specs.Telling.{Counts, CountsLine, ReportsAll, ReportsCall, ReportsWrites};
 ghost use Rattle.tracing_appender_rolling.specs.Sinks.{PlainSink, with_handed};
 
 use crate::appender::RollingFileAppender;
@@ -29,13 +29,13 @@ impl<D: Folder> RollingFileAppender<D> {
         ensures err { OnErr result ((s : PlainSink) → AgreesSink D.contents self.old s → Misses D.contents s moment self.new) }
         ensures handed { (h : Held) → Holds D.contents self.old h → HandsLine D.contents (builder_names self.old.builder) moment h bytes.now result self.new }
         // over a folder that refuses nothing, with retention or a link too
-        ensures left { OnOk result ((c : Contents) (p : PrunedSink) → D.contents self.old.folder ≡ Some c → AgreesLeft D.contents self.old p →
+        ensures state { OnOk result ((c : Contents) (p : PrunedSink) → D.contents self.old.folder ≡ Some c → AgreesLeft D.contents self.old p →
             HandsLeft D.contents p bytes.now moment c self.old self.new) }
         ensures starved { IfErr result (λ e. (p : PrunedSink) → AgreesLeft D.contents self.old p → e ≡ FolderError.OutOfMemory) }
         ensures names { builder_names self.new.builder ≡ builder_names self.old.builder }
-        ensures told { ToldWrites (D.failed self.old.folder) result (length bytes.now) (D.failed self.new.folder) }
+        ensures error { ReportsWrites (D.failed self.old.folder) result (length bytes.now) (D.failed self.new.folder) }
         // within the period of the last try the folder is asked for writes alone
-        ensures early { is_due self.old.boundary moment.seconds ≡ false → ToldAll (D.failed self.old.folder) result (length bytes.now) (D.failed self.new.folder) }
+        ensures early { is_due self.old.boundary moment.seconds ≡ false → ReportsAll (D.failed self.old.folder) result (length bytes.now) (D.failed self.new.folder) }
         ensures counted { CountsLine (D.failed self.old.folder) self.old.faults self.new.faults result (length bytes.now) (D.failed self.new.folder) }
     {
         self.look(moment)?;
@@ -55,11 +55,11 @@ impl<D: Folder> RollingFileAppender<D> {
             AgreesSink D.contents self.new (with_handed s (record { line = take n bytes.now; moment = moment }))) }
         ensures missed { OnErr result ((s : PlainSink) → AgreesSink D.contents self.old s → Misses D.contents s moment self.new) }
         // over a folder that refuses nothing, with retention or a link too
-        ensures left { IfOk result (λ n. (c : Contents) (p : PrunedSink) → D.contents self.old.folder ≡ Some c → AgreesLeft D.contents self.old p →
+        ensures state { IfOk result (λ n. (c : Contents) (p : PrunedSink) → D.contents self.old.folder ≡ Some c → AgreesLeft D.contents self.old p →
             HandsLeft D.contents p (take n bytes.now) moment c self.old self.new) }
         ensures starved { IfErr result (λ e. (p : PrunedSink) → AgreesLeft D.contents self.old p → e ≡ FolderError.OutOfMemory) }
         ensures names { builder_names self.new.builder ≡ builder_names self.old.builder }
-        ensures told { ToldCall (D.failed self.old.folder) result (D.failed self.new.folder) }
+        ensures error { ReportsCall (D.failed self.old.folder) result (D.failed self.new.folder) }
         // within the period of the last try the folder is asked for the write alone
         ensures early { is_due self.old.boundary moment.seconds ≡ false → D.failed self.new.folder ≡ failures_after (D.failed self.old.folder) result }
         ensures counted { Counts (D.failed self.old.folder) self.old.faults self.new.faults (D.failed self.new.folder) }
@@ -77,12 +77,12 @@ impl<D: Folder> RollingFileAppender<D> {
         ensures agrees { IfOk result (λ n. (s : PlainSink) (m : Moment) → AgreesSink D.contents self.old (with_handed s (record { line = []; moment = m })) →
             AgreesSink D.contents self.new (with_handed s (record { line = take n bytes.now; moment = m }))) }
         ensures missed { OnErr result ((s : PlainSink) → AgreesSink D.contents self.old s → AgreesSink D.contents self.new s) }
-        ensures left { IfOk result (λ n. (p : PrunedSink) (m : Moment) → AgreesLeft D.contents self.old (with_line p [] m) →
+        ensures state { IfOk result (λ n. (p : PrunedSink) (m : Moment) → AgreesLeft D.contents self.old (with_line p [] m) →
             AgreesLeft D.contents self.new (with_line p (take n bytes.now) m)) }
         ensures starved { IfErr result (λ e. (p : PrunedSink) → AgreesLeft D.contents self.old p →
             (e ≡ FolderError.OutOfMemory) × AgreesLeft D.contents self.new p) }
         ensures still { self.new ≡ record self.old { folder = self.new.folder; faults = self.new.faults } }
-        ensures told { ToldCall (D.failed self.old.folder) result (D.failed self.new.folder) }
+        ensures error { ReportsCall (D.failed self.old.folder) result (D.failed self.new.folder) }
         ensures counted { Counts (D.failed self.old.folder) self.old.faults self.new.faults (D.failed self.new.folder) }
     {
         match self.folder.write(self.current, bytes) {
@@ -105,7 +105,7 @@ impl<D: Folder> RollingFileAppender<D> {
         ensures still { self.new ≡ record self.old { folder = self.new.folder } }
         ensures counted { D.failed self.new.folder ≡ failures_after (D.failed self.old.folder) result }
         ensures agrees { (s : PlainSink) → AgreesSink D.contents self.old s → AgreesSink D.contents self.new s }
-        ensures left { (p : PrunedSink) → AgreesLeft D.contents self.old p → AgreesLeft D.contents self.new p }
+        ensures state { (p : PrunedSink) → AgreesLeft D.contents self.old p → AgreesLeft D.contents self.new p }
     {
         self.folder.flush(self.current)
     }

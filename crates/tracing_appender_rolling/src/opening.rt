@@ -3,7 +3,7 @@
 ghost use Rattle.std.specs.Prelude.{◌≡◌, string_bytes};
 ghost use Rattle.std.specs.Option.{option_map};
 ghost use Rattle.tracing_appender_rolling.specs.Tries.{Tries, TriesFile, Unlinked, made_again, opened_twice, linked_to};
-ghost use Rattle.tracing_appender_rolling.specs.Telling.{ToldTry};
+ghost use Rattle.tracing_appender_rolling.specs.Telling.{ReportsTry};
 ghost use Rattle.tracing_appender_rolling.specs.Writes.{Unchanged};
 
 use crate::init::{InitContext, InitFailure};
@@ -12,7 +12,7 @@ use tracing_appender_folders::{FileNumber, Folder, FolderError};
 /// Opens a file. Where that is refused, the directories are made and it is tried once more.
 fn open_twice<D: Folder>(folder: &mut D, name: &str) -> Result<FileNumber, InitFailure>
     ensures tries { Tries Unchanged (opened_twice name.now) (D.contents folder.old) result (D.contents folder.new) }
-    ensures told { ToldTry (D.failed folder.old) result (D.failed folder.new) }
+    ensures error { ReportsTry (D.failed folder.old) result (D.failed folder.new) }
 {
     match folder.open_append(name) {
         Ok(file) => Ok(file),
@@ -27,7 +27,7 @@ fn open_twice<D: Folder>(folder: &mut D, name: &str) -> Result<FileNumber, InitF
 /// Makes the directories and opens a file.
 fn open_made<D: Folder>(folder: &mut D, name: &str) -> Result<FileNumber, InitFailure>
     ensures tries { Tries Unchanged (made_again name.now) (D.contents folder.old) result (D.contents folder.new) }
-    ensures told { ToldTry (D.failed folder.old) result (D.failed folder.new) }
+    ensures error { ReportsTry (D.failed folder.old) result (D.failed folder.new) }
 {
     if let Err(error) = folder.create_dirs() {
         return Err(InitFailure {
@@ -52,7 +52,7 @@ fn link_file<D: Folder>(
     name: &str,
 ) -> Result<FileNumber, InitFailure>
     ensures tries { Tries (Unlinked file) (linked_to link.now name.now file) (D.contents folder.old) result (D.contents folder.new) }
-    ensures told { ToldTry (D.failed folder.old) result (D.failed folder.new) }
+    ensures error { ReportsTry (D.failed folder.old) result (D.failed folder.new) }
 {
     match folder.link(link, name) {
         Ok(()) => Ok(file),
@@ -73,7 +73,7 @@ pub(crate) fn open_linked<D: Folder>(
     latest: &Option<String>,
 ) -> Result<FileNumber, InitFailure>
     ensures tries { TriesFile (option_map string_bytes latest.now) name.now (D.contents folder.old) result (D.contents folder.new) }
-    ensures told { ToldTry (D.failed folder.old) result (D.failed folder.new) }
+    ensures error { ReportsTry (D.failed folder.old) result (D.failed folder.new) }
 {
     match open_twice(folder, name) {
         Ok(file) => match latest {

@@ -131,7 +131,7 @@ fn is_doomed(all: &[Candidate<'_>], candidate: &Candidate<'_>, limit: usize) -> 
 fn remove_file<D: Folder>(folder: &mut D, name: &str, faults: Faults) -> Result<Faults, AllocError>
     ensures removes { Removes (name.now ∷ []) faults (D.contents folder.old) result (D.contents folder.new) }
     ensures once { CountsOnce (D.failed folder.old) faults result (D.failed folder.new) }
-    ensures told { CountsOk (D.failed folder.old) faults result (D.failed folder.new) }
+    ensures error { CountsOk (D.failed folder.old) faults result (D.failed folder.new) }
 {
     match folder.remove(name) {
         Ok(()) => Ok(faults),
@@ -150,7 +150,7 @@ fn remove_if_doomed<D: Folder>(
 ) -> Result<Faults, AllocError>
     ensures removes { Removes (doomed_of limit (map candidate_of all.now) (candidate_of candidate.now ∷ [])) faults (D.contents folder.old) result (D.contents folder.new) }
     ensures once { CountsOnce (D.failed folder.old) faults result (D.failed folder.new) }
-    ensures told { CountsOk (D.failed folder.old) faults result (D.failed folder.new) }
+    ensures error { CountsOk (D.failed folder.old) faults result (D.failed folder.new) }
 {
     if !is_doomed(all, candidate, limit) {
         return Ok(faults);
@@ -167,7 +167,7 @@ fn remove_doomed<D: Folder>(
     faults: Faults,
 ) -> Result<Faults, AllocError>
     ensures removes { Removes (doomed limit (map candidate_of all.now)) faults (D.contents folder.old) result (D.contents folder.new) }
-    ensures told { CountsOk (D.failed folder.old) faults result (D.failed folder.new) }
+    ensures error { CountsOk (D.failed folder.old) faults result (D.failed folder.new) }
 {
     let mut faults = faults;
     for candidate in all {
@@ -184,7 +184,7 @@ pub(crate) fn prune<D: Folder>(
     faults: Faults,
 ) -> Result<Faults, AllocError>
     ensures pruned { Prunes (builder_names builder.now) faults (D.contents folder.old) result (D.contents folder.new) }
-    ensures told { CountsOk (D.failed folder.old) faults result (D.failed folder.new) }
+    ensures error { CountsOk (D.failed folder.old) faults result (D.failed folder.new) }
     ensures unlimited { (builder_names builder.now).limit ≡ None → (result ≡ Ok faults) × (folder.new ≡ folder.old) }
 {
     let Some(limit) = builder.limit else {

@@ -41,7 +41,7 @@ pub use Rattle.tracing_core_requests.specs.Events
 pub use Rattle.tracing_core_requests.specs.Currents
 pub use Rattle.tracing_core_hub.specs.DefaultCallsites
 pub use Rattle.tracing_core_hub.specs.Lent
-pub use Rattle.tracing_core_hub.specs.Kept
+pub use Rattle.tracing_core_hub.specs.ValidCaches
 pub use Rattle.tracing_core_hub.specs.Refreshing
 pub use Rattle.tracing_core_hub.specs.Sound
 pub use Rattle.tracing_core_hub.specs.Keeping
@@ -57,9 +57,9 @@ pub use Rattle.tracing_core_requests.specs.declared.interest.InterestInner
 pub use Rattle.tracing_core_requests.specs.declared.requests.parent.Parent
 pub use Rattle.tracing_core_requests.specs.declared.current_span.CurrentSpan
 pub use Rattle.tracing_core_requests.specs.declared.refusal.RequestError
-pub use Rattle.tracing_core_hub.specs.declared.hub.parts.Entry
-pub use Rattle.tracing_core_hub.specs.declared.hub.parts.Row
-pub use Rattle.tracing_core_hub.specs.declared.hub.parts.Setting
+pub use Rattle.tracing_core_hub.specs.declared.hub.parts.RegisteredSubscriber
+pub use Rattle.tracing_core_hub.specs.declared.hub.parts.RegisteredCallsite
+pub use Rattle.tracing_core_hub.specs.declared.hub.parts.LaneDefault
 pub use Rattle.tracing_core_hub.specs.declared.refusal.RegisterError
 pub use Rattle.tracing_core_hub.specs.declared.hub.parts.Lane
 pub use Rattle.tracing_core_requests.specs.declared.subscriber.Subscriber

@@ -10,8 +10,8 @@ pub use tracing_core_fields::{
 };
 pub use tracing_core_hub::{
     AddError, Book, Command, CommandError, CommandReply, DefaultCallsite, DefaultGuard, Dispatch,
-    HandleCount, HandleError, Hub, HubTable, KeptInterest, Lane, NoRoom, RegisterError,
-    SetDefaultError, SetGlobalDefaultError, Setting, TooManyHandles, UnknownLane, WrongLane,
+    HandleCount, HandleError, Hub, HubTable, KeptInterest, Lane, LaneDefault, NoRoom,
+    RegisterError, SetDefaultError, SetGlobalDefaultError, TooManyHandles, UnknownLane, WrongLane,
 };
 pub use tracing_core_requests::{
     At, Attributes, Callsite, Current, CurrentSpan, Event, Interest, NoSubscriber, Record,

@@ -1,49 +1,49 @@
 -- Entries by their numbers, and by their places.
 use Rattle.std.proofs.Common.{◌≡◌, ℕ, zero, suc, ◌<◌, ◌≤◌, true, false, List, ◌∷◌, [], length, get_or, set, Option, Some, None, refl, ap, arith}
 use Rattle.std.specs.List.{remove}
-use Rattle.tracing_core_hub.specs.declared.hub.parts.Entry.{Entry}
+use Rattle.tracing_core_hub.specs.declared.hub.parts.RegisteredSubscriber.{RegisteredSubscriber}
 use Rattle.std.specs.Prelude.{◌==◌, nat_le, slice_get}
 use Rattle.tracing_core_hub.specs.Handles.{is_of, entry_of, changed, without, hold_refusal, given_back, one_less, most}
 use Rattle.tracing_core_hub.specs.declared.refusal.HandleError.TheVariants.{Unknown, TooMany}
 
 module _ {S : Type 0} (serial : ℕ) where
-  pub entry_at : (es : List (Entry S)) (i : ℕ) (d : Entry S) → i < length es → is_of serial (get_or es i d) ≡ true → ((k : ℕ) → k < i → is_of serial (get_or es k d) ≡ false) → entry_of serial es ≡ Some (get_or es i d)
+  pub entry_at : (es : List (RegisteredSubscriber S)) (i : ℕ) (d : RegisteredSubscriber S) → i < length es → is_of serial (get_or es i d) ≡ true → ((k : ℕ) → k < i → is_of serial (get_or es k d) ≡ false) → entry_of serial es ≡ Some (get_or es i d)
   entry_at [] i d inside here before = absurd (omega arith)
   entry_at (e ∷ es) zero d inside here before = rw here refl
   entry_at (e ∷ es) (suc i) d inside here before = rw (before 0 (omega arith)) (entry_at es i d (omega arith) here (λ k h. before (suc k) (omega arith)))
 
-  pub changed_at : (f : Entry S → Entry S) (es : List (Entry S)) (i : ℕ) (d : Entry S) → i < length es → is_of serial (get_or es i d) ≡ true → ((k : ℕ) → k < i → is_of serial (get_or es k d) ≡ false) → changed serial f es ≡ set es i (f (get_or es i d))
+  pub changed_at : (f : RegisteredSubscriber S → RegisteredSubscriber S) (es : List (RegisteredSubscriber S)) (i : ℕ) (d : RegisteredSubscriber S) → i < length es → is_of serial (get_or es i d) ≡ true → ((k : ℕ) → k < i → is_of serial (get_or es k d) ≡ false) → changed serial f es ≡ set es i (f (get_or es i d))
   changed_at f [] i d inside here before = absurd (omega arith)
   changed_at f (e ∷ es) zero d inside here before = rw here refl
   changed_at f (e ∷ es) (suc i) d inside here before = rw (before 0 (omega arith)) (ap (λ xs. e ∷ xs) (changed_at f es i d (omega arith) here (λ k h. before (suc k) (omega arith))))
 
-  pub without_at : (es : List (Entry S)) (i : ℕ) (d : Entry S) → i < length es → is_of serial (get_or es i d) ≡ true → ((k : ℕ) → k < i → is_of serial (get_or es k d) ≡ false) → without serial es ≡ remove es i
+  pub without_at : (es : List (RegisteredSubscriber S)) (i : ℕ) (d : RegisteredSubscriber S) → i < length es → is_of serial (get_or es i d) ≡ true → ((k : ℕ) → k < i → is_of serial (get_or es k d) ≡ false) → without serial es ≡ remove es i
   without_at [] i d inside here before = absurd (omega arith)
   without_at (e ∷ es) zero d inside here before = rw here refl
   without_at (e ∷ es) (suc i) d inside here before = rw (before 0 (omega arith)) (ap (λ xs. e ∷ xs) (without_at es i d (omega arith) here (λ k h. before (suc k) (omega arith))))
 
-  pub entry_absent : (es : List (Entry S)) → ((k : ℕ) (d : Entry S) → 0 ≤ k → k < length es → is_of serial (get_or es k d) ≡ false) → entry_of serial es ≡ None
+  pub entry_absent : (es : List (RegisteredSubscriber S)) → ((k : ℕ) (d : RegisteredSubscriber S) → 0 ≤ k → k < length es → is_of serial (get_or es k d) ≡ false) → entry_of serial es ≡ None
   entry_absent [] none = refl
   entry_absent (e ∷ es) none = rw (none 0 e (omega arith) (omega arith)) (entry_absent es (λ k d h1 h2. none (suc k) d (omega arith) (omega arith)))
 
 -- what a place tells of handles
-module _ {S : Type 0} (serial : Option ℕ) (number : ℕ) (es : List (Entry S)) (is : serial ≡ Some number) where
+module _ {S : Type 0} (serial : Option ℕ) (number : ℕ) (es : List (RegisteredSubscriber S)) (is : serial ≡ Some number) where
   pub absent_refusal : entry_of number es ≡ None → hold_refusal serial es ≡ Some Unknown
   absent_refusal absent = rw (is, absent) refl
 
   pub absent_given : entry_of number es ≡ None → given_back serial es ≡ (None, es)
   absent_given absent = rw (is, absent) refl
 
-  pub full_refusal : (e : Entry S) → entry_of number es ≡ Some e → e.handles ≡ most → hold_refusal serial es ≡ Some TooMany
+  pub full_refusal : (e : RegisteredSubscriber S) → entry_of number es ≡ Some e → e.handles ≡ most → hold_refusal serial es ≡ Some TooMany
   full_refusal e there full = rw (is, there, full) refl
 
-  pub no_refusal : (e : Entry S) → entry_of number es ≡ Some e → e.handles < most → hold_refusal serial es ≡ None
+  pub no_refusal : (e : RegisteredSubscriber S) → entry_of number es ≡ Some e → e.handles < most → hold_refusal serial es ≡ None
   no_refusal e there room = let differs : (e.handles == most) ≡ false = grind arith in rw (is, there, differs) refl
 
-  pub last_given : (e : Entry S) → entry_of number es ≡ Some e → e.handles ≤ 1 → given_back serial es ≡ (Some e.subscriber, without number es)
+  pub last_given : (e : RegisteredSubscriber S) → entry_of number es ≡ Some e → e.handles ≤ 1 → given_back serial es ≡ (Some e.subscriber, without number es)
   last_given e there last = let few : nat_le e.handles 1 ≡ true = grind arith in rw (is, there, few) refl
 
-  pub more_given : (e : Entry S) → entry_of number es ≡ Some e → 1 < e.handles → given_back serial es ≡ (None, changed number one_less es)
+  pub more_given : (e : RegisteredSubscriber S) → entry_of number es ≡ Some e → 1 < e.handles → given_back serial es ≡ (None, changed number one_less es)
   more_given e there more = let many : nat_le e.handles 1 ≡ false = grind arith in rw (is, there, many) refl
 
 -- what is read in range doesn't depend on the default
@@ -56,13 +56,13 @@ pub pair_is : {A B : Type 0} (a b : A) (x y : B) → a ≡ b → x ≡ y → ◌
 pair_is a b x y e h = cc
 
 -- what was found, as the lemmas above want it
-pub found_at : {S : Type 0} (serial : ℕ) (xs es : List (Entry S)) (i : ℕ) (d : Entry S) → xs ≡ es → (i < length xs) × ((e : Entry S) → is_of serial (get_or xs i e) ≡ true) × ((k : ℕ) (e : Entry S) → 0 ≤ k → k < i → is_of serial (get_or xs k e) ≡ false) → (i < length es) × (is_of serial (get_or es i d) ≡ true) × ((k : ℕ) → k < i → is_of serial (get_or es k d) ≡ false)
+pub found_at : {S : Type 0} (serial : ℕ) (xs es : List (RegisteredSubscriber S)) (i : ℕ) (d : RegisteredSubscriber S) → xs ≡ es → (i < length xs) × ((e : RegisteredSubscriber S) → is_of serial (get_or xs i e) ≡ true) × ((k : ℕ) (e : RegisteredSubscriber S) → 0 ≤ k → k < i → is_of serial (get_or xs k e) ≡ false) → (i < length es) × (is_of serial (get_or es i d) ≡ true) × ((k : ℕ) → k < i → is_of serial (get_or es k d) ≡ false)
 found_at serial xs es i d e h = rw (← e) (h.0, h.1 d, λ k lt. h.2 k d (omega arith) lt)
 
-pub absent_at : {S : Type 0} (serial : ℕ) (xs es : List (Entry S)) → xs ≡ es → ((k : ℕ) (e : Entry S) → 0 ≤ k → k < length xs → is_of serial (get_or xs k e) ≡ false) → entry_of serial es ≡ None
+pub absent_at : {S : Type 0} (serial : ℕ) (xs es : List (RegisteredSubscriber S)) → xs ≡ es → ((k : ℕ) (e : RegisteredSubscriber S) → 0 ≤ k → k < length xs → is_of serial (get_or xs k e) ≡ false) → entry_of serial es ≡ None
 absent_at serial xs es e h = rw (← e) (entry_absent serial xs h)
 
-pub changed_absent : {S : Type 0} (serial : ℕ) (f : Entry S → Entry S) (es : List (Entry S)) → ((k : ℕ) (d : Entry S) → 0 ≤ k → k < length es → is_of serial (get_or es k d) ≡ false) → changed serial f es ≡ es
+pub changed_absent : {S : Type 0} (serial : ℕ) (f : RegisteredSubscriber S → RegisteredSubscriber S) (es : List (RegisteredSubscriber S)) → ((k : ℕ) (d : RegisteredSubscriber S) → 0 ≤ k → k < length es → is_of serial (get_or es k d) ≡ false) → changed serial f es ≡ es
 changed_absent serial f [] none = refl
 changed_absent serial f (e ∷ es) none = rw (none 0 e (omega arith) (omega arith)) (ap (λ xs. e ∷ xs) (changed_absent serial f es (λ k d h1 h2. none (suc k) d (omega arith) (omega arith))))
 
@@ -72,7 +72,7 @@ inside_none (x ∷ xs) zero inside e = cc
 inside_none (x ∷ xs) (suc i) inside e = inside_none xs i (omega arith) e
 
 -- what is read at the place is the subscriber of the number
-pub place_is : {S : Type 0} (serial : ℕ) (es : List (Entry S)) (i : ℕ) → (i < length es) × ((e : Entry S) → is_of serial (get_or es i e) ≡ true) × ((k : ℕ) (e : Entry S) → 0 ≤ k → k < i → is_of serial (get_or es k e) ≡ false) → slice_get es i ≡ entry_of serial es
+pub place_is : {S : Type 0} (serial : ℕ) (es : List (RegisteredSubscriber S)) (i : ℕ) → (i < length es) × ((e : RegisteredSubscriber S) → is_of serial (get_or es i e) ≡ true) × ((k : ℕ) (e : RegisteredSubscriber S) → 0 ≤ k → k < i → is_of serial (get_or es k e) ≡ false) → slice_get es i ≡ entry_of serial es
 place_is serial [] i found = absurd (let h = found.0 in omega arith)
 place_is serial (x ∷ xs) zero found = rw (found.1 x) refl
 place_is serial (x ∷ xs) (suc i) found =

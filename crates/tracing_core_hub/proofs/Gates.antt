@@ -6,13 +6,13 @@ use Rattle.tracing_core_hub.specs.Asking.{level_of}
 use Rattle.tracing_core_hub.specs.Commands.{AskGives, AskGivesAt, AnswerGives, GateGives, GateGivesAt, known, known_by, reached, row_of}
 use Rattle.tracing_core_hub.specs.Handles.{entry_of}
 use Rattle.tracing_core_requests.specs.Interests.{PlainInterest, Covers}
-use Rattle.tracing_core_hub.specs.Kept.{IsTrueRow, RowRight, Kept}
+use Rattle.tracing_core_hub.specs.ValidCaches.{IsTrueRow, RowRight, HasValidCache}
 use Rattle.tracing_core_requests.specs.Steady.{InterestFits, HintFits}
 use Rattle.tracing_core_hub.specs.Table.{Table}
 use Rattle.tracing_core_requests.specs.declared.at.At.{At}
 use Rattle.tracing_core_requests.specs.declared.callsite.Callsite.{Ghosts as SiteGhosts}
-use Rattle.tracing_core_hub.specs.declared.hub.parts.Entry.{Entry}
-use Rattle.tracing_core_hub.specs.declared.hub.parts.Row.{Row}
+use Rattle.tracing_core_hub.specs.declared.hub.parts.RegisteredSubscriber.{RegisteredSubscriber}
+use Rattle.tracing_core_hub.specs.declared.hub.parts.RegisteredCallsite.{RegisteredCallsite}
 use Rattle.tracing_core_requests.specs.declared.interest.InterestInner.TheVariants.{Never, Sometimes, Always}
 use Rattle.tracing_core_requests.specs.declared.subscriber.Subscriber.{Ghosts}
 use Rattle.tracing_core_hub.proofs.Keeping.{row_every}
@@ -29,10 +29,10 @@ answered true Always own p b outside covers fits e = subst (λ x. InterestFits x
 
 module _ {S C : Type 0} (g : Ghosts S) (h : SiteGhosts C) where
   -- asking the subscriber of the callsite may answer this
-  abbrev May : Entry S → Row C → At → Bool → Type 0
+  abbrev May : RegisteredSubscriber S → RegisteredCallsite C → At → Bool → Type 0
   May e row place b = g.answers e.subscriber (h.metadata_of row.callsite) place b
 
-  known_right : (t : Table S C) (e : Entry S) (row : Row C) (place : At) (b p : Bool) → Kept g h t e → IsTrueRow h row → RowRight g h e.subscriber row → May e row place p → known t.greatest row.level row.interest ≡ Some b → p ≡ b
+  known_right : (t : Table S C) (e : RegisteredSubscriber S) (row : RegisteredCallsite C) (place : At) (b p : Bool) → HasValidCache g h t e → IsTrueRow h row → RowRight g h e.subscriber row → May e row place p → known t.greatest row.level row.interest ≡ Some b → p ≡ b
   known_right t e row place b p kept true_row right given e_known =
       let m = h.metadata_of row.callsite in
       let fair = g.fair e.subscriber kept.steady in
@@ -40,19 +40,19 @@ module _ {S C : Type 0} (g : Ghosts S) (h : SiteGhosts C) where
       (λ above. refused (g.hint e.subscriber) t.greatest m.level p (fair.below m place p true_row.1 given) kept.below true_row.1.1 (subst (λ l. nat_le l t.greatest ≡ false) true_row.0 above))
       right.2 (fair.interest m place p right.0 true_row.1 given right.1) e_known
 
-  asked_right : (t : Table S C) (e : Entry S) (m : PlainMetadata) (place : At) (answer : Bool) (fs : List (Entry S)) → entry_of e.serial t.entries ≡ Some e → AskGives g m place (Some e.serial) t.entries answer fs → g.answers e.subscriber m place answer
+  asked_right : (t : Table S C) (e : RegisteredSubscriber S) (m : PlainMetadata) (place : At) (answer : Bool) (fs : List (RegisteredSubscriber S)) → entry_of e.serial t.entries ≡ Some e → AskGives g m place (Some e.serial) t.entries answer fs → g.answers e.subscriber m place answer
   asked_right t e m place answer fs there given =
       let asked : AskGivesAt g m place e.serial t.entries (Some e) answer fs = subst (λ o. AskGivesAt g m place e.serial t.entries o answer fs) there given in
       asked.1
 
-  answer_right : (t : Table S C) (e : Entry S) (row : Row C) (place : At) (k : Option Bool) (answer p : Bool) (fs : List (Entry S)) → known t.greatest row.level row.interest ≡ k → Kept g h t e → IsTrueRow h row → RowRight g h e.subscriber row → May e row place p → AnswerGives g h row place k (Some e.serial) t.entries answer fs → answer ≡ p
+  answer_right : (t : Table S C) (e : RegisteredSubscriber S) (row : RegisteredCallsite C) (place : At) (k : Option Bool) (answer p : Bool) (fs : List (RegisteredSubscriber S)) → known t.greatest row.level row.interest ≡ k → HasValidCache g h t e → IsTrueRow h row → RowRight g h e.subscriber row → May e row place p → AnswerGives g h row place k (Some e.serial) t.entries answer fs → answer ≡ p
   answer_right t e row place (Some b) answer p fs found kept true_row right may given = given.0 ∙ sym (known_right t e row place b p kept true_row right may found)
   answer_right t e row place None answer p fs found kept true_row right may given =
       let m = h.metadata_of row.callsite in
       g.single e.subscriber m place answer p true_row.1 kept.steady (asked_right t e m place answer fs kept.stands given) may
 
   -- a gate answers what asking the reached subscriber does
-  pub gate_right : (t u : Table S C) (e : Entry S) (row : Row C) (identifier : ℕ) (place : At) (result : Option Bool) (p : Bool) → GateGives g h t identifier place result u → row_of identifier t.rows ≡ Some row → reached t place.lane ≡ Some e.serial → Kept g h t e → g.answers e.subscriber (h.metadata_of row.callsite) place p → result ≡ Some p
+  pub gate_right : (t u : Table S C) (e : RegisteredSubscriber S) (row : RegisteredCallsite C) (identifier : ℕ) (place : At) (result : Option Bool) (p : Bool) → GateGives g h t identifier place result u → row_of identifier t.rows ≡ Some row → reached t place.lane ≡ Some e.serial → HasValidCache g h t e → g.answers e.subscriber (h.metadata_of row.callsite) place p → result ≡ Some p
   gate_right t u e row identifier place result p given found reaches kept may =
       let at_row : GateGivesAt g h t (Some row) place result u = subst (λ o. GateGivesAt g h t o place result u) found given in
       let k = known t.greatest row.level row.interest in

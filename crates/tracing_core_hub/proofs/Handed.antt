@@ -7,20 +7,20 @@ use Rattle.tracing_core_hub.specs.Commands.{becomes}
 use Rattle.tracing_core_hub.specs.Handing.{CallGives, CallGivesAt}
 use Rattle.tracing_core_hub.specs.Lent.{IsPlaceOrEnd, living_of}
 use Rattle.tracing_core_requests.specs.NoReplies.{no_reply}
-use Rattle.tracing_core_hub.specs.declared.hub.parts.Entry.{Entry}
+use Rattle.tracing_core_hub.specs.declared.hub.parts.RegisteredSubscriber.{RegisteredSubscriber}
 use Rattle.tracing_core_requests.specs.declared.subscriber.Subscriber.{Ghosts}
 
 -- past the end, the handle leads to nobody
-pub nobody_there : {S : Type 0} (dispatch : Option ℕ) (es : List (Entry S)) (i : ℕ) → IsPlaceOrEnd dispatch es i → length es ≤ i → living_of dispatch es ≡ None
+pub nobody_there : {S : Type 0} (dispatch : Option ℕ) (es : List (RegisteredSubscriber S)) (i : ℕ) → IsPlaceOrEnd dispatch es i → length es ≤ i → living_of dispatch es ≡ None
 nobody_there dispatch es i found past = sym found.0 ∙ slice_get_past es i past
 
-module _ {S : Type 0} (g : Ghosts S) (c : Call) (dispatch : Option ℕ) (es : List (Entry S)) (i : ℕ) (found : IsPlaceOrEnd dispatch es i) where
+module _ {S : Type 0} (g : Ghosts S) (c : Call) (dispatch : Option ℕ) (es : List (RegisteredSubscriber S)) (i : ℕ) (found : IsPlaceOrEnd dispatch es i) where
   pub to_nobody : length es ≤ i → CallGives g c dispatch es (no_reply c) es
   to_nobody past =
       let none : living_of dispatch es ≡ None = sym found.0 ∙ slice_get_past es i past in
       subst (λ o. CallGivesAt g c dispatch es o (no_reply c) es) (sym none) (refl, refl)
 
-  pub to_somebody : i < length es → (d : Entry S) (reply : ReplyTo c) (z : S) → g.moves (get_or es i d).subscriber c reply z → CallGives g c dispatch es reply (set es i (becomes z (get_or es i d)))
+  pub to_somebody : i < length es → (d : RegisteredSubscriber S) (reply : ReplyTo c) (z : S) → g.moves (get_or es i d).subscriber c reply z → CallGives g c dispatch es reply (set es i (becomes z (get_or es i d)))
   to_somebody inside d reply z moved =
       let e = get_or es i d in
       let there : slice_get es i ≡ Some e = slice_get-get_or es i d inside in

@@ -5,7 +5,7 @@ use Rattle.std.specs.Fn.{Once}
 use Rattle.tracing_core_hub.specs.Commands.{reached}
 use Rattle.tracing_core_hub.specs.Defaults.{guard_of, locally}
 use Rattle.tracing_core_requests.specs.Refusals.{or_same}
-use Rattle.tracing_core_hub.specs.Keeping.{Keeps, KeepsLiving}
+use Rattle.tracing_core_hub.specs.Keeping.{PreservesCaches, PreservesLivingCaches}
 use Rattle.tracing_core_hub.specs.Scopes.{BodyLeaves, CallsLeave, CalledInside, CurrentGives, CurrentGivesAt, DefaultGives, DefaultGivesAt, WithDefaultGives, is_outside, marked}
 use Rattle.tracing_core_hub.specs.Table.{Table}
 use Rattle.tracing_core_requests.specs.declared.callsite.Callsite.{Ghosts as SiteGhosts}
@@ -37,16 +37,16 @@ module _ {S C F T : Type 0} (g : Once F (MutBor (Table S C) × (Bor (Option ℕ)
   current_leaves t u lane answer given = current_at t u lane (is_outside t lane) answer given
 
 module _ {S C : Type 0} (g : Ghosts S) (h : SiteGhosts C) where
-  pub marks_keep : (t : Table S C) (lane : ℕ) (mark : Bool) → Keeps g h t (marked t lane mark)
+  pub marks_keep : (t : Table S C) (lane : ℕ) (mark : Bool) → PreservesCaches g h t (marked t lane mark)
   marks_keep t lane mark = same_keeps g h t (marked t lane mark) refl (record { next = refl; rows = refl; greatest = refl })
 
-  pub marks_living : (t : Table S C) (lane : ℕ) (mark : Bool) → KeepsLiving g h t (marked t lane mark)
+  pub marks_living : (t : Table S C) (lane : ℕ) (mark : Bool) → PreservesLivingCaches g h t (marked t lane mark)
   marks_living t lane mark = living_from g h t (marked t lane mark) (marks_keep t lane mark)
 
-  pub with_default_living : {F T : Type 0} (call : Once F (MutBor (Table S C) × Unit {0}) (T × (MutBor (Table S C) × Unit {0}))) (f : F) (t u : Table S C) (lane : ℕ) (dispatch : Option ℕ) (r : Result (T × Result (Option S) WrongLane) SetDefaultError) → BodyLeaves call f (KeepsLiving g h) → WithDefaultGives call f t lane dispatch r u → KeepsLiving g h t u
+  pub with_default_living : {F T : Type 0} (call : Once F (MutBor (Table S C) × Unit {0}) (T × (MutBor (Table S C) × Unit {0}))) (f : F) (t u : Table S C) (lane : ℕ) (dispatch : Option ℕ) (r : Result (T × Result (Option S) WrongLane) SetDefaultError) → BodyLeaves call f (PreservesLivingCaches g h) → WithDefaultGives call f t lane dispatch r u → PreservesLivingCaches g h t u
   with_default_living call f t u lane dispatch (Ok done) leaves given =
       let v = locally t lane dispatch in
       let w = given.1.0 in
-      let set : KeepsLiving g h t v = living_from g h t v (default_keeps g h t v lane dispatch (ap (λ o. or_same o t v) (sym given.0))) in
+      let set : PreservesLivingCaches g h t v = living_from g h t v (default_keeps g h t v lane dispatch (ap (λ o. or_same o t v) (sym given.0))) in
       living_then g h t w u (living_then g h t v w set (leaves v w done.0 given.1.1)) (reset_keeps g h w u lane (guard_of t lane) done.1 given.1.2)
-  with_default_living call f t u lane dispatch (Err refusal) leaves given = subst (KeepsLiving g h t) (sym given.1) (itself_living g h t)
+  with_default_living call f t u lane dispatch (Err refusal) leaves given = subst (PreservesLivingCaches g h t) (sym given.1) (itself_living g h t)

@@ -3,8 +3,8 @@ use Rattle.std.proofs.Common.{◌≡◌, List, Option, Some, None, false, refl, 
 use Rattle.std.specs.Option.{is_some}
 use Rattle.tracing_core_hub.specs.Asking.{RowAsked}
 use Rattle.tracing_core_hub.specs.Table.{Table}
-use Rattle.tracing_core_hub.specs.declared.hub.parts.Entry.{Entry}
-use Rattle.tracing_core_hub.specs.declared.hub.parts.Row.{Row}
+use Rattle.tracing_core_hub.specs.declared.hub.parts.RegisteredSubscriber.{RegisteredSubscriber}
+use Rattle.tracing_core_hub.specs.declared.hub.parts.RegisteredCallsite.{RegisteredCallsite}
 use Rattle.tracing_core_requests.specs.declared.subscriber.Subscriber.{Ghosts}
 use Rattle.tracing_core_requests.specs.declared.callsite.Callsite.{Ghosts as SiteGhosts}
 
@@ -13,11 +13,11 @@ none_of None e = refl
 none_of (Some x) e = absurd (cc)
 
 -- the same callsite, asked of the same subscribers
-pub asked_alike : {S C : Type 0} (g : Ghosts S) (h : SiteGhosts C) (es es' fs fs' : List (Entry S)) (row row' later : Row C) → es ≡ es' → row ≡ row' → fs ≡ fs' → RowAsked g h es row later fs → RowAsked g h es' row' later fs'
+pub asked_alike : {S C : Type 0} (g : Ghosts S) (h : SiteGhosts C) (es es' fs fs' : List (RegisteredSubscriber S)) (row row' later : RegisteredCallsite C) → es ≡ es' → row ≡ row' → fs ≡ fs' → RowAsked g h es row later fs → RowAsked g h es' row' later fs'
 asked_alike g h es es' fs fs' row row' later e r f asked =
     subst (λ x. RowAsked g h es' row' later x) f (subst (λ x. RowAsked g h es' x later fs) r (subst (λ x. RowAsked g h x row later fs) e asked))
 
 -- a row more, and other subscribers
-pub kept_at : {S C : Type 0} (v t : Table S C) (es : List (Entry S)) (rs : List (Row C)) (row : Row C) → v ≡ t → rs ≡ v.rows ++ row ∷ [] → ◌≡◌ {A = Table S C} (record v { entries = es; rows = rs }) (record t { entries = es; rows = t.rows ++ row ∷ [] })
+pub kept_at : {S C : Type 0} (v t : Table S C) (es : List (RegisteredSubscriber S)) (rs : List (RegisteredCallsite C)) (row : RegisteredCallsite C) → v ≡ t → rs ≡ v.rows ++ row ∷ [] → ◌≡◌ {A = Table S C} (record v { entries = es; rows = rs }) (record t { entries = es; rows = t.rows ++ row ∷ [] })
 kept_at {S = S} {C = C} v t es rs row e r =
-    ap (λ (x : List (Row C)). record v { entries = es; rows = x }) r ∙ ap (λ (x : Table S C). record x { entries = es; rows = x.rows ++ row ∷ [] }) e
+    ap (λ (x : List (RegisteredCallsite C)). record v { entries = es; rows = x }) r ∙ ap (λ (x : Table S C). record x { entries = es; rows = x.rows ++ row ∷ [] }) e

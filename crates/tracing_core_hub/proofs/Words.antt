@@ -1,4 +1,4 @@
--- What commands leave of the word of all.
+-- Which subscribers' caches stay valid after a command.
 use Rattle.std.proofs.Common.{◌≡◌, ℕ, ◌+◌, ◌<◌, ◌≤◌, Bool, true, false, nat_le, List, [], ◌∷◌, ◌++◌, Option, Some, None, Result, Ok, Err, refl, ap, sym, ◌∙◌, subst, arith, ◌⊎◌, inl, inr}
 use Rattle.std.specs.Prelude.{if◌then◌else◌, ◌==◌, slice_get, OnOk, OnErr, IfOk}
 use Rattle.std.specs.Cmp.{unsigned_Decides}
@@ -11,9 +11,9 @@ use Rattle.tracing_core_hub.specs.Handing.{CallGives, CallGivesAt, HubGives}
 use Rattle.tracing_core_hub.specs.Handles.{entry_of, changed, without, is_of, held, given_back, given_back_at, hold_refusal, one_more, one_less}
 use Rattle.tracing_core_requests.specs.Refusals.{or_same}
 use Rattle.tracing_core_requests.specs.Interests.{PlainInterest, Covers}
-use Rattle.tracing_core_hub.specs.Keeping.{Keeps, KeepsLiving, KeepsOthers, KeepsBy, StaysRight}
+use Rattle.tracing_core_hub.specs.Keeping.{PreservesCaches, PreservesLivingCaches, PreservesUnlentCaches, PreservesCachesBy, StaysRight}
 use Rattle.tracing_core_requests.specs.Lists.{Every}
-use Rattle.tracing_core_hub.specs.Kept.{IsTrueRow, RowRight, Kept, asked_anew}
+use Rattle.tracing_core_hub.specs.ValidCaches.{IsTrueRow, RowRight, HasValidCache, asked_anew}
 use Rattle.tracing_core_hub.specs.Lent.{lent_to, given_as}
 use Rattle.tracing_core_hub.specs.Refreshing.{Refreshed}
 use Rattle.tracing_core_hub.specs.Sound.{Ascends, IsSound, serials}
@@ -28,11 +28,11 @@ use Rattle.tracing_core_hub.specs.declared.refusal.AddError.TheVariants as add
 use Rattle.tracing_core_hub.specs.declared.refusal.RegisterError.{RegisterError}
 use Rattle.tracing_core_hub.specs.declared.refusal.RegisterError.TheVariants as registering
 use Rattle.tracing_core_hub.specs.declared.refusal.UnknownLane.{UnknownLane}
-use Rattle.tracing_core_hub.specs.declared.hub.parts.Entry.{Entry}
-use Rattle.tracing_core_hub.specs.declared.hub.parts.Row.{Row}
+use Rattle.tracing_core_hub.specs.declared.hub.parts.RegisteredSubscriber.{RegisteredSubscriber}
+use Rattle.tracing_core_hub.specs.declared.hub.parts.RegisteredCallsite.{RegisteredCallsite}
 use Rattle.tracing_core_hub.specs.declared.hub.parts.Lane.{Lane}
 use Rattle.tracing_core_hub.specs.declared.hub.parts.Lane.TheVariants.{Ended, Running}
-use Rattle.tracing_core_hub.specs.declared.hub.parts.Setting.{Setting}
+use Rattle.tracing_core_hub.specs.declared.hub.parts.LaneDefault.{LaneDefault}
 use Rattle.tracing_core_requests.specs.declared.subscriber.Subscriber.{Ghosts}
 use Rattle.tracing_core_hub.proofs.Keeping.{asked_one, right_onward, row_every, same_word}
 use Rattle.tracing_core_hub.proofs.Living.{by_bool, if_either, changed_own, changed_other, without_own, without_other, serials_changed, ascends_without, absent_above, entry_appended, entry_last}
@@ -47,12 +47,12 @@ pub record Alike {S C : Type 0} (t u : Table S C) : Type 0 where
   pub greatest : u.greatest ≡ t.greatest
 
 -- the subscribers are as they were, but for one that a call was made of
-pub data Moved {S : Type 0} (g : Ghosts S) (es fs : List (Entry S)) : Type 0 where
+pub data Moved {S : Type 0} (g : Ghosts S) (es fs : List (RegisteredSubscriber S)) : Type 0 where
   Still : fs ≡ es → Moved g es fs
-  By : (n : ℕ) (x : Entry S) (c : Call) (r : ReplyTo c) (after : S) → IsRealCall c → entry_of n es ≡ Some x → g.moves x.subscriber c r after → fs ≡ changed n (becomes after) es → Moved g es fs
+  By : (n : ℕ) (x : RegisteredSubscriber S) (c : Call) (r : ReplyTo c) (after : S) → IsRealCall c → entry_of n es ≡ Some x → g.moves x.subscriber c r after → fs ≡ changed n (becomes after) es → Moved g es fs
 
 module _ {S C : Type 0} (g : Ghosts S) (h : SiteGhosts C) where
-  kept_moved : (t u : Table S C) (e f : Entry S) → Kept g h t e → entry_of f.serial u.entries ≡ Some f → f.lent ≡ false → g.steady f.subscriber → SameWord (g.says e.subscriber) (g.says f.subscriber) (g.hint e.subscriber) (g.hint f.subscriber) → Alike t u → Kept g h u f
+  kept_moved : (t u : Table S C) (e f : RegisteredSubscriber S) → HasValidCache g h t e → entry_of f.serial u.entries ≡ Some f → f.lent ≡ false → g.steady f.subscriber → SameWord (g.says e.subscriber) (g.says f.subscriber) (g.hint e.subscriber) (g.hint f.subscriber) → Alike t u → HasValidCache g h u f
   kept_moved t u e f kept there unlent steady word alike =
       record {
         stands = there;
@@ -64,23 +64,23 @@ module _ {S C : Type 0} (g : Ghosts S) (h : SiteGhosts C) where
       }
 
   -- nobody changed
-  pub same_keeps : (t u : Table S C) → u.entries ≡ t.entries → Alike t u → Keeps g h t u
+  pub same_keeps : (t u : Table S C) → u.entries ≡ t.entries → Alike t u → PreservesCaches g h t u
   same_keeps t u same alike =
       record {
-        sound = sound_alike h t u (ap (λ (es : List (Entry S)). serials es) same) alike.next alike.rows;
-        later = λ sound. later_alike t u (ap (λ (es : List (Entry S)). serials es) same) alike.next;
+        sound = sound_alike h t u (ap (λ (es : List (RegisteredSubscriber S)). serials es) same) alike.next alike.rows;
+        later = λ sound. later_alike t u (ap (λ (es : List (RegisteredSubscriber S)). serials es) same) alike.next;
         right_of = λ e kept. (e, refl, kept_moved t u e e kept (subst (λ es. entry_of e.serial es ≡ Some e) (sym same) kept.stands) kept.unlent kept.steady (same_word g e.subscriber) alike);
       }
 
-  pub itself_keeps : (t : Table S C) → Keeps g h t t
+  pub itself_keeps : (t : Table S C) → PreservesCaches g h t t
   itself_keeps t = same_keeps t t refl (record { next = refl; rows = refl; greatest = refl })
 
   -- one changed, but for its number, and what is its subscriber, and whether it was lent
-  pub counted_keeps : (n : ℕ) (change : Entry S → Entry S) (same : (x : Entry S) → (change x).serial ≡ x.serial) → ((x : Entry S) → (change x).lent ≡ x.lent) → ((x : Entry S) → (change x).subscriber ≡ x.subscriber) → (t u : Table S C) → u.entries ≡ changed n change t.entries → Alike t u → Keeps g h t u
+  pub counted_keeps : (n : ℕ) (change : RegisteredSubscriber S → RegisteredSubscriber S) (same : (x : RegisteredSubscriber S) → (change x).serial ≡ x.serial) → ((x : RegisteredSubscriber S) → (change x).lent ≡ x.lent) → ((x : RegisteredSubscriber S) → (change x).subscriber ≡ x.subscriber) → (t u : Table S C) → u.entries ≡ changed n change t.entries → Alike t u → PreservesCaches g h t u
   counted_keeps n change same lent kept_value t u left alike =
       record {
-        sound = sound_alike h t u (ap (λ (es : List (Entry S)). serials es) left ∙ serials_changed n change same t.entries) alike.next alike.rows;
-        later = λ sound. later_alike t u (ap (λ (es : List (Entry S)). serials es) left ∙ serials_changed n change same t.entries) alike.next;
+        sound = sound_alike h t u (ap (λ (es : List (RegisteredSubscriber S)). serials es) left ∙ serials_changed n change same t.entries) alike.next alike.rows;
+        later = λ sound. later_alike t u (ap (λ (es : List (RegisteredSubscriber S)). serials es) left ∙ serials_changed n change same t.entries) alike.next;
         right_of =
             λ e kept. by_bool (e.serial == n)
             (λ here.
@@ -95,55 +95,55 @@ module _ {S C : Type 0} (g : Ghosts S) (h : SiteGhosts C) where
             (λ apart. (e, refl, kept_moved t u e e kept (subst (λ es. entry_of e.serial es ≡ Some e) (sym left) (changed_other n change same e.serial t.entries apart ∙ kept.stands)) kept.unlent kept.steady (same_word g e.subscriber) alike));
       }
 
-  pub held_keeps : (dispatch : Option ℕ) (t u : Table S C) → u.entries ≡ held dispatch t.entries → Alike t u → Keeps g h t u
+  pub held_keeps : (dispatch : Option ℕ) (t u : Table S C) → u.entries ≡ held dispatch t.entries → Alike t u → PreservesCaches g h t u
   held_keeps None t u left alike = same_keeps t u left alike
   held_keeps (Some n) t u left alike = counted_keeps n one_more (λ x. refl) (λ x. refl) (λ x. refl) t u left alike
 
-  pub or_same_keeps : {B : Type 0} (refusal : Option B) (t v u : Table S C) → u ≡ or_same refusal t v → Keeps g h t v → Keeps g h t u
-  or_same_keeps None t v u left keeps = subst (Keeps g h t) (sym left) keeps
-  or_same_keeps (Some e) t v u left keeps = subst (Keeps g h t) (sym left) (itself_keeps t)
+  pub or_same_keeps : {B : Type 0} (refusal : Option B) (t v u : Table S C) → u ≡ or_same refusal t v → PreservesCaches g h t v → PreservesCaches g h t u
+  or_same_keeps None t v u left keeps = subst (PreservesCaches g h t) (sym left) keeps
+  or_same_keeps (Some e) t v u left keeps = subst (PreservesCaches g h t) (sym left) (itself_keeps t)
 
   -- cloning and upgrading
-  pub hold_keeps : (t u : Table S C) (dispatch : Option ℕ) → u ≡ or_same (hold_refusal dispatch t.entries) t (holding t dispatch) → Keeps g h t u
+  pub hold_keeps : (t u : Table S C) (dispatch : Option ℕ) → u ≡ or_same (hold_refusal dispatch t.entries) t (holding t dispatch) → PreservesCaches g h t u
   hold_keeps t u dispatch left =
       or_same_keeps (hold_refusal dispatch t.entries) t (holding t dispatch) u left (held_keeps dispatch t (holding t dispatch) refl (record { next = refl; rows = refl; greatest = refl }))
 
-  pub global_keeps : (t u : Table S C) (dispatch : Option ℕ) → u ≡ or_same (global_refusal t dispatch) t (globally t dispatch) → Keeps g h t u
+  pub global_keeps : (t u : Table S C) (dispatch : Option ℕ) → u ≡ or_same (global_refusal t dispatch) t (globally t dispatch) → PreservesCaches g h t u
   global_keeps t u dispatch left =
       or_same_keeps (global_refusal t dispatch) t (globally t dispatch) u left (held_keeps dispatch t (globally t dispatch) refl (record { next = refl; rows = refl; greatest = refl }))
 
-  pub default_keeps : (t u : Table S C) (lane : ℕ) (dispatch : Option ℕ) → u ≡ or_same (default_refusal t lane dispatch) t (locally t lane dispatch) → Keeps g h t u
+  pub default_keeps : (t u : Table S C) (lane : ℕ) (dispatch : Option ℕ) → u ≡ or_same (default_refusal t lane dispatch) t (locally t lane dispatch) → PreservesCaches g h t u
   default_keeps t u lane dispatch left =
       or_same_keeps (default_refusal t lane dispatch) t (locally t lane dispatch) u left (held_keeps dispatch t (locally t lane dispatch) refl (record { next = refl; rows = refl; greatest = refl }))
 
   -- other lanes
-  pub lanes_keep : {A E : Type 0} (r : Result A E) (t u : Table S C) (lanes : List Lane) (entered : List Bool) → OnOk r (u ≡ record t { lanes = lanes; entered = entered }) → OnErr r (u ≡ t) → Keeps g h t u
-  lanes_keep (Ok a) t u lanes entered ok err = subst (Keeps g h t) (sym ok) (same_keeps t (record t { lanes = lanes; entered = entered }) refl (record { next = refl; rows = refl; greatest = refl }))
-  lanes_keep (Err e) t u lanes entered ok err = subst (Keeps g h t) (sym err) (itself_keeps t)
+  pub lanes_keep : {A E : Type 0} (r : Result A E) (t u : Table S C) (lanes : List Lane) (entered : List Bool) → OnOk r (u ≡ record t { lanes = lanes; entered = entered }) → OnErr r (u ≡ t) → PreservesCaches g h t u
+  lanes_keep (Ok a) t u lanes entered ok err = subst (PreservesCaches g h t) (sym ok) (same_keeps t (record t { lanes = lanes; entered = entered }) refl (record { next = refl; rows = refl; greatest = refl }))
+  lanes_keep (Err e) t u lanes entered ok err = subst (PreservesCaches g h t) (sym err) (itself_keeps t)
 
-  same_entry : (es : List (Entry S)) (k : ℕ) (x f : Entry S) → entry_of k es ≡ Some x → entry_of k es ≡ Some f → x ≡ f
+  same_entry : (es : List (RegisteredSubscriber S)) (k : ℕ) (x f : RegisteredSubscriber S) → entry_of k es ≡ Some x → entry_of k es ≡ Some f → x ≡ f
   same_entry es k x f a b = let one : Some x ≡ Some f = sym a ∙ b in cc
 
   -- everyone includes those who live on
-  pub living_from : (t u : Table S C) → Keeps g h t u → KeepsLiving g h t u
+  pub living_from : (t u : Table S C) → PreservesCaches g h t u → PreservesLivingCaches g h t u
   living_from t u keeps = record { sound = keeps.sound; later = keeps.later; right_of = λ sound e kept. inr (keeps.right_of e kept) }
 
   -- and these include those who aren't lent
-  others_from : (t u : Table S C) → Keeps g h t u → KeepsOthers g h t u
+  others_from : (t u : Table S C) → PreservesCaches g h t u → PreservesUnlentCaches g h t u
   others_from t u keeps =
       record {
         sound = keeps.sound;
         right_of = λ sound e f kept there unlent.
             let a = keeps.right_of e kept in
             let same : a.0 ≡ f = same_entry u.entries e.serial a.0 f (subst (λ k. entry_of k u.entries ≡ Some a.0) a.1 a.2.stands) there in
-            subst (Kept g h u) same a.2;
+            subst (HasValidCache g h u) same a.2;
       }
 
-  gone_keeps : (n : ℕ) (t u : Table S C) → u.entries ≡ without n t.entries → Alike t u → KeepsLiving g h t u
+  gone_keeps : (n : ℕ) (t u : Table S C) → u.entries ≡ without n t.entries → Alike t u → PreservesLivingCaches g h t u
   gone_keeps n t u left alike =
       record {
         sound = λ sound. record {
-          numbers = subst (λ k. Ascends 0 (serials u.entries) k) (sym alike.next) (subst (λ (es : List (Entry S)). Ascends 0 (serials es) t.next) (sym left) (ascends_without n 0 t.next t.entries sound.numbers));
+          numbers = subst (λ k. Ascends 0 (serials u.entries) k) (sym alike.next) (subst (λ (es : List (RegisteredSubscriber S)). Ascends 0 (serials es) t.next) (sym left) (ascends_without n 0 t.next t.entries sound.numbers));
           apart = (sound_alike h t (record t { rows = u.rows }) refl refl alike.rows sound).apart;
           sites = (sound_alike h t (record t { rows = u.rows }) refl refl alike.rows sound).sites;
         };
@@ -159,51 +159,51 @@ module _ {S C : Type 0} (g : Ghosts S) (h : SiteGhosts C) where
             inr (e, refl, kept_moved t u e e kept lives kept.unlent kept.steady (same_word g e.subscriber) alike));
       }
 
-  given_back_by : (b : Bool) (n : ℕ) (released : Option S) (t u : Table S C) → u.entries ≡ (if◌then◌else◌ {A = Option S × List (Entry S)} b (released, without n t.entries) (None, changed n one_less t.entries)).1 → Alike t u → KeepsLiving g h t u
+  given_back_by : (b : Bool) (n : ℕ) (released : Option S) (t u : Table S C) → u.entries ≡ (if◌then◌else◌ {A = Option S × List (RegisteredSubscriber S)} b (released, without n t.entries) (None, changed n one_less t.entries)).1 → Alike t u → PreservesLivingCaches g h t u
   given_back_by true n released t u left alike = gone_keeps n t u left alike
   given_back_by false n released t u left alike = living_from t u (counted_keeps n one_less (λ x. refl) (λ x. refl) (λ x. refl) t u left alike)
 
-  given_back_keeps_at : (n : ℕ) (o : Option (Entry S)) (t u : Table S C) → u.entries ≡ (given_back_at n t.entries o).1 → Alike t u → KeepsLiving g h t u
+  given_back_keeps_at : (n : ℕ) (o : Option (RegisteredSubscriber S)) (t u : Table S C) → u.entries ≡ (given_back_at n t.entries o).1 → Alike t u → PreservesLivingCaches g h t u
   given_back_keeps_at n None t u left alike = living_from t u (same_keeps t u left alike)
   given_back_keeps_at n (Some e) t u left alike = given_back_by (nat_le e.handles 1) n (Some e.subscriber) t u left alike
 
   -- a handle that is given back
-  pub given_back_keeps : (dispatch : Option ℕ) (t u : Table S C) → u.entries ≡ (given_back dispatch t.entries).1 → Alike t u → KeepsLiving g h t u
+  pub given_back_keeps : (dispatch : Option ℕ) (t u : Table S C) → u.entries ≡ (given_back dispatch t.entries).1 → Alike t u → PreservesLivingCaches g h t u
   given_back_keeps None t u left alike = living_from t u (same_keeps t u left alike)
   given_back_keeps (Some n) t u left alike = given_back_keeps_at n (entry_of n t.entries) t u left alike
 
   -- a handle that comes back
-  pub release_keeps : (t u : Table S C) (dispatch : Option ℕ) → u ≡ record t { entries = (given_back dispatch t.entries).1 } → KeepsLiving g h t u
-  release_keeps t u dispatch left = subst (KeepsLiving g h t) (sym left) (given_back_keeps dispatch t (letting_go t dispatch) refl (record { next = refl; rows = refl; greatest = refl }))
+  pub release_keeps : (t u : Table S C) (dispatch : Option ℕ) → u ≡ record t { entries = (given_back dispatch t.entries).1 } → PreservesLivingCaches g h t u
+  release_keeps t u dispatch left = subst (PreservesLivingCaches g h t) (sym left) (given_back_keeps dispatch t (letting_go t dispatch) refl (record { next = refl; rows = refl; greatest = refl }))
 
-  given_up_keeps : (t : Table S C) (lane : ℕ) (setting : Setting) (value : Lane) → KeepsLiving g h t (given_up t lane setting value).1
+  given_up_keeps : (t : Table S C) (lane : ℕ) (setting : LaneDefault) (value : Lane) → PreservesLivingCaches g h t (given_up t lane setting value).1
   given_up_keeps t lane setting value = given_back_keeps (chosen setting) t (given_up t lane setting value).1 refl (record { next = refl; rows = refl; greatest = refl })
 
-  pub itself_living : (t : Table S C) → KeepsLiving g h t t
+  pub itself_living : (t : Table S C) → PreservesLivingCaches g h t t
   itself_living t = living_from t t (itself_keeps t)
 
-  end_keeps_at : (t : Table S C) (lane : ℕ) (o : Option Setting) → KeepsLiving g h t (end_gives_at t lane o).1
+  end_keeps_at : (t : Table S C) (lane : ℕ) (o : Option LaneDefault) → PreservesLivingCaches g h t (end_gives_at t lane o).1
   end_keeps_at t lane None = itself_living t
   end_keeps_at t lane (Some setting) = given_up_keeps t lane setting Ended
 
   -- the end of a lane
-  pub end_keeps : (t u : Table S C) (lane : ℕ) (r : Result (Option S) UnknownLane) → ◌≡◌ {A = Result (Option S) UnknownLane × Table S C} (r, u) (end_gives t lane) → KeepsLiving g h t u
-  end_keeps t u lane r left = subst (λ (p : Result (Option S) UnknownLane × Table S C). KeepsLiving g h t p.1) (sym left) (end_keeps_at t lane (running (slice_get t.lanes lane)))
+  pub end_keeps : (t u : Table S C) (lane : ℕ) (r : Result (Option S) UnknownLane) → ◌≡◌ {A = Result (Option S) UnknownLane × Table S C} (r, u) (end_gives t lane) → PreservesLivingCaches g h t u
+  end_keeps t u lane r left = subst (λ (p : Result (Option S) UnknownLane × Table S C). PreservesLivingCaches g h t p.1) (sym left) (end_keeps_at t lane (running (slice_get t.lanes lane)))
 
-  reset_keeps_at : (t : Table S C) (lane : ℕ) (guard : DefaultGuard) (o : Option Lane) → KeepsLiving g h t (reset_gives_at t lane guard o).1
+  reset_keeps_at : (t : Table S C) (lane : ℕ) (guard : DefaultGuard) (o : Option Lane) → PreservesLivingCaches g h t (reset_gives_at t lane guard o).1
   reset_keeps_at t lane guard None = itself_living t
   reset_keeps_at t lane guard (Some Ended) = given_up_keeps t lane guard.before Ended
   reset_keeps_at t lane guard (Some (Running present)) = given_up_keeps t lane present (Running guard.before)
 
   -- a guard that is spent
-  pub reset_keeps : (t u : Table S C) (lane : ℕ) (guard : DefaultGuard) (r : Result (Option S) WrongLane) → ◌≡◌ {A = Result (Option S) WrongLane × Table S C} (r, u) (reset_gives t lane guard) → KeepsLiving g h t u
+  pub reset_keeps : (t u : Table S C) (lane : ℕ) (guard : DefaultGuard) (r : Result (Option S) WrongLane) → ◌≡◌ {A = Result (Option S) WrongLane × Table S C} (r, u) (reset_gives t lane guard) → PreservesLivingCaches g h t u
   reset_keeps t u lane guard r left =
-      subst (λ (p : Result (Option S) WrongLane × Table S C). KeepsLiving g h t p.1) (sym left) (
-      if_either (λ (p : Result (Option S) WrongLane × Table S C). KeepsLiving g h t p.1) (guard.lane == lane) (reset_gives_at t lane guard (slice_get t.lanes lane)) (Err (record { 0 = guard }), t)
+      subst (λ (p : Result (Option S) WrongLane × Table S C). PreservesLivingCaches g h t p.1) (sym left) (
+      if_either (λ (p : Result (Option S) WrongLane × Table S C). PreservesLivingCaches g h t p.1) (guard.lane == lane) (reset_gives_at t lane guard (slice_get t.lanes lane)) (Err (record { 0 = guard }), t)
       (λ own. reset_keeps_at t lane guard (slice_get t.lanes lane)) (λ other. itself_living t)
       )
 
-  lent_keeps_at : (n : ℕ) (w : S) (t : Table S C) → KeepsOthers g h t (record t { entries = changed n (given_as w) t.entries })
+  lent_keeps_at : (n : ℕ) (w : S) (t : Table S C) → PreservesUnlentCaches g h t (record t { entries = changed n (given_as w) t.entries })
   lent_keeps_at n w t =
       let u : Table S C = record t { entries = changed n (given_as w) t.entries } in
       let alike : Alike t u = record { next = refl; rows = refl; greatest = refl } in
@@ -216,23 +216,23 @@ module _ {S C : Type 0} (g : Ghosts S) (h : SiteGhosts C) where
             let found : entry_of n t.entries ≡ Some e = subst (λ k. entry_of k t.entries ≡ Some e) number kept.stands in
             let own : entry_of n u.entries ≡ Some (given_as w e) = changed_own n (given_as w) (λ x. refl) t.entries e found in
             let same : given_as w e ≡ f = same_entry u.entries n (given_as w e) f own (subst (λ k. entry_of k u.entries ≡ Some f) number there) in
-            let lent : (given_as w e).lent ≡ f.lent = ap (λ (x : Entry S). x.lent) same in
+            let lent : (given_as w e).lent ≡ f.lent = ap (λ (x : RegisteredSubscriber S). x.lent) same in
             absurd (cc))
             (λ apart.
             let lives : entry_of e.serial u.entries ≡ Some e = changed_other n (given_as w) (λ x. refl) e.serial t.entries apart ∙ kept.stands in
-            subst (Kept g h u) (same_entry u.entries e.serial e f lives there) (kept_moved t u e e kept lives kept.unlent kept.steady (same_word g e.subscriber) alike));
+            subst (HasValidCache g h u) (same_entry u.entries e.serial e f lives there) (kept_moved t u e e kept lives kept.unlent kept.steady (same_word g e.subscriber) alike));
       }
 
   -- lending
-  pub lent_keeps : (t : Table S C) (dispatch : Option ℕ) (w : S) → KeepsOthers g h t (record t { entries = lent_to dispatch w t.entries })
+  pub lent_keeps : (t : Table S C) (dispatch : Option ℕ) (w : S) → PreservesUnlentCaches g h t (record t { entries = lent_to dispatch w t.entries })
   lent_keeps t None w = others_from t t (itself_keeps t)
   lent_keeps t (Some n) w = lent_keeps_at n w t
 
-  moved_keeps_by : (n : ℕ) (x : Entry S) (c : Call) (r : ReplyTo c) (after : S) (t u : Table S C) → IsRealCall c → entry_of n t.entries ≡ Some x → g.moves x.subscriber c r after → u.entries ≡ changed n (becomes after) t.entries → Alike t u → Keeps g h t u
+  moved_keeps_by : (n : ℕ) (x : RegisteredSubscriber S) (c : Call) (r : ReplyTo c) (after : S) (t u : Table S C) → IsRealCall c → entry_of n t.entries ≡ Some x → g.moves x.subscriber c r after → u.entries ≡ changed n (becomes after) t.entries → Alike t u → PreservesCaches g h t u
   moved_keeps_by n x c r after t u real there moved left alike =
       record {
-        sound = sound_alike h t u (ap (λ (es : List (Entry S)). serials es) left ∙ serials_changed n (becomes after) (λ y. refl) t.entries) alike.next alike.rows;
-        later = λ sound. later_alike t u (ap (λ (es : List (Entry S)). serials es) left ∙ serials_changed n (becomes after) (λ y. refl) t.entries) alike.next;
+        sound = sound_alike h t u (ap (λ (es : List (RegisteredSubscriber S)). serials es) left ∙ serials_changed n (becomes after) (λ y. refl) t.entries) alike.next alike.rows;
+        later = λ sound. later_alike t u (ap (λ (es : List (RegisteredSubscriber S)). serials es) left ∙ serials_changed n (becomes after) (λ y. refl) t.entries) alike.next;
         right_of = λ e kept.
             by_bool (e.serial == n)
             (λ here.
@@ -240,7 +240,7 @@ module _ {S C : Type 0} (g : Ghosts S) (h : SiteGhosts C) where
             let found : entry_of n t.entries ≡ Some e = subst (λ k. entry_of k t.entries ≡ Some e) number kept.stands in
             let same : x ≡ e = same_entry t.entries n x e there found in
             let own : entry_of n u.entries ≡ Some (becomes after e) = subst (λ es. entry_of n es ≡ Some (becomes after e)) (sym left) (changed_own n (becomes after) (λ y. refl) t.entries e found) in
-            let word = g.stays e.subscriber c r after real (subst (λ (d : Entry S). g.moves d.subscriber c r after) same moved) kept.steady in (
+            let word = g.stays e.subscriber c r after real (subst (λ (d : RegisteredSubscriber S). g.moves d.subscriber c r after) same moved) kept.steady in (
               becomes after e,
               refl,
               kept_moved t u e (becomes after e) kept (subst (λ k. entry_of k u.entries ≡ Some (becomes after e)) (sym number) own) kept.unlent word.0 word.1 alike,
@@ -248,28 +248,28 @@ module _ {S C : Type 0} (g : Ghosts S) (h : SiteGhosts C) where
             (λ apart. (e, refl, kept_moved t u e e kept (subst (λ es. entry_of e.serial es ≡ Some e) (sym left) (changed_other n (becomes after) (λ y. refl) e.serial t.entries apart ∙ kept.stands)) kept.unlent kept.steady (same_word g e.subscriber) alike));
       }
 
-  moved_keeps : (t u : Table S C) → Moved g t.entries u.entries → Alike t u → Keeps g h t u
+  moved_keeps : (t u : Table S C) → Moved g t.entries u.entries → Alike t u → PreservesCaches g h t u
   moved_keeps t u (Still same) alike = same_keeps t u same alike
   moved_keeps t u (By n x c r after real there moved left) alike = moved_keeps_by n x c r after t u real there moved left alike
 
-  ask_moves_at : (m : PlainMetadata) (place : At) (n : ℕ) (es fs : List (Entry S)) (o : Option (Entry S)) (answer : Bool) → entry_of n es ≡ o → IsReal m → AskGivesAt g m place n es o answer fs → Moved g es fs
+  ask_moves_at : (m : PlainMetadata) (place : At) (n : ℕ) (es fs : List (RegisteredSubscriber S)) (o : Option (RegisteredSubscriber S)) (answer : Bool) → entry_of n es ≡ o → IsReal m → AskGivesAt g m place n es o answer fs → Moved g es fs
   ask_moves_at m place n es fs None answer there real given = Still given.1
   ask_moves_at m place n es fs (Some x) answer there real given = By n x (Asked m place) answer given.0 real there given.2 given.3
 
-  ask_moves : (m : PlainMetadata) (place : At) (serial : Option ℕ) (es fs : List (Entry S)) (answer : Bool) → IsReal m → AskGives g m place serial es answer fs → Moved g es fs
+  ask_moves : (m : PlainMetadata) (place : At) (serial : Option ℕ) (es fs : List (RegisteredSubscriber S)) (answer : Bool) → IsReal m → AskGives g m place serial es answer fs → Moved g es fs
   ask_moves m place None es fs answer real given = Still given.1
   ask_moves m place (Some n) es fs answer real given = ask_moves_at m place n es fs (entry_of n es) answer refl real given
 
-  answer_moves : (row : Row C) (place : At) (k : Option Bool) (serial : Option ℕ) (es fs : List (Entry S)) (answer : Bool) → IsReal (h.metadata_of row.callsite) → AnswerGives g h row place k serial es answer fs → Moved g es fs
+  answer_moves : (row : RegisteredCallsite C) (place : At) (k : Option Bool) (serial : Option ℕ) (es fs : List (RegisteredSubscriber S)) (answer : Bool) → IsReal (h.metadata_of row.callsite) → AnswerGives g h row place k serial es answer fs → Moved g es fs
   answer_moves row place k None es fs answer real given = Still given.1
   answer_moves row place (Some b) (Some n) es fs answer real given = Still given.1
   answer_moves row place None (Some n) es fs answer real given = ask_moves (h.metadata_of row.callsite) place (Some n) es fs answer real given
 
-  call_moves_at : (c : Call) (n : ℕ) (es fs : List (Entry S)) (o : Option (Entry S)) (reply : ReplyTo c) → entry_of n es ≡ o → IsRealCall c → CallGivesAt g c (Some n) es o reply fs → Moved g es fs
+  call_moves_at : (c : Call) (n : ℕ) (es fs : List (RegisteredSubscriber S)) (o : Option (RegisteredSubscriber S)) (reply : ReplyTo c) → entry_of n es ≡ o → IsRealCall c → CallGivesAt g c (Some n) es o reply fs → Moved g es fs
   call_moves_at c n es fs None reply there real given = Still given.1
   call_moves_at c n es fs (Some x) reply there real given = By n x c reply given.0 real there given.1 given.2
 
-  call_moves : (c : Call) (dispatch : Option ℕ) (es fs : List (Entry S)) (reply : ReplyTo c) → IsRealCall c → CallGives g c dispatch es reply fs → Moved g es fs
+  call_moves : (c : Call) (dispatch : Option ℕ) (es fs : List (RegisteredSubscriber S)) (reply : ReplyTo c) → IsRealCall c → CallGives g c dispatch es reply fs → Moved g es fs
   call_moves c None es fs reply real given = Still given.1
   call_moves c (Some n) es fs reply real given = call_moves_at c n es fs (entry_of n es) reply refl real given
 
@@ -282,14 +282,14 @@ module _ {S C : Type 0} (g : Ghosts S) (h : SiteGhosts C) where
       }
 
   -- a request through a handle
-  pub call_keeps : (c : Call) (dispatch : Option ℕ) (t u : Table S C) (reply : ReplyTo c) → IsRealCall c → HubGives g c dispatch t reply u → Keeps g h t u
+  pub call_keeps : (c : Call) (dispatch : Option ℕ) (t u : Table S C) (reply : ReplyTo c) → IsRealCall c → HubGives g c dispatch t reply u → PreservesCaches g h t u
   call_keeps c dispatch t u reply real given = moved_keeps t u (call_moves c dispatch t.entries u.entries reply real given.0) (alike_but_entries t u given.1)
 
   -- a question through a handle
-  pub ask_keeps : (m : PlainMetadata) (place : At) (dispatch : Option ℕ) (t u : Table S C) (answer : Bool) → IsReal m → AskGives g m place dispatch t.entries answer u.entries → u ≡ record t { entries = u.entries } → Keeps g h t u
+  pub ask_keeps : (m : PlainMetadata) (place : At) (dispatch : Option ℕ) (t u : Table S C) (answer : Bool) → IsReal m → AskGives g m place dispatch t.entries answer u.entries → u ≡ record t { entries = u.entries } → PreservesCaches g h t u
   ask_keeps m place dispatch t u answer real given left = moved_keeps t u (ask_moves m place dispatch t.entries u.entries answer real given) (alike_but_entries t u left)
 
-  gate_moves_at : (t u : Table S C) (identifier : ℕ) (place : At) (o : Option (Row C)) (result : Option Bool) → row_of identifier t.rows ≡ o → GateGivesAt g h t o place result u → Every (IsTrueRow h) t.rows → Moved g t.entries u.entries × Alike t u
+  gate_moves_at : (t u : Table S C) (identifier : ℕ) (place : At) (o : Option (RegisteredCallsite C)) (result : Option Bool) → row_of identifier t.rows ≡ o → GateGivesAt g h t o place result u → Every (IsTrueRow h) t.rows → Moved g t.entries u.entries × Alike t u
   gate_moves_at t u identifier place None result found given sites =
       (Still (ap (λ (v : Table S C). v.entries) given.1), record { next = ap (λ (v : Table S C). v.next) given.1; rows = ap (λ (v : Table S C). v.rows) given.1; greatest = ap (λ (v : Table S C). v.greatest) given.1 })
   gate_moves_at t u identifier place (Some row) result found given sites =
@@ -300,7 +300,7 @@ module _ {S C : Type 0} (g : Ghosts S) (h : SiteGhosts C) where
   gate_moves t u identifier place result given sites = gate_moves_at t u identifier place (row_of identifier t.rows) result refl given sites
 
   -- a gate
-  pub gate_keeps : (t u : Table S C) (identifier : ℕ) (place : At) (result : Option Bool) → GateGives g h t identifier place result u → Keeps g h t u
+  pub gate_keeps : (t u : Table S C) (identifier : ℕ) (place : At) (result : Option Bool) → GateGives g h t identifier place result u → PreservesCaches g h t u
   gate_keeps t u identifier place result given =
       record {
         sound = λ sound. let m = gate_moves t u identifier place result given sound.sites in (moved_keeps t u m.0 m.1).sound sound;
@@ -309,7 +309,7 @@ module _ {S C : Type 0} (g : Ghosts S) (h : SiteGhosts C) where
       }
 
   -- asking again whoever was lent, and maybe others
-  pub refresh_keeps : (t u : Table S C) → Refreshed g h t u → Keeps g h t u
+  pub refresh_keeps : (t u : Table S C) → Refreshed g h t u → PreservesCaches g h t u
   refresh_keeps t u r =
       record {
         sound = refreshed_sound g h t u r;
@@ -318,13 +318,13 @@ module _ {S C : Type 0} (g : Ghosts S) (h : SiteGhosts C) where
       }
 
   -- asking all again
-  pub rebuild_keeps : (t u : Table S C) → Rebuilt g h t u → Keeps g h t u
+  pub rebuild_keeps : (t u : Table S C) → Rebuilt g h t u → PreservesCaches g h t u
   rebuild_keeps t u r = refresh_keeps t u (rebuilt_refreshed g h t u r)
 
   with_new : Table S C → S → Table S C
   with_new t z = record t { entries = t.entries ++ living t.next z ∷ []; next = t.next + 1 }
 
-  kept_with_new : (t : Table S C) (z : S) (e : Entry S) → Kept g h t e → Kept g h (with_new t z) e
+  kept_with_new : (t : Table S C) (z : S) (e : RegisteredSubscriber S) → HasValidCache g h t e → HasValidCache g h (with_new t z) e
   unfolding with_new
   kept_with_new t z e kept =
       record {
@@ -337,7 +337,7 @@ module _ {S C : Type 0} (g : Ghosts S) (h : SiteGhosts C) where
       }
 
   -- a subscriber more
-  pub add_keeps : (t u : Table S C) (s : S) (r : Result (Option ℕ) (AddError S)) → AddGives g h t s r u → Keeps g h t u
+  pub add_keeps : (t u : Table S C) (s : S) (r : Result (Option ℕ) (AddError S)) → AddGives g h t s r u → PreservesCaches g h t u
   unfolding with_new
   add_keeps t u s (Ok dispatch) given =
       let z = given.1.0 in
@@ -347,15 +347,15 @@ module _ {S C : Type 0} (g : Ghosts S) (h : SiteGhosts C) where
         sound = λ sound. refreshed_sound g h v u asked (added_sound h g t z sound);
         later = λ sound. later_added t u (living t.next z) refl (refreshed_serials g h v u asked) (ap (λ (w : Table S C). w.next) asked.rest);
         right_of = λ e kept.
-            let still : Kept g h v e = kept_with_new t z e kept in
+            let still : HasValidCache g h v e = kept_with_new t z e kept in
             let a = refreshed_right g h v u e asked (inr still) still.stands kept.steady kept.rows in
             (asked_anew a.0 e, refl, a.1);
       }
-  add_keeps t u s (Err (add.NumbersSpent back)) given = subst (Keeps g h t) (sym given.2) (itself_keeps t)
-  add_keeps t u s (Err (add.OutOfMemory back)) given = subst (Keeps g h t) (sym given.2) (itself_keeps t)
+  add_keeps t u s (Err (add.NumbersSpent back)) given = subst (PreservesCaches g h t) (sym given.2) (itself_keeps t)
+  add_keeps t u s (Err (add.OutOfMemory back)) given = subst (PreservesCaches g h t) (sym given.2) (itself_keeps t)
 
-  -- and what is kept is right of it, if it keeps its word
-  pub added_kept : (t u : Table S C) (s : S) (dispatch : Option ℕ) → AddGives g h t s (Ok dispatch) u → IsSound h t → g.steady s → (f : Entry S) × (dispatch ≡ Some f.serial) × Kept g h u f
+  -- and what is kept is right of it, if it is consistent
+  pub added_kept : (t u : Table S C) (s : S) (dispatch : Option ℕ) → AddGives g h t s (Ok dispatch) u → IsSound h t → g.steady s → (f : RegisteredSubscriber S) × (dispatch ≡ Some f.serial) × HasValidCache g h u f
   unfolding with_new
   added_kept t u s dispatch given sound steady =
       let z = given.1.0 in
@@ -367,18 +367,18 @@ module _ {S C : Type 0} (g : Ghosts S) (h : SiteGhosts C) where
       let a = refreshed_right g h v u (living t.next z) asked (inl refl) there later.0 sound.sites in
       (asked_anew a.0 (living t.next z), given.0, a.1)
 
-  pub added_right : (t u : Table S C) (s : S) (r : Result (Option ℕ) (AddError S)) → AddGives g h t s r u → IfOk r (λ dispatch. IsSound h t → g.steady s → (f : Entry S) × (dispatch ≡ Some f.serial) × Kept g h u f)
+  pub added_right : (t u : Table S C) (s : S) (r : Result (Option ℕ) (AddError S)) → AddGives g h t s r u → IfOk r (λ dispatch. IsSound h t → g.steady s → (f : RegisteredSubscriber S) × (dispatch ≡ Some f.serial) × HasValidCache g h u f)
   added_right t u s (Ok dispatch) given = λ sound steady. added_kept t u s dispatch given sound steady
   added_right t u s (Err e) given = tt
 
   -- and of those that were lent and keep theirs
-  pub added_others : (t u : Table S C) (s : S) (r : Result (Option ℕ) (AddError S)) → AddGives g h t s r u → IfOk r (λ _. (e : Entry S) → entry_of e.serial t.entries ≡ Some e → e.lent ≡ true → g.steady e.subscriber → Every (IsTrueRow h) t.rows → (z : S) × Kept g h u (asked_anew z e))
+  pub added_others : (t u : Table S C) (s : S) (r : Result (Option ℕ) (AddError S)) → AddGives g h t s r u → IfOk r (λ _. (e : RegisteredSubscriber S) → entry_of e.serial t.entries ≡ Some e → e.lent ≡ true → g.steady e.subscriber → Every (IsTrueRow h) t.rows → (z : S) × HasValidCache g h u (asked_anew z e))
   unfolding with_new
   added_others t u s (Ok dispatch) given = λ e there lent steady sites.
       refreshed_right g h (with_new t given.1.0) u e given.1.2 (inl lent) (entry_appended e.serial t.entries (living t.next given.1.0 ∷ []) e there) steady sites
   added_others t u s (Err e) given = tt
 
-  registered_kept : (t u : Table S C) (callsite : C) (interest : PlainInterest) (e : Entry S) → IsReal (h.metadata_of callsite) → Registered g h t callsite interest u → Kept g h t e → (z : S) × Kept g h u (becomes z e)
+  registered_kept : (t u : Table S C) (callsite : C) (interest : PlainInterest) (e : RegisteredSubscriber S) → IsReal (h.metadata_of callsite) → Registered g h t callsite interest u → HasValidCache g h t e → (z : S) × HasValidCache g h u (becomes z e)
   registered_kept t u callsite interest e real r kept =
       let m = h.metadata_of callsite in
       let rows : u.rows ≡ t.rows ++ r.row ∷ [] = ap (λ (v : Table S C). v.rows) r.kept in
@@ -400,7 +400,7 @@ module _ {S C : Type 0} (g : Ghosts S) (h : SiteGhosts C) where
       )
 
   -- a callsite more
-  take_keeps : (t u : Table S C) (callsite : C) (r : Result PlainInterest (RegisterError C)) → IsReal (h.metadata_of callsite) → TakeGives g h t callsite r u → Keeps g h t u
+  take_keeps : (t u : Table S C) (callsite : C) (r : Result PlainInterest (RegisterError C)) → IsReal (h.metadata_of callsite) → TakeGives g h t callsite r u → PreservesCaches g h t u
   take_keeps t u callsite (Ok interest) real given =
       record {
         sound = registered_sound h g t u callsite interest real given;
@@ -408,19 +408,19 @@ module _ {S C : Type 0} (g : Ghosts S) (h : SiteGhosts C) where
         right_of = λ e kept. let a = registered_kept t u callsite interest e real given kept in (becomes a.0 e, refl, a.1);
       }
   take_keeps t u callsite (Err (registering.Taken back)) real given = absurd given
-  take_keeps t u callsite (Err (registering.OutOfMemory back)) real given = subst (Keeps g h t) (sym given.1) (itself_keeps t)
+  take_keeps t u callsite (Err (registering.OutOfMemory back)) real given = subst (PreservesCaches g h t) (sym given.1) (itself_keeps t)
 
-  register_keeps_at : (t u : Table S C) (callsite : C) (o : Option (Option PlainInterest)) (r : Result PlainInterest (RegisterError C)) → IsReal (h.metadata_of callsite) → RegisterGivesAt g h t callsite o r u → Keeps g h t u
+  register_keeps_at : (t u : Table S C) (callsite : C) (o : Option (Option PlainInterest)) (r : Result PlainInterest (RegisterError C)) → IsReal (h.metadata_of callsite) → RegisterGivesAt g h t callsite o r u → PreservesCaches g h t u
   register_keeps_at t u callsite None r real given = take_keeps t u callsite r real given
-  register_keeps_at t u callsite (Some None) r real given = subst (Keeps g h t) (sym given.1) (itself_keeps t)
-  register_keeps_at t u callsite (Some (Some interest)) r real given = subst (Keeps g h t) (sym given.1) (itself_keeps t)
+  register_keeps_at t u callsite (Some None) r real given = subst (PreservesCaches g h t) (sym given.1) (itself_keeps t)
+  register_keeps_at t u callsite (Some (Some interest)) r real given = subst (PreservesCaches g h t) (sym given.1) (itself_keeps t)
 
-  pub register_keeps : (t u : Table S C) (callsite : C) (r : Result PlainInterest (RegisterError C)) → IsReal (h.metadata_of callsite) → RegisterGives g h t callsite r u → Keeps g h t u
+  pub register_keeps : (t u : Table S C) (callsite : C) (r : Result PlainInterest (RegisterError C)) → IsReal (h.metadata_of callsite) → RegisterGives g h t callsite r u → PreservesCaches g h t u
   register_keeps t u callsite r real given =
       register_keeps_at t u callsite (kept_alike h (h.metadata_of callsite) (row_of (h.metadata_of callsite).callsite t.rows)) r real given
 
   -- one command after another
-  pub keeps_then : (t v u : Table S C) → Keeps g h t v → Keeps g h v u → Keeps g h t u
+  pub keeps_then : (t v u : Table S C) → PreservesCaches g h t v → PreservesCaches g h v u → PreservesCaches g h t u
   keeps_then t v u a b =
       record {
         sound = λ sound. b.sound (a.sound sound);
@@ -428,18 +428,18 @@ module _ {S C : Type 0} (g : Ghosts S) (h : SiteGhosts C) where
         right_of = λ e kept. let x = a.right_of e kept in let y = b.right_of x.0 x.2 in (y.0, y.1 ∙ x.1, y.2);
       }
 
-  lives_on : (u : Table S C) (e f : Entry S) → f.serial ≡ e.serial → (entry_of f.serial u.entries ≡ None) ⊎ StaysRight g h u f → (entry_of e.serial u.entries ≡ None) ⊎ StaysRight g h u e
+  lives_on : (u : Table S C) (e f : RegisteredSubscriber S) → f.serial ≡ e.serial → (entry_of f.serial u.entries ≡ None) ⊎ StaysRight g h u f → (entry_of e.serial u.entries ≡ None) ⊎ StaysRight g h u e
   lives_on u e f same (inl gone) = inl (subst (λ n. entry_of n u.entries ≡ None) same gone)
   lives_on u e f same (inr right) = inr (right.0, right.1 ∙ same, right.2)
 
-  goes_on : (t v u : Table S C) (e : Entry S) → IsSound h t → KeepsLiving g h t v → KeepsLiving g h v u → Kept g h t e → (entry_of e.serial v.entries ≡ None) ⊎ StaysRight g h v e → (entry_of e.serial u.entries ≡ None) ⊎ StaysRight g h u e
+  goes_on : (t v u : Table S C) (e : RegisteredSubscriber S) → IsSound h t → PreservesLivingCaches g h t v → PreservesLivingCaches g h v u → HasValidCache g h t e → (entry_of e.serial v.entries ≡ None) ⊎ StaysRight g h v e → (entry_of e.serial u.entries ≡ None) ⊎ StaysRight g h u e
   goes_on t v u e sound a b kept (inl gone) =
       let below : e.serial < t.next = below_next e.serial 0 t.next t.entries e sound.numbers kept.stands in
       let onward : t.next ≤ v.next = (a.later sound).next in
       inl ((b.later (a.sound sound)).gone e.serial (omega arith) gone)
   goes_on t v u e sound a b kept (inr right) = lives_on u e right.0 right.1 (b.right_of (a.sound sound) right.0 right.2)
 
-  pub living_then : (t v u : Table S C) → KeepsLiving g h t v → KeepsLiving g h v u → KeepsLiving g h t u
+  pub living_then : (t v u : Table S C) → PreservesLivingCaches g h t v → PreservesLivingCaches g h v u → PreservesLivingCaches g h t u
   living_then t v u a b =
       record {
         sound = λ sound. b.sound (a.sound sound);
@@ -448,11 +448,11 @@ module _ {S C : Type 0} (g : Ghosts S) (h : SiteGhosts C) where
       }
 
   -- whatever may be given up
-  pub living_by : (b : Bool) (t u : Table S C) → KeepsBy g h b t u → KeepsLiving g h t u
+  pub living_by : (b : Bool) (t u : Table S C) → PreservesCachesBy g h b t u → PreservesLivingCaches g h t u
   living_by true t u keeps = keeps
   living_by false t u keeps = living_from t u keeps
 
   -- where nothing is given up
-  pub keeps_by : (b : Bool) (t u : Table S C) → b ≡ false → KeepsBy g h b t u → Keeps g h t u
+  pub keeps_by : (b : Bool) (t u : Table S C) → b ≡ false → PreservesCachesBy g h b t u → PreservesCaches g h t u
   keeps_by true t u none keeps = absurd (cc)
   keeps_by false t u none keeps = keeps

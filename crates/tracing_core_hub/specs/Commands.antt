@@ -12,17 +12,17 @@ use Rattle.tracing_core_hub.specs.declared.refusal.AddError.{AddError}
 use Rattle.tracing_core_hub.specs.declared.refusal.AddError.TheVariants as add
 use Rattle.tracing_core_hub.specs.declared.refusal.RegisterError.{RegisterError}
 use Rattle.tracing_core_hub.specs.declared.refusal.RegisterError.TheVariants as registering
-use Rattle.tracing_core_hub.specs.declared.hub.parts.Entry.{Entry}
-use Rattle.tracing_core_hub.specs.declared.hub.parts.Row.{Row}
+use Rattle.tracing_core_hub.specs.declared.hub.parts.RegisteredSubscriber.{RegisteredSubscriber}
+use Rattle.tracing_core_hub.specs.declared.hub.parts.RegisteredCallsite.{RegisteredCallsite}
 use Rattle.tracing_core_requests.specs.declared.interest.InterestInner.TheVariants.{Never, Sometimes, Always}
 use Rattle.tracing_core_requests.specs.declared.subscriber.Subscriber.{Ghosts}
 use Rattle.tracing_core_requests.specs.declared.callsite.Callsite.{Ghosts as SiteGhosts}
 
-abbrev pub is_at : {C : Type 0} → ℕ → Row C → Bool
+abbrev pub is_at : {C : Type 0} → ℕ → RegisteredCallsite C → Bool
 is_at identifier row = row.identifier == identifier
 
 -- the callsite with the identifier
-abbrev pub row_of : {C : Type 0} → ℕ → List (Row C) → Option (Row C)
+abbrev pub row_of : {C : Type 0} → ℕ → List (RegisteredCallsite C) → Option (RegisteredCallsite C)
 row_of identifier [] = None
 row_of identifier (row ∷ rows) = if is_at identifier row then Some row else row_of identifier rows
 
@@ -40,36 +40,36 @@ abbrev pub known : ℕ → ℕ → PlainInterest → Option Bool
 known greatest level interest = if nat_le level greatest then known_by interest else Some false
 
 -- a subscriber with its first handle, which counts as lent until it is asked
-abbrev pub living : {S : Type 0} → ℕ → S → Entry S
+abbrev pub living : {S : Type 0} → ℕ → S → RegisteredSubscriber S
 living serial subscriber = record { serial = serial; handles = 1; lent = true; subscriber = subscriber }
 
-abbrev pub becomes : {S : Type 0} → S → Entry S → Entry S
+abbrev pub becomes : {S : Type 0} → S → RegisteredSubscriber S → RegisteredSubscriber S
 becomes subscriber e = record e { subscriber = subscriber }
 
 -- a callsite as it comes
-abbrev pub new_row : {C : Type 0} (h : SiteGhosts C) → C → Row C
+abbrev pub new_row : {C : Type 0} (h : SiteGhosts C) → C → RegisteredCallsite C
 new_row h callsite = record { callsite = callsite; identifier = (h.metadata_of callsite).callsite; level = (h.metadata_of callsite).level; interest = Never }
 
 -- nothing where the identifier isn't known, and the kept interest where its metadata is the same
-abbrev pub kept_alike : {C : Type 0} → SiteGhosts C → PlainMetadata → Option (Row C) → Option (Option PlainInterest)
+abbrev pub kept_alike : {C : Type 0} → SiteGhosts C → PlainMetadata → Option (RegisteredCallsite C) → Option (Option PlainInterest)
 kept_alike h metadata None = None
 kept_alike h metadata (Some row) = Some (if is_same_metadata (h.metadata_of row.callsite) metadata then Some row.interest else None)
 
 module _ {S : Type 0} (g : Ghosts S) where
   -- the subscriber was asked, where there is one
-  abbrev pub AskGivesAt : PlainMetadata → At → ℕ → List (Entry S) → Option (Entry S) → Bool → List (Entry S) → Type 0
+  abbrev pub AskGivesAt : PlainMetadata → At → ℕ → List (RegisteredSubscriber S) → Option (RegisteredSubscriber S) → Bool → List (RegisteredSubscriber S) → Type 0
   AskGivesAt m at serial es None answer fs = (answer ≡ false) × (fs ≡ es)
   AskGivesAt m at serial es (Some e) answer fs =
       (after : S) × g.answers e.subscriber m at answer × g.moves e.subscriber (Asked m at) answer after × (fs ≡ changed serial (becomes after) es)
 
-  abbrev pub AskGives : PlainMetadata → At → Option ℕ → List (Entry S) → Bool → List (Entry S) → Type 0
+  abbrev pub AskGives : PlainMetadata → At → Option ℕ → List (RegisteredSubscriber S) → Bool → List (RegisteredSubscriber S) → Type 0
   AskGives m at None es answer fs = (answer ≡ false) × (fs ≡ es)
   AskGives m at (Some serial) es answer fs = AskGivesAt m at serial es (entry_of serial es) answer fs
 
   module _ {C : Type 0} (h : SiteGhosts C) where
     -- all were asked of each callsite, and then for their hints
     pub record Rebuilt (t u : Table S C) : Type 0 where
-      pub asked : List (Entry S)
+      pub asked : List (RegisteredSubscriber S)
       pub rows : Each (RowAsked g h) t.entries t.rows u.rows asked
       pub hints : Each (Hints g) 0 asked u.entries u.greatest
       pub rest : u ≡ record t { entries = u.entries; rows = u.rows; greatest = u.greatest }
@@ -84,7 +84,7 @@ module _ {S : Type 0} (g : Ghosts S) where
     -- all were asked of a callsite that wasn't known, and it is kept
     pub record Registered (t : Table S C) (callsite : C) (interest : PlainInterest) (u : Table S C) : Type 0 where
       pub unknown : row_of (h.metadata_of callsite).callsite t.rows ≡ None
-      pub row : Row C
+      pub row : RegisteredCallsite C
       pub asked : RowAsked g h t.entries (new_row h callsite) row u.entries
       pub told : interest ≡ row.interest
       pub kept : u ≡ record t { entries = u.entries; rows = t.rows ++ row ∷ [] }
@@ -106,12 +106,12 @@ module _ {S : Type 0} (g : Ghosts S) where
         RegisterGivesAt t callsite (kept_alike h (h.metadata_of callsite) (row_of (h.metadata_of callsite).callsite t.rows)) result u
 
     -- where somebody is reached, what is known is answered, else it is asked; where nobody is, nothing is wanted
-    abbrev pub AnswerGives : Row C → At → Option Bool → Option ℕ → List (Entry S) → Bool → List (Entry S) → Type 0
+    abbrev pub AnswerGives : RegisteredCallsite C → At → Option Bool → Option ℕ → List (RegisteredSubscriber S) → Bool → List (RegisteredSubscriber S) → Type 0
     AnswerGives row at known None es result fs = (result ≡ false) × (fs ≡ es)
     AnswerGives row at (Some answer) (Some serial) es result fs = (result ≡ answer) × (fs ≡ es)
     AnswerGives row at None (Some serial) es result fs = AskGives (h.metadata_of row.callsite) at (Some serial) es result fs
 
-    abbrev pub GateGivesAt : Table S C → Option (Row C) → At → Option Bool → Table S C → Type 0
+    abbrev pub GateGivesAt : Table S C → Option (RegisteredCallsite C) → At → Option Bool → Table S C → Type 0
     GateGivesAt t None at result u = (result ≡ None) × (u ≡ t)
     GateGivesAt t (Some row) at result u =
         ((answer : Bool) × (result ≡ Some answer)

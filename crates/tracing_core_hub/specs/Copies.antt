@@ -1,16 +1,16 @@
 -- A copy of what a hub keeps.
 use Rattle.std.specs.Prelude.{◌≡◌, map}
 use Rattle.tracing_core_hub.specs.Table.{Table}
-use Rattle.tracing_core_hub.specs.declared.hub.parts.Entry.{Entry}
-use Rattle.tracing_core_hub.specs.declared.hub.parts.Row.{Row}
+use Rattle.tracing_core_hub.specs.declared.hub.parts.RegisteredSubscriber.{RegisteredSubscriber}
+use Rattle.tracing_core_hub.specs.declared.hub.parts.RegisteredCallsite.{RegisteredCallsite}
 use Rattle.tracing_core_hub.specs.declared.hub.table.HandleCount.{HandleCount}
 use Rattle.tracing_core_hub.specs.declared.hub.table.HubTable.{HubTable}
 use Rattle.tracing_core_hub.specs.declared.hub.table.KeptInterest.{KeptInterest}
 
-abbrev pub handles_of : {S : Type 0} → Entry S → HandleCount
+abbrev pub handles_of : {S : Type 0} → RegisteredSubscriber S → HandleCount
 handles_of e = record { serial = e.serial; handles = e.handles }
 
-abbrev pub kept_of : {C : Type 0} → Row C → KeptInterest
+abbrev pub kept_of : {C : Type 0} → RegisteredCallsite C → KeptInterest
 kept_of row = record { identifier = record { 0 = row.identifier }; interest = row.interest }
 
 -- each subscriber with its count, the defaults, each callsite with its interest, and the greatest level, in order

@@ -5,8 +5,8 @@ use Rattle.tracing_core_hub.specs.Handles.{hold_refusal, held, given_back}
 use Rattle.tracing_core_hub.specs.Table.{Table, chosen, own_setting}
 use Rattle.tracing_core_hub.specs.declared.guard.DefaultGuard.{DefaultGuard}
 use Rattle.tracing_core_hub.specs.declared.guard.WrongLane.{WrongLane}
-use Rattle.tracing_core_hub.specs.declared.hub.parts.Setting.{Setting}
-use Rattle.tracing_core_hub.specs.declared.hub.parts.Setting.TheVariants.{Unset, Nothing, To}
+use Rattle.tracing_core_hub.specs.declared.hub.parts.LaneDefault.{LaneDefault}
+use Rattle.tracing_core_hub.specs.declared.hub.parts.LaneDefault.TheVariants.{Unset, Nothing, To}
 use Rattle.tracing_core_hub.specs.declared.hub.parts.Lane.{Lane}
 use Rattle.tracing_core_hub.specs.declared.hub.parts.Lane.TheVariants.{Ended, Running}
 use Rattle.tracing_core_hub.specs.declared.refusal.HandleError.{HandleError}
@@ -19,17 +19,17 @@ use Rattle.tracing_core_hub.specs.declared.refusal.SetDefaultError.{SetDefaultEr
 use Rattle.tracing_core_hub.specs.declared.refusal.SetDefaultError.TheVariants as own
 
 -- the default that a handle is set as
-abbrev pub setting_to : Option ℕ → Setting
+abbrev pub setting_to : Option ℕ → LaneDefault
 setting_to None = Nothing
 setting_to (Some serial) = To serial
 
-abbrev pub was_set : Setting → Bool
+abbrev pub was_set : LaneDefault → Bool
 was_set Unset = false
 was_set Nothing = true
 was_set (To serial) = true
 
 -- the default of a lane that runs
-abbrev pub running : Option Lane → Option Setting
+abbrev pub running : Option Lane → Option LaneDefault
 running None = None
 running (Some Ended) = None
 running (Some (Running setting)) = Some setting
@@ -61,7 +61,7 @@ module _ {S C : Type 0} where
   abbrev pub with_lane : Table S C → ℕ → Lane → Table S C
   with_lane t lane value = record t { lanes = slice_set t.lanes lane value }
 
-  abbrev pub default_refusal_at : Table S C → Option ℕ → Option Setting → Option SetDefaultError
+  abbrev pub default_refusal_at : Table S C → Option ℕ → Option LaneDefault → Option SetDefaultError
   default_refusal_at t dispatch None = Some own.UnknownLane
   default_refusal_at t dispatch (Some setting) = option_map own.Handle (hold_refusal dispatch t.entries)
 
@@ -78,10 +78,10 @@ module _ {S C : Type 0} where
   locally t lane dispatch = with_lane (holding t dispatch) lane (Running (setting_to dispatch))
 
   -- with one hold of a default given up, and another value of the lane: the subscriber that this releases comes back
-  abbrev pub given_up : Table S C → ℕ → Setting → Lane → Option S × Table S C
+  abbrev pub given_up : Table S C → ℕ → LaneDefault → Lane → Option S × Table S C
   given_up t lane setting value = ((given_back (chosen setting) t.entries).0, with_lane (letting_go t (chosen setting)) lane value)
 
-  abbrev pub end_gives_at : Table S C → ℕ → Option Setting → Result (Option S) UnknownLane × Table S C
+  abbrev pub end_gives_at : Table S C → ℕ → Option LaneDefault → Result (Option S) UnknownLane × Table S C
   end_gives_at t lane None = (Err (record { 0 = tt }), t)
   end_gives_at t lane (Some setting) = (Ok (given_up t lane setting Ended).0, (given_up t lane setting Ended).1)
 

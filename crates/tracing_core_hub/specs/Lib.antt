@@ -5,7 +5,7 @@ pub mod Commands
 pub mod Defaults
 pub mod DefaultCallsites
 pub mod Lent
-pub mod Kept
+pub mod ValidCaches
 pub mod Refreshing
 pub mod Sound
 pub mod Keeping

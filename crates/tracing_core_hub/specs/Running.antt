@@ -5,7 +5,7 @@ use Rattle.tracing_core_hub.specs.Commands.{AddGives, GateGives, RegisterGives, 
 use Rattle.tracing_core_hub.specs.Defaults.{was_set, holding, letting_go, global_refusal, globally, default_refusal, locally, guard_of, running, end_gives, reset_gives}
 use Rattle.tracing_core_hub.specs.Handles.{given_back, hold_refusal}
 use Rattle.tracing_core_requests.specs.Refusals.{or_refused, or_same}
-use Rattle.tracing_core_hub.specs.Keeping.{KeepsBy}
+use Rattle.tracing_core_hub.specs.Keeping.{PreservesCachesBy}
 use Rattle.tracing_core_hub.specs.Refreshing.{Refreshed}
 use Rattle.tracing_core_hub.specs.Table.{Table}
 use Rattle.tracing_core_requests.specs.declared.at.At.{At}
@@ -14,8 +14,8 @@ use Rattle.tracing_core_hub.specs.declared.guard.DefaultGuard.{DefaultGuard}
 use Rattle.tracing_core_hub.specs.declared.guard.WrongLane.{WrongLane}
 use Rattle.tracing_core_hub.specs.declared.hub.parts.Lane.{Lane}
 use Rattle.tracing_core_hub.specs.declared.hub.parts.Lane.TheVariants.{Running}
-use Rattle.tracing_core_hub.specs.declared.hub.parts.Setting.{Setting}
-use Rattle.tracing_core_hub.specs.declared.hub.parts.Setting.TheVariants.{Unset}
+use Rattle.tracing_core_hub.specs.declared.hub.parts.LaneDefault.{LaneDefault}
+use Rattle.tracing_core_hub.specs.declared.hub.parts.LaneDefault.TheVariants.{Unset}
 use Rattle.tracing_core_hub.specs.declared.refusal.HandleError.{HandleError}
 use Rattle.tracing_core_hub.specs.declared.refusal.HandleError.TheVariants.{Unknown, TooMany}
 use Rattle.tracing_core_hub.specs.declared.refusal.SetDefaultError.{SetDefaultError}
@@ -80,10 +80,10 @@ module _ {S C : Type 0} where
   reset_reply (Err wrong) = reply.Refused error.WrongLane
 
   -- a new lane has the next number
-  abbrev pub ThreadRuns : Table S C → CommandReply S C → Table S C → Type 0
-  ThreadRuns t (reply.Lane lane) u = (lane ≡ length t.lanes) × (u ≡ record t { lanes = t.lanes ++ Running Unset ∷ []; entered = t.entered ++ false ∷ [] })
-  ThreadRuns t (reply.Refused error.OutOfMemory) u = u ≡ t
-  ThreadRuns t other u = ⊥
+  abbrev pub LaneRuns : Table S C → CommandReply S C → Table S C → Type 0
+  LaneRuns t (reply.Lane lane) u = (lane ≡ length t.lanes) × (u ≡ record t { lanes = t.lanes ++ Running Unset ∷ []; entered = t.entered ++ false ∷ [] })
+  LaneRuns t (reply.Refused error.OutOfMemory) u = u ≡ t
+  LaneRuns t other u = ⊥
 
   abbrev pub global_gives : Table S C → Option (Option ℕ) → CommandReply S C × Table S C
   global_gives t None = (reply.Refused error.UnknownHandle, t)
@@ -99,7 +99,7 @@ module _ {S C : Type 0} where
   SetDefaultRunsAt t guards lane dispatch None answer u left =
       OrNoRoom answer ((u ≡ t) × (left ≡ guards)) (((answer, u), left) ≡ set_default_gives t guards lane dispatch)
 
-  abbrev pub SetDefaultRunsIn : Table S C → List (Option DefaultGuard) → ℕ → Option Setting → Option (Option ℕ) → CommandReply S C → Table S C → List (Option DefaultGuard) → Type 0
+  abbrev pub SetDefaultRunsIn : Table S C → List (Option DefaultGuard) → ℕ → Option LaneDefault → Option (Option ℕ) → CommandReply S C → Table S C → List (Option DefaultGuard) → Type 0
   SetDefaultRunsIn t guards lane None dispatch answer u left = (answer ≡ reply.Refused (error.SetDefault own.UnknownLane)) × (u ≡ t) × (left ≡ guards)
   SetDefaultRunsIn t guards lane (Some setting) None answer u left = (answer ≡ reply.Refused error.UnknownHandle) × (u ≡ t) × (left ≡ guards)
   SetDefaultRunsIn t guards lane (Some setting) (Some dispatch) answer u left =
@@ -201,7 +201,7 @@ module _ {S : Type 0} (g : Ghosts S) {C : Type 0} (h : SiteGhosts C) where
 
   -- what the hub replies to a command, and what it and the book are then
   abbrev pub CommandGives : Table S C → PlainBook → Command S C → CommandReply S C → Table S C → PlainBook → Type 0
-  CommandGives t b command.Thread answer u c = ThreadRuns t answer u × (c ≡ b)
+  CommandGives t b command.Thread answer u c = LaneRuns t answer u × (c ≡ b)
   CommandGives t b (command.EndThread lane) answer u c = (answer ≡ end_reply (end_gives t lane).0) × (u ≡ (end_gives t lane).1) × (c ≡ b)
   CommandGives t b (command.Add subscriber) answer u c = AddRuns t b.handles subscriber answer u c.handles × (c ≡ record b { handles = c.handles })
   CommandGives t b (command.Register callsite) answer u c = RegisterRuns t callsite answer u × (c ≡ b)
@@ -226,7 +226,7 @@ module _ {S : Type 0} (g : Ghosts S) {C : Type 0} (h : SiteGhosts C) where
 
   -- what a command leaves of what the hub knows
   abbrev pub CommandKeeps : Command S C → Table S C → Table S C → Type 0
-  CommandKeeps x t u = KeepsBy g h (gives_up x) t u
+  CommandKeeps x t u = PreservesCachesBy g h (gives_up x) t u
 
   -- the commands one after the other, with a reply each
   abbrev pub CommandsGive : Table S C → PlainBook → List (Command S C) → List (CommandReply S C) → Table S C → PlainBook → Type 0

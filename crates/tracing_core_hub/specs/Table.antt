@@ -1,24 +1,24 @@
 -- What a hub keeps, as plain data.
 use Rattle.std.specs.Prelude.{ℕ, Bool, List, [], Option, Some, None}
-use Rattle.tracing_core_hub.specs.declared.hub.parts.Entry.{Entry}
-use Rattle.tracing_core_hub.specs.declared.hub.parts.Row.{Row}
-use Rattle.tracing_core_hub.specs.declared.hub.parts.Setting.{Setting}
-use Rattle.tracing_core_hub.specs.declared.hub.parts.Setting.TheVariants.{Unset, Nothing, To}
+use Rattle.tracing_core_hub.specs.declared.hub.parts.RegisteredSubscriber.{RegisteredSubscriber}
+use Rattle.tracing_core_hub.specs.declared.hub.parts.RegisteredCallsite.{RegisteredCallsite}
+use Rattle.tracing_core_hub.specs.declared.hub.parts.LaneDefault.{LaneDefault}
+use Rattle.tracing_core_hub.specs.declared.hub.parts.LaneDefault.TheVariants.{Unset, Nothing, To}
 use Rattle.tracing_core_hub.specs.declared.hub.parts.Lane.{Lane}
 use Rattle.tracing_core_hub.specs.declared.hub.parts.Lane.TheVariants.{Ended, Running}
 
 pub record Table (S C : Type 0) : Type 0 where
   -- the subscribers that some handle leads to, in order of their numbers
-  pub entries : List (Entry S)
+  pub entries : List (RegisteredSubscriber S)
   -- the number of the next one
   pub next : ℕ
   -- the callsites, in order of registration
-  pub rows : List (Row C)
+  pub rows : List (RegisteredCallsite C)
   -- the lanes, by their numbers
   pub lanes : List Lane
   -- by lane, whether it is within a call that lends its subscriber
   pub entered : List Bool
-  pub global : Setting
+  pub global : LaneDefault
   -- the rank of the greatest level that some subscriber enables
   pub greatest : ℕ
 
@@ -26,19 +26,19 @@ abbrev pub fresh : {S C : Type 0} → Table S C
 fresh = record { entries = []; next = 0; rows = []; lanes = []; entered = []; global = Unset; greatest = 0 }
 
 -- the subscriber that a default leads to
-abbrev pub chosen : Setting → Option ℕ
+abbrev pub chosen : LaneDefault → Option ℕ
 chosen Unset = None
 chosen Nothing = None
 chosen (To serial) = Some serial
 
 -- the default of a lane, where it has one of its own; a lane that was never given reaches nothing
-abbrev pub own_setting : Option Lane → Setting
+abbrev pub own_setting : Option Lane → LaneDefault
 own_setting None = Nothing
 own_setting (Some Ended) = Unset
 own_setting (Some (Running setting)) = setting
 
 -- the own default where one was set, else the global one
-abbrev pub effective : Setting → Setting → Setting
+abbrev pub effective : LaneDefault → LaneDefault → LaneDefault
 effective Unset global = global
 effective Nothing global = Nothing
 effective (To serial) global = To serial

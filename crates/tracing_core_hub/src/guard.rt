@@ -1,5 +1,5 @@
 //! What remembers the default that a lane had before.
-use crate::hub::Setting;
+use crate::hub::LaneDefault;
 use thiserror::Error;
 
 /// Remembers the default that a lane had before another one was set. [`Hub::reset`](crate::Hub::reset)
@@ -7,7 +7,7 @@ use thiserror::Error;
 #[derive(Debug, Drop)]
 pub struct DefaultGuard {
     pub(crate) lane: u64,
-    pub(crate) before: Setting,
+    pub(crate) before: LaneDefault,
 }
 
 /// The guard is of another lane. It comes back.

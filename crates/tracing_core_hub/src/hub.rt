@@ -1,10 +1,10 @@
 //! Subscribers, callsites with what is kept of them, lanes and defaults.
 ghost use Rattle.std.specs.Prelude.{◌≡◌, ◌++◌, ◌∷◌, [], false, OnOk, OnErr, IfOk, length};
-ghost use Rattle.tracing_core_hub.specs.Keeping.{Keeps};
+ghost use Rattle.tracing_core_hub.specs.Keeping.{PreservesCaches};
 ghost use Rattle.tracing_core_hub.specs.Sound.{IsSound};
 ghost use Rattle.tracing_core_hub.specs.Table.{fresh};
 ghost use Rattle.tracing_core_hub.specs.declared.hub.parts.Lane.TheVariants.{Running};
-ghost use Rattle.tracing_core_hub.specs.declared.hub.parts.Setting.TheVariants.{Unset};
+ghost use Rattle.tracing_core_hub.specs.declared.hub.parts.LaneDefault.TheVariants.{Unset};
 
 mod asking;
 mod defaults;
@@ -23,8 +23,8 @@ mod scoped;
 mod table;
 mod taking;
 
-use parts::{Entry, Row};
-pub use parts::{Lane, Setting};
+use parts::{RegisteredCallsite, RegisteredSubscriber};
+pub use parts::{Lane, LaneDefault};
 use std::alloc::{AllocError, Global};
 use std::marker::Model;
 pub use table::{HandleCount, HubTable, KeptInterest};
@@ -36,13 +36,13 @@ use tracing_core_requests::{Callsite, Subscriber};
 /// A contract sees a hub as a `Table`.
 #[derive(Drop)]
 pub struct Hub<S, C> {
-    entries: Vec<Entry<S>>,
+    entries: Vec<RegisteredSubscriber<S>>,
     next: u64,
-    rows: Vec<Row<C>>,
+    rows: Vec<RegisteredCallsite<C>>,
     lanes: Vec<Lane>,
     // by lane, whether it is within a `get_default` or `get_current`
     entered: Vec<bool>,
-    global: Setting,
+    global: LaneDefault,
     greatest: LevelFilter,
 }
 
@@ -66,7 +66,7 @@ impl<S: Subscriber, C: Callsite> Hub<S, C> {
             rows: Vec::new(alloc),
             lanes: Vec::new(alloc),
             entered: Vec::new(alloc),
-            global: Setting::Unset,
+            global: LaneDefault::Unset,
             greatest: LevelFilter::OFF,
         }
     }
@@ -76,7 +76,7 @@ impl<S: Subscriber, C: Callsite> Hub<S, C> {
         ensures number { IfOk result (λ lane. lane ≡ length self.old.lanes) }
         ensures added { OnOk result (self.new ≡ record self.old { lanes = self.old.lanes ++ Running Unset ∷ []; entered = self.old.entered ++ false ∷ [] }) }
         ensures refused { OnErr result (self.new ≡ self.old) }
-        ensures keeps { Keeps ⟦<S as Subscriber>⟧ ⟦<C as Callsite>⟧ self.old self.new }
+        ensures keeps { PreservesCaches ⟦<S as Subscriber>⟧ ⟦<C as Callsite>⟧ self.old self.new }
     {
         self.add_lane()
     }
@@ -91,7 +91,7 @@ impl<S, C> Hub<S, C> {
     {
         let lane = self.lanes.len() as u64;
         self.entered.reserve(1)?;
-        self.lanes.push(Lane::Running(Setting::Unset))?;
+        self.lanes.push(Lane::Running(LaneDefault::Unset))?;
         self.entered.push_reserved(false);
         Ok(lane)
     }

@@ -17,7 +17,7 @@ pub data Call : Type 0 where
   Recorded : ℕ → PlainValues → At → Call
   FollowsRecorded : ℕ → ℕ → At → Call
   EventAsked : PlainEvent → At → Call
-  Told : PlainEvent → At → Call
+  EventDispatched : PlainEvent → At → Call
   Entered : ℕ → At → Call
   Exited : ℕ → At → Call
   Cloned : ℕ → At → Call
@@ -35,7 +35,7 @@ ReplyTo (SpanMade attributes at) = Result (Option ℕ) RequestError
 ReplyTo (Recorded span values at) = Result (Unit {0}) RequestError
 ReplyTo (FollowsRecorded span follows at) = Result (Unit {0}) RequestError
 ReplyTo (EventAsked event at) = Bool
-ReplyTo (Told event at) = Result (Unit {0}) RequestError
+ReplyTo (EventDispatched event at) = Result (Unit {0}) RequestError
 ReplyTo (Entered span at) = Result (Unit {0}) RequestError
 ReplyTo (Exited span at) = Unit {0}
 ReplyTo (Cloned span at) = Result ℕ RequestError

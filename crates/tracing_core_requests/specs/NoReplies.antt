@@ -1,6 +1,6 @@
 -- What the subscriber that wants nothing answers.
 use Rattle.std.specs.Prelude.{◌≡◌, Bool, true, false, Some, None, Ok, refl}
-use Rattle.tracing_core_requests.specs.Calls.{Call, ReplyTo, DispatchRegistered, CallsiteRegistered, Asked, HintAsked, SpanMade, Recorded, FollowsRecorded, EventAsked, Told, Entered, Exited, Cloned, Dropped, CloseTried, CurrentAsked}
+use Rattle.tracing_core_requests.specs.Calls.{Call, ReplyTo, DispatchRegistered, CallsiteRegistered, Asked, HintAsked, SpanMade, Recorded, FollowsRecorded, EventAsked, EventDispatched, Entered, Exited, Cloned, Dropped, CloseTried, CurrentAsked}
 use Rattle.tracing_core_requests.specs.Interests.{PlainInterest}
 use Rattle.tracing_core_requests.specs.Steady.{Agrees, SameWord, InterestFits}
 use Rattle.tracing_core_requests.specs.declared.interest.InterestInner.TheVariants.{Never, Sometimes, Always}
@@ -16,7 +16,7 @@ no_reply (SpanMade attributes at) = Ok (Some 57005)
 no_reply (Recorded span values at) = Ok tt
 no_reply (FollowsRecorded span follows at) = Ok tt
 no_reply (EventAsked event at) = true
-no_reply (Told event at) = Ok tt
+no_reply (EventDispatched event at) = Ok tt
 no_reply (Entered span at) = Ok tt
 no_reply (Exited span at) = tt
 no_reply (Cloned span at) = Ok span

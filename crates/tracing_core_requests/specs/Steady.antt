@@ -1,8 +1,8 @@
--- What it means that a subscriber keeps its word.
+-- What it means that a subscriber is consistent.
 use Rattle.std.specs.Prelude.{◌≡◌, ◌<◌, ℕ, Bool, true, false, Option, Some, None}
 use Rattle.tracing_core_fields.specs.Level.{IsRank}
 use Rattle.tracing_core_fields.specs.PlainMetadata.{PlainMetadata}
-use Rattle.tracing_core_requests.specs.Calls.{Call, CallsiteRegistered, Asked, SpanMade, EventAsked, Told}
+use Rattle.tracing_core_requests.specs.Calls.{Call, CallsiteRegistered, Asked, SpanMade, EventAsked, EventDispatched}
 use Rattle.tracing_core_requests.specs.Interests.{PlainInterest}
 use Rattle.tracing_core_requests.specs.declared.at.At.{At}
 use Rattle.tracing_core_requests.specs.declared.interest.InterestInner.TheVariants.{Never, Sometimes, Always}
@@ -17,7 +17,7 @@ IsRealCall (CallsiteRegistered metadata) = IsReal metadata
 IsRealCall (Asked metadata at) = IsReal metadata
 IsRealCall (SpanMade attributes at) = IsReal attributes.metadata
 IsRealCall (EventAsked event at) = IsReal event.metadata
-IsRealCall (Told event at) = IsReal event.metadata
+IsRealCall (EventDispatched event at) = IsReal event.metadata
 IsRealCall other = Unit {0}
 
 -- what is never enabled isn't enabled, and what is always enabled is

@@ -2,7 +2,7 @@
 ghost use Rattle.std.specs.Prelude.{◌≡◌, ◌↔◌, ℕ, Bool, Option};
 ghost use Rattle.tracing_core_fields.specs.Metadata.{plain_metadata};
 ghost use Rattle.tracing_core_fields.specs.PlainMetadata.{PlainMetadata};
-ghost use Rattle.tracing_core_requests.specs.Calls.{Call, ReplyTo, DispatchRegistered, CallsiteRegistered, Asked, HintAsked, SpanMade, Recorded, FollowsRecorded, EventAsked, Told, Entered, Exited, Cloned, Dropped, CloseTried, CurrentAsked};
+ghost use Rattle.tracing_core_requests.specs.Calls.{Call, ReplyTo, DispatchRegistered, CallsiteRegistered, Asked, HintAsked, SpanMade, Recorded, FollowsRecorded, EventAsked, EventDispatched, Entered, Exited, Cloned, Dropped, CloseTried, CurrentAsked};
 ghost use Rattle.tracing_core_requests.specs.Interests.{PlainInterest};
 ghost use Rattle.tracing_core_requests.specs.PlainRequests.{plain_attributes, plain_event, plain_record};
 ghost use Rattle.tracing_core_requests.specs.Steady.{Agrees, IsReal, IsRealCall, SameWord};
@@ -22,7 +22,7 @@ use tracing_core_fields::{Id, LevelFilter, Metadata};
 
 /// What takes the requests: the making, entering and closing of spans, and events.
 ///
-/// A subscriber that keeps its word is steady: what it says is never enabled isn't, what it says is always
+/// A subscriber that is consistent is steady: what it says is never enabled isn't, what it says is always
 /// enabled is, no level above its hint is; asked twice in one place it answers the same, a question changes
 /// none of its answers, and no call changes what it says of its interests, or its hint.
 pub trait Subscriber: Drop {
@@ -40,7 +40,7 @@ pub trait Subscriber: Drop {
     // What a call may answer and leave.
     ghost moves: { Self → (c : Call) → ReplyTo c → Self → Type 0 };
 
-    // Which values keep their word.
+    // Which values are consistent.
     ghost steady: { Self → Type 0 };
 
     ghost fair: { (x : Self) → steady x → Agrees (answers x) (says x) (hint x) };
@@ -58,17 +58,17 @@ pub trait Subscriber: Drop {
     /// Its interest in a callsite.
     fn register_callsite(&mut self, metadata: &Metadata<'_>) -> Interest
         ensures answer { says self.old (plain_metadata metadata.now) result }
-        ensures left { moves self.old (CallsiteRegistered (plain_metadata metadata.now)) result self.new };
+        ensures state { moves self.old (CallsiteRegistered (plain_metadata metadata.now)) result self.new };
 
     /// Whether it wants a span or an event of the callsite, made there and then.
     fn enabled(&mut self, metadata: &Metadata<'_>, at: At) -> bool
         ensures answer { answers self.old (plain_metadata metadata.now) at result }
-        ensures left { moves self.old (Asked (plain_metadata metadata.now) at) result self.new };
+        ensures state { moves self.old (Asked (plain_metadata metadata.now) at) result self.new };
 
     /// The most verbose level that it enables, where it knows one.
     fn max_level_hint(&mut self) -> Option<LevelFilter>
         ensures answer { result ≡ hint self.old }
-        ensures left { moves self.old HintAsked result self.new };
+        ensures state { moves self.old HintAsked result self.new };
 
     /// Makes a span, and answers its id, or `None` where the span is dropped.
     fn new_span(
@@ -92,7 +92,7 @@ pub trait Subscriber: Drop {
 
     /// Takes an event.
     fn event(&mut self, event: &Event<'_, '_>, at: At) -> Result<(), RequestError>
-        ensures { moves self.old (Told (plain_event event.now) at) result self.new };
+        ensures { moves self.old (EventDispatched (plain_event event.now) at) result self.new };
 
     /// The lane enters a span.
     fn enter(&mut self, span: &Id, at: At) -> Result<(), RequestError>

@@ -1,11 +1,11 @@
-// Stacks of filters of each kind, whose kept answers are right since their filters keep their word.
+// Stacks of filters of each kind, whose kept answers are right since their filters are consistent.
 ghost use Rattle.std.specs.Prelude.{◌≡◌, IfOk, nat_le};
 ghost use Rattle.tracing_core.specs.Metadata.{plain_metadata};
 ghost use Rattle.tracing_core.specs.PlainRequests.{plain_event};
 ghost use Rattle.span_registry_layers.specs.Dynamic.{IsDeterminedIn};
 ghost use Rattle.span_registry_layers.specs.Functions.{IsDetermined, RefusesAbove};
 ghost use Rattle.span_registry_layers.specs.Stacks.{EventAsked};
-ghost use Rattle.span_registry_layers.specs.Words.{Word};
+ghost use Rattle.span_registry_layers.specs.CacheValidity.{CacheIsValid};
 
 use super::layers::Counter;
 use super::*;
@@ -15,10 +15,10 @@ use crate::{
 };
 use tracing_core::{Event, LevelFilter, RequestError};
 
-/// A stack of one output. What it keeps is right where the filter keeps its word.
+/// A stack of one output. What it keeps is right where the filter is consistent.
 fn stack_over<F: Filter>(alloc: Global, filter: F) -> Result<Stack<Filtered<Counter, F>>, Fail>
     requires { F.honest filter }
-    ensures { IfOk result (λ s. Word ⟦<F as Filter>⟧ s) }
+    ensures { IfOk result (λ s. CacheIsValid ⟦<F as Filter>⟧ s) }
 {
     let mut outputs = Vec::new(alloc);
     let output = Output {
@@ -34,21 +34,21 @@ fn stack_over<F: Filter>(alloc: Global, filter: F) -> Result<Stack<Filtered<Coun
     }
 }
 
-/// Hands an event over: whatever the stack keeps, each output is told what its filter, asked afresh, passes.
+/// Hands an event over: whatever the stack keeps, each output is told what its filter, asked again, passes.
 fn hand<F: Filter>(
     stack: &mut Stack<Filtered<Counter, F>>,
     event: &Event<'_, '_>,
 ) -> Result<(), RequestError>
-    requires { Word ⟦<F as Filter>⟧ stack.old }
+    requires { CacheIsValid ⟦<F as Filter>⟧ stack.old }
     ensures asking { EventAsked ⟦<F as Filter>⟧ ⟦<Counter as Layer>⟧ (plain_event event.now) PLACE stack.old result stack.new }
-    ensures kept { Word ⟦<F as Filter>⟧ stack.new }
+    ensures kept { CacheIsValid ⟦<F as Filter>⟧ stack.new }
 {
     stack.event(event, PLACE)
 }
 
 /// How often the output was told, attaching aside, of a WARN and a DEBUG event.
 fn heard<F: Filter>(stack: &mut Stack<Filtered<Counter, F>>) -> Result<u64, Fail>
-    requires { Word ⟦<F as Filter>⟧ stack.old }
+    requires { CacheIsValid ⟦<F as Filter>⟧ stack.old }
 {
     let fields = FieldSet::new(&NAMES, Identifier(7));
     let warn = Metadata::new(
@@ -108,7 +108,7 @@ fn heard_by_both(alloc: Global, level: LevelFilter, test: MetadataTest) -> Resul
     heard(&mut stack)
 }
 
-/// The same under a boxed filter that keeps its word.
+/// The same under a boxed filter that is consistent.
 fn heard_by_box(alloc: Global, filter: Box<dyn Filter>) -> Result<u64, Fail>
     requires { honest filter }
 {

@@ -6,10 +6,10 @@ use tracing_core_requests::{
     At, Attributes, CurrentSpan, Event, Interest, Record, RequestError, Subscriber, WeakDispatch,
 };
 
-/// Each layer is told what all filters on the way down to it pass, asked afresh; of a span what they said when it was made.
+/// Each layer is told what all filters on the way down to it pass, asked again; of a span what they said when it was made.
 ///
 /// It keeps nothing of its filters' answers: its interest in each callsite is sometimes, and it knows no most verbose
-/// level. Where its layers keep their word and veto nothing, it is steady.
+/// level. Where its layers are consistent and veto nothing, it is steady.
 impl<L: Layer> Subscriber for Layered<L, Registry> {
     ghost use Rattle.std.specs.Prelude.{◌≡◌, ◌↔◌, None};
     ghost use Rattle.std.proofs.Common.{subst, sym};

@@ -34,7 +34,7 @@ pub struct DynFilterFn {
 }
 
 impl DynFilterFn {
-    /// Asks the closure, and knows no most verbose level. It says nothing of callsites, so it keeps its word where the
+    /// Asks the closure, and knows no most verbose level. It says nothing of callsites, so it is consistent where the
     /// closure's answer is determined by what the metadata says and the context shows.
     pub fn new(enabled: ContextTest) -> DynFilterFn
         requires { ContextTest.IsAlwaysCallable enabled }
@@ -49,7 +49,7 @@ impl DynFilterFn {
         }
     }
 
-    /// The same with a most verbose level, above which the closure has to refuse. It keeps its word where the closure's
+    /// The same with a most verbose level, above which the closure has to refuse. It is consistent where the closure's
     /// answer is so determined, and what is said of callsites is one thing, fits it and agrees with the hint.
     pub fn with_max_level_hint(self, hint: LevelFilter) -> DynFilterFn
         requires { RefusesAboveIn hint (ContextTest.post self.enabled) }
@@ -69,7 +69,7 @@ impl DynFilterFn {
         }
     }
 
-    /// The same with a closure that says what the interest in a callsite is. It keeps its word where the filter's answer
+    /// The same with a closure that says what the interest in a callsite is. It is consistent where the filter's answer
     /// is so determined, and what the closure says is one thing, fits it and agrees with the hint.
     pub fn with_callsite_filter(self, callsite_enabled: CallsiteTest) -> DynFilterFn
         requires { CallsiteTest.IsAlwaysCallable callsite_enabled }

@@ -23,7 +23,7 @@ pub struct FilterFn {
 }
 
 impl FilterFn {
-    /// Asks the closure, and knows no most verbose level. It keeps its word where the closure's answer is
+    /// Asks the closure, and knows no most verbose level. It is consistent where the closure's answer is
     /// determined by what the metadata says.
     pub fn new(enabled: MetadataTest) -> FilterFn
         requires { MetadataTest.IsAlwaysCallable enabled }

@@ -15,7 +15,7 @@ use span_registry_layers_store::{FilterMap, Registry};
 use tracing_core_fields::{Id, LevelFilter, Metadata};
 use tracing_core_requests::{Attributes, Event, Interest, Record, WeakDispatch};
 
-/// The layer is told of the events that its filter, asked afresh, passes, and of calls on the spans that the filter and
+/// The layer is told of the events that its filter, asked again, passes, and of calls on the spans that the filter and
 /// all filters above it passed when they were made. It vetoes nothing, whatever the layer says.
 impl<L: Layer, F: Filter> Layer for Filtered<L, F> {
     ghost use Rattle.span_registry_layers_layers.specs.Filtereds as filtereds;
@@ -203,7 +203,7 @@ impl<L: Layer, F: Filter> Filtered<L, F> {
     // Tells of an event that the filter passes.
     fn hear_event(&mut self, event: &Event<'_, '_>, context: &mut Context<'_>)
         ensures lent { SameLoan context.old context.new }
-        ensures told { HearsEvent ⟦<F as Filter>⟧ ⟦<L as Layer>⟧ self.old (plain_event event.now) (view context.old) (left context.new) self.new }
+        ensures notified { HearsEvent ⟦<F as Filter>⟧ ⟦<L as Layer>⟧ self.old (plain_event event.now) (view context.old) (left context.new) self.new }
     {
         if self.passes(event, context) {
             self.layer.on_event(event, context);
@@ -213,7 +213,7 @@ impl<L: Layer, F: Filter> Filtered<L, F> {
     // Tells that a span follows from another one, where both were passed.
     fn hear_follows(&mut self, span: &Id, follows: &Id, context: &mut Context<'_>)
         ensures lent { SameLoan context.old context.new }
-        ensures told { HearsFollows ⟦<F as Filter>⟧ ⟦<L as Layer>⟧ self.old span.now follows.now (view context.old) (left context.new) self.new }
+        ensures notified { HearsFollows ⟦<F as Filter>⟧ ⟦<L as Layer>⟧ self.old span.now follows.now (view context.old) (left context.new) self.new }
     {
         if sees_both(span, follows, context) {
             self.layer.on_follows_from(span, follows, context);
@@ -223,7 +223,7 @@ impl<L: Layer, F: Filter> Filtered<L, F> {
     // Tells of a span's new id, where the span was passed.
     fn hear_id_change(&mut self, old: &Id, new: &Id, context: &mut Context<'_>)
         ensures lent { SameLoan context.old context.new }
-        ensures told { HearsId ⟦<F as Filter>⟧ ⟦<L as Layer>⟧ self.old old.now new.now (view context.old) (left context.new) self.new }
+        ensures notified { HearsId ⟦<F as Filter>⟧ ⟦<L as Layer>⟧ self.old old.now new.now (view context.old) (left context.new) self.new }
     {
         if context.exists(old) {
             self.layer.on_id_change(old, new, context);
@@ -233,7 +233,7 @@ impl<L: Layer, F: Filter> Filtered<L, F> {
     // Tells of a new span, where it was passed.
     fn hear_span(&mut self, attributes: &Attributes<'_, '_>, span: &Id, context: &mut Context<'_>)
         ensures lent { SameLoan context.old context.new }
-        ensures told { HearsSpan ⟦<F as Filter>⟧ ⟦<L as Layer>⟧ self.old span.now (SpanMade (plain_attributes attributes.now) span.now) (view context.old) (left context.new) self.new }
+        ensures notified { HearsSpan ⟦<F as Filter>⟧ ⟦<L as Layer>⟧ self.old span.now (SpanMade (plain_attributes attributes.now) span.now) (view context.old) (left context.new) self.new }
     {
         if context.exists(span) {
             self.filter.on_new_span(attributes, span, context);
@@ -244,7 +244,7 @@ impl<L: Layer, F: Filter> Filtered<L, F> {
     // Tells of values that are recorded on a span, where it was passed.
     fn hear_record(&mut self, span: &Id, values: &Record<'_>, context: &mut Context<'_>)
         ensures lent { SameLoan context.old context.new }
-        ensures told { HearsSpan ⟦<F as Filter>⟧ ⟦<L as Layer>⟧ self.old span.now (Recorded span.now (plain_record values.now)) (view context.old) (left context.new) self.new }
+        ensures notified { HearsSpan ⟦<F as Filter>⟧ ⟦<L as Layer>⟧ self.old span.now (Recorded span.now (plain_record values.now)) (view context.old) (left context.new) self.new }
     {
         if context.exists(span) {
             self.filter.on_record(span, values, context);
@@ -255,7 +255,7 @@ impl<L: Layer, F: Filter> Filtered<L, F> {
     // Tells of an entry of a span, where it was passed.
     fn hear_enter(&mut self, span: &Id, context: &mut Context<'_>)
         ensures lent { SameLoan context.old context.new }
-        ensures told { HearsSpan ⟦<F as Filter>⟧ ⟦<L as Layer>⟧ self.old span.now (Entered span.now) (view context.old) (left context.new) self.new }
+        ensures notified { HearsSpan ⟦<F as Filter>⟧ ⟦<L as Layer>⟧ self.old span.now (Entered span.now) (view context.old) (left context.new) self.new }
     {
         if context.exists(span) {
             self.filter.on_enter(span, context);
@@ -266,7 +266,7 @@ impl<L: Layer, F: Filter> Filtered<L, F> {
     // Tells of an exit of a span, where it was passed.
     fn hear_exit(&mut self, span: &Id, context: &mut Context<'_>)
         ensures lent { SameLoan context.old context.new }
-        ensures told { HearsSpan ⟦<F as Filter>⟧ ⟦<L as Layer>⟧ self.old span.now (Exited span.now) (view context.old) (left context.new) self.new }
+        ensures notified { HearsSpan ⟦<F as Filter>⟧ ⟦<L as Layer>⟧ self.old span.now (Exited span.now) (view context.old) (left context.new) self.new }
     {
         if context.exists(span) {
             self.filter.on_exit(span, context);
@@ -277,7 +277,7 @@ impl<L: Layer, F: Filter> Filtered<L, F> {
     // Tells of the close of a span, where it was passed.
     fn hear_close(&mut self, span: &Id, context: &mut Context<'_>)
         ensures lent { SameLoan context.old context.new }
-        ensures told { HearsSpan ⟦<F as Filter>⟧ ⟦<L as Layer>⟧ self.old span.now (Closed span.now) (view context.old) (left context.new) self.new }
+        ensures notified { HearsSpan ⟦<F as Filter>⟧ ⟦<L as Layer>⟧ self.old span.now (Closed span.now) (view context.old) (left context.new) self.new }
     {
         if context.exists(span) {
             self.filter.on_close(span, context);

@@ -55,7 +55,7 @@ impl<L: Layer, I: Layer> Layer for Layered<L, I> {
 
     ghost hint = { λ l. picked_hint (L.hint l.layer) (I.hint l.inner) };
 
-    ghost told = { layereds.ToldBoth ⟦<L as Layer>⟧ ⟦<I as Layer>⟧ };
+    ghost told = { layereds.NotifiedBoth ⟦<L as Layer>⟧ ⟦<I as Layer>⟧ };
 
     ghost honest = { layereds.BothHonest ⟦<L as Layer>⟧ ⟦<I as Layer>⟧ };
 

@@ -18,7 +18,7 @@ impl<L: Layer> Layer for Option<L> {
 
     ghost hint = { absent.hint_of ⟦<L as Layer>⟧ };
 
-    ghost told = { absent.ToldOf ⟦<L as Layer>⟧ };
+    ghost told = { absent.NotifiedOf ⟦<L as Layer>⟧ };
 
     ghost honest = { absent.IsHonest ⟦<L as Layer>⟧ };
 

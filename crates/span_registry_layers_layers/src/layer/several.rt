@@ -5,7 +5,7 @@ ghost use Rattle.tracing_core_requests.specs.PlainRequests.{plain_attributes, pl
 ghost use Rattle.tracing_core_requests.specs.declared.interest.InterestInner.TheVariants.{Never};
 ghost use Rattle.span_registry_layers_layers.specs.Looks.{Closed, Entered, Exited, Recorded, SameLoan, SpanMade, left, view};
 ghost use Rattle.span_registry_layers_layers.specs.Notices.{AddsFilters, Attached, Dispatched, Followed, Happened, Renamed, Spanned};
-ghost use Rattle.span_registry_layers_layers.specs.Several.{AllAnswer, AllAnswerEvents, EachTold, KeptByEach, SaysFrom, TellsInTurn, ToldEach, filters_of, hint_from, numbers_of};
+ghost use Rattle.span_registry_layers_layers.specs.Several.{AllAnswer, AllAnswerEvents, EachTold, KeptByEach, SaysFrom, TellsInTurn, NotifiedEach, filters_of, hint_from, numbers_of};
 ghost use Rattle.span_registry_layers_layers.specs.Numbering.{AreNumbers, SameBut, SameOf, more_filters, numbers_from, room_after};
 
 use crate::context::Context;
@@ -15,7 +15,7 @@ use span_registry_layers_store::{FilterMap, Registry};
 use tracing_core_fields::{Id, LevelFilter, Metadata};
 use tracing_core_requests::{Attributes, Event, Interest, Record, WeakDispatch};
 
-/// Each layer is told in turn, and where one refuses, nobody is. They keep their word where there is one, and each of them
+/// Each layer is told in turn, and where one refuses, nobody is. They are consistent where there is one, and each of them
 /// keeps its own and always wants all.
 impl<L: Layer> Layer for Vec<L> {
     ghost use Rattle.tracing_core_requests.specs.declared.interest.InterestInner.TheVariants.{Never};
@@ -30,7 +30,7 @@ impl<L: Layer> Layer for Vec<L> {
 
     ghost hint = { λ v. several.hint_from ⟦<L as Layer>⟧ (Some 0) v.items };
 
-    ghost told = { λ v n w. several.ToldEach ⟦<L as Layer>⟧ v.items n w.items };
+    ghost told = { λ v n w. several.NotifiedEach ⟦<L as Layer>⟧ v.items n w.items };
 
     ghost honest = { λ v. several.IsHonest ⟦<L as Layer>⟧ v.items };
 
@@ -230,7 +230,7 @@ fn tell_dispatch<L: Layer>(layers: &mut [L], dispatch: &WeakDispatch)
 }
 
 fn attach<L: Layer>(layers: &mut [L], registry: &mut Registry)
-    ensures each { ToldEach ⟦<L as Layer>⟧ layers.old (Attached registry.old) layers.new }
+    ensures each { NotifiedEach ⟦<L as Layer>⟧ layers.old (Attached registry.old) layers.new }
     ensures filters { AddsFilters registry.old registry.new }
     ensures numbers { registry.old.filters + filters_of ⟦<L as Layer>⟧ layers.old ≤ 64 → (registry.new ≡ more_filters (filters_of ⟦<L as Layer>⟧ layers.old) registry.old) × (numbers_of ⟦<L as Layer>⟧ layers.new ≡ numbers_from registry.old.filters (filters_of ⟦<L as Layer>⟧ layers.old)) }
 {
@@ -246,7 +246,7 @@ fn tell_new_span<L: Layer>(
     context: &mut Context<'_>,
 )
     ensures lent { SameLoan context.old context.new }
-    ensures told { TellsInTurn ⟦<L as Layer>⟧ (Spanned span.now (SpanMade (plain_attributes attributes.now) span.now)) (view context.old) layers.old (left context.new) layers.new }
+    ensures notified { TellsInTurn ⟦<L as Layer>⟧ (Spanned span.now (SpanMade (plain_attributes attributes.now) span.now)) (view context.old) layers.old (left context.new) layers.new }
 {
     for layer in layers.iter_mut() {
         layer.on_new_span(attributes, span, context);
@@ -260,7 +260,7 @@ fn tell_record<L: Layer>(
     context: &mut Context<'_>,
 )
     ensures lent { SameLoan context.old context.new }
-    ensures told { TellsInTurn ⟦<L as Layer>⟧ (Spanned span.now (Recorded span.now (plain_record values.now))) (view context.old) layers.old (left context.new) layers.new }
+    ensures notified { TellsInTurn ⟦<L as Layer>⟧ (Spanned span.now (Recorded span.now (plain_record values.now))) (view context.old) layers.old (left context.new) layers.new }
 {
     for layer in layers.iter_mut() {
         layer.on_record(span, values, context);
@@ -269,7 +269,7 @@ fn tell_record<L: Layer>(
 
 fn tell_follows<L: Layer>(layers: &mut [L], span: &Id, follows: &Id, context: &mut Context<'_>)
     ensures lent { SameLoan context.old context.new }
-    ensures told { TellsInTurn ⟦<L as Layer>⟧ (Followed span.now follows.now) (view context.old) layers.old (left context.new) layers.new }
+    ensures notified { TellsInTurn ⟦<L as Layer>⟧ (Followed span.now follows.now) (view context.old) layers.old (left context.new) layers.new }
 {
     for layer in layers.iter_mut() {
         layer.on_follows_from(span, follows, context);
@@ -278,7 +278,7 @@ fn tell_follows<L: Layer>(layers: &mut [L], span: &Id, follows: &Id, context: &m
 
 fn tell_event<L: Layer>(layers: &mut [L], event: &Event<'_, '_>, context: &mut Context<'_>)
     ensures lent { SameLoan context.old context.new }
-    ensures told { TellsInTurn ⟦<L as Layer>⟧ (Happened (plain_event event.now)) (view context.old) layers.old (left context.new) layers.new }
+    ensures notified { TellsInTurn ⟦<L as Layer>⟧ (Happened (plain_event event.now)) (view context.old) layers.old (left context.new) layers.new }
 {
     for layer in layers.iter_mut() {
         layer.on_event(event, context);
@@ -287,7 +287,7 @@ fn tell_event<L: Layer>(layers: &mut [L], event: &Event<'_, '_>, context: &mut C
 
 fn tell_enter<L: Layer>(layers: &mut [L], span: &Id, context: &mut Context<'_>)
     ensures lent { SameLoan context.old context.new }
-    ensures told { TellsInTurn ⟦<L as Layer>⟧ (Spanned span.now (Entered span.now)) (view context.old) layers.old (left context.new) layers.new }
+    ensures notified { TellsInTurn ⟦<L as Layer>⟧ (Spanned span.now (Entered span.now)) (view context.old) layers.old (left context.new) layers.new }
 {
     for layer in layers.iter_mut() {
         layer.on_enter(span, context);
@@ -296,7 +296,7 @@ fn tell_enter<L: Layer>(layers: &mut [L], span: &Id, context: &mut Context<'_>)
 
 fn tell_exit<L: Layer>(layers: &mut [L], span: &Id, context: &mut Context<'_>)
     ensures lent { SameLoan context.old context.new }
-    ensures told { TellsInTurn ⟦<L as Layer>⟧ (Spanned span.now (Exited span.now)) (view context.old) layers.old (left context.new) layers.new }
+    ensures notified { TellsInTurn ⟦<L as Layer>⟧ (Spanned span.now (Exited span.now)) (view context.old) layers.old (left context.new) layers.new }
 {
     for layer in layers.iter_mut() {
         layer.on_exit(span, context);
@@ -305,7 +305,7 @@ fn tell_exit<L: Layer>(layers: &mut [L], span: &Id, context: &mut Context<'_>)
 
 fn tell_close<L: Layer>(layers: &mut [L], span: &Id, context: &mut Context<'_>)
     ensures lent { SameLoan context.old context.new }
-    ensures told { TellsInTurn ⟦<L as Layer>⟧ (Spanned span.now (Closed span.now)) (view context.old) layers.old (left context.new) layers.new }
+    ensures notified { TellsInTurn ⟦<L as Layer>⟧ (Spanned span.now (Closed span.now)) (view context.old) layers.old (left context.new) layers.new }
 {
     for layer in layers.iter_mut() {
         layer.on_close(span, context);
@@ -314,7 +314,7 @@ fn tell_close<L: Layer>(layers: &mut [L], span: &Id, context: &mut Context<'_>)
 
 fn tell_id_change<L: Layer>(layers: &mut [L], old: &Id, new: &Id, context: &mut Context<'_>)
     ensures lent { SameLoan context.old context.new }
-    ensures told { TellsInTurn ⟦<L as Layer>⟧ (Renamed old.now new.now) (view context.old) layers.old (left context.new) layers.new }
+    ensures notified { TellsInTurn ⟦<L as Layer>⟧ (Renamed old.now new.now) (view context.old) layers.old (left context.new) layers.new }
 {
     for layer in layers.iter_mut() {
         layer.on_id_change(old, new, context);

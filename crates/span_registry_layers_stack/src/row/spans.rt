@@ -85,7 +85,7 @@ impl<L: Layer, F: Filter> Row<Filtered<L, F>> {
     }
 
     fn hear_follows(&mut self, span: &Id, follows: &Id, registry: &mut Registry, at: At)
-        ensures told { L.told self.old.output.layer (Followed span.now follows.now (view_of at registry.old self.old) registry.new) self.new.output.layer }
+        ensures notified { L.told self.old.output.layer (Followed span.now follows.now (view_of at registry.old self.old) registry.new) self.new.output.layer }
         ensures rest { self.new ≡ with_layer self.new.output.layer self.old }
     {
         let mut context = Context::new(registry, at, Some(self.id));

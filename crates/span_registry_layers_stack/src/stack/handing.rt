@@ -38,14 +38,14 @@ impl<L: Layer, F: Filter> Stack<Filtered<L, F>> {
 
     pub(crate) fn ask_interest(&mut self, metadata: &Metadata<'_>) -> Interest
         ensures answer { CommonInterest ⟦<F as Filter>⟧ (plain_metadata metadata.now) (filters_of self.old.rows) result }
-        ensures left { Registers (plain_metadata metadata.now) result self.old self.new }
+        ensures state { Registers (plain_metadata metadata.now) result self.old self.new }
     {
         self.parts.register(metadata)
     }
 
     pub(crate) fn ask_hint(&mut self) -> Option<LevelFilter>
         ensures answer { result ≡ common_hint ⟦<F as Filter>⟧ (Some 0) (filters_of self.old.rows) }
-        ensures left { self.new ≡ with_hint result self.old }
+        ensures state { self.new ≡ with_hint result self.old }
     {
         self.parts.ask_hint()
     }

@@ -2,7 +2,7 @@
 ghost use Rattle.std.specs.Prelude.{◌≡◌};
 ghost use Rattle.tracing_core_requests.specs.PlainRequests.{plain_attributes, plain_record};
 ghost use Rattle.span_registry_layers_stack.specs.Calls.{CloneGives, CloseGives, EnterGives, ExitGives, FollowsGives, RecordGives, SpanAsked, SpanCached, current_in};
-ghost use Rattle.span_registry_layers_stack.specs.Words.{Word};
+ghost use Rattle.span_registry_layers_stack.specs.CacheValidity.{CacheIsValid};
 
 use crate::stack::Stack;
 use span_registry_layers_layers::{Filter, Filtered, Layer};
@@ -32,9 +32,9 @@ impl<L: Layer, F: Filter> Stack<Filtered<L, F>> {
         at: At,
     ) -> Result<Option<Id>, RequestError>
         ensures exact { SpanCached ⟦<F as Filter>⟧ ⟦<L as Layer>⟧ (plain_attributes attributes.now) at self.old result self.new }
-        // While what is kept is right, this is asking every filter afresh, and what is kept stays right.
-        ensures asking { Word ⟦<F as Filter>⟧ self.old → SpanAsked ⟦<F as Filter>⟧ ⟦<L as Layer>⟧ (plain_attributes attributes.now) at self.old result self.new }
-        ensures kept { Word ⟦<F as Filter>⟧ self.old → Word ⟦<F as Filter>⟧ self.new }
+        // While what is kept is right, this is asking every filter again, and what is kept stays right.
+        ensures asking { CacheIsValid ⟦<F as Filter>⟧ self.old → SpanAsked ⟦<F as Filter>⟧ ⟦<L as Layer>⟧ (plain_attributes attributes.now) at self.old result self.new }
+        ensures kept { CacheIsValid ⟦<F as Filter>⟧ self.old → CacheIsValid ⟦<F as Filter>⟧ self.new }
     {
         self.hand_span(attributes, at)
     }
@@ -46,7 +46,7 @@ impl<L: Layer, F: Filter> Stack<Filtered<L, F>> {
     /// `UnknownSpan` where the span is not open, which leaves the stack as it was.
     pub fn record(&mut self, span: &Id, values: &Record<'_>, at: At) -> Result<(), RequestError>
         ensures gives { RecordGives ⟦<F as Filter>⟧ ⟦<L as Layer>⟧ span.now (plain_record values.now) at self.old result self.new }
-        ensures kept { Word ⟦<F as Filter>⟧ self.old → Word ⟦<F as Filter>⟧ self.new }
+        ensures kept { CacheIsValid ⟦<F as Filter>⟧ self.old → CacheIsValid ⟦<F as Filter>⟧ self.new }
     {
         self.hand_record(span, values, at)
     }
@@ -63,7 +63,7 @@ impl<L: Layer, F: Filter> Stack<Filtered<L, F>> {
         at: At,
     ) -> Result<(), RequestError>
         ensures gives { FollowsGives ⟦<F as Filter>⟧ ⟦<L as Layer>⟧ span.now follows.now at self.old result self.new }
-        ensures kept { Word ⟦<F as Filter>⟧ self.old → Word ⟦<F as Filter>⟧ self.new }
+        ensures kept { CacheIsValid ⟦<F as Filter>⟧ self.old → CacheIsValid ⟦<F as Filter>⟧ self.new }
     {
         self.hand_follows(span, follows, at)
     }
@@ -75,7 +75,7 @@ impl<L: Layer, F: Filter> Stack<Filtered<L, F>> {
     /// `UnknownSpan` where the span is not open, else `OutOfMemory`; both leave the stack as it was.
     pub fn enter(&mut self, span: &Id, at: At) -> Result<(), RequestError>
         ensures gives { EnterGives ⟦<F as Filter>⟧ ⟦<L as Layer>⟧ span.now at self.old result self.new }
-        ensures kept { Word ⟦<F as Filter>⟧ self.old → Word ⟦<F as Filter>⟧ self.new }
+        ensures kept { CacheIsValid ⟦<F as Filter>⟧ self.old → CacheIsValid ⟦<F as Filter>⟧ self.new }
     {
         self.hand_enter(span, at)
     }
@@ -84,7 +84,7 @@ impl<L: Layer, F: Filter> Stack<Filtered<L, F>> {
     /// closes, each span told once, a child before its parent, to the outputs that see it. It takes no memory.
     pub fn exit(&mut self, span: &Id, at: At)
         ensures gives { ExitGives ⟦<F as Filter>⟧ ⟦<L as Layer>⟧ span.now at self.old self.new }
-        ensures kept { Word ⟦<F as Filter>⟧ self.old → Word ⟦<F as Filter>⟧ self.new }
+        ensures kept { CacheIsValid ⟦<F as Filter>⟧ self.old → CacheIsValid ⟦<F as Filter>⟧ self.new }
     {
         self.hand_exit(span, at)
     }
@@ -97,7 +97,7 @@ impl<L: Layer, F: Filter> Stack<Filtered<L, F>> {
     /// was.
     pub fn clone_span(&mut self, span: &Id) -> Result<Id, RequestError>
         ensures gives { CloneGives span.now self.old result self.new }
-        ensures kept { Word ⟦<F as Filter>⟧ self.old → Word ⟦<F as Filter>⟧ self.new }
+        ensures kept { CacheIsValid ⟦<F as Filter>⟧ self.old → CacheIsValid ⟦<F as Filter>⟧ self.new }
     {
         self.hand_clone(span)
     }
@@ -106,7 +106,7 @@ impl<L: Layer, F: Filter> Stack<Filtered<L, F>> {
     /// each span told once, a child before its parent, to the outputs that see it. It takes no memory.
     pub fn try_close(&mut self, span: Id, at: At) -> bool
         ensures gives { CloseGives ⟦<F as Filter>⟧ ⟦<L as Layer>⟧ span at self.old result self.new }
-        ensures kept { Word ⟦<F as Filter>⟧ self.old → Word ⟦<F as Filter>⟧ self.new }
+        ensures kept { CacheIsValid ⟦<F as Filter>⟧ self.old → CacheIsValid ⟦<F as Filter>⟧ self.new }
     {
         self.hand_close(span, at)
     }

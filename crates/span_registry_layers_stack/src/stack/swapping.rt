@@ -7,7 +7,7 @@ ghost use Rattle.span_registry_layers_layers.specs.declared.filtered.Filtered.{F
 ghost use Rattle.span_registry_layers_stack.specs.Loans.{LendsFiltered, LendsOutput, forgotten, put_output};
 ghost use Rattle.span_registry_layers_stack.specs.Rows.{filters_of, numbers_of};
 ghost use Rattle.span_registry_layers_stack.specs.Swaps.{SwapGives, with_rows};
-ghost use Rattle.span_registry_layers_stack.specs.Words.{Word};
+ghost use Rattle.span_registry_layers_stack.specs.CacheValidity.{CacheIsValid};
 
 use crate::output::UnknownOutput;
 use crate::stack::Stack;
@@ -46,7 +46,7 @@ impl<L: Layer, F: Filter> Stack<Filtered<L, F>> {
         // Each filter keeps its number.
         ensures numbers { numbers_of ⟦<L as Layer>⟧ self.new.rows ≡ numbers_of ⟦<L as Layer>⟧ self.old.rows }
         // What is kept is right of honest filters.
-        ensures kept { OnOk result (Every (λ f. F.honest f) (filters_of self.new.rows) → Word ⟦<F as Filter>⟧ self.new) }
+        ensures kept { OnOk result (Every (λ f. F.honest f) (filters_of self.new.rows) → CacheIsValid ⟦<F as Filter>⟧ self.new) }
     {
         self.hand_filter(output, filter)
     }
@@ -56,7 +56,7 @@ impl<L: Layer, F: Filter> Stack<Filtered<L, F>> {
     pub fn stack_mut(&mut self, output: usize) -> Option<&mut Filtered<L, F>>
         ensures lent { option_map (λ lent. lent.now) result ≡ option_map (λ row. row.output) (slice_get self.old.rows output) }
         // What is kept is right of honest filters, whatever the output becomes.
-        ensures kept { (w : Filtered L F) → Every (λ f. F.honest f) (filters_of (put_output output w self.old.rows)) → Word ⟦<F as Filter>⟧ (with_rows (put_output output w self.old.rows) (forgotten self.old)) }
+        ensures kept { (w : Filtered L F) → Every (λ f. F.honest f) (filters_of (put_output output w self.old.rows)) → CacheIsValid ⟦<F as Filter>⟧ (with_rows (put_output output w self.old.rows) (forgotten self.old)) }
         // Each filter keeps its number, where those in the output's layer do.
         ensures numbers { (w : Filtered L F) → IfSome result (λ lent. L.numbers w.layer ≡ L.numbers lent.now.layer) → numbers_of ⟦<L as Layer>⟧ (put_output output w self.old.rows) ≡ numbers_of ⟦<L as Layer>⟧ self.old.rows }
         ensures* ends { sem 𝓛 (LendsFiltered L.row F.row self.entry output result) }

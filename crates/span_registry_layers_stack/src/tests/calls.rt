@@ -6,10 +6,10 @@ use tracing_core_requests::CurrentSpan;
 fn each_output_is_told_what_its_filter_passes(rt: HostRuntime) -> Result<(), Fail> {
     let mut stack = stack_of(rt.alloc(), LevelFilter::INFO, LevelFilter::DEBUG)?;
     tell(&mut stack, "app", Level::DEBUG)?;
-    assert!(rt; was_told(&stack, 0, &[]) && was_told(&stack, 1, &[(Told::Happened, 0)]));
+    assert!(rt; was_told(&stack, 0, &[]) && was_told(&stack, 1, &[(Notification::Happened, 0)]));
     assert!(rt; stack.passed(0) == Some(false) && stack.passed(1) == Some(true));
     tell(&mut stack, "app", Level::TRACE)?;
-    assert!(rt; was_told(&stack, 0, &[]) && was_told(&stack, 1, &[(Told::Happened, 0)]));
+    assert!(rt; was_told(&stack, 0, &[]) && was_told(&stack, 1, &[(Notification::Happened, 0)]));
     assert!(rt; stack.passed(0) == Some(false) && stack.passed(1) == Some(false));
     assert!(rt; make(&mut stack, "app", Level::TRACE)?.is_none());
     assert!(rt; stack.told(1) == Some(false) && stack.told(2).is_none());
@@ -43,7 +43,7 @@ fn surface_span_calls(rt: HostRuntime) -> Result<(), Fail> {
     let mut stack = stack_of(rt.alloc(), LevelFilter::INFO, LevelFilter::DEBUG)?;
     let span = make(&mut stack, "app", Level::DEBUG)?.ok_or("a span")?;
     let other = make(&mut stack, "app", Level::INFO)?.ok_or("a span")?;
-    assert!(rt; was_told(&stack, 0, &[(Told::Made, 2)]));
+    assert!(rt; was_told(&stack, 0, &[(Notification::Made, 2)]));
     let fields = FieldSet::new(&NAMES, Identifier(8));
     stack.record(&span, &Record::new(fields.value_set_all(&[])), PLACE)?;
     stack.record_follows_from(&other, &span, PLACE)?;
@@ -54,15 +54,15 @@ fn surface_span_calls(rt: HostRuntime) -> Result<(), Fail> {
     assert!(rt; stack.clone_span(&span)? == span && !stack.try_close(span, PLACE));
     assert!(rt; stack.try_close(span, PLACE) && stack.registry().is_open(&other));
     let told = [
-        (Told::Made, 1),
-        (Told::Made, 2),
-        (Told::Recorded, 1),
-        (Told::Followed, 2),
-        (Told::Entered, 1),
-        (Told::Left, 1),
-        (Told::Closed, 1),
+        (Notification::Made, 1),
+        (Notification::Made, 2),
+        (Notification::Recorded, 1),
+        (Notification::Followed, 2),
+        (Notification::Entered, 1),
+        (Notification::Left, 1),
+        (Notification::Closed, 1),
     ];
-    assert!(rt; was_told(&stack, 0, &[(Told::Made, 2)]) && was_told(&stack, 1, &told));
+    assert!(rt; was_told(&stack, 0, &[(Notification::Made, 2)]) && was_told(&stack, 1, &told));
     Ok(())
 }
 
@@ -75,14 +75,20 @@ fn a_close_is_told_by_the_own_verdict_child_first(rt: HostRuntime) -> Result<(),
     assert!(rt; !stack.try_close(parent, PLACE));
     stack.exit(&parent, PLACE);
     assert!(rt; stack.try_close(child, PLACE) && !stack.registry().is_open(&parent));
-    assert!(rt; was_told(&stack, 0, &[(Told::Made, 2), (Told::Closed, 2)]));
+    assert!(rt;
+        was_told(
+            &stack,
+            0,
+            &[(Notification::Made, 2), (Notification::Closed, 2)]
+        )
+    );
     let told = [
-        (Told::Made, 1),
-        (Told::Entered, 1),
-        (Told::Made, 2),
-        (Told::Left, 1),
-        (Told::Closed, 2),
-        (Told::Closed, 1),
+        (Notification::Made, 1),
+        (Notification::Entered, 1),
+        (Notification::Made, 2),
+        (Notification::Left, 1),
+        (Notification::Closed, 2),
+        (Notification::Closed, 1),
     ];
     assert!(rt; was_told(&stack, 1, &told));
     Ok(())
@@ -99,8 +105,14 @@ fn a_swapped_filter_decides_from_then_on(rt: HostRuntime) -> Result<(), Fail> {
     assert!(rt; stack.swap_filter(2, &mut filter).is_err());
     tell(&mut stack, "app", Level::INFO)?;
     assert!(rt; stack.try_close(span, PLACE));
-    assert!(rt; was_told(&stack, 0, &[(Told::Made, 1), (Told::Closed, 1)]));
-    assert!(rt; was_told(&stack, 1, &[(Told::Happened, 0)]));
+    assert!(rt;
+        was_told(
+            &stack,
+            0,
+            &[(Notification::Made, 1), (Notification::Closed, 1)]
+        )
+    );
+    assert!(rt; was_told(&stack, 1, &[(Notification::Happened, 0)]));
     Ok(())
 }
 
@@ -113,7 +125,7 @@ fn a_lent_output_is_changed(rt: HostRuntime) -> Result<(), Fail> {
         Some(output) => *output.filter_mut() = LevelFilter::INFO,
     }
     tell(&mut stack, "app", Level::INFO)?;
-    assert!(rt; was_told(&stack, 0, &[]) && was_told(&stack, 1, &[(Told::Happened, 0)]));
+    assert!(rt; was_told(&stack, 0, &[]) && was_told(&stack, 1, &[(Notification::Happened, 0)]));
     Ok(())
 }
 

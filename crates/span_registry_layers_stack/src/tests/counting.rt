@@ -114,7 +114,7 @@ fn a_kept_hint_is_asked_in_the_place_of_filters(rt: HostRuntime) -> Result<(), F
     assert!(rt; asked(&stack) == 0 && make(&mut stack, "app", Level::TRACE)?.is_none());
     assert!(rt; asked(&stack) == 0);
     tell(&mut stack, "app", Level::INFO)?;
-    assert!(rt; asked(&stack) == 1 && was_told(&stack, 0, &[(Told::Happened, 0)]));
+    assert!(rt; asked(&stack) == 1 && was_told(&stack, 0, &[(Notification::Happened, 0)]));
     Ok(())
 }
 
@@ -148,7 +148,7 @@ fn a_kept_refusal_is_asked_in_the_place_of_filters(rt: HostRuntime) -> Result<()
     let mut filter = Counting::new(LevelFilter::DEBUG);
     stack.swap_filter(0, &mut filter)?;
     tell(&mut stack, "app", Level::DEBUG)?;
-    assert!(rt; asked(&stack) == 1 && was_told(&stack, 0, &[(Told::Happened, 0)]));
+    assert!(rt; asked(&stack) == 1 && was_told(&stack, 0, &[(Notification::Happened, 0)]));
     Ok(())
 }
 
@@ -163,7 +163,7 @@ fn an_event_that_its_filter_refuses_is_passed_and_not_told(rt: HostRuntime) -> R
     }
     tell(&mut stack, "app", Level::INFO)?;
     assert!(rt; stack.passed(0) == Some(true) && stack.told(0) == Some(false));
-    assert!(rt; was_told(&stack, 0, &[(Told::Happened, 0)]));
+    assert!(rt; was_told(&stack, 0, &[(Notification::Happened, 0)]));
     assert!(rt; make(&mut stack, "app", Level::INFO)?.is_some() && stack.told(0) == Some(true));
     Ok(())
 }

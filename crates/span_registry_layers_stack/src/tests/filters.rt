@@ -13,11 +13,11 @@ fn hears_app<F: Filter>(stack: &mut Stack<Filtered<Journal, F>>) -> Result<bool,
     stack.exit(&made, PLACE);
     let closed = stack.try_close(made, PLACE);
     let told = [
-        (Told::Happened, 0),
-        (Told::Made, 1),
-        (Told::Entered, 1),
-        (Told::Left, 1),
-        (Told::Closed, 1),
+        (Notification::Happened, 0),
+        (Notification::Made, 1),
+        (Notification::Entered, 1),
+        (Notification::Left, 1),
+        (Notification::Closed, 1),
     ];
     Ok(closed && dropped.is_none() && was_told(stack, 0, &told) && was_told(stack, 1, &[]))
 }
@@ -60,7 +60,7 @@ fn a_stack_of_boxes(rt: HostRuntime) -> Result<(), Fail> {
     let mut stack = stack_of(alloc, first, second)?;
     tell(&mut stack, "app", Level::INFO)?;
     tell(&mut stack, "app", Level::DEBUG)?;
-    assert!(rt; was_told(&stack, 0, &[(Told::Happened, 0)]) && was_told(&stack, 1, &[]));
+    assert!(rt; was_told(&stack, 0, &[(Notification::Happened, 0)]) && was_told(&stack, 1, &[]));
     Ok(())
 }
 

@@ -11,7 +11,12 @@ fn inner_of(alloc: Global, key: u32, outer: LevelFilter, inner: LevelFilter) -> 
 }
 
 /// What the inner layer of the output was told, and the number of its filter.
-fn inner_heard(stack: &Stack<Inner>, output: usize, told: &[(Told, u64)], number: u8) -> bool {
+fn inner_heard(
+    stack: &Stack<Inner>,
+    output: usize,
+    told: &[(Notification, u64)],
+    number: u8,
+) -> bool {
     let Some(output) = stack.output(output) else {
         return false;
     };
@@ -41,7 +46,11 @@ fn a_filter_in_an_output_is_told_what_both_pass(rt: HostRuntime) -> Result<(), F
     let passed = make(&mut stack, "app", Level::INFO)?.ok_or("a span")?;
     let refused = make(&mut stack, "app", Level::DEBUG)?.ok_or("a span")?;
     assert!(rt; stack.try_close(refused, PLACE) && stack.try_close(passed, PLACE));
-    let both = [(Told::Happened, 0), (Told::Made, 1), (Told::Closed, 1)];
+    let both = [
+        (Notification::Happened, 0),
+        (Notification::Made, 1),
+        (Notification::Closed, 1),
+    ];
     assert!(rt; inner_heard(&stack, 0, &both, 1) && inner_heard(&stack, 1, &both, 3));
     Ok(())
 }

@@ -15,7 +15,7 @@ use tracing_core_fields::{Id, LevelFilter, Metadata};
 use tracing_core_requests::{Attributes, Event, Interest, Record, WeakDispatch};
 
 #[derive(Clone, Copy, Debug, PartialEq, Eq)]
-pub enum Told {
+pub enum Notification {
     Taken,
     Made,
     Recorded,
@@ -28,7 +28,7 @@ pub enum Told {
 
 #[derive(Drop)]
 pub struct Journal {
-    told: Vec<(Told, u64)>,
+    told: Vec<(Notification, u64)>,
 }
 
 impl Journal {
@@ -38,11 +38,11 @@ impl Journal {
         }
     }
 
-    fn note(&mut self, told: Told, number: u64) {
+    fn note(&mut self, told: Notification, number: u64) {
         let _room = self.told.push((told, number));
     }
 
-    pub fn is(&self, told: &[(Told, u64)]) -> bool {
+    pub fn is(&self, told: &[(Notification, u64)]) -> bool {
         self.told.as_slice() == told
     }
 }
@@ -75,7 +75,7 @@ impl Layer for Journal {
     ghost keyed = { λ x n y t key. refl };
 
     fn on_register_dispatch(&mut self, _dispatch: &WeakDispatch) {
-        self.note(Told::Taken, 0);
+        self.note(Notification::Taken, 0);
     }
 
     fn on_layer(&mut self, _registry: &mut Registry) {}
@@ -108,7 +108,7 @@ impl Layer for Journal {
         span: &Id,
         _context: &mut Context<'_>,
     ) {
-        self.note(Told::Made, span.into_u64());
+        self.note(Notification::Made, span.into_u64());
     }
 
     fn max_level_hint(&self) -> Option<LevelFilter> {
@@ -116,11 +116,11 @@ impl Layer for Journal {
     }
 
     fn on_record(&mut self, span: &Id, _values: &Record<'_>, _context: &mut Context<'_>) {
-        self.note(Told::Recorded, span.into_u64());
+        self.note(Notification::Recorded, span.into_u64());
     }
 
     fn on_follows_from(&mut self, span: &Id, _follows: &Id, _context: &mut Context<'_>) {
-        self.note(Told::Followed, span.into_u64());
+        self.note(Notification::Followed, span.into_u64());
     }
 
     fn event_enabled(&self, _event: &Event<'_, '_>, _context: &Context<'_>) -> bool {
@@ -128,19 +128,19 @@ impl Layer for Journal {
     }
 
     fn on_event(&mut self, _event: &Event<'_, '_>, _context: &mut Context<'_>) {
-        self.note(Told::Happened, 0);
+        self.note(Notification::Happened, 0);
     }
 
     fn on_enter(&mut self, span: &Id, _context: &mut Context<'_>) {
-        self.note(Told::Entered, span.into_u64());
+        self.note(Notification::Entered, span.into_u64());
     }
 
     fn on_exit(&mut self, span: &Id, _context: &mut Context<'_>) {
-        self.note(Told::Left, span.into_u64());
+        self.note(Notification::Left, span.into_u64());
     }
 
     fn on_close(&mut self, span: &Id, _context: &mut Context<'_>) {
-        self.note(Told::Closed, span.into_u64());
+        self.note(Notification::Closed, span.into_u64());
     }
 
     fn on_id_change(&mut self, _old: &Id, _new: &Id, _context: &mut Context<'_>) {}

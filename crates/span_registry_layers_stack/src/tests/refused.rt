@@ -49,7 +49,7 @@ fn a_stack_has_room_for_64_outputs(rt: HostRuntime) -> Result<(), Fail> {
     }
     let mut stack = Stack::new(alloc, outputs).ok().ok_or("a stack")?;
     tell(&mut stack, "app", Level::INFO)?;
-    assert!(rt; was_told(&stack, 63, &[(Told::Happened, 0)]));
+    assert!(rt; was_told(&stack, 63, &[(Notification::Happened, 0)]));
     Ok(())
 }
 
@@ -80,6 +80,12 @@ fn an_unknown_span_is_refused(rt: HostRuntime) -> Result<(), Fail> {
     assert!(rt; stack.event(&event, PLACE) == Err(RequestError::UnknownParent));
     let attributes = Attributes::child_of(gone, &metadata, values);
     assert!(rt; stack.new_span(&attributes, PLACE) == Err(RequestError::UnknownParent));
-    assert!(rt; was_told(&stack, 0, &[(Told::Made, 1), (Told::Closed, 1)]));
+    assert!(rt;
+        was_told(
+            &stack,
+            0,
+            &[(Notification::Made, 1), (Notification::Closed, 1)]
+        )
+    );
     Ok(())
 }

@@ -65,7 +65,7 @@ fn asked_filter_decides<F: Filter>(rt: &impl Abort, alloc: Global, filter: F) ->
     info_alone_is_written(rt, alloc, &mut trace)
 }
 
-/// A trace under a boxed filter that keeps its word.
+/// A trace under a boxed filter that is consistent.
 fn boxed_filter_decides(rt: &impl Abort, alloc: Global, filter: Box<dyn Filter>) -> Result<(), Fail>
     requires { honest filter }
 {

@@ -36,7 +36,7 @@ fn lines_under<F: Filter>(alloc: Global, filter: F) -> Result<(bool, bool), Fail
     Ok((first, second))
 }
 
-/// The same under a boxed filter that keeps its word.
+/// The same under a boxed filter that is consistent.
 fn lines_under_box(alloc: Global, filter: Box<dyn Filter>) -> Result<(bool, bool), Fail>
     requires { honest filter }
 {

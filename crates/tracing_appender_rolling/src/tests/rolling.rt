@@ -325,7 +325,7 @@ fn bad_names_and_links_are_refused(rt: HostRuntime) -> Result<(), Fail> {
 
 /// What the calls of a script told, and what was counted.
 #[derive(Clone, Copy, Debug, PartialEq, Eq)]
-struct Told {
+struct Reported {
     building: bool,
     first: bool,
     second: bool,
@@ -335,7 +335,7 @@ struct Told {
     writes: usize,
 }
 
-const NOTHING: Told = Told {
+const NOTHING: Reported = Reported {
     building: false,
     first: false,
     second: false,
@@ -347,7 +347,7 @@ const NOTHING: Told = Told {
 
 /// Builds with retention and a link, writes twice at one hour's distance, and flushes; the call with the number is refused. Answers
 /// the folder's count, and what was told or counted.
-fn script(alloc: Global, number: u64) -> Result<(u64, Told), Fail> {
+fn script(alloc: Global, number: u64) -> Result<(u64, Reported), Fail> {
     let mut inner = MemoryFolder::new(alloc);
     inner.put("t.2020-01-01-00", b"old", None)?;
     let refused = Vec::from_slice(alloc, &[number])?;
@@ -359,7 +359,7 @@ fn script(alloc: Global, number: u64) -> Result<(u64, Told), Fail> {
     match builder.build(alloc, folder, FEBRUARY) {
         Err(refused) => Ok((
             refused.folder.failures(),
-            Told {
+            Reported {
                 building: true,
                 ..NOTHING
             },
@@ -369,7 +369,7 @@ fn script(alloc: Global, number: u64) -> Result<(u64, Told), Fail> {
             let second = appender.write_all_at(b"b", later(3_600)?).is_err();
             let flush = appender.flush().is_err();
             let faults = appender.faults();
-            let told = Told {
+            let told = Reported {
                 building: false,
                 first,
                 second,
@@ -385,31 +385,31 @@ fn script(alloc: Global, number: u64) -> Result<(u64, Told), Fail> {
 
 /// What is told or counted where the call with that number is refused. A first opening is tried again, and what a close answers is
 /// passed over.
-fn expected(number: u64) -> Told {
+fn expected(number: u64) -> Reported {
     match number {
-        1 | 2 | 6 | 7 => Told {
+        1 | 2 | 6 | 7 => Reported {
             retentions: 1,
             ..NOTHING
         },
-        4 => Told {
+        4 => Reported {
             building: true,
             ..NOTHING
         },
-        5 => Told {
+        5 => Reported {
             first: true,
             writes: 1,
             ..NOTHING
         },
-        9 => Told {
+        9 => Reported {
             switches: 1,
             ..NOTHING
         },
-        11 => Told {
+        11 => Reported {
             second: true,
             writes: 1,
             ..NOTHING
         },
-        12 => Told {
+        12 => Reported {
             flush: true,
             ..NOTHING
         },

@@ -2,8 +2,8 @@
 use crate::surface_tracing_core::place::Place;
 use crate::{
     At, Attributes, Callsite, CurrentSpan, DefaultCallsite, Dispatch, Event, FieldSet, Hub, Id,
-    Identifier, Interest, Kind, Level, LevelFilter, Metadata, NoSubscriber, Record,
-    SetGlobalDefaultError, Setting, Subscriber, WrongLane,
+    Identifier, Interest, Kind, LaneDefault, Level, LevelFilter, Metadata, NoSubscriber, Record,
+    SetGlobalDefaultError, Subscriber, WrongLane,
 };
 use std::test::Fail;
 
@@ -50,7 +50,7 @@ fn surface_hub_tables(rt: HostRuntime) -> Result<(), Fail> {
         Err(SetGlobalDefaultError::AlreadySet)
     );
     let copy = hub.table()?;
-    assert!(rt; matches!(copy.global, Setting::To(0)) && copy.lanes.len() == 1);
+    assert!(rt; matches!(copy.global, LaneDefault::To(0)) && copy.lanes.len() == 1);
     assert!(rt; copy.handles.len() == 1 && copy.callsites.len() == 1);
     assert!(rt; hub.end_thread(lane)?.is_none() && hub.end_thread(lane).is_err());
     Ok(())

@@ -4,7 +4,7 @@ ghost use Rattle.tracing_core_fields.specs.Metadata.{plain_metadata};
 ghost use Rattle.tracing_core_hub.specs.Asking.{Each, Registers, Hints, AskedAll, RowAsked, level_of};
 ghost use Rattle.tracing_core_requests.specs.Interests.{joined, settled};
 
-use crate::hub::parts::{Entry, Row};
+use crate::hub::parts::{RegisteredCallsite, RegisteredSubscriber};
 use tracing_core_fields::{LevelFilter, Metadata};
 use tracing_core_requests::{Callsite, Interest, Subscriber};
 
@@ -28,7 +28,7 @@ fn settle(interest: Option<Interest>) -> Interest
     }
 }
 
-impl<S: Subscriber> Entry<S> {
+impl<S: Subscriber> RegisteredSubscriber<S> {
     fn register(&mut self, metadata: &Metadata<'_>, before: Option<Interest>) -> Option<Interest>
         ensures { Registers ⟦<S as Subscriber>⟧ (plain_metadata metadata.now) before self.old self.new result }
     {
@@ -37,7 +37,10 @@ impl<S: Subscriber> Entry<S> {
     }
 }
 
-fn ask_each<S: Subscriber>(entries: &mut [Entry<S>], metadata: &Metadata<'_>) -> Option<Interest>
+fn ask_each<S: Subscriber>(
+    entries: &mut [RegisteredSubscriber<S>],
+    metadata: &Metadata<'_>,
+) -> Option<Interest>
     ensures { Each (Registers ⟦<S as Subscriber>⟧ (plain_metadata metadata.now)) None entries.old entries.new result }
 {
     let mut interest = None;
@@ -48,7 +51,10 @@ fn ask_each<S: Subscriber>(entries: &mut [Entry<S>], metadata: &Metadata<'_>) ->
 }
 
 // Asks all of a callsite, in order, and answers their common interest.
-pub(crate) fn ask_all<S: Subscriber>(entries: &mut [Entry<S>], metadata: &Metadata<'_>) -> Interest
+pub(crate) fn ask_all<S: Subscriber>(
+    entries: &mut [RegisteredSubscriber<S>],
+    metadata: &Metadata<'_>,
+) -> Interest
     ensures { AskedAll ⟦<S as Subscriber>⟧ (plain_metadata metadata.now) entries.old entries.new result }
 {
     let interest = ask_each(entries, metadata);
@@ -72,7 +78,7 @@ fn higher(a: LevelFilter, b: LevelFilter) -> LevelFilter
     if a < b { b } else { a }
 }
 
-impl<S: Subscriber> Entry<S> {
+impl<S: Subscriber> RegisteredSubscriber<S> {
     fn ask_hint(&mut self, before: LevelFilter) -> LevelFilter
         ensures { Hints ⟦<S as Subscriber>⟧ before self.old self.new result }
     {
@@ -83,7 +89,7 @@ impl<S: Subscriber> Entry<S> {
 }
 
 // Asks all for their hints, in order, and answers the greatest level. Then nobody counts as lent.
-pub(crate) fn ask_hints<S: Subscriber>(entries: &mut [Entry<S>]) -> LevelFilter
+pub(crate) fn ask_hints<S: Subscriber>(entries: &mut [RegisteredSubscriber<S>]) -> LevelFilter
     ensures { Each (Hints ⟦<S as Subscriber>⟧) 0 entries.old entries.new result }
 {
     let mut greatest = LevelFilter::OFF;
@@ -93,9 +99,9 @@ pub(crate) fn ask_hints<S: Subscriber>(entries: &mut [Entry<S>]) -> LevelFilter
     greatest
 }
 
-impl<C: Callsite> Row<C> {
+impl<C: Callsite> RegisteredCallsite<C> {
     // Asks all of the callsite, and tells it what they have in common.
-    pub(crate) fn ask<S: Subscriber>(&mut self, entries: &mut [Entry<S>])
+    pub(crate) fn ask<S: Subscriber>(&mut self, entries: &mut [RegisteredSubscriber<S>])
         ensures { RowAsked ⟦<S as Subscriber>⟧ ⟦<C as Callsite>⟧ entries.old self.old self.new entries.new }
     {
         let interest = self.interest_of_all(entries);
@@ -103,7 +109,7 @@ impl<C: Callsite> Row<C> {
         self.interest = interest;
     }
 
-    fn interest_of_all<S: Subscriber>(&self, entries: &mut [Entry<S>]) -> Interest
+    fn interest_of_all<S: Subscriber>(&self, entries: &mut [RegisteredSubscriber<S>]) -> Interest
         ensures { AskedAll ⟦<S as Subscriber>⟧ (C.metadata_of self.now.callsite) entries.old entries.new result }
     {
         let metadata = self.callsite.metadata();
@@ -112,7 +118,10 @@ impl<C: Callsite> Row<C> {
 }
 
 // Asks all of each callsite, in order.
-pub(crate) fn ask_rows<S: Subscriber, C: Callsite>(entries: &mut [Entry<S>], rows: &mut [Row<C>])
+pub(crate) fn ask_rows<S: Subscriber, C: Callsite>(
+    entries: &mut [RegisteredSubscriber<S>],
+    rows: &mut [RegisteredCallsite<C>],
+)
     ensures { Each (RowAsked ⟦<S as Subscriber>⟧ ⟦<C as Callsite>⟧) entries.old rows.old rows.new entries.new }
 {
     for row in rows.iter_mut() {

@@ -3,7 +3,7 @@ ghost use Rattle.std.specs.Option.{is_some};
 ghost use Rattle.std.specs.Prelude.{◌≡◌, ◌<◌, length, slice_get};
 ghost use Rattle.tracing_core_hub.specs.Defaults.{was_set, setting_to, global_refusal, globally, default_refusal, guard_of, locally, end_gives, reset_gives, given_up, running};
 ghost use Rattle.tracing_core_requests.specs.Refusals.{or_refused, or_same};
-ghost use Rattle.tracing_core_hub.specs.Keeping.{Keeps, KeepsLiving};
+ghost use Rattle.tracing_core_hub.specs.Keeping.{PreservesCaches, PreservesLivingCaches};
 ghost use Rattle.tracing_core_hub.specs.Table.{chosen};
 
 use crate::dispatch::Dispatch;
@@ -11,33 +11,33 @@ use crate::guard::{DefaultGuard, WrongLane};
 use crate::hub::Hub;
 use crate::hub::entries::{give_back, take_handle};
 use crate::hub::lending::hold_refusal;
-use crate::hub::parts::{Lane, Setting, lane_at};
+use crate::hub::parts::{Lane, LaneDefault, lane_at};
 use crate::refusal::{SetDefaultError, SetGlobalDefaultError, UnknownLane};
 use tracing_core_requests::{Callsite, Subscriber};
 
-impl Setting {
-    fn to(dispatch: &Dispatch) -> Setting
+impl LaneDefault {
+    fn to(dispatch: &Dispatch) -> LaneDefault
         ensures { result ≡ setting_to dispatch.now }
     {
         match dispatch.serial() {
-            None => Setting::Nothing,
-            Some(serial) => Setting::To(serial),
+            None => LaneDefault::Nothing,
+            Some(serial) => LaneDefault::To(serial),
         }
     }
 
     fn is_set(self) -> bool
         ensures { result ≡ was_set self }
     {
-        !matches!(self, Setting::Unset)
+        !matches!(self, LaneDefault::Unset)
     }
 
     fn serial(self) -> Option<u64>
         ensures { result ≡ chosen self }
     {
         match self {
-            Setting::To(serial) => Some(serial),
-            Setting::Unset => None,
-            Setting::Nothing => None,
+            LaneDefault::To(serial) => Some(serial),
+            LaneDefault::Unset => None,
+            LaneDefault::Nothing => None,
         }
     }
 }
@@ -53,14 +53,14 @@ impl<S, C> Hub<S, C> {
     // Sets the global default, where none was set.
     fn set_global(&mut self, dispatch: &Dispatch) -> Result<(), SetGlobalDefaultError>
         ensures answer { result ≡ or_refused (global_refusal self.old dispatch.now) tt }
-        ensures left { self.new ≡ or_same (global_refusal self.old dispatch.now) self.old (globally self.old dispatch.now) }
+        ensures state { self.new ≡ or_same (global_refusal self.old dispatch.now) self.old (globally self.old dispatch.now) }
     {
         if self.global.is_set() {
             return Err(SetGlobalDefaultError::AlreadySet);
         }
         match take_handle(&mut self.entries, dispatch.serial()) {
             Ok(()) => {
-                self.global = Setting::to(dispatch);
+                self.global = LaneDefault::to(dispatch);
                 Ok(())
             }
             Err(error) => Err(SetGlobalDefaultError::Handle(error)),
@@ -97,14 +97,14 @@ impl<S, C> Hub<S, C> {
     // Sets the default of a lane that runs.
     fn set_own(&mut self, lane: u64, dispatch: &Dispatch) -> Result<DefaultGuard, SetDefaultError>
         ensures answer { result ≡ or_refused (default_refusal self.old lane dispatch.now) (guard_of self.old lane) }
-        ensures left { self.new ≡ or_same (default_refusal self.old lane dispatch.now) self.old (locally self.old lane dispatch.now) }
+        ensures state { self.new ≡ or_same (default_refusal self.old lane dispatch.now) self.old (locally self.old lane dispatch.now) }
     {
         let Some(Lane::Running(before)) = lane_at(&self.lanes, lane) else {
             return Err(SetDefaultError::UnknownLane);
         };
         match take_handle(&mut self.entries, dispatch.serial()) {
             Ok(()) => {
-                self.lanes[lane as usize] = Lane::Running(Setting::to(dispatch));
+                self.lanes[lane as usize] = Lane::Running(LaneDefault::to(dispatch));
                 Ok(DefaultGuard { lane, before })
             }
             Err(error) => Err(SetDefaultError::Handle(error)),
@@ -138,7 +138,7 @@ impl<S, C> Hub<S, C> {
     }
 
     // Gives up one hold of a default, and gives the lane another value.
-    fn give_up(&mut self, lane: u64, setting: Setting, value: Lane) -> Option<S>
+    fn give_up(&mut self, lane: u64, setting: LaneDefault, value: Lane) -> Option<S>
         requires { lane < length self.old.lanes }
         ensures { (result, self.new) ≡ given_up self.old lane setting value }
     {
@@ -152,8 +152,8 @@ impl<S: Subscriber, C: Callsite> Hub<S, C> {
     /// takes no memory.
     pub fn set_global_default(&mut self, dispatch: &Dispatch) -> Result<(), SetGlobalDefaultError>
         ensures answer { result ≡ or_refused (global_refusal self.old dispatch.now) tt }
-        ensures left { self.new ≡ or_same (global_refusal self.old dispatch.now) self.old (globally self.old dispatch.now) }
-        ensures keeps { Keeps ⟦<S as Subscriber>⟧ ⟦<C as Callsite>⟧ self.old self.new }
+        ensures state { self.new ≡ or_same (global_refusal self.old dispatch.now) self.old (globally self.old dispatch.now) }
+        ensures keeps { PreservesCaches ⟦<S as Subscriber>⟧ ⟦<C as Callsite>⟧ self.old self.new }
     {
         self.set_global(dispatch)
     }
@@ -166,8 +166,8 @@ impl<S: Subscriber, C: Callsite> Hub<S, C> {
         dispatch: &Dispatch,
     ) -> Result<DefaultGuard, SetDefaultError>
         ensures answer { result ≡ or_refused (default_refusal self.old lane dispatch.now) (guard_of self.old lane) }
-        ensures left { self.new ≡ or_same (default_refusal self.old lane dispatch.now) self.old (locally self.old lane dispatch.now) }
-        ensures keeps { Keeps ⟦<S as Subscriber>⟧ ⟦<C as Callsite>⟧ self.old self.new }
+        ensures state { self.new ≡ or_same (default_refusal self.old lane dispatch.now) self.old (locally self.old lane dispatch.now) }
+        ensures keeps { PreservesCaches ⟦<S as Subscriber>⟧ ⟦<C as Callsite>⟧ self.old self.new }
     {
         self.set_own(lane, dispatch)
     }
@@ -177,7 +177,7 @@ impl<S: Subscriber, C: Callsite> Hub<S, C> {
     /// spent in any order. It takes no memory.
     pub fn reset(&mut self, lane: u64, guard: DefaultGuard) -> Result<Option<S>, WrongLane>
         ensures gives { (result, self.new) ≡ reset_gives self.old lane guard }
-        ensures keeps { KeepsLiving ⟦<S as Subscriber>⟧ ⟦<C as Callsite>⟧ self.old self.new }
+        ensures keeps { PreservesLivingCaches ⟦<S as Subscriber>⟧ ⟦<C as Callsite>⟧ self.old self.new }
     {
         self.restore(lane, guard)
     }
@@ -185,7 +185,7 @@ impl<S: Subscriber, C: Callsite> Hub<S, C> {
     /// Ends a lane, which gives up its default. The subscriber that this releases comes back.
     pub fn end_thread(&mut self, lane: u64) -> Result<Option<S>, UnknownLane>
         ensures gives { (result, self.new) ≡ end_gives self.old lane }
-        ensures keeps { KeepsLiving ⟦<S as Subscriber>⟧ ⟦<C as Callsite>⟧ self.old self.new }
+        ensures keeps { PreservesLivingCaches ⟦<S as Subscriber>⟧ ⟦<C as Callsite>⟧ self.old self.new }
     {
         self.end_lane(lane)
     }

@@ -4,11 +4,11 @@ ghost use Rattle.std.specs.List.{AllWithin, HoldsAt};
 ghost use Rattle.tracing_core_hub.specs.Handles.{is_of, hold_refusal, held, given_back};
 ghost use Rattle.tracing_core_requests.specs.Refusals.{or_refused, or_same};
 
-use crate::hub::parts::Entry;
+use crate::hub::parts::RegisteredSubscriber;
 use crate::refusal::HandleError;
 
 // The place of the subscriber of the number.
-pub(crate) fn place_of<S>(entries: &[Entry<S>], serial: u64) -> Option<usize>
+pub(crate) fn place_of<S>(entries: &[RegisteredSubscriber<S>], serial: u64) -> Option<usize>
     ensures { MatchOption result (AllWithin (λ e. is_of serial e ≡ false) entries.now 0 (length entries.now))
         (λ i. (i < length entries.now) × HoldsAt (λ e. is_of serial e ≡ true) entries.now i × AllWithin (λ e. is_of serial e ≡ false) entries.now 0 i) }
 {
@@ -24,7 +24,7 @@ pub(crate) fn place_of<S>(entries: &[Entry<S>], serial: u64) -> Option<usize>
 
 // Counts one handle more.
 pub(crate) fn take_handle<S>(
-    entries: &mut [Entry<S>],
+    entries: &mut [RegisteredSubscriber<S>],
     serial: Option<u64>,
 ) -> Result<(), HandleError>
     ensures answer { result ≡ or_refused (hold_refusal serial entries.old) tt }
@@ -44,7 +44,10 @@ pub(crate) fn take_handle<S>(
 }
 
 // Counts one handle less, and hands back the subscriber whose last one it was.
-pub(crate) fn give_back<S>(entries: &mut Vec<Entry<S>>, serial: Option<u64>) -> Option<S>
+pub(crate) fn give_back<S>(
+    entries: &mut Vec<RegisteredSubscriber<S>>,
+    serial: Option<u64>,
+) -> Option<S>
     ensures { (result, entries.new.items) ≡ given_back serial entries.old.items }
 {
     let Some(serial) = serial else {
@@ -54,7 +57,7 @@ pub(crate) fn give_back<S>(entries: &mut Vec<Entry<S>>, serial: Option<u64>) -> 
         return None;
     };
     if entries[place].handles <= 1 {
-        let Entry { subscriber, .. } = entries.remove(place);
+        let RegisteredSubscriber { subscriber, .. } = entries.remove(place);
         return Some(subscriber);
     }
     entries[place].handles -= 1;

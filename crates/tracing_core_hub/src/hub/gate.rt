@@ -2,34 +2,34 @@
 ghost use Rattle.std.specs.Prelude.{◌≡◌, Bool, Some, slice_get};
 ghost use Rattle.std.specs.Option.{option_map};
 ghost use Rattle.tracing_core_hub.specs.Commands.{GateGives, reached, row_of};
-ghost use Rattle.tracing_core_hub.specs.Keeping.{Keeps};
-ghost use Rattle.tracing_core_hub.specs.Kept.{Kept};
+ghost use Rattle.tracing_core_hub.specs.Keeping.{PreservesCaches};
+ghost use Rattle.tracing_core_hub.specs.ValidCaches.{HasValidCache};
 ghost use Rattle.tracing_core_hub.specs.Table.{own_setting, effective, chosen};
 
 use crate::hub::Hub;
-use crate::hub::parts::{Entry, Lane, Row, Setting, lane_at};
+use crate::hub::parts::{Lane, LaneDefault, RegisteredCallsite, RegisteredSubscriber, lane_at};
 use crate::hub::rows::find_row;
 use tracing_core_fields::Identifier;
 use tracing_core_requests::{At, Callsite, Interest, Subscriber, WeakDispatch, weak_of};
 
 // The lane's own default.
-pub(crate) fn setting_of(lanes: &[Lane], lane: u64) -> Setting
+pub(crate) fn setting_of(lanes: &[Lane], lane: u64) -> LaneDefault
     ensures { result ≡ own_setting (slice_get lanes.now lane) }
 {
     match lane_at(lanes, lane) {
-        None => Setting::Nothing,
-        Some(Lane::Ended) => Setting::Unset,
+        None => LaneDefault::Nothing,
+        Some(Lane::Ended) => LaneDefault::Unset,
         Some(Lane::Running(setting)) => setting,
     }
 }
 
 // The number that the default in force leads to.
-fn serial_of(own: Setting, global: Setting) -> Option<u64>
+fn serial_of(own: LaneDefault, global: LaneDefault) -> Option<u64>
     ensures { result ≡ chosen (effective own global) }
 {
     match (own, global) {
-        (Setting::To(serial), _) => Some(serial),
-        (Setting::Unset, Setting::To(serial)) => Some(serial),
+        (LaneDefault::To(serial), _) => Some(serial),
+        (LaneDefault::Unset, LaneDefault::To(serial)) => Some(serial),
         (_, _) => None,
     }
 }
@@ -51,7 +51,7 @@ impl<S, C> Hub<S, C> {
     }
 
     // The callsite with the identifier.
-    pub(crate) fn row(&self, identifier: u64) -> Option<&Row<C>>
+    pub(crate) fn row(&self, identifier: u64) -> Option<&RegisteredCallsite<C>>
         ensures { option_map (λ row. row.now) result ≡ row_of identifier self.now.rows }
     {
         find_row(&self.rows, identifier)
@@ -75,8 +75,8 @@ impl<S: Subscriber, C: Callsite> Hub<S, C> {
     pub fn gate(&mut self, identifier: Identifier, at: At) -> Option<bool>
         ensures answer { GateGives ⟦<S as Subscriber>⟧ ⟦<C as Callsite>⟧ self.old identifier.0 at result self.new }
         // Where what is kept is right of the reached subscriber, this is what asking it answers.
-        ensures asking { (row : Row C) (e : Entry S) (b : Bool) → row_of identifier.0 self.old.rows ≡ Some row → reached self.old at.lane ≡ Some e.serial → Kept ⟦<S as Subscriber>⟧ ⟦<C as Callsite>⟧ self.old e → S.answers e.subscriber (C.metadata_of row.callsite) at b → result ≡ Some b }
-        ensures keeps { Keeps ⟦<S as Subscriber>⟧ ⟦<C as Callsite>⟧ self.old self.new }
+        ensures asking { (row : RegisteredCallsite C) (e : RegisteredSubscriber S) (b : Bool) → row_of identifier.0 self.old.rows ≡ Some row → reached self.old at.lane ≡ Some e.serial → HasValidCache ⟦<S as Subscriber>⟧ ⟦<C as Callsite>⟧ self.old e → S.answers e.subscriber (C.metadata_of row.callsite) at b → result ≡ Some b }
+        ensures keeps { PreservesCaches ⟦<S as Subscriber>⟧ ⟦<C as Callsite>⟧ self.old self.new }
     {
         self.look(identifier, at)
     }

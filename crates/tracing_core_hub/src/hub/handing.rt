@@ -1,7 +1,7 @@
 //! Handing requests over to the subscriber of a handle.
 ghost use Rattle.std.specs.Prelude.{◌≡◌};
 ghost use Rattle.tracing_core_fields.specs.Metadata.{plain_metadata};
-ghost use Rattle.tracing_core_requests.specs.Calls.{SpanMade, Recorded, FollowsRecorded, EventAsked, Told, Entered, Exited, Cloned, Dropped, CloseTried, CurrentAsked};
+ghost use Rattle.tracing_core_requests.specs.Calls.{SpanMade, Recorded, FollowsRecorded, EventAsked, EventDispatched, Entered, Exited, Cloned, Dropped, CloseTried, CurrentAsked};
 ghost use Rattle.tracing_core_hub.specs.Commands.{AskGives};
 ghost use Rattle.tracing_core_hub.specs.Handing.{CallGives, HubGives};
 ghost use Rattle.tracing_core_requests.specs.PlainRequests.{plain_attributes, plain_event, plain_record};
@@ -9,7 +9,7 @@ ghost use Rattle.tracing_core_requests.specs.PlainRequests.{plain_attributes, pl
 use crate::dispatch::Dispatch;
 use crate::hub::Hub;
 use crate::hub::lending::place_or_end;
-use crate::hub::parts::Entry;
+use crate::hub::parts::RegisteredSubscriber;
 use crate::hub::rows::ask_one;
 use tracing_core_fields::{Id, Metadata};
 use tracing_core_requests::{
@@ -17,7 +17,7 @@ use tracing_core_requests::{
 };
 
 fn new_span_at<S: Subscriber>(
-    entries: &mut [Entry<S>],
+    entries: &mut [RegisteredSubscriber<S>],
     serial: Option<u64>,
     attributes: &Attributes<'_, '_>,
     at: At,
@@ -33,7 +33,7 @@ fn new_span_at<S: Subscriber>(
 }
 
 fn record_at<S: Subscriber>(
-    entries: &mut [Entry<S>],
+    entries: &mut [RegisteredSubscriber<S>],
     serial: Option<u64>,
     span: &Id,
     values: &Record<'_>,
@@ -50,7 +50,7 @@ fn record_at<S: Subscriber>(
 }
 
 fn record_follows_from_at<S: Subscriber>(
-    entries: &mut [Entry<S>],
+    entries: &mut [RegisteredSubscriber<S>],
     serial: Option<u64>,
     span: &Id,
     follows: &Id,
@@ -69,7 +69,7 @@ fn record_follows_from_at<S: Subscriber>(
 }
 
 fn event_enabled_at<S: Subscriber>(
-    entries: &mut [Entry<S>],
+    entries: &mut [RegisteredSubscriber<S>],
     serial: Option<u64>,
     event: &Event<'_, '_>,
     at: At,
@@ -85,12 +85,12 @@ fn event_enabled_at<S: Subscriber>(
 }
 
 fn event_at<S: Subscriber>(
-    entries: &mut [Entry<S>],
+    entries: &mut [RegisteredSubscriber<S>],
     serial: Option<u64>,
     event: &Event<'_, '_>,
     at: At,
 ) -> Result<(), RequestError>
-    ensures { CallGives ⟦<S as Subscriber>⟧ (Told (plain_event event.now) at) serial entries.old result entries.new }
+    ensures { CallGives ⟦<S as Subscriber>⟧ (EventDispatched (plain_event event.now) at) serial entries.old result entries.new }
 {
     let place = place_or_end(entries, serial);
     if place < entries.len() {
@@ -101,7 +101,7 @@ fn event_at<S: Subscriber>(
 }
 
 fn enter_at<S: Subscriber>(
-    entries: &mut [Entry<S>],
+    entries: &mut [RegisteredSubscriber<S>],
     serial: Option<u64>,
     span: &Id,
     at: At,
@@ -116,7 +116,12 @@ fn enter_at<S: Subscriber>(
     }
 }
 
-fn exit_at<S: Subscriber>(entries: &mut [Entry<S>], serial: Option<u64>, span: &Id, at: At)
+fn exit_at<S: Subscriber>(
+    entries: &mut [RegisteredSubscriber<S>],
+    serial: Option<u64>,
+    span: &Id,
+    at: At,
+)
     ensures { CallGives ⟦<S as Subscriber>⟧ (Exited span.now at) serial entries.old tt entries.new }
 {
     let place = place_or_end(entries, serial);
@@ -127,7 +132,7 @@ fn exit_at<S: Subscriber>(entries: &mut [Entry<S>], serial: Option<u64>, span: &
 }
 
 fn clone_span_at<S: Subscriber>(
-    entries: &mut [Entry<S>],
+    entries: &mut [RegisteredSubscriber<S>],
     serial: Option<u64>,
     span: &Id,
     at: At,
@@ -142,7 +147,12 @@ fn clone_span_at<S: Subscriber>(
     }
 }
 
-fn drop_span_at<S: Subscriber>(entries: &mut [Entry<S>], serial: Option<u64>, span: Id, at: At)
+fn drop_span_at<S: Subscriber>(
+    entries: &mut [RegisteredSubscriber<S>],
+    serial: Option<u64>,
+    span: Id,
+    at: At,
+)
     ensures { CallGives ⟦<S as Subscriber>⟧ (Dropped span at) serial entries.old tt entries.new }
 {
     let place = place_or_end(entries, serial);
@@ -153,7 +163,7 @@ fn drop_span_at<S: Subscriber>(entries: &mut [Entry<S>], serial: Option<u64>, sp
 }
 
 fn try_close_at<S: Subscriber>(
-    entries: &mut [Entry<S>],
+    entries: &mut [RegisteredSubscriber<S>],
     serial: Option<u64>,
     span: Id,
     at: At,
@@ -169,7 +179,7 @@ fn try_close_at<S: Subscriber>(
 }
 
 fn current_span_at<S: Subscriber>(
-    entries: &mut [Entry<S>],
+    entries: &mut [RegisteredSubscriber<S>],
     serial: Option<u64>,
     at: At,
 ) -> CurrentSpan
@@ -249,7 +259,7 @@ impl<S: Subscriber, C> Hub<S, C> {
         event: &Event<'_, '_>,
         at: At,
     ) -> Result<(), RequestError>
-        ensures { HubGives ⟦<S as Subscriber>⟧ (Told (plain_event event.now) at) dispatch.now self.old result self.new }
+        ensures { HubGives ⟦<S as Subscriber>⟧ (EventDispatched (plain_event event.now) at) dispatch.now self.old result self.new }
     {
         event_at(&mut self.entries, dispatch.serial(), event, at)
     }

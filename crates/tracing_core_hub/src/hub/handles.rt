@@ -3,7 +3,7 @@ ghost use Rattle.std.specs.Prelude.{◌≡◌};
 ghost use Rattle.tracing_core_hub.specs.Defaults.{holding, upgrade_answer};
 ghost use Rattle.tracing_core_hub.specs.Handles.{hold_refusal, given_back};
 ghost use Rattle.tracing_core_requests.specs.Refusals.{or_refused, or_same};
-ghost use Rattle.tracing_core_hub.specs.Keeping.{Keeps, KeepsLiving};
+ghost use Rattle.tracing_core_hub.specs.Keeping.{PreservesCaches, PreservesLivingCaches};
 
 use crate::dispatch::Dispatch;
 use crate::hub::Hub;
@@ -23,7 +23,7 @@ impl<S, C> Hub<S, C> {
     // One handle more.
     fn take_another(&mut self, dispatch: &Dispatch) -> Result<Dispatch, HandleError>
         ensures answer { result ≡ or_refused (hold_refusal dispatch.now self.old.entries) dispatch.now }
-        ensures left { self.new ≡ or_same (hold_refusal dispatch.now self.old.entries) self.old (holding self.old dispatch.now) }
+        ensures state { self.new ≡ or_same (hold_refusal dispatch.now self.old.entries) self.old (holding self.old dispatch.now) }
     {
         take_handle(&mut self.entries, dispatch.serial())?;
         Ok(Dispatch::new(dispatch.serial()))
@@ -39,7 +39,7 @@ impl<S, C> Hub<S, C> {
     // One handle more, where the subscriber lives.
     fn revive(&mut self, dispatch: &WeakDispatch) -> Result<Option<Dispatch>, TooManyHandles>
         ensures answer { result ≡ upgrade_answer dispatch.now (hold_refusal dispatch.now self.old.entries) }
-        ensures left { self.new ≡ or_same (hold_refusal dispatch.now self.old.entries) self.old (holding self.old dispatch.now) }
+        ensures state { self.new ≡ or_same (hold_refusal dispatch.now self.old.entries) self.old (holding self.old dispatch.now) }
     {
         match take_handle(&mut self.entries, serial_of(dispatch)) {
             Ok(()) => Ok(Some(Dispatch::new(serial_of(dispatch)))),
@@ -51,7 +51,7 @@ impl<S, C> Hub<S, C> {
     // One handle less.
     fn let_go(&mut self, dispatch: Dispatch) -> Option<S>
         ensures answer { result ≡ (given_back dispatch self.old.entries).0 }
-        ensures left { self.new ≡ record self.old { entries = (given_back dispatch self.old.entries).1 } }
+        ensures state { self.new ≡ record self.old { entries = (given_back dispatch self.old.entries).1 } }
     {
         give_back(&mut self.entries, dispatch.serial())
     }
@@ -61,8 +61,8 @@ impl<S: Subscriber, C: Callsite> Hub<S, C> {
     /// Another handle to the same subscriber. It takes no memory.
     pub fn clone(&mut self, dispatch: &Dispatch) -> Result<Dispatch, HandleError>
         ensures answer { result ≡ or_refused (hold_refusal dispatch.now self.old.entries) dispatch.now }
-        ensures left { self.new ≡ or_same (hold_refusal dispatch.now self.old.entries) self.old (holding self.old dispatch.now) }
-        ensures keeps { Keeps ⟦<S as Subscriber>⟧ ⟦<C as Callsite>⟧ self.old self.new }
+        ensures state { self.new ≡ or_same (hold_refusal dispatch.now self.old.entries) self.old (holding self.old dispatch.now) }
+        ensures keeps { PreservesCaches ⟦<S as Subscriber>⟧ ⟦<C as Callsite>⟧ self.old self.new }
     {
         self.take_another(dispatch)
     }
@@ -70,8 +70,8 @@ impl<S: Subscriber, C: Callsite> Hub<S, C> {
     /// A handle that keeps the subscriber, or `None` where it was released. It takes no memory.
     pub fn upgrade(&mut self, dispatch: &WeakDispatch) -> Result<Option<Dispatch>, TooManyHandles>
         ensures answer { result ≡ upgrade_answer dispatch.now (hold_refusal dispatch.now self.old.entries) }
-        ensures left { self.new ≡ or_same (hold_refusal dispatch.now self.old.entries) self.old (holding self.old dispatch.now) }
-        ensures keeps { Keeps ⟦<S as Subscriber>⟧ ⟦<C as Callsite>⟧ self.old self.new }
+        ensures state { self.new ≡ or_same (hold_refusal dispatch.now self.old.entries) self.old (holding self.old dispatch.now) }
+        ensures keeps { PreservesCaches ⟦<S as Subscriber>⟧ ⟦<C as Callsite>⟧ self.old self.new }
     {
         self.revive(dispatch)
     }
@@ -80,8 +80,8 @@ impl<S: Subscriber, C: Callsite> Hub<S, C> {
     /// greatest level, stay as they are until the next rebuild.
     pub fn release(&mut self, dispatch: Dispatch) -> Option<S>
         ensures answer { result ≡ (given_back dispatch self.old.entries).0 }
-        ensures left { self.new ≡ record self.old { entries = (given_back dispatch self.old.entries).1 } }
-        ensures keeps { KeepsLiving ⟦<S as Subscriber>⟧ ⟦<C as Callsite>⟧ self.old self.new }
+        ensures state { self.new ≡ record self.old { entries = (given_back dispatch self.old.entries).1 } }
+        ensures keeps { PreservesLivingCaches ⟦<S as Subscriber>⟧ ⟦<C as Callsite>⟧ self.old self.new }
     {
         self.let_go(dispatch)
     }

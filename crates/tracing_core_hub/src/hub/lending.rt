@@ -3,14 +3,14 @@ ghost use Rattle.std.specs.Borrow.{sem};
 ghost use Rattle.std.specs.Option.{option_map};
 ghost use Rattle.std.specs.Prelude.{◌≡◌};
 ghost use Rattle.tracing_core_hub.specs.Handles.{hold_refusal};
-ghost use Rattle.tracing_core_hub.specs.Keeping.{KeepsOthers};
+ghost use Rattle.tracing_core_hub.specs.Keeping.{PreservesUnlentCaches};
 ghost use Rattle.tracing_core_hub.specs.Lent.{living_of, lent_to, IsPlaceOrEnd, IsPlaceToLend};
 ghost use Rattle.tracing_core_hub.specs.Lending.{LendsSubscriber};
 
 use crate::dispatch::Dispatch;
 use crate::hub::Hub;
 use crate::hub::entries::place_of;
-use crate::hub::parts::Entry;
+use crate::hub::parts::RegisteredSubscriber;
 use crate::refusal::HandleError;
 use tracing_core_requests::{Callsite, Subscriber};
 
@@ -48,7 +48,7 @@ impl<S: Subscriber, C: Callsite> Hub<S, C> {
     pub fn subscriber_mut(&mut self, dispatch: &Dispatch) -> Option<&mut S>
         ensures lent { option_map (λ subscriber. subscriber.now) result ≡ option_map (λ entry. entry.subscriber) (living_of dispatch.now self.old.entries) }
         // What is kept stays right of the others, whatever the lent one becomes.
-        ensures others { (w : S) → KeepsOthers ⟦<S as Subscriber>⟧ ⟦<C as Callsite>⟧ self.old (record self.old { entries = lent_to dispatch.now w self.old.entries }) }
+        ensures others { (w : S) → PreservesUnlentCaches ⟦<S as Subscriber>⟧ ⟦<C as Callsite>⟧ self.old (record self.old { entries = lent_to dispatch.now w self.old.entries }) }
         ensures* ends { sem 𝓛 (LendsSubscriber S.row C.row self.entry dispatch.now result) }
     {
         self.lend(dispatch)
@@ -56,7 +56,7 @@ impl<S: Subscriber, C: Callsite> Hub<S, C> {
 }
 
 // The place of the subscriber of the number, or the end where there is none.
-pub(crate) fn place_or_end<S>(entries: &[Entry<S>], serial: Option<u64>) -> usize
+pub(crate) fn place_or_end<S>(entries: &[RegisteredSubscriber<S>], serial: Option<u64>) -> usize
     ensures { IsPlaceOrEnd serial entries.now result }
 {
     let Some(serial) = serial else {
@@ -69,7 +69,10 @@ pub(crate) fn place_or_end<S>(entries: &[Entry<S>], serial: Option<u64>) -> usiz
 }
 
 // Why there can't be one more handle to the subscriber of the number.
-pub(crate) fn hold_refusal<S>(entries: &[Entry<S>], serial: Option<u64>) -> Option<HandleError>
+pub(crate) fn hold_refusal<S>(
+    entries: &[RegisteredSubscriber<S>],
+    serial: Option<u64>,
+) -> Option<HandleError>
     ensures { result ≡ hold_refusal serial entries.now }
 {
     if serial.is_none() {
@@ -83,7 +86,7 @@ pub(crate) fn hold_refusal<S>(entries: &[Entry<S>], serial: Option<u64>) -> Opti
 }
 
 // The same place, by what lending makes of it: a loan is proved where its clause names the change.
-fn place_to_lend<S>(entries: &[Entry<S>], serial: Option<u64>) -> usize
+fn place_to_lend<S>(entries: &[RegisteredSubscriber<S>], serial: Option<u64>) -> usize
     ensures { IsPlaceToLend serial entries.now result }
 {
     place_or_end(entries, serial)

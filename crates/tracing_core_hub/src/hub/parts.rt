@@ -6,7 +6,7 @@ use tracing_core_requests::Interest;
 
 // A subscriber that some handle leads to.
 #[derive(Drop)]
-pub(crate) struct Entry<S> {
+pub(crate) struct RegisteredSubscriber<S> {
     pub(crate) serial: u64,
     pub(crate) handles: u64,
     // whether it was lent for writing since it was last asked, or was never asked
@@ -16,7 +16,7 @@ pub(crate) struct Entry<S> {
 
 // A callsite, with what is kept of it.
 #[derive(Drop)]
-pub(crate) struct Row<C> {
+pub(crate) struct RegisteredCallsite<C> {
     pub(crate) callsite: C,
     pub(crate) identifier: u64,
     pub(crate) level: Level,
@@ -25,7 +25,7 @@ pub(crate) struct Row<C> {
 
 /// A default.
 #[derive(Clone, Copy, Debug)]
-pub enum Setting {
+pub enum LaneDefault {
     /// None was set.
     Unset,
     /// It is no subscriber.
@@ -40,7 +40,7 @@ pub enum Lane {
     /// It ended.
     Ended,
     /// It runs, with its own default.
-    Running(Setting),
+    Running(LaneDefault),
 }
 
 // The lane of the number, running or ended.

@@ -1,17 +1,17 @@
 //! Requests of a lane, to the subscriber that it reaches.
 ghost use Rattle.std.specs.Prelude.{◌≡◌, Some};
 ghost use Rattle.tracing_core_fields.specs.Metadata.{plain_metadata};
-ghost use Rattle.tracing_core_requests.specs.Calls.{CallsiteRegistered, CurrentAsked, SpanMade, Told};
+ghost use Rattle.tracing_core_requests.specs.Calls.{CallsiteRegistered, CurrentAsked, SpanMade, EventDispatched};
 ghost use Rattle.tracing_core_hub.specs.Commands.{AskGives, reached};
 ghost use Rattle.tracing_core_hub.specs.Handing.{CallGives, HubGives};
-ghost use Rattle.tracing_core_hub.specs.Keeping.{Keeps};
+ghost use Rattle.tracing_core_hub.specs.Keeping.{PreservesCaches};
 ghost use Rattle.tracing_core_hub.specs.Lent.{living_of};
 ghost use Rattle.tracing_core_requests.specs.PlainRequests.{plain_attributes, plain_event};
 
 use crate::dispatch::Dispatch;
 use crate::hub::Hub;
 use crate::hub::lending::place_or_end;
-use crate::hub::parts::Entry;
+use crate::hub::parts::RegisteredSubscriber;
 use crate::hub::ranks::is_real;
 use tracing_core_fields::{Id, Metadata};
 use tracing_core_requests::{
@@ -19,11 +19,11 @@ use tracing_core_requests::{
 };
 
 fn register_callsite_at<S: Subscriber>(
-    entries: &mut [Entry<S>],
+    entries: &mut [RegisteredSubscriber<S>],
     serial: Option<u64>,
     metadata: &Metadata<'_>,
 ) -> Interest
-    ensures answer { (e : Entry S) → living_of serial entries.old ≡ Some e → S.says e.subscriber (plain_metadata metadata.now) result }
+    ensures answer { (e : RegisteredSubscriber S) → living_of serial entries.old ≡ Some e → S.says e.subscriber (plain_metadata metadata.now) result }
     ensures handed { CallGives ⟦<S as Subscriber>⟧ (CallsiteRegistered (plain_metadata metadata.now)) serial entries.old result entries.new }
 {
     let place = place_or_end(entries, serial);
@@ -45,7 +45,7 @@ impl<S, C> Hub<S, C> {
 
 impl<S: Subscriber, C> Hub<S, C> {
     fn hand_register_callsite(&mut self, dispatch: &Dispatch, metadata: &Metadata<'_>) -> Interest
-        ensures answer { (e : Entry S) → living_of dispatch.now self.old.entries ≡ Some e → S.says e.subscriber (plain_metadata metadata.now) result }
+        ensures answer { (e : RegisteredSubscriber S) → living_of dispatch.now self.old.entries ≡ Some e → S.says e.subscriber (plain_metadata metadata.now) result }
         ensures handed { HubGives ⟦<S as Subscriber>⟧ (CallsiteRegistered (plain_metadata metadata.now)) dispatch.now self.old result self.new }
     {
         register_callsite_at(&mut self.entries, dispatch.serial(), metadata)
@@ -56,9 +56,9 @@ impl<S: Subscriber, C: Callsite> Hub<S, C> {
     /// Asks the subscriber of the handle for its interest in a callsite, which is never where there is
     /// none. What is kept of callsites stays.
     pub fn register_callsite(&mut self, dispatch: &Dispatch, metadata: &Metadata<'_>) -> Interest
-        ensures answer { (e : Entry S) → living_of dispatch.now self.old.entries ≡ Some e → S.says e.subscriber (plain_metadata metadata.now) result }
+        ensures answer { (e : RegisteredSubscriber S) → living_of dispatch.now self.old.entries ≡ Some e → S.says e.subscriber (plain_metadata metadata.now) result }
         ensures handed { HubGives ⟦<S as Subscriber>⟧ (CallsiteRegistered (plain_metadata metadata.now)) dispatch.now self.old result self.new }
-        ensures keeps { Keeps ⟦<S as Subscriber>⟧ ⟦<C as Callsite>⟧ self.old self.new }
+        ensures keeps { PreservesCaches ⟦<S as Subscriber>⟧ ⟦<C as Callsite>⟧ self.old self.new }
     {
         is_real(metadata);
         self.hand_register_callsite(dispatch, metadata)
@@ -69,7 +69,7 @@ impl<S: Subscriber, C: Callsite> Hub<S, C> {
     pub fn enabled_here(&mut self, metadata: &Metadata<'_>, at: At) -> bool
         ensures asked { AskGives ⟦<S as Subscriber>⟧ (plain_metadata metadata.now) at (reached self.old at.lane) self.old.entries result self.new.entries }
         ensures rest { self.new ≡ record self.old { entries = self.new.entries } }
-        ensures keeps { Keeps ⟦<S as Subscriber>⟧ ⟦<C as Callsite>⟧ self.old self.new }
+        ensures keeps { PreservesCaches ⟦<S as Subscriber>⟧ ⟦<C as Callsite>⟧ self.old self.new }
     {
         let dispatch = self.reached_handle(at.lane);
         self.enabled(&dispatch, metadata, at)
@@ -77,8 +77,8 @@ impl<S: Subscriber, C: Callsite> Hub<S, C> {
 
     /// Hands an event to the subscriber that the lane reaches.
     pub fn event_here(&mut self, event: &Event<'_, '_>, at: At) -> Result<(), RequestError>
-        ensures gives { HubGives ⟦<S as Subscriber>⟧ (Told (plain_event event.now) at) (reached self.old at.lane) self.old result self.new }
-        ensures keeps { Keeps ⟦<S as Subscriber>⟧ ⟦<C as Callsite>⟧ self.old self.new }
+        ensures gives { HubGives ⟦<S as Subscriber>⟧ (EventDispatched (plain_event event.now) at) (reached self.old at.lane) self.old result self.new }
+        ensures keeps { PreservesCaches ⟦<S as Subscriber>⟧ ⟦<C as Callsite>⟧ self.old self.new }
     {
         let dispatch = self.reached_handle(at.lane);
         self.event(&dispatch, event, at)
@@ -91,7 +91,7 @@ impl<S: Subscriber, C: Callsite> Hub<S, C> {
         at: At,
     ) -> Result<Option<Id>, RequestError>
         ensures gives { HubGives ⟦<S as Subscriber>⟧ (SpanMade (plain_attributes attributes.now) at) (reached self.old at.lane) self.old result self.new }
-        ensures keeps { Keeps ⟦<S as Subscriber>⟧ ⟦<C as Callsite>⟧ self.old self.new }
+        ensures keeps { PreservesCaches ⟦<S as Subscriber>⟧ ⟦<C as Callsite>⟧ self.old self.new }
     {
         let dispatch = self.reached_handle(at.lane);
         self.new_span(&dispatch, attributes, at)
@@ -100,7 +100,7 @@ impl<S: Subscriber, C: Callsite> Hub<S, C> {
     /// The span that the lane is in, for the subscriber that it reaches.
     pub fn current_span_here(&mut self, at: At) -> CurrentSpan
         ensures gives { HubGives ⟦<S as Subscriber>⟧ (CurrentAsked at) (reached self.old at.lane) self.old result self.new }
-        ensures keeps { Keeps ⟦<S as Subscriber>⟧ ⟦<C as Callsite>⟧ self.old self.new }
+        ensures keeps { PreservesCaches ⟦<S as Subscriber>⟧ ⟦<C as Callsite>⟧ self.old self.new }
     {
         let dispatch = self.reached_handle(at.lane);
         self.current_span(&dispatch, at)

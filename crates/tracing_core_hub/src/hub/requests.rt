@@ -1,10 +1,10 @@
 //! Requests through the hub, to the subscriber of a handle.
 ghost use Rattle.std.specs.Prelude.{◌≡◌};
 ghost use Rattle.tracing_core_fields.specs.Metadata.{plain_metadata};
-ghost use Rattle.tracing_core_requests.specs.Calls.{SpanMade, Recorded, FollowsRecorded, EventAsked, Told, Entered, Exited, Cloned, Dropped, CloseTried, CurrentAsked};
+ghost use Rattle.tracing_core_requests.specs.Calls.{SpanMade, Recorded, FollowsRecorded, EventAsked, EventDispatched, Entered, Exited, Cloned, Dropped, CloseTried, CurrentAsked};
 ghost use Rattle.tracing_core_hub.specs.Commands.{AskGives};
 ghost use Rattle.tracing_core_hub.specs.Handing.{HubGives};
-ghost use Rattle.tracing_core_hub.specs.Keeping.{Keeps};
+ghost use Rattle.tracing_core_hub.specs.Keeping.{PreservesCaches};
 ghost use Rattle.tracing_core_requests.specs.PlainRequests.{plain_attributes, plain_event, plain_record};
 
 use crate::dispatch::Dispatch;
@@ -20,7 +20,7 @@ impl<S: Subscriber, C: Callsite> Hub<S, C> {
     pub fn enabled(&mut self, dispatch: &Dispatch, metadata: &Metadata<'_>, at: At) -> bool
         ensures asked { AskGives ⟦<S as Subscriber>⟧ (plain_metadata metadata.now) at dispatch.now self.old.entries result self.new.entries }
         ensures rest { self.new ≡ record self.old { entries = self.new.entries } }
-        ensures keeps { Keeps ⟦<S as Subscriber>⟧ ⟦<C as Callsite>⟧ self.old self.new }
+        ensures keeps { PreservesCaches ⟦<S as Subscriber>⟧ ⟦<C as Callsite>⟧ self.old self.new }
     {
         is_real(metadata);
         self.hand_enabled(dispatch, metadata, at)
@@ -34,7 +34,7 @@ impl<S: Subscriber, C: Callsite> Hub<S, C> {
         at: At,
     ) -> Result<Option<Id>, RequestError>
         ensures gives { HubGives ⟦<S as Subscriber>⟧ (SpanMade (plain_attributes attributes.now) at) dispatch.now self.old result self.new }
-        ensures keeps { Keeps ⟦<S as Subscriber>⟧ ⟦<C as Callsite>⟧ self.old self.new }
+        ensures keeps { PreservesCaches ⟦<S as Subscriber>⟧ ⟦<C as Callsite>⟧ self.old self.new }
     {
         is_real(attributes.metadata());
         self.hand_new_span(dispatch, attributes, at)
@@ -49,7 +49,7 @@ impl<S: Subscriber, C: Callsite> Hub<S, C> {
         at: At,
     ) -> Result<(), RequestError>
         ensures gives { HubGives ⟦<S as Subscriber>⟧ (Recorded span.now (plain_record values.now) at) dispatch.now self.old result self.new }
-        ensures keeps { Keeps ⟦<S as Subscriber>⟧ ⟦<C as Callsite>⟧ self.old self.new }
+        ensures keeps { PreservesCaches ⟦<S as Subscriber>⟧ ⟦<C as Callsite>⟧ self.old self.new }
     {
         self.hand_record(dispatch, span, values, at)
     }
@@ -63,7 +63,7 @@ impl<S: Subscriber, C: Callsite> Hub<S, C> {
         at: At,
     ) -> Result<(), RequestError>
         ensures gives { HubGives ⟦<S as Subscriber>⟧ (FollowsRecorded span.now follows.now at) dispatch.now self.old result self.new }
-        ensures keeps { Keeps ⟦<S as Subscriber>⟧ ⟦<C as Callsite>⟧ self.old self.new }
+        ensures keeps { PreservesCaches ⟦<S as Subscriber>⟧ ⟦<C as Callsite>⟧ self.old self.new }
     {
         self.hand_record_follows_from(dispatch, span, follows, at)
     }
@@ -71,7 +71,7 @@ impl<S: Subscriber, C: Callsite> Hub<S, C> {
     /// Whether the subscriber of the handle wants the event, whose callsite is enabled.
     pub fn event_enabled(&mut self, dispatch: &Dispatch, event: &Event<'_, '_>, at: At) -> bool
         ensures gives { HubGives ⟦<S as Subscriber>⟧ (EventAsked (plain_event event.now) at) dispatch.now self.old result self.new }
-        ensures keeps { Keeps ⟦<S as Subscriber>⟧ ⟦<C as Callsite>⟧ self.old self.new }
+        ensures keeps { PreservesCaches ⟦<S as Subscriber>⟧ ⟦<C as Callsite>⟧ self.old self.new }
     {
         is_real(event.metadata());
         self.hand_event_enabled(dispatch, event, at)
@@ -84,8 +84,8 @@ impl<S: Subscriber, C: Callsite> Hub<S, C> {
         event: &Event<'_, '_>,
         at: At,
     ) -> Result<(), RequestError>
-        ensures gives { HubGives ⟦<S as Subscriber>⟧ (Told (plain_event event.now) at) dispatch.now self.old result self.new }
-        ensures keeps { Keeps ⟦<S as Subscriber>⟧ ⟦<C as Callsite>⟧ self.old self.new }
+        ensures gives { HubGives ⟦<S as Subscriber>⟧ (EventDispatched (plain_event event.now) at) dispatch.now self.old result self.new }
+        ensures keeps { PreservesCaches ⟦<S as Subscriber>⟧ ⟦<C as Callsite>⟧ self.old self.new }
     {
         is_real(event.metadata());
         self.hand_event(dispatch, event, at)
@@ -94,7 +94,7 @@ impl<S: Subscriber, C: Callsite> Hub<S, C> {
     /// The lane enters a span.
     pub fn enter(&mut self, dispatch: &Dispatch, span: &Id, at: At) -> Result<(), RequestError>
         ensures gives { HubGives ⟦<S as Subscriber>⟧ (Entered span.now at) dispatch.now self.old result self.new }
-        ensures keeps { Keeps ⟦<S as Subscriber>⟧ ⟦<C as Callsite>⟧ self.old self.new }
+        ensures keeps { PreservesCaches ⟦<S as Subscriber>⟧ ⟦<C as Callsite>⟧ self.old self.new }
     {
         self.hand_enter(dispatch, span, at)
     }
@@ -102,7 +102,7 @@ impl<S: Subscriber, C: Callsite> Hub<S, C> {
     /// The lane leaves a span.
     pub fn exit(&mut self, dispatch: &Dispatch, span: &Id, at: At)
         ensures gives { HubGives ⟦<S as Subscriber>⟧ (Exited span.now at) dispatch.now self.old tt self.new }
-        ensures keeps { Keeps ⟦<S as Subscriber>⟧ ⟦<C as Callsite>⟧ self.old self.new }
+        ensures keeps { PreservesCaches ⟦<S as Subscriber>⟧ ⟦<C as Callsite>⟧ self.old self.new }
     {
         self.hand_exit(dispatch, span, at)
     }
@@ -110,7 +110,7 @@ impl<S: Subscriber, C: Callsite> Hub<S, C> {
     /// Counts one more handle of a span, and answers the id to use for it.
     pub fn clone_span(&mut self, dispatch: &Dispatch, span: &Id, at: At) -> Result<Id, RequestError>
         ensures gives { HubGives ⟦<S as Subscriber>⟧ (Cloned span.now at) dispatch.now self.old result self.new }
-        ensures keeps { Keeps ⟦<S as Subscriber>⟧ ⟦<C as Callsite>⟧ self.old self.new }
+        ensures keeps { PreservesCaches ⟦<S as Subscriber>⟧ ⟦<C as Callsite>⟧ self.old self.new }
     {
         self.hand_clone_span(dispatch, span, at)
     }
@@ -118,7 +118,7 @@ impl<S: Subscriber, C: Callsite> Hub<S, C> {
     /// Counts one handle of a span less.
     pub fn drop_span(&mut self, dispatch: &Dispatch, span: Id, at: At)
         ensures gives { HubGives ⟦<S as Subscriber>⟧ (Dropped span at) dispatch.now self.old tt self.new }
-        ensures keeps { Keeps ⟦<S as Subscriber>⟧ ⟦<C as Callsite>⟧ self.old self.new }
+        ensures keeps { PreservesCaches ⟦<S as Subscriber>⟧ ⟦<C as Callsite>⟧ self.old self.new }
     {
         self.hand_drop_span(dispatch, span, at)
     }
@@ -126,7 +126,7 @@ impl<S: Subscriber, C: Callsite> Hub<S, C> {
     /// Counts one handle of a span less, and answers whether the span closed.
     pub fn try_close(&mut self, dispatch: &Dispatch, span: Id, at: At) -> bool
         ensures gives { HubGives ⟦<S as Subscriber>⟧ (CloseTried span at) dispatch.now self.old result self.new }
-        ensures keeps { Keeps ⟦<S as Subscriber>⟧ ⟦<C as Callsite>⟧ self.old self.new }
+        ensures keeps { PreservesCaches ⟦<S as Subscriber>⟧ ⟦<C as Callsite>⟧ self.old self.new }
     {
         self.hand_try_close(dispatch, span, at)
     }
@@ -134,7 +134,7 @@ impl<S: Subscriber, C: Callsite> Hub<S, C> {
     /// The span that the lane is in.
     pub fn current_span(&mut self, dispatch: &Dispatch, at: At) -> CurrentSpan
         ensures gives { HubGives ⟦<S as Subscriber>⟧ (CurrentAsked at) dispatch.now self.old result self.new }
-        ensures keeps { Keeps ⟦<S as Subscriber>⟧ ⟦<C as Callsite>⟧ self.old self.new }
+        ensures keeps { PreservesCaches ⟦<S as Subscriber>⟧ ⟦<C as Callsite>⟧ self.old self.new }
     {
         self.hand_current_span(dispatch, at)
     }

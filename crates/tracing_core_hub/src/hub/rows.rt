@@ -7,12 +7,15 @@ ghost use Rattle.tracing_core_requests.specs.Calls.{Asked};
 ghost use Rattle.tracing_core_hub.specs.Commands.{row_of, known, AnswerGives, AskGives, new_row};
 
 use crate::hub::entries::place_of;
-use crate::hub::parts::{Entry, Row};
+use crate::hub::parts::{RegisteredCallsite, RegisteredSubscriber};
 use tracing_core_fields::{Level, LevelFilter, Metadata};
 use tracing_core_requests::{At, Callsite, Interest, Subscriber};
 
 // The callsite with the identifier.
-pub(crate) fn find_row<C>(rows: &[Row<C>], identifier: u64) -> Option<&Row<C>>
+pub(crate) fn find_row<C>(
+    rows: &[RegisteredCallsite<C>],
+    identifier: u64,
+) -> Option<&RegisteredCallsite<C>>
     ensures { option_map (λ row. row.now) result ≡ row_of identifier rows.now }
 {
     for row in rows {
@@ -36,10 +39,10 @@ fn known_answer(greatest: LevelFilter, level: Level, interest: Interest) -> Opti
     }
 }
 
-impl<S: Subscriber> Entry<S> {
+impl<S: Subscriber> RegisteredSubscriber<S> {
     fn ask(&mut self, metadata: &Metadata<'_>, at: At) -> bool
         ensures answer { S.answers self.old.subscriber (plain_metadata metadata.now) at result }
-        ensures left { S.moves self.old.subscriber (Asked (plain_metadata metadata.now) at) result self.new.subscriber }
+        ensures state { S.moves self.old.subscriber (Asked (plain_metadata metadata.now) at) result self.new.subscriber }
         ensures rest { self.new ≡ record self.old { subscriber = self.new.subscriber } }
     {
         self.subscriber.enabled(metadata, at)
@@ -48,7 +51,7 @@ impl<S: Subscriber> Entry<S> {
 
 // Asks the subscriber of the number, where it lives.
 pub(crate) fn ask_one<S: Subscriber>(
-    entries: &mut [Entry<S>],
+    entries: &mut [RegisteredSubscriber<S>],
     serial: Option<u64>,
     metadata: &Metadata<'_>,
     at: At,
@@ -64,15 +67,15 @@ pub(crate) fn ask_one<S: Subscriber>(
     entries[place].ask(metadata, at)
 }
 
-impl<C: Callsite> Row<C> {
+impl<C: Callsite> RegisteredCallsite<C> {
     // The callsite as it comes.
-    pub(crate) fn new(callsite: C) -> Row<C>
+    pub(crate) fn new(callsite: C) -> RegisteredCallsite<C>
         ensures { result ≡ new_row ⟦<C as Callsite>⟧ callsite }
     {
         let metadata = callsite.metadata();
         let identifier = metadata.callsite().0;
         let level = *metadata.level();
-        Row {
+        RegisteredCallsite {
             callsite,
             identifier,
             level,
@@ -93,7 +96,12 @@ impl<C: Callsite> Row<C> {
     }
 
     // Asks the subscriber of the number about the callsite.
-    fn ask_one<S: Subscriber>(&self, entries: &mut [Entry<S>], serial: Option<u64>, at: At) -> bool
+    fn ask_one<S: Subscriber>(
+        &self,
+        entries: &mut [RegisteredSubscriber<S>],
+        serial: Option<u64>,
+        at: At,
+    ) -> bool
         ensures { AskGives ⟦<S as Subscriber>⟧ (C.metadata_of self.now.callsite) at serial entries.old result entries.new }
     {
         let metadata = self.callsite.metadata();
@@ -103,7 +111,7 @@ impl<C: Callsite> Row<C> {
     // What is known, or else what the subscriber of the number says. Where there is none, nothing is wanted.
     pub(crate) fn answer<S: Subscriber>(
         &self,
-        entries: &mut [Entry<S>],
+        entries: &mut [RegisteredSubscriber<S>],
         serial: Option<u64>,
         greatest: LevelFilter,
         at: At,

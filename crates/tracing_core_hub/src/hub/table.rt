@@ -3,7 +3,7 @@ ghost use Rattle.std.specs.Prelude.{◌≡◌, IfOk, map};
 ghost use Rattle.tracing_core_hub.specs.Copies.{CopyOf, handles_of, kept_of};
 
 use crate::hub::Hub;
-use crate::hub::parts::{Entry, Lane, Row, Setting};
+use crate::hub::parts::{Lane, LaneDefault, RegisteredCallsite, RegisteredSubscriber};
 use std::alloc::{AllocError, Global};
 use tracing_core_fields::{Identifier, LevelFilter};
 use tracing_core_requests::Interest;
@@ -32,7 +32,7 @@ pub struct HubTable {
     /// The subscribers that some handle leads to, in order of their numbers.
     pub handles: Vec<HandleCount>,
     /// The global default.
-    pub global: Setting,
+    pub global: LaneDefault,
     /// The defaults of the lanes, by the numbers of these.
     pub lanes: Vec<Lane>,
     /// The callsites, in order of registration.
@@ -41,7 +41,10 @@ pub struct HubTable {
     pub greatest: LevelFilter,
 }
 
-fn count_handles<S>(alloc: Global, entries: &[Entry<S>]) -> Result<Vec<HandleCount>, AllocError>
+fn count_handles<S>(
+    alloc: Global,
+    entries: &[RegisteredSubscriber<S>],
+) -> Result<Vec<HandleCount>, AllocError>
     ensures { IfOk result (λ counts. counts.items ≡ map handles_of entries.now) }
 {
     entries
@@ -59,7 +62,10 @@ fn copy_lanes(alloc: Global, lanes: &[Lane]) -> Result<Vec<Lane>, AllocError>
     lanes.iter().copied().collect(alloc)
 }
 
-fn copy_interests<C>(alloc: Global, rows: &[Row<C>]) -> Result<Vec<KeptInterest>, AllocError>
+fn copy_interests<C>(
+    alloc: Global,
+    rows: &[RegisteredCallsite<C>],
+) -> Result<Vec<KeptInterest>, AllocError>
     ensures { IfOk result (λ copy. copy.items ≡ map kept_of rows.now) }
 {
     rows.iter()

@@ -2,16 +2,16 @@
 ghost use Rattle.std.specs.Prelude.{◌≡◌, ◌==◌, Some, None, [], true, IfOk};
 ghost use Rattle.tracing_core_hub.specs.Commands.{Rebuilt, AddGives, RegisterGives, TakeGives, kept_alike, row_of};
 ghost use Rattle.tracing_core_hub.specs.Handles.{entry_of, most};
-ghost use Rattle.tracing_core_hub.specs.Keeping.{Keeps, IsOff};
+ghost use Rattle.tracing_core_hub.specs.Keeping.{PreservesCaches, IsOff};
 ghost use Rattle.tracing_core_requests.specs.Lists.{Every};
-ghost use Rattle.tracing_core_hub.specs.Kept.{IsTrueRow, Kept, asked_anew};
+ghost use Rattle.tracing_core_hub.specs.ValidCaches.{IsTrueRow, HasValidCache, asked_anew};
 ghost use Rattle.tracing_core_hub.specs.Refreshing.{Refreshed};
 ghost use Rattle.tracing_core_hub.specs.Sound.{IsSound};
 
 use crate::dispatch::Dispatch;
 use crate::hub::Hub;
 use crate::hub::asking::{ask_hints, ask_rows};
-use crate::hub::parts::{Entry, Row};
+use crate::hub::parts::{RegisteredCallsite, RegisteredSubscriber};
 use crate::hub::ranks::is_real_callsite;
 use crate::refusal::{AddError, RegisterError};
 use tracing_core_requests::{Callsite, Interest, Subscriber, weak_of};
@@ -21,10 +21,10 @@ impl<S: Subscriber, C: Callsite> Hub<S, C> {
     /// interest in each callsite, and the greatest level. Then no subscriber counts as lent.
     pub fn rebuild_interest_cache(&mut self)
         ensures asked { Rebuilt ⟦<S as Subscriber>⟧ ⟦<C as Callsite>⟧ self.old self.new }
-        // Then what is kept is right of each subscriber that keeps its word.
-        ensures right { (e : Entry S) → entry_of e.serial self.old.entries ≡ Some e → S.steady e.subscriber → Every (IsTrueRow ⟦<C as Callsite>⟧) self.old.rows →
-            ((z : S) × Kept ⟦<S as Subscriber>⟧ ⟦<C as Callsite>⟧ self.new (asked_anew z e)) }
-        ensures keeps { Keeps ⟦<S as Subscriber>⟧ ⟦<C as Callsite>⟧ self.old self.new }
+        // Then what is kept is right of each subscriber that is consistent.
+        ensures right { (e : RegisteredSubscriber S) → entry_of e.serial self.old.entries ≡ Some e → S.steady e.subscriber → Every (IsTrueRow ⟦<C as Callsite>⟧) self.old.rows →
+            ((z : S) × HasValidCache ⟦<S as Subscriber>⟧ ⟦<C as Callsite>⟧ self.new (asked_anew z e)) }
+        ensures keeps { PreservesCaches ⟦<S as Subscriber>⟧ ⟦<C as Callsite>⟧ self.old self.new }
         ensures nobody { self.old.entries ≡ [] → IsOff self.new }
     {
         self.ask_all_again()
@@ -42,10 +42,10 @@ impl<S: Subscriber, C: Callsite> Hub<S, C> {
     /// whom it doesn't ask, it takes the kept answers. Then no subscriber counts as lent.
     pub fn refresh(&mut self)
         ensures asked { Refreshed ⟦<S as Subscriber>⟧ ⟦<C as Callsite>⟧ self.old self.new }
-        // Then what is kept is right of each that was lent and keeps its word.
-        ensures right { (e : Entry S) → entry_of e.serial self.old.entries ≡ Some e → e.lent ≡ true → S.steady e.subscriber → Every (IsTrueRow ⟦<C as Callsite>⟧) self.old.rows →
-            ((z : S) × Kept ⟦<S as Subscriber>⟧ ⟦<C as Callsite>⟧ self.new (asked_anew z e)) }
-        ensures keeps { Keeps ⟦<S as Subscriber>⟧ ⟦<C as Callsite>⟧ self.old self.new }
+        // Then what is kept is right of each that was lent and is consistent.
+        ensures right { (e : RegisteredSubscriber S) → entry_of e.serial self.old.entries ≡ Some e → e.lent ≡ true → S.steady e.subscriber → Every (IsTrueRow ⟦<C as Callsite>⟧) self.old.rows →
+            ((z : S) × HasValidCache ⟦<S as Subscriber>⟧ ⟦<C as Callsite>⟧ self.new (asked_anew z e)) }
+        ensures keeps { PreservesCaches ⟦<S as Subscriber>⟧ ⟦<C as Callsite>⟧ self.old self.new }
         ensures nobody { self.old.entries ≡ [] → IsOff self.new }
     {
         self.ask_again()
@@ -78,7 +78,7 @@ impl<S: Subscriber, C: Callsite> Hub<S, C> {
         let serial = self.next;
         let mut subscriber = subscriber;
         subscriber.on_register_dispatch(&weak_of(Some(serial)));
-        self.entries.push_reserved(Entry {
+        self.entries.push_reserved(RegisteredSubscriber {
             serial,
             handles: 1,
             lent: true,
@@ -94,9 +94,9 @@ impl<S: Subscriber, C: Callsite> Hub<S, C> {
         requires { row_of (C.metadata_of callsite).callsite self.old.rows ≡ None }
         ensures { TakeGives ⟦<S as Subscriber>⟧ ⟦<C as Callsite>⟧ self.old callsite result self.new }
     {
-        let mut row = Row::new(callsite);
+        let mut row = RegisteredCallsite::new(callsite);
         if self.rows.reserve(1).is_err() {
-            let Row { callsite, .. } = row;
+            let RegisteredCallsite { callsite, .. } = row;
             return Err(RegisterError::OutOfMemory(callsite));
         }
         row.ask(&mut self.entries);
@@ -131,13 +131,13 @@ impl<S: Subscriber, C: Callsite> Hub<S, C> {
     /// where no number is left, or else there is no memory for it; then it wasn't told anything.
     pub fn add(&mut self, subscriber: S) -> Result<Dispatch, AddError<S>>
         ensures gives { AddGives ⟦<S as Subscriber>⟧ ⟦<C as Callsite>⟧ self.old subscriber result self.new }
-        // Then what is kept is right of the new one, if it keeps its word.
+        // Then what is kept is right of the new one, if it is consistent.
         ensures right { IfOk result (λ dispatch. IsSound ⟦<C as Callsite>⟧ self.old → S.steady subscriber →
-            ((e : Entry S) × (dispatch ≡ Some e.serial) × Kept ⟦<S as Subscriber>⟧ ⟦<C as Callsite>⟧ self.new e)) }
-        // And of each that was lent and keeps its word.
-        ensures others { IfOk result (λ _. (e : Entry S) → entry_of e.serial self.old.entries ≡ Some e → e.lent ≡ true → S.steady e.subscriber → Every (IsTrueRow ⟦<C as Callsite>⟧) self.old.rows →
-            ((z : S) × Kept ⟦<S as Subscriber>⟧ ⟦<C as Callsite>⟧ self.new (asked_anew z e))) }
-        ensures keeps { Keeps ⟦<S as Subscriber>⟧ ⟦<C as Callsite>⟧ self.old self.new }
+            ((e : RegisteredSubscriber S) × (dispatch ≡ Some e.serial) × HasValidCache ⟦<S as Subscriber>⟧ ⟦<C as Callsite>⟧ self.new e)) }
+        // And of each that was lent and is consistent.
+        ensures others { IfOk result (λ _. (e : RegisteredSubscriber S) → entry_of e.serial self.old.entries ≡ Some e → e.lent ≡ true → S.steady e.subscriber → Every (IsTrueRow ⟦<C as Callsite>⟧) self.old.rows →
+            ((z : S) × HasValidCache ⟦<S as Subscriber>⟧ ⟦<C as Callsite>⟧ self.new (asked_anew z e))) }
+        ensures keeps { PreservesCaches ⟦<S as Subscriber>⟧ ⟦<C as Callsite>⟧ self.old self.new }
     {
         self.take_in(subscriber)
     }
@@ -148,7 +148,7 @@ impl<S: Subscriber, C: Callsite> Hub<S, C> {
     /// with other metadata, or there is no memory for it.
     pub fn register(&mut self, callsite: C) -> Result<Interest, RegisterError<C>>
         ensures gives { RegisterGives ⟦<S as Subscriber>⟧ ⟦<C as Callsite>⟧ self.old callsite result self.new }
-        ensures keeps { Keeps ⟦<S as Subscriber>⟧ ⟦<C as Callsite>⟧ self.old self.new }
+        ensures keeps { PreservesCaches ⟦<S as Subscriber>⟧ ⟦<C as Callsite>⟧ self.old self.new }
     {
         is_real_callsite(&callsite);
         self.take_once(callsite)

@@ -75,7 +75,7 @@ pub(crate) fn find_named(handles: &[Option<Dispatch>], number: Option<u64>) -> O
 #[tactic(auto, using(crate::proofs::Books::none_past, crate::proofs::Books::item_at, crate::proofs::Books::spent))]
 pub(crate) fn spend<T>(items: &mut [Option<T>], number: u64) -> Option<T>
     ensures item { result ≡ item_of items.old number }
-    ensures left { items.new ≡ spent_by items.old number (item_of items.old number) }
+    ensures state { items.new ≡ spent_by items.old number (item_of items.old number) }
 {
     let place = number as usize;
     if place < items.len() {

@@ -1,8 +1,8 @@
 //! Commands on lanes and defaults.
 ghost use Rattle.std.specs.Prelude.{◌≡◌};
 ghost use Rattle.tracing_core_hub.specs.Defaults.{end_gives};
-ghost use Rattle.tracing_core_hub.specs.Keeping.{Keeps, KeepsLiving};
-ghost use Rattle.tracing_core_hub.specs.Running.{SetDefaultRuns, ThreadRuns, end_reply, global_gives, global_reply, item_of, reset_runs, reset_runs_by, named};
+ghost use Rattle.tracing_core_hub.specs.Keeping.{PreservesCaches, PreservesLivingCaches};
+ghost use Rattle.tracing_core_hub.specs.Running.{SetDefaultRuns, LaneRuns, end_reply, global_gives, global_reply, item_of, reset_runs, reset_runs_by, named};
 
 use crate::dispatch::Dispatch;
 use crate::guard::{DefaultGuard, WrongLane};
@@ -31,9 +31,9 @@ fn global_reply<S, C>(answer: Result<(), SetGlobalDefaultError>) -> CommandReply
 }
 
 impl<S: Subscriber, C: Callsite> Hub<S, C> {
-    pub(crate) fn run_thread(&mut self) -> CommandReply<S, C>
-        ensures gives { ThreadRuns self.old result self.new }
-        ensures keeps { Keeps ⟦<S as Subscriber>⟧ ⟦<C as Callsite>⟧ self.old self.new }
+    pub(crate) fn run_lane(&mut self) -> CommandReply<S, C>
+        ensures gives { LaneRuns self.old result self.new }
+        ensures keeps { PreservesCaches ⟦<S as Subscriber>⟧ ⟦<C as Callsite>⟧ self.old self.new }
     {
         match self.thread() {
             Ok(lane) => CommandReply::Lane(lane),
@@ -41,10 +41,10 @@ impl<S: Subscriber, C: Callsite> Hub<S, C> {
         }
     }
 
-    pub(crate) fn run_end_thread(&mut self, lane: u64) -> CommandReply<S, C>
+    pub(crate) fn run_end_lane(&mut self, lane: u64) -> CommandReply<S, C>
         ensures reply { result ≡ end_reply (end_gives self.old lane).0 }
-        ensures left { self.new ≡ (end_gives self.old lane).1 }
-        ensures keeps { KeepsLiving ⟦<S as Subscriber>⟧ ⟦<C as Callsite>⟧ self.old self.new }
+        ensures state { self.new ≡ (end_gives self.old lane).1 }
+        ensures keeps { PreservesLivingCaches ⟦<S as Subscriber>⟧ ⟦<C as Callsite>⟧ self.old self.new }
     {
         end_reply(self.end_thread(lane))
     }
@@ -56,7 +56,7 @@ impl<S: Subscriber, C: Callsite> Hub<S, C> {
         number: Option<u64>,
     ) -> CommandReply<S, C>
         ensures gives { (result, self.new) ≡ global_gives self.old (named handles.now number) }
-        ensures keeps { Keeps ⟦<S as Subscriber>⟧ ⟦<C as Callsite>⟧ self.old self.new }
+        ensures keeps { PreservesCaches ⟦<S as Subscriber>⟧ ⟦<C as Callsite>⟧ self.old self.new }
     {
         match find_named(handles, number) {
             None => CommandReply::Refused(CommandError::UnknownHandle),
@@ -73,7 +73,7 @@ impl<S: Subscriber, C: Callsite> Hub<S, C> {
         number: Option<u64>,
     ) -> CommandReply<S, C>
         ensures gives { SetDefaultRuns self.old guards.old.items lane (named handles.now number) result self.new guards.new.items }
-        ensures keeps { Keeps ⟦<S as Subscriber>⟧ ⟦<C as Callsite>⟧ self.old self.new }
+        ensures keeps { PreservesCaches ⟦<S as Subscriber>⟧ ⟦<C as Callsite>⟧ self.old self.new }
     {
         if !self.is_running(lane) {
             return CommandReply::Refused(CommandError::SetDefault(SetDefaultError::UnknownLane));
@@ -101,7 +101,7 @@ impl<S: Subscriber, C: Callsite> Hub<S, C> {
         number: u64,
     ) -> CommandReply<S, C>
         ensures gives { ((result, self.new), guards.new) ≡ reset_runs self.old guards.old lane number }
-        ensures keeps { KeepsLiving ⟦<S as Subscriber>⟧ ⟦<C as Callsite>⟧ self.old self.new }
+        ensures keeps { PreservesLivingCaches ⟦<S as Subscriber>⟧ ⟦<C as Callsite>⟧ self.old self.new }
     {
         if self.was_given(lane) {
             self.spend_guard(guards, lane, number)
@@ -119,7 +119,7 @@ impl<S: Subscriber, C: Callsite> Hub<S, C> {
         number: u64,
     ) -> CommandReply<S, C>
         ensures gives { ((result, self.new), guards.new) ≡ reset_runs_by self.old guards.old lane number (item_of guards.old number) }
-        ensures keeps { KeepsLiving ⟦<S as Subscriber>⟧ ⟦<C as Callsite>⟧ self.old self.new }
+        ensures keeps { PreservesLivingCaches ⟦<S as Subscriber>⟧ ⟦<C as Callsite>⟧ self.old self.new }
     {
         let Some(guard) = spend(guards, number) else {
             return CommandReply::Refused(CommandError::WrongLane);

@@ -1,6 +1,6 @@
 //! Commands on handles.
 ghost use Rattle.std.specs.Prelude.{◌≡◌};
-ghost use Rattle.tracing_core_hub.specs.Keeping.{Keeps, KeepsLiving};
+ghost use Rattle.tracing_core_hub.specs.Keeping.{PreservesCaches, PreservesLivingCaches};
 ghost use Rattle.tracing_core_hub.specs.Running.{AddRuns, CloneRuns, DowngradeRuns, UpgradeRuns, release_gives, upgrade_refused};
 
 use crate::dispatch::Dispatch;
@@ -28,7 +28,7 @@ impl<S: Subscriber, C: Callsite> Hub<S, C> {
         subscriber: S,
     ) -> CommandReply<S, C>
         ensures gives { AddRuns ⟦<S as Subscriber>⟧ ⟦<C as Callsite>⟧ self.old handles.old.items subscriber result self.new handles.new.items }
-        ensures keeps { Keeps ⟦<S as Subscriber>⟧ ⟦<C as Callsite>⟧ self.old self.new }
+        ensures keeps { PreservesCaches ⟦<S as Subscriber>⟧ ⟦<C as Callsite>⟧ self.old self.new }
     {
         if self.numbers_are_spent() {
             return CommandReply::Refused(CommandError::Add(AddError::NumbersSpent(subscriber)));
@@ -49,7 +49,7 @@ impl<S: Subscriber, C: Callsite> Hub<S, C> {
         number: u64,
     ) -> CommandReply<S, C>
         ensures gives { CloneRuns self.old handles.old.items number result self.new handles.new.items }
-        ensures keeps { Keeps ⟦<S as Subscriber>⟧ ⟦<C as Callsite>⟧ self.old self.new }
+        ensures keeps { PreservesCaches ⟦<S as Subscriber>⟧ ⟦<C as Callsite>⟧ self.old self.new }
     {
         let Some(dispatch) = find_handle(handles, number) else {
             return CommandReply::Refused(CommandError::UnknownHandle);
@@ -91,7 +91,7 @@ impl<S: Subscriber, C: Callsite> Hub<S, C> {
         number: u64,
     ) -> CommandReply<S, C>
         ensures gives { UpgradeRuns self.old weak.now handles.old.items number result self.new handles.new.items }
-        ensures keeps { Keeps ⟦<S as Subscriber>⟧ ⟦<C as Callsite>⟧ self.old self.new }
+        ensures keeps { PreservesCaches ⟦<S as Subscriber>⟧ ⟦<C as Callsite>⟧ self.old self.new }
     {
         let Some(dispatch) = weak.get(number as usize) else {
             return CommandReply::Refused(CommandError::UnknownWeakHandle);
@@ -116,7 +116,7 @@ impl<S: Subscriber, C: Callsite> Hub<S, C> {
         number: u64,
     ) -> CommandReply<S, C>
         ensures gives { ((result, self.new), handles.new) ≡ release_gives self.old handles.old number }
-        ensures keeps { KeepsLiving ⟦<S as Subscriber>⟧ ⟦<C as Callsite>⟧ self.old self.new }
+        ensures keeps { PreservesLivingCaches ⟦<S as Subscriber>⟧ ⟦<C as Callsite>⟧ self.old self.new }
     {
         match spend(handles, number) {
             None => CommandReply::Refused(CommandError::UnknownHandle),

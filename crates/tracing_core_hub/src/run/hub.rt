@@ -1,6 +1,6 @@
 //! Carrying out commands.
 ghost use Rattle.std.specs.Prelude.{◌≡◌, IfErr, IfOk, OnErr};
-ghost use Rattle.tracing_core_hub.specs.Keeping.{Keeps, KeepsLiving};
+ghost use Rattle.tracing_core_hub.specs.Keeping.{PreservesCaches, PreservesLivingCaches};
 ghost use Rattle.tracing_core_requests.specs.Lists.{Every};
 ghost use Rattle.tracing_core_hub.specs.Running.{CommandGives, CommandKeeps, CommandsGive, GateRuns, GivesNothingUp, RegisterRuns};
 
@@ -13,7 +13,7 @@ use tracing_core_requests::{At, Callsite, Subscriber, serial_of};
 impl<S: Subscriber, C: Callsite> Hub<S, C> {
     fn run_register(&mut self, callsite: C) -> CommandReply<S, C>
         ensures gives { RegisterRuns ⟦<S as Subscriber>⟧ ⟦<C as Callsite>⟧ self.old callsite result self.new }
-        ensures keeps { Keeps ⟦<S as Subscriber>⟧ ⟦<C as Callsite>⟧ self.old self.new }
+        ensures keeps { PreservesCaches ⟦<S as Subscriber>⟧ ⟦<C as Callsite>⟧ self.old self.new }
     {
         match self.register(callsite) {
             Ok(interest) => CommandReply::Registered(interest),
@@ -23,7 +23,7 @@ impl<S: Subscriber, C: Callsite> Hub<S, C> {
 
     fn run_gate(&mut self, identifier: Identifier, at: At) -> CommandReply<S, C>
         ensures gives { GateRuns ⟦<S as Subscriber>⟧ ⟦<C as Callsite>⟧ self.old identifier.0 at result self.new }
-        ensures keeps { Keeps ⟦<S as Subscriber>⟧ ⟦<C as Callsite>⟧ self.old self.new }
+        ensures keeps { PreservesCaches ⟦<S as Subscriber>⟧ ⟦<C as Callsite>⟧ self.old self.new }
     {
         CommandReply::Wanted(self.gate(identifier, at))
     }
@@ -36,8 +36,8 @@ impl<S: Subscriber, C: Callsite> Hub<S, C> {
         ensures keeps { CommandKeeps ⟦<S as Subscriber>⟧ ⟦<C as Callsite>⟧ command self.old self.new }
     {
         match command {
-            Command::Thread => self.run_thread(),
-            Command::EndThread(lane) => self.run_end_thread(lane),
+            Command::Thread => self.run_lane(),
+            Command::EndThread(lane) => self.run_end_lane(lane),
             Command::Add(subscriber) => self.run_add(&mut book.handles, subscriber),
             Command::Register(callsite) => self.run_register(callsite),
             Command::RebuildInterestCache => {
@@ -80,9 +80,9 @@ impl<S: Subscriber, C: Callsite> Hub<S, C> {
         ensures back { IfErr result (λ room. room.0.items ≡ commands.items) }
         ensures hub { OnErr result (self.new ≡ self.old) }
         ensures book { OnErr result (book.new ≡ book.old) }
-        ensures keeps { KeepsLiving ⟦<S as Subscriber>⟧ ⟦<C as Callsite>⟧ self.old self.new }
+        ensures keeps { PreservesLivingCaches ⟦<S as Subscriber>⟧ ⟦<C as Callsite>⟧ self.old self.new }
         // Where nothing is given up, what is kept stays right of everyone.
-        ensures all { Every GivesNothingUp commands.items → Keeps ⟦<S as Subscriber>⟧ ⟦<C as Callsite>⟧ self.old self.new }
+        ensures all { Every GivesNothingUp commands.items → PreservesCaches ⟦<S as Subscriber>⟧ ⟦<C as Callsite>⟧ self.old self.new }
     {
         let Ok(mut replies) = Vec::with_capacity(*commands.allocator(), commands.len()) else {
             return Err(NoRoom(commands));

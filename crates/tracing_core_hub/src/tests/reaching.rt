@@ -33,17 +33,17 @@ fn the_table_is_a_copy(rt: HostRuntime) -> Result<(), Fail> {
             .get(0)
             .is_some_and(|count| count.serial == 0 && count.handles == 2)
     );
-    assert!(rt; matches!(copy.global, Setting::Unset));
+    assert!(rt; matches!(copy.global, LaneDefault::Unset));
     assert!(rt;
         matches!(
             copy.lanes.get(lane as usize),
-            Some(Lane::Running(Setting::To(0)))
+            Some(Lane::Running(LaneDefault::To(0)))
         )
     );
     assert!(rt;
         matches!(
             copy.lanes.get(other as usize),
-            Some(Lane::Running(Setting::Unset))
+            Some(Lane::Running(LaneDefault::Unset))
         )
     );
     assert!(rt;

@@ -7,7 +7,7 @@ use std::test::Fail;
 use tracing_core_fields::{Identifier, Level, LevelFilter};
 use tracing_core_requests::{At, Interest};
 
-type Told = CommandReply<Everything, Place>;
+type AnyReply = CommandReply<Everything, Place>;
 
 fn moment(lane: u64) -> At {
     At {
@@ -43,34 +43,38 @@ fn commands_set_up_a_hub(rt: HostRuntime) -> Result<(), Fail> {
         .ok()
         .ok_or("memory")?;
     assert_eq!(rt; replies.len(), 12);
-    assert!(rt; matches!(replies.get(0), Some(Told::Lane(0))));
-    assert!(rt; matches!(replies.get(1), Some(Told::Registered(interest)) if interest.is_never()));
-    assert!(rt; matches!(replies.get(2), Some(Told::Handle(0))));
-    assert!(rt; matches!(replies.get(3), Some(Told::Registered(interest)) if interest.is_always()));
+    assert!(rt; matches!(replies.get(0), Some(AnyReply::Lane(0))));
+    assert!(rt;
+        matches!(replies.get(1), Some(AnyReply::Registered(interest)) if interest.is_never())
+    );
+    assert!(rt; matches!(replies.get(2), Some(AnyReply::Handle(0))));
+    assert!(rt;
+        matches!(replies.get(3), Some(AnyReply::Registered(interest)) if interest.is_always())
+    );
     assert!(rt;
         matches!(
             replies.get(4),
-            Some(Told::Refused(CommandError::Register(RegisterError::Taken(_))))
+            Some(AnyReply::Refused(CommandError::Register(RegisterError::Taken(_))))
         )
     );
-    assert!(rt; matches!(replies.get(5), Some(Told::Guard(0))));
+    assert!(rt; matches!(replies.get(5), Some(AnyReply::Guard(0))));
     assert!(rt;
         matches!(
             replies.get(6),
-            Some(Told::Refused(CommandError::UnknownHandle))
+            Some(AnyReply::Refused(CommandError::UnknownHandle))
         )
     );
     assert!(rt;
         matches!(
             replies.get(7),
-            Some(Told::Refused(CommandError::SetDefault(SetDefaultError::UnknownLane)))
+            Some(AnyReply::Refused(CommandError::SetDefault(SetDefaultError::UnknownLane)))
         )
     );
-    assert!(rt; matches!(replies.get(8), Some(Told::Reached(Some(0)))));
-    assert!(rt; matches!(replies.get(9), Some(Told::Wanted(Some(true)))));
-    assert!(rt; matches!(replies.get(10), Some(Told::Wanted(Some(false)))));
+    assert!(rt; matches!(replies.get(8), Some(AnyReply::Reached(Some(0)))));
+    assert!(rt; matches!(replies.get(9), Some(AnyReply::Wanted(Some(true)))));
+    assert!(rt; matches!(replies.get(10), Some(AnyReply::Wanted(Some(false)))));
     assert!(rt;
-        matches!(replies.get(11), Some(Told::Level(level)) if *level == LevelFilter::TRACE)
+        matches!(replies.get(11), Some(AnyReply::Level(level)) if *level == LevelFilter::TRACE)
     );
     assert!(rt; book.handle(0).is_some());
     assert!(rt; book.handle(1).is_none());
@@ -104,38 +108,38 @@ fn commands_give_up_what_they_made(rt: HostRuntime) -> Result<(), Fail> {
         .run(&mut book, giving_up(rt.alloc())?)
         .ok()
         .ok_or("memory")?;
-    assert!(rt; matches!(replies.get(2), Some(Told::Handle(1))));
-    assert!(rt; matches!(replies.get(3), Some(Told::Weak(0))));
-    assert!(rt; matches!(replies.get(4), Some(Told::Released(None))));
+    assert!(rt; matches!(replies.get(2), Some(AnyReply::Handle(1))));
+    assert!(rt; matches!(replies.get(3), Some(AnyReply::Weak(0))));
+    assert!(rt; matches!(replies.get(4), Some(AnyReply::Released(None))));
     assert!(rt;
         matches!(
             replies.get(5),
-            Some(Told::Refused(CommandError::UnknownHandle))
+            Some(AnyReply::Refused(CommandError::UnknownHandle))
         )
     );
-    assert!(rt; matches!(replies.get(6), Some(Told::Guard(0))));
-    assert!(rt; matches!(replies.get(7), Some(Told::Released(None))));
-    assert!(rt; matches!(replies.get(8), Some(Told::Handle(2))));
-    assert!(rt; matches!(replies.get(9), Some(Told::Released(None))));
+    assert!(rt; matches!(replies.get(6), Some(AnyReply::Guard(0))));
+    assert!(rt; matches!(replies.get(7), Some(AnyReply::Released(None))));
+    assert!(rt; matches!(replies.get(8), Some(AnyReply::Handle(2))));
+    assert!(rt; matches!(replies.get(9), Some(AnyReply::Released(None))));
     assert!(rt;
         matches!(
             replies.get(10),
-            Some(Told::Refused(CommandError::UnknownLane))
+            Some(AnyReply::Refused(CommandError::UnknownLane))
         )
     );
     assert!(rt;
         matches!(
             replies.get(11),
-            Some(Told::Released(Some(subscriber))) if subscriber.name() == 1
+            Some(AnyReply::Released(Some(subscriber))) if subscriber.name() == 1
         )
     );
     assert!(rt;
         matches!(
             replies.get(12),
-            Some(Told::Refused(CommandError::WrongLane))
+            Some(AnyReply::Refused(CommandError::WrongLane))
         )
     );
-    assert!(rt; matches!(replies.get(13), Some(Told::Gone)));
+    assert!(rt; matches!(replies.get(13), Some(AnyReply::Gone)));
     Ok(())
 }
 
@@ -162,24 +166,26 @@ fn commands_tell_what_is_kept(rt: HostRuntime) -> Result<(), Fail> {
         .run(&mut book, the_rest(rt.alloc())?)
         .ok()
         .ok_or("memory")?;
-    assert!(rt; matches!(replies.get(0), Some(Told::Set(false))));
-    assert!(rt; matches!(replies.get(1), Some(Told::Done)));
+    assert!(rt; matches!(replies.get(0), Some(AnyReply::Set(false))));
+    assert!(rt; matches!(replies.get(1), Some(AnyReply::Done)));
     assert!(rt;
         matches!(
             replies.get(2),
-            Some(Told::Refused(CommandError::SetGlobalDefault(SetGlobalDefaultError::AlreadySet)))
+            Some(AnyReply::Refused(CommandError::SetGlobalDefault(
+                SetGlobalDefaultError::AlreadySet
+            )))
         )
     );
-    assert!(rt; matches!(replies.get(3), Some(Told::Set(true))));
-    assert!(rt; matches!(replies.get(4), Some(Told::Done)));
-    assert!(rt; matches!(replies.get(5), Some(Told::Done)));
-    assert!(rt; matches!(replies.get(6), Some(Told::Kept(None))));
-    assert!(rt; matches!(replies.get(7), Some(Told::Lane(0))));
-    assert!(rt; matches!(replies.get(8), Some(Told::Released(None))));
+    assert!(rt; matches!(replies.get(3), Some(AnyReply::Set(true))));
+    assert!(rt; matches!(replies.get(4), Some(AnyReply::Done)));
+    assert!(rt; matches!(replies.get(5), Some(AnyReply::Done)));
+    assert!(rt; matches!(replies.get(6), Some(AnyReply::Kept(None))));
+    assert!(rt; matches!(replies.get(7), Some(AnyReply::Lane(0))));
+    assert!(rt; matches!(replies.get(8), Some(AnyReply::Released(None))));
     assert!(rt;
         matches!(
             replies.get(9),
-            Some(Told::Refused(CommandError::UnknownLane))
+            Some(AnyReply::Refused(CommandError::UnknownLane))
         )
     );
     Ok(())

@@ -13,7 +13,7 @@ returns-then-has_room g c =
     let attached = c.number.ensures.numbers fits in
     let filters : c.number.result.inner.filters ≡ x + count = ap (λ (r : RegistryValue). r.filters) attached.0 in (
       fits,
-      c.number.ensures.told,
+      c.number.ensures.notified,
       attached.0,
       attached.1,
       (subst (AreNumbers c.number.result.inner.filters) (sym attached.1) (subst (λ (n : ℕ). AreNumbers n (numbers_from x count)) (sym filters) (numbers_apart (x + count) x count (omega arith))), subst (λ (n : ℕ). n ≤ 64) (sym filters) fits),

@@ -6,6 +6,6 @@ pub returns-clause-file : goal.returns-clause-file
 unfolding computing
 returns-clause-file c = refl
 
-pub returns-clause-left : goal.returns-clause-left
+pub returns-clause-state : goal.returns-clause-state
 unfolding computing
-returns-clause-left c = refl
+returns-clause-state c = refl

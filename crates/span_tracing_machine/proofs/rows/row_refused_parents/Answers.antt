@@ -10,9 +10,9 @@ pub returns-clause-refused : goal.returns-clause-refused
 unfolding computing
 returns-clause-refused c = refl
 
-pub returns-clause-left : goal.returns-clause-left
+pub returns-clause-state : goal.returns-clause-state
 unfolding computing
-returns-clause-left c = refl
+returns-clause-state c = refl
 
 pub returns-clause-closed : goal.returns-clause-closed
 unfolding computing

@@ -6,6 +6,6 @@ pub returns-clause-replies : goal.returns-clause-replies
 unfolding computing
 returns-clause-replies c = refl
 
-pub returns-clause-left : goal.returns-clause-left
+pub returns-clause-state : goal.returns-clause-state
 unfolding computing
-returns-clause-left c = (refl, refl, refl)
+returns-clause-state c = (refl, refl, refl)

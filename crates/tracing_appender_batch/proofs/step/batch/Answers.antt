@@ -59,7 +59,7 @@ loop-taken-preserved g c =
         subst (λ w. SoFar contents names c.args.moment c.args.appender.now c.write_line-fate.new.appender c.if-is_missed.missed w (done ++ slice ∷ [])) (sym c.is_whole-whole.ensures)
             (turn contents names c.args.moment c.args.appender.now c.loop-taken.appender c.write_line-fate.new.appender c.loop-taken.missed c.if-is_missed.missed c.loop-taken.whole done slice fate so
             missed
-            c.write_line-fate.ensures.agrees handed c.write_line-fate.ensures.left),
+            c.write_line-fate.ensures.agrees handed c.write_line-fate.ensures.state),
       );
     }
 
@@ -90,12 +90,12 @@ returns-clause-handed g c = λ h holds.
     let all = all_done (lines_in c.args.k c.args.queue.now) done (lines_in n q) lines none in
     handed_ends g.D.Folder.contents (builder_names c.args.appender.now.builder) c.args.moment h done (lines_in c.args.k c.args.queue.now) c.loop-taken.missed c.loop-taken.whole c.loop-taken.appender c.flush_if.new.appender all (so.handed h holds) c.flush_if.ensures.flushed
 
-pub returns-clause-left : goal.returns-clause-left
-returns-clause-left g c = λ missed d p is start.
+pub returns-clause-state : goal.returns-clause-state
+returns-clause-state g c = λ missed d p is start.
     let (done, lines, count, so) = c.loop-taken.invariant.so_far in
     let n = c.args.k - c.loop-taken.taken in
     let q = c.loop-taken.queue in
     let none : lines_in n q ≡ [] = elim c.loop-taken-test.branch [ else-loop-taken-test w ↦ ended n q (omega (arith, w.loop-taken-test.false)) | then-loop-taken-test+in_default w ↦ lines_none n q w.in_default.ensures.0 ] in
     let all = all_done (lines_in c.args.k c.args.queue.now) done (lines_in n q) lines none in
     subst (λ (xs : List (List ℕ)). LinesLeft g.D.Folder.contents p xs c.args.moment d c.args.appender.now c.flush_if.new.appender) (sym all)
-    (left_ends g.D.Folder.contents (builder_names c.args.appender.now.builder) c.args.moment c.args.appender.now c.loop-taken.appender c.flush_if.new.appender done d p start (so.left missed d p is start) c.flush_if.ensures.left c.flush_if.ensures.faults c.flush_if.ensures.current c.flush_if.ensures.opens)
+    (left_ends g.D.Folder.contents (builder_names c.args.appender.now.builder) c.args.moment c.args.appender.now c.loop-taken.appender c.flush_if.new.appender done d p start (so.left missed d p is start) c.flush_if.ensures.state c.flush_if.ensures.faults c.flush_if.ensures.current c.flush_if.ensures.opens)

@@ -21,6 +21,6 @@ returns-in-Err-OutOfMemory-clause-handed g c = λ h holds.
     hands_one g.D.Folder.contents (builder_names c.args.appender.now.builder) c.args.moment h c.args.line.now Missed c.write_all_at.new.self
     (subst (λ (e : FolderError). HandsLine g.D.Folder.contents (builder_names c.args.appender.now.builder) c.args.moment h c.args.line.now (Err e) c.write_all_at.new.self) c.in-Err-OutOfMemory.field-0-is (c.in-Err-OutOfMemory.ensures.handed h holds))
 
-pub returns-in-Err-Fault-clause-left : goal.returns-in-Err-Fault-clause-left
-returns-in-Err-Fault-clause-left g c = λ fed d p is left.
+pub returns-in-Err-Fault-clause-state : goal.returns-in-Err-Fault-clause-state
+returns-in-Err-Fault-clause-state g c = λ fed d p is left.
     let no : Fault c.in-Err-Fault.fault ≡ OutOfMemory = sym c.in-Err-Fault.field-0-is ∙ c.in-Err-Fault.ensures.starved p left in cc

@@ -11,7 +11,7 @@ loop-candidate-preserved g c =
     let lt : i < length c.args.all.now = omega arith in
     record {
       removed = removes_next AllocError c.args.limit c.args.all.now i _ c.args.faults c.loop-candidate.faults c.in_ok-faults.faults (g.D.Folder.contents c.args.folder.now) (g.D.Folder.contents c.loop-candidate.folder) (g.D.Folder.contents c.remove_if_doomed.new.folder) lt c.loop-candidate.invariant.removed c.in_ok-faults.ensures.removes;
-      counted = counts_then (g.D.Folder.failed c.args.folder.now) (g.D.Folder.failed c.loop-candidate.folder) (g.D.Folder.failed c.remove_if_doomed.new.folder) c.args.faults c.loop-candidate.faults c.in_ok-faults.faults c.loop-candidate.invariant.counted c.in_ok-faults.ensures.told;
+      counted = counts_then (g.D.Folder.failed c.args.folder.now) (g.D.Folder.failed c.loop-candidate.folder) (g.D.Folder.failed c.remove_if_doomed.new.folder) c.args.faults c.loop-candidate.faults c.in_ok-faults.faults c.loop-candidate.invariant.counted c.in_ok-faults.ensures.error;
     }
 
 pub returns-in_err-faults-clause-removes : goal.returns-in_err-faults-clause-removes

@@ -2,7 +2,7 @@
 ghost use Rattle.std.specs.Prelude.{◌≡◌, IfOk, OnErr};
 ghost use Rattle.tracing_core_hub.specs.Commands.{RegisterGives};
 ghost use Rattle.tracing_core_hub.specs.DefaultCallsites.{site_interest, site_metadata, untold};
-ghost use Rattle.tracing_core_hub.specs.Keeping.{Keeps};
+ghost use Rattle.tracing_core_hub.specs.Keeping.{PreservesCaches};
 
 use crate::callsite::DefaultCallsite;
 use crate::hub::Hub;
@@ -31,7 +31,7 @@ impl<'a> DefaultCallsite<'a> {
         ensures metadata { site_metadata self.new ≡ site_metadata self.old }
         ensures kept { IfOk result (λ interest. site_interest self.new ≡ interest) }
         ensures refused { OnErr result (self.new ≡ self.old) }
-        ensures keeps { Keeps ⟦<S as Subscriber>⟧ ⟦<DefaultCallsite<'a> as Callsite>⟧ hub.old hub.new }
+        ensures keeps { PreservesCaches ⟦<S as Subscriber>⟧ ⟦<DefaultCallsite<'a> as Callsite>⟧ hub.old hub.new }
     {
         let interest = hub.register(self.untold())?;
         self.interest = inner_of(interest);

@@ -12,5 +12,5 @@ returns g c =
     let id = c.in-Some.span in
     let z = left c.on_close.new.context in
     let next : IsNext s.inner id = subst (λ o. MatchOption o (IsSettled s.inner) (λ (n : ℕ). IsNext s.inner n)) c.in-Some.is c.closing.ensures in
-    let heard = subst (λ (v : View). g.L.Layer.told s.layer (Spanned id (Closed id) v z) c.on_close.new.self) c.new.ensures.view c.on_close.ensures.told in
+    let heard = subst (λ (v : View). g.L.Layer.told s.layer (Spanned id (Closed id) v z) c.on_close.new.self) c.new.ensures.view c.on_close.ensures.notified in
     closed_one g.L.Layer c.args.at s id z c.forget-span.result (record s { layer = c.on_close.new.self; inner = c.forget-span.new.self }) next heard c.forget-span.ensures

@@ -8,7 +8,7 @@ loop-layer-init g c = record { done = refl; left = refl; more = adds_none c.args
 pub loop-layer-preserved : goal.loop-layer-preserved
 loop-layer-preserved g c =
     let turn = attached_next g.L.Layer c.args.registry.now c.loop-layer.registry c.on_layer.new.registry c.args.layers.now c.loop-layer.layers c.loop-layer.layer-index c.layer-item.result c.on_layer.new.self
-    (omega arith) (omega arith) c.loop-layer.invariant.done c.loop-layer.invariant.left c.on_layer.ensures.told c.on_layer.ensures.filters in
+    (omega arith) (omega arith) c.loop-layer.invariant.done c.loop-layer.invariant.left c.on_layer.ensures.notified c.on_layer.ensures.filters in
     let numbers = passed_next (Numbered g.L.Layer) c.args.registry.now c.loop-layer.registry c.on_layer.new.registry c.args.layers.now c.loop-layer.layers c.loop-layer.layer-index c.layer-item.result c.on_layer.new.self
     (omega arith) (omega arith) c.loop-layer.invariant.numbers c.loop-layer.invariant.left c.on_layer.ensures.numbers in
     record { done = turn.0; left = turn.1; more = adds_more c.args.registry.now c.loop-layer.registry c.on_layer.new.registry c.loop-layer.invariant.more c.on_layer.ensures.filters; numbers = numbers }

@@ -15,9 +15,9 @@ loop-layer-preserved g c =
     let lent = c.loop-layer.invariant.lent in
     let own = c.on_event.ensures.lent in
     let turn = turn_next (TellsOne g.L.Layer (Happened (plain_event c.args.event.now)) (view c.args.context.now)) (left c.args.context.now) (left c.loop-layer.context) (left c.on_event.new.context) c.args.layers.now c.loop-layer.layers c.loop-layer.layer-index c.layer-item.result c.on_event.new.self
-    (omega arith) (omega arith) c.loop-layer.invariant.done c.loop-layer.invariant.rest (told_on g.L.Layer (Happened (plain_event c.args.event.now)) c.args.context.now c.loop-layer.context _ _ _ lent c.on_event.ensures.told) in
+    (omega arith) (omega arith) c.loop-layer.invariant.done c.loop-layer.invariant.rest (told_on g.L.Layer (Happened (plain_event c.args.event.now)) c.args.context.now c.loop-layer.context _ _ _ lent c.on_event.ensures.notified) in
     record { lent = (own.0 ∙ lent.0, own.1 ∙ lent.1, own.2 ∙ lent.2); done = turn.0; rest = turn.1 }
 
-pub returns-clause-told : goal.returns-clause-told
-returns-clause-told g c =
+pub returns-clause-notified : goal.returns-clause-notified
+returns-clause-notified g c =
     turns_end (TellsOne g.L.Layer (Happened (plain_event c.args.event.now)) (view c.args.context.now)) (left c.args.context.now) (left c.loop-layer.context) c.args.layers.now c.loop-layer.layers c.loop-layer.layer-index (omega arith) (omega arith) c.loop-layer.invariant.done

@@ -2,11 +2,11 @@ use Rattle.span_tracing.proofs.Filters.{stack_ghosts}
 use Rattle.std.proofs.Common.{ap, sym, subst, ℕ, Err, ◌∙◌, ◌++◌, ◌∷◌, []}
 use Rattle.tracing_core.specs.Commands.{RegisterGives, row_of}
 use Rattle.span_tracing_machine.specs.Skeleton.{PlainCallsite}
-use Rattle.span_tracing.specs.contracts.site.SiteCallsite.TheImpl as site
+use Rattle.span_tracing.specs.contracts.hub_callsite.SiteCallsite.TheImpl as site
 use Rattle.span_tracing_machine.specs.Machine.{made_with}
 use Rattle.span_tracing.specs.Masks.{Says}
 use Rattle.span_tracing.specs.Skeletons.{filter_at, plain_callsite, stack_in, value_in}
-use Rattle.span_tracing.specs.declared.site.Site.{Site}
+use Rattle.span_tracing.specs.declared.hub_callsite.HubCallsite.{HubCallsite}
 use Rattle.span_tracing.proofs.Asked.{callsite_more, never_known, out_of_memory, registered_same, sound_more, taken_new, unchanged_sound, unchanged_value}
 use Rattle.span_tracing.proofs.Gates.{no_row, stack_says}
 use Rattle.span_tracing.proofs.parts.TraceParts.add_callsite.Goals as goal
@@ -41,7 +41,7 @@ returns-in-Ok-clause-ok g c =
 pub unreachable-requires : goal.unreachable-requires
 unreachable-requires g c =
     let p = c.args.self.now in
-    let shown : Site = record { callsite = c.in_ok-copy.copy; interest = c.never.result } in
+    let shown : HubCallsite = record { callsite = c.in_ok-copy.copy; interest = c.never.result } in
     let unknown = ap (λ (n : ℕ). row_of n p.hub.rows) (ap (λ (s : PlainCallsite). s.number) c.in_ok-copy.ensures) ∙ no_row g.F.Filter p c.args.number c.requires.sound c.requires.unknown in
     never_known (stack_ghosts g.F.Filter) p.hub c.register.new.self shown c.in-Err-Taken.field-0-0 unknown
     (subst (λ e. RegisterGives (stack_ghosts g.F.Filter) site.ghosts p.hub shown (Err e) c.register.new.self) c.in-Err-Taken.field-0-is c.in-Err-Taken.ensures.gives)
@@ -49,7 +49,7 @@ unreachable-requires g c =
 pub returns-in-Err-OutOfMemory-clause-sound : goal.returns-in-Err-OutOfMemory-clause-sound
 returns-in-Err-OutOfMemory-clause-sound g c =
     let p = c.args.self.now in
-    let shown : Site = record { callsite = c.in_ok-copy.copy; interest = c.never.result } in
+    let shown : HubCallsite = record { callsite = c.in_ok-copy.copy; interest = c.never.result } in
     let unknown = ap (λ (n : ℕ). row_of n p.hub.rows) (ap (λ (s : PlainCallsite). s.number) c.in_ok-copy.ensures) ∙ no_row g.F.Filter p c.args.number c.requires.sound c.requires.unknown in
     let same = out_of_memory (stack_ghosts g.F.Filter) p.hub c.register.new.self shown c.in-Err-OutOfMemory.field-0-0 unknown
     (subst (λ e. RegisterGives (stack_ghosts g.F.Filter) site.ghosts p.hub shown (Err e) c.register.new.self) c.in-Err-OutOfMemory.field-0-is c.in-Err-OutOfMemory.ensures.gives) in
@@ -58,7 +58,7 @@ returns-in-Err-OutOfMemory-clause-sound g c =
 pub returns-in-Err-OutOfMemory-clause-err : goal.returns-in-Err-OutOfMemory-clause-err
 returns-in-Err-OutOfMemory-clause-err g c =
     let p = c.args.self.now in
-    let shown : Site = record { callsite = c.in_ok-copy.copy; interest = c.never.result } in
+    let shown : HubCallsite = record { callsite = c.in_ok-copy.copy; interest = c.never.result } in
     let unknown = ap (λ (n : ℕ). row_of n p.hub.rows) (ap (λ (s : PlainCallsite). s.number) c.in_ok-copy.ensures) ∙ no_row g.F.Filter p c.args.number c.requires.sound c.requires.unknown in
     let same = out_of_memory (stack_ghosts g.F.Filter) p.hub c.register.new.self shown c.in-Err-OutOfMemory.field-0-0 unknown
     (subst (λ e. RegisterGives (stack_ghosts g.F.Filter) site.ghosts p.hub shown (Err e) c.register.new.self) c.in-Err-OutOfMemory.field-0-is c.in-Err-OutOfMemory.ensures.gives) in

@@ -1,7 +1,7 @@
 use Rattle.std.proofs.Common.{arith, ap, length, ◌∙◌, ◌++◌, ◌∷◌, []}
 use Rattle.std.proofs.lemmas.List.{length-replicate}
 use Rattle.tracing_core.specs.Lane.TheVariants.{Running}
-use Rattle.tracing_core.specs.Setting.TheVariants.{Unset}
+use Rattle.tracing_core.specs.LaneDefault.TheVariants.{Unset}
 use Rattle.span_tracing.specs.declared.parts.Thread.{Thread}
 use Rattle.span_tracing.proofs.Asked.{lane_more}
 use Rattle.span_tracing.proofs.Lists.{length_map}

@@ -6,7 +6,7 @@ use Rattle.span_tracing_machine.specs.Machine.{made_with}
 use Rattle.span_tracing_machine.specs.State.{callsite_named}
 use Rattle.span_tracing_stack.specs.Answers.{view_in}
 use Rattle.span_tracing_stack.specs.Stacks.{StackValue}
-use Rattle.span_tracing.specs.declared.site.Site.{Site}
+use Rattle.span_tracing.specs.declared.hub_callsite.HubCallsite.{HubCallsite}
 use Rattle.span_tracing.specs.Masks.{AskedOf, WouldPass, place_at}
 use Rattle.span_tracing.specs.Skeletons.{filter_at, plain_callsite, registry_in, stack_in}
 use Rattle.span_tracing.specs.Stored.{mask_by}
@@ -26,5 +26,5 @@ pub returns-clause-kept : goal.returns-clause-kept
 returns-clause-kept g c =
     let p = c.args.self.now in
     let set : was_set p.hub.global ≡ true = sym c.has_been_set.ensures ∙ c.if-not-has_been_set.false in
-    ap (λ (t : Table (StackValue g.row.F.Denot) Site). record p { hub = t })
+    ap (λ (t : Table (StackValue g.row.F.Denot) HubCallsite). record p { hub = t })
     (gate_tells g.F.Filter p c.gate.new.self c.args.number c.at_of.result c.gate.result c.requires.sound (subst (λ (at : At). at.lane < length p.threads.items) (sym c.at_of.ensures) c.requires.lane) set c.gate.ensures.answer).0

@@ -62,7 +62,7 @@ returns-clause-asked g c =
     let asked = subst (λ (a : Option Bool). AskedOf v.skeleton.is_global (callsite_named v.skeleton.callsites e.callsite) (λ s b. WouldPass g.F.Filter v.filter (made_with s) (view_in v.skeleton.registry (place_at e.lane e.moment)) b) (mask_by a))
     (let_through c.ask-answer.result (sym c.unwrap_or.ensures ∙ c.if-not-unwrap_or.false)) c.ask-answer.ensures.asked in
     let tell = rw (c.ask-answer.ensures.kept) at c.tell.ensures in
-    let went = event_went g.F.Filter contents v e c.in-Some.place tell.told (told_in (stack_in c.tell.new.self)) c.write_told-done.result c.args.sink.now c.write_told-done.new.sink known asked tell.passes tell.left c.write_told-done.ensures.told c.write_told-done.ensures.dropped in
+    let went = event_went g.F.Filter contents v e c.in-Some.place tell.told (told_in (stack_in c.tell.new.self)) c.write_told-done.result c.args.sink.now c.write_told-done.new.sink known asked tell.passes tell.left c.write_told-done.ensures.notified c.write_told-done.ensures.dropped in
     went.asked
 
 pub returns-clause-acted : goal.returns-clause-acted
@@ -75,7 +75,7 @@ returns-clause-acted g c =
     let asked = subst (λ (a : Option Bool). AskedOf v.skeleton.is_global (callsite_named v.skeleton.callsites e.callsite) (λ s b. WouldPass g.F.Filter v.filter (made_with s) (view_in v.skeleton.registry (place_at e.lane e.moment)) b) (mask_by a))
     (let_through c.ask-answer.result (sym c.unwrap_or.ensures ∙ c.if-not-unwrap_or.false)) c.ask-answer.ensures.asked in
     let tell = rw (c.ask-answer.ensures.kept) at c.tell.ensures in
-    let went = event_went g.F.Filter contents v e c.in-Some.place tell.told (told_in (stack_in c.tell.new.self)) c.write_told-done.result c.args.sink.now c.write_told-done.new.sink known asked tell.passes tell.left c.write_told-done.ensures.told c.write_told-done.ensures.dropped in
+    let went = event_went g.F.Filter contents v e c.in-Some.place tell.told (told_in (stack_in c.tell.new.self)) c.write_told-done.result c.args.sink.now c.write_told-done.new.sink known asked tell.passes tell.left c.write_told-done.ensures.notified c.write_told-done.ensures.dropped in
     let fate = c.write_told-done.result.fate in
     let left = c.count.ensures.counted ∙ ap (λ (w : StateValue g.row.F.Denot). record w { starved = count_by w.starved fate }) tell.kept in
     subst (λ (w : StateValue g.row.F.Denot). Acted g.F.Filter v w (EventStep e) (mask_by c.write_told-done.result.answer) fate) (sym left) went.acted
@@ -90,5 +90,5 @@ returns-clause-takes g c =
     let asked = subst (λ (a : Option Bool). AskedOf v.skeleton.is_global (callsite_named v.skeleton.callsites e.callsite) (λ s b. WouldPass g.F.Filter v.filter (made_with s) (view_in v.skeleton.registry (place_at e.lane e.moment)) b) (mask_by a))
     (let_through c.ask-answer.result (sym c.unwrap_or.ensures ∙ c.if-not-unwrap_or.false)) c.ask-answer.ensures.asked in
     let tell = rw (c.ask-answer.ensures.kept) at c.tell.ensures in
-    let went = event_went g.F.Filter contents v e c.in-Some.place tell.told (told_in (stack_in c.tell.new.self)) c.write_told-done.result c.args.sink.now c.write_told-done.new.sink known asked tell.passes tell.left c.write_told-done.ensures.told c.write_told-done.ensures.dropped in
+    let went = event_went g.F.Filter contents v e c.in-Some.place tell.told (told_in (stack_in c.tell.new.self)) c.write_told-done.result c.args.sink.now c.write_told-done.new.sink known asked tell.passes tell.left c.write_told-done.ensures.notified c.write_told-done.ensures.dropped in
     went.takes

@@ -15,8 +15,8 @@ returns-clause-answer g c =
     let texts = map plain_text inside.state.texts.items in
     rw (← c.self.view_is) (passes_may g.F.Filter ghosts s (plain_metadata c.args.metadata.now) c.args.at c.enabled.result c.self.invariant.word c.self.invariant.numbers c.enabled.ensures.exact)
 
-pub returns-clause-left : goal.returns-clause-left
-returns-clause-left g c =
+pub returns-clause-state : goal.returns-clause-state
+returns-clause-state g c =
     let inside = c.self.inside in
     let s = inside.state.outputs in
     let texts = map plain_text inside.state.texts.items in

@@ -14,16 +14,16 @@ returns-clause-answer g c =
     let texts = map plain_text inside.state.texts.items in
     rw (← c.self.view_is) (c.max_level_hint.ensures.answer ∙ hint_one g.F.Filter ghosts s c.self.invariant.numbers)
 
-pub returns-clause-left : goal.returns-clause-left
-returns-clause-left g c =
+pub returns-clause-state : goal.returns-clause-state
+returns-clause-state g c =
     let inside = c.self.inside in
     let s = inside.state.outputs in
     let texts = map plain_text inside.state.texts.items in
-    rw (← c.self.view_is) (hinted g.F.Filter ghosts idle inside.state.setting texts (plain_told inside.told (string_bytes inside.line)) s c.max_level_hint.new.self c.max_level_hint.result c.self.invariant.numbers c.max_level_hint.ensures.left)
+    rw (← c.self.view_is) (hinted g.F.Filter ghosts idle inside.state.setting texts (plain_told inside.told (string_bytes inside.line)) s c.max_level_hint.new.self c.max_level_hint.result c.self.invariant.numbers c.max_level_hint.ensures.state)
 
 pub invariant_of-self : goal.invariant_of-self
 invariant_of-self g c =
     let inside = c.self.inside in
     let s = inside.state.outputs in
     let texts = map plain_text inside.state.texts.items in
-    hinted_right g.F.Filter ghosts idle s c.max_level_hint.new.self texts c.self.invariant c.max_level_hint.result c.max_level_hint.ensures.left
+    hinted_right g.F.Filter ghosts idle s c.max_level_hint.new.self texts c.self.invariant c.max_level_hint.result c.max_level_hint.ensures.state

@@ -8,7 +8,7 @@ use Rattle.span_tracing_stack.specs.declared.text.SpanText.{SpanText}
 use Rattle.span_tracing_machine.specs.State.{PlainText}
 use Rattle.span_tracing_stack.proofs.Lists.{map_more}
 use Rattle.span_tracing_stack.specs.declared.state.StackState.{StackState}
-use Rattle.span_tracing_stack.specs.Stacks.{PlainTold, Quiet, plain_state, plain_text, plain_told, shown_with, span_text, text_told}
+use Rattle.span_tracing_stack.specs.Stacks.{PlainOutcome, Quiet, plain_state, plain_text, plain_told, shown_with, span_text, text_told}
 use Rattle.span_tracing_stack.proofs.Moving.{moves_to, no_room, span_dropped, span_made, span_refused}
 use Rattle.span_tracing_stack.proofs.Keeping.{dropped_right, made_right, refused_right}
 use Rattle.span_tracing_stack.proofs.subscriber.StackSubscriber.new_span.Goals as goal
@@ -62,7 +62,7 @@ returns g c =
     rw (← c.self.view_is)
     (moves_to g.F.Filter _ _ _ _ _ made.0
     (ap (λ (later : List PlainText). shown_with c.new_span.new.self inside.state.setting later (plain_told c.of_text-self-inside.result (string_bytes inside.line))) is
-    ∙ ap (λ (told : PlainTold). shown_with c.new_span.new.self inside.state.setting more told) (c.of_text-self-inside.ensures (string_bytes inside.line))))
+    ∙ ap (λ (told : PlainOutcome). shown_with c.new_span.new.self inside.state.setting more told) (c.of_text-self-inside.ensures (string_bytes inside.line))))
 
 pub invariant_of-self-2 : goal.invariant_of-self-2
 invariant_of-self-2 g c =

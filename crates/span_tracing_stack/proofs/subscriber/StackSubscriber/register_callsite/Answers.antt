@@ -15,16 +15,16 @@ returns-clause-answer g c =
     let texts = map plain_text inside.state.texts.items in
     rw (← c.self.view_is) (says_one g.F.Filter ghosts s (plain_metadata c.args.metadata.now) c.register_callsite.result c.self.invariant.numbers c.register_callsite.ensures.answer)
 
-pub returns-clause-left : goal.returns-clause-left
-returns-clause-left g c =
+pub returns-clause-state : goal.returns-clause-state
+returns-clause-state g c =
     let inside = c.self.inside in
     let s = inside.state.outputs in
     let texts = map plain_text inside.state.texts.items in
-    rw (← c.self.view_is) (registered g.F.Filter ghosts idle inside.state.setting texts (plain_told inside.told (string_bytes inside.line)) s c.register_callsite.new.self (plain_metadata c.args.metadata.now) c.register_callsite.result c.self.invariant.numbers c.register_callsite.ensures.left)
+    rw (← c.self.view_is) (registered g.F.Filter ghosts idle inside.state.setting texts (plain_told inside.told (string_bytes inside.line)) s c.register_callsite.new.self (plain_metadata c.args.metadata.now) c.register_callsite.result c.self.invariant.numbers c.register_callsite.ensures.state)
 
 pub invariant_of-self : goal.invariant_of-self
 invariant_of-self g c =
     let inside = c.self.inside in
     let s = inside.state.outputs in
     let texts = map plain_text inside.state.texts.items in
-    registered_right g.F.Filter ghosts idle s c.register_callsite.new.self texts c.self.invariant (plain_metadata c.args.metadata.now) c.register_callsite.result c.register_callsite.ensures.left
+    registered_right g.F.Filter ghosts idle s c.register_callsite.new.self texts c.self.invariant (plain_metadata c.args.metadata.now) c.register_callsite.result c.register_callsite.ensures.state

@@ -1,6 +1,6 @@
 use Rattle.std.proofs.Common.{sym, arith, ap, ◌≤◌, length, Some, Ok, List}
 use Rattle.std.proofs.lemmas.List.{length-map, take_all}
-use Rattle.tracing_appender_folders.specs.Contents.{Kept}
+use Rattle.tracing_appender_folders.specs.Contents.{StoredFile}
 use Rattle.tracing_appender_folders.specs.Memory.{memory_contents}
 use Rattle.std.proofs.lemmas.Result.{err_from_is_err_and}
 use Rattle.tracing_appender_folders.proofs.Named.{appended-kept, appended_past, kept-set}
@@ -10,7 +10,7 @@ pub returns-in_err-extend_from_slice-clause-gives : goal.returns-in_err-extend_f
 returns-in_err-extend_from_slice-clause-gives c =
     let p = err_from_is_err_and c.from_residual.result c.from_residual.ensures.1 in
     let before = memory_contents c.args.self.now in
-    rw (p.1, p.2) (ap (λ (fs : List Kept). Some (record before { files = fs }))
+    rw (p.1, p.2) (ap (λ (fs : List StoredFile). Some (record before { files = fs }))
     (kept-set c.args.self.now.files.items c.args.file.index c.index_mut.result.now _ (omega arith) c.index_mut.ensures.value (rw c.in_err-extend_from_slice.ensures.items)))
 
 pub returns-in_ok-extend_from_slice-clause-gives : goal.returns-in_ok-extend_from_slice-clause-gives
@@ -19,7 +19,7 @@ returns-in_ok-extend_from_slice-clause-gives c =
     let whole = take_all (length c.args.bytes.now) c.args.bytes.now le in
     let before = memory_contents c.args.self.now in (
       ap Ok (ap length whole),
-      ap (λ (fs : List Kept). Some (record before { files = fs }))
+      ap (λ (fs : List StoredFile). Some (record before { files = fs }))
           (appended-kept c.args.self.now.files.items c.args.file.index c.index_mut.result.now _ _ (omega arith) c.index_mut.ensures.value (rw (c.in_ok-extend_from_slice.ensures.items, take_all))),
     )
 
@@ -28,4 +28,4 @@ returns-else-file-len-clause-gives c =
     let le : length c.args.bytes.now ≤ length c.args.bytes.now = omega arith in
     let whole = take_all (length c.args.bytes.now) c.args.bytes.now le in
     let before = memory_contents c.args.self.now in
-    (ap Ok (ap length whole), ap (λ (fs : List Kept). Some (record before { files = fs })) (sym (appended_past _ _ _ (rw length-map (omega arith)))))
+    (ap Ok (ap length whole), ap (λ (fs : List StoredFile). Some (record before { files = fs })) (sym (appended_past _ _ _ (rw length-map (omega arith)))))

@@ -8,7 +8,7 @@ returns-clause-agrees g c = λ s k.
     let old = c.args.self.now in
     flush_keeps (g.D.Folder.contents old.folder) (g.D.Folder.contents c.flush.new.self) (builder_names old.builder) old.boundary old.current s c.flush.result c.flush.ensures.fed c.flush.ensures.gives k
 
-pub returns-clause-left : goal.returns-clause-left
-returns-clause-left g c = λ p left.
+pub returns-clause-state : goal.returns-clause-state
+returns-clause-state g c = λ p left.
     let old = c.args.self.now in
     flush_left (g.D.Folder.contents old.folder) (g.D.Folder.contents c.flush.new.self) (builder_names old.builder) old.boundary old.current p c.flush.result c.flush.ensures.fed c.flush.ensures.gives left

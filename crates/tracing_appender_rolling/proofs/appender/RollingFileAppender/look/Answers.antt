@@ -4,7 +4,7 @@ use Rattle.std.specs.declared.alloc.AllocError.{AllocError}
 use Rattle.tracing_appender_rolling.specs.declared.builder.Builder.{Builder}
 use Rattle.tracing_appender_folders.specs.declared.fault.FileNumber.{FileNumber}
 use Rattle.tracing_appender_rolling.specs.Builders.{builder_names}
-use Rattle.tracing_appender_rolling.specs.Appenders.{KeepsKnown}
+use Rattle.tracing_appender_rolling.specs.Appenders.{MatchesKnownSink}
 use Rattle.tracing_appender_rolling.proofs.Keeping.{look_early, look_switches, look_misses, look_counts, still_boundary, still_current, seen}
 use Rattle.tracing_appender_rolling.specs.Remaining.{without, with_line}
 use Rattle.tracing_appender_rolling.proofs.Handover.{LeftIn, look_early_left, look_due_left}
@@ -21,7 +21,7 @@ returns-clause-ok g c = λ s k.
     let old = c.args.self.now in
     let new = c.switch.new.self in
     let names = builder_names old.builder in
-    subst (λ (b : Builder). KeepsKnown (g.D.Folder.contents new.folder) (builder_names b) new.boundary new.current (seen names old.boundary old.current old.faults s c.args.moment c.requires (sym c.is_due.ensures ∙ c.if-not-is_due.false))) (sym c.in_ok-switch.ensures.builder)
+    subst (λ (b : Builder). MatchesKnownSink (g.D.Folder.contents new.folder) (builder_names b) new.boundary new.current (seen names old.boundary old.current old.faults s c.args.moment c.requires (sym c.is_due.ensures ∙ c.if-not-is_due.false))) (sym c.in_ok-switch.ensures.builder)
     (look_switches names old.boundary old.current old.faults s c.args.moment c.requires (sym c.is_due.ensures ∙ c.if-not-is_due.false) AllocError (g.D.Folder.contents old.folder) (g.D.Folder.contents new.folder) tt new.boundary new.current new.faults c.in_ok-switch.ensures.switched k)
 
 pub returns-in_err-switch-clause-err : goal.returns-in_err-switch-clause-err
@@ -31,9 +31,9 @@ returns-in_err-switch-clause-err g c =
     let names = builder_names old.builder in
     let p = err_from_is_err_and c.from_residual.result c.from_residual.ensures.1 in
     rw p.1 (λ s k.
-    subst (λ (b : Builder). KeepsKnown (g.D.Folder.contents new.folder) (builder_names b) new.boundary new.current s) (sym c.in_err-switch.ensures.builder)
-    (subst (λ (x : Option ℤ). KeepsKnown (g.D.Folder.contents new.folder) names x new.current s) (sym (still_boundary new old old.folder c.in_err-switch.ensures.still))
-    (subst (λ (x : FileNumber). KeepsKnown (g.D.Folder.contents new.folder) names old.boundary x s) (sym (still_current new old old.folder c.in_err-switch.ensures.still))
+    subst (λ (b : Builder). MatchesKnownSink (g.D.Folder.contents new.folder) (builder_names b) new.boundary new.current s) (sym c.in_err-switch.ensures.builder)
+    (subst (λ (x : Option ℤ). MatchesKnownSink (g.D.Folder.contents new.folder) names x new.current s) (sym (still_boundary new old old.folder c.in_err-switch.ensures.still))
+    (subst (λ (x : FileNumber). MatchesKnownSink (g.D.Folder.contents new.folder) names old.boundary x s) (sym (still_current new old old.folder c.in_err-switch.ensures.still))
     (look_misses names old.boundary old.current old.faults s c.args.moment c.requires (sym c.is_due.ensures ∙ c.if-not-is_due.false) (g.D.Folder.contents old.folder) (g.D.Folder.contents new.folder) _ new.boundary new.current new.faults c.in_err-switch.ensures.switched k))))
 
 pub returns-clause-unfaulted : goal.returns-clause-unfaulted
@@ -42,14 +42,14 @@ returns-clause-unfaulted g c = λ d s is k.
     let new = c.switch.new.self in
     look_counts (builder_names old.builder) old.boundary old.current old.faults s c.args.moment c.requires (sym c.is_due.ensures ∙ c.if-not-is_due.false) AllocError d (g.D.Folder.contents old.folder) (g.D.Folder.contents new.folder) tt new.boundary new.current new.faults is c.in_ok-switch.ensures.switched k
 
-pub returns-then-not-is_due-clause-left : goal.returns-then-not-is_due-clause-left
-returns-then-not-is_due-clause-left g c = λ d p is left.
+pub returns-then-not-is_due-clause-state : goal.returns-then-not-is_due-clause-state
+returns-then-not-is_due-clause-state g c = λ d p is left.
     let old = c.args.self.now in
     let h = look_early_left (g.D.Folder.contents old.folder) (builder_names old.builder) old.boundary old.current c.args.moment d p c.requires (sym c.is_due.ensures ∙ c.if-not-is_due.true) is left in
     (h.0, h.1, h.2, refl, h.3)
 
-pub returns-clause-left : goal.returns-clause-left
-returns-clause-left g c = λ d p is left.
+pub returns-clause-state : goal.returns-clause-state
+returns-clause-state g c = λ d p is left.
     let old = c.args.self.now in
     let new = c.switch.new.self in
     let names = builder_names old.builder in

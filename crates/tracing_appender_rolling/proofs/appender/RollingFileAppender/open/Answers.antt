@@ -6,8 +6,8 @@ pub returns-in-Ok-clause-opens : goal.returns-in-Ok-clause-opens
 returns-in-Ok-clause-opens g c = λ may.
     begins_keeps (g.D.Folder.contents c.args.folder) (g.D.Folder.contents c.open_first.new.folder) (builder_names c.args.builder) c.args.moment c.in-Ok.opened c.next_date.result c.next_date.ensures c.requires may c.in-Ok.ensures.begins
 
-pub returns-in-Ok-clause-left : goal.returns-in-Ok-clause-left
-returns-in-Ok-clause-left g c = λ d is may.
+pub returns-in-Ok-clause-state : goal.returns-in-Ok-clause-state
+returns-in-Ok-clause-state g c = λ d is may.
     begins_left (g.D.Folder.contents c.args.folder) (g.D.Folder.contents c.open_first.new.folder) (builder_names c.args.builder) c.args.moment c.in-Ok.opened c.next_date.result d is c.next_date.ensures c.requires may c.in-Ok.ensures.begins
 
 pub returns-in-Err-clause-starved : goal.returns-in-Err-clause-starved

@@ -13,8 +13,8 @@ returns-clause-err g c =
     push_err (g.D.Folder.contents c.args.self.now.folder) (g.D.Folder.contents c.write_all-outcome.new.folder) (builder_names c.args.self.now.builder)
     c.args.self.now.boundary c.args.self.now.current c.args.bytes.now c.write_all-outcome.result c.write_all-outcome.ensures.written
 
-pub returns-clause-left : goal.returns-clause-left
-returns-clause-left g c =
+pub returns-clause-state : goal.returns-clause-state
+returns-clause-state g c =
     push_hands (g.D.Folder.contents c.args.self.now.folder) (g.D.Folder.contents c.write_all-outcome.new.folder) (builder_names c.args.self.now.builder)
     c.args.self.now.boundary c.args.self.now.current c.args.bytes.now c.write_all-outcome.result c.write_all-outcome.ensures.written
 

@@ -13,9 +13,9 @@ pub returns-clause-ok : goal.returns-clause-ok
 returns-clause-ok g c = λ fed s agrees.
     line_agrees g.D.Folder.contents c.args.bytes.now c.args.moment s c.push.result c.look.new.self c.push.new.self fed (c.in_ok-look.ensures.ok s agrees) c.push.ensures.ok c.push.ensures.unfaulted c.push.ensures.written
 
-pub returns-clause-left : goal.returns-clause-left
-returns-clause-left g c = line_hands g.D.Folder.contents c.args.moment c.args.bytes.now c.args.self.now c.look.new.self c.push.new.self c.in_ok-look.ensures.left (ap (λ (x : RollingFileAppender _). x.current) c.push.ensures.still) c.push.result c.push.ensures.faults c.push.ensures.left
+pub returns-clause-state : goal.returns-clause-state
+returns-clause-state g c = line_hands g.D.Folder.contents c.args.moment c.args.bytes.now c.args.self.now c.look.new.self c.push.new.self c.in_ok-look.ensures.state (ap (λ (x : RollingFileAppender _). x.current) c.push.ensures.still) c.push.result c.push.ensures.faults c.push.ensures.state
     (push_opens (g.D.Folder.contents c.look.new.self.folder) (g.D.Folder.contents c.push.new.self.folder) c.look.new.self.current c.args.bytes.now c.push.result c.push.ensures.written)
 
 pub returns-clause-starved : goal.returns-clause-starved
-returns-clause-starved g c = line_starves g.D.Folder.contents c.args.moment c.args.bytes.now c.args.self.now c.look.new.self c.push.new.self c.in_ok-look.ensures.left (ap (λ (x : RollingFileAppender _). x.current) c.push.ensures.still) c.push.result c.push.ensures.starved
+returns-clause-starved g c = line_starves g.D.Folder.contents c.args.moment c.args.bytes.now c.args.self.now c.look.new.self c.push.new.self c.in_ok-look.ensures.state (ap (λ (x : RollingFileAppender _). x.current) c.push.ensures.still) c.push.result c.push.ensures.starved

@@ -9,8 +9,8 @@ returns-in-Ok-clause-agrees g c =
     let old = c.args.self.now in
     once_ok (g.D.Folder.contents old.folder) (g.D.Folder.contents c.write.new.self) (builder_names old.builder) old.boundary old.current c.args.bytes.now (Ok c.in-Ok.taken) c.in-Ok.ensures.gives
 
-pub returns-in-Ok-clause-left : goal.returns-in-Ok-clause-left
-returns-in-Ok-clause-left g c =
+pub returns-in-Ok-clause-state : goal.returns-in-Ok-clause-state
+returns-in-Ok-clause-state g c =
     let old = c.args.self.now in
     once_hands (g.D.Folder.contents old.folder) (g.D.Folder.contents c.write.new.self) (builder_names old.builder) old.boundary old.current c.args.bytes.now (Ok c.in-Ok.taken) c.in-Ok.ensures.gives
 

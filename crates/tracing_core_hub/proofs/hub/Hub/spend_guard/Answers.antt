@@ -10,5 +10,5 @@ returns-in-Err-clause-gives g c =
     let guard = c.in-Some.guard in
     let there : item_of items number ≡ Some guard = sym c.in-Some.ensures.item in
     let own = same_guard c.args.self.now c.args.lane guard c.in-Err.field-0 (ap (λ p. p.0) (sym c.in-Err.ensures.gives)) in
-    let back : c.put_back.new.items ≡ items = back_again items c.spend.new.items c.put_back.new.items number guard c.in-Err.field-0.0 there c.in-Some.ensures.left own c.put_back.ensures in
+    let back : c.put_back.new.items ≡ items = back_again items c.spend.new.items c.put_back.new.items number guard c.in-Err.field-0.0 there c.in-Some.ensures.state own c.put_back.ensures in
     rw (there, ← c.in-Err.ensures.gives, back) refl

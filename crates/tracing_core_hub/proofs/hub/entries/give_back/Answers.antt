@@ -1,5 +1,5 @@
 use Rattle.std.proofs.Common.{◌≡◌, List, Some, set, ap, sym, ◌∙◌, refl}
-use Rattle.tracing_core_hub.specs.declared.hub.parts.Entry.{Entry}
+use Rattle.tracing_core_hub.specs.declared.hub.parts.RegisteredSubscriber.{RegisteredSubscriber}
 use Rattle.tracing_core_hub.specs.Handles.{one_less}
 use Rattle.tracing_core_hub.proofs.Entries.{entry_at, changed_at, without_at, absent_at, absent_given, last_given, more_given, pair_is, found_at, same_read}
 use Rattle.tracing_core_hub.proofs.hub.entries.give_back.Goals as goal
@@ -10,7 +10,7 @@ returns-in_default-place_of g c =
 
 pub returns-then-index-le1 : goal.returns-then-index-le1
 returns-then-index-le1 g c =
-    let es : List (Entry g.row.S.Denot) = c.args.entries.now.items in
+    let es : List (RegisteredSubscriber g.row.S.Denot) = c.args.entries.now.items in
     let e = c.remove-subscriber.result in
     let i = c.in-Some-place_of.place in
     let s = c.in-Some.serial in
@@ -20,11 +20,11 @@ returns-then-index-le1 g c =
     let same = entry_at s es i c.index.result.now here.0 here.1 here.2 in
     let last = last_given c.args.serial s es c.in-Some.is c.index.result.now (same ∙ ap Some (sym c.index.ensures)) c.if-index-le1.true in
     let taken : e ≡ c.index.result.now = c.remove-subscriber.ensures.value ∙ same_read es i e c.index.result.now at.0 ∙ sym c.index.ensures in
-    pair_is _ _ _ _ (ap (λ (x : Entry g.row.S.Denot). Some x.subscriber) taken) (c.remove-subscriber.ensures.items ∙ sym gone) ∙ sym last
+    pair_is _ _ _ _ (ap (λ (x : RegisteredSubscriber g.row.S.Denot). Some x.subscriber) taken) (c.remove-subscriber.ensures.items ∙ sym gone) ∙ sym last
 
 pub returns : goal.returns
 returns g c =
-    let es : List (Entry g.row.S.Denot) = c.args.entries.now.items in
+    let es : List (RegisteredSubscriber g.row.S.Denot) = c.args.entries.now.items in
     let e = c.index_mut.result.now in
     let i = c.in-Some-place_of.place in
     let s = c.in-Some.serial in

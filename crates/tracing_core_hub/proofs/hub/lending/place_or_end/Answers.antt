@@ -1,6 +1,6 @@
 use Rattle.std.proofs.Common.{ap, sym, ◌∙◌, refl, arith, set, length}
 use Rattle.std.proofs.lemmas.Option.{slice_get_past, get_or_from_slice_get}
-use Rattle.tracing_core_hub.specs.declared.hub.parts.Entry.{Entry}
+use Rattle.tracing_core_hub.specs.declared.hub.parts.RegisteredSubscriber.{RegisteredSubscriber}
 use Rattle.tracing_core_hub.proofs.Entries.{changed_at, changed_absent, inside_none, place_is, absent_at}
 use Rattle.tracing_core_hub.proofs.hub.lending.place_or_end.Goals as goal
 
@@ -17,5 +17,5 @@ returns-in-Some-place_of g c =
     let found = c.in-Some-place_of.ensures in (
       place_is c.in-Some.serial es i found ∙ sym (rw c.in-Some.is refl),
       λ f none. absurd (inside_none es i found.0 none),
-      λ f e there. rw c.in-Some.is (changed_at c.in-Some.serial f es i e found.0 (found.1 e) (λ k h. found.2 k e (omega arith) h) ∙ ap (λ (x : Entry g.row.S.Denot). set es i (f x)) (get_or_from_slice_get es i e e there)),
+      λ f e there. rw c.in-Some.is (changed_at c.in-Some.serial f es i e found.0 (found.1 e) (λ k h. found.2 k e (omega arith) h) ∙ ap (λ (x : RegisteredSubscriber g.row.S.Denot). set es i (f x)) (get_or_from_slice_get es i e e there)),
     )

@@ -7,12 +7,12 @@ use tracing_core::{Interest, Metadata};
 
 /// A copy of a registered callsite, with the interest that the hub tells it.
 #[derive(Debug, Drop)]
-pub(crate) struct Site {
+pub(crate) struct HubCallsite {
     pub(crate) callsite: Callsite,
     pub(crate) interest: Interest,
 }
 
-impl tracing_core::Callsite for Site {
+impl tracing_core::Callsite for HubCallsite {
     ghost use Rattle.span_tracing.specs.Telling.{own_metadata};
 
     ghost metadata_of = { λ site. own_metadata site.callsite };

@@ -1,7 +1,7 @@
 //! What is kept of a callsite.
 ghost use Rattle.std.specs.Prelude.{◌≡◌};
 ghost use Rattle.tracing_core_fields.specs.Metadata.{plain_metadata};
-ghost use Rattle.span_registry_layers_stack.specs.Sites.{is_of, is_refused_by, plain_site, renewed};
+ghost use Rattle.span_registry_layers_stack.specs.Sites.{is_of, is_refused_by, plain_cached_interest, renewed};
 
 use span_registry_layers_store::OwnedMetadata;
 use tracing_core_fields::Metadata;
@@ -9,28 +9,28 @@ use tracing_core_requests::Interest;
 
 /// A callsite, and what all filters had in common of it when they were asked.
 #[derive(Drop)]
-pub(crate) struct Site {
+pub(crate) struct CachedInterest {
     pub(crate) metadata: OwnedMetadata,
     pub(crate) interest: Interest,
 }
 
-impl Site {
+impl CachedInterest {
     pub(crate) fn is_of(&self, metadata: &Metadata<'_>) -> bool
-        ensures { result ≡ is_of (plain_metadata metadata.now) (plain_site self.now) }
+        ensures { result ≡ is_of (plain_metadata metadata.now) (plain_cached_interest self.now) }
     {
         self.metadata.is_same(metadata)
     }
 
     // Whether it is this callsite, and nobody's interest was kept of it.
     pub(crate) fn refuses(&self, metadata: &Metadata<'_>) -> bool
-        ensures { result ≡ is_refused_by (plain_metadata metadata.now) (plain_site self.now) }
+        ensures { result ≡ is_refused_by (plain_metadata metadata.now) (plain_cached_interest self.now) }
     {
         self.interest.is_never() && self.metadata.is_same(metadata)
     }
 
     // Keeps another interest, where it is this callsite.
     pub(crate) fn renew(&mut self, metadata: &Metadata<'_>, interest: Interest)
-        ensures { plain_site self.new ≡ renewed (plain_metadata metadata.now) interest (plain_site self.old) }
+        ensures { plain_cached_interest self.new ≡ renewed (plain_metadata metadata.now) interest (plain_cached_interest self.old) }
     {
         if self.metadata.is_same(metadata) {
             self.interest = interest;

@@ -1,4 +1,4 @@
--- What a hub still knows of a subscriber that keeps its word.
+-- What a hub still knows of a subscriber that is consistent.
 use Rattle.std.specs.Prelude.{◌≡◌, ◌≤◌, false, List, [], ◌∷◌, Some}
 use Rattle.tracing_core_hub.specs.Asking.{level_of}
 use Rattle.tracing_core_hub.specs.Handles.{entry_of}
@@ -6,29 +6,29 @@ use Rattle.tracing_core_requests.specs.Interests.{PlainInterest}
 use Rattle.tracing_core_requests.specs.Steady.{IsReal}
 use Rattle.tracing_core_hub.specs.Table.{Table}
 use Rattle.tracing_core_requests.specs.declared.callsite.Callsite.{Ghosts as SiteGhosts}
-use Rattle.tracing_core_hub.specs.declared.hub.parts.Entry.{Entry}
-use Rattle.tracing_core_hub.specs.declared.hub.parts.Row.{Row}
+use Rattle.tracing_core_hub.specs.declared.hub.parts.RegisteredSubscriber.{RegisteredSubscriber}
+use Rattle.tracing_core_hub.specs.declared.hub.parts.RegisteredCallsite.{RegisteredCallsite}
 use Rattle.tracing_core_requests.specs.declared.interest.InterestInner.TheVariants.{Never, Sometimes, Always}
 use Rattle.tracing_core_requests.specs.declared.subscriber.Subscriber.{Ghosts}
 
 -- the level and the identifier that are kept are the callsite's, and the level is one of the five
-abbrev pub IsTrueRow : {C : Type 0} → SiteGhosts C → Row C → Type 0
+abbrev pub IsTrueRow : {C : Type 0} → SiteGhosts C → RegisteredCallsite C → Type 0
 IsTrueRow h row =
     (row.level ≡ (h.metadata_of row.callsite).level) × IsReal (h.metadata_of row.callsite)
     × (row.identifier ≡ (h.metadata_of row.callsite).callsite)
 
 -- not lent any more, with another value of the subscriber
-abbrev pub asked_anew : {S : Type 0} → S → Entry S → Entry S
+abbrev pub asked_anew : {S : Type 0} → S → RegisteredSubscriber S → RegisteredSubscriber S
 asked_anew subscriber e = record e { lent = false; subscriber = subscriber }
 
 module _ {S : Type 0} (g : Ghosts S) where
   module _ {C : Type 0} (h : SiteGhosts C) where
     -- what is kept of the callsite is right of the subscriber
-    abbrev pub RowRight : S → Row C → Type 0
+    abbrev pub RowRight : S → RegisteredCallsite C → Type 0
     RowRight s row = (own : PlainInterest) × g.says s (h.metadata_of row.callsite) own × Covers row.interest own
 
-    -- the subscriber lives, isn't lent and keeps its word, and what is kept is right of it
-    pub record Kept (t : Table S C) (e : Entry S) : Type 0 where
+    -- the subscriber lives, isn't lent and is consistent, and what is kept is right of it
+    pub record HasValidCache (t : Table S C) (e : RegisteredSubscriber S) : Type 0 where
       pub stands : entry_of e.serial t.entries ≡ Some e
       pub unlent : e.lent ≡ false
       pub steady : g.steady e.subscriber

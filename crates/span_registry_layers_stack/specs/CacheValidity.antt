@@ -6,7 +6,7 @@ use Rattle.tracing_core_fields.specs.PlainMetadata.{PlainMetadata}
 use Rattle.span_registry_layers_layers.specs.declared.filter.Filter.{Ghosts}
 use Rattle.span_registry_layers_layers.specs.declared.filtered.Filtered.{Filtered}
 use Rattle.span_registry_layers_stack.specs.Rows.{filters_of}
-use Rattle.span_registry_layers_stack.specs.Sites.{PlainSite}
+use Rattle.span_registry_layers_stack.specs.Sites.{PlainCachedInterest}
 use Rattle.span_registry_layers_stack.specs.Stacks.{StackValue}
 
 -- the kept hint is no lower than the own one
@@ -21,10 +21,10 @@ module _ {F : Type 0} (g : Ghosts F) where
   Knows m kept f = (own : PlainInterest) × g.says f m own × Covers kept own
 
   -- every filter is honest, and what is kept is right of each
-  pub record WordOf (fs : List F) (sites : List PlainSite) (hint : Option ℕ) : Type 0 where
+  pub record CacheIsValidFor (fs : List F) (sites : List PlainCachedInterest) (hint : Option ℕ) : Type 0 where
     pub honest : Every (λ f. g.honest f) fs
     pub interests : Every (λ site. Every (Knows site.metadata site.interest) fs) sites
     pub hints : Every (λ f. HintOver (g.hint f) hint) fs
 
-  abbrev pub Word : {L : Type 0} → StackValue (Filtered L F) → Type 0
-  Word s = WordOf (filters_of s.rows) s.sites s.hint
+  abbrev pub CacheIsValid : {L : Type 0} → StackValue (Filtered L F) → Type 0
+  CacheIsValid s = CacheIsValidFor (filters_of s.rows) s.sites s.hint
