@@ -104,9 +104,6 @@ room_tells x count r h e = found_if (nat_le count (64 - x)) (64 - x - count) r e
 pub fits_within : (x count : ℕ) → nat_le (x + count) 64 ≡ true → x + count ≤ 64
 fits_within x count e = grind (arith, nat_tests, e)
 
-pub exceeds : (x count : ℕ) → nat_le (x + count) 64 ≡ false → 64 < x + count
-exceeds x count e = grind (arith, nat_tests, e)
-
 -- what two layers say, asked in turn
 pub kept_by_both : (K J : List Bool → Type 0) (limit room : ℕ) (xs ys : List ℕ) (a b : List Bool) → room ≡ limit → SameBut ys a b → ((l : List Bool) → AreNumbers limit xs → SameOf xs a l → K l) →
     ((l : List Bool) → AreNumbers room ys → SameOf ys b l → J l) → (l : List Bool) → AreNumbers limit (xs ++ ys) → SameOf (xs ++ ys) b l → K l × J l

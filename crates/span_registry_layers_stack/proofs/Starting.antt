@@ -92,16 +92,6 @@ module _ {L F : Type 0} (h : LayerGhosts L) where
       (subst (RowsFrom h x all) (append-nil made) (finish [] tt), sym (ap (λ (n : ℕ). record y { filters = n }) same) ∙ e)
   rows_made x all y (output ∷ left) made none finish e = absurd (cc)
 
-left_test : (b : Bool) (room count rest left : ℕ) → nat_le count room ≡ b → Some left ≡ (if b then Some (room - count) else None) → nat_le rest left ≡ nat_le (count + rest) room
-left_test true room count rest left e s = let same : left ≡ room - count = heads s in grind (arith, nat_tests, e, same)
-  where
-    heads : {a b : ℕ} → Some a ≡ Some b → a ≡ b
-    heads e = cc
-left_test false room count rest left e s = absurd (cc)
-
-pub left_room : (room count rest left : ℕ) → Some left ≡ room_after room count → nat_le rest left ≡ nat_le (count + rest) room
-left_room room count rest left e = left_test (nat_le count room) room count rest left refl e
-
 none_test : (b : Bool) (room count rest : ℕ) → nat_le count room ≡ b → None ≡ (if b then Some (room - count) else None) → nat_le (count + rest) room ≡ false
 none_test true room count rest e s = absurd (cc)
 none_test false room count rest e s = grind (arith, nat_tests, e)

@@ -35,12 +35,6 @@ slot_to_lend ps key t place i =
       λ w p e. i.put (plain_slot w) p e ∙ sym (map-set plain_place ps place (record p { slot = w })),
     )
 
-pub no_slot_to_lend : (ps : List Place) (key : ℕ) (t : Tag) → slot_at (map plain_place ps) key t ≡ None → IsSlotToLend ps key t (length ps)
-no_slot_to_lend ps key t none = (
-  ap (option_map (λ (p : Place). plain_slot p.slot)) (slice_get_past ps (length ps) (omega arith)) ∙ sym none,
-  λ w p e. absurd (past ps p e),
-)
-
 span_slots : (o : Option Span) → option_map slots_of (option_map plain_span o) ≡ option_map (λ (s : Span). s.slots) o
 span_slots None = refl
 span_slots (Some s) = refl

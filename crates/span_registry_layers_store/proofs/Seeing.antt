@@ -22,9 +22,6 @@ none_found xs id h = found_mapped xs id ∙ ap (option_map plain_span) (found_no
 pub found_there : (xs : List Span) (id place : ℕ) → IsPlace xs id place → IsFoundAt xs id place
 found_there xs id place p = (p.within, λ s e. found_mapped xs id ∙ ap (option_map plain_span) (p.here ∙ e))
 
-pub seen_there : (x : RegistryValue) (mask : Option ℕ) (id : ℕ) (s : PlainSpan) (b : Bool) → found kin_in x.spans id ≡ Some s → b ≡ sees mask s → seen x mask id ≡ (if b then Some s else None)
-seen_there x mask id s b e t = rw (e, t) refl
-
 pub place_mapped : (o : Option ℕ) (xs ys : List Span) (id : ℕ) → ys ≡ xs → MatchOption o (is_open kin_of ys id ≡ false) (λ place. IsPlace ys id place) → MatchOption o (found kin_in (map plain_span xs) id ≡ None) (λ place. IsFoundAt xs id place)
 place_mapped None xs ys id e h = none_found xs id (ap (λ zs. is_open kin_of zs id) (sym e) ∙ h)
 place_mapped (Some place) xs ys id e h = found_there xs id place (subst (λ zs. IsPlace zs id place) e h)

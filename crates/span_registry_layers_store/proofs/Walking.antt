@@ -49,17 +49,3 @@ module _ (x : RegistryValue) (mask : Option ℕ) where
 
 same_left : (s t : Scope) → t.registry ≡ s.registry → t.filter ≡ s.filter → (ids : List ℕ) → refs_of s.registry.now (mask_of s.filter) ids ≡ refs_of t.registry.now (mask_of t.filter) ids
 same_left s t registry filter ids = rw (registry, filter) refl
-
--- a step to a span that is seen
-pub step_gives : (s t : Scope) (id : ℕ) (r : SpanRef) → Steps s (Some id) t →
-    Some (plain_ref r) ≡ option_map (ref_of t.registry.now (mask_of t.filter)) (seen t.registry.now (mask_of t.filter) id) → scope_left s ≡ plain_ref r ∷ scope_left t
-step_gives s t id r p e = same_left s t p.0 p.1 (ids_left s) ∙ ap (refs_of t.registry.now (mask_of t.filter)) p.2.0 ∙ gives t.registry.now (mask_of t.filter) id (ids_left t) r e
-
--- and to one that is not
-pub step_skips : (s t : Scope) (id : ℕ) → Steps s (Some id) t →
-    None ≡ option_map (ref_of t.registry.now (mask_of t.filter)) (seen t.registry.now (mask_of t.filter) id) → scope_left s ≡ scope_left t
-step_skips s t id p e = same_left s t p.0 p.1 (ids_left s) ∙ ap (refs_of t.registry.now (mask_of t.filter)) p.2.0 ∙ skips t.registry.now (mask_of t.filter) id (ids_left t) e
-
--- a walk that is over
-pub step_ends : (s t : Scope) → Steps s None t → (scope_left s ≡ []) × (scope_left t ≡ [])
-step_ends s t p = (ap (refs_of s.registry.now (mask_of s.filter)) p.2.0, ap (refs_of t.registry.now (mask_of t.filter)) p.2.1)

@@ -21,7 +21,7 @@ use step::step_line;
 pub(crate) use step::{NamedValue, RecordLine, StepLine};
 
 /// A line of the input.
-#[derive(Debug, Drop)]
+#[derive(Drop)]
 pub(crate) enum Line {
     Setup(Setup),
     Step(StepLine),

@@ -6,7 +6,7 @@ use crate::read::Input;
 use std::alloc::Global;
 
 /// What an input asks for. The setup call of line N stands at place N - 1.
-#[derive(Debug, Drop)]
+#[derive(Drop)]
 pub(crate) struct Script {
     pub(crate) setup: Vec<Setup>,
     pub(crate) steps: Vec<StepLine>,

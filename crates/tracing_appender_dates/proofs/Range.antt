@@ -36,9 +36,3 @@ second_range s is =
     let low = first_holds (int_le (negsuc 62135596799) s) (int_le s (pos 253370764799)) is in
     let high = second_holds (int_le (negsuc 62135596799) s) (int_le s (pos 253370764799)) is in
     (omega (arith, signed_arith, low), omega (arith, signed_arith, high))
-
-pub fits_date : (day : ℤ) → is_date day ≡ true → FitsSigned w64 day
-fits_date day is = let r = date_range day is in fits_between w64 day (omega (arith, signed_arith, r.0, r.1))
-
-pub taken_date : (day : ℤ) → is_date day ≡ true → to_z w64 (of_z w64 day) ≡ day
-taken_date day is = to_z-of_z w64 day (fits_date day is)

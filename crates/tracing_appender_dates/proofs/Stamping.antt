@@ -29,17 +29,6 @@ date_front d e xs ys is_d is_e same =
     let texts : date_text d ≡ date_text e = append_cancel_right (date_text d) (date_text e) ys (ap (λ (t : List ℕ). date_text d ++ t) (sym rest) ∙ same) in
     (texts_apart d e is_d is_e texts, rest)
 
--- the day of a stamp's second
-pub stamped_day : (kind : PeriodKind) (s : ℤ) → told_part kind (clock_at s) ≤ clock_at s → day_at (stamped kind s) ≡ day_at s
-stamped_day kind s le = let c = clock_is s in (on_day (day_at s) (told_part kind (clock_at s)) (omega (arith, c.1, le))).0
-
-told_less : (kind : PeriodKind) (c : ℕ) → told_part kind c ≤ c
-told_less Minute c = omega arith
-told_less Hour c = omega arith
-told_less Day c = omega arith
-told_less Week c = omega arith
-told_less Whole c = omega arith
-
 -- clocks with one text tell one part
 told_same : (kind : PeriodKind) (a b : ℕ) → a < 86400 → b < 86400 → clock_part kind a ≡ clock_part kind b → told_part kind a ≡ told_part kind b
 told_same Minute a b la lb e =

@@ -27,22 +27,11 @@ no_back p name other rest is =
     let count : length name - length p ≡ length rest = omega (arith, ap length is, length-append rest p) in
     false≢true (sym other ∙ ap (λ (n : ℕ). bytes_eq (drop n name) p) count ∙ ap (λ (t : List ℕ). bytes_eq t p) (ap (drop (length rest)) is ∙ drop-append_seam rest p) ∙ same_self p)
 
--- a part and a point in front
-pub front_point : (p name rest date : List ℕ) → name ≡ p ++ rest → rest ≡ 46 ∷ [] ++ date → name ≡ (p ++ 46 ∷ []) ++ date
-front_point p name rest date is point = is ∙ ap (λ (t : List ℕ). p ++ t) point ∙ sym (append_assoc p (46 ∷ []) date)
-
 pub no_point : (p name rest : List ℕ) → name ≡ p ++ rest → ((date : List ℕ) → rest ≢ 46 ∷ [] ++ date) → (date : List ℕ) → name ≢ (p ++ 46 ∷ []) ++ date
 no_point p name rest is none date e = none date (append_cancel_left p rest (46 ∷ date) (sym is ∙ e ∙ append_assoc p (46 ∷ []) date))
 
-pub no_part : (p name : List ℕ) → ((rest : List ℕ) → name ≢ p ++ rest) → (date : List ℕ) → name ≢ (p ++ 46 ∷ []) ++ date
-no_part p name none date e = none (46 ∷ date) (e ∙ append_assoc p (46 ∷ []) date)
-
 pub no_point_at : (o : Option (List ℕ)) (p name rest : List ℕ) → o ≡ Some p → name ≡ p ++ rest → ((date : List ℕ) → rest ≢ 46 ∷ [] ++ date) → (date : List ℕ) → name ≢ before_date o ++ date
 no_point_at o p name rest is at none = subst (λ (x : Option (List ℕ)). (date : List ℕ) → name ≢ before_date x ++ date) (sym is) (no_point p name rest at none)
-
--- a point and a part behind
-pub back_point : (p name rest date : List ℕ) → name ≡ rest ++ p → rest ≡ date ++ 46 ∷ [] → name ≡ date ++ 46 ∷ p
-back_point p name rest date is point = is ∙ ap (λ (t : List ℕ). t ++ p) point ∙ append_assoc date (46 ∷ []) p
 
 pub no_point_behind : (p name rest : List ℕ) → name ≡ rest ++ p → ((date : List ℕ) → rest ≢ date ++ 46 ∷ []) → (date : List ℕ) → name ≢ date ++ 46 ∷ p
 no_point_behind p name rest is none date e = none date (append_cancel_right rest (date ++ 46 ∷ []) p (sym is ∙ e ∙ sym (append_assoc date (46 ∷ []) p)))

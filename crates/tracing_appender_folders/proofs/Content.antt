@@ -46,11 +46,6 @@ appended-nil (f ∷ fs) (suc i) = ap (λ r. f ∷ r) (appended-nil fs i)
 abbrev pub after_line : Bool → Option (List ℕ) → List ℕ → Option (List ℕ)
 after_line b text line = if b then Some (unwrap_or text [] ++ line) else text
 
-stands_bytes : (name : List ℕ) (fs : List StoredFile) (i : ℕ) → StandsAt name fs i → (bs : List ℕ) × (bytes_at fs name ≡ Some bs)
-stands_bytes name [] i h = absurd h
-stands_bytes name (f ∷ fs) zero h = (f.bytes, ap (λ b. cond b (Some f.bytes) (bytes_at fs name)) h)
-stands_bytes name (f ∷ fs) (suc i) h = let r = stands_bytes name fs i h.1 in (r.0, ap (λ b. cond b (Some f.bytes) (bytes_at fs name)) h.0 ∙ r.1)
-
 -- more bytes at the file of a name
 grows : (name bytes : List ℕ) (fs : List StoredFile) (i : ℕ) → StandsAt name fs i → bytes_at (appended fs i bytes) name ≡ Some (unwrap_or (bytes_at fs name) [] ++ bytes)
 grows name bytes [] i h = absurd h

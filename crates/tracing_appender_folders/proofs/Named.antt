@@ -84,13 +84,3 @@ files_more files i f b lt is stands = ap files_listed (take_more files i f lt) �
 -- a link's place
 pub link_place-memory : (name : List ℕ) (links : List MemoryLink) → link_place name (map link_of links) ≡ position_from (λ (l : MemoryLink). bytes_eq (string_bytes l.name) name) 0 links
 link_place-memory name links = position-map link_of (λ l. bytes_eq l.0 name) 0 links
-
--- what a link leads to, one step of a search
-pub target_here : (name : List ℕ) (links : List MemoryLink) (i : ℕ) (l : MemoryLink) → i < length links → l ≡ get_or links i l → bytes_eq (string_bytes l.name) name ≡ true → target_at (map link_of (drop i links)) name ≡ Some (string_bytes l.target)
-target_here name links i l lt is holds =
-    at_drop_more (λ (ls : List MemoryLink). target_at (map link_of ls) name) links i l lt
-    ∙ ap (λ (m : MemoryLink). cond (bytes_eq (string_bytes m.name) name) (Some (string_bytes m.target)) (target_at (map link_of (drop (i + 1) links)) name)) (sym is)
-    ∙ ap (λ b. cond b (Some (string_bytes l.target)) (target_at (map link_of (drop (i + 1) links)) name)) holds
-
-pub target_none : (name : List ℕ) (links : List MemoryLink) (i : ℕ) → length links ≤ i → target_at (map link_of (drop i links)) name ≡ None
-target_none name links i le = at_drop_all (λ (ls : List MemoryLink). target_at (map link_of ls) name) links i le

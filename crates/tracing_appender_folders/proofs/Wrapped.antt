@@ -109,10 +109,6 @@ gives_passed {T} call c after plan n r first free gives =
     ∙ passed_at (λ f. refusal f c) (call c) plan.fault plan.most (has_number plan.short n) in
     subst (λ (a : Answer T). Gives (λ _. a) (Some c) r (Some after)) (sym open_way) gives
 
--- under another name for the same call
-pub gives_same : {T : Type 0} (call other : Contents → Answer T) (c : Contents) (after : Option Contents) (r : Result T FolderError) → call c ≡ other c → Gives call (Some c) r after → Gives other (Some c) r after
-gives_same {T} call other c after r e gives = subst (λ (a : Answer T). Gives (λ _. a) (Some c) r after) e gives
-
 -- a call of a faulty folder that isn't refused
 pub faulty_gives : {T : Type 0} (call : Contents → Answer T) (ignores : IgnoresPlan call) (m asked after : MemoryFolder) (plan : Plan) (calls : ℕ) (r : Result T FolderError) → has_number plan.refused (number_after calls 0) ≡ false → asked ≡ m → Gives (plain call) (Some (memory_contents asked)) r (Some (memory_contents after)) → Gives (plain call) (Some (planned (λ n. outcome_of plan (number_after calls n)) (memory_contents m))) r (Some (planned (λ n. outcome_of plan (number_after (number_after calls 0) n)) (memory_contents after)))
 faulty_gives call ignores m asked after plan calls r free same gives =

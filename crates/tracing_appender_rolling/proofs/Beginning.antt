@@ -54,16 +54,10 @@ pub begins_keeps : (known after : Option Contents) (names : FileNames) (m : Mome
 begins_keeps None after names m o boundary ends is_m may begins = subst (λ (x : Option Contents). MatchesKnownSink x names boundary o.file (fresh_sink names m None)) (sym begins) tt
 begins_keeps (Some c) after names m o boundary ends is_m may is = keeps c names m is_m may after o boundary ends is
 
-pub begins_back : (known after : Option Contents) (names : FileNames) (m : Moment) (f : InitFailure) (c : Contents) → known ≡ Some c → is_moment m ≡ true → MayOpen (Some c) names → Begins names m known (Err f) after → (f.error ≡ OutOfMemory) × HandsBack c names after
-begins_back known after names m f c is is_m may begins = back c names m is_m may f.context f.error after (subst (λ (x : Option Contents). Begins names m x (Err f) after) is begins)
-
 pub begins_opened : (known after : Option Contents) (names : FileNames) (m : Moment) (o : Opened) (boundary : Option ℤ) (c : Contents) → known ≡ Some c → boundary ≡ end_at names m → Begins names m known (Ok o) after → IsOpenedAt names m c o.file boundary o.faults after
 begins_opened known after names m o boundary c is ends begins =
     let b = subst (λ (x : Option Contents). Begins names m x (Ok o) after) is begins in
     subst (λ (e : Option ℤ). IsOpenedAt names m c o.file e o.faults after) (sym ends) b
-
-pub begins_failed : (known after : Option Contents) (names : FileNames) (m : Moment) (f : InitFailure) (c : Contents) → known ≡ Some c → Begins names m known (Err f) after → FailedAt names m c f.context f.error after
-begins_failed known after names m f c is begins = subst (λ (x : Option Contents). Begins names m x (Err f) after) is begins
 
 -- with retention or a link
 pub begins_left : (known after : Option Contents) (names : FileNames) (m : Moment) (o : Opened) (boundary : Option ℤ) (c : Contents) → known ≡ Some c → boundary ≡ end_at names m → is_moment m ≡ true → MayOpenSink c names → Begins names m known (Ok o) after →

@@ -3,9 +3,6 @@ use Rattle.std.proofs.Common.{◌≡◌, ℕ, ◌∙◌, arith, inl, inr}
 use Rattle.tracing_appender_rolling.specs.declared.faults.Faults.{Faults}
 use Rattle.tracing_appender_rolling.specs.Telling.{DoesNotFall, Rises, Counts}
 
-pub keeps_self : (n : ℕ) → DoesNotFall n n
-keeps_self n = omega arith
-
 pub keeps_same : (n m k : ℕ) → DoesNotFall n m → k ≡ m → DoesNotFall n k
 keeps_same n m k keeps e = omega (arith, keeps, e)
 

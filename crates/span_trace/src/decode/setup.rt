@@ -8,7 +8,7 @@ use std::alloc::Global;
 use tracing_core::{Kind, Level, LevelFilter};
 
 /// A setup call.
-#[derive(Debug, Drop)]
+#[derive(Drop)]
 pub(crate) enum Setup {
     Stack(StackLine),
     Callsite(CallsiteLine),
@@ -16,14 +16,14 @@ pub(crate) enum Setup {
 }
 
 /// A stack of one output or none.
-#[derive(Debug, Drop)]
+#[derive(Drop)]
 pub(crate) struct StackLine {
     pub(crate) moment: Moment,
     pub(crate) output: Option<OutputLine>,
 }
 
 /// An output in the full format, with one sink or none.
-#[derive(Debug, Drop)]
+#[derive(Drop)]
 pub(crate) struct OutputLine {
     pub(crate) key: u32,
     pub(crate) filter: LevelFilter,
@@ -34,7 +34,7 @@ pub(crate) struct OutputLine {
 }
 
 /// Daily files in a new folder in memory.
-#[derive(Debug, Drop)]
+#[derive(Drop)]
 pub(crate) struct SinkLine {
     pub(crate) folder: String,
     pub(crate) prefix: Option<String>,
@@ -42,7 +42,7 @@ pub(crate) struct SinkLine {
 }
 
 /// What is known of an event or a span before it happens.
-#[derive(Debug, Drop)]
+#[derive(Drop)]
 pub(crate) struct CallsiteLine {
     pub(crate) id: u64,
     pub(crate) kind: Kind,
@@ -62,7 +62,7 @@ impl CallsiteLine {
 }
 
 /// A thread.
-#[derive(Debug, Drop)]
+#[derive(Drop)]
 pub(crate) struct LaneLine {
     pub(crate) thread: u64,
     pub(crate) name: Option<String>,
@@ -98,16 +98,20 @@ fn output_line(alloc: Global, members: Members<'_>) -> Result<OutputLine, LineFa
     if members.get("show_level")?.as_bool() != Some(false) {
         return Err(LineFault::NotReadable);
     }
+    let key = number_of_32_bits(members.get("key")?)?;
     let filter = members.text("filter")?.parse::<LevelFilter>();
+    let filter = filter.or(Err(LineFault::NotReadable))?;
+    let route = members.size("route")?;
+    let time = members.get("time")?;
     let sink = match members.item_if_given("sinks")? {
         None => None,
         Some(value) => Some(sink_line(alloc, Members::of(value)?)?),
     };
     Ok(OutputLine {
-        key: number_of_32_bits(members.get("key")?)?,
-        filter: filter.or(Err(LineFault::NotReadable))?,
-        route: members.size("route")?,
-        time: time_text(alloc, members.get("time")?)?,
+        key,
+        filter,
+        route,
+        time: time_text(alloc, time)?,
         sink,
     })
 }
@@ -145,19 +149,24 @@ pub(crate) fn callsite_line(
     members: Members<'_>,
 ) -> Result<CallsiteLine, LineFault> {
     members.only(&CALLSITE_KEYS)?;
+    let id = members.number("id")?;
+    let kind = kind_of(members.text("kind")?)?;
     let level = members.text("level")?.parse::<Level>();
+    let level = level.or(Err(LineFault::NotReadable))?;
+    let line = match members.find("line") {
+        None => None,
+        Some(value) => Some(number_of_32_bits(value)?),
+    };
+    // what owns memory comes last, so that little has to be given back where a member can't be read
     Ok(CallsiteLine {
-        id: members.number("id")?,
-        kind: kind_of(members.text("kind")?)?,
+        id,
+        kind,
         name: owned_text(alloc, members.get("name")?)?,
         target: owned_text(alloc, members.get("target")?)?,
-        level: level.or(Err(LineFault::NotReadable))?,
+        level,
         fields: field_names(alloc, members.list("fields")?)?,
         file: members.text_if_given(alloc, "file")?,
-        line: match members.find("line") {
-            None => None,
-            Some(value) => Some(number_of_32_bits(value)?),
-        },
+        line,
     })
 }
 

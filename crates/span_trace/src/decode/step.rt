@@ -12,7 +12,7 @@ use std::alloc::Global;
 use tracing_core::{Id, Identifier};
 
 /// A step, as far as its line tells it.
-#[derive(Debug, Drop)]
+#[derive(Drop)]
 pub(crate) enum StepLine {
     /// All of it.
     Whole(Step),
@@ -21,7 +21,7 @@ pub(crate) enum StepLine {
 }
 
 /// Values for a span.
-#[derive(Debug, Drop)]
+#[derive(Drop)]
 pub(crate) struct RecordLine {
     pub(crate) lane: usize,
     pub(crate) moment: Moment,
@@ -30,7 +30,7 @@ pub(crate) struct RecordLine {
 }
 
 /// A value and the name of its field.
-#[derive(Debug, Drop)]
+#[derive(Drop)]
 pub(crate) struct NamedValue {
     pub(crate) name: String,
     pub(crate) value: OwnedValue,
