@@ -1,8 +1,9 @@
 -- What a hub still knows of a subscriber that is consistent.
+use Rattle.tracing_core_requests.specs.Lists.{Every}
 use Rattle.std.specs.Prelude.{◌≡◌, ◌≤◌, false, List, [], ◌∷◌, Some}
 use Rattle.tracing_core_hub.specs.Asking.{level_of}
 use Rattle.tracing_core_hub.specs.Handles.{entry_of}
-use Rattle.tracing_core_requests.specs.Interests.{PlainInterest}
+use Rattle.tracing_core_requests.specs.Interests.{PlainInterest, Covers}
 use Rattle.tracing_core_requests.specs.Steady.{IsReal}
 use Rattle.tracing_core_hub.specs.Table.{Table}
 use Rattle.tracing_core_requests.specs.declared.callsite.Callsite.{Ghosts as SiteGhosts}

@@ -1,0 +1,269 @@
+#!/usr/bin/env python3
+"""The gate of this repository: proves every crate from nothing, once, and runs and tries all that rests on those proofs.
+
+usage: scripts/gate.py [CRATE..] [--tests try|prove] [--edits new|all|drawn]
+
+CRATE..          these crates and those below them alone
+--tests prove    proves the tests too, over what the crates' proofs kept, and then runs them; without it they run unproved
+--edits drawn    judges each edit that docs/edits.ledger lacks and a random eighth of the others, and writes nothing (this is what .ci/run does)
+--edits new      judges each edit that the ledger lacks, and writes the ledger
+--edits all      judges each edit, and writes the ledger
+
+The last line is `N passed, M failed`. RT_JOBS says how many processors it may use; else it takes all. docs/GATE.md says what it checks and why."""
+import argparse
+import copy
+import os
+import re
+import shutil
+import signal
+import subprocess
+import sys
+import tempfile
+import time
+
+sys.dont_write_bytecode = True
+sys.path.insert(0, os.path.dirname(os.path.realpath(__file__)))
+import edits  # noqa: E402
+import lanes  # noqa: E402
+import ledger  # noqa: E402
+from kit import Crate, rt, rtlib  # noqa: E402
+
+LEDGER = "docs/edits.ledger"
+# What a proof was seen to take at most, in bytes, with what the system needs beside it.
+MEMORY = 3_500_000_000
+
+
+def refusal_of_text(crate):
+    """Returns why the crate's text is refused before any proof, if it is. (`rt ci` has these rules inside a function of its own.)"""
+    code = rtlib.code_of(crate.folder)
+    beyond = [it for it, words in rt.REACHES.items() if it not in crate.allowed and re.search(words, code)]
+    if crate.is_static:
+        return "it is a static library, which this gate doesn't know"
+    if re.search(rt.RENAMES, code):
+        return "it renames std, or takes it whole: name what it uses of std by its path"
+    if re.search(rt.IGNORED, code):
+        return "it has a test under #[ignore], which nothing would run: remove the attribute or the test"
+    if beyond:
+        return f"it names what only the handle {beyond[0]} reaches, and HANDLES does not allow that"
+    if rtlib.fmt(crate.folder, "--check", sys.stdout):
+        return "its files are not in the layout of rt fmt: run rt fmt in the crate's folder"
+    return None
+
+
+def is_well_written(crate, crates):
+    """Holds a crate's files to all rules that need no proof."""
+    try:
+        rtlib.stop_on_links(crate.folder)
+        rtlib.stop_on_unread(crate.folder, crates)
+        rtlib.stop_on_text(crate, "verdict")
+        rt.stop_on_words(crate)
+        why = refusal_of_text(crate)
+    except SystemExit:
+        why = "as the line above says"
+    if why:
+        print(f"{crate.name} is refused: {why}", flush=True)
+    return not why
+
+
+def proof(crate, jobs):
+    os.makedirs(f"{crate.folder}/out", exist_ok=True)
+    status = crate.prove_whole(jobs)
+    if status == -signal.SIGKILL:
+        print("the check was killed, most likely for memory: once more", flush=True)
+        shutil.rmtree(crate.kept, ignore_errors=True)
+        status = crate.prove_whole(1)
+    return "proved" if not status else sys.exit(1)
+
+
+def program(crate):
+    """Runs the program as LLVM built it, and as Rattle's own compiler does where that compiles it."""
+    if crate.compile_again():
+        sys.exit(1)
+    made = [it for it in rt.BACKENDS.values() if os.path.isfile(f"{crate.folder}/out/{crate.name}{it}")]
+    return "ran" if all([rt.run(crate, False, it) for it in made]) else sys.exit(1)
+
+
+def tests_run(crate):
+    """Runs a crate's tests with no proof of them."""
+    how = {"cwd": crate.folder, "stdin": subprocess.DEVNULL, "stdout": subprocess.PIPE, "stderr": subprocess.STDOUT, "text": True}
+    ran = subprocess.run([*rtlib.guarded(), f"{rt.KIT}/bin/rt", "try", "--test"], **how)
+    print(ran.stdout, end="", flush=True)
+    well = re.search(r"test result: ok\. (\d+) passed; 0 failed; 0 ignored", ran.stdout)
+    return f"{well[1]} tests ran" if not ran.returncode and well and int(well[1]) else sys.exit(1)
+
+
+def tests_proved(crate):
+    """Proves a crate's tests over a copy of what its proof kept, and runs them."""
+    crate = copy.copy(crate)
+
+    def call(kept):
+        crate.kept = kept
+        return crate.ci(["--jobs", "1"], True)
+
+    if edits.over_a_copy(crate.kept, call):
+        sys.exit(1)
+    return "tests proved and ran" if rt.run(crate, True) else sys.exit(1)
+
+
+class Gate:
+    """One run over the crates, lowest first."""
+
+    def __init__(self, crates, room, how):
+        self.crates, self.how, self.by_name = crates, how, {it.name: it for it in crates}
+        self.known, self.seed = ledger.read(LEDGER), seed()
+        self.spent, self.sums, self.open, self.refused, self.failed, self.passed = {}, {}, {}, set(), [], 0
+        for it in crates:
+            it.kept = f"{room}/{it.name}"
+
+    def tasks(self):
+        """Returns all tasks but the edits' own, each under its crate's name and its part."""
+        found = {}
+        for it in self.crates:
+            lines = sum(rtlib.text_of(file).count("\n") for file in rtlib.files_of(it.folder) if file.endswith((".rt", ".antt")))
+            after = [(it.name, "proof")]
+            found[it.name, "proof"] = lanes.Task([(below.name, "proof") for below in it.below()], lines, lambda jobs, it=it: proof(it, jobs))
+            if it.is_program:
+                found[it.name, "program"] = lanes.Task(after, lines // 4, lambda jobs, it=it: program(it))
+            if it.has_tests():
+                call = tests_proved if self.how.tests == "prove" else tests_run
+                found[it.name, "tests"] = lanes.Task(after, lines // 4, lambda jobs, it=it, call=call: call(it))
+            if rt.edits_of(it)[0]:
+                found[it.name, "plan"] = lanes.Task(after, lines // 4, lambda jobs, it=it: self.planned(it))
+        self.open = {it.name: sum(key[0] == it.name for key in found) for it in self.crates}
+        return found
+
+    def planned(self, crate):
+        """Returns the sums of the crate's edits, and in groups the files of those that are to be judged."""
+        base, sums, wanted = ledger.base(crate), {}, []
+        for file in rt.edits_of(crate)[0]:
+            label = f"{crate.name}/{os.path.basename(file)}"
+            sums[label] = ledger.sum_of(file, base)
+            is_known = self.how.edits != "all" and self.known.get(label) == sums[label]
+            if not is_known or self.how.edits == "drawn" and ledger.is_drawn(label, self.seed):
+                wanted.append(edits.Edit(crate, file))
+        return sums, [[it.file for it in group] for group in edits.groups_of(crate, wanted)]
+
+    def judged(self, crate, files):
+        return edits.judge(crate, crate.kept, [edits.Edit(crate, it) for it in files])
+
+    def ended(self, key, it):
+        """Tells what came of a task, and returns the tasks that follow from it."""
+        name, part = key[0], key[1].partition(" ")[0]
+        spent, follow = self.spent.setdefault(part, [0, 0, 0]), {}
+        self.spent[part] = [spent[0] + it.cpu, spent[1] + it.wall, spent[2] + 1]
+        print(f"== {name}: {key[1]}: {it.cpu:.0f} s of processors, {it.wall:.0f} s\n{it.said}", end="")
+        if part == "plan" and it.is_well:
+            sums, groups = it.gave
+            self.sums.update(sums)
+            for at, files in enumerate(groups, 1):
+                call = lambda jobs, files=files: self.judged(self.by_name[name], files)
+                follow[name, f"edits {at}"] = lanes.Task([], 300 * len(files), call)
+        elif part == "edits" and it.is_well:
+            for edit, (is_refused, text) in sorted(it.gave.items()):
+                print(f"gate: must-fail {name}/{edit}: {text}")
+                self.count(is_refused, f"{name}/{edit}")
+                self.refused |= {f"{name}/{edit}"} if is_refused else set()
+        if part not in ("plan", "edits") or not it.is_well:
+            self.count(it.is_well, " ".join(key))
+        self.open[name] += len(follow) - 1
+        if not self.open[name]:
+            shutil.rmtree(self.by_name[name].kept, ignore_errors=True)
+        sys.stdout.flush()
+        return follow
+
+    def count(self, is_well, label):
+        self.passed += is_well
+        self.failed += [] if is_well else [label]
+
+    def write_ledger(self):
+        """Writes the ledger: what was refused in this run, what rests on the ledger still, and what it had of crates that this run left out."""
+        left_out = {it: its for it, its in self.known.items() if it.partition("/")[0] not in self.by_name}
+        rests = {it: its for it, its in self.sums.items() if it not in self.failed and self.known.get(it) == its}
+        ledger.write(LEDGER, {**left_out, **rests, **{it: self.sums[it] for it in self.refused}})
+
+
+def seed():
+    """Returns what the draw of edits goes by: the commit, or the time where there is none."""
+    ran = subprocess.run(["git", "rev-parse", "HEAD"], stdin=subprocess.DEVNULL, capture_output=True, text=True)
+    return ran.stdout.strip() or str(time.time())
+
+
+def chosen(crates, names):
+    """Returns the named crates and those below them, or all."""
+    lost = {*names} - {it.name for it in crates}
+    if lost:
+        rt.stop(f"crates.txt lists no crate {', '.join(sorted(lost))}")
+    wanted = {it.name for crate in crates if not names or crate.name in names for it in [*crate.below(), crate]}
+    return [it for it in crates if it.name in wanted]
+
+
+def processors():
+    """Returns how many tasks run side by side: one a processor, as many as memory holds."""
+    number = os.environ.get("RT_JOBS", "")
+    return int(number) if number.isdigit() and int(number) else max(1, min(rt.processors(), rt.free() // MEMORY))
+
+
+def well_laid(root, aside):
+    """Returns the repository's crates, lowest first, once its files are as the toolchain wants them."""
+    Crate.allowed = rt.handles_of(root)
+    crates = rt.crates_of(root, aside)
+    rtlib.lock(crates)
+    for name in sorted(it for it in os.listdir(root) if it != ".git"):
+        if os.path.isdir(f"{root}/{name}"):
+            rtlib.stop_on_unread(f"{root}/{name}", crates)
+        elif name.endswith((".rt", ".antt")):
+            rt.stop(f"no check reads {name}: it goes below a crate that crates.txt names")
+    return crates
+
+
+def run(how, aside):
+    """Runs the gate over crates whose earlier work was put aside, and returns the exit status."""
+    rtlib.stop = rt.stop
+    for it in (rtlib.ALLOW_C, rtlib.BACKEND, "RT_SECONDS"):
+        os.environ.pop(it, None)
+    began = time.time()
+    try:
+        crates = well_laid(os.getcwd(), aside)
+        misnamed = [os.path.relpath(bad) for it in crates for bad in rt.edits_of(it)[1]]
+        crates = chosen(crates, how.crates)
+    except SystemExit:
+        print("0 passed, 1 failed")
+        return 2
+    refused = [it.name for it in crates if not is_well_written(it, crates)]
+    with tempfile.TemporaryDirectory(prefix="gate-") as room:
+        gate = Gate(crates, room, how)
+        gate.failed += refused + [f"{it} (an edit's name ends in .edit)" for it in misnamed]
+        if not refused:
+            lanes.run(gate.tasks(), processors(), gate.ended)
+        if how.edits != "drawn":
+            gate.write_ledger()
+        return told(gate, (time.time() - began) / 60)
+
+
+def told(gate, minutes):
+    """Prints what the run took and what came of it."""
+    for part, (cpu, wall, number) in gate.spent.items():
+        print(f"gate: {part}: {number} tasks, {cpu / 60:.1f} minutes of processors, {wall / 60:.1f} minutes if one after another")
+    judged = len(gate.refused) + sum("/" in it for it in gate.failed)
+    print(f"gate: {judged} edits judged; {len(gate.sums) - judged} rest on {LEDGER}")
+    print(f"gate: {sum(it[0] for it in gate.spent.values()) / 60:.1f} minutes of processors, {minutes:.1f} minutes")
+    if gate.failed:
+        print(f"gate: FAILED: {'; '.join(gate.failed)}")
+    print(f"{gate.passed} passed, {len(gate.failed)} failed")
+    return 1 if gate.failed else 0
+
+
+def main():
+    reader = argparse.ArgumentParser(usage=__doc__, add_help=False)
+    reader.add_argument("crates", nargs="*")
+    reader.add_argument("--tests", choices=["try", "prove"], default="try")
+    reader.add_argument("--edits", choices=["drawn", "new", "all"], default="drawn")
+    how = reader.parse_args()
+    os.chdir(os.path.join(os.path.dirname(os.path.realpath(__file__)), ".."))
+    # `rt ci` itself puts aside what earlier runs left in out/, and puts it back however the run ends
+    rt.ci_from_nothing = lambda aside: run(how, aside)
+    return rt.ci()
+
+
+if __name__ == "__main__":
+    sys.exit(main())

@@ -1,0 +1,77 @@
+"""What the gate takes of the toolchain: its command `rt`, loaded as a module, so that the rules of a verdict are the toolchain's own.
+
+Nothing of the toolchain is copied here. All that the gate names of it is in this file, in `edits.py` and in `gate.py`'s `refusal_of_text`."""
+import importlib.machinery
+import importlib.util
+import os
+import re
+import shutil
+import subprocess
+import sys
+
+sys.dont_write_bytecode = True
+
+# The sum of the program logic that this script was written for. Toolchains of one logic may differ in their letter.
+LOGIC = "dac8208d650f15bf"
+
+
+def loaded():
+    """Returns the command `rt` as a module, or None where there is none."""
+    found = shutil.which("rt")
+    if not found:
+        return None
+    loader = importlib.machinery.SourceFileLoader("rt_command", os.path.realpath(found))
+    made = importlib.util.module_from_spec(importlib.util.spec_from_loader("rt_command", loader))
+    sys.modules["rt_command"] = made
+    loader.exec_module(made)
+    return made
+
+
+def other_logic():
+    """Returns what is wrong with the toolchain at hand, or None where its logic is the pinned one."""
+    if not shutil.which("rt"):
+        return "there is no command rt: this gate needs the Rattle toolchain on the PATH"
+    said = subprocess.run(["rt", "version"], stdin=subprocess.DEVNULL, capture_output=True, text=True).stdout.strip()
+    found = re.search(r"\blogic (\w+)", said)
+    if not found or found[1] != LOGIC:
+        return f"this gate was written for a toolchain whose logic is {LOGIC}, and this one is '{said}'. Read scripts/kit.py beside the new toolchain's rt, mend what differs, and then change LOGIC there"
+    return None
+
+
+why = other_logic()
+if why:
+    print(f"gate: {why}\n0 passed, 1 failed")
+    sys.exit(2)
+rt = loaded()
+rtlib = rt.rtlib
+# What this run itself keeps in a folder that it made may be taken by this run: the one word more that a verdict may have.
+rtlib.VERDICT = re.compile(rtlib.VERDICT.pattern.replace(r"statements=trusted\n", r"statements=trusted( incremental=trusted)?\n"), re.M)
+
+
+class Crate(rt.Crate):
+    """A crate that is proved once, into a folder `kept`, over whose copies its tests and edits are then judged."""
+
+    kept = None
+    # The crates above load what a library's check made, and not its statements alone: the toolchain doesn't keep work for those.
+    cuts_libraries = False
+
+    def prove(self, *commands):
+        return super().prove(*[[*it, "--incremental", self.kept] for it in commands])
+
+    def prove_whole(self, jobs):
+        """Proves the crate from nothing and returns the status. Of a program, what LLVM makes of it is then linked."""
+        flags = ["--jobs", str(jobs)]
+        if not self.is_program:
+            return self.build_rlib(flags, anew=True)
+        to = f"out/{self.name}"
+        words = [*self.words(flags, keeps=False), "--toolchain", f"{rt.KIT}/toolchain"]
+        status = self.prove(["build", *words, "--backend", "llvm", "-o", f"{to}.o"])
+        return status or self.link(f"{to}.o", to)
+
+    def compile_again(self):
+        """Compiles the proved program by Rattle's own compiler, over what the proof kept, and returns the status."""
+        words = [*self.words(["--jobs", "1"], keeps=False), "--toolchain", f"{rt.KIT}/toolchain", "--incremental", self.kept]
+        return self.compile_by("rattle", words, f"out/{self.name}")
+
+
+rt.Crate = Crate

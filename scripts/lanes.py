@@ -1,0 +1,115 @@
+"""Runs tasks side by side, each in a process of its own, so that what each took is known and one that dies takes no other with it."""
+import collections
+import ctypes
+import json
+import os
+import signal
+import sys
+import tempfile
+import time
+import traceback
+
+from kit import rtlib
+
+# What is run: `waits` names the tasks that have to end well before; `work` is a guess of what it takes; `call` gets how many jobs it may use.
+Task = collections.namedtuple("Task", "waits work call")
+# What came of it: whether all is well, what the call gave, what it printed, and its seconds of processors and of the clock.
+Ended = collections.namedtuple("Ended", "is_well gave said cpu wall")
+
+PR_SET_PDEATHSIG = 1
+
+
+def begun(task, jobs):
+    """Starts the task in a process of its own and returns its number and the files that it writes."""
+    said, gave = tempfile.TemporaryFile(), tempfile.TemporaryFile()
+    sys.stdout.flush()
+    child = os.fork()
+    if child:
+        return child, said, gave
+    ctypes.CDLL(None).prctl(PR_SET_PDEATHSIG, signal.SIGKILL)
+    os.dup2(said.fileno(), 1)
+    os.dup2(said.fileno(), 2)
+    status = 1
+    try:
+        # its first call sets a signal's handler, which only the main thread may; what the task starts ends with it then
+        rtlib.guarded()
+        result = task.call(jobs)
+        gave.write(json.dumps(result).encode())
+        gave.flush()
+        status = 0
+    except SystemExit:
+        pass
+    except BaseException:
+        traceback.print_exc()
+    sys.stdout.flush()
+    sys.stderr.flush()
+    os._exit(status)
+
+
+def text_of(file):
+    file.seek(0)
+    return file.read().decode(errors="replace")
+
+
+def behind(tasks):
+    """Returns for each task the work of the longest chain that it begins. A task comes after those that it waits for."""
+    found = {it: 0 for it in tasks}
+    for key in reversed([*tasks]):
+        found[key] += tasks[key].work
+        for it in tasks[key].waits:
+            found[it] = max(found[it], found[key])
+    return found
+
+
+def jobs_for(key, left, tasks, chain, lanes):
+    """Returns how many processors a task gets: the longest chain decides when the run ends, so a proof in a chain that is longer than what all else
+    takes gets two."""
+    rest = sum(tasks[it].work for it in left)
+    return 2 if key[1] == "proof" and lanes > 1 and chain[key] * lanes > rest else 1
+
+
+class Run:
+    """Tasks that wait, tasks that run, and what came of those that ended."""
+
+    def __init__(self, tasks, lanes, tell):
+        self.tasks, self.lanes, self.tell = tasks, lanes, tell
+        self.chain, self.left, self.running, self.ended = behind(tasks), [*tasks], {}, {}
+
+    def end(self, key, it):
+        """Tells what came of a task, and takes the tasks that follow from it."""
+        self.ended[key] = it
+        more = self.tell(key, it)
+        self.tasks.update(more)
+        self.chain.update({its: task.work for its, task in more.items()})
+        self.left += more
+
+    def start(self):
+        """Starts tasks, those with the longest chain first, while a processor is free."""
+        self.left.sort(key=lambda it: -self.chain[it])
+        for key in [it for it in self.left if all(below in self.ended for below in self.tasks[it].waits)]:
+            if not all(self.ended[below].is_well for below in self.tasks[key].waits):
+                self.left.remove(key)
+                self.end(key, Ended(False, None, "what it stands on failed\n", 0, 0))
+            elif sum(it[1] for it in self.running.values()) < self.lanes:
+                jobs = jobs_for(key, self.left, self.tasks, self.chain, self.lanes)
+                self.left.remove(key)
+                child, said, gave = begun(self.tasks[key], jobs)
+                self.running[child] = key, jobs, said, gave, time.time()
+
+    def wait(self):
+        """Waits until a task ends."""
+        child, status, used = os.wait4(-1, 0)
+        if child in self.running:
+            key, _, said, gave, began = self.running.pop(child)
+            result = text_of(gave)
+            result = json.loads(result) if result and not status else None
+            self.end(key, Ended(result is not None, result, text_of(said), used.ru_utime + used.ru_stime, time.time() - began))
+
+
+def run(tasks, lanes, tell):
+    """Runs all tasks, as many side by side as there are lanes. `tell` gets each task's key and what came of it, and returns the tasks that follow."""
+    it = Run(tasks, lanes, tell)
+    while it.left or it.running:
+        it.start()
+        if it.running:
+            it.wait()

@@ -1,0 +1,64 @@
+"""The ledger `docs/edits.ledger`: which edits were refused, and over what.
+
+A line is CRATE/EDIT and a sum of all that the refusal rests on: the edit, the crate's sources, definitions and proofs, the contracts of the
+crates below, and the toolchain's logic. Where any of it changes, the sum does, and the gate judges the edit again."""
+import hashlib
+import os
+
+from kit import LOGIC, rtlib
+
+HEAD = "# Each edit that was refused, and the sum of what that rests on. Written by scripts/gate.py --edits all (or new); see docs/GATE.md.\n"
+
+
+def read(file):
+    """Returns the sums by CRATE/EDIT."""
+    if not os.path.isfile(file):
+        return {}
+    with open(file, encoding="utf-8") as it:
+        rows = [line.split() for line in it if line.strip() and not line.startswith("#")]
+    return {row[0]: row[1] for row in rows if len(row) == 2}
+
+
+def write(file, sums):
+    with open(file, "w", encoding="utf-8") as it:
+        it.write(HEAD)
+        it.writelines(f"{label} {sums[label]}\n" for label in sorted(sums))
+
+
+def texts_below(folder):
+    """Yields each file below the folder, by its path there, with its bytes, in a fixed order."""
+    for at, folders, names in sorted(os.walk(folder)):
+        for name in sorted(names):
+            with open(f"{at}/{name}", "rb") as it:
+                yield os.path.relpath(f"{at}/{name}", folder), it.read()
+
+
+def contracts(crate):
+    """Returns a sum of what other crates can read of a built library: its public items, its clauses and its definitions."""
+    found = hashlib.sha256()
+    for part in (f"{crate.rlib}/interface/lang", f"{crate.folder}/specs"):
+        for row in texts_below(part):
+            found.update(repr(row).encode())
+    for path, text in texts_below(f"{crate.folder}/src"):
+        found.update(repr((path, [*rtlib.ghost_texts(text.decode())])).encode())
+    return found.hexdigest()
+
+
+def base(crate):
+    """Returns a sum of what each edit of the crate rests on, but for the edit itself. The libraries below are built."""
+    found = hashlib.sha256(LOGIC.encode())
+    found.update(repr([crate.name, crate.of_kit, [(it.name, contracts(it)) for it in crate.below()]]).encode())
+    for part in rtlib.PARTS:
+        for row in texts_below(f"{crate.folder}/{part}"):
+            found.update(repr((part, row)).encode())
+    return found.hexdigest()
+
+
+def sum_of(edit, base_of_crate):
+    with open(edit, "rb") as it:
+        return hashlib.sha256(base_of_crate.encode() + it.read()).hexdigest()[:32]
+
+
+def is_drawn(label, seed):
+    """Returns whether an edit of the ledger is judged again in the run with this seed: one of eight is."""
+    return hashlib.sha256(f"{seed} {label}".encode()).digest()[0] % 8 == 0
