@@ -24,7 +24,7 @@ def end_of(lines, at, indent):
     has_body = False
     for end in range(at, len(lines)):
         line = lines[end].rstrip()
-        if end == at and line.endswith("}") or line.startswith(f"{indent}}}") or line.startswith(f"{indent}{{ ") and line.endswith("}"):
+        if end == at and line.endswith("}") or line.startswith(f"{indent}}}") or line.startswith(f"{indent}{{") and line.endswith("}"):
             return end + 1
         outside = end == at or not line.startswith(f"{indent} ")
         has_body = has_body or outside and line.endswith("{")
@@ -48,9 +48,8 @@ def functions(text):
 
 
 def plain(lines):
-    """Returns the text of the lines with what an edit writes only to tell two places apart taken away: `(self)` for `self`."""
-    text = re.sub(r"(?<!\w)\((\w+)\)(?=[\s.;,)\]]|$)", r"\1", "\n".join(lines))
-    return re.sub(r"\s+", "", text)
+    """Returns the text of the lines without spaces and round brackets, which an edit may add only to tell two places apart: `(a == b)` for `a == b`."""
+    return re.sub(r"[\s()]+", "", "\n".join(lines))
 
 
 class Edit:
@@ -142,10 +141,16 @@ def names_of(crate, function, said):
         return [it for it in alike if it == here + name] or [it for it in alike if it.startswith(here)]
     kind, trait = kind_and_trait(owner)
     middle = lambda it: it.rsplit("::", 2)[1].lower()
-    found = [it for it in alike if middle(it) == kind + trait]
-    # an impl that the source gives a name of its own, as in `impl Tr for T as Name`
-    found = found or [it for it in alike if trait and kind in middle(it)] or [it for it in alike if re.search(rf"\bas {middle(it)}\b", owner.lower())]
-    return [it for it in found if it.startswith(here)] or found
+    # by the type and the trait; or, of `Box<dyn Tr>` and the like, by a longer name that has both; or by the name that the source gives the impl
+    tests = [lambda it: middle(it) == kind + trait, lambda it: trait and kind in middle(it) and middle(it).endswith(trait)]
+    tests.append(lambda it: re.search(rf"\bas {re.escape(middle(it))}\b", owner.lower()))
+    # a method stands under its type's module, which may be another file's
+    for pool in ([it for it in alike if it.startswith(here)], alike):
+        for test in tests:
+            found = [it for it in pool if test(it)]
+            if found:
+                return found
+    return []
 
 
 OWN = re.compile(r"`search` did not prove|expected answers in|expected a proof")
