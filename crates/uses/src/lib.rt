@@ -1,0 +1,7 @@
+//! Callers of the crates, one file for each way of use, to copy from. Each contract says what its caller gets.
+#![tactic(auto)]
+
+pub mod queue;
+pub mod rolling;
+#[cfg(test)]
+mod tests;
