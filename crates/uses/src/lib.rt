@@ -3,6 +3,7 @@
 
 pub mod boxed;
 pub mod filter;
+pub mod layer;
 pub mod program;
 pub mod queue;
 pub mod rolling;

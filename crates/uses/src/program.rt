@@ -1,8 +1,6 @@
 //! Events and spans of a program, written as lines to a log file.
 
-ghost use Rattle.std.specs.Prelude.{◌≡◌, ◌≢◌, ◌≤◌, ◌∷◌, [], true, false, Some, None, IfOk, OnOk, is_some, vec_len};
-ghost use Rattle.tracing_core.specs.OwnedValues.{owned_entries};
-ghost use Rattle.span_tracing_machine.specs.PlainData.{EventStep};
+ghost use Rattle.std.specs.Prelude.{◌≡◌, ◌∷◌, [], Some, IfOk, vec_len};
 ghost use Rattle.span_tracing.specs.Agreement.{value_of};
 
 use span_tracing::{
