@@ -55,7 +55,6 @@ pub fn open_trace(
     moment: Moment,
 ) -> Result<MemoryTrace, Refusal>
     ensures level { IfOk result (λ trace. trace.state.filter ≡ Some level) }
-    ensures none_missed { IfOk result (λ trace. trace.state.starved ≡ 0) }
 {
     let outputs = daily_output(alloc, prefix, level)?;
     let mut trace = Trace::new(alloc);
