@@ -3,6 +3,7 @@
 
 pub mod boxed;
 pub mod filter;
+pub mod hub;
 pub mod layer;
 pub mod program;
 pub mod queue;
