@@ -1,12 +1,14 @@
 //! A layer of the program's own: it counts the events and spans that its output is told of.
 
-ghost use Rattle.std.specs.Prelude.{◌≡◌, ◌+◌, ◌-◌, ◌^◌, min, None, true, false, refl};
+ghost use Rattle.std.specs.Prelude.{◌≡◌, None, true, false, refl};
 ghost use Rattle.tracing_core.specs.InterestInner.TheVariants.{Always};
 ghost use Rattle.span_registry_layers.specs.Combined.{same_word};
 ghost use Rattle.span_registry_layers.specs.Identities.{idle_fair};
 ghost use Rattle.span_registry_layers.specs.Notices.{Untouched, untouched_writes};
 ghost use Rattle.span_registry_layers.specs.Numbering.{no_numbers};
 ghost use Rattle.span_registry_layers.specs.Singles.{leaf_once};
+ghost use Rattle.uses.specs.CountsKept.{counts_after};
+ghost use Rattle.uses.specs.Tallies.{counted};
 
 use span_registry_layers::{Context, FilterMap, Layer, Registry};
 use tracing_core::{Attributes, Event, Id, Interest, LevelFilter, Metadata, Record, WeakDispatch};
@@ -31,20 +33,20 @@ impl Counts {
 
     /// One event more.
     fn count_event(&mut self)
-        ensures { self.new ≡ record self.old { events = min (self.old.events + 1) (2 ^ 64 - 1) } }
+        ensures { self.new ≡ record self.old { events = counted self.old.events } }
     {
         self.events = self.events.saturating_add(1);
     }
 
     /// One span more.
     fn count_span(&mut self)
-        ensures { self.new ≡ record self.old { spans = min (self.old.spans + 1) (2 ^ 64 - 1) } }
+        ensures { self.new ≡ record self.old { spans = counted self.old.spans } }
     {
         self.spans = self.spans.saturating_add(1);
     }
 }
 
-/// It vetoes nothing, and writes nothing to the registry. Notices are of no interest but of events and new spans.
+/// It vetoes nothing, and writes nothing to the registry. Events and new spans are counted, and other notices change nothing.
 impl Layer for Counts {
     ghost answers = { λ x m v b. b ≡ true };
 
@@ -54,7 +56,7 @@ impl Layer for Counts {
 
     ghost hint = { λ x. None };
 
-    ghost told = { λ x n y. Untouched n };
+    ghost told = { λ x n y. (y ≡ counts_after n x) × Untouched n };
 
     ghost honest = { λ x. Unit {0} };
 
@@ -66,7 +68,7 @@ impl Layer for Counts {
 
     ghost once = { λ x k. leaf_once };
 
-    ghost aside = { λ x n y t. untouched_writes (λ key. false) n t };
+    ghost aside = { λ x n y t. untouched_writes (λ key. false) n t.1 };
 
     ghost keyed = { λ x n y t key. refl };
 
