@@ -1,0 +1,69 @@
+//! Logs one event inside a span, and prints the log file.
+#![tactic(auto)]
+
+use span_tracing::{FieldValue, Moment, OwnedValue, Parent, Reply};
+use std::process::ExitCode;
+use tracing_core::{FieldSet, Identifier, Kind, Level, LevelFilter, Metadata};
+use uses::program::{MemoryTrace, log_text, open_trace};
+
+const WORK: Identifier = Identifier(1);
+
+const DONE: Identifier = Identifier(2);
+
+/// A program with a clock takes `Moment::new` of its time. This is 2025-02-17T10:01:00Z.
+const NOW: Moment = Moment {
+    seconds: 1_739_786_460,
+    nanoseconds: 0,
+};
+
+/// Registers where the program's spans and events come from.
+fn register(trace: &mut MemoryTrace) -> bool {
+    let names = FieldSet::new(&["job"], WORK);
+    let level = Level::INFO;
+    let work = Metadata::new("work", "app", level, None, None, None, names, Kind::SPAN);
+    if trace.register(WORK, &work).is_err() {
+        return false;
+    }
+    let names = FieldSet::new(&["message"], DONE);
+    let done = Metadata::new("done", "app", level, None, None, None, names, Kind::EVENT);
+    trace.register(DONE, &done).is_ok()
+}
+
+/// Logs an event inside a span.
+fn log(rt: &HostRuntime, trace: &mut MemoryTrace) -> bool {
+    let job = FieldValue {
+        field: 0,
+        value: OwnedValue::U64(7),
+    };
+    let Reply::Span(span) = trace.new_span(0, NOW, WORK, Parent::Root, &[job]) else {
+        return false;
+    };
+    let entered = trace.enter(0, NOW, span);
+    let told = log_text(rt.alloc(), trace, NOW, DONE, "finished");
+    let left = trace.exit(0, NOW, span);
+    entered == Reply::Done && told == Ok(Reply::Done) && left == Reply::Done
+}
+
+fn run(rt: &HostRuntime) -> Result<bool, std::io::Error> {
+    let Ok(mut trace) = open_trace(rt.alloc(), "app", LevelFilter::INFO, NOW) else {
+        return Ok(false);
+    };
+    if !register(&mut trace) || !log(rt, &mut trace) {
+        return Ok(false);
+    }
+    let Some(folder) = trace.folder(0) else {
+        return Ok(false);
+    };
+    for file in &folder.files()? {
+        let text = str::from_utf8(file.bytes).ok().unwrap_or("not UTF-8");
+        println!(rt; "{}: {text}", file.name)?;
+    }
+    Ok(true)
+}
+
+fn main(rt: HostRuntime) -> ExitCode {
+    match run(&rt) {
+        Ok(true) => ExitCode::SUCCESS,
+        _ => ExitCode::FAILURE,
+    }
+}

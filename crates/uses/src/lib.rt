@@ -1,0 +1,12 @@
+//! Callers of the crates, one file for each way of use, to copy from. Each contract says what its caller gets.
+#![tactic(auto)]
+
+pub mod boxed;
+pub mod filter;
+pub mod hub;
+pub mod layer;
+pub mod program;
+pub mod queue;
+pub mod rolling;
+#[cfg(test)]
+mod tests;

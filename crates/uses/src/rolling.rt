@@ -1,0 +1,61 @@
+//! A log file that changes by the day, alone: the program writes its own lines.
+
+ghost use Rattle.std.specs.Prelude.{◌≡◌, true, Some, IfOk, OnOk, ℕ, List, string_bytes};
+ghost use Rattle.tracing_appender_rolling.specs.PeriodKind.TheVariants.{Day};
+ghost use Rattle.tracing_appender_rolling.specs.Moments.{is_moment};
+ghost use Rattle.tracing_appender_rolling.specs.Memory.{memory_contents, nothing_there};
+ghost use Rattle.tracing_appender_rolling.specs.Entries.{entry_at};
+ghost use Rattle.tracing_appender_rolling.specs.Builders.{prefixed_names};
+ghost use Rattle.tracing_appender_rolling.specs.Sinks.{PlainSink, file_text, with_handed};
+ghost use Rattle.tracing_appender_rolling.specs.Appenders.{AgreesSink, fresh_sink};
+
+use std::alloc::{AllocError, Global};
+use tracing_appender_rolling::{
+    BuildError, FileEntry, FolderError, MemoryFolder, Moment, RollingFileAppender, daily,
+};
+
+/// Opens the log of the moment's day in an empty folder in memory. Its files have this prefix and the day in their names.
+///
+/// # Errors
+///
+/// `BadName` where the prefix can't stand in a file's name, else `OutOfMemory`.
+pub fn open_daily(
+    alloc: Global,
+    prefix: String,
+    moment: Moment,
+) -> Result<RollingFileAppender<MemoryFolder>, BuildError>
+    requires { is_moment moment ≡ true }
+    ensures { IfOk result (λ log. AgreesSink (λ folder. Some (memory_contents folder)) log
+        (fresh_sink (prefixed_names Day (string_bytes prefix)) moment (Some nothing_there))) }
+{
+    daily(alloc, MemoryFolder::new(alloc), prefix, moment).map_err(|refusal| refusal.error)
+}
+
+/// Writes a line at a moment. It goes to the file of the greatest day that the log has seen.
+///
+/// # Errors
+///
+/// Want of memory: the line may be missing.
+pub fn write_line(
+    log: &mut RollingFileAppender<MemoryFolder>,
+    line: &str,
+    moment: Moment,
+) -> Result<(), FolderError>
+    requires { is_moment moment ≡ true }
+    ensures { OnOk result ((s : PlainSink) → AgreesSink (λ folder. Some (memory_contents folder)) log.old s →
+        AgreesSink (λ folder. Some (memory_contents folder)) log.new (with_handed s (record { line = line.now; moment = moment }))) }
+{
+    log.write_all_at(line.as_bytes(), moment)
+}
+
+/// The files of a log: each holds what the opening found under its name, and then the lines of its day.
+///
+/// # Errors
+///
+/// Want of memory.
+pub fn files_of(log: &RollingFileAppender<MemoryFolder>) -> Result<Vec<FileEntry<'_>>, AllocError>
+    ensures { IfOk result (λ entries. (s : PlainSink) → AgreesSink (λ folder. Some (memory_contents folder)) log.now s →
+        (name : List ℕ) → entry_at entries.items name ≡ file_text s name) }
+{
+    log.folder().files()
+}
