@@ -1,7 +1,7 @@
 """The ledger `docs/edits.ledger`: which edits were refused, and over what.
 
-A line is CRATE/EDIT and a sum of all that the refusal rests on: the edit, the crate's sources, definitions and proofs, the contracts of the
-crates below, and the toolchain's logic. Where any of it changes, the sum does, and the gate judges the edit again."""
+A line is CRATE/EDIT and a sum of all that the refusal rests on: the edit, the crate's sources, definitions and proofs but for its tests, the contracts
+of the crates below, and the toolchain's logic. Where any of it changes, the sum does, and the gate judges the edit again."""
 import hashlib
 import os
 
@@ -33,13 +33,21 @@ def texts_below(folder):
                 yield os.path.relpath(f"{at}/{name}", folder), it.read()
 
 
+def texts_of(crate, part):
+    """Yields the files of the crate's src, specs or proofs that its proof reads: all but its module of tests."""
+    root = f"{crate.folder}/src/{'main' if crate.is_program else 'lib'}.rt"
+    has_tests = "\n#[cfg(test)]\nmod tests;\n" in rtlib.text_of(root)
+    for path, text in texts_below(f"{crate.folder}/{part}"):
+        if not (has_tests and part != "specs" and (path == "tests.rt" or path.startswith("tests/"))):
+            yield path, text
+
+
 def contracts(crate):
     """Returns a sum of what other crates can read of a built library: its public items, its clauses and its definitions."""
     found = hashlib.sha256()
-    for part in (f"{crate.rlib}/interface/lang", f"{crate.folder}/specs"):
-        for row in texts_below(part):
-            found.update(repr(row).encode())
-    for path, text in texts_below(f"{crate.folder}/src"):
+    for row in [*texts_below(f"{crate.rlib}/interface/lang"), *texts_of(crate, "specs")]:
+        found.update(repr(row).encode())
+    for path, text in texts_of(crate, "src"):
         found.update(repr((path, [*rtlib.ghost_texts(text.decode())])).encode())
     return found.hexdigest()
 
@@ -49,7 +57,7 @@ def base(crate):
     found = hashlib.sha256(LOGIC.encode())
     found.update(repr([crate.name, crate.of_kit, [(it.name, contracts(it)) for it in crate.below()]]).encode())
     for part in rtlib.PARTS:
-        for row in texts_below(f"{crate.folder}/{part}"):
+        for row in texts_of(crate, part):
             found.update(repr((part, row)).encode())
     return found.hexdigest()
 
