@@ -1,15 +1,14 @@
 -- What a gate and an event leave of the tally that a lane reaches.
 use Rattle.std.proofs.Common.{◌≡◌, ℕ, Bool, true, false, List, [], ◌∷◌, Option, Some, None, refl, ap, sym, ◌∙◌, subst}
-use Rattle.std.specs.Prelude.{if◌then◌else◌, ◌==◌, Result, Ok}
+use Rattle.std.specs.Prelude.{if◌then◌else◌, Result, Ok}
 use Rattle.std.specs.Option.{option_map}
 use Rattle.tracing_core.specs.At.{At}
 use Rattle.tracing_core.specs.Callsite.{Ghosts as SiteGhosts}
-use Rattle.tracing_core.specs.Calls.{Asked, Told}
+use Rattle.tracing_core.specs.Calls.{Told}
 use Rattle.tracing_core.specs.Commands.{AnswerGives, AskGivesAt, GateGives, GateGivesAt, becomes, known, reached, row_of}
 use Rattle.tracing_core.specs.Entry.{Entry}
 use Rattle.tracing_core.specs.Handing.{CallGives, CallGivesAt, HubGives}
 use Rattle.tracing_core.specs.Handles.{changed, entry_of, is_of}
-use Rattle.tracing_core.specs.Lent.{living_of}
 use Rattle.tracing_core.specs.PlainRequests.{PlainEvent}
 use Rattle.tracing_core.specs.RequestError.{RequestError}
 use Rattle.tracing_core.specs.Row.{Row}

@@ -1,5 +1,5 @@
 -- What a tally answers, and what calls leave of it.
-use Rattle.std.specs.Prelude.{◌≡◌, ◌<◌, ◌+◌, ◌-◌, ◌^◌, ℕ, Bool, true, false, nat_le, min, Some, None, Ok}
+use Rattle.std.specs.Prelude.{◌≡◌, ◌+◌, ◌-◌, ◌^◌, ℕ, Bool, true, false, nat_le, min, Some, None, Ok}
 use Rattle.std.proofs.Common.{◌∙◌, arith}
 use Rattle.std.proofs.lemmas.Bool.Decides.{nat_tests}
 use Rattle.tracing_core.specs.Calls.{Call, ReplyTo, CallsiteRegistered, Asked, HintAsked, SpanMade, Told}

@@ -1,4 +1,4 @@
-use Rattle.std.proofs.Common.{◌≡◌, ◌∙◌, true, false, if◌then◌else◌, Some, ap, sym}
+use Rattle.std.proofs.Common.{◌≡◌, ◌∙◌, true, if◌then◌else◌, Some, ap, sym}
 use Rattle.std.specs.Result.{is_ok}
 use Rattle.tracing_core.specs.PlainRequests.{plain_event}
 use Rattle.uses.specs.Tallies.{counted}
