@@ -55,11 +55,11 @@ def plain(lines):
 class Edit:
     """An edit, as the lines that it puts in place of others, by file and function. A function is (file, first line, name, owner)."""
 
-    def __init__(self, crate, file):
+    def __init__(self, crate, file, is_whole=False):
         self.file, self.name = file, os.path.basename(file)
         texts, self.why = rt.read_edit(file, crate.folder)
         # (file, first line, line past the last, new lines, functions inside)
-        self.hunks, self.bodies, self.is_whole = [], set(), bool(self.why)
+        self.hunks, self.bodies, self.is_whole = [], set(), is_whole or bool(self.why)
         for path, new in (texts or {}).items():
             if path.startswith("src/"):
                 with open(f"{crate.folder}/{path}", encoding="utf-8") as it:

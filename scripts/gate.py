@@ -29,6 +29,8 @@ import ledger  # noqa: E402
 from kit import Crate, rt, rtlib  # noqa: E402
 
 LEDGER = "docs/edits.ledger"
+# Edits whose wrong bodies weren't yet seen refused one by one; they are tried as a whole, and the gate says how many they are.
+WHOLE = "docs/edits.whole"
 # What a proof was seen to take at most, in bytes, with what the system needs beside it.
 MEMORY = 3_500_000_000
 
@@ -110,7 +112,7 @@ class Gate:
 
     def __init__(self, crates, room, how):
         self.crates, self.how, self.by_name = crates, how, {it.name: it for it in crates}
-        self.known, self.seed = ledger.read(LEDGER), seed()
+        self.known, self.whole, self.seed = ledger.read(LEDGER), ledger.read(WHOLE), seed()
         self.spent, self.sums, self.open, self.refused, self.failed, self.passed = {}, {}, {}, set(), [], 0
         for it in crates:
             it.kept = f"{room}/{it.name}"
@@ -140,11 +142,14 @@ class Gate:
             sums[label] = ledger.sum_of(file, base)
             is_known = self.how.edits != "all" and self.known.get(label) == sums[label]
             if not is_known or self.how.edits == "drawn" and ledger.is_drawn(label, self.seed):
-                wanted.append(edits.Edit(crate, file))
+                wanted.append(self.edit(crate, file))
         return sums, [[it.file for it in group] for group in edits.groups_of(crate, wanted)]
 
+    def edit(self, crate, file):
+        return edits.Edit(crate, file, f"{crate.name}/{os.path.basename(file)}" in self.whole)
+
     def judged(self, crate, files):
-        return edits.judge(crate, crate.kept, [edits.Edit(crate, it) for it in files])
+        return edits.judge(crate, crate.kept, [self.edit(crate, it) for it in files])
 
     def ended(self, key, it):
         """Tells what came of a task, and returns the tasks that follow from it."""
@@ -246,6 +251,8 @@ def told(gate, minutes):
         print(f"gate: {part}: {number} tasks, {cpu / 60:.1f} minutes of processors, {wall / 60:.1f} minutes if one after another")
     judged = len(gate.refused) + sum("/" in it for it in gate.failed)
     print(f"gate: {judged} edits judged; {len(gate.sums) - judged} rest on {LEDGER}")
+    if gate.whole:
+        print(f"gate: {len(gate.whole)} edits are judged as a whole, and not yet body by body ({WHOLE})")
     print(f"gate: {sum(it[0] for it in gate.spent.values()) / 60:.1f} minutes of processors, {minutes:.1f} minutes")
     if gate.failed:
         print(f"gate: FAILED: {'; '.join(gate.failed)}")

@@ -11,12 +11,12 @@ HEAD = "# Each edit that was refused, and the sum of what that rests on. Written
 
 
 def read(file):
-    """Returns the sums by CRATE/EDIT."""
+    """Returns what stands behind each CRATE/EDIT, as the sum in the ledger."""
     if not os.path.isfile(file):
         return {}
     with open(file, encoding="utf-8") as it:
         rows = [line.split() for line in it if line.strip() and not line.startswith("#")]
-    return {row[0]: row[1] for row in rows if len(row) == 2}
+    return {row[0]: " ".join(row[1:]) for row in rows}
 
 
 def write(file, sums):
