@@ -1,13 +1,12 @@
 //! Registries.
 
 mod closing;
-mod looking;
 mod refusing;
 mod script;
-mod seeing;
 mod slots;
+mod table;
 
-use crate::{FilterId, FilterMap, OutputKey, Registry, ScopeFromRoot, Tag};
+use crate::{FilterMap, Registry};
 use std::alloc::Global;
 use std::test::Fail;
 use tracing_core_fields::{FieldSet, Id, Identifier, Kind, Level, Metadata};
@@ -15,10 +14,10 @@ use tracing_core_requests::{Attributes, RequestError};
 
 const NAMES: [&str; 1] = ["n"];
 
-/// Makes a span on a lane, under the current one.
-fn make(registry: &mut Registry, name: &str, lane: u64) -> Result<Id, Fail> {
+/// The metadata of a span.
+fn span_metadata<'a>(name: &'a str) -> Metadata<'a> {
     let fields = FieldSet::new(&NAMES, Identifier(7));
-    let metadata = Metadata::new(
+    Metadata::new(
         name,
         "app",
         Level::INFO,
@@ -27,26 +26,21 @@ fn make(registry: &mut Registry, name: &str, lane: u64) -> Result<Id, Fail> {
         None,
         fields,
         Kind::SPAN,
-    );
-    let attributes = Attributes::new(&metadata, fields.value_set_all(&[]));
+    )
+}
+
+/// Makes a span on a lane, under the current one.
+fn make(registry: &mut Registry, name: &str, lane: u64) -> Result<Id, Fail> {
+    let metadata = span_metadata(name);
+    let attributes = Attributes::new(&metadata, metadata.fields().value_set_all(&[]));
     let made = registry.new_span(&attributes, lane, FilterMap::all());
     Ok(made.ok().ok_or("a span")?)
 }
 
 /// Makes a span under another one.
 fn make_under(registry: &mut Registry, parent: Id) -> Result<Id, RequestError> {
-    let fields = FieldSet::new(&NAMES, Identifier(7));
-    let metadata = Metadata::new(
-        "child",
-        "app",
-        Level::INFO,
-        None,
-        None,
-        None,
-        fields,
-        Kind::SPAN,
-    );
-    let attributes = Attributes::child_of(parent, &metadata, fields.value_set_all(&[]));
+    let metadata = span_metadata("child");
+    let attributes = Attributes::child_of(parent, &metadata, metadata.fields().value_set_all(&[]));
     registry.new_span(&attributes, 0, FilterMap::all())
 }
 
