@@ -3,36 +3,13 @@
 ghost use Rattle.std.specs.Prelude.{◌≡◌, IfOk, true};
 ghost use Rattle.tracing_appender_folders.specs.Moments.{is_moment};
 
+use crate::tests::moments::{FEBRUARY, FIRST, LAST, MONDAY};
 use crate::{
     BuildError, Builder, FaultyFolder, Folder, FolderError, FolderFault, InitContext, InitError,
     MemoryFolder, Moment, RollingFileAppender, Rotation, daily, hourly, minutely, never, weekly,
 };
 use std::alloc::{AllocError, Global};
 use std::test::Fail;
-
-/// 2025-02-17T10:01:00Z.
-const MONDAY: Moment = Moment {
-    seconds: 1_739_786_460,
-    nanoseconds: 0,
-};
-
-/// 2020-02-01T10:01:00Z.
-const FEBRUARY: Moment = Moment {
-    seconds: 1_580_551_260,
-    nanoseconds: 0,
-};
-
-/// 0001-01-01T00:00:00Z.
-const FIRST: Moment = Moment {
-    seconds: -62_135_596_800,
-    nanoseconds: 0,
-};
-
-/// 9998-12-31T23:59:59Z.
-const LAST: Moment = Moment {
-    seconds: 253_370_764_799,
-    nanoseconds: 0,
-};
 
 /// So many seconds after 2020-02-01T10:01:00Z.
 fn later(seconds: i64) -> Result<Moment, Fail>
@@ -75,12 +52,11 @@ fn first_name(alloc: Global, builder: Builder, moment: Moment) -> Result<String,
 /// Whether the folder has the file with these bytes.
 fn holds(folder: &MemoryFolder, name: &str, bytes: &[u8]) -> Result<bool, AllocError> {
     let entries = folder.files()?;
-    for entry in &entries {
-        if entry.name == name {
-            return Ok(entry.bytes == bytes);
-        }
-    }
-    Ok(false)
+    Ok(
+        entries
+            .iter()
+            .any(|entry| entry.name == name && entry.bytes == bytes),
+    )
 }
 
 #[test]
