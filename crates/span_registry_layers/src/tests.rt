@@ -1,20 +1,22 @@
-// Each call of the crate once, through the paths that a user has.
+// Each call of the crate, and what filters, layers and stacks answer and tell, through the paths that a user has.
 
+mod filter_answers;
 mod filters;
 mod layers;
-mod place;
+mod recording;
 mod scopes;
 mod slots;
 mod stack;
 mod store;
-mod through;
 mod trees;
-mod words;
 
-use crate::{FilterMap, Registry};
+use crate::{Context, Filter, FilterMap, Registry};
 use std::alloc::Global;
 use std::test::Fail;
-use tracing_core::{At, Attributes, FieldSet, Id, Identifier, Kind, Level, Metadata};
+use tracing_core::{
+    At, Attributes, Event, FieldSet, Id, Identifier, Interest, Kind, Level, Metadata, RequestError,
+    Subscriber, ValueSet,
+};
 
 const NAMES: [&str; 1] = ["n"];
 
@@ -24,41 +26,50 @@ const PLACE: At = At {
     nanoseconds: 0,
 };
 
-/// The metadata of an INFO span.
-fn span_metadata<'a>(name: &'a str) -> Metadata<'a> {
-    let fields = FieldSet::new(&NAMES, Identifier(7));
-    Metadata::new(
-        name,
-        "app",
-        Level::INFO,
-        None,
-        None,
-        None,
-        fields,
-        Kind::SPAN,
-    )
+/// The metadata of a callsite with one field.
+fn metadata_at<'a>(
+    identifier: u64,
+    name: &'a str,
+    target: &'a str,
+    level: Level,
+    kind: Kind,
+) -> Metadata<'a> {
+    let fields = FieldSet::new(&NAMES, Identifier(identifier));
+    Metadata::new(name, target, level, None, None, None, fields, kind)
 }
 
-/// Makes a span on lane 0, under the current one.
+/// The metadata of events at one callsite.
+fn event_metadata<'a>(target: &'a str, level: Level) -> Metadata<'a> {
+    metadata_at(7, "e", target, level, Kind::EVENT)
+}
+
+/// The metadata of spans at one callsite.
+fn span_metadata<'a>(name: &'a str, level: Level) -> Metadata<'a> {
+    metadata_at(8, name, "app", level, Kind::SPAN)
+}
+
+/// No values of the fields of a callsite.
+fn no_values<'a>(metadata: &Metadata<'a>) -> ValueSet<'a> {
+    metadata.fields().value_set_all(&[])
+}
+
+/// Makes an INFO span on lane 0, under the current one.
 fn make(registry: &mut Registry, name: &str, passed: FilterMap) -> Result<Id, Fail> {
-    let fields = FieldSet::new(&NAMES, Identifier(7));
-    let metadata = Metadata::new(
-        name,
-        "app",
-        Level::INFO,
-        None,
-        None,
-        None,
-        fields,
-        Kind::SPAN,
-    );
-    let attributes = Attributes::new(&metadata, fields.value_set_all(&[]));
-    Ok(
-        registry
-            .new_span(&attributes, 0, passed)
-            .ok()
-            .ok_or("a span")?,
-    )
+    let metadata = span_metadata(name, Level::INFO);
+    let made = registry.new_span(&Attributes::new(&metadata, no_values(&metadata)), 0, passed);
+    Ok(made.ok().ok_or("a span")?)
+}
+
+/// Makes a span at a subscriber, under the current one.
+fn make_in<S: Subscriber>(subscriber: &mut S, level: Level) -> Result<Option<Id>, RequestError> {
+    let metadata = span_metadata("s", level);
+    subscriber.new_span(&Attributes::new(&metadata, no_values(&metadata)), PLACE)
+}
+
+/// Hands an event over to a subscriber.
+fn tell_in<S: Subscriber>(subscriber: &mut S, level: Level) -> Result<(), RequestError> {
+    let metadata = event_metadata("app", level);
+    subscriber.event(&Event::new(&metadata, no_values(&metadata)), PLACE)
 }
 
 /// A registry with an outer and an inner span, both entered on lane 0.
@@ -69,4 +80,17 @@ fn nested(alloc: Global) -> Result<(Registry, Id, Id), Fail> {
     let inner = make(&mut registry, "inner", FilterMap::all())?;
     registry.enter(&inner, 0).ok().ok_or("an entry")?;
     Ok((registry, outer, inner))
+}
+
+/// Whether a filter passes what has this metadata, and its interest in it.
+fn asked_of<F: Filter>(
+    filter: &F,
+    registry: &mut Registry,
+    metadata: &Metadata<'_>,
+) -> (bool, Interest) {
+    let context = Context::new(registry, PLACE, None);
+    (
+        filter.enabled(metadata, &context),
+        filter.callsite_enabled(metadata),
+    )
 }

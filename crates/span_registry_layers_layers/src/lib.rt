@@ -17,6 +17,3 @@ pub use filter::{
 pub use filtered::Filtered;
 pub use laws::{joined_registry_stays_sound, tree_registry_stays_sound, trees_stay_attached};
 pub use layer::{Identity, Layer, LayerExt, Layered, SubscriberExt};
-
-#[cfg(test)]
-mod tests;

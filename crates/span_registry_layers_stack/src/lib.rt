@@ -17,6 +17,3 @@ pub use laws::{
 };
 pub use output::{Output, StackError, StackRefusal, UnknownOutput};
 pub use stack::Stack;
-
-#[cfg(test)]
-mod tests;

@@ -7,6 +7,7 @@ mod unreadable;
 
 use crate::program::main_with;
 use std::alloc::{AllocError, Global};
+use std::io::Read;
 use std::process::Abort;
 use std::test::Fail;
 
@@ -53,24 +54,31 @@ pub(crate) struct Want<'a> {
     pub(crate) errors: &'a str,
 }
 
-/// The program on the word `replay`.
-pub(crate) fn replayed(alloc: Global, mut input: &[u8]) -> Result<Run, Fail> {
-    let mut words = Vec::new(alloc);
-    words.push(String::from_str(alloc, "replay")?)?;
+/// The program on these words and this input.
+pub(crate) fn run_on<R: Read>(alloc: Global, words: &[&str], input: &mut R) -> Result<Run, Fail> {
+    let words = words_of(alloc, words)?;
     let mut output = Vec::with_capacity(alloc, ROOM)?;
     let mut errors = Vec::with_capacity(alloc, ROOM)?;
-    let status = main_with(
-        alloc,
-        words.as_slice(),
-        &mut input,
-        &mut output,
-        &mut errors,
-    );
+    let status = main_with(alloc, words.as_slice(), input, &mut output, &mut errors);
     Ok(Run {
         status,
         output,
         errors,
     })
+}
+
+/// The program on the word `replay`.
+pub(crate) fn replayed(alloc: Global, mut input: &[u8]) -> Result<Run, Fail> {
+    run_on(alloc, &["replay"], &mut input)
+}
+
+/// Words as the program is given them.
+pub(crate) fn words_of(alloc: Global, words: &[&str]) -> Result<Vec<String>, Fail> {
+    let mut list = Vec::new(alloc);
+    for word in words {
+        list.push(String::from_str(alloc, word)?)?;
+    }
+    Ok(list)
 }
 
 /// Lines, with a newline after each.

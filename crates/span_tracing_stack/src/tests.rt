@@ -4,18 +4,16 @@ mod entries;
 mod filters;
 mod handles;
 mod lines;
-mod place;
+mod requests;
 mod serving;
-mod words;
 
 use crate::{Fields, LineFormat, Setting, Stack, Timer};
-use place::Place;
 use span_registry_layers::OutputKey;
 use std::alloc::{AllocError, Global};
 use std::test::Fail;
 use tracing_core::{
-    AnyValue, At, Attributes, CurrentSpan, Dispatch, Event, FieldSet, Hub, Id, Identifier,
-    Interest, Kind, Level, LevelFilter, Metadata, Record, RequestError,
+    AnyValue, At, Attributes, CurrentSpan, DefaultCallsite, Dispatch, Event, FieldSet, Hub, Id,
+    Identifier, Interest, Kind, Level, LevelFilter, Metadata, Record, RequestError,
 };
 
 const NAMES: [&str; 2] = ["message", "n"];
@@ -26,6 +24,16 @@ fn at(lane: u64) -> At {
         seconds: 0,
         nanoseconds: 0,
     }
+}
+
+/// The metadata of an event with no field.
+fn event_metadata<'a>(callsite: u64, level: Level) -> Metadata<'a> {
+    metadata_of(
+        "event",
+        level,
+        FieldSet::new(&[], Identifier(callsite)),
+        Kind::EVENT,
+    )
 }
 
 fn metadata_of<'a>(name: &'a str, level: Level, fields: FieldSet<'a>, kind: Kind) -> Metadata<'a> {
@@ -53,8 +61,10 @@ fn made_with(
     }
 }
 
+type StackHub<'a> = Hub<Stack<LevelFilter>, DefaultCallsite<'a>>;
+
 /// The same in a hub, with its handle.
-fn hub_of(alloc: Global) -> Result<(Hub<Stack<LevelFilter>, Place>, Dispatch), Fail> {
+fn hub_of<'a>(alloc: Global) -> Result<(StackHub<'a>, Dispatch), Fail> {
     let mut hub = Hub::new(alloc);
     let handle = hub.add(stack_of(alloc)?).ok().ok_or("a handle")?;
     Ok((hub, handle))
@@ -62,7 +72,7 @@ fn hub_of(alloc: Global) -> Result<(Hub<Stack<LevelFilter>, Place>, Dispatch), F
 
 /// Makes a span under the current one of the lane, with a number.
 fn make(
-    hub: &mut Hub<Stack<LevelFilter>, Place>,
+    hub: &mut StackHub<'_>,
     handle: &Dispatch,
     lane: u64,
     name: &str,
@@ -78,7 +88,7 @@ fn make(
 
 /// Tells of an event of the level under the current span of the lane.
 fn tell(
-    hub: &mut Hub<Stack<LevelFilter>, Place>,
+    hub: &mut StackHub<'_>,
     handle: &Dispatch,
     lane: u64,
     level: Level,
@@ -91,18 +101,18 @@ fn tell(
 }
 
 /// The line of the last request.
-fn line_in<'a>(hub: &'a Hub<Stack<LevelFilter>, Place>, handle: &Dispatch) -> Option<&'a str> {
+fn line_in<'a>(hub: &'a StackHub<'_>, handle: &Dispatch) -> Option<&'a str> {
     hub.subscriber(handle)?.line()
 }
 
 /// Whether the span is open.
-fn is_open(hub: &Hub<Stack<LevelFilter>, Place>, handle: &Dispatch, id: Id) -> bool {
+fn is_open(hub: &StackHub<'_>, handle: &Dispatch, id: Id) -> bool {
     hub.subscriber(handle)
         .is_some_and(|stack| stack.is_open(id))
 }
 
 /// How many handles the span has.
-fn handles_of(hub: &Hub<Stack<LevelFilter>, Place>, handle: &Dispatch, id: Id) -> usize {
+fn handles_of(hub: &StackHub<'_>, handle: &Dispatch, id: Id) -> usize {
     match hub.subscriber(handle) {
         None => 0,
         Some(stack) => stack.handles_of(id),
@@ -110,12 +120,7 @@ fn handles_of(hub: &Hub<Stack<LevelFilter>, Place>, handle: &Dispatch, id: Id) -
 }
 
 /// Whether the lane is in the span.
-fn is_inside(
-    hub: &mut Hub<Stack<LevelFilter>, Place>,
-    handle: &Dispatch,
-    lane: u64,
-    id: Id,
-) -> bool {
+fn is_inside(hub: &mut StackHub<'_>, handle: &Dispatch, lane: u64, id: Id) -> bool {
     match hub.current_span(handle, at(lane)) {
         CurrentSpan::Inside(here) => here == id,
         _ => false,
@@ -123,6 +128,6 @@ fn is_inside(
 }
 
 /// Whether the lane is in no span.
-fn is_outside(hub: &mut Hub<Stack<LevelFilter>, Place>, handle: &Dispatch, lane: u64) -> bool {
+fn is_outside(hub: &mut StackHub<'_>, handle: &Dispatch, lane: u64) -> bool {
     matches!(hub.current_span(handle, at(lane)), CurrentSpan::Outside)
 }

@@ -3,6 +3,7 @@
 ghost use Rattle.std.specs.Prelude.{◌≡◌, true};
 ghost use Rattle.tracing_appender_folders.specs.Moments.{is_moment};
 
+mod moments;
 mod rolling;
 mod system;
 
@@ -10,20 +11,9 @@ use crate::{
     Builder, Entry, FileNumber, Folder, FolderError, FolderFault, InitContext, InitError,
     MemoryFolder, Moment, RollingFileAppender, Rotation, date_text,
 };
+use moments::{MONDAY_MIDNIGHT, TUESDAY_MIDNIGHT};
 use std::alloc::{AllocError, Global};
 use std::test::Fail;
-
-/// 2025-02-17T00:00:00Z.
-const FIRST: Moment = Moment {
-    seconds: 1_739_750_400,
-    nanoseconds: 0,
-};
-
-/// 2025-02-18T00:00:00Z.
-const NEXT: Moment = Moment {
-    seconds: 1_739_836_800,
-    nanoseconds: 0,
-};
 
 /// A folder that opens so many files, and takes one byte at a write.
 #[derive(Drop)]
@@ -118,8 +108,9 @@ fn first_name(alloc: Global, prefix: &str, suffix: &str) -> Result<String, Fail>
         alloc,
         builder(alloc, prefix, suffix)?,
         folder,
-        FIRST,
-    ).map_err(|refusal| refusal.error)?;
+        MONDAY_MIDNIGHT,
+    )
+    .map_err(|refusal| refusal.error)?;
     let entries = appender.folder().files()?;
     let entry = entries.first().ok_or("no file")?;
     Ok(String::from_str(alloc, entry.name)?)
@@ -182,20 +173,20 @@ fn days_have_dates(rt: HostRuntime) -> Result<(), Fail> {
 fn a_late_line_stays_with_the_later_day(rt: HostRuntime) -> Result<(), Fail> {
     let alloc = rt.alloc();
     let mut folder = MemoryFolder::new(alloc);
-    folder.put("app.2025-02-17", b"old\n", Some(FIRST))?;
+    folder.put("app.2025-02-17", b"old\n", Some(MONDAY_MIDNIGHT))?;
     folder.put("app.2025-02-18", b"gone\n", None)?;
     folder.put("app.2025-02-18", b"found\n", None)?;
     let mut appender = RollingFileAppender::open(
         alloc,
         builder(alloc, "app", "")?,
         folder,
-        FIRST,
+        MONDAY_MIDNIGHT,
     ).map_err(|refusal| refusal.error)?;
-    appender.look(FIRST)?;
+    appender.look(MONDAY_MIDNIGHT)?;
     appender.push(b"one\n")?;
-    appender.look(NEXT)?;
+    appender.look(TUESDAY_MIDNIGHT)?;
     appender.push(b"two\n")?;
-    appender.look(FIRST)?;
+    appender.look(MONDAY_MIDNIGHT)?;
     appender.push(b"late\n")?;
     assert_eq!(rt; appender.faults().switches, 0);
     let folder = appender.into_folder();
@@ -233,11 +224,11 @@ fn a_failed_switch_keeps_the_old_file(rt: HostRuntime) -> Result<(), Fail> {
         alloc,
         builder(alloc, "app", "")?,
         folder,
-        FIRST,
+        MONDAY_MIDNIGHT,
     ).map_err(|refusal| refusal.error)?;
     appender.push(b"ab")?;
-    appender.look(NEXT)?;
-    appender.look(NEXT)?;
+    appender.look(TUESDAY_MIDNIGHT)?;
+    appender.look(TUESDAY_MIDNIGHT)?;
     appender.push(b"c")?;
     let faults = appender.faults();
     assert_eq!(rt; faults.switches, 1);
@@ -252,7 +243,7 @@ fn a_failed_switch_keeps_the_old_file(rt: HostRuntime) -> Result<(), Fail> {
 fn a_refused_folder_comes_back(rt: HostRuntime) -> Result<(), Fail> {
     let alloc = rt.alloc();
     let folder = SlowFolder::new(alloc, 0);
-    match RollingFileAppender::open(alloc, builder(alloc, "a/b", "")?, folder, FIRST) {
+    match RollingFileAppender::open(alloc, builder(alloc, "a/b", "")?, folder, MONDAY_MIDNIGHT) {
         Ok(_) => Err("opened".into()),
         Err(refusal) => {
             assert_eq!(rt; refusal.error, FolderError::Fault(FolderFault::Refused));

@@ -6,53 +6,69 @@ mod visits;
 
 const NAMES: [&str; 3] = ["message", "count", "count"];
 
+/// Texts, each with the level and the filter that it is read as.
+fn level_texts() -> [(&'static str, Option<Level>, Option<LevelFilter>); 24] {
+    [
+        ("ERROR", Some(Level::ERROR), Some(LevelFilter::ERROR)),
+        ("Error", Some(Level::ERROR), Some(LevelFilter::ERROR)),
+        ("warn", Some(Level::WARN), Some(LevelFilter::WARN)),
+        ("WARN", Some(Level::WARN), Some(LevelFilter::WARN)),
+        ("Info", Some(Level::INFO), Some(LevelFilter::INFO)),
+        ("info", Some(Level::INFO), Some(LevelFilter::INFO)),
+        ("dEbUg", Some(Level::DEBUG), Some(LevelFilter::DEBUG)),
+        ("debug", Some(Level::DEBUG), Some(LevelFilter::DEBUG)),
+        ("trace", Some(Level::TRACE), Some(LevelFilter::TRACE)),
+        ("TRACE", Some(Level::TRACE), Some(LevelFilter::TRACE)),
+        ("3", Some(Level::INFO), Some(LevelFilter::INFO)),
+        ("+3", Some(Level::INFO), Some(LevelFilter::INFO)),
+        ("005", Some(Level::TRACE), Some(LevelFilter::TRACE)),
+        ("5", Some(Level::TRACE), Some(LevelFilter::TRACE)),
+        ("", None, Some(LevelFilter::ERROR)),
+        ("off", None, Some(LevelFilter::OFF)),
+        ("OFF", None, Some(LevelFilter::OFF)),
+        ("0", None, Some(LevelFilter::OFF)),
+        ("+0", None, Some(LevelFilter::OFF)),
+        ("6", None, None),
+        ("-1", None, None),
+        ("+", None, None),
+        ("inf", None, None),
+        ("18446744073709551619", None, None),
+    ]
+}
+
 #[test]
 fn levels_parse(rt: HostRuntime) {
-    for (text, want) in [
-        ("ERROR", Some(Level::ERROR)),
-        ("warn", Some(Level::WARN)),
-        ("Info", Some(Level::INFO)),
-        ("dEbUg", Some(Level::DEBUG)),
-        ("trace", Some(Level::TRACE)),
-        ("3", Some(Level::INFO)),
-        ("+3", Some(Level::INFO)),
-        ("005", Some(Level::TRACE)),
-        ("0", None),
-        ("6", None),
-        ("-1", None),
-        (" 3", None),
-        ("3 ", None),
-        ("", None),
-        ("+", None),
-        ("inf", None),
-        ("off", None),
-        ("18446744073709551619", None),
-    ] {
+    for (text, want, _filter) in level_texts() {
         assert_eq!(rt; text.parse::<Level>().ok(), want, "at {text}");
+    }
+    for text in [" 3", "3 ", " off", "none"] {
+        assert_eq!(rt; text.parse::<Level>().ok(), None, "at {text}");
     }
 }
 
 #[test]
 fn filters_parse(rt: HostRuntime) {
-    for (text, want) in [
-        ("OFF", Some(LevelFilter::OFF)),
-        ("off", Some(LevelFilter::OFF)),
-        ("", Some(LevelFilter::ERROR)),
-        ("Error", Some(LevelFilter::ERROR)),
-        ("WARN", Some(LevelFilter::WARN)),
-        ("info", Some(LevelFilter::INFO)),
-        ("debug", Some(LevelFilter::DEBUG)),
-        ("TRACE", Some(LevelFilter::TRACE)),
-        ("0", Some(LevelFilter::OFF)),
-        ("+0", Some(LevelFilter::OFF)),
-        ("5", Some(LevelFilter::TRACE)),
-        ("6", None),
-        ("-1", None),
-        (" off", None),
-        ("none", None),
-    ] {
+    for (text, _level, want) in level_texts() {
         assert_eq!(rt; text.parse::<LevelFilter>().ok(), want, "at {text}");
     }
+    for text in [" 3", "3 ", " off", "none"] {
+        assert_eq!(rt; text.parse::<LevelFilter>().ok(), None, "at {text}");
+    }
+}
+
+/// A value of each kind, but for an empty one.
+fn each_value<'a>(sources: &'a [&'a str]) -> [Option<AnyValue<'a>>; 9] {
+    [
+        Some(AnyValue::I64(-1)),
+        Some(AnyValue::U64(2)),
+        Some(AnyValue::I128(-3)),
+        Some(AnyValue::U128(4)),
+        Some(AnyValue::Bool(false)),
+        Some(AnyValue::Str("s")),
+        Some(AnyValue::Bytes(b"\x0a")),
+        Some(AnyValue::Error(ErrorText::new("e", sources))),
+        Some(AnyValue::Debug(DebugText::Failing)),
+    ]
 }
 
 #[test]

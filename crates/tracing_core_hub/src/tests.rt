@@ -1,16 +1,17 @@
 use super::*;
+use std::alloc::Global;
 use std::test::Fail;
 use tracing_core_fields::{FieldSet, Id, Identifier, Kind, Level, LevelFilter, Metadata};
 
 mod everything;
-mod place;
+mod owned_callsite;
 mod reaching;
 mod registering;
 mod running;
 mod scoped;
 
 use everything::Everything;
-use place::Place;
+use owned_callsite::OwnedCallsite;
 use tracing_core_requests::{
     At, Attributes, Callsite, CurrentSpan, Event, Interest, NoSubscriber, Record, RequestError,
     Subscriber,
@@ -24,25 +25,40 @@ fn at(lane: u64) -> At {
     }
 }
 
+/// One more subscriber, by its name and its interest in all callsites.
+fn add<C: Callsite>(
+    hub: &mut Hub<Everything, C>,
+    name: u64,
+    interest: Interest,
+) -> Result<Dispatch, Fail> {
+    Ok(
+        hub.add(Everything::new(name, interest))
+            .ok()
+            .ok_or("a hub")?,
+    )
+}
+
+/// A hub with a lane and one subscriber, which wants all.
+fn hub_of(alloc: Global) -> Result<(Hub<Everything, OwnedCallsite>, u64, Dispatch), Fail> {
+    let mut hub = Hub::new(alloc);
+    let lane = hub.thread()?;
+    let first = add(&mut hub, 1, Interest::always())?;
+    Ok((hub, lane, first))
+}
+
 #[test]
 fn two_subscribers_differ(rt: HostRuntime) -> Result<(), Fail> {
-    let mut hub: Hub<Everything, Place> = Hub::new(rt.alloc());
+    let mut hub: Hub<Everything, OwnedCallsite> = Hub::new(rt.alloc());
     let lane = hub.thread()?;
     assert_eq!(rt; hub.max_level(), LevelFilter::OFF);
     assert_eq!(rt;
-        hub.register(Place::new(3, Level::INFO)).ok(),
+        hub.register(OwnedCallsite::new(3, Level::INFO)).ok(),
         Some(Interest::never())
     );
-    let first = hub
-        .add(Everything::new(1, Interest::always()))
-        .ok()
-        .ok_or("a hub")?;
+    let first = add(&mut hub, 1, Interest::always())?;
     assert_eq!(rt; hub.interest(Identifier(3)), Some(Interest::always()));
     assert_eq!(rt; hub.gate(Identifier(3), at(lane)), Some(false));
-    let second = hub
-        .add(Everything::new(2, Interest::never()))
-        .ok()
-        .ok_or("a hub")?;
+    let second = add(&mut hub, 2, Interest::never())?;
     assert_eq!(rt; hub.interest(Identifier(3)), Some(Interest::sometimes()));
     assert_eq!(rt; hub.max_level(), LevelFilter::TRACE);
     assert!(rt; hub.release(second).is_some());
@@ -57,19 +73,19 @@ fn two_subscribers_differ(rt: HostRuntime) -> Result<(), Fail> {
 
 #[test]
 fn callsites_register_once(rt: HostRuntime) -> Result<(), Fail> {
-    let mut hub: Hub<Everything, Place> = Hub::new(rt.alloc());
+    let mut hub: Hub<Everything, OwnedCallsite> = Hub::new(rt.alloc());
     let lane = hub.thread()?;
     assert_eq!(rt;
-        hub.register(Place::new(4, Level::WARN)).ok(),
+        hub.register(OwnedCallsite::new(4, Level::WARN)).ok(),
         Some(Interest::never())
     );
     assert_eq!(rt;
-        hub.register(Place::new(4, Level::WARN)).ok(),
+        hub.register(OwnedCallsite::new(4, Level::WARN)).ok(),
         Some(Interest::never())
     );
     assert!(rt;
         matches!(
-            hub.register(Place::new(4, Level::INFO)),
+            hub.register(OwnedCallsite::new(4, Level::INFO)),
             Err(RegisterError::Taken(_))
         )
     );
@@ -79,18 +95,10 @@ fn callsites_register_once(rt: HostRuntime) -> Result<(), Fail> {
 
 #[test]
 fn the_global_default_is_set_once(rt: HostRuntime) -> Result<(), Fail> {
-    let mut hub: Hub<Everything, Place> = Hub::new(rt.alloc());
-    let lane = hub.thread()?;
-    let first = hub
-        .add(Everything::new(1, Interest::always()))
-        .ok()
-        .ok_or("a hub")?;
-    let second = hub
-        .add(Everything::new(2, Interest::never()))
-        .ok()
-        .ok_or("a hub")?;
+    let (mut hub, lane, first) = hub_of(rt.alloc())?;
+    let second = add(&mut hub, 2, Interest::never())?;
     assert_eq!(rt;
-        hub.register(Place::new(3, Level::INFO)).ok(),
+        hub.register(OwnedCallsite::new(3, Level::INFO)).ok(),
         Some(Interest::sometimes())
     );
     assert_eq!(rt; hub.gate(Identifier(3), at(lane)), Some(false));
@@ -107,11 +115,8 @@ fn the_global_default_is_set_once(rt: HostRuntime) -> Result<(), Fail> {
 
 #[test]
 fn weak_handles_keep_nobody(rt: HostRuntime) -> Result<(), Fail> {
-    let mut hub: Hub<Everything, Place> = Hub::new(rt.alloc());
-    let first = hub
-        .add(Everything::new(2, Interest::never()))
-        .ok()
-        .ok_or("a hub")?;
+    let mut hub: Hub<Everything, OwnedCallsite> = Hub::new(rt.alloc());
+    let first = add(&mut hub, 2, Interest::never())?;
     let weak = hub.downgrade(&first);
     assert!(rt;
         hub.subscriber(&first)
@@ -130,17 +135,11 @@ fn weak_handles_keep_nobody(rt: HostRuntime) -> Result<(), Fail> {
 #[test]
 fn guards_are_spent_in_any_order(rt: HostRuntime) -> Result<(), Fail> {
     let alloc = rt.alloc();
-    let mut hub: Hub<Everything, Place> = Hub::new(alloc);
+    let mut hub: Hub<Everything, OwnedCallsite> = Hub::new(alloc);
     let lane = hub.thread()?;
     let other = hub.thread()?;
-    let first = hub
-        .add(Everything::new(1, Interest::always()))
-        .ok()
-        .ok_or("a hub")?;
-    let second = hub
-        .add(Everything::new(2, Interest::never()))
-        .ok()
-        .ok_or("a hub")?;
+    let first = add(&mut hub, 1, Interest::always())?;
+    let second = add(&mut hub, 2, Interest::never())?;
     let outer = hub.set_default(lane, &first)?;
     let inner = hub.set_default(lane, &second)?;
     assert!(rt; hub.release(first).is_none());
@@ -168,13 +167,13 @@ fn guards_are_spent_in_any_order(rt: HostRuntime) -> Result<(), Fail> {
 #[test]
 fn boxes_answer_what_is_in_them(rt: HostRuntime) -> Result<(), Fail> {
     let alloc = rt.alloc();
-    let mut hub: Hub<Box<dyn Subscriber>, Place> = Hub::new(alloc);
+    let mut hub: Hub<Box<dyn Subscriber>, OwnedCallsite> = Hub::new(alloc);
     let lane = hub.thread()?;
     let every: Box<dyn Subscriber> = Box::new(alloc, Everything::new(1, Interest::always()))?;
     let none: Box<dyn Subscriber> = Box::new(alloc, NoSubscriber::new())?;
     let first = hub.add(every).ok().ok_or("a hub")?;
     assert_eq!(rt;
-        hub.register(Place::new(3, Level::INFO)).ok(),
+        hub.register(OwnedCallsite::new(3, Level::INFO)).ok(),
         Some(Interest::always())
     );
     let second = hub.add(none).ok().ok_or("a hub")?;
@@ -190,17 +189,9 @@ fn boxes_answer_what_is_in_them(rt: HostRuntime) -> Result<(), Fail> {
     Ok(())
 }
 
-fn metadata_of(fields: FieldSet<'_>) -> Metadata<'_> {
-    Metadata::new(
-        "made",
-        "app",
-        Level::INFO,
-        None,
-        Some(7),
-        None,
-        fields,
-        Kind::EVENT,
-    )
+fn metadata_of<'a>(fields: FieldSet<'a>) -> Metadata<'a> {
+    let (level, line) = (Level::INFO, Some(7));
+    Metadata::new("made", "app", level, None, line, None, fields, Kind::EVENT)
 }
 
 #[test]
@@ -217,14 +208,9 @@ fn callsites_keep_what_they_are_told(rt: HostRuntime) -> Result<(), Fail> {
 
 #[test]
 fn requests_reach_the_handle(rt: HostRuntime) -> Result<(), Fail> {
-    let mut hub: Hub<Everything, Place> = Hub::new(rt.alloc());
-    let lane = hub.thread()?;
+    let (mut hub, lane, first) = hub_of(rt.alloc())?;
     let fields = FieldSet::new(&[], Identifier(5));
     let metadata = metadata_of(fields);
-    let first = hub
-        .add(Everything::new(1, Interest::always()))
-        .ok()
-        .ok_or("a hub")?;
     let nobody = Dispatch::none();
     let id = Id::from_u64(4).ok_or("an id")?;
     assert!(rt; hub.enabled(&first, &metadata, at(lane)));
@@ -256,13 +242,10 @@ fn requests_reach_the_handle(rt: HostRuntime) -> Result<(), Fail> {
 
 #[test]
 fn events_and_spans_reach_the_handle(rt: HostRuntime) -> Result<(), Fail> {
-    let mut hub: Hub<Everything, Place> = Hub::new(rt.alloc());
+    let mut hub: Hub<Everything, OwnedCallsite> = Hub::new(rt.alloc());
     let fields = FieldSet::new(&[], Identifier(5));
     let metadata = metadata_of(fields);
-    let first = hub
-        .add(Everything::new(1, Interest::always()))
-        .ok()
-        .ok_or("a hub")?;
+    let first = add(&mut hub, 1, Interest::always())?;
     let nobody = Dispatch::none();
     let id = Id::from_u64(4).ok_or("an id")?;
     let values = fields.value_set_all(&[]);

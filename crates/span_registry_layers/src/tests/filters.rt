@@ -4,42 +4,27 @@ ghost use Rattle.tracing_core.specs.Metadata.{plain_metadata};
 
 use super::*;
 use crate::{
-    And, CallsiteTest, Context, ContextTest, DynFilterFn, Filter, FilterExt, FilterFn, Filtered,
-    Identity, MetadataTest, Not, Or, dynamic_filter_fn, filter_fn,
+    And, CallsiteTest, ContextTest, DynFilterFn, FilterExt, FilterFn, Filtered, Identity,
+    MetadataTest, Not, Or, dynamic_filter_fn, filter_fn,
 };
-use tracing_core::{Event, Interest, LevelFilter, Record};
+use tracing_core::{LevelFilter, Record};
 
 /// Whether a filter passes an INFO span, and its interest in it.
 fn asked<F: Filter>(filter: &F, registry: &mut Registry) -> (bool, Interest) {
-    let metadata = span_metadata("asked");
-    let context = Context::new(registry, PLACE, None);
-    (
-        filter.enabled(&metadata, &context),
-        filter.callsite_enabled(&metadata),
-    )
+    asked_of(filter, registry, &span_metadata("asked", Level::INFO))
 }
 
 /// Makes each other call of a filter once, and answers whether it passes an event.
 fn told<F: Filter>(filter: &mut F, registry: &mut Registry, span: Id) -> bool {
-    let fields = FieldSet::new(&NAMES, Identifier(7));
-    let metadata = Metadata::new(
-        "e",
-        "app",
-        Level::INFO,
-        None,
-        None,
-        None,
-        fields,
-        Kind::EVENT,
-    );
+    let metadata = event_metadata("app", Level::INFO);
     let context = Context::new(registry, PLACE, None);
-    let attributes = Attributes::new(&metadata, fields.value_set_all(&[]));
+    let attributes = Attributes::new(&metadata, no_values(&metadata));
     filter.on_new_span(&attributes, &span, &context);
-    filter.on_record(&span, &Record::new(fields.value_set_all(&[])), &context);
+    filter.on_record(&span, &Record::new(no_values(&metadata)), &context);
     filter.on_enter(&span, &context);
     filter.on_exit(&span, &context);
     filter.on_close(&span, &context);
-    filter.event_enabled(&Event::new(&metadata, fields.value_set_all(&[])), &context)
+    filter.event_enabled(&Event::new(&metadata, no_values(&metadata)), &context)
 }
 
 #[test]

@@ -6,10 +6,10 @@ ghost use Rattle.span_registry_layers.specs.Looks.{SameLoan, left};
 
 use super::*;
 use crate::{
-    Context, ContextTest, DynFilterFn, Extensions, Filter, Filtered, Layer, LayerExt, Output,
-    OutputKey, Slot, Stack, Tag, layers_keep_to_keys,
+    ContextTest, DynFilterFn, Extensions, Filtered, Layer, LayerExt, Output, OutputKey, Slot,
+    Stack, Tag, layers_keep_to_keys,
 };
-use tracing_core::{Event, Interest, LevelFilter, Record, Subscriber, WeakDispatch};
+use tracing_core::{LevelFilter, Record, WeakDispatch};
 
 /// Counts, in a slot of each span that it sees, how often the span was entered and how many events stood in it, and keeps the
 /// count of the span that closed last.
@@ -204,10 +204,7 @@ fn until_two(alloc: Global) -> Result<DynFilterFn, Fail> {
 
 /// Makes a span of this level, and enters and leaves it so often.
 fn passed<S: Subscriber>(stack: &mut S, level: Level, times: u64) -> Result<Id, Fail> {
-    let fields = FieldSet::new(&NAMES, Identifier(7));
-    let metadata = Metadata::new("s", "app", level, None, None, None, fields, Kind::SPAN);
-    let attributes = Attributes::new(&metadata, fields.value_set_all(&[]));
-    let span = stack.new_span(&attributes, PLACE)?.ok_or("a span")?;
+    let span = make_in(stack, level)?.ok_or("a span")?;
     for _time in 0..times {
         stack.enter(&span, PLACE)?;
         stack.exit(&span, PLACE);
@@ -238,31 +235,14 @@ fn surface_slots_in_hooks(rt: HostRuntime) -> Result<(), Fail> {
     Ok(())
 }
 
-/// Hands an event over, on lane 0.
-fn hand(stack: &mut Stack<CountOutput<DynFilterFn>>) -> Result<(), Fail> {
-    let fields = FieldSet::new(&NAMES, Identifier(7));
-    let metadata = Metadata::new(
-        "e",
-        "app",
-        Level::INFO,
-        None,
-        None,
-        None,
-        fields,
-        Kind::EVENT,
-    );
-    stack.event(&Event::new(&metadata, fields.value_set_all(&[])), PLACE)?;
-    Ok(())
-}
-
 #[test]
 fn filters_see_no_slots_of_the_same_event(rt: HostRuntime) -> Result<(), Fail> {
     let mut stack = counts_of(rt.alloc(), until_two(rt.alloc())?, until_two(rt.alloc())?)?;
     let span = passed(&mut stack, Level::INFO, 0)?;
     stack.enter(&span, PLACE)?;
-    hand(&mut stack)?;
+    tell_in(&mut stack, Level::INFO)?;
     assert!(rt; stack.told(0) == Some(true) && stack.told(1) == Some(true));
-    hand(&mut stack)?;
+    tell_in(&mut stack, Level::INFO)?;
     assert!(rt; stack.told(0) == Some(false) && stack.told(1) == Some(false));
     Ok(())
 }

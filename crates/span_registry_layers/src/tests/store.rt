@@ -1,8 +1,11 @@
 // The registry.
+mod filtered_spans;
+mod lookups;
+
 use super::*;
 use crate::{
-    Extensions, LookupSpan, OutputKey, OwnedMetadata, Slot, SpanData, Tag, closes_child_first,
-    line_is_whole, open_is_least, registry_stays_sound, slots_keep_to_their_key, slots_stand_aside,
+    Extensions, OutputKey, OwnedMetadata, Slot, Tag, closes_child_first, line_is_whole,
+    open_is_least, registry_stays_sound, slots_keep_to_their_key, slots_stand_aside,
 };
 use tracing_core::RequestError;
 
@@ -74,7 +77,7 @@ fn is_named(registry: &Registry, span: &Id, name: &str) -> bool {
 fn surface_metadata(rt: HostRuntime) -> Result<(), Fail> {
     let (registry, outer, _inner) = nested(rt.alloc())?;
     assert!(rt; is_named(&registry, &outer, "outer"));
-    let metadata = span_metadata("copied");
+    let metadata = span_metadata("copied", Level::INFO);
     let copy = OwnedMetadata::new(rt.alloc(), &metadata)?;
     assert!(rt; copy.name() == "copied" && copy.fields().len() == 1);
     assert!(rt; copy.is_same(&metadata) && copy.metadata().name() == "copied");
@@ -113,34 +116,6 @@ fn surface_slots(rt: HostRuntime) -> Result<(), Fail> {
     assert!(rt; number_of(before.as_ref()) == 4);
     let taken = extensions.remove(key, Tag::Number);
     assert!(rt; number_of(taken.as_ref()) == 5);
-    Ok(())
-}
-
-/// The parent of a span, and whether a filter that is registered now passed it.
-fn looked_up<R: LookupSpan>(registry: &mut R, span: &Id) -> Option<(Option<Id>, bool)> {
-    let Ok(filter) = registry.register_filter() else {
-        return None;
-    };
-    let Some(data) = registry.span_data(span) else {
-        return None;
-    };
-    Some((data.parent(), data.is_enabled_for(filter)))
-}
-
-fn is_data_named<D: SpanData>(data: &D, name: &str) -> bool {
-    data.metadata().name() == name
-}
-
-#[test]
-fn surface_lookups(rt: HostRuntime) -> Result<(), Fail> {
-    let (mut registry, outer, inner) = nested(rt.alloc())?;
-    let (parent, passed) = looked_up(&mut registry, &inner).ok_or("a span")?;
-    assert!(rt; parent == Some(outer) && passed);
-    let data = registry.span_data(&inner).ok_or("a span")?;
-    assert!(rt; data.id() == inner && is_data_named(&data, "inner"));
-    assert!(rt; data.extensions().get(OutputKey(1), Tag::Text).is_none());
-    let span = LookupSpan::span(&registry, &inner).ok_or("a span")?;
-    assert!(rt; span.id() == inner);
     Ok(())
 }
 

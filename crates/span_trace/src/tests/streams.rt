@@ -1,7 +1,9 @@
 //! Arguments, and streams that fail.
 
 use crate::program::main_with;
-use crate::tests::{DEFAULT, EVENT, LANE, expect_stop, joined, replayed, script_of};
+use crate::tests::{
+    DEFAULT, EVENT, LANE, Run, expect_stop, joined, replayed, run_on, script_of, words_of,
+};
 use std::alloc::Global;
 use std::io;
 use std::io::{ErrorKind, Read, Write};
@@ -67,14 +69,6 @@ impl Write for BrokenWriter {
     }
 }
 
-fn words_of(alloc: Global, words: &[&str]) -> Result<Vec<String>, Fail> {
-    let mut list = Vec::new(alloc);
-    for word in words {
-        list.push(String::from_str(alloc, word)?)?;
-    }
-    Ok(list)
-}
-
 #[test]
 fn usage(rt: HostRuntime) -> Result<(), Fail> {
     let alloc = rt.alloc();
@@ -87,21 +81,16 @@ fn usage(rt: HostRuntime) -> Result<(), Fail> {
         &["replay", "x"],
     ];
     for list in lists {
-        let words = words_of(alloc, list)?;
         let mut input = BrokenReader {
             bytes: b"1.5",
             most: 1,
             reads: 0,
         };
-        let mut output = Vec::new(alloc);
-        let mut errors = Vec::with_capacity(alloc, 256)?;
-        let status = main_with(
-            alloc,
-            words.as_slice(),
-            &mut input,
-            &mut output,
-            &mut errors,
-        );
+        let Run {
+            status,
+            output,
+            errors,
+        } = run_on(alloc, list, &mut input)?;
         let told = b"span-trace: usage: span-trace replay|threads\n";
         assert_eq!(rt; (status, input.reads), (2, 0), "at {list:?}");
         assert_eq!(rt; errors.as_slice(), told.as_slice(), "at {list:?}");
@@ -117,21 +106,16 @@ fn expect_broken(
     most: usize,
     number: u64,
 ) -> Result<(), Fail> {
-    let words = words_of(alloc, &["replay"])?;
     let mut input = BrokenReader {
         bytes,
         most,
         reads: 0,
     };
-    let mut output: Vec<u8> = Vec::new(alloc);
-    let mut errors = Vec::with_capacity(alloc, 256)?;
-    let status = main_with(
-        alloc,
-        words.as_slice(),
-        &mut input,
-        &mut output,
-        &mut errors,
-    );
+    let Run {
+        status,
+        output,
+        errors,
+    } = run_on(alloc, &["replay"], &mut input)?;
     if status == 4 {
         return Err(Fail::new("out of memory"));
     }
@@ -166,17 +150,12 @@ fn broken_input(rt: HostRuntime) -> Result<(), Fail> {
 #[test]
 fn endless_input(rt: HostRuntime) -> Result<(), Fail> {
     let alloc = rt.alloc();
-    let words = words_of(alloc, &["replay"])?;
     let mut input = Spaces { reads: 0 };
-    let mut output: Vec<u8> = Vec::new(alloc);
-    let mut errors = Vec::with_capacity(alloc, 256)?;
-    let status = main_with(
-        alloc,
-        words.as_slice(),
-        &mut input,
-        &mut output,
-        &mut errors,
-    );
+    let Run {
+        status,
+        output,
+        errors,
+    } = run_on(alloc, &["replay"], &mut input)?;
     if status == 4 {
         return Err(Fail::new("out of memory"));
     }

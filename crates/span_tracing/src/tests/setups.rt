@@ -1,6 +1,6 @@
 //! Setup calls, with each refusal.
 
-ghost use Rattle.std.specs.Prelude.{◌≤◌, vec_len};
+ghost use Rattle.std.specs.Prelude.{◌≡◌, ◌≤◌, IfOk, vec_len};
 
 use super::*;
 
@@ -94,17 +94,24 @@ fn stacks_are_refused_in_order(rt: HostRuntime) -> Result<(), Fail> {
     Ok(())
 }
 
-#[test]
-fn a_refusing_folder_comes_back(rt: HostRuntime) -> Result<(), Fail> {
-    let alloc = rt.alloc();
-    let mut trace = Trace::new(alloc);
+/// One output over a folder that opens no file.
+fn refusing_outputs(alloc: Global) -> Result<Vec<Output<FailingFolder, LevelFilter>>, Fail>
+    ensures one { IfOk result (λ outputs. vec_len outputs ≡ 1) }
+{
     let folder = FailingFolder {
         openings: 0,
         writes: 0,
         failures: 0,
     };
     let timer = fixed_time(alloc)?;
-    let outputs = outputs_over(alloc, folder, "app", LevelFilter::INFO, timer)?;
+    outputs_over(alloc, folder, "app", LevelFilter::INFO, timer)
+}
+
+#[test]
+fn a_refusing_folder_comes_back(rt: HostRuntime) -> Result<(), Fail> {
+    let alloc = rt.alloc();
+    let mut trace = Trace::new(alloc);
+    let outputs = refusing_outputs(alloc)?;
     let (refusal, outputs) = refused_stack(&rt, &mut trace, outputs, OPENED)?;
     if refusal == Refusal::OutOfMemory {
         return Err("want of memory".into());
@@ -197,13 +204,7 @@ fn a_stack_that_was_not_kept_has_no_interest(rt: HostRuntime) -> Result<(), Fail
     let alloc = rt.alloc();
     let mut trace = Trace::new(alloc);
     register_all(&mut trace)?;
-    let folder = FailingFolder {
-        openings: 0,
-        writes: 0,
-        failures: 0,
-    };
-    let timer = fixed_time(alloc)?;
-    let outputs = outputs_over(alloc, folder, "app", LevelFilter::INFO, timer)?;
+    let outputs = refusing_outputs(alloc)?;
     let (refusal, _outputs) = refused_stack(&rt, &mut trace, outputs, OPENED)?;
     if refusal == Refusal::OutOfMemory {
         return Err("want of memory".into());

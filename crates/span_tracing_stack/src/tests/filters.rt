@@ -16,7 +16,7 @@ fn lines_under<F: Filter>(alloc: Global, filter: F) -> Result<(bool, bool), Fail
         key: OutputKey(1),
         format: LineFormat::full(Timer::Absent, Fields::Default),
     };
-    let mut hub: Hub<Stack<F>, Place> = Hub::new(alloc);
+    let mut hub: Hub<Stack<F>, DefaultCallsite<'_>> = Hub::new(alloc);
     let Ok(stack) = Stack::new(alloc, setting, filter, String::new(alloc)) else {
         return Err("a stack".into());
     };

@@ -103,7 +103,7 @@ fn values_are_written_by_their_kinds(rt: HostRuntime) -> Result<(), Fail> {
         key: OutputKey(0),
         format: LineFormat::full(Timer::Absent, Fields::Default),
     };
-    let mut hub: Hub<Stack<LevelFilter>, Place> = Hub::new(alloc);
+    let mut hub: StackHub<'_> = Hub::new(alloc);
     let stack = made_with(alloc, setting, LevelFilter::TRACE)?;
     let handle = hub.add(stack).ok().ok_or("a handle")?;
     hub.event(&handle, &event, at(0))?;

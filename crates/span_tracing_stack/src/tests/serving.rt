@@ -1,22 +1,25 @@
 // A stack where any subscriber may stand, through its bound alone.
-use super::place::Place;
-use super::{at, stack_of};
+use super::{at, event_metadata, stack_of};
 use std::alloc::Global;
 use std::test::Fail;
-use tracing_core::{Hub, Identifier, Level, Subscriber};
+use tracing_core::{DefaultCallsite, Hub, Identifier, Level, Subscriber};
 
 // Whether events of two callsites are wanted, where the lane's default is the subscriber.
 fn serve<S: Subscriber>(
     alloc: Global,
     subscriber: S,
 ) -> Result<(Option<bool>, Option<bool>), Fail> {
-    let mut hub: Hub<S, Place> = Hub::new(alloc);
+    let (info, debug) = (
+        event_metadata(3, Level::INFO),
+        event_metadata(4, Level::DEBUG),
+    );
+    let mut hub: Hub<S, DefaultCallsite<'_>> = Hub::new(alloc);
     let lane = hub.thread()?;
     let handle = hub.add(subscriber).ok().ok_or("memory")?;
-    hub.register(Place::new(3, Level::INFO))
+    hub.register(DefaultCallsite::new(&info))
         .ok()
         .ok_or("memory")?;
-    hub.register(Place::new(4, Level::DEBUG))
+    hub.register(DefaultCallsite::new(&debug))
         .ok()
         .ok_or("memory")?;
     hub.set_default(lane, &handle).ok().ok_or("a lane")?;

@@ -3,30 +3,13 @@
 ghost use Rattle.std.specs.Prelude.{◌≡◌, true};
 ghost use Rattle.tracing_appender_folders.specs.Moments.{is_moment};
 
+use crate::tests::moments::{ELEVEN, FEBRUARY, NOON};
 use crate::{
     BuildError, Builder, DiskFolder, Folder, FolderFault, InitContext, InitError, Moment, Rotation,
 };
 use std::alloc::{AllocError, Global};
 use std::fs;
 use std::test::Fail;
-
-/// 2020-02-01T10:01:00Z.
-const FEBRUARY: Moment = Moment {
-    seconds: 1_580_551_260,
-    nanoseconds: 0,
-};
-
-/// An hour later.
-const ELEVEN: Moment = Moment {
-    seconds: 1_580_554_860,
-    nanoseconds: 0,
-};
-
-/// Two hours later.
-const NOON: Moment = Moment {
-    seconds: 1_580_558_460,
-    nanoseconds: 0,
-};
 
 /// Hourly files with the prefix `t`, at most two.
 fn hourly_files(alloc: Global) -> Result<Builder, AllocError> {

@@ -1,5 +1,5 @@
 // A hub, at one kind of subscriber and at boxes of any.
-use crate::surface_tracing_core::place::Place;
+use crate::surface_tracing_core::{event_metadata, moment, span_metadata};
 use crate::{
     At, Attributes, Callsite, CurrentSpan, DefaultCallsite, Dispatch, Event, FieldSet, Hub, Id,
     Identifier, Interest, Kind, LaneDefault, Level, LevelFilter, Metadata, NoSubscriber, Record,
@@ -7,34 +7,20 @@ use crate::{
 };
 use std::test::Fail;
 
-fn moment(lane: u64) -> At {
-    At {
-        lane,
-        seconds: 0,
-        nanoseconds: 0,
-    }
-}
-
-fn metadata_of(fields: FieldSet<'_>) -> Metadata<'_> {
-    Metadata::new(
-        "made",
-        "app",
-        Level::INFO,
-        None,
-        None,
-        None,
-        fields,
-        Kind::SPAN,
-    )
-}
-
 #[test]
 fn surface_hub_tables(rt: HostRuntime) -> Result<(), Fail> {
-    let mut hub: Hub<NoSubscriber, Place> = Hub::new(rt.alloc());
+    let event = event_metadata(3);
+    let mut hub: Hub<NoSubscriber, DefaultCallsite<'_>> = Hub::new(rt.alloc());
     let lane = hub.thread()?;
     let first = hub.add(NoSubscriber::new()).ok().ok_or("memory")?;
-    let told = hub.register(Place::new(3)).ok().ok_or("memory")?;
-    let again = hub.register(Place::new(3)).ok().ok_or("memory")?;
+    let told = hub
+        .register(DefaultCallsite::new(&event))
+        .ok()
+        .ok_or("memory")?;
+    let again = hub
+        .register(DefaultCallsite::new(&event))
+        .ok()
+        .ok_or("memory")?;
     assert!(rt;
         told.is_never() && again.is_never() && hub.gate(Identifier(3), moment(lane)) == Some(false)
     );
@@ -58,7 +44,7 @@ fn surface_hub_tables(rt: HostRuntime) -> Result<(), Fail> {
 
 #[test]
 fn surface_hub_handles(rt: HostRuntime) -> Result<(), Fail> {
-    let mut hub: Hub<NoSubscriber, Place> = Hub::new(rt.alloc());
+    let mut hub: Hub<NoSubscriber, DefaultCallsite<'_>> = Hub::new(rt.alloc());
     let lane = hub.thread()?;
     let first = hub.add(NoSubscriber::new()).ok().ok_or("memory")?;
     let copy = hub.clone(&first)?;
@@ -77,10 +63,10 @@ fn surface_hub_handles(rt: HostRuntime) -> Result<(), Fail> {
 
 #[test]
 fn surface_hub_requests(rt: HostRuntime) -> Result<(), Fail> {
-    let mut hub: Hub<NoSubscriber, Place> = Hub::new(rt.alloc());
+    let mut hub: Hub<NoSubscriber, DefaultCallsite<'_>> = Hub::new(rt.alloc());
     let lane = hub.thread()?;
     let fields = FieldSet::new(&[], Identifier(3));
-    let metadata = metadata_of(fields);
+    let metadata = span_metadata(fields);
     let values = fields.value_set_all(&[]);
     let first = hub.add(NoSubscriber::new()).ok().ok_or("memory")?;
     let attributes = Attributes::new(&metadata, values);
@@ -106,14 +92,15 @@ fn surface_hub_requests(rt: HostRuntime) -> Result<(), Fail> {
 #[test]
 fn surface_hub_lanes(rt: HostRuntime) -> Result<(), Fail> {
     let alloc = rt.alloc();
-    let mut hub: Hub<Box<dyn Subscriber>, Place> = Hub::new(alloc);
+    let event = event_metadata(3);
+    let mut hub: Hub<Box<dyn Subscriber>, DefaultCallsite<'_>> = Hub::new(alloc);
     let lane = hub.thread()?;
     let fields = FieldSet::new(&[], Identifier(3));
-    let metadata = metadata_of(fields);
+    let metadata = span_metadata(fields);
     let values = fields.value_set_all(&[]);
     let none: Box<dyn Subscriber> = Box::new(alloc, NoSubscriber::new())?;
     let first = hub.add(none).ok().ok_or("memory")?;
-    assert!(rt; hub.register(Place::new(3)).is_ok());
+    assert!(rt; hub.register(DefaultCallsite::new(&event)).is_ok());
     assert!(rt; hub.set_default(lane, &first).is_ok());
     let reached = hub.reached(lane);
     assert!(rt; hub.upgrade(&reached)?.is_some());
@@ -132,7 +119,7 @@ fn surface_hub_lanes(rt: HostRuntime) -> Result<(), Fail> {
 #[test]
 fn surface_hub_scopes(rt: HostRuntime) -> Result<(), Fail> {
     let alloc = rt.alloc();
-    let mut hub: Hub<Box<NoSubscriber>, Place> = Hub::new(alloc);
+    let mut hub: Hub<Box<NoSubscriber>, DefaultCallsite<'_>> = Hub::new(alloc);
     let lane = hub.thread()?;
     let boxed = Box::new(alloc, NoSubscriber::new())?;
     let first = hub.add(boxed).ok().ok_or("memory")?;
@@ -152,7 +139,7 @@ fn surface_hub_scopes(rt: HostRuntime) -> Result<(), Fail> {
 
 #[test]
 fn surface_callsites_register(rt: HostRuntime) {
-    let metadata = metadata_of(FieldSet::new(&[], Identifier(5)));
+    let metadata = span_metadata(FieldSet::new(&[], Identifier(5)));
     let mut site = DefaultCallsite::new(&metadata);
     let mut hub: Hub<NoSubscriber, DefaultCallsite<'_>> = Hub::new(rt.alloc());
     assert!(rt;
@@ -164,7 +151,7 @@ fn surface_callsites_register(rt: HostRuntime) {
 
 #[test]
 fn surface_callsites(rt: HostRuntime) {
-    let metadata = metadata_of(FieldSet::new(&[], Identifier(5)));
+    let metadata = span_metadata(FieldSet::new(&[], Identifier(5)));
     let mut site = DefaultCallsite::new(&metadata);
     assert!(rt; site.interest().is_never());
     site.set_interest(Interest::always());

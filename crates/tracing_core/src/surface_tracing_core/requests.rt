@@ -1,5 +1,6 @@
 // What is handed to a subscriber.
 use crate::surface_tracing_core::lines::Counted;
+use crate::surface_tracing_core::span_metadata;
 use crate::{
     AnyValue, Attributes, Current, Event, FieldSet, Id, Identifier, Kind, Level, Metadata, Record,
     metadata,
@@ -7,19 +8,6 @@ use crate::{
 use std::test::Fail;
 
 const NAMES: [&str; 2] = ["message", "count"];
-
-fn metadata_of(fields: FieldSet<'_>) -> Metadata<'_> {
-    Metadata::new(
-        "made",
-        "app",
-        Level::INFO,
-        None,
-        None,
-        None,
-        fields,
-        Kind::SPAN,
-    )
-}
 
 #[test]
 fn surface_metadata_in_bodies(rt: HostRuntime) {
@@ -38,7 +26,7 @@ fn surface_metadata_in_bodies(rt: HostRuntime) {
 #[test]
 fn surface_attributes(rt: HostRuntime) -> Result<(), Fail> {
     let fields = FieldSet::new(&NAMES, Identifier(7));
-    let metadata = metadata_of(fields);
+    let metadata = span_metadata(fields);
     let id = Id::from_u64(4).ok_or("an id")?;
     let count = fields.field("count").ok_or("count")?;
     let all = [None, Some(AnyValue::U64(2))];
@@ -59,7 +47,7 @@ fn surface_attributes(rt: HostRuntime) -> Result<(), Fail> {
 #[test]
 fn surface_events(rt: HostRuntime) -> Result<(), Fail> {
     let fields = FieldSet::new(&NAMES, Identifier(7));
-    let metadata = metadata_of(fields);
+    let metadata = span_metadata(fields);
     let id = Id::from_u64(4).ok_or("an id")?;
     let all = [None, Some(AnyValue::U64(2))];
     let values = fields.value_set_all(&all);
@@ -75,7 +63,7 @@ fn surface_events(rt: HostRuntime) -> Result<(), Fail> {
 #[test]
 fn surface_current(rt: HostRuntime) -> Result<(), Fail> {
     let fields = FieldSet::new(&NAMES, Identifier(7));
-    let metadata = metadata_of(fields);
+    let metadata = span_metadata(fields);
     let id = Id::from_u64(4).ok_or("an id")?;
     let current = Current::new(id, &metadata);
     let inside: Option<Id> = (&current).into();

@@ -1,15 +1,19 @@
 // A list of commands, with a reply each.
-use crate::surface_tracing_core::place::Place;
-use crate::{At, Book, Command, CommandReply, Hub, Identifier, NoSubscriber};
+use crate::surface_tracing_core::{event_metadata, moment};
+use crate::{
+    Book, Command, CommandReply, DefaultCallsite, Hub, Identifier, Metadata, NoSubscriber,
+};
 use std::alloc::{AllocError, Global};
 use std::test::Fail;
 
-fn setting_up(alloc: Global) -> Result<Vec<Command<NoSubscriber, Place>>, AllocError> {
+type Asked<'a> = Command<NoSubscriber, DefaultCallsite<'a>>;
+
+fn setting_up<'a>(alloc: Global, event: &'a Metadata<'a>) -> Result<Vec<Asked<'a>>, AllocError> {
     let mut commands = Vec::new(alloc);
     commands.push(Command::Thread)?;
     commands.push(Command::Add(NoSubscriber::new()))?;
-    commands.push(Command::Register(Place::new(3)))?;
-    commands.push(Command::Register(Place::new(3)))?;
+    commands.push(Command::Register(DefaultCallsite::new(event)))?;
+    commands.push(Command::Register(DefaultCallsite::new(event)))?;
     commands.push(Command::RebuildInterestCache)?;
     commands.push(Command::Refresh)?;
     commands.push(Command::MaxLevel)?;
@@ -21,12 +25,8 @@ fn setting_up(alloc: Global) -> Result<Vec<Command<NoSubscriber, Place>>, AllocE
     Ok(commands)
 }
 
-fn giving_up(alloc: Global) -> Result<Vec<Command<NoSubscriber, Place>>, AllocError> {
-    let at = At {
-        lane: 0,
-        seconds: 0,
-        nanoseconds: 0,
-    };
+fn giving_up<'a>(alloc: Global) -> Result<Vec<Asked<'a>>, AllocError> {
+    let at = moment(0);
     let mut commands = Vec::new(alloc);
     commands.push(Command::Gate(Identifier(3), at))?;
     commands.push(Command::CloneHandle(0))?;
@@ -41,9 +41,13 @@ fn giving_up(alloc: Global) -> Result<Vec<Command<NoSubscriber, Place>>, AllocEr
 #[test]
 fn surface_commands(rt: HostRuntime) -> Result<(), Fail> {
     let alloc = rt.alloc();
+    let event = event_metadata(3);
     let mut hub = Hub::new(alloc);
     let mut book = Book::new(alloc);
-    let first = hub.run(&mut book, setting_up(alloc)?).ok().ok_or("memory")?;
+    let first = hub
+        .run(&mut book, setting_up(alloc, &event)?)
+        .ok()
+        .ok_or("memory")?;
     assert!(rt; first.len() == 12 && matches!(first.get(10), Some(CommandReply::Reached(None))));
     let second = hub.run(&mut book, giving_up(alloc)?).ok().ok_or("memory")?;
     assert!(rt; second.len() == 7 && matches!(second.get(3), Some(CommandReply::Handle(2))));

@@ -1,35 +1,23 @@
 // A hub of any subscriber, through its bound alone.
-use crate::surface_tracing_core::place::Place;
-use crate::{
-    At, Attributes, FieldSet, Hub, Id, Identifier, Kind, Level, Metadata, NoSubscriber, Subscriber,
-};
+use crate::surface_tracing_core::{event_metadata, moment, span_metadata};
+use crate::{Attributes, DefaultCallsite, FieldSet, Hub, Id, Identifier, NoSubscriber, Subscriber};
 use std::alloc::Global;
 use std::test::Fail;
 
 // Whether an event is wanted, and the id of a span, where the lane's default is the subscriber.
 fn serve<S: Subscriber>(alloc: Global, subscriber: S) -> Result<(Option<bool>, Option<Id>), Fail> {
-    let mut hub: Hub<S, Place> = Hub::new(alloc);
+    let event = event_metadata(3);
+    let mut hub: Hub<S, DefaultCallsite<'_>> = Hub::new(alloc);
     let lane = hub.thread()?;
-    let at = At {
-        lane,
-        seconds: 0,
-        nanoseconds: 0,
-    };
+    let at = moment(lane);
     let handle = hub.add(subscriber).ok().ok_or("memory")?;
-    hub.register(Place::new(3)).ok().ok_or("memory")?;
+    hub.register(DefaultCallsite::new(&event))
+        .ok()
+        .ok_or("memory")?;
     hub.set_default(lane, &handle).ok().ok_or("a lane")?;
     let wanted = hub.gate(Identifier(3), at);
     let fields = FieldSet::new(&[], Identifier(4));
-    let metadata = Metadata::new(
-        "made",
-        "app",
-        Level::INFO,
-        None,
-        None,
-        None,
-        fields,
-        Kind::SPAN,
-    );
+    let metadata = span_metadata(fields);
     let attributes = Attributes::new(&metadata, fields.value_set_all(&[]));
     let id = hub.new_span_here(&attributes, at).ok().ok_or("a span")?;
     Ok((wanted, id))

@@ -1,5 +1,6 @@
 // Texts of what the core has, and values of every kind.
 use crate::surface_tracing_core::lines::Counted;
+use crate::surface_tracing_core::span_metadata;
 use crate::{
     AnyValue, Current, DebugText, FieldSet, FieldValue, Id, Identifier, Kind, Level, LevelFilter,
     Metadata, OwnedValue, Value, constant_kinds, debug, display,
@@ -103,16 +104,7 @@ fn surface_conversions(rt: HostRuntime) -> Result<(), Fail> {
     let copied: Option<Id> = (&id).into();
     assert!(rt; copied == Some(id));
     let fields = FieldSet::new(&[], Identifier(7));
-    let metadata = Metadata::new(
-        "made",
-        "app",
-        Level::INFO,
-        None,
-        None,
-        None,
-        fields,
-        Kind::SPAN,
-    );
+    let metadata = span_metadata(fields);
     let current = Current::new(id, &metadata);
     let lent: Option<&Id> = (&current).into();
     assert!(rt; lent == Some(&id));

@@ -72,17 +72,7 @@ fn each_value_takes_the_call_of_its_kind(rt: HostRuntime) -> Result<(), Fail> {
     let names = ["a", "b", "c", "d", "e", "f", "g", "h", "i"];
     let set = FieldSet::new(&names, Identifier(1));
     let sources = ["why"];
-    let values = [
-        Some(AnyValue::I64(-1)),
-        Some(AnyValue::U64(2)),
-        Some(AnyValue::I128(-3)),
-        Some(AnyValue::U128(4)),
-        Some(AnyValue::Bool(false)),
-        Some(AnyValue::Str("s")),
-        Some(AnyValue::Bytes(b"\x0a")),
-        Some(AnyValue::Error(ErrorText::new("e", &sources))),
-        Some(AnyValue::Debug(DebugText::Failing)),
-    ];
+    let values = each_value(&sources);
     let mut letters = Letters {
         text: String::new(alloc),
     };

@@ -1,30 +1,19 @@
 // A hub's table, and requests of lanes.
 use crate::tests::everything::Everything;
-use crate::tests::metadata_of;
-use crate::tests::place::Place;
+use crate::tests::owned_callsite::OwnedCallsite;
+use crate::tests::{add, at, hub_of, metadata_of};
 use crate::*;
 use std::test::Fail;
 use tracing_core_fields::{FieldSet, Id, Identifier, Level, LevelFilter};
-use tracing_core_requests::{At, Attributes, CurrentSpan, Event, Interest};
-
-fn moment(lane: u64) -> At {
-    At {
-        lane,
-        seconds: 0,
-        nanoseconds: 0,
-    }
-}
+use tracing_core_requests::{Attributes, CurrentSpan, Event, Interest};
 
 #[test]
 fn the_table_is_a_copy(rt: HostRuntime) -> Result<(), Fail> {
-    let mut hub: Hub<Everything, Place> = Hub::new(rt.alloc());
+    let mut hub: Hub<Everything, OwnedCallsite> = Hub::new(rt.alloc());
     let lane = hub.thread()?;
     let other = hub.thread()?;
-    let first = hub
-        .add(Everything::new(1, Interest::always()))
-        .ok()
-        .ok_or("a hub")?;
-    assert!(rt; hub.register(Place::new(3, Level::INFO)).is_ok());
+    let first = add(&mut hub, 1, Interest::always())?;
+    assert!(rt; hub.register(OwnedCallsite::new(3, Level::INFO)).is_ok());
     assert!(rt; hub.set_default(lane, &first).is_ok());
     let copy = hub.table()?;
     assert_eq!(rt; copy.handles.len(), 1);
@@ -56,28 +45,23 @@ fn the_table_is_a_copy(rt: HostRuntime) -> Result<(), Fail> {
 
 #[test]
 fn requests_of_a_lane_reach_its_default(rt: HostRuntime) -> Result<(), Fail> {
-    let mut hub: Hub<Everything, Place> = Hub::new(rt.alloc());
-    let lane = hub.thread()?;
+    let (mut hub, lane, first) = hub_of(rt.alloc())?;
     let fields = FieldSet::new(&[], Identifier(5));
     let metadata = metadata_of(fields);
-    let first = hub
-        .add(Everything::new(1, Interest::always()))
-        .ok()
-        .ok_or("a hub")?;
     let nobody = Dispatch::none();
     assert!(rt; hub.register_callsite(&first, &metadata).is_always());
     assert!(rt; hub.register_callsite(&nobody, &metadata).is_never());
-    assert!(rt; !hub.enabled_here(&metadata, moment(lane)));
-    assert!(rt; matches!(hub.current_span_here(moment(lane)), CurrentSpan::Unknown));
+    assert!(rt; !hub.enabled_here(&metadata, at(lane)));
+    assert!(rt; matches!(hub.current_span_here(at(lane)), CurrentSpan::Unknown));
     assert!(rt; hub.set_default(lane, &first).is_ok());
-    assert!(rt; hub.enabled_here(&metadata, moment(lane)));
-    assert!(rt; matches!(hub.current_span_here(moment(lane)), CurrentSpan::Outside));
+    assert!(rt; hub.enabled_here(&metadata, at(lane)));
+    assert!(rt; matches!(hub.current_span_here(at(lane)), CurrentSpan::Outside));
     let event = Event::new(&metadata, fields.value_set_all(&[]));
-    assert_eq!(rt; hub.event_here(&event, moment(lane)), Ok(()));
+    assert_eq!(rt; hub.event_here(&event, at(lane)), Ok(()));
     let attributes = Attributes::new(&metadata, fields.value_set_all(&[]));
-    assert_eq!(rt; hub.new_span_here(&attributes, moment(lane)), Ok(None));
+    assert_eq!(rt; hub.new_span_here(&attributes, at(lane)), Ok(None));
     assert_eq!(rt;
-        hub.dispatch_event(&metadata, fields.value_set_all(&[]), moment(lane)),
+        hub.dispatch_event(&metadata, fields.value_set_all(&[]), at(lane)),
         Ok(())
     );
     assert_eq!(rt;
@@ -85,7 +69,7 @@ fn requests_of_a_lane_reach_its_default(rt: HostRuntime) -> Result<(), Fail> {
             Id::from_u64(2),
             &metadata,
             fields.value_set_all(&[]),
-            moment(lane)
+            at(lane)
         ),
         Ok(())
     );

@@ -1,13 +1,13 @@
 // Commands by number.
 use crate::tests::everything::Everything;
-use crate::tests::place::Place;
+use crate::tests::owned_callsite::OwnedCallsite;
 use crate::*;
 use std::alloc::{AllocError, Global};
 use std::test::Fail;
 use tracing_core_fields::{Identifier, Level, LevelFilter};
 use tracing_core_requests::{At, Interest};
 
-type AnyReply = CommandReply<Everything, Place>;
+type AnyReply = CommandReply<Everything, OwnedCallsite>;
 
 fn moment(lane: u64) -> At {
     At {
@@ -17,13 +17,13 @@ fn moment(lane: u64) -> At {
     }
 }
 
-fn setting_up(alloc: Global) -> Result<Vec<Command<Everything, Place>>, AllocError> {
+fn setting_up(alloc: Global) -> Result<Vec<Command<Everything, OwnedCallsite>>, AllocError> {
     let mut commands = Vec::new(alloc);
     commands.push(Command::Thread)?;
-    commands.push(Command::Register(Place::new(3, Level::INFO)))?;
+    commands.push(Command::Register(OwnedCallsite::new(3, Level::INFO)))?;
     commands.push(Command::Add(Everything::new(1, Interest::always())))?;
-    commands.push(Command::Register(Place::new(3, Level::INFO)))?;
-    commands.push(Command::Register(Place::new(3, Level::WARN)))?;
+    commands.push(Command::Register(OwnedCallsite::new(3, Level::INFO)))?;
+    commands.push(Command::Register(OwnedCallsite::new(3, Level::WARN)))?;
     commands.push(Command::SetDefault(0, Some(0)))?;
     commands.push(Command::SetDefault(0, Some(9)))?;
     commands.push(Command::SetDefault(7, Some(9)))?;
@@ -81,7 +81,7 @@ fn commands_set_up_a_hub(rt: HostRuntime) -> Result<(), Fail> {
     Ok(())
 }
 
-fn giving_up(alloc: Global) -> Result<Vec<Command<Everything, Place>>, AllocError> {
+fn giving_up(alloc: Global) -> Result<Vec<Command<Everything, OwnedCallsite>>, AllocError> {
     let mut commands = Vec::new(alloc);
     commands.push(Command::Thread)?;
     commands.push(Command::Add(Everything::new(1, Interest::always())))?;
@@ -143,7 +143,7 @@ fn commands_give_up_what_they_made(rt: HostRuntime) -> Result<(), Fail> {
     Ok(())
 }
 
-fn the_rest(alloc: Global) -> Result<Vec<Command<Everything, Place>>, AllocError> {
+fn the_rest(alloc: Global) -> Result<Vec<Command<Everything, OwnedCallsite>>, AllocError> {
     let mut commands = Vec::new(alloc);
     commands.push(Command::HasBeenSet)?;
     commands.push(Command::SetGlobalDefault(None))?;

@@ -1,18 +1,10 @@
 // Calls within a lane's default.
-use crate::tests::everything::Everything;
-use crate::tests::place::Place;
-use crate::*;
+use crate::tests::hub_of;
 use std::test::Fail;
-use tracing_core_requests::Interest;
 
 #[test]
 fn the_default_is_lent_once(rt: HostRuntime) -> Result<(), Fail> {
-    let mut hub: Hub<Everything, Place> = Hub::new(rt.alloc());
-    let lane = hub.thread()?;
-    let first = hub
-        .add(Everything::new(1, Interest::always()))
-        .ok()
-        .ok_or("a hub")?;
+    let (mut hub, lane, first) = hub_of(rt.alloc())?;
     let done = hub.with_default(lane, &first, |hub| {
         hub.get_default(lane, |hub, dispatch| {
             let name = hub.subscriber(dispatch).map(|subscriber| subscriber.name());

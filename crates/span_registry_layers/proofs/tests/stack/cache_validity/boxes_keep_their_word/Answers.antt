@@ -1,7 +1,7 @@
 use Rattle.std.proofs.Common.{refl, subst, sym}
 use denote.Param.Object.{read_made}
-use Rattle.span_registry_layers.proofs.tests.words.boxes_keep_their_word.OwnLists.{own-1, at-1-1}
-use Rattle.span_registry_layers.proofs.tests.words.boxes_keep_their_word.Goals as goal
+use Rattle.span_registry_layers.proofs.tests.stack.cache_validity.boxes_keep_their_word.OwnLists.{own-1, at-1-1}
+use Rattle.span_registry_layers.proofs.tests.stack.cache_validity.boxes_keep_their_word.Goals as goal
 
 pub heard_by_box-requires : goal.heard_by_box-requires
 heard_by_box-requires g c =

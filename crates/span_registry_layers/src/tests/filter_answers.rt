@@ -1,34 +1,11 @@
-//! Filters.
-mod heard;
-mod trees;
-
-use crate::{And, Context, Filter, FilterFn, MetadataTest, Not, Or, filter_fn};
-use span_registry_layers_store::Registry;
-use std::test::Fail;
-use tracing_core_fields::{FieldSet, Identifier, Kind, Level, LevelFilter, Metadata};
-use tracing_core_requests::{At, Interest};
-
-const NAMES: [&str; 1] = ["n"];
-
-const PLACE: At = At {
-    lane: 0,
-    seconds: 0,
-    nanoseconds: 0,
-};
-
-fn metadata_of(target: &str, level: Level) -> Metadata<'_> {
-    let fields = FieldSet::new(&NAMES, Identifier(7));
-    Metadata::new("e", target, level, None, None, None, fields, Kind::EVENT)
-}
+// What filters answer.
+use super::*;
+use crate::{And, FilterFn, MetadataTest, Not, Or, filter_fn};
+use tracing_core::LevelFilter;
 
 /// Whether a filter passes DEBUG events of a target, and its interest in them.
 fn asked<F: Filter>(filter: &F, registry: &mut Registry, target: &str) -> (bool, Interest) {
-    let metadata = metadata_of(target, Level::DEBUG);
-    let context = Context::new(registry, PLACE, None);
-    (
-        filter.enabled(&metadata, &context),
-        filter.callsite_enabled(&metadata),
-    )
+    asked_of(filter, registry, &event_metadata(target, Level::DEBUG))
 }
 
 #[test]

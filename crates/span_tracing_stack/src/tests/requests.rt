@@ -1,18 +1,22 @@
-//! What a stack says of itself.
+//! What a stack answers to requests.
 
 use super::*;
 
 #[test]
 fn a_stack_says_what_it_passes(rt: HostRuntime) -> Result<(), Fail> {
+    let (info, debug) = (
+        event_metadata(3, Level::INFO),
+        event_metadata(4, Level::DEBUG),
+    );
     let (mut hub, handle) = hub_of(rt.alloc())?;
     let lane = hub.thread()?;
     assert_eq!(rt; hub.max_level(), LevelFilter::INFO);
     assert_eq!(rt;
-        hub.register(Place::new(3, Level::INFO)).ok(),
+        hub.register(DefaultCallsite::new(&info)).ok(),
         Some(Interest::always())
     );
     assert_eq!(rt;
-        hub.register(Place::new(4, Level::DEBUG)).ok(),
+        hub.register(DefaultCallsite::new(&debug)).ok(),
         Some(Interest::never())
     );
     assert_eq!(rt; hub.set_global_default(&handle), Ok(()));

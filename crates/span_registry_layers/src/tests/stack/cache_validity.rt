@@ -7,13 +7,9 @@ ghost use Rattle.span_registry_layers.specs.Functions.{IsDetermined, RefusesAbov
 ghost use Rattle.span_registry_layers.specs.Stacks.{EventAsked};
 ghost use Rattle.span_registry_layers.specs.CacheValidity.{CacheIsValid};
 
-use super::layers::Counter;
+use super::super::recording::{Observing, Tally};
 use super::*;
-use crate::{
-    And, Context, ContextTest, DynFilterFn, Filter, FilterFn, Filtered, Layer, MetadataTest,
-    Output, OutputKey, Stack,
-};
-use tracing_core::{Event, LevelFilter, RequestError};
+use crate::{And, ContextTest, DynFilterFn, FilterFn};
 
 /// A stack of one output. What it keeps is right where the filter is consistent.
 fn stack_over<F: Filter>(alloc: Global, filter: F) -> Result<Stack<Filtered<Counter, F>>, Fail>
@@ -23,7 +19,7 @@ fn stack_over<F: Filter>(alloc: Global, filter: F) -> Result<Stack<Filtered<Coun
     let mut outputs = Vec::new(alloc);
     let output = Output {
         key: OutputKey(1),
-        output: Filtered::new(Counter { told: 0 }, filter),
+        output: Filtered::new(new_counter(), filter),
     };
     if outputs.push(output).is_err() {
         return Err("room".into());
@@ -40,7 +36,7 @@ fn hand<F: Filter>(
     event: &Event<'_, '_>,
 ) -> Result<(), RequestError>
     requires { CacheIsValid ⟦<F as Filter>⟧ stack.old }
-    ensures asking { EventAsked ⟦<F as Filter>⟧ ⟦<Counter as Layer>⟧ (plain_event event.now) PLACE stack.old result stack.new }
+    ensures asking { EventAsked ⟦<F as Filter>⟧ ⟦<Observing<Tally> as Layer>⟧ (plain_event event.now) PLACE stack.old result stack.new }
     ensures kept { CacheIsValid ⟦<F as Filter>⟧ stack.new }
 {
     stack.event(event, PLACE)
@@ -50,32 +46,13 @@ fn hand<F: Filter>(
 fn heard<F: Filter>(stack: &mut Stack<Filtered<Counter, F>>) -> Result<u64, Fail>
     requires { CacheIsValid ⟦<F as Filter>⟧ stack.old }
 {
-    let fields = FieldSet::new(&NAMES, Identifier(7));
-    let warn = Metadata::new(
-        "e",
-        "app",
-        Level::WARN,
-        None,
-        None,
-        None,
-        fields,
-        Kind::EVENT,
-    );
-    hand(stack, &Event::new(&warn, fields.value_set_all(&[])))?;
-    let debug = Metadata::new(
-        "e",
-        "app",
-        Level::DEBUG,
-        None,
-        None,
-        None,
-        fields,
-        Kind::EVENT,
-    );
-    hand(stack, &Event::new(&debug, fields.value_set_all(&[])))?;
+    for level in [Level::WARN, Level::DEBUG] {
+        let metadata = event_metadata("app", level);
+        hand(stack, &Event::new(&metadata, no_values(&metadata)))?;
+    }
     match stack.output(0) {
         None => Err("an output".into()),
-        Some(output) => Ok(output.inner().told.wrapping_sub(1)),
+        Some(output) => Ok(output.inner().observer.told.wrapping_sub(1)),
     }
 }
 

@@ -1,13 +1,11 @@
 // A filter that counts how often it is asked: a stack that keeps a refusal asks nobody.
 ghost use Rattle.std.specs.Prelude.{◌≡◌, nat_le};
-ghost use Rattle.tracing_core_requests.specs.Interests.{PlainInterest};
-ghost use Rattle.span_registry_layers_layers.specs.Combined.{level_fair, level_interest, same_word};
-ghost use Rattle.span_registry_layers_layers.specs.Firms.{level_firm};
+ghost use Rattle.tracing_core.specs.Interests.{PlainInterest};
+ghost use Rattle.span_registry_layers.specs.Combined.{level_fair, level_interest, same_word};
+ghost use Rattle.span_registry_layers.specs.Firms.{level_firm};
 
 use super::*;
-use span_registry_layers_layers::Context;
 use std::cell::Cell;
-use tracing_core_requests::{Interest, Subscriber};
 
 /// Passes callsites that are at most as verbose as a level, and all events there or none.
 #[derive(Drop)]
@@ -30,7 +28,7 @@ impl Counting {
 impl Filter for Counting {
     ghost use Rattle.std.specs.Prelude.{Some};
     ghost use Rattle.std.proofs.Common.{◌∙◌, sym};
-    ghost use Rattle.span_registry_layers_layers.specs.Combined.{level_fair, level_interest, same_word};
+    ghost use Rattle.span_registry_layers.specs.Combined.{level_fair, level_interest, same_word};
 
     ghost answers = { λ f m v b. b ≡ nat_le m.level f.level };
 
@@ -90,17 +88,14 @@ impl Filter for Counting {
 }
 
 /// A stack of one output with a filter that counts.
-fn counted(alloc: Global, level: LevelFilter) -> Result<Stack<Filtered<Journal, Counting>>, Fail> {
+fn counting_stack(alloc: Global, level: LevelFilter) -> Result<Stack<Journaled<Counting>>, Fail> {
     let mut outputs = Vec::new(alloc);
-    outputs
-        .push(output_of(alloc, 1, Counting::new(level)))
-        .ok()
-        .ok_or("room")?;
+    push_output(&mut outputs, 1, new_journal(alloc), Counting::new(level))?;
     Ok(Stack::new(alloc, outputs).ok().ok_or("a stack")?)
 }
 
 /// How often the filter was asked.
-fn asked(stack: &Stack<Filtered<Journal, Counting>>) -> u64 {
+fn asked(stack: &Stack<Journaled<Counting>>) -> u64 {
     match stack.output(0) {
         None => 0,
         Some(output) => output.filter().asked.get(),
@@ -109,7 +104,7 @@ fn asked(stack: &Stack<Filtered<Journal, Counting>>) -> u64 {
 
 #[test]
 fn a_kept_hint_is_asked_in_the_place_of_filters(rt: HostRuntime) -> Result<(), Fail> {
-    let mut stack = counted(rt.alloc(), LevelFilter::INFO)?;
+    let mut stack = counting_stack(rt.alloc(), LevelFilter::INFO)?;
     tell(&mut stack, "app", Level::DEBUG)?;
     assert!(rt; asked(&stack) == 0 && make(&mut stack, "app", Level::TRACE)?.is_none());
     assert!(rt; asked(&stack) == 0);
@@ -120,18 +115,8 @@ fn a_kept_hint_is_asked_in_the_place_of_filters(rt: HostRuntime) -> Result<(), F
 
 #[test]
 fn a_kept_refusal_is_asked_in_the_place_of_filters(rt: HostRuntime) -> Result<(), Fail> {
-    let mut stack = counted(rt.alloc(), LevelFilter::INFO)?;
-    let fields = FieldSet::new(&NAMES, Identifier(7));
-    let metadata = Metadata::new(
-        "e",
-        "app",
-        Level::DEBUG,
-        None,
-        None,
-        None,
-        fields,
-        Kind::EVENT,
-    );
+    let mut stack = counting_stack(rt.alloc(), LevelFilter::INFO)?;
+    let metadata = event_metadata("app", Level::DEBUG);
     assert!(rt; stack.register_callsite(&metadata).is_never() && asked(&stack) == 0);
     match stack.stack_mut(0) {
         None => {}
@@ -154,7 +139,7 @@ fn a_kept_refusal_is_asked_in_the_place_of_filters(rt: HostRuntime) -> Result<()
 
 #[test]
 fn an_event_that_its_filter_refuses_is_passed_and_not_told(rt: HostRuntime) -> Result<(), Fail> {
-    let mut stack = counted(rt.alloc(), LevelFilter::INFO)?;
+    let mut stack = counting_stack(rt.alloc(), LevelFilter::INFO)?;
     tell(&mut stack, "app", Level::INFO)?;
     assert!(rt; stack.passed(0) == Some(true) && stack.told(0) == Some(true));
     match stack.stack_mut(0) {

@@ -1,9 +1,9 @@
 // Stacks of other filters.
 use super::*;
-use span_registry_layers_layers::{And, FilterFn, MetadataTest, filter_fn};
+use crate::{And, FilterFn};
 
 /// Whether the first output hears what is INFO and of `app`, and the second nothing.
-fn hears_app<F: Filter>(stack: &mut Stack<Filtered<Journal, F>>) -> Result<bool, Fail> {
+fn hears_app<F: Filter>(stack: &mut Stack<Journaled<F>>) -> Result<bool, Fail> {
     tell(stack, "app", Level::INFO)?;
     tell(stack, "other", Level::INFO)?;
     tell(stack, "app", Level::TRACE)?;

@@ -1,6 +1,5 @@
 // What outputs are told.
 use super::*;
-use tracing_core_requests::CurrentSpan;
 
 #[test]
 fn each_output_is_told_what_its_filter_passes(rt: HostRuntime) -> Result<(), Fail> {
@@ -21,17 +20,7 @@ fn each_output_is_told_what_its_filter_passes(rt: HostRuntime) -> Result<(), Fai
 fn a_probe_leaves_no_mark(rt: HostRuntime) -> Result<(), Fail> {
     let mut stack = stack_of(rt.alloc(), LevelFilter::INFO, LevelFilter::DEBUG)?;
     tell(&mut stack, "app", Level::DEBUG)?;
-    let fields = FieldSet::new(&NAMES, Identifier(7));
-    let metadata = Metadata::new(
-        "e",
-        "app",
-        Level::INFO,
-        None,
-        None,
-        None,
-        fields,
-        Kind::EVENT,
-    );
+    let metadata = event_metadata("app", Level::INFO);
     assert!(rt; stack.enabled(&metadata, PLACE));
     assert!(rt; stack.passed(0) == Some(false) && stack.passed(1) == Some(true));
     assert!(rt; was_told(&stack, 0, &[]));
@@ -44,8 +33,8 @@ fn surface_span_calls(rt: HostRuntime) -> Result<(), Fail> {
     let span = make(&mut stack, "app", Level::DEBUG)?.ok_or("a span")?;
     let other = make(&mut stack, "app", Level::INFO)?.ok_or("a span")?;
     assert!(rt; was_told(&stack, 0, &[(Notification::Made, 2)]));
-    let fields = FieldSet::new(&NAMES, Identifier(8));
-    stack.record(&span, &Record::new(fields.value_set_all(&[])), PLACE)?;
+    let metadata = span_metadata("s", Level::DEBUG);
+    stack.record(&span, &Record::new(no_values(&metadata)), PLACE)?;
     stack.record_follows_from(&other, &span, PLACE)?;
     stack.enter(&span, PLACE)?;
     assert!(rt; matches!(stack.current_span(0), CurrentSpan::Inside(_)));

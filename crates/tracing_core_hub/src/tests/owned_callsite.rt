@@ -5,15 +5,15 @@ use tracing_core_fields::{FieldSet, Identifier, Kind, Level, Metadata};
 use tracing_core_requests::{Callsite, Interest};
 
 #[derive(Drop)]
-pub struct Place {
+pub struct OwnedCallsite {
     identifier: u64,
     level: Level,
     interest: Interest,
 }
 
-impl Place {
-    pub fn new(identifier: u64, level: Level) -> Place {
-        Place {
+impl OwnedCallsite {
+    pub fn new(identifier: u64, level: Level) -> OwnedCallsite {
+        OwnedCallsite {
             identifier,
             level,
             interest: Interest::never(),
@@ -21,22 +21,22 @@ impl Place {
     }
 }
 
-impl Callsite for Place {
+impl Callsite for OwnedCallsite {
     ghost use Rattle.std.specs.Prelude.{true, false, [], None, codes};
 
-    ghost metadata_of = { λ place. record {
+    ghost metadata_of = { λ callsite. record {
       name = codes "made";
       target = codes "app";
-      level = place.level;
+      level = callsite.level;
       module_path = None;
       file = None;
       line = None;
       field_names = [];
-      callsite = place.identifier;
+      callsite = callsite.identifier;
       kind = record { is_event = true; is_span = false; is_hint = false };
     } };
 
-    ghost interest_of = { λ place. place.interest };
+    ghost interest_of = { λ callsite. callsite.interest };
 
     fn set_interest(&mut self, interest: Interest) {
         self.interest = interest;

@@ -1,5 +1,6 @@
 // What filters see of spans.
 use super::*;
+use crate::{FilterId, ScopeFromRoot};
 
 /// Makes a span on lane 0 under the current one, which the filter passes or not.
 fn make_passed(
@@ -8,21 +9,7 @@ fn make_passed(
     filter: FilterId,
     passes: bool,
 ) -> Result<Id, Fail> {
-    let fields = FieldSet::new(&NAMES, Identifier(7));
-    let metadata = Metadata::new(
-        name,
-        "app",
-        Level::INFO,
-        None,
-        None,
-        None,
-        fields,
-        Kind::SPAN,
-    );
-    let attributes = Attributes::new(&metadata, fields.value_set_all(&[]));
-    let passed = FilterMap::all().with(filter, passes);
-    let made = registry.new_span(&attributes, 0, passed);
-    Ok(made.ok().ok_or("a span")?)
+    make(registry, name, FilterMap::all().with(filter, passes))
 }
 
 #[test]
@@ -41,6 +28,17 @@ fn a_refused_span_is_not_current(rt: HostRuntime) -> Result<(), Fail> {
     Ok(())
 }
 
+/// A filter, and a root, its child, which the filter refuses, and its grandchild, each made in the one before.
+fn refused_child(registry: &mut Registry) -> Result<(FilterId, [Id; 3]), Fail> {
+    let filter = registry.register_filter().ok().ok_or("a filter")?;
+    let root = make_passed(registry, "root", filter, true)?;
+    registry.enter(&root, 0).ok().ok_or("an entry")?;
+    let child = make_passed(registry, "child", filter, false)?;
+    registry.enter(&child, 0).ok().ok_or("an entry")?;
+    let leaf = make_passed(registry, "leaf", filter, true)?;
+    Ok((filter, [root, child, leaf]))
+}
+
 /// The name of the next span, and none at the end.
 fn next_name<'a>(spans: &mut ScopeFromRoot<'a>) -> &'a str {
     match spans.next() {
@@ -52,12 +50,7 @@ fn next_name<'a>(spans: &mut ScopeFromRoot<'a>) -> &'a str {
 #[test]
 fn scopes_go_to_the_root_and_back(rt: HostRuntime) -> Result<(), Fail> {
     let mut registry = Registry::new(rt.alloc());
-    let filter = registry.register_filter().ok().ok_or("a filter")?;
-    let root = make_passed(&mut registry, "root", filter, true)?;
-    assert!(rt; registry.enter(&root, 0).is_ok());
-    let child = make_passed(&mut registry, "child", filter, false)?;
-    assert!(rt; registry.enter(&child, 0).is_ok());
-    let leaf = make_passed(&mut registry, "leaf", filter, true)?;
+    let (_filter, [root, child, leaf]) = refused_child(&mut registry)?;
     assert!(rt; registry.enter(&leaf, 0).is_ok());
     let first = registry.span(&root).ok_or("a span")?;
     let mut spans = first.scope().from_root(rt.alloc())?;
@@ -76,12 +69,7 @@ fn scopes_go_to_the_root_and_back(rt: HostRuntime) -> Result<(), Fail> {
 #[test]
 fn refused_spans_are_left_out_of_scopes(rt: HostRuntime) -> Result<(), Fail> {
     let mut registry = Registry::new(rt.alloc());
-    let filter = registry.register_filter().ok().ok_or("a filter")?;
-    let root = make_passed(&mut registry, "root", filter, true)?;
-    assert!(rt; registry.enter(&root, 0).is_ok());
-    let child = make_passed(&mut registry, "child", filter, false)?;
-    assert!(rt; registry.enter(&child, 0).is_ok());
-    let leaf = make_passed(&mut registry, "leaf", filter, true)?;
+    let (filter, [_root, _child, leaf]) = refused_child(&mut registry)?;
     let span = registry.span_under(&leaf, Some(filter)).ok_or("a span")?;
     let parent = span.parent().ok_or("a parent")?;
     assert!(rt; parent.name() == "root" && parent.parent().is_none());

@@ -1,18 +1,11 @@
 // Filters in the layers of outputs.
 use super::*;
 
-type Inner = Filtered<Filtered<Journal, LevelFilter>, LevelFilter>;
-
-fn inner_of(alloc: Global, key: u32, outer: LevelFilter, inner: LevelFilter) -> Output<Inner> {
-    Output {
-        key: OutputKey(key),
-        output: Filtered::new(Filtered::new(Journal::new(alloc), inner), outer),
-    }
-}
+type Inner<L> = Filtered<Filtered<L, LevelFilter>, LevelFilter>;
 
 /// What the inner layer of the output was told, and the number of its filter.
 fn inner_heard(
-    stack: &Stack<Inner>,
+    stack: &Stack<Inner<Journaling>>,
     output: usize,
     told: &[(Notification, u64)],
     number: u8,
@@ -23,7 +16,7 @@ fn inner_heard(
     let inner = output.inner();
     match inner.id() {
         None => false,
-        Some(id) => id.index() == number && inner.inner().is(told),
+        Some(id) => id.index() == number && inner.inner().observer.is(told),
     }
 }
 
@@ -32,14 +25,8 @@ fn a_filter_in_an_output_is_told_what_both_pass(rt: HostRuntime) -> Result<(), F
     let alloc = rt.alloc();
     let mut outputs = Vec::new(alloc);
     let (debug, info, trace) = (LevelFilter::DEBUG, LevelFilter::INFO, LevelFilter::TRACE);
-    outputs
-        .push(inner_of(alloc, 1, debug, info))
-        .ok()
-        .ok_or("room")?;
-    outputs
-        .push(inner_of(alloc, 2, info, trace))
-        .ok()
-        .ok_or("room")?;
+    push_output(&mut outputs, 1, new_journal(alloc).with_filter(info), debug)?;
+    push_output(&mut outputs, 2, new_journal(alloc).with_filter(trace), info)?;
     let mut stack = Stack::new(alloc, outputs).ok().ok_or("a stack")?;
     tell(&mut stack, "app", Level::INFO)?;
     tell(&mut stack, "app", Level::DEBUG)?;
@@ -55,16 +42,20 @@ fn a_filter_in_an_output_is_told_what_both_pass(rt: HostRuntime) -> Result<(), F
     Ok(())
 }
 
-/// Makes a stack of so many outputs, each with a filter in its layer.
-fn is_taken(alloc: Global, count: u32) -> Result<bool, Fail> {
+/// So many outputs that pass INFO, each with a layer that passes WARN.
+fn inner_outputs(alloc: Global, count: u32) -> Result<Vec<Output<Inner<Counter>>>, Fail> {
     let mut outputs = Vec::new(alloc);
     for key in 0..count {
-        outputs
-            .push(inner_of(alloc, key, LevelFilter::INFO, LevelFilter::INFO))
-            .ok()
-            .ok_or("room")?;
+        let layer = new_counter().with_filter(LevelFilter::WARN);
+        push_output(&mut outputs, key, layer, LevelFilter::INFO)?;
     }
-    match Stack::new(alloc, outputs) {
+    Ok(outputs)
+}
+
+/// Whether a stack is made of so many outputs, each with a filter in its layer. They are too many where it is not, and come
+/// back.
+fn is_taken(alloc: Global, count: u32) -> Result<bool, Fail> {
+    match Stack::new(alloc, inner_outputs(alloc, count)?) {
         Ok(_) => Ok(true),
         Err(StackRefusal { error, outputs }) => {
             if error != StackError::TooManyFilters || outputs.len() != count as usize {
@@ -78,5 +69,22 @@ fn is_taken(alloc: Global, count: u32) -> Result<bool, Fail> {
 #[test]
 fn filters_in_layers_count(rt: HostRuntime) -> Result<(), Fail> {
     assert!(rt; is_taken(rt.alloc(), 32)? && !is_taken(rt.alloc(), 33)?);
+    Ok(())
+}
+
+/// Makes a span of this level and closes it.
+fn pass_by(stack: &mut Stack<Inner<Counter>>, level: Level) -> Result<bool, Fail> {
+    let span = make(stack, "app", level)?.ok_or("a span")?;
+    Ok(stack.try_close(span, PLACE))
+}
+
+#[test]
+fn surface_filters_in_outputs(rt: HostRuntime) -> Result<(), Fail> {
+    let outputs = inner_outputs(rt.alloc(), 32)?;
+    let mut stack = Stack::new(rt.alloc(), outputs).ok().ok_or("a stack")?;
+    assert!(rt; pass_by(&mut stack, Level::INFO)? && pass_by(&mut stack, Level::WARN)?);
+    let inner = stack.output(31).ok_or("an output")?.inner();
+    assert!(rt; inner.inner().observer.told == 3 && inner.id().is_some());
+    assert!(rt; !is_taken(rt.alloc(), 33)?);
     Ok(())
 }

@@ -5,19 +5,16 @@ use super::*;
 fn refused(alloc: Global, keys: &[u32]) -> Result<StackError, Fail> {
     let mut outputs = Vec::new(alloc);
     for key in keys {
-        outputs
-            .push(output_of(alloc, *key, LevelFilter::INFO))
-            .ok()
-            .ok_or("room")?;
+        push_output(&mut outputs, *key, new_counter(), LevelFilter::INFO)?;
     }
     let Err(StackRefusal { error, outputs }) = Stack::new(alloc, outputs) else {
         return Err("a refusal")?;
     };
     if outputs.len() != keys.len() {
-        return Err("outputs are lost")?;
+        return Err("an output is lost")?;
     }
-    for place in 0..outputs.len() {
-        if outputs[place].key.0 != keys[place] {
+    for (output, key) in outputs.iter().zip(keys.iter()) {
+        if output.key.0 != *key {
             return Err("outputs are not in order")?;
         }
     }
@@ -38,14 +35,20 @@ fn a_stack_wants_outputs_with_keys_of_their_own(rt: HostRuntime) -> Result<(), F
 }
 
 #[test]
+fn surface_refused_outputs_come_back(rt: HostRuntime) -> Result<(), Fail> {
+    assert!(rt; refused(rt.alloc(), &[])? == StackError::NoOutput);
+    assert!(rt; refused(rt.alloc(), &[7, 9, 7])? == StackError::EqualKeys);
+    // Equal keys too, but there are too many first.
+    assert!(rt; refused(rt.alloc(), &[3; 65])? == StackError::TooManyFilters);
+    Ok(())
+}
+
+#[test]
 fn a_stack_has_room_for_64_outputs(rt: HostRuntime) -> Result<(), Fail> {
     let alloc = rt.alloc();
     let mut outputs = Vec::new(alloc);
     for key in 0..64 {
-        outputs
-            .push(output_of(alloc, key, LevelFilter::INFO))
-            .ok()
-            .ok_or("room")?;
+        push_output(&mut outputs, key, new_journal(alloc), LevelFilter::INFO)?;
     }
     let mut stack = Stack::new(alloc, outputs).ok().ok_or("a stack")?;
     tell(&mut stack, "app", Level::INFO)?;
@@ -60,22 +63,12 @@ fn an_unknown_span_is_refused(rt: HostRuntime) -> Result<(), Fail> {
     assert!(rt; stack.try_close(gone, PLACE) && !stack.try_close(gone, PLACE));
     assert!(rt; stack.enter(&gone, PLACE) == Err(RequestError::UnknownSpan));
     assert!(rt; stack.clone_span(&gone) == Err(RequestError::UnknownSpan));
-    let fields = FieldSet::new(&NAMES, Identifier(7));
-    let values = fields.value_set_all(&[]);
+    let metadata = event_metadata("app", Level::INFO);
+    let values = no_values(&metadata);
     let recorded = stack.record(&gone, &Record::new(values), PLACE);
     assert!(rt; recorded == Err(RequestError::UnknownSpan));
     let followed = stack.record_follows_from(&gone, &gone, PLACE);
     assert!(rt; followed == Err(RequestError::UnknownSpan));
-    let metadata = Metadata::new(
-        "e",
-        "app",
-        Level::INFO,
-        None,
-        None,
-        None,
-        fields,
-        Kind::EVENT,
-    );
     let event = Event::new_child_of(Some(gone), &metadata, values);
     assert!(rt; stack.event(&event, PLACE) == Err(RequestError::UnknownParent));
     let attributes = Attributes::child_of(gone, &metadata, values);

@@ -1,0 +1,244 @@
+// Layers that pass all, and hand what they are told to an observer.
+use crate::{Context, FilterMap, Layer, Registry};
+use std::alloc::Global;
+use tracing_core::{Attributes, Event, Id, Interest, LevelFilter, Metadata, Record, WeakDispatch};
+
+/// What a layer can be told.
+#[derive(Clone, Copy, Debug, PartialEq, Eq)]
+pub enum Notification {
+    Taken,
+    Attached,
+    Made,
+    Recorded,
+    Followed,
+    Happened,
+    Entered,
+    Left,
+    Closed,
+    Renamed,
+}
+
+/// Keeps what a layer is told. It looks at spans and writes nothing to them.
+pub trait Observer: Drop {
+    /// The layer was attached to a registry, or a hub took its stack.
+    fn settle(&mut self, notification: Notification);
+
+    /// An event happened, or something was done with a span.
+    fn observe(&mut self, notification: Notification, span: Option<&Id>, context: &Context<'_>);
+}
+
+/// A layer that passes all, and tells an observer.
+#[derive(Drop)]
+pub struct Observing<O> {
+    pub observer: O,
+}
+
+impl<O: Observer> Layer for Observing<O> {
+    ghost use Rattle.std.specs.Prelude.{◌≡◌, None, true, false, refl};
+    ghost use Rattle.tracing_core.specs.InterestInner.TheVariants.{Always};
+    ghost use Rattle.span_registry_layers.specs.Combined.{same_word};
+    ghost use Rattle.span_registry_layers.specs.Identities.{idle_fair};
+    ghost use Rattle.span_registry_layers.specs.Notices.{Untouched, untouched_writes};
+    ghost use Rattle.span_registry_layers.specs.Numbering.{no_numbers};
+    ghost use Rattle.span_registry_layers.specs.Singles.{leaf_once};
+
+    ghost answers = { λ x m v b. b ≡ true };
+
+    ghost event_answers = { λ x e v b. b ≡ true };
+
+    ghost says = { λ x m k. k ≡ Always };
+
+    ghost hint = { λ x. None };
+
+    ghost told = { λ x n y. Untouched n };
+
+    ghost honest = { λ x. Unit {0} };
+
+    ghost fair = { λ x _. idle_fair };
+
+    ghost stays = { λ x n y t _. (tt, same_word (λ m k. k ≡ Always) None) };
+
+    ghost numbered = { λ x n y t. no_numbers n };
+
+    ghost once = { λ x k. leaf_once };
+
+    ghost aside = { λ x n y t. untouched_writes (λ key. false) n t };
+
+    ghost keyed = { λ x n y t key. refl };
+
+    fn on_register_dispatch(&mut self, _dispatch: &WeakDispatch) {
+        self.observer.settle(Notification::Taken);
+    }
+
+    fn on_layer(&mut self, _registry: &mut Registry) {
+        self.observer.settle(Notification::Attached);
+    }
+
+    fn room_left(&self, room: u8) -> Option<u8> {
+        Some(room)
+    }
+
+    fn ask_span(
+        &self,
+        _metadata: &Metadata<'_>,
+        _context: &mut Context<'_>,
+        passes: bool,
+        verdicts: FilterMap,
+    ) -> (FilterMap, bool) {
+        (verdicts, passes)
+    }
+
+    fn register_callsite(&self, _metadata: &Metadata<'_>) -> Interest {
+        Interest::always()
+    }
+
+    fn enabled(&self, _metadata: &Metadata<'_>, _context: &Context<'_>) -> bool {
+        true
+    }
+
+    fn on_new_span(
+        &mut self,
+        _attributes: &Attributes<'_, '_>,
+        span: &Id,
+        context: &mut Context<'_>,
+    ) {
+        self.observer
+            .observe(Notification::Made, Some(span), context);
+    }
+
+    fn max_level_hint(&self) -> Option<LevelFilter> {
+        None
+    }
+
+    fn on_record(&mut self, span: &Id, _values: &Record<'_>, context: &mut Context<'_>) {
+        self.observer
+            .observe(Notification::Recorded, Some(span), context);
+    }
+
+    fn on_follows_from(&mut self, span: &Id, _follows: &Id, context: &mut Context<'_>) {
+        self.observer
+            .observe(Notification::Followed, Some(span), context);
+    }
+
+    fn event_enabled(&self, _event: &Event<'_, '_>, _context: &Context<'_>) -> bool {
+        true
+    }
+
+    fn on_event(&mut self, _event: &Event<'_, '_>, context: &mut Context<'_>) {
+        self.observer.observe(Notification::Happened, None, context);
+    }
+
+    fn on_enter(&mut self, span: &Id, context: &mut Context<'_>) {
+        self.observer
+            .observe(Notification::Entered, Some(span), context);
+    }
+
+    fn on_exit(&mut self, span: &Id, context: &mut Context<'_>) {
+        self.observer
+            .observe(Notification::Left, Some(span), context);
+    }
+
+    fn on_close(&mut self, span: &Id, context: &mut Context<'_>) {
+        self.observer
+            .observe(Notification::Closed, Some(span), context);
+    }
+
+    fn on_id_change(&mut self, _old: &Id, new: &Id, context: &mut Context<'_>) {
+        self.observer
+            .observe(Notification::Renamed, Some(new), context);
+    }
+}
+
+/// Counts what it is told, and some of it by its kind.
+#[derive(Clone, Copy, Debug, PartialEq, Eq, Drop)]
+pub struct Tally {
+    pub told: u64,
+    pub events: u64,
+    pub inside: u64,
+    pub made: u64,
+    pub closed: u64,
+    pub others: u64,
+}
+
+impl Observer for Tally {
+    fn settle(&mut self, notification: Notification) {
+        self.told = self.told.wrapping_add(1);
+        if notification == Notification::Taken {
+            self.others = self.others.wrapping_add(1);
+        }
+    }
+
+    // It counts those events apart for which it sees the lane's span.
+    fn observe(&mut self, notification: Notification, _span: Option<&Id>, context: &Context<'_>) {
+        self.told = self.told.wrapping_add(1);
+        match notification {
+            Notification::Happened => {
+                self.events = self.events.wrapping_add(1);
+                if context.lookup_current().is_some() {
+                    self.inside = self.inside.wrapping_add(1);
+                }
+            }
+            Notification::Made => self.made = self.made.wrapping_add(1),
+            Notification::Closed => self.closed = self.closed.wrapping_add(1),
+            Notification::Renamed => {}
+            _ => self.others = self.others.wrapping_add(1),
+        }
+    }
+}
+
+/// A layer that counts.
+pub type Counter = Observing<Tally>;
+
+/// A layer that counted nothing so far.
+pub fn new_counter() -> Counter {
+    Observing {
+        observer: Tally {
+            told: 0,
+            events: 0,
+            inside: 0,
+            made: 0,
+            closed: 0,
+            others: 0,
+        },
+    }
+}
+
+/// Keeps what it is told in order, each time with the number of the span, or 0 where there is none.
+#[derive(Drop)]
+pub struct Journal {
+    told: Vec<(Notification, u64)>,
+}
+
+impl Journal {
+    pub fn is(&self, told: &[(Notification, u64)]) -> bool {
+        self.told.as_slice() == told
+    }
+}
+
+impl Observer for Journal {
+    fn settle(&mut self, notification: Notification) {
+        if notification == Notification::Taken {
+            let _room = self.told.push((notification, 0));
+        }
+    }
+
+    fn observe(&mut self, notification: Notification, span: Option<&Id>, _context: &Context<'_>) {
+        let number = match span {
+            None => 0,
+            Some(span) => span.into_u64(),
+        };
+        let _room = self.told.push((notification, number));
+    }
+}
+
+/// A layer that keeps a journal.
+pub type Journaling = Observing<Journal>;
+
+/// A layer with an empty journal.
+pub fn new_journal(alloc: Global) -> Journaling {
+    Observing {
+        observer: Journal {
+            told: Vec::new(alloc),
+        },
+    }
+}
