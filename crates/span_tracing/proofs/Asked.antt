@@ -27,7 +27,7 @@ use Rattle.span_tracing_machine.specs.Skeleton.{PlainCallsite}
 use Rattle.span_tracing.specs.Skeletons.{PlainThread, plain_callsite, plain_thread, stack_of, stack_in, value_with, value_in}
 use Rattle.span_tracing.specs.Sound.{IsHonest, IsSound, HasFirst, HasOnly, OwnsOne, HubHasCallsites, LeadsTo, StackSays}
 use Rattle.span_tracing.specs.Telling.{own_metadata}
-use Rattle.span_tracing.specs.contracts.hub_callsite.SiteCallsite.TheImpl.{ghosts}
+use Rattle.span_tracing.specs.contracts.hub_callsite.HubCallsiteCallsite.TheImpl.{ghosts}
 use Rattle.span_tracing.specs.declared.callsite.Callsite.{Callsite}
 use Rattle.span_tracing.specs.declared.parts.Thread.{Thread}
 use Rattle.span_tracing.specs.declared.parts.TraceParts.{TraceParts}

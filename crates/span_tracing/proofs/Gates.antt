@@ -37,7 +37,7 @@ use Rattle.span_tracing.specs.Skeletons.{filter_at, plain_callsite, registry_in,
 use Rattle.span_tracing.specs.Sound.{HasOnly, IsHonest, IsSound, StackSays, greatest_of}
 use Rattle.span_tracing.specs.Stored.{mask_by}
 use Rattle.span_tracing.specs.Telling.{own_metadata}
-use Rattle.span_tracing.specs.contracts.hub_callsite.SiteCallsite.TheImpl.{ghosts}
+use Rattle.span_tracing.specs.contracts.hub_callsite.HubCallsiteCallsite.TheImpl.{ghosts}
 use Rattle.span_tracing.specs.declared.callsite.Callsite.{Callsite}
 use Rattle.span_tracing.specs.declared.parts.TraceParts.{TraceParts}
 use Rattle.span_tracing.specs.declared.hub_callsite.HubCallsite.{HubCallsite}

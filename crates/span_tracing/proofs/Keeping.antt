@@ -22,7 +22,7 @@ use Rattle.tracing_core.specs.Table.{Table}
 use Rattle.span_tracing.specs.Skeletons.{stack_of}
 use Rattle.span_tracing.specs.Sound.{HasOnly, HubHasCallsites, StackSays, greatest_of}
 use Rattle.span_tracing.specs.Telling.{own_metadata}
-use Rattle.span_tracing.specs.contracts.hub_callsite.SiteCallsite.TheImpl.{ghosts}
+use Rattle.span_tracing.specs.contracts.hub_callsite.HubCallsiteCallsite.TheImpl.{ghosts}
 use Rattle.span_tracing.specs.declared.callsite.Callsite.{Callsite}
 use Rattle.span_tracing.specs.declared.hub_callsite.HubCallsite.{HubCallsite}
 use Rattle.span_tracing.proofs.Handed.{found}

@@ -18,7 +18,7 @@ use Rattle.span_tracing_stack.specs.Stacks.{StackValue}
 use Rattle.span_tracing.specs.declared.callsite.Callsite.{Callsite}
 use Rattle.span_tracing.specs.declared.parts.TraceParts.{TraceParts}
 use Rattle.span_tracing.specs.declared.hub_callsite.HubCallsite.{HubCallsite}
-use Rattle.span_tracing.specs.contracts.hub_callsite.SiteCallsite.TheImpl.{ghosts}
+use Rattle.span_tracing.specs.contracts.hub_callsite.HubCallsiteCallsite.TheImpl.{ghosts}
 use Rattle.span_tracing.specs.Skeletons.{stack_in}
 use Rattle.span_tracing.specs.Telling.{own_metadata}
 

@@ -2,7 +2,7 @@ use Rattle.span_tracing.proofs.Filters.{stack_ghosts}
 use Rattle.std.proofs.Common.{ap, sym, subst, ℕ, Err, ◌∙◌, ◌++◌, ◌∷◌, []}
 use Rattle.tracing_core.specs.Commands.{RegisterGives, row_of}
 use Rattle.span_tracing_machine.specs.Skeleton.{PlainCallsite}
-use Rattle.span_tracing.specs.contracts.hub_callsite.SiteCallsite.TheImpl as site
+use Rattle.span_tracing.specs.contracts.hub_callsite.HubCallsiteCallsite.TheImpl as site
 use Rattle.span_tracing_machine.specs.Machine.{made_with}
 use Rattle.span_tracing.specs.Masks.{Says}
 use Rattle.span_tracing.specs.Skeletons.{filter_at, plain_callsite, stack_in, value_in}

@@ -4,7 +4,7 @@ use Rattle.tracing_core.specs.Commands.{Rebuilt}
 use Rattle.tracing_core.specs.RegisteredSubscriber.{RegisteredSubscriber}
 use Rattle.tracing_core.specs.Table.{Table}
 use Rattle.span_tracing_stack.specs.Stacks.{StackValue}
-use Rattle.span_tracing.specs.contracts.hub_callsite.SiteCallsite.TheImpl as site
+use Rattle.span_tracing.specs.contracts.hub_callsite.HubCallsiteCallsite.TheImpl as site
 use Rattle.span_tracing.specs.Sound.{OwnsOne}
 use Rattle.span_tracing.specs.declared.hub_callsite.HubCallsite.{HubCallsite}
 use Rattle.span_tracing.proofs.Asked.{emptied, given_one}
