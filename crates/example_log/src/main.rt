@@ -29,7 +29,7 @@ fn register(trace: &mut MemoryTrace) -> bool {
     trace.register(DONE, &done).is_ok()
 }
 
-/// Logs an event inside a span.
+/// Logs an event inside a span, on lane 0.
 fn log(rt: &HostRuntime, trace: &mut MemoryTrace) -> bool {
     let job = FieldValue {
         field: 0,
@@ -39,9 +39,11 @@ fn log(rt: &HostRuntime, trace: &mut MemoryTrace) -> bool {
         return false;
     };
     let entered = trace.enter(0, NOW, span);
-    let told = log_text(rt.alloc(), trace, NOW, DONE, "finished");
-    let left = trace.exit(0, NOW, span);
-    entered == Reply::Done && told == Ok(Reply::Done) && left == Reply::Done
+    let logged = log_text(rt.alloc(), trace, NOW, DONE, "finished");
+    let exited = trace.exit(0, NOW, span);
+    let closed = trace.try_close(0, NOW, span);
+    let is_logged = entered == Reply::Done && logged == Ok(Reply::Done);
+    is_logged && exited == Reply::Done && closed == Reply::Closed(true)
 }
 
 fn run(rt: &HostRuntime) -> Result<bool, std::io::Error> {
