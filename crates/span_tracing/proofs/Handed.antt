@@ -17,7 +17,7 @@ use Rattle.span_tracing.specs.Skeletons.{stack_of}
 use Rattle.span_tracing.specs.Sound.{HasOnly}
 
 -- the stack took the call, and is still the only one
-pub record OneCall {F : Type 0} (g : Ghosts F) (dispatch : Option ℕ) (global : hub.Setting) (es fs : List (RegisteredSubscriber (StackValue F))) (c : Call) (reply : ReplyTo c) : Type 0 where
+pub record OneCall {F : Type 0} (g : Ghosts F) (dispatch : Option ℕ) (global : hub.LaneDefault) (es fs : List (RegisteredSubscriber (StackValue F))) (c : Call) (reply : ReplyTo c) : Type 0 where
   pub before : StackValue F
   pub after : StackValue F
   pub stood : stack_of (Some dispatch) es ≡ Some before
@@ -34,7 +34,7 @@ found e = rw (same_number e.serial) refl
 changed_one : {F : Type 0} (e : RegisteredSubscriber (StackValue F)) (f : RegisteredSubscriber (StackValue F) → RegisteredSubscriber (StackValue F)) → changed e.serial f (e ∷ []) ≡ f e ∷ []
 changed_one e f = rw (same_number e.serial) refl
 
-pub one_call : {F : Type 0} (g : Ghosts F) (c : Call) (dispatch : Option ℕ) (global : hub.Setting) (es fs : List (RegisteredSubscriber (StackValue F))) (reply : ReplyTo c) → HasOnly (Some dispatch) global es → CallGives (stack_ghosts g) c dispatch es reply fs → OneCall g dispatch global es fs c reply
+pub one_call : {F : Type 0} (g : Ghosts F) (c : Call) (dispatch : Option ℕ) (global : hub.LaneDefault) (es fs : List (RegisteredSubscriber (StackValue F))) (reply : ReplyTo c) → HasOnly (Some dispatch) global es → CallGives (stack_ghosts g) c dispatch es reply fs → OneCall g dispatch global es fs c reply
 one_call {F = F} g c dispatch global es fs reply has gives =
     let e = has.0 in
     let one = has.1 in
