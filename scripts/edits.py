@@ -24,9 +24,9 @@ def end_of(lines, at, indent):
     has_body = False
     for end in range(at, len(lines)):
         line = lines[end].rstrip()
-        if end == at and line.endswith("}") or line.startswith(f"{indent}}}") or line.startswith(f"{indent}{{") and line.endswith("}"):
-            return end + 1
         outside = end == at or not line.startswith(f"{indent} ")
+        if outside and line.endswith("}"):
+            return end + 1
         has_body = has_body or outside and line.endswith("{")
         if line.endswith(";") and not has_body:
             return end + 1
