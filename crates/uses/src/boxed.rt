@@ -1,14 +1,12 @@
 //! A filter that is chosen while the program runs, in a box. The caller makes the box.
 
 ghost use Rattle.std.specs.Prelude.{◌≡◌, IfOk};
-ghost use Rattle.span_registry_layers.specs.Dynamic.{IsDeterminedIn};
 ghost use Rattle.span_registry_layers.specs.Functions.{IsDetermined};
 ghost use Rattle.span_registry_layers.specs.CacheValidity.{CacheIsValid};
 
 use crate::filter::stack_under;
 use span_registry_layers::{
-    And, ContextTest, DynFilterFn, Filter, FilterFn, Filtered, Identity, MetadataTest, Stack,
-    StackError,
+    And, DynFilterFn, Filter, FilterFn, Filtered, Identity, MetadataTest, Stack, StackError,
 };
 use std::alloc::Global;
 use tracing_core::LevelFilter;
@@ -28,20 +26,19 @@ pub fn under_box(
     stack_under(alloc, filter)
 }
 
-/// A stack under a closure that may look at the lane's spans too, and whose answer is determined by what it is shown.
+/// A stack under a closure that may look at the lane's spans too. The caller makes the filter, and shows that it is consistent.
 ///
 /// # Errors
 ///
 /// Want of memory.
 pub fn under_context_closure(
     alloc: Global,
-    test: ContextTest,
+    filter: DynFilterFn,
 ) -> Result<Stack<Filtered<Identity, DynFilterFn>>, StackError>
-    requires callable { ContextTest.IsAlwaysCallable test }
-    requires determined { IsDeterminedIn (ContextTest.post test) }
+    requires { ⟦<DynFilterFn as Filter>⟧.honest filter }
     ensures { IfOk result (λ stack. CacheIsValid ⟦<DynFilterFn as Filter>⟧ stack) }
 {
-    stack_under(alloc, DynFilterFn::new(test))
+    stack_under(alloc, filter)
 }
 
 /// A stack whose output is told what both a level and a closure pass.

@@ -12,7 +12,8 @@ use crate::program::{daily_output, log_text, open_trace};
 use crate::queue::{close_behind, dropping_queue, next_line, offer_text, two_in_order};
 use crate::rolling::{files_of, open_daily, write_line};
 use span_registry_layers::{
-    Context, ContextTest, Filter, Filtered, Identity, MetadataTest, Output, OutputKey, Stack,
+    Context, ContextTest, DynFilterFn, Filter, Filtered, Identity, MetadataTest, Output, OutputKey,
+    Stack,
 };
 use span_tracing::Reply;
 use std::test::Fail;
@@ -94,7 +95,10 @@ fn a_closure_over_contexts_passes_warnings(rt: HostRuntime) -> Result<(), Fail> 
             ensures { result ≡ nat_le (plain_metadata metadata.now).level 2 }
         { *metadata.level() <= Level::WARN },
     )?;
-    let mut stack = under_context_closure(rt.alloc(), quiet).ok().ok_or("room")?;
+    let filter = DynFilterFn::new(quiet);
+    let mut stack = under_context_closure(rt.alloc(), filter)
+        .ok()
+        .ok_or("room")?;
     assert!(rt; passes_warnings(&mut stack)?);
     Ok(())
 }
