@@ -1,7 +1,7 @@
 //! Logs one event inside a span, and prints the log file.
 #![tactic(auto)]
 
-use span_tracing::{FieldValue, Moment, OwnedValue, Parent, Reply};
+use span_tracing::{FieldValue, Moment, OwnedValue, Parent, Reply, SpanName};
 use std::process::ExitCode;
 use tracing_core::{FieldSet, Identifier, Kind, Level, LevelFilter, Metadata};
 use uses::program::{MemoryTrace, log_text, open_trace};
@@ -29,28 +29,38 @@ fn register(trace: &mut MemoryTrace) -> bool {
     trace.register(DONE, &done).is_ok()
 }
 
-/// Logs an event inside a span, on lane 0.
-fn log(rt: &HostRuntime, trace: &mut MemoryTrace) -> bool {
-    let job = FieldValue {
+/// A job, with its span.
+#[derive(Drop)]
+struct Job {
+    span: Option<SpanName>,
+}
+
+/// Logs an event inside the span of a job, on lane 0.
+fn log(rt: &HostRuntime, trace: &mut MemoryTrace, job: &Job) -> bool {
+    let entered = trace.enter(0, NOW, job.span);
+    let logged = log_text(rt.alloc(), trace, NOW, DONE, "finished");
+    let exited = trace.exit(0, NOW, job.span);
+    entered == Reply::Done && logged == Ok(Reply::Done) && exited == Reply::Done
+}
+
+/// Does job 7.
+fn do_job(rt: &HostRuntime, trace: &mut MemoryTrace) -> bool {
+    let number = FieldValue {
         field: 0,
         value: OwnedValue::U64(7),
     };
-    let Reply::Span(span) = trace.new_span(0, NOW, WORK, Parent::Root, &[job]) else {
+    let Reply::Span(span) = trace.new_span(0, NOW, WORK, Parent::Root, &[number]) else {
         return false;
     };
-    let entered = trace.enter(0, NOW, span);
-    let logged = log_text(rt.alloc(), trace, NOW, DONE, "finished");
-    let exited = trace.exit(0, NOW, span);
-    let closed = trace.try_close(0, NOW, span);
-    let is_logged = entered == Reply::Done && logged == Ok(Reply::Done);
-    is_logged && exited == Reply::Done && closed == Reply::Closed(true)
+    let job = Job { span };
+    log(rt, trace, &job) && trace.try_close(0, NOW, job.span) == Reply::Closed(true)
 }
 
 fn run(rt: &HostRuntime) -> Result<bool, std::io::Error> {
     let Ok(mut trace) = open_trace(rt.alloc(), "app", LevelFilter::INFO, NOW) else {
         return Ok(false);
     };
-    if !register(&mut trace) || !log(rt, &mut trace) {
+    if !register(&mut trace) || !do_job(rt, &mut trace) {
         return Ok(false);
     }
     let Some(folder) = trace.folder(0) else {
