@@ -2,44 +2,47 @@
 
 ghost use Rattle.std.specs.Prelude.{◌≡◌, ◌≤◌};
 
+use span_trace_lines::LineFault;
 use span_tracing::Refusal;
 use std::alloc::{AllocError, AllocFailed};
 use std::io::Write;
 
 /// Why a line of the input stops the program.
 #[derive(Clone, Copy, Debug, PartialEq, Eq)]
-pub(crate) enum LineFault {
-    /// The line is JSON, and has a number that is no whole number of 64 bits.
-    FloatNumber,
-    /// The line is no setup call and no step.
-    NotReadable,
+pub(crate) enum Fault {
+    /// The line is not read.
+    Unread(LineFault),
     /// The setup call of the line was refused.
     Refused(Refusal),
-    /// There was no memory to read the line.
-    OutOfMemory,
 }
 
-impl From<AllocError> for LineFault {
-    fn from(_: AllocError) -> LineFault {
-        LineFault::OutOfMemory
+impl From<LineFault> for Fault {
+    fn from(fault: LineFault) -> Fault {
+        Fault::Unread(fault)
     }
 }
 
-impl<T: Drop> From<AllocFailed<T>> for LineFault {
-    fn from(_: AllocFailed<T>) -> LineFault {
-        LineFault::OutOfMemory
+impl From<AllocError> for Fault {
+    fn from(_: AllocError) -> Fault {
+        Fault::Unread(LineFault::OutOfMemory)
     }
 }
 
-impl LineFault {
+impl<T: Drop> From<AllocFailed<T>> for Fault {
+    fn from(_: AllocFailed<T>) -> Fault {
+        Fault::Unread(LineFault::OutOfMemory)
+    }
+}
+
+impl Fault {
     /// The status with which the program ends.
     fn status(self) -> u8
         ensures { (2 ≤ result) × (result ≤ 4) }
     {
         match self {
-            LineFault::Refused(Refusal::FolderRefused) => 3,
-            LineFault::Refused(Refusal::OutOfMemory) | LineFault::OutOfMemory => 4,
-            LineFault::FloatNumber | LineFault::NotReadable | LineFault::Refused(_) => 2,
+            Fault::Refused(Refusal::FolderRefused) => 3,
+            Fault::Refused(Refusal::OutOfMemory) | Fault::Unread(LineFault::OutOfMemory) => 4,
+            Fault::Refused(_) | Fault::Unread(_) => 2,
         }
     }
 }
@@ -50,7 +53,7 @@ pub(crate) enum Stop {
     /// The arguments are not the one word `replay`.
     Usage,
     /// The line of this number, from 1, is at fault.
-    Line { number: u64, fault: LineFault },
+    Line { number: u64, fault: Fault },
     /// There was no memory outside a line.
     OutOfMemory,
 }
@@ -79,17 +82,12 @@ impl Stop {
         let _ = match self {
             Stop::Usage => writeln!(errors, "span-trace: usage: span-trace replay|threads"),
             Stop::Line { number, fault } => match fault {
-                LineFault::FloatNumber => {
-                    writeln!(errors, "span-trace: line {number}: float number")
-                }
-                LineFault::NotReadable => {
-                    writeln!(errors, "span-trace: line {number}: not readable")
-                }
-                LineFault::Refused(refusal) => {
+                Fault::Unread(LineFault::OutOfMemory) => Ok(()),
+                Fault::Unread(fault) => writeln!(errors, "span-trace: line {number}: {fault}"),
+                Fault::Refused(refusal) => {
                     let refused = refusal.number();
                     writeln!(errors, "span-trace: line {number}: refused {refused}")
                 }
-                LineFault::OutOfMemory => Ok(()),
             },
             Stop::OutOfMemory => Ok(()),
         };

@@ -1,9 +1,7 @@
 //! Replays calls of events and spans that stand as JSON lines on standard input, and prints the replies and the files.
 #![tactic(auto)]
 
-mod decode;
 mod fault;
-mod print;
 mod program;
 mod read;
 mod run;

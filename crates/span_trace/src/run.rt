@@ -1,6 +1,6 @@
 //! The steps of a script, run on a trace.
 
-use crate::decode::{CallsiteLine, NamedValue, RecordLine, StepLine};
+use span_trace_lines::{CallsiteLine, NamedValue, RecordLine, StepLine};
 use span_tracing::{FieldValue, MemoryFolder, RecordCall, Reply, SpanName, Step, Trace};
 use std::alloc::{AllocError, Global};
 use tracing_core::LevelFilter;

@@ -1,8 +1,8 @@
 //! The whole input, as setup calls and the steps after them.
 
-use crate::decode::{Line, Setup, StepLine, decode_line};
-use crate::fault::{LineFault, Stop};
+use crate::fault::{Fault, Stop};
 use crate::read::Input;
+use span_trace_lines::{Line, LineFault, Setup, StepLine, decode_line};
 use std::alloc::Global;
 
 /// What an input asks for. The setup call of line N stands at place N - 1.
@@ -28,6 +28,7 @@ impl Script {
             for line in lines.split(|byte| *byte == b'\n') {
                 number = number.saturating_add(1);
                 if let Err(fault) = script.add(alloc, line) {
+                    let fault = Fault::Unread(fault);
                     return Err(Stop::Line { number, fault });
                 }
             }
@@ -37,7 +38,7 @@ impl Script {
         } else {
             Err(Stop::Line {
                 number: number.saturating_add(1),
-                fault: LineFault::NotReadable,
+                fault: Fault::Unread(LineFault::NotReadable),
             })
         }
     }

@@ -2,8 +2,8 @@
 
 ghost use Rattle.std.specs.Prelude.{◌≤◌, IfOk, vec_len};
 
-use crate::decode::{CallsiteLine, LaneLine, OutputLine, Setup, SinkLine, StackLine};
-use crate::fault::{LineFault, Stop};
+use crate::fault::{Fault, Stop};
+use span_trace_lines::{CallsiteLine, LaneLine, LineFault, OutputLine, Setup, SinkLine, StackLine};
 use span_tracing::{
     Builder, Fields, LineFormat, MemoryFolder, Output, OutputKey, Refusal, Rotation, Route,
     SinkSpec, Timer, Trace,
@@ -41,27 +41,27 @@ impl Stage {
         Ok(stage)
     }
 
-    fn make(&mut self, alloc: Global, call: Setup) -> Result<(), LineFault> {
+    fn make(&mut self, alloc: Global, call: Setup) -> Result<(), Fault> {
         match call {
             Setup::Stack(line) => self.add_stack(alloc, line),
             Setup::Callsite(line) => self.add_callsite(alloc, line),
-            Setup::Lane(line) => self.add_lane(&line).map_err(LineFault::Refused),
+            Setup::Lane(line) => self.add_lane(&line).map_err(Fault::Refused),
         }
     }
 
-    fn add_stack(&mut self, alloc: Global, line: StackLine) -> Result<(), LineFault> {
+    fn add_stack(&mut self, alloc: Global, line: StackLine) -> Result<(), Fault> {
         let StackLine { moment, output } = line;
         let made = match output {
             None => None,
-            Some(output) => Some(self.make_output(alloc, output).map_err(LineFault::Refused)?),
+            Some(output) => Some(self.make_output(alloc, output).map_err(Fault::Refused)?),
         };
         let outputs = list_of(alloc, made).map_err(refused_memory)?;
         if self.trace.has_stack() {
-            return Err(LineFault::NotReadable);
+            return Err(Fault::Unread(LineFault::NotReadable));
         }
         match self.trace.add_stack(outputs, moment) {
             Ok(_) => Ok(()),
-            Err(refused) => Err(LineFault::Refused(refused.refusal)),
+            Err(refused) => Err(Fault::Refused(refused.refusal)),
         }
     }
 
@@ -117,8 +117,8 @@ impl Stage {
         SinkSpec::Direct(builder, MemoryFolder::new(alloc))
     }
 
-    fn add_callsite(&mut self, alloc: Global, line: CallsiteLine) -> Result<(), LineFault> {
-        self.register(alloc, &line).map_err(LineFault::Refused)?;
+    fn add_callsite(&mut self, alloc: Global, line: CallsiteLine) -> Result<(), Fault> {
+        self.register(alloc, &line).map_err(Fault::Refused)?;
         Ok(self.callsites.push(line)?)
     }
 
@@ -149,8 +149,8 @@ impl Stage {
     }
 }
 
-fn refused_memory(_: AllocError) -> LineFault {
-    LineFault::Refused(Refusal::OutOfMemory)
+fn refused_memory(_: AllocError) -> Fault {
+    Fault::Refused(Refusal::OutOfMemory)
 }
 
 /// A list of the item, or an empty one.

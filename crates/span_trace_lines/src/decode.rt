@@ -14,15 +14,15 @@ mod step;
 use crate::fault::LineFault;
 use members::Members;
 use serde_json::Value as Json;
-pub(crate) use setup::{CallsiteLine, LaneLine, OutputLine, Setup, SinkLine, StackLine};
+pub use setup::{CallsiteLine, LaneLine, OutputLine, Setup, SinkLine, StackLine};
 use setup::{callsite_line, lane_line, stack_line};
 use std::alloc::Global;
 use step::step_line;
-pub(crate) use step::{NamedValue, RecordLine, StepLine};
+pub use step::{NamedValue, RecordLine, StepLine};
 
 /// A line of the input.
 #[derive(Drop)]
-pub(crate) enum Line {
+pub enum Line {
     Setup(Setup),
     Step(StepLine),
 }
@@ -76,7 +76,7 @@ fn parse(alloc: Global, bytes: &[u8]) -> Result<Json, LineFault>
 /// # Errors
 ///
 /// A line that is no JSON is not readable. In other lines numbers are looked at first, then keys and types.
-pub(crate) fn decode_line(alloc: Global, setup: &[Setup], bytes: &[u8]) -> Result<Line, LineFault>
+pub fn decode_line(alloc: Global, setup: &[Setup], bytes: &[u8]) -> Result<Line, LineFault>
     ensures malformed { IsUtf8 bytes.now → read_text bytes.now ≡ None →
         (result ≡ Err LineFault.NotReadable) ⊎ (result ≡ Err LineFault.OutOfMemory) }
 

@@ -6,13 +6,14 @@ ghost use Rattle.serde_json.specs.View.{view};
 ghost use Rattle.serde_json.specs.Written.{has_float, compact_text};
 
 use serde_json::{Value as Json, json};
-use span_tracing::{FileEntry, MemoryFolder, Reply};
+use span_tracing_machine::Reply;
 use std::alloc::{AllocError, Global};
 use std::io::Write;
+use tracing_appender_rolling::{FileEntry, MemoryFolder};
 
 /// Why not all lines were written.
 #[derive(Clone, Copy, Debug, PartialEq, Eq)]
-pub(crate) enum PrintFault {
+pub enum PrintFault {
     /// The output refused a write.
     Refused,
     OutOfMemory,
@@ -26,7 +27,7 @@ impl From<AllocError> for PrintFault {
 
 impl PrintFault {
     /// The status with which the program ends.
-    pub(crate) fn status(self) -> u8
+    pub fn status(self) -> u8
         ensures { (4 ≤ result) × (result ≤ 5) }
     {
         match self {
@@ -37,7 +38,7 @@ impl PrintFault {
 }
 
 /// Writes a line for each reply, with the steps' numbers from 1.
-pub(crate) fn write_replies<W: Write>(
+pub fn write_replies<W: Write>(
     alloc: Global,
     replies: &[Reply],
     output: &mut W,
@@ -56,7 +57,7 @@ pub(crate) fn write_replies<W: Write>(
 }
 
 /// Writes a line for each file of a folder of that name, in the byte order of the files' names.
-pub(crate) fn write_files<W: Write>(
+pub fn write_files<W: Write>(
     alloc: Global,
     name: &str,
     folder: &MemoryFolder,

@@ -2,8 +2,8 @@
 
 use crate::fault::LineFault;
 use serde_json::{Map, Value as Json};
-use span_tracing::Moment;
 use std::alloc::{AllocError, Global};
+use tracing_appender_rolling::Moment;
 
 /// The members of a JSON object.
 #[derive(Clone, Copy)]

@@ -3,13 +3,13 @@
 use crate::decode::members::{Members, number_of_32_bits, owned_text};
 use crate::fault::LineFault;
 use serde_json::Value as Json;
-use span_tracing::Moment;
 use std::alloc::Global;
+use tracing_appender_rolling::Moment;
 use tracing_core::{Kind, Level, LevelFilter};
 
 /// A setup call.
 #[derive(Drop)]
-pub(crate) enum Setup {
+pub enum Setup {
     Stack(StackLine),
     Callsite(CallsiteLine),
     Lane(LaneLine),
@@ -17,55 +17,55 @@ pub(crate) enum Setup {
 
 /// A stack of one output or none.
 #[derive(Drop)]
-pub(crate) struct StackLine {
-    pub(crate) moment: Moment,
-    pub(crate) output: Option<OutputLine>,
+pub struct StackLine {
+    pub moment: Moment,
+    pub output: Option<OutputLine>,
 }
 
 /// An output in the full format, with one sink or none.
 #[derive(Drop)]
-pub(crate) struct OutputLine {
-    pub(crate) key: u32,
-    pub(crate) filter: LevelFilter,
-    pub(crate) route: usize,
+pub struct OutputLine {
+    pub key: u32,
+    pub filter: LevelFilter,
+    pub route: usize,
     /// The text at the start of each line; none for lines without a time.
-    pub(crate) time: Option<String>,
-    pub(crate) sink: Option<SinkLine>,
+    pub time: Option<String>,
+    pub sink: Option<SinkLine>,
 }
 
 /// Daily files in a new folder in memory.
 #[derive(Drop)]
-pub(crate) struct SinkLine {
-    pub(crate) folder: String,
-    pub(crate) prefix: Option<String>,
-    pub(crate) suffix: Option<String>,
+pub struct SinkLine {
+    pub folder: String,
+    pub prefix: Option<String>,
+    pub suffix: Option<String>,
 }
 
 /// What is known of an event or a span before it happens.
 #[derive(Drop)]
-pub(crate) struct CallsiteLine {
-    pub(crate) id: u64,
-    pub(crate) kind: Kind,
-    pub(crate) name: String,
-    pub(crate) target: String,
-    pub(crate) level: Level,
-    pub(crate) fields: Vec<String>,
-    pub(crate) file: Option<String>,
-    pub(crate) line: Option<u32>,
+pub struct CallsiteLine {
+    pub id: u64,
+    pub kind: Kind,
+    pub name: String,
+    pub target: String,
+    pub level: Level,
+    pub fields: Vec<String>,
+    pub file: Option<String>,
+    pub line: Option<u32>,
 }
 
 impl CallsiteLine {
     /// The first field of that name.
-    pub(crate) fn field_index(&self, name: &str) -> Option<usize> {
+    pub fn field_index(&self, name: &str) -> Option<usize> {
         self.fields.iter().position(|field| field.as_str() == name)
     }
 }
 
 /// A thread.
 #[derive(Drop)]
-pub(crate) struct LaneLine {
-    pub(crate) thread: u64,
-    pub(crate) name: Option<String>,
+pub struct LaneLine {
+    pub thread: u64,
+    pub name: Option<String>,
 }
 
 pub(crate) fn stack_line(alloc: Global, members: Members<'_>) -> Result<StackLine, LineFault> {

@@ -4,16 +4,16 @@ use crate::decode::members::{Members, owned_text, pair};
 use crate::decode::setup::{CallsiteLine, Setup};
 use crate::fault::LineFault;
 use serde_json::Value as Json;
-use span_tracing::{
-    EnabledCall, EventCall, FieldValue, FollowsCall, Moment, NewSpanCall, OwnedValue, Parent,
-    SpanCall, SpanName, Step,
+use span_tracing_machine::{
+    EnabledCall, EventCall, FollowsCall, NewSpanCall, Parent, SpanCall, SpanName, Step,
 };
 use std::alloc::Global;
-use tracing_core::{Id, Identifier};
+use tracing_appender_rolling::Moment;
+use tracing_core::{FieldValue, Id, Identifier, OwnedValue};
 
 /// A step, as far as its line tells it.
 #[derive(Drop)]
-pub(crate) enum StepLine {
+pub enum StepLine {
     /// All of it.
     Whole(Step),
     /// Values whose fields are named: their places are known once the span's callsite is.
@@ -22,18 +22,18 @@ pub(crate) enum StepLine {
 
 /// Values for a span.
 #[derive(Drop)]
-pub(crate) struct RecordLine {
-    pub(crate) lane: usize,
-    pub(crate) moment: Moment,
-    pub(crate) span: Option<SpanName>,
-    pub(crate) values: Vec<NamedValue>,
+pub struct RecordLine {
+    pub lane: usize,
+    pub moment: Moment,
+    pub span: Option<SpanName>,
+    pub values: Vec<NamedValue>,
 }
 
 /// A value and the name of its field.
 #[derive(Drop)]
-pub(crate) struct NamedValue {
-    pub(crate) name: String,
-    pub(crate) value: OwnedValue,
+pub struct NamedValue {
+    pub name: String,
+    pub value: OwnedValue,
 }
 
 /// The step of that name.
