@@ -21,14 +21,16 @@ OWNER = re.compile(r"^(\s*)((?:unsafe )?impl\b.*|(?:pub )?trait\b.*|(?:pub )?mod
 
 def end_of(lines, at, indent):
     """Returns the line past the function that begins at this one, in the layout of `rt fmt`."""
-    has_body = False
+    has_body, open_braces = False, 0
     for end in range(at, len(lines)):
         line = lines[end].rstrip()
+        open_braces += line.count("{") - line.count("}")
         outside = end == at or not line.startswith(f"{indent} ")
         if outside and line.endswith("}"):
             return end + 1
         has_body = has_body or outside and line.endswith("{")
-        if line.endswith(";") and not has_body:
+        # a clause may hold a record, whose fields end in a semicolon
+        if line.endswith(";") and not has_body and not open_braces:
             return end + 1
     return len(lines)
 
@@ -55,11 +57,11 @@ def plain(lines):
 class Edit:
     """An edit, as the lines that it puts in place of others, by file and function. A function is (file, first line, name, owner)."""
 
-    def __init__(self, crate, file, is_whole=False):
+    def __init__(self, crate, file):
         self.file, self.name = file, os.path.basename(file)
         texts, self.why = rt.read_edit(file, crate.folder)
         # (file, first line, line past the last, new lines, functions inside)
-        self.hunks, self.bodies, self.is_whole = [], set(), is_whole or bool(self.why)
+        self.hunks, self.bodies, self.is_whole = [], set(), bool(self.why)
         for path, new in (texts or {}).items():
             if path.startswith("src/"):
                 with open(f"{crate.folder}/{path}", encoding="utf-8") as it:
@@ -203,6 +205,28 @@ def round_of(crate, kept, claims):
     return came if said else None
 
 
+def tried_alone(crate, edit, kept):
+    """Checks the crate with all that one edit changes, and returns whether it is refused and what to say."""
+    texts, why = rt.read_edit(edit.file, crate.folder)
+    if why:
+        return False, f"BAD EDIT: {why}"
+    ran = rt.checked(crate, texts, ["--jobs", "1"], kept)
+    lines = ran.stdout.rstrip("\n").split("\n")
+    bad = next((it for it in lines if rt.unread(it, texts)), "")
+    if bad:
+        return False, f"BAD EDIT: the changed text doesn't read, so no contract was tried: {bad[:200]}"
+    if ran.returncode == 0:
+        return False, "NOT REFUSED: the crate is still proved with it"
+    if ran.returncode == 1 and lines[-1].startswith("logic=not-proved"):
+        first = next((it for it in lines if ": error: " in it and not re.match(r"(\./)?proofs/.*(was not admitted)", it)), "")
+        names = " (only by a proof that names what it takes away: weak evidence)" if NAMES.search(first) else ""
+        return True, f"refused, tried alone{names}: {first[:160]}"
+    unread = next((it for it in lines if re.search(r"\berror\[[\w-]+\]", it)), "")
+    if ran.returncode == 1 and unread:
+        return False, f"BAD EDIT: it did not reach the prover: {unread[:200]}"
+    return False, f"NOT TRIED: the check ended with status {ran.returncode}: {lines[-1][:200]}"
+
+
 def judge(crate, kept, edits):
     """Judges a group of edits and returns, by the edit's name, whether it is refused and what to say."""
     left = [(edit, it) for edit in edits if not edit.is_whole for it in sorted(edit.bodies)]
@@ -223,8 +247,7 @@ def judge(crate, kept, edits):
             names = ", ".join(f"{it[2]} ({it[0]}:{it[1] + 1})" for it in proved[edit])
             found[edit.name] = (False, f"NOT REFUSED: still proved with its wrong body: {names}")
         elif edit in alone:
-            is_refused, text = over_a_copy(kept, lambda copy: rt.must_fail(crate, edit.file, ["--jobs", "1"], copy))
-            found[edit.name] = (is_refused, f"tried alone: {text.partition(': ')[2]}")
+            found[edit.name] = over_a_copy(kept, lambda copy: tried_alone(crate, edit, copy))
         else:
             found[edit.name] = (True, f"refused, each of {len(edit.bodies)} by itself")
     return found

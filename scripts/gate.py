@@ -12,6 +12,7 @@ CRATE..          these crates and those below them alone
 The last line is `N passed, M failed`. RT_JOBS says how many processors it may use; else it takes all. docs/GATE.md says what it checks and why."""
 import argparse
 import copy
+import glob
 import os
 import re
 import shutil
@@ -29,8 +30,6 @@ import ledger  # noqa: E402
 from kit import Crate, rt, rtlib  # noqa: E402
 
 LEDGER = "docs/edits.ledger"
-# Edits whose wrong bodies weren't yet seen refused one by one; they are tried as a whole, and the gate says how many they are.
-WHOLE = "docs/edits.whole"
 # What a proof was seen to take at most, in bytes, with what the system needs beside it.
 MEMORY = 3_500_000_000
 
@@ -110,9 +109,9 @@ def tests_proved(crate):
 class Gate:
     """One run over the crates, lowest first."""
 
-    def __init__(self, crates, room, how):
-        self.crates, self.how, self.by_name = crates, how, {it.name: it for it in crates}
-        self.known, self.whole, self.seed = ledger.read(LEDGER), ledger.read(WHOLE), seed()
+    def __init__(self, crates, room, how, top):
+        self.crates, self.how, self.top, self.by_name = crates, how, top, {it.name: it for it in crates}
+        self.known, self.seed = ledger.read(LEDGER), seed(top)
         self.spent, self.sums, self.open, self.refused, self.failed, self.passed = {}, {}, {}, set(), [], 0
         for it in crates:
             it.kept = f"{room}/{it.name}"
@@ -142,14 +141,8 @@ class Gate:
             sums[label] = ledger.sum_of(file, base)
             is_known = self.how.edits != "all" and self.known.get(label) == sums[label]
             if not is_known or self.how.edits == "drawn" and ledger.is_drawn(label, self.seed):
-                wanted.append(self.edit(crate, file))
+                wanted.append(edits.Edit(crate, file))
         return sums, [[it.file for it in group] for group in edits.groups_of(crate, wanted)]
-
-    def edit(self, crate, file):
-        return edits.Edit(crate, file, f"{crate.name}/{os.path.basename(file)}" in self.whole)
-
-    def judged(self, crate, files):
-        return edits.judge(crate, crate.kept, [self.edit(crate, it) for it in files])
 
     def ended(self, key, it):
         """Tells what came of a task, and returns the tasks that follow from it."""
@@ -160,8 +153,9 @@ class Gate:
         if part == "plan" and it.is_well:
             sums, groups = it.gave
             self.sums.update(sums)
+            crate = self.by_name[name]
             for at, files in enumerate(groups, 1):
-                call = lambda jobs, files=files: self.judged(self.by_name[name], files)
+                call = lambda jobs, files=files: edits.judge(crate, crate.kept, [edits.Edit(crate, it) for it in files])
                 follow[name, f"edits {at}"] = lanes.Task([], 300 * len(files), call)
         elif part == "edits" and it.is_well:
             for edit, (is_refused, text) in sorted(it.gave.items()):
@@ -184,12 +178,12 @@ class Gate:
         """Writes the ledger: what was refused in this run, what rests on the ledger still, and what it had of crates that this run left out."""
         left_out = {it: its for it, its in self.known.items() if it.partition("/")[0] not in self.by_name}
         rests = {it: its for it, its in self.sums.items() if it not in self.failed and self.known.get(it) == its}
-        ledger.write(LEDGER, {**left_out, **rests, **{it: self.sums[it] for it in self.refused}})
+        ledger.write(f"{self.top}/{LEDGER}", {**left_out, **rests, **{it: self.sums[it] for it in self.refused}})
 
 
-def seed():
+def seed(top):
     """Returns what the draw of edits goes by: the commit, or the time where there is none."""
-    ran = subprocess.run(["git", "rev-parse", "HEAD"], stdin=subprocess.DEVNULL, capture_output=True, text=True)
+    ran = subprocess.run(["git", "rev-parse", "HEAD"], cwd=top, stdin=subprocess.DEVNULL, capture_output=True, text=True)
     return ran.stdout.strip() or str(time.time())
 
 
@@ -208,10 +202,19 @@ def processors():
     return int(number) if number.isdigit() and int(number) else max(1, min(rt.processors(), rt.free() // MEMORY))
 
 
-def well_laid(root, aside):
+def copied(root, to):
+    """Copies the repository's files, without what git and earlier checks keep, so that a run begins with nothing and leaves nothing behind."""
+    folders = {it: {"out"} for it in glob.glob(f"{root}/crates/*")} | {root: {".git"}}
+    shutil.copytree(root, to, symlinks=True, ignore=lambda at, names: folders.get(at, ()))
+    # the toolchain looks for it at the top of a repository
+    os.mkdir(f"{to}/.git")
+
+
+def well_laid(root):
     """Returns the repository's crates, lowest first, once its files are as the toolchain wants them."""
     Crate.allowed = rt.handles_of(root)
-    crates = rt.crates_of(root, aside)
+    # some toolchains of this logic take a second folder, for what earlier checks kept: there is nothing of that here
+    crates = rt.crates_of(*[root, f"{root}/.git"][: rt.crates_of.__code__.co_argcount])
     rtlib.lock(crates)
     for name in sorted(it for it in os.listdir(root) if it != ".git"):
         if os.path.isdir(f"{root}/{name}"):
@@ -221,14 +224,14 @@ def well_laid(root, aside):
     return crates
 
 
-def run(how, aside):
-    """Runs the gate over crates whose earlier work was put aside, and returns the exit status."""
+def run(how, top):
+    """Runs the gate over the crates of this folder, a copy of the repository at `top`, and returns the exit status."""
     rtlib.stop = rt.stop
     for it in (rtlib.ALLOW_C, rtlib.BACKEND, "RT_SECONDS"):
         os.environ.pop(it, None)
     began = time.time()
     try:
-        crates = well_laid(os.getcwd(), aside)
+        crates = well_laid(os.getcwd())
         misnamed = [os.path.relpath(bad) for it in crates for bad in rt.edits_of(it)[1]]
         crates = chosen(crates, how.crates)
     except SystemExit:
@@ -236,7 +239,7 @@ def run(how, aside):
         return 2
     refused = [it.name for it in crates if not is_well_written(it, crates)]
     with tempfile.TemporaryDirectory(prefix="gate-") as room:
-        gate = Gate(crates, room, how)
+        gate = Gate(crates, room, how, top)
         gate.failed += refused + [f"{it} (an edit's name ends in .edit)" for it in misnamed]
         if not refused:
             lanes.run(gate.tasks(), processors(), gate.ended)
@@ -251,8 +254,6 @@ def told(gate, minutes):
         print(f"gate: {part}: {number} tasks, {cpu / 60:.1f} minutes of processors, {wall / 60:.1f} minutes if one after another")
     judged = len(gate.refused) + sum("/" in it for it in gate.failed)
     print(f"gate: {judged} edits judged; {len(gate.sums) - judged} rest on {LEDGER}")
-    if gate.whole:
-        print(f"gate: {len(gate.whole)} edits are judged as a whole, and not yet body by body ({WHOLE})")
     print(f"gate: {sum(it[0] for it in gate.spent.values()) / 60:.1f} minutes of processors, {minutes:.1f} minutes")
     if gate.failed:
         print(f"gate: FAILED: {'; '.join(gate.failed)}")
@@ -266,10 +267,14 @@ def main():
     reader.add_argument("--tests", choices=["try", "prove"], default="try")
     reader.add_argument("--edits", choices=["drawn", "new", "all"], default="drawn")
     how = reader.parse_args()
-    os.chdir(os.path.join(os.path.dirname(os.path.realpath(__file__)), ".."))
-    # `rt ci` itself puts aside what earlier runs left in out/, and puts it back however the run ends
-    rt.ci_from_nothing = lambda aside: run(how, aside)
-    return rt.ci()
+    top = os.path.dirname(os.path.dirname(os.path.realpath(__file__)))
+    with tempfile.TemporaryDirectory(prefix="gate-copy-") as room:
+        copied(top, f"{room}/repository")
+        os.chdir(f"{room}/repository")
+        try:
+            return run(how, top)
+        finally:
+            os.chdir(top)
 
 
 if __name__ == "__main__":

@@ -70,6 +70,25 @@ def instead(file, old, new):
     return {file: FILES[file].replace(old, new)}
 
 
+# A function whose clause holds a record.
+PAIR = """pub struct Pair {
+    pub first: u32,
+    pub second: u32,
+}
+
+pub fn doubled(x: u32) -> Pair
+    ensures { result ≡ record {
+      first = x;
+      second = x;
+    } }
+{
+    let both = (x, x);
+    Pair {
+        first: both.0,
+        second: both.1,
+    }
+}"""
+
 # The name of each fault, the files that it changes or adds, the crate that the gate is asked for, and what the gate has to say.
 FAULTS = [
     ("nothing is wrong", {}, "app", "0 failed"),
@@ -80,6 +99,10 @@ FAULTS = [
         f"{EDITS}/harmless.edit": "file: src/lib.rt\nold:     x + 1\nnew:     1 + x\n",
         f"{EDITS}/harmless_too.edit": "file: src/lib.rt\nold: pub fn same(x: u32) -> u32\nnew: pub fn same(mut x: u32) -> u32\n",
     }, "low", "FAILED: low/harmless.edit; low/harmless_too.edit"),
+    ("one of an edit's two bodies is harmless", {
+        **before_tests(PAIR),
+        f"{EDITS}/half_harmless.edit": "file: src/lib.rt\nold:     x + 1\nnew:     x\nold: second: both.1\nnew: second: both.0\n",
+    }, "low", "half_harmless.edit: NOT REFUSED: still proved with its wrong body: doubled "),
     ("an edit names no text", {f"{EDITS}/gone.edit": "file: src/lib.rt\nold: x + 2\nnew: x\n"}, "low", "BAD EDIT"),
     ("an edit does not read", {f"{EDITS}/odd.edit": "file: src/lib.rt\nold:     x + 1\nnew:     nothing_of_this_name\n"}, "low", "BAD EDIT"),
     ("an edit has no ending", {f"{EDITS}/odd.txt": "nothing\n"}, "low", "an edit's name ends in .edit"),
