@@ -56,13 +56,16 @@ abbrev pub KeptByBoth : (PlainMetadata → View → Bool → List Bool → Bool 
 KeptByBoth K J m v passes verdicts some = (a : Bool) × (b : Bool) × K m v passes verdicts a × J m v passes verdicts b × (some ≡ (a || b))
 
 module _ {A B : Type 0} (g : Ghosts A) (h : Ghosts B) where
-  -- both are told the same: of spans and events the inner one first, whose slots the outer one sees, and of a hub the outer one; and they are attached to the registry in turn, the outer one first
+  -- both are told in turn, the inner one first, whose slots the outer one sees
+  abbrev pub BothInTurn : (View → RegistryValue → Notice) → Layered A B → View → RegistryValue → Layered A B → Type 0
+  BothInTurn n l v y m = (z : RegistryValue) × h.told l.inner (n v z) m.inner × g.told l.layer (n (seeing z v) y) m.layer
+
+  -- both are told the same: of spans and events in turn, and of a hub the outer one first; and they are attached to the registry in turn, the outer one first
   abbrev pub NotifiedBoth : Layered A B → Notice → Layered A B → Type 0
-  NotifiedBoth l (Spanned id call v y) m = (z : RegistryValue) × h.told l.inner (Spanned id call v z) m.inner × g.told l.layer (Spanned id call (seeing z v) y) m.layer
-  NotifiedBoth l (Followed span follows v y) m =
-      (z : RegistryValue) × h.told l.inner (Followed span follows v z) m.inner × g.told l.layer (Followed span follows (seeing z v) y) m.layer
-  NotifiedBoth l (Happened e v y) m = (z : RegistryValue) × h.told l.inner (Happened e v z) m.inner × g.told l.layer (Happened e (seeing z v) y) m.layer
-  NotifiedBoth l (Renamed old new v y) m = (z : RegistryValue) × h.told l.inner (Renamed old new v z) m.inner × g.told l.layer (Renamed old new (seeing z v) y) m.layer
+  NotifiedBoth l (Spanned id call v y) m = BothInTurn (Spanned id call) l v y m
+  NotifiedBoth l (Followed span follows v y) m = BothInTurn (Followed span follows) l v y m
+  NotifiedBoth l (Happened e v y) m = BothInTurn (Happened e) l v y m
+  NotifiedBoth l (Renamed old new v y) m = BothInTurn (Renamed old new) l v y m
   NotifiedBoth l (Dispatched handle) m = g.told l.layer (Dispatched handle) m.layer × h.told l.inner (Dispatched handle) m.inner
   NotifiedBoth l (Attached x) m = (y : RegistryValue) × AddsFilters x y × g.told l.layer (Attached x) m.layer × h.told l.inner (Attached y) m.inner
 
