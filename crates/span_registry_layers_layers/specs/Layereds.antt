@@ -7,7 +7,7 @@ use Rattle.tracing_core_fields.specs.PlainMetadata.{PlainMetadata}
 use Rattle.tracing_core_requests.specs.Steady.{HintFits, InterestFits, SameWord}
 use Rattle.span_registry_layers_store.specs.Aside.{SameButKeys, keys_then}
 use Rattle.span_registry_layers_store.specs.Registries.{RegistryValue}
-use Rattle.span_registry_layers_layers.specs.Combined.{Both, SaysOf, joined_word, then_passed, then_refused}
+use Rattle.span_registry_layers_layers.specs.Combined.{Both, SaysOf, joined_fair, joined_word}
 use Rattle.span_registry_layers_layers.specs.Honesty.{Fair}
 use Rattle.span_registry_layers_layers.specs.Looks.{View, seeing}
 use Rattle.span_registry_layers_layers.specs.Notices.{AddsFilters, Attached, Dispatched, Followed, Happened, Notice, Renamed, Spanned, WritesUnder}
@@ -44,12 +44,7 @@ picked_below (Some x) (Some y) level p r a b c = λ lt. c (a (omega (arith, lt))
 
 module _ {A B : PlainMetadata → View → Bool → Type 0} {S T : PlainMetadata → PlainInterest → Type 0} {h i : Option ℕ} where
   pub layered_fair : Fair A S h → Fair B T i → Fair (λ m v r. Both (A m v) (B m v) r) (λ m k. SaysOf picked_interest (S m) (T m) k) (picked_hint h i)
-  layered_fair f g = record {
-    interest = λ m v r k a s.
-        subst (λ z. InterestFits z r) (sym s.2.2)
-        (picked_fit s.0 s.2.0 a.0 r (f.interest m v a.0 s.0 a.1 s.1) (λ e. g.interest m v r s.2.0 (then_passed (B m v) a.0 r a.2 e) s.2.1) (then_refused (B m v) a.0 r a.2));
-    below = λ m v r a. picked_below h i m.level a.0 r (f.below m v a.0 a.1) (λ e. g.below m v r (then_passed (B m v) a.0 r a.2 e)) (then_refused (B m v) a.0 r a.2);
-  }
+  layered_fair f g = joined_fair picked_interest picked_hint picked_fit picked_below f g
 
 -- what the filters of both say of a new span, and whether a layer of one of them is told
 abbrev pub KeptByBoth : (PlainMetadata → View → Bool → List Bool → Bool → Type 0) → (PlainMetadata → View → Bool → List Bool → Bool → Type 0) → PlainMetadata → View → Bool → List Bool → Bool → Type 0
