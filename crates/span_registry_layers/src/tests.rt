@@ -1,4 +1,6 @@
 // Each call of the crate, and what filters, layers and stacks answer and tell, through the paths that a user has.
+ghost use Rattle.std.specs.Prelude.{◌≡◌, nat_le};
+ghost use Rattle.tracing_core.specs.Metadata.{plain_metadata};
 
 mod filter_answers;
 mod filters;
@@ -80,6 +82,20 @@ fn nested(alloc: Global) -> Result<(Registry, Id, Id), Fail> {
     let inner = make(&mut registry, "inner", FilterMap::all())?;
     registry.enter(&inner, 0).ok().ok_or("an entry")?;
     Ok((registry, outer, inner))
+}
+
+/// Passes warnings and errors.
+fn is_quiet(metadata: &Metadata<'_>) -> bool
+    ensures { result ≡ nat_le (plain_metadata metadata.now).level 2 }
+{
+    *metadata.level() <= Level::WARN
+}
+
+/// The same, whatever the context shows.
+fn is_quiet_anywhere(metadata: &Metadata<'_>, _context: &Context<'_>) -> bool
+    ensures { result ≡ nat_le (plain_metadata metadata.now).level 2 }
+{
+    is_quiet(metadata)
 }
 
 /// Whether a filter passes what has this metadata, and its interest in it.

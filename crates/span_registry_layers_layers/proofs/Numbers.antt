@@ -46,14 +46,6 @@ numbers_joined first (suc a) b =
     let all : suc (a + b) ≡ suc a + b = omega arith in
     ap (λ ns. first ∷ ns) (ap (λ (n : ℕ). numbers_from (first + 1) a ++ numbers_from n b) same ∙ numbers_joined (first + 1) a b) ∙ ap (numbers_from first) all
 
-pub or_first : (a b : Bool) → a ≡ true → a ≡ (a || b)
-or_first true b e = refl
-or_first false b e = absurd (cc)
-
-pub or_second : (a b : Bool) → a ≡ false → b ≡ (a || b)
-or_second true b e = absurd (cc)
-or_second false b e = refl
-
 other : (m n : ℕ) → n < m → (m == n) ≡ false
 other m n h = grind (arith, nat_tests, h)
 

@@ -9,21 +9,10 @@ use Rattle.span_registry_layers_layers.specs.Honesty.{Fair, OneAnswer}
 use Rattle.span_registry_layers_layers.specs.Looks.{View}
 use Rattle.span_registry_layers_layers.specs.Notices.{Notice, Untouched, WritesUnder, untouched_writes}
 use Rattle.span_registry_layers_layers.specs.Numbering.{NumbersStay, no_numbers}
+use Rattle.span_registry_layers_layers.specs.Optional.{AnswersIf, SaysIf}
 use Rattle.span_registry_layers_layers.specs.declared.layer.Layer.{Ghosts}
 
 module _ {L : Type 0} (g : Ghosts L) where
-  abbrev pub AnswersOf : Option L → PlainMetadata → View → Bool → Type 0
-  AnswersOf None m v b = b ≡ true
-  AnswersOf (Some l) m v b = g.answers l m v b
-
-  abbrev pub EventAnswersOf : Option L → PlainEvent → View → Bool → Type 0
-  EventAnswersOf None e v b = b ≡ true
-  EventAnswersOf (Some l) e v b = g.event_answers l e v b
-
-  abbrev pub SaysOf : Option L → PlainMetadata → PlainInterest → Type 0
-  SaysOf None m k = k ≡ Always
-  SaysOf (Some l) m k = g.says l m k
-
   abbrev pub hint_of : Option L → Option ℕ
   hint_of None = Some 0
   hint_of (Some l) = g.hint l
@@ -39,11 +28,11 @@ module _ {L : Type 0} (g : Ghosts L) where
   IsHonest None = ⊥
   IsHonest (Some l) = g.honest l
 
-  pub absent_fair : (o : Option L) → IsHonest o → Fair (AnswersOf o) (SaysOf o) (hint_of o)
+  pub absent_fair : (o : Option L) → IsHonest o → Fair (AnswersIf g.answers o) (SaysIf g.says o) (hint_of o)
   absent_fair None k = absurd k
   absent_fair (Some l) k = g.fair l k
 
-  pub absent_stays : (o : Option L) (n : Notice) (p : Option L) → NotifiedOf o n p → IsHonest o → IsHonest p × SameWord (SaysOf o) (SaysOf p) (hint_of o) (hint_of p)
+  pub absent_stays : (o : Option L) (n : Notice) (p : Option L) → NotifiedOf o n p → IsHonest o → IsHonest p × SameWord (SaysIf g.says o) (SaysIf g.says p) (hint_of o) (hint_of p)
   absent_stays None n p t k = absurd k
   absent_stays (Some l) n None t k = absurd t
   absent_stays (Some l) n (Some m) t k = g.stays l n m t k

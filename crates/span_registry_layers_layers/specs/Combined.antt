@@ -138,13 +138,17 @@ turned_fit Sometimes p a = tt
 turned_fit Always p a = rw a refl
 
 module _ {A B : PlainMetadata → View → Bool → Type 0} {S T : PlainMetadata → PlainInterest → Type 0} {h i : Option ℕ} where
-  pub both_fair : Fair A S h → Fair B T i → Fair (λ m v r. Both (A m v) (B m v) r) (λ m k. SaysOf both_interests (S m) (T m) k) (both_hints h i)
-  both_fair f g = record {
+  -- both asked in turn, what they say joined in a way that fits
+  pub joined_fair : (say : PlainInterest → PlainInterest → PlainInterest) (top : Option ℕ → Option ℕ → Option ℕ) → ((k j : PlainInterest) (p r : Bool) → InterestFits k p → (p ≡ true → InterestFits j r) → (p ≡ false → r ≡ false) → InterestFits (say k j) r) → ((h i : Option ℕ) (level : ℕ) (p r : Bool) → HintFits h level p → (p ≡ true → HintFits i level r) → (p ≡ false → r ≡ false) → HintFits (top h i) level r) → Fair A S h → Fair B T i → Fair (λ m v r. Both (A m v) (B m v) r) (λ m k. SaysOf say (S m) (T m) k) (top h i)
+  joined_fair say top fit below f g = record {
     interest = λ m v r k a s.
         subst (λ z. InterestFits z r) (sym s.2.2)
-        (both_fit s.0 s.2.0 a.0 r (f.interest m v a.0 s.0 a.1 s.1) (λ e. g.interest m v r s.2.0 (then_passed (B m v) a.0 r a.2 e) s.2.1) (then_refused (B m v) a.0 r a.2));
-    below = λ m v r a. both_below h i m.level a.0 r (f.below m v a.0 a.1) (λ e. g.below m v r (then_passed (B m v) a.0 r a.2 e)) (then_refused (B m v) a.0 r a.2);
+        (fit s.0 s.2.0 a.0 r (f.interest m v a.0 s.0 a.1 s.1) (λ e. g.interest m v r s.2.0 (then_passed (B m v) a.0 r a.2 e) s.2.1) (then_refused (B m v) a.0 r a.2));
+    below = λ m v r a. below h i m.level a.0 r (f.below m v a.0 a.1) (λ e. g.below m v r (then_passed (B m v) a.0 r a.2 e)) (then_refused (B m v) a.0 r a.2);
   }
+
+  pub both_fair : Fair A S h → Fair B T i → Fair (λ m v r. Both (A m v) (B m v) r) (λ m k. SaysOf both_interests (S m) (T m) k) (both_hints h i)
+  both_fair f g = joined_fair both_interests both_hints both_fit both_below f g
 
   pub either_fair : Fair A S h → Fair B T i → Fair (λ m v r. Either (A m v) (B m v) r) (λ m k. SaysOf either_interest (S m) (T m) k) (either_hint h i)
   either_fair f g = record {

@@ -10,8 +10,8 @@ use Rattle.span_registry_layers_store.specs.declared.filter_map.FilterId.{Filter
 use Rattle.span_registry_layers_store.specs.declared.filter_map.TooManyFilters.{TooManyFilters}
 use Rattle.span_registry_layers_layers.specs.Combined.{Both, Then}
 use Rattle.span_registry_layers_layers.specs.Contexts.{span_in}
-use Rattle.span_registry_layers_layers.specs.Looks.{Hook, View}
-use Rattle.span_registry_layers_layers.specs.Notices.{Attached, Dispatched, Followed, Happened, Notice, Renamed, Spanned, Untouched}
+use Rattle.span_registry_layers_layers.specs.Looks.{View}
+use Rattle.span_registry_layers_layers.specs.Notices.{Attached, Dispatched, Followed, Happened, Notice, Renamed, Spanned}
 use Rattle.span_registry_layers_layers.specs.declared.filter.Filter.{Ghosts}
 use Rattle.span_registry_layers_layers.specs.declared.filtered.Filtered.{Filtered}
 use Rattle.span_registry_layers_layers.specs.declared.layer.Layer.{Ghosts as LayerGhosts}
@@ -28,55 +28,51 @@ abbrev pub own_number : Option FilterId → List ℕ → List ℕ
 own_number None ns = ns
 own_number (Some filter) ns = filter.index ∷ ns
 
-module _ {L F : Type 0} (g : Ghosts F) (h : LayerGhosts L) where
-  -- the layer is told of a notice, or stays, as the registry does
-  abbrev pub LayerToldIf : Bool → Filtered L F → Notice → Filtered L F → Type 0
-  LayerToldIf true x n y = h.told x.layer n y.layer × (y ≡ record x { layer = y.layer })
-  LayerToldIf false x n y = (y ≡ x) × Untouched n
-
-  -- the filter hears of a call on a span and the layer is told, or both stay, as the registry does
-  abbrev pub HearsIf : Bool → Filtered L F → ℕ → (View → Hook) → View → RegistryValue → Filtered L F → Type 0
-  HearsIf true x id call v left y = h.told x.layer (Spanned id call v left) y.layer × (y ≡ record x { filter = g.after x.filter (call v); layer = y.layer })
-  HearsIf false x id call v left y = (y ≡ x) × (left ≡ v.registry)
-
-  -- the same, where it sees the span
-  abbrev pub HearsSpan : Filtered L F → ℕ → (View → Hook) → View → RegistryValue → Filtered L F → Type 0
-  HearsSpan x id call v left y = HearsIf (is_seen v id) x id call v left y
-
-  -- the layer is told that a span follows another one, where it sees both
-  abbrev pub HearsFollows : Filtered L F → ℕ → ℕ → View → RegistryValue → Filtered L F → Type 0
-  HearsFollows x span follows v left y = LayerToldIf (is_seen v span && is_seen v follows) x (Followed span follows v left) y
-
+module _ {F : Type 0} (g : Ghosts F) where
   -- what the filter, asked again, may answer of an event
   abbrev pub MayPass : F → PlainEvent → View → Bool → Type 0
   MayPass filter e v b = Both (g.answers filter e.metadata v) (g.event_answers filter e v) b
 
-  -- an event is told where the filter, asked again, passes it
-  abbrev pub HearsEvent : Filtered L F → PlainEvent → View → RegistryValue → Filtered L F → Type 0
-  HearsEvent x e v left y = (b : Bool) × MayPass x.filter e v b × LayerToldIf b x (Happened e v left) y
+  -- whether the layer may be told: of a span that it sees, of both that one follows from the other, of an event that the filter, asked again, passes, and of a new id where it sees the old one
+  abbrev pub MayHear : F → Notice → Bool → Type 0
+  MayHear filter (Spanned id call v left) b = b ≡ is_seen v id
+  MayHear filter (Followed span follows v left) b = b ≡ (is_seen v span && is_seen v follows)
+  MayHear filter (Happened e v left) b = MayPass filter e v b
+  MayHear filter (Renamed old new v left) b = b ≡ is_seen v old
+  MayHear filter (Dispatched handle) b = b ≡ true
+  MayHear filter (Attached r) b = b ≡ true
 
-  -- the layer is told of a span's new id, where it sees the old one
-  abbrev pub HearsId : Filtered L F → ℕ → ℕ → View → RegistryValue → Filtered L F → Type 0
-  HearsId x old new v left y = LayerToldIf (is_seen v old) x (Renamed old new v left) y
+  -- the filter hears of calls on spans alone
+  abbrev pub heard : F → Notice → F
+  heard filter (Spanned id call v left) = g.after filter (call v)
+  heard filter (Followed span follows v left) = filter
+  heard filter (Happened e v left) = filter
+  heard filter (Renamed old new v left) = filter
+  heard filter (Dispatched handle) = filter
+  heard filter (Attached r) = filter
 
-  -- with a number: calls on a span are told by what was said of it when it was made
-  abbrev pub NotifiedUnder : FilterId → Filtered L F → Notice → Filtered L F → Type 0
-  NotifiedUnder filter x (Spanned id call v left) y = HearsSpan x id call (under filter.index v) left y
-  NotifiedUnder filter x (Followed span follows v left) y = HearsFollows x span follows (under filter.index v) left y
-  NotifiedUnder filter x (Happened e v left) y = HearsEvent x e (under filter.index v) left y
-  NotifiedUnder filter x (Renamed old new v left) y = HearsId x old new (under filter.index v) left y
-  NotifiedUnder filter x (Dispatched handle) y = LayerToldIf true x (Dispatched handle) y
-  NotifiedUnder filter x (Attached r) y = Unit {0}
+module _ {L F : Type 0} (g : Ghosts F) (h : LayerGhosts L) where
+  -- the filter hears of it and the layer is told, or both stay, as the registry does
+  abbrev pub HearsIf : Bool → Filtered L F → (View → RegistryValue → Notice) → View → RegistryValue → Filtered L F → Type 0
+  HearsIf true x n v left y = h.told x.layer (n v left) y.layer × (y ≡ record x { filter = heard g x.filter (n v left); layer = y.layer })
+  HearsIf false x n v left y = (y ≡ x) × (left ≡ v.registry)
 
-  -- without a number it tells nobody of spans and events
-  abbrev pub NotifiedAlone : Filtered L F → Notice → Filtered L F → Type 0
-  NotifiedAlone x (Dispatched handle) y = LayerToldIf true x (Dispatched handle) y
-  NotifiedAlone x (Attached r) y = Unit {0}
-  NotifiedAlone x other y = (y ≡ x) × Untouched other
+  abbrev pub Hears : Filtered L F → (View → RegistryValue → Notice) → View → RegistryValue → Filtered L F → Type 0
+  Hears x n v left y = (b : Bool) × MayHear g x.filter (n v left) b × HearsIf b x n v left y
 
+  -- with a number it hears what its filter sees, and without one nothing
+  abbrev pub HearsAt : Option FilterId → Filtered L F → (View → RegistryValue → Notice) → View → RegistryValue → Filtered L F → Type 0
+  HearsAt None x n v left y = (y ≡ x) × (left ≡ v.registry)
+  HearsAt (Some filter) x n v left y = Hears x n (under filter.index v) left y
+
+  -- calls on a span are told by what was said of it when it was made, and of a hub the layer is told in any case
   abbrev pub NotifiedAt : Option FilterId → Filtered L F → Notice → Filtered L F → Type 0
-  NotifiedAt None x n y = NotifiedAlone x n y
-  NotifiedAt (Some filter) x n y = NotifiedUnder filter x n y
+  NotifiedAt i x (Spanned id call v left) y = HearsAt i x (Spanned id call) v left y
+  NotifiedAt i x (Followed span follows v left) y = HearsAt i x (Followed span follows) v left y
+  NotifiedAt i x (Happened e v left) y = HearsAt i x (Happened e) v left y
+  NotifiedAt i x (Renamed old new v left) y = HearsAt i x (Renamed old new) v left y
+  NotifiedAt i x (Dispatched handle) y = h.told x.layer (Dispatched handle) y.layer × (y ≡ record x { layer = y.layer })
+  NotifiedAt i x (Attached r) y = Unit {0}
 
   -- the registry numbers its filter, where it has room for one more, and the layer is attached to the registry as it is then
   abbrev pub Attaches : Filtered L F → Notice → Filtered L F → Type 0

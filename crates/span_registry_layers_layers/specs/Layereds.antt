@@ -7,7 +7,7 @@ use Rattle.tracing_core_fields.specs.PlainMetadata.{PlainMetadata}
 use Rattle.tracing_core_requests.specs.Steady.{HintFits, InterestFits, SameWord}
 use Rattle.span_registry_layers_store.specs.Aside.{SameButKeys, keys_then}
 use Rattle.span_registry_layers_store.specs.Registries.{RegistryValue}
-use Rattle.span_registry_layers_layers.specs.Combined.{Both, SaysOf, joined_word, then_passed, then_refused}
+use Rattle.span_registry_layers_layers.specs.Combined.{Both, SaysOf, joined_fair, joined_word}
 use Rattle.span_registry_layers_layers.specs.Honesty.{Fair}
 use Rattle.span_registry_layers_layers.specs.Looks.{View, seeing}
 use Rattle.span_registry_layers_layers.specs.Notices.{AddsFilters, Attached, Dispatched, Followed, Happened, Notice, Renamed, Spanned, WritesUnder}
@@ -44,25 +44,23 @@ picked_below (Some x) (Some y) level p r a b c = λ lt. c (a (omega (arith, lt))
 
 module _ {A B : PlainMetadata → View → Bool → Type 0} {S T : PlainMetadata → PlainInterest → Type 0} {h i : Option ℕ} where
   pub layered_fair : Fair A S h → Fair B T i → Fair (λ m v r. Both (A m v) (B m v) r) (λ m k. SaysOf picked_interest (S m) (T m) k) (picked_hint h i)
-  layered_fair f g = record {
-    interest = λ m v r k a s.
-        subst (λ z. InterestFits z r) (sym s.2.2)
-        (picked_fit s.0 s.2.0 a.0 r (f.interest m v a.0 s.0 a.1 s.1) (λ e. g.interest m v r s.2.0 (then_passed (B m v) a.0 r a.2 e) s.2.1) (then_refused (B m v) a.0 r a.2));
-    below = λ m v r a. picked_below h i m.level a.0 r (f.below m v a.0 a.1) (λ e. g.below m v r (then_passed (B m v) a.0 r a.2 e)) (then_refused (B m v) a.0 r a.2);
-  }
+  layered_fair f g = joined_fair picked_interest picked_hint picked_fit picked_below f g
 
 -- what the filters of both say of a new span, and whether a layer of one of them is told
 abbrev pub KeptByBoth : (PlainMetadata → View → Bool → List Bool → Bool → Type 0) → (PlainMetadata → View → Bool → List Bool → Bool → Type 0) → PlainMetadata → View → Bool → List Bool → Bool → Type 0
 KeptByBoth K J m v passes verdicts some = (a : Bool) × (b : Bool) × K m v passes verdicts a × J m v passes verdicts b × (some ≡ (a || b))
 
 module _ {A B : Type 0} (g : Ghosts A) (h : Ghosts B) where
-  -- both are told the same: of spans and events the inner one first, whose slots the outer one sees, and of a hub the outer one; and they are attached to the registry in turn, the outer one first
+  -- both are told in turn, the inner one first, whose slots the outer one sees
+  abbrev pub BothInTurn : (View → RegistryValue → Notice) → Layered A B → View → RegistryValue → Layered A B → Type 0
+  BothInTurn n l v y m = (z : RegistryValue) × h.told l.inner (n v z) m.inner × g.told l.layer (n (seeing z v) y) m.layer
+
+  -- both are told the same: of spans and events in turn, and of a hub the outer one first; and they are attached to the registry in turn, the outer one first
   abbrev pub NotifiedBoth : Layered A B → Notice → Layered A B → Type 0
-  NotifiedBoth l (Spanned id call v y) m = (z : RegistryValue) × h.told l.inner (Spanned id call v z) m.inner × g.told l.layer (Spanned id call (seeing z v) y) m.layer
-  NotifiedBoth l (Followed span follows v y) m =
-      (z : RegistryValue) × h.told l.inner (Followed span follows v z) m.inner × g.told l.layer (Followed span follows (seeing z v) y) m.layer
-  NotifiedBoth l (Happened e v y) m = (z : RegistryValue) × h.told l.inner (Happened e v z) m.inner × g.told l.layer (Happened e (seeing z v) y) m.layer
-  NotifiedBoth l (Renamed old new v y) m = (z : RegistryValue) × h.told l.inner (Renamed old new v z) m.inner × g.told l.layer (Renamed old new (seeing z v) y) m.layer
+  NotifiedBoth l (Spanned id call v y) m = BothInTurn (Spanned id call) l v y m
+  NotifiedBoth l (Followed span follows v y) m = BothInTurn (Followed span follows) l v y m
+  NotifiedBoth l (Happened e v y) m = BothInTurn (Happened e) l v y m
+  NotifiedBoth l (Renamed old new v y) m = BothInTurn (Renamed old new) l v y m
   NotifiedBoth l (Dispatched handle) m = g.told l.layer (Dispatched handle) m.layer × h.told l.inner (Dispatched handle) m.inner
   NotifiedBoth l (Attached x) m = (y : RegistryValue) × AddsFilters x y × g.told l.layer (Attached x) m.layer × h.told l.inner (Attached y) m.inner
 

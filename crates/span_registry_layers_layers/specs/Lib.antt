@@ -11,6 +11,8 @@ pub mod Dynamic
 pub mod Layereds
 pub mod Identities
 pub mod Absent
+pub mod Told
+pub mod Veto
 pub mod Several
 pub mod Numbering
 pub mod Filtereds

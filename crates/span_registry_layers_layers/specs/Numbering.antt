@@ -1,5 +1,6 @@
 -- The filters of a tree of layers, by their numbers in a registry, and what they say of a span.
 use Rattle.std.specs.Prelude.{◌≡◌, ◌<◌, ◌+◌, ◌-◌, ℕ, zero, suc, nat_le, Bool, false, if◌then◌else◌, List, [], ◌∷◌, Option, Some, None, refl}
+use Rattle.std.proofs.Common.{ap, ◌∙◌}
 use Rattle.span_registry_layers_store.specs.Registries.{RegistryValue}
 use Rattle.span_registry_layers_store.specs.Spans.{is_member}
 use Rattle.span_registry_layers_store.specs.Verdicts.{passes_at}
@@ -41,11 +42,26 @@ NumbersStay (Renamed old new v y) before after = after ≡ before
 NumbersStay (Dispatched handle) before after = after ≡ before
 NumbersStay (Attached x) before after = Unit {0}
 
+both_equal : (ns ms : List ℕ) (f h : List ℕ → List ℕ) → h ≡ f → ms ≡ ns → h ms ≡ f ns
+both_equal ns ms f h same e = ap (λ (k : List ℕ → List ℕ). k ms) same ∙ ap f e
+
+pub equal_numbers : (n : Notice) (ns ms : List ℕ) → ms ≡ ns → NumbersStay n ns ms
+equal_numbers (Spanned id call v y) ns ms e = e
+equal_numbers (Followed span follows v y) ns ms e = e
+equal_numbers (Happened e v y) ns ms same = same
+equal_numbers (Renamed old new v y) ns ms e = e
+equal_numbers (Dispatched handle) ns ms e = e
+equal_numbers (Attached x) ns ms e = tt
+
+-- with a number of its own before them
+pub numbers_still : (n : Notice) (ns ms : List ℕ) (f h : List ℕ → List ℕ) → h ≡ f → NumbersStay n ns ms → NumbersStay n (f ns) (h ms)
+numbers_still (Spanned id call v y) ns ms f h same e = both_equal ns ms f h same e
+numbers_still (Followed span follows v y) ns ms f h same e = both_equal ns ms f h same e
+numbers_still (Happened call v y) ns ms f h same e = both_equal ns ms f h same e
+numbers_still (Renamed old new v y) ns ms f h same e = both_equal ns ms f h same e
+numbers_still (Dispatched handle) ns ms f h same e = both_equal ns ms f h same e
+numbers_still (Attached x) ns ms f h same e = tt
+
 -- of what has no filters
 pub no_numbers : (n : Notice) → NumbersStay n [] []
-no_numbers (Spanned id call v y) = refl
-no_numbers (Followed span follows v y) = refl
-no_numbers (Happened e v y) = refl
-no_numbers (Renamed old new v y) = refl
-no_numbers (Dispatched handle) = refl
-no_numbers (Attached x) = tt
+no_numbers n = equal_numbers n [] [] refl

@@ -11,19 +11,21 @@ use Rattle.span_registry_layers_layers.specs.Honesty.{Fair, Firm, Single}
 use Rattle.span_registry_layers_layers.specs.Looks.{Hook, View}
 use Rattle.span_registry_layers_layers.specs.declared.filter.Filter.{Ghosts}
 
+-- where one is absent all passes, and says so
+module _ {A : Type 0} where
+  abbrev pub AnswersIf : (A → PlainMetadata → View → Bool → Type 0) → Option A → PlainMetadata → View → Bool → Type 0
+  AnswersIf R None m v b = b ≡ true
+  AnswersIf R (Some x) m v b = R x m v b
+
+  abbrev pub EventAnswersIf : (A → PlainEvent → View → Bool → Type 0) → Option A → PlainEvent → View → Bool → Type 0
+  EventAnswersIf R None e v b = b ≡ true
+  EventAnswersIf R (Some x) e v b = R x e v b
+
+  abbrev pub SaysIf : (A → PlainMetadata → PlainInterest → Type 0) → Option A → PlainMetadata → PlainInterest → Type 0
+  SaysIf R None m k = k ≡ Always
+  SaysIf R (Some x) m k = R x m k
+
 module _ {F : Type 0} (g : Ghosts F) where
-  abbrev pub AnswersOf : Option F → PlainMetadata → View → Bool → Type 0
-  AnswersOf None m v b = b ≡ true
-  AnswersOf (Some f) m v b = g.answers f m v b
-
-  abbrev pub EventAnswersOf : Option F → PlainEvent → View → Bool → Type 0
-  EventAnswersOf None e v b = b ≡ true
-  EventAnswersOf (Some f) e v b = g.event_answers f e v b
-
-  abbrev pub SaysOf : Option F → PlainMetadata → PlainInterest → Type 0
-  SaysOf None m k = k ≡ Always
-  SaysOf (Some f) m k = g.says f m k
-
   abbrev pub hint_of : Option F → Option ℕ
   hint_of None = None
   hint_of (Some f) = g.hint f
@@ -36,18 +38,18 @@ module _ {F : Type 0} (g : Ghosts F) where
   IsHonest None = Unit {0}
   IsHonest (Some f) = g.honest f
 
-  pub optional_fair : (o : Option F) → IsHonest o → Fair (AnswersOf o) (SaysOf o) (hint_of o)
+  pub optional_fair : (o : Option F) → IsHonest o → Fair (AnswersIf g.answers o) (SaysIf g.says o) (hint_of o)
   optional_fair None k = record { interest = λ m v b i a s. subst (λ j. InterestFits j b) (sym s) a; below = λ m v b a. tt }
   optional_fair (Some f) k = g.fair f k
 
-  pub optional_stays : (o : Option F) (h : Hook) → IsHonest o → IsHonest (after_of o h) × SameWord (SaysOf o) (SaysOf (after_of o h)) (hint_of o) (hint_of (after_of o h))
-  optional_stays None h k = (tt, same_word (SaysOf None) None)
+  pub optional_stays : (o : Option F) (h : Hook) → IsHonest o → IsHonest (after_of o h) × SameWord (SaysIf g.says o) (SaysIf g.says (after_of o h)) (hint_of o) (hint_of (after_of o h))
+  optional_stays None h k = (tt, same_word (SaysIf g.says None) None)
   optional_stays (Some f) h k = g.stays f h k
 
-  pub optional_single : (o : Option F) → IsHonest o → Single (AnswersOf o) (EventAnswersOf o)
+  pub optional_single : (o : Option F) → IsHonest o → Single (AnswersIf g.answers o) (EventAnswersIf g.event_answers o)
   optional_single None k = record { callsite = λ m v a b x y. x ∙ sym y; event = λ e v a b x y. x ∙ sym y }
   optional_single (Some f) k = g.single f k
 
-  pub optional_firm : (o : Option F) → IsHonest o → Firm (SaysOf o) (hint_of o)
+  pub optional_firm : (o : Option F) → IsHonest o → Firm (SaysIf g.says o) (hint_of o)
   optional_firm None k = record { one = λ m i j x y. x ∙ sym y; below = λ m v s. tt }
   optional_firm (Some f) k = g.firm f k

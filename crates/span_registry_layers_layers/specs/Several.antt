@@ -17,13 +17,6 @@ use Rattle.span_registry_layers_layers.specs.Numbering.{NumbersStay}
 use Rattle.span_registry_layers_layers.specs.Singles.{both_once}
 use Rattle.span_registry_layers_layers.specs.declared.layer.Layer.{Ghosts}
 
--- each becomes one that is so related to it
-abbrev pub EachBecomes : {A : Type 0} → (A → A → Type 0) → List A → List A → Type 0
-EachBecomes R [] [] = Unit {0}
-EachBecomes R [] (y ∷ ys) = ⊥
-EachBecomes R (x ∷ xs) [] = ⊥
-EachBecomes R (x ∷ xs) (y ∷ ys) = R x y × EachBecomes R xs ys
-
 -- an interest of a request that passes: where it is wanted by one, it isn't never
 fits_more : (i j : PlainInterest) → InterestFits i true → InterestFits (either_interest i j) true
 fits_more Never j a = absurd (true≢false a)
@@ -77,15 +70,13 @@ module _ {L : Type 0} (g : Ghosts L) where
   hint_from h [] = h
   hint_from h (x ∷ xs) = hint_from (either_hint h (g.hint x)) xs
 
-  -- each is attached in turn, and may have the registry number some filters
-  abbrev pub AttachedEach : RegistryValue → List L → List L → RegistryValue → Type 0
-  AttachedEach x [] [] z = z ≡ x
-  AttachedEach x [] (m ∷ ms) z = ⊥
-  AttachedEach x (l ∷ ls) [] z = ⊥
-  AttachedEach x (l ∷ ls) (m ∷ ms) z = (y : RegistryValue) × AddsFilters x y × g.told l (Attached x) m × AttachedEach y ls ms z
-
+  -- each is told the same
   abbrev pub EachTold : Notice → List L → List L → Type 0
-  EachTold n = EachBecomes (λ x y. g.told x n y)
+  EachTold n xs ys = EachInTurn {S = Unit {0}} (λ _ l _ m. g.told l n m) tt xs tt ys
+
+  -- a layer is attached, and may have the registry number some filters
+  abbrev pub AttachesOne : RegistryValue → L → RegistryValue → L → Type 0
+  AttachesOne x l y m = AddsFilters x y × g.told l (Attached x) m
 
   -- a layer is told of a notice, by what it sees and what it leaves
   abbrev pub TellsOne : (View → RegistryValue → Notice) → View → RegistryValue → L → RegistryValue → L → Type 0
@@ -102,7 +93,7 @@ module _ {L : Type 0} (g : Ghosts L) where
   NotifiedEach xs (Happened e v y) ys = TellsInTurn (Happened e) v xs y ys
   NotifiedEach xs (Renamed old new v y) ys = TellsInTurn (Renamed old new) v xs y ys
   NotifiedEach xs (Dispatched handle) ys = EachTold (Dispatched handle) xs ys
-  NotifiedEach xs (Attached x) ys = (z : RegistryValue) × AttachedEach x xs ys z
+  NotifiedEach xs (Attached x) ys = (z : RegistryValue) × EachInTurn AttachesOne x xs z ys
 
   -- each is consistent, and always wants all
   abbrev pub EachWants : List L → Type 0
@@ -158,55 +149,40 @@ module _ {L : Type 0} (g : Ghosts L) where
   wants_still : (x y : L) → SameWord (g.says x) (g.says y) (g.hint x) (g.hint y) → ((m : PlainMetadata) → g.says x m Always) → (m : PlainMetadata) → g.says y m Always
   wants_still x y w wants m = w.onward m Always (wants m)
 
-  told_stays : (n : Notice) (xs ys : List L) → EachTold n xs ys → EachWants xs → EachWants ys × SameFrom xs ys
-  told_stays n [] [] t k = (tt, same_none)
-  told_stays n [] (y ∷ ys) t k = absurd t
-  told_stays n (x ∷ xs) [] t k = absurd t
-  told_stays n (x ∷ xs) (y ∷ ys) t k =
-      let first = g.stays x n y t.0 k.0 in
-      let later = told_stays n xs ys t.1 k.2 in
-      ((first.0, wants_still x y first.1 k.1, later.0), same_more x y xs ys first.1 later.1)
+  -- each is told of something
+  abbrev EachHears : List L → List L → Type 0
+  EachHears xs ys = EachInTurn {S = Unit {0}} (λ _ l _ m. (n : Notice) × g.told l n m) tt xs tt ys
 
-  attached_stays : (r z : RegistryValue) (xs ys : List L) → AttachedEach r xs ys z → EachWants xs → EachWants ys × SameFrom xs ys
-  attached_stays r z [] [] t k = (tt, same_none)
-  attached_stays r z [] (y ∷ ys) t k = absurd t
-  attached_stays r z (x ∷ xs) [] t k = absurd t
-  attached_stays r z (x ∷ xs) (y ∷ ys) t k =
-      let first = g.stays x (Attached r) y t.2 k.0 in
-      let later = attached_stays t.0 z xs ys t.3 k.2 in
-      ((first.0, wants_still x y first.1 k.1, later.0), same_more x y xs ys first.1 later.1)
+  hears : {S : Type 0} (R : S → L → S → L → Type 0) → ((x y : S) (l m : L) → R x l y m → (n : Notice) × g.told l n m) → (x : S) (xs : List L) (y : S) (ys : List L) → EachInTurn R x xs y ys → EachHears xs ys
+  hears R f x [] y [] t = refl
+  hears R f x [] y (m ∷ ms) t = absurd t
+  hears R f x (l ∷ ls) y [] t = absurd t
+  hears R f x (l ∷ ls) y (m ∷ ms) t = (tt, f x t.0 l m t.1, hears R f t.0 ls y ms t.2)
 
-  turn_stays : (n : View → RegistryValue → Notice) (v : View) (x : RegistryValue) (xs : List L) (y : RegistryValue) (ys : List L) → EachInTurn (TellsOne n v) x xs y ys → EachWants xs → EachWants ys × SameFrom xs ys
-  turn_stays n v x [] y [] t k = (tt, same_none)
-  turn_stays n v x [] y (m ∷ ms) t k = absurd t
-  turn_stays n v x (l ∷ ls) y [] t k = absurd t
-  turn_stays n v x (l ∷ ls) y (m ∷ ms) t k =
-      let first = g.stays l (n (seeing x v) t.0) m t.1 k.0 in
-      let later = turn_stays n v t.0 ls y ms t.2 k.2 in
+  each_hears : (xs : List L) (n : Notice) (ys : List L) → NotifiedEach xs n ys → EachHears xs ys
+  each_hears xs (Spanned id call v y) ys t = hears (TellsOne (Spanned id call) v) (λ x z l m told. (Spanned id call (seeing x v) z, told)) v.registry xs y ys t
+  each_hears xs (Followed span follows v y) ys t = hears (TellsOne (Followed span follows) v) (λ x z l m told. (Followed span follows (seeing x v) z, told)) v.registry xs y ys t
+  each_hears xs (Happened e v y) ys t = hears (TellsOne (Happened e) v) (λ x z l m told. (Happened e (seeing x v) z, told)) v.registry xs y ys t
+  each_hears xs (Renamed old new v y) ys t = hears (TellsOne (Renamed old new) v) (λ x z l m told. (Renamed old new (seeing x v) z, told)) v.registry xs y ys t
+  each_hears xs (Dispatched handle) ys t = hears {S = Unit {0}} (λ _ l _ m. g.told l (Dispatched handle) m) (λ x z l m told. (Dispatched handle, told)) tt xs tt ys t
+  each_hears xs (Attached x) ys t = hears AttachesOne (λ y z l m told. (Attached y, told.1)) x xs t.0 ys t.1
+
+  hears_stays : (xs ys : List L) → EachHears xs ys → EachWants xs → EachWants ys × SameFrom xs ys
+  hears_stays [] [] t k = (tt, same_none)
+  hears_stays [] (m ∷ ms) t k = absurd t
+  hears_stays (l ∷ ls) [] t k = absurd t
+  hears_stays (l ∷ ls) (m ∷ ms) t k =
+      let first = g.stays l t.1.0 m t.1.1 k.0 in
+      let later = hears_stays ls ms t.2 k.2 in
       ((first.0, wants_still l m first.1 k.1, later.0), same_more l m ls ms first.1 later.1)
 
-  honest_turn : (n : View → RegistryValue → Notice) (v : View) (xs : List L) (y : RegistryValue) (ys : List L) → TellsInTurn n v xs y ys → IsHonest xs → IsHonest ys × SameWord (SaysFrom Never xs) (SaysFrom Never ys) (hint_from (Some 0) xs) (hint_from (Some 0) ys)
-  honest_turn n v [] y ys t k = absurd k
-  honest_turn n v (l ∷ ls) y [] t k = absurd t
-  honest_turn n v (l ∷ ls) y (m ∷ ms) t k = let all = turn_stays n v v.registry (l ∷ ls) y (m ∷ ms) t k in (all.0, all.1 Never (Some 0))
-
-  honest_told : (n : Notice) (xs ys : List L) → EachTold n xs ys → IsHonest xs → IsHonest ys × SameWord (SaysFrom Never xs) (SaysFrom Never ys) (hint_from (Some 0) xs) (hint_from (Some 0) ys)
-  honest_told n [] ys t k = absurd k
-  honest_told n (x ∷ xs) [] t k = absurd t
-  honest_told n (x ∷ xs) (y ∷ ys) t k = let all = told_stays n (x ∷ xs) (y ∷ ys) t k in (all.0, all.1 Never (Some 0))
-
-  honest_attached : (r z : RegistryValue) (xs ys : List L) → AttachedEach r xs ys z → IsHonest xs → IsHonest ys × SameWord (SaysFrom Never xs) (SaysFrom Never ys) (hint_from (Some 0) xs) (hint_from (Some 0) ys)
-  honest_attached r z [] ys t k = absurd k
-  honest_attached r z (x ∷ xs) [] t k = absurd t
-  honest_attached r z (x ∷ xs) (y ∷ ys) t k = let all = attached_stays r z (x ∷ xs) (y ∷ ys) t k in (all.0, all.1 Never (Some 0))
+  honest_stays : (xs ys : List L) → EachHears xs ys → IsHonest xs → IsHonest ys × SameWord (SaysFrom Never xs) (SaysFrom Never ys) (hint_from (Some 0) xs) (hint_from (Some 0) ys)
+  honest_stays [] ys t k = absurd k
+  honest_stays (l ∷ ls) [] t k = absurd t
+  honest_stays (l ∷ ls) (m ∷ ms) t k = let all = hears_stays (l ∷ ls) (m ∷ ms) t k in (all.0, all.1 Never (Some 0))
 
   pub several_stay : (xs : List L) (n : Notice) (ys : List L) → NotifiedEach xs n ys → IsHonest xs → IsHonest ys × SameWord (SaysFrom Never xs) (SaysFrom Never ys) (hint_from (Some 0) xs) (hint_from (Some 0) ys)
-  several_stay xs (Spanned id call v y) ys t = honest_turn (Spanned id call) v xs y ys t
-  several_stay xs (Followed span follows v y) ys t = honest_turn (Followed span follows) v xs y ys t
-  several_stay xs (Happened e v y) ys t = honest_turn (Happened e) v xs y ys t
-  several_stay xs (Renamed old new v y) ys t = honest_turn (Renamed old new) v xs y ys t
-  several_stay xs (Dispatched handle) ys t = honest_told (Dispatched handle) xs ys t
-  several_stay xs (Attached x) ys t = honest_attached x t.0 xs ys t.1
+  several_stay xs n ys t = honest_stays xs ys (each_hears xs n ys t)
 
   abbrev pub filters_of : List L → ℕ
   filters_of [] = 0
@@ -224,24 +200,18 @@ module _ {L : Type 0} (g : Ghosts L) where
   joined_numbers : (x y : L) (xs ys : List L) → g.numbers y ≡ g.numbers x → numbers_of ys ≡ numbers_of xs → numbers_of (y ∷ ys) ≡ numbers_of (x ∷ xs)
   joined_numbers x y xs ys a b = ap (λ (ns : List ℕ). ns ++ numbers_of ys) a ∙ ap (λ (ns : List ℕ). g.numbers x ++ ns) b
 
-  same_numbers : (n : Notice) → ((x y : L) → g.told x n y → g.numbers y ≡ g.numbers x) → (xs ys : List L) → EachTold n xs ys → numbers_of ys ≡ numbers_of xs
-  same_numbers n f [] [] t = refl
-  same_numbers n f [] (y ∷ ys) t = absurd t
-  same_numbers n f (x ∷ xs) [] t = absurd t
-  same_numbers n f (x ∷ xs) (y ∷ ys) t = joined_numbers x y xs ys (f x y t.0) (same_numbers n f xs ys t.1)
-
-  turn_numbers : (n : View → RegistryValue → Notice) (v : View) → ((x y : RegistryValue) (l m : L) → TellsOne n v x l y m → g.numbers m ≡ g.numbers l) → (x : RegistryValue) (xs : List L) (y : RegistryValue) (ys : List L) → EachInTurn (TellsOne n v) x xs y ys → numbers_of ys ≡ numbers_of xs
-  turn_numbers n v f x [] y [] t = refl
-  turn_numbers n v f x [] y (m ∷ ms) t = absurd t
-  turn_numbers n v f x (l ∷ ls) y [] t = absurd t
-  turn_numbers n v f x (l ∷ ls) y (m ∷ ms) t = joined_numbers l m ls ms (f x t.0 l m t.1) (turn_numbers n v f t.0 ls y ms t.2)
+  turn_numbers : {S : Type 0} (R : S → L → S → L → Type 0) → ((x y : S) (l m : L) → R x l y m → g.numbers m ≡ g.numbers l) → (x : S) (xs : List L) (y : S) (ys : List L) → EachInTurn R x xs y ys → numbers_of ys ≡ numbers_of xs
+  turn_numbers R f x [] y [] t = refl
+  turn_numbers R f x [] y (m ∷ ms) t = absurd t
+  turn_numbers R f x (l ∷ ls) y [] t = absurd t
+  turn_numbers R f x (l ∷ ls) y (m ∷ ms) t = joined_numbers l m ls ms (f x t.0 l m t.1) (turn_numbers R f t.0 ls y ms t.2)
 
   pub each_numbered : (n : Notice) (xs ys : List L) → NotifiedEach xs n ys → NumbersStay n (numbers_of xs) (numbers_of ys)
-  each_numbered (Spanned id call v y) xs ys t = turn_numbers (Spanned id call) v (λ x z l m told. g.numbered l (Spanned id call (seeing x v) z) m told) v.registry xs y ys t
-  each_numbered (Followed span follows v y) xs ys t = turn_numbers (Followed span follows) v (λ x z l m told. g.numbered l (Followed span follows (seeing x v) z) m told) v.registry xs y ys t
-  each_numbered (Happened e v y) xs ys t = turn_numbers (Happened e) v (λ x z l m told. g.numbered l (Happened e (seeing x v) z) m told) v.registry xs y ys t
-  each_numbered (Renamed old new v y) xs ys t = turn_numbers (Renamed old new) v (λ x z l m told. g.numbered l (Renamed old new (seeing x v) z) m told) v.registry xs y ys t
-  each_numbered (Dispatched handle) xs ys t = same_numbers (Dispatched handle) (λ x y told. g.numbered x (Dispatched handle) y told) xs ys t
+  each_numbered (Spanned id call v y) xs ys t = turn_numbers (TellsOne (Spanned id call) v) (λ x z l m told. g.numbered l (Spanned id call (seeing x v) z) m told) v.registry xs y ys t
+  each_numbered (Followed span follows v y) xs ys t = turn_numbers (TellsOne (Followed span follows) v) (λ x z l m told. g.numbered l (Followed span follows (seeing x v) z) m told) v.registry xs y ys t
+  each_numbered (Happened e v y) xs ys t = turn_numbers (TellsOne (Happened e) v) (λ x z l m told. g.numbered l (Happened e (seeing x v) z) m told) v.registry xs y ys t
+  each_numbered (Renamed old new v y) xs ys t = turn_numbers (TellsOne (Renamed old new) v) (λ x z l m told. g.numbered l (Renamed old new (seeing x v) z) m told) v.registry xs y ys t
+  each_numbered (Dispatched handle) xs ys t = turn_numbers {S = Unit {0}} (λ _ l _ m. g.told l (Dispatched handle) m) (λ x z l m told. g.numbered l (Dispatched handle) m told) tt xs tt ys t
   each_numbered (Attached r) xs ys t = tt
 
   each_once : (xs : List L) → EachWants xs → OneAnswer (KeptByEach xs)
@@ -274,28 +244,11 @@ module _ {L : Type 0} (g : Ghosts L) where
   joined_keys : (l m : L) (ls ms : List L) (key : ℕ) → g.keys m key ≡ g.keys l key → keys_of ms key ≡ keys_of ls key → keys_of (m ∷ ms) key ≡ keys_of (l ∷ ls) key
   joined_keys l m ls ms key a b = ap (λ p. p || g.keys m key) b ∙ ap (λ q. keys_of ls key || q) a
 
-  turn_keyed : (n : View → RegistryValue → Notice) (v : View) (x : RegistryValue) (xs : List L) (y : RegistryValue) (ys : List L) → EachInTurn (TellsOne n v) x xs y ys → (key : ℕ) → keys_of ys key ≡ keys_of xs key
-  turn_keyed n v x [] y [] t key = refl
-  turn_keyed n v x [] y (m ∷ ms) t key = absurd t
-  turn_keyed n v x (l ∷ ls) y [] t key = absurd t
-  turn_keyed n v x (l ∷ ls) y (m ∷ ms) t key = joined_keys l m ls ms key (g.keyed l (n (seeing x v) t.0) m t.1 key) (turn_keyed n v t.0 ls y ms t.2 key)
-
-  told_keyed : (n : Notice) (xs ys : List L) → EachTold n xs ys → (key : ℕ) → keys_of ys key ≡ keys_of xs key
-  told_keyed n [] [] t key = refl
-  told_keyed n [] (m ∷ ms) t key = absurd t
-  told_keyed n (l ∷ ls) [] t key = absurd t
-  told_keyed n (l ∷ ls) (m ∷ ms) t key = joined_keys l m ls ms key (g.keyed l n m t.0 key) (told_keyed n ls ms t.1 key)
-
-  attached_keyed : (x z : RegistryValue) (xs ys : List L) → AttachedEach x xs ys z → (key : ℕ) → keys_of ys key ≡ keys_of xs key
-  attached_keyed x z [] [] t key = refl
-  attached_keyed x z [] (m ∷ ms) t key = absurd t
-  attached_keyed x z (l ∷ ls) [] t key = absurd t
-  attached_keyed x z (l ∷ ls) (m ∷ ms) t key = joined_keys l m ls ms key (g.keyed l (Attached x) m t.2 key) (attached_keyed t.0 z ls ms t.3 key)
+  hears_keyed : (xs ys : List L) → EachHears xs ys → (key : ℕ) → keys_of ys key ≡ keys_of xs key
+  hears_keyed [] [] t key = refl
+  hears_keyed [] (m ∷ ms) t key = absurd t
+  hears_keyed (l ∷ ls) [] t key = absurd t
+  hears_keyed (l ∷ ls) (m ∷ ms) t key = joined_keys l m ls ms key (g.keyed l t.1.0 m t.1.1 key) (hears_keyed ls ms t.2 key)
 
   pub each_keyed : (n : Notice) (xs ys : List L) → NotifiedEach xs n ys → (key : ℕ) → keys_of ys key ≡ keys_of xs key
-  each_keyed (Spanned id call v y) xs ys t = turn_keyed (Spanned id call) v v.registry xs y ys t
-  each_keyed (Followed span follows v y) xs ys t = turn_keyed (Followed span follows) v v.registry xs y ys t
-  each_keyed (Happened e v y) xs ys t = turn_keyed (Happened e) v v.registry xs y ys t
-  each_keyed (Renamed old new v y) xs ys t = turn_keyed (Renamed old new) v v.registry xs y ys t
-  each_keyed (Dispatched handle) xs ys t = told_keyed (Dispatched handle) xs ys t
-  each_keyed (Attached x) xs ys t = attached_keyed x t.0 xs ys t.1
+  each_keyed n xs ys t = hears_keyed xs ys (each_hears xs n ys t)

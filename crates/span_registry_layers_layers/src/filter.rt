@@ -17,8 +17,8 @@ mod level;
 mod optional;
 
 use crate::context::Context;
-pub use combined::{And, Not, Or};
-pub(crate) use combined::{either_hint, either_interest};
+pub(crate) use combined::either_interest;
+pub use combined::{And, Not, Or, either_hint};
 pub use dynamic::{CallsiteTest, ContextTest, DynFilterFn, dynamic_filter_fn};
 pub use ext::FilterExt;
 pub use function::{FilterFn, MetadataTest, filter_fn};

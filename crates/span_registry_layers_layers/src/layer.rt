@@ -11,15 +11,14 @@ ghost use Rattle.span_registry_layers_layers.specs.Notices.{AddsFilters, Attache
 ghost use Rattle.span_registry_layers_layers.specs.Numbering.{AreNumbers, NumbersStay, SameBut, SameOf, more_filters, numbers_from, room_after};
 
 mod boxed;
-mod dynamic;
 mod ext;
 mod filtered;
-mod function;
 mod identity;
 mod layered;
-mod level;
 mod optional;
 mod several;
+mod told;
+mod veto;
 
 use crate::context::Context;
 pub use ext::{LayerExt, SubscriberExt};
@@ -28,6 +27,7 @@ pub use layered::Layered;
 use span_registry_layers_store::{FilterMap, Registry};
 use tracing_core_fields::{Id, LevelFilter, Metadata};
 use tracing_core_requests::{Attributes, Event, Interest, Record, WeakDispatch};
+pub use veto::Veto;
 
 /// What an output does with the spans and events that it is told.
 ///

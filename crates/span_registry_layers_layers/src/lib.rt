@@ -12,7 +12,7 @@ pub use attached::AttachError;
 pub use context::Context;
 pub use filter::{
     And, CallsiteTest, ContextTest, DynFilterFn, Filter, FilterExt, FilterFn, MetadataTest, Not,
-    Or, dynamic_filter_fn, filter_fn,
+    Or, dynamic_filter_fn, either_hint, filter_fn,
 };
 pub use filtered::Filtered;
 pub use laws::{joined_registry_stays_sound, tree_registry_stays_sound, trees_stay_attached};

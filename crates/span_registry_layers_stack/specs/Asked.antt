@@ -1,10 +1,10 @@
 -- What is asked of all filters again.
-use Rattle.std.specs.Prelude.{◌≡◌, ◌||◌, ℕ, max, Bool, false, List, [], ◌∷◌, length, Option, Some, None, slice_set}
+use Rattle.std.specs.Prelude.{◌≡◌, ◌||◌, ℕ, Bool, false, List, [], ◌∷◌, length, Option, Some, None, slice_set}
 use Rattle.tracing_core_requests.specs.Interests.{joined, settled, PlainInterest}
 use Rattle.tracing_core_requests.specs.declared.at.At.{At}
 use Rattle.tracing_core_fields.specs.PlainMetadata.{PlainMetadata}
 use Rattle.span_registry_layers_store.specs.Registries.{RegistryValue}
-use Rattle.span_registry_layers_layers.specs.Combined.{Either}
+use Rattle.span_registry_layers_layers.specs.Combined.{Either, either_hint}
 use Rattle.span_registry_layers_layers.specs.Looks.{View}
 use Rattle.span_registry_layers_layers.specs.Numbering.{AreNumbers, SameBut, SameOf}
 use Rattle.span_registry_layers_layers.specs.declared.filter.Filter.{Ghosts}
@@ -13,17 +13,11 @@ use Rattle.span_registry_layers_layers.specs.declared.layer.Layer.{Ghosts as Lay
 use Rattle.span_registry_layers_stack.specs.Rows.{view_of}
 use Rattle.span_registry_layers_stack.specs.declared.row.Row.{Row}
 
--- the higher of the two, and none where one is absent
-abbrev pub higher_hint : Option ℕ → Option ℕ → Option ℕ
-higher_hint None h = None
-higher_hint (Some a) None = None
-higher_hint (Some a) (Some b) = Some (max a b)
-
 module _ {F : Type 0} (g : Ghosts F) where
   -- the highest of this hint and the filters', and none where one is absent
   abbrev pub common_hint : Option ℕ → List F → Option ℕ
   common_hint h [] = h
-  common_hint h (f ∷ fs) = common_hint (higher_hint h (g.hint f)) fs
+  common_hint h (f ∷ fs) = common_hint (either_hint h (g.hint f)) fs
 
   -- the filters' interests in a callsite, one of each, joined to those before
   abbrev pub InterestFrom : PlainMetadata → Option PlainInterest → List F → PlainInterest → Type 0

@@ -10,12 +10,12 @@ use Rattle.tracing_core_requests.specs.Lists.{Every}
 use Rattle.tracing_core_fields.specs.PlainMetadata.{PlainMetadata, is_same_metadata-decides}
 use Rattle.tracing_core_requests.specs.Steady.{Agrees, HintFits, InterestFits, IsReal, IsRealCall, SameWord}
 use Rattle.span_registry_layers_store.specs.Registries.{RegistryValue}
-use Rattle.span_registry_layers_layers.specs.Combined.{Either, Else}
+use Rattle.span_registry_layers_layers.specs.Combined.{Either, Else, either_hint}
 use Rattle.span_registry_layers_layers.specs.Honesty.{One}
 use Rattle.span_registry_layers_layers.specs.declared.filter.Filter.{Ghosts}
 use Rattle.span_registry_layers_layers.specs.declared.filtered.Filtered.{Filtered}
 use Rattle.span_registry_layers_layers.specs.declared.layer.Layer.{Ghosts as LayerGhosts}
-use Rattle.span_registry_layers_stack.specs.Asked.{CommonInterest, InterestFrom, SomePasses, common_hint, higher_hint}
+use Rattle.span_registry_layers_stack.specs.Asked.{CommonInterest, InterestFrom, SomePasses, common_hint}
 use Rattle.span_registry_layers_stack.specs.Caches.{Refuses, all_below, all_never, by_hint, either_true, never_known}
 use Rattle.span_registry_layers_stack.specs.Moves.{Moves}
 use Rattle.span_registry_layers_stack.specs.Rows.{EachBecomes, filters_of, view_of}
@@ -66,12 +66,12 @@ covers_last : (f k : PlainInterest) (before : Option PlainInterest) → Covers f
 covers_last f k None h = h
 covers_last f k (Some j) h = covers_left f k j (rw common_swap at h)
 
-over_joined : (h own : Option ℕ) → HintOver own (higher_hint h own)
+over_joined : (h own : Option ℕ) → HintOver own (either_hint h own)
 over_joined None own = tt
 over_joined (Some a) None = tt
 over_joined (Some a) (Some b) = omega arith
 
-over_more : (h own x : Option ℕ) → HintOver own h → HintOver own (higher_hint h x)
+over_more : (h own x : Option ℕ) → HintOver own h → HintOver own (either_hint h x)
 over_more None own x w = tt
 over_more (Some a) own None w = tt
 over_more (Some a) None (Some b) w = absurd w
@@ -104,11 +104,11 @@ either_one P Q f h a b x y = else_one x.0 a b Q h x.2 (subst (λ p. Else Q p b) 
 module _ {F : Type 0} (g : Ghosts F) where
   over_start : (fs : List F) (h own : Option ℕ) → HintOver own h → HintOver own (common_hint g h fs)
   over_start [] h own w = w
-  over_start (f ∷ fs) h own w = over_start fs (higher_hint h (g.hint f)) own (over_more h own (g.hint f) w)
+  over_start (f ∷ fs) h own w = over_start fs (either_hint h (g.hint f)) own (over_more h own (g.hint f) w)
 
   pub hints_over : (fs : List F) (h : Option ℕ) → Every (λ f. HintOver (g.hint f) (common_hint g h fs)) fs
   hints_over [] h = tt
-  hints_over (f ∷ fs) h = (over_start fs (higher_hint h (g.hint f)) (g.hint f) (over_joined h (g.hint f)), hints_over fs (higher_hint h (g.hint f)))
+  hints_over (f ∷ fs) h = (over_start fs (either_hint h (g.hint f)) (g.hint f) (over_joined h (g.hint f)), hints_over fs (either_hint h (g.hint f)))
 
   pub word_hinted : {L : Type 0} (s : StackValue (Filtered L F)) → CacheIsValid g s → CacheIsValid g (with_hint (common_hint g (Some 0) (filters_of s.rows)) s)
   word_hinted s w = record { honest = w.honest; interests = w.interests; hints = hints_over (filters_of s.rows) (Some 0) }
@@ -117,7 +117,7 @@ module _ {F : Type 0} (g : Ghosts F) where
   hint_step [] [] h w a = refl
   hint_step [] (y ∷ ys) h w a = absurd a
   hint_step (x ∷ xs) [] h w a = absurd a
-  hint_step (x ∷ xs) (y ∷ ys) h w a = ap (λ own. common_hint g (higher_hint h own) ys) (a.0 w.0).1.same_hint ∙ hint_step xs ys (higher_hint h (g.hint x)) w.1 a.1
+  hint_step (x ∷ xs) (y ∷ ys) h w a = ap (λ own. common_hint g (either_hint h own) ys) (a.0 w.0).1.same_hint ∙ hint_step xs ys (either_hint h (g.hint x)) w.1 a.1
 
   interest_step : (m : PlainMetadata) (fs gs : List F) (before : Option PlainInterest) (k : PlainInterest) → Every (λ f. g.honest f) fs → EachBecomes (Steps g) fs gs → InterestFrom g m before fs k → InterestFrom g m before gs k
   interest_step m [] [] before k w a n = n

@@ -5,13 +5,13 @@ ghost use Rattle.tracing_core_fields.specs.Metadata.{plain_metadata};
 ghost use Rattle.tracing_core_requests.specs.PlainRequests.{plain_event};
 ghost use Rattle.span_registry_layers_store.specs.Verdicts.{all_pass};
 ghost use Rattle.span_registry_layers_layers.specs.Several.{EachInTurn};
-ghost use Rattle.span_registry_layers_stack.specs.Asked.{AsksFrom, CommonInterest, SomePasses, common_hint, higher_hint};
+ghost use Rattle.span_registry_layers_stack.specs.Asked.{AsksFrom, CommonInterest, SomePasses, common_hint};
 ghost use Rattle.span_registry_layers_stack.specs.Rows.{AsksEvent, EachBecomes, TellsEvent, filters_of, marked};
 
 mod spans;
 
 use crate::row::Row;
-use span_registry_layers_layers::{Filter, Filtered, Layer};
+use span_registry_layers_layers::{Filter, Filtered, Layer, either_hint};
 use span_registry_layers_store::{FilterMap, Registry};
 pub(crate) use spans::{
     tell_close, tell_dispatch, tell_enter, tell_exit, tell_follows, tell_new_span, tell_record,
@@ -134,23 +134,13 @@ pub(crate) fn ask_interest<L: Layer, F: Filter>(
     settle(interest)
 }
 
-// The higher of the two, and none where one is absent.
-fn higher_hint(a: Option<LevelFilter>, b: Option<LevelFilter>) -> Option<LevelFilter>
-    ensures { result ≡ higher_hint a b }
-{
-    match (a, b) {
-        (Some(a), Some(b)) => Some(if a < b { b } else { a }),
-        (_, _) => None,
-    }
-}
-
 // The most verbose level that some filter passes, asked now; none where a filter doesn't know its own.
 pub(crate) fn ask_hint<L: Layer, F: Filter>(rows: &[Row<Filtered<L, F>>]) -> Option<LevelFilter>
     ensures { result ≡ common_hint ⟦<F as Filter>⟧ (Some 0) (filters_of rows.now) }
 {
     let mut hint = Some(LevelFilter::OFF);
     for row in rows {
-        hint = higher_hint(hint, row.hint());
+        hint = either_hint(hint, row.hint());
     }
     hint
 }

@@ -12,10 +12,10 @@ use Rattle.tracing_core.specs.PlainRequests.{PlainAttributes, PlainEvent, PlainV
 use Rattle.tracing_core.specs.RequestError.{RequestError}
 use Rattle.tracing_core.specs.RequestError.TheVariants.{OutOfMemory, UnknownSpan, UnknownParent, IdsSpent}
 use Rattle.tracing_core.specs.Steady.{InterestFits}
-use Rattle.span_registry_layers.specs.Asked.{AsksFrom, CommonInterest, SomePasses, common_hint, higher_hint}
+use Rattle.span_registry_layers.specs.Asked.{AsksFrom, CommonInterest, SomePasses, common_hint}
 use Rattle.span_registry_layers.specs.Caches.{all_refuse}
 use Rattle.span_registry_layers.specs.Calls.{MakesSpan, SpanCached, SpanKnown, SpanUnless, SpanWhere}
-use Rattle.span_registry_layers.specs.Combined.{Else, Then}
+use Rattle.span_registry_layers.specs.Combined.{Else, Then, either_hint}
 use Rattle.span_registry_layers.specs.Filter.{Ghosts}
 use Rattle.span_registry_layers.specs.Filtered.{Filtered}
 use Rattle.span_registry_layers.specs.Hearing.{TellsDispatch, TellsFollows}
@@ -40,7 +40,7 @@ use Rattle.span_tracing_stack.specs.Stacks.{first_filter, is_told}
 settled_one : (k : PlainInterest) → settled (joined None k) ≡ k
 settled_one k = refl
 
-higher_one : (o : Option ℕ) → higher_hint (Some 0) o ≡ o
+higher_one : (o : Option ℕ) → either_hint (Some 0) o ≡ o
 higher_one None = refl
 higher_one (Some n) = let e : max 0 n ≡ n = grind arith in ap (λ m. Some m) e
 

@@ -41,6 +41,20 @@ fn event_at(level: Level, callsite: Identifier) -> Metadata<'static> {
     Metadata::new("e", "app", level, None, None, None, fields, Kind::EVENT)
 }
 
+/// Passes warnings and errors.
+fn is_quiet(metadata: &Metadata<'_>) -> bool
+    ensures { result ≡ nat_le (plain_metadata metadata.now).level 2 }
+{
+    *metadata.level() <= Level::WARN
+}
+
+/// The same, whatever the context shows.
+fn is_quiet_anywhere(metadata: &Metadata<'_>, _context: &Context<'_>) -> bool
+    ensures { result ≡ nat_le (plain_metadata metadata.now).level 2 }
+{
+    is_quiet(metadata)
+}
+
 /// Whether a stack takes an event, and passes WARN and not DEBUG.
 fn passes_warnings<F: Filter>(stack: &mut Stack<Filtered<Identity, F>>) -> Result<bool, Fail>
     requires { CacheIsValid ⟦<F as Filter>⟧ stack.old }
@@ -66,12 +80,7 @@ fn levels_pass_warnings(rt: HostRuntime) -> Result<(), Fail> {
 
 #[test]
 fn a_closure_passes_warnings(rt: HostRuntime) -> Result<(), Fail> {
-    let quiet: MetadataTest = Box::new(
-        rt.alloc(),
-        |metadata: &Metadata<'_>| -> bool
-            ensures { result ≡ nat_le (plain_metadata metadata.now).level 2 }
-        { *metadata.level() <= Level::WARN },
-    )?;
+    let quiet: MetadataTest = Box::new(rt.alloc(), is_quiet)?;
     let mut stack = under_closure(rt.alloc(), quiet, LevelFilter::WARN)
         .ok()
         .ok_or("room")?;
@@ -89,12 +98,7 @@ fn a_box_passes_warnings(rt: HostRuntime) -> Result<(), Fail> {
 
 #[test]
 fn a_closure_over_contexts_passes_warnings(rt: HostRuntime) -> Result<(), Fail> {
-    let quiet: ContextTest = Box::new(
-        rt.alloc(),
-        |metadata: &Metadata<'_>, _context: &Context<'_>| -> bool
-            ensures { result ≡ nat_le (plain_metadata metadata.now).level 2 }
-        { *metadata.level() <= Level::WARN },
-    )?;
+    let quiet: ContextTest = Box::new(rt.alloc(), is_quiet_anywhere)?;
     let filter = DynFilterFn::new(quiet);
     let mut stack = under_context_closure(rt.alloc(), filter)
         .ok()
@@ -105,12 +109,7 @@ fn a_closure_over_contexts_passes_warnings(rt: HostRuntime) -> Result<(), Fail> 
 
 #[test]
 fn a_level_and_a_closure_pass_warnings(rt: HostRuntime) -> Result<(), Fail> {
-    let quiet: MetadataTest = Box::new(
-        rt.alloc(),
-        |metadata: &Metadata<'_>| -> bool
-            ensures { result ≡ nat_le (plain_metadata metadata.now).level 2 }
-        { *metadata.level() <= Level::WARN },
-    )?;
+    let quiet: MetadataTest = Box::new(rt.alloc(), is_quiet)?;
     let mut stack = under_both(rt.alloc(), LevelFilter::DEBUG, quiet)
         .ok()
         .ok_or("room")?;

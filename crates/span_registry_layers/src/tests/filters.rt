@@ -1,7 +1,4 @@
 // Filters.
-ghost use Rattle.std.specs.Prelude.{◌≡◌, nat_le};
-ghost use Rattle.tracing_core.specs.Metadata.{plain_metadata};
-
 use super::*;
 use crate::{
     And, CallsiteTest, ContextTest, DynFilterFn, FilterExt, FilterFn, Filtered, Identity,
@@ -75,22 +72,12 @@ fn surface_closures(rt: HostRuntime) -> Result<(), Fail> {
 #[test]
 fn surface_hints(rt: HostRuntime) -> Result<(), Fail> {
     let (mut registry, _outer, _inner) = nested(rt.alloc())?;
-    let quiet: MetadataTest = Box::new(
-        rt.alloc(),
-        |metadata: &Metadata<'_>| -> bool
-            ensures { result ≡ nat_le (plain_metadata metadata.now).level 2 }
-        { *metadata.level() <= Level::WARN },
-    )?;
+    let quiet: MetadataTest = Box::new(rt.alloc(), is_quiet)?;
     let filter = FilterFn::new(quiet).with_max_level_hint(LevelFilter::WARN);
     let (passed, interest) = asked(&filter, &mut registry);
     assert!(rt; !passed && interest.is_never());
     assert!(rt; filter.max_level_hint() == Some(LevelFilter::WARN));
-    let quiet: ContextTest = Box::new(
-        rt.alloc(),
-        |metadata: &Metadata<'_>, _context: &Context<'_>| -> bool
-            ensures { result ≡ nat_le (plain_metadata metadata.now).level 2 }
-        { *metadata.level() <= Level::WARN },
-    )?;
+    let quiet: ContextTest = Box::new(rt.alloc(), is_quiet_anywhere)?;
     let filter = DynFilterFn::new(quiet).with_max_level_hint(LevelFilter::WARN);
     let (passed, interest) = asked(&filter, &mut registry);
     assert!(rt; !passed && interest.is_never());

@@ -1,4 +1,8 @@
 // Layers that pass all, and hand what they are told to an observer.
+ghost use Rattle.std.specs.Prelude.{◌≡◌, ℕ, Bool, false};
+ghost use Rattle.span_registry_layers.specs.Aside.{SameButKeys};
+ghost use Rattle.span_registry_layers.specs.Looks.{SameLoan, left};
+
 use crate::{Context, FilterMap, Layer, Registry};
 use std::alloc::Global;
 use tracing_core::{Attributes, Event, Id, Interest, LevelFilter, Metadata, Record, WeakDispatch};
@@ -18,13 +22,28 @@ pub enum Notification {
     Renamed,
 }
 
-/// Keeps what a layer is told. It looks at spans and writes nothing to them.
+/// Keeps what a layer is told. It may write slots of spans under its keys.
 pub trait Observer: Drop {
-    /// The layer was attached to a registry, or a hub took its stack.
-    fn settle(&mut self, notification: Notification);
+    // The keys of outputs under which it writes slots.
+    ghost keys: { Self → ℕ → Bool } = { λ x key. false };
 
-    /// An event happened, or something was done with a span.
-    fn observe(&mut self, notification: Notification, span: Option<&Id>, context: &Context<'_>);
+    /// The layer was attached to a registry, or a hub took its stack.
+    fn settle(&mut self, notification: Notification)
+        ensures { (key : ℕ) → keys self.new key ≡ keys self.old key };
+
+    /// An event happened in a span or in none, or something was done with a span.
+    fn observe(&mut self, notification: Notification, span: Option<&Id>, context: &mut Context<'_>)
+        ensures lent { SameLoan context.old context.new }
+        ensures own { SameButKeys (keys self.old) (left context.old) (left context.new) }
+        ensures keyed { (key : ℕ) → keys self.new key ≡ keys self.old key };
+}
+
+/// The id of the span that an event stands in.
+fn span_of(event: &Event<'_, '_>, context: &Context<'_>) -> Option<Id> {
+    match context.event_span(event) {
+        None => None,
+        Some(span) => Some(span.id()),
+    }
 }
 
 /// A layer that passes all, and tells an observer.
@@ -34,11 +53,11 @@ pub struct Observing<O> {
 }
 
 impl<O: Observer> Layer for Observing<O> {
-    ghost use Rattle.std.specs.Prelude.{◌≡◌, None, true, false, refl};
+    ghost use Rattle.std.specs.Prelude.{◌≡◌, ℕ, None, true};
     ghost use Rattle.tracing_core.specs.InterestInner.TheVariants.{Always};
     ghost use Rattle.span_registry_layers.specs.Combined.{same_word};
     ghost use Rattle.span_registry_layers.specs.Identities.{idle_fair};
-    ghost use Rattle.span_registry_layers.specs.Notices.{Untouched, untouched_writes};
+    ghost use Rattle.span_registry_layers.specs.Notices.{WritesUnder};
     ghost use Rattle.span_registry_layers.specs.Numbering.{no_numbers};
     ghost use Rattle.span_registry_layers.specs.Singles.{leaf_once};
 
@@ -50,7 +69,7 @@ impl<O: Observer> Layer for Observing<O> {
 
     ghost hint = { λ x. None };
 
-    ghost told = { λ x n y. Untouched n };
+    ghost told = { λ x n y. ((key : ℕ) → O.keys y.observer key ≡ O.keys x.observer key) × WritesUnder (O.keys x.observer) n };
 
     ghost honest = { λ x. Unit {0} };
 
@@ -62,9 +81,11 @@ impl<O: Observer> Layer for Observing<O> {
 
     ghost once = { λ x k. leaf_once };
 
-    ghost aside = { λ x n y t. untouched_writes (λ key. false) n t };
+    ghost keys = { λ x. O.keys x.observer };
 
-    ghost keyed = { λ x n y t key. refl };
+    ghost aside = { λ x n y t. t.1 };
+
+    ghost keyed = { λ x n y t. t.0 };
 
     fn on_register_dispatch(&mut self, _dispatch: &WeakDispatch) {
         self.observer.settle(Notification::Taken);
@@ -124,8 +145,10 @@ impl<O: Observer> Layer for Observing<O> {
         true
     }
 
-    fn on_event(&mut self, _event: &Event<'_, '_>, context: &mut Context<'_>) {
-        self.observer.observe(Notification::Happened, None, context);
+    fn on_event(&mut self, event: &Event<'_, '_>, context: &mut Context<'_>) {
+        let span = span_of(event, context);
+        self.observer
+            .observe(Notification::Happened, span.as_ref(), context);
     }
 
     fn on_enter(&mut self, span: &Id, context: &mut Context<'_>) {
@@ -169,7 +192,12 @@ impl Observer for Tally {
     }
 
     // It counts those events apart for which it sees the lane's span.
-    fn observe(&mut self, notification: Notification, _span: Option<&Id>, context: &Context<'_>) {
+    fn observe(
+        &mut self,
+        notification: Notification,
+        _span: Option<&Id>,
+        context: &mut Context<'_>,
+    ) {
         self.told = self.told.wrapping_add(1);
         match notification {
             Notification::Happened => {
@@ -203,7 +231,7 @@ pub fn new_counter() -> Counter {
     }
 }
 
-/// Keeps what it is told in order, each time with the number of the span, or 0 where there is none.
+/// Keeps what it is told in order, each time with the number of the span, and 0 for events.
 #[derive(Drop)]
 pub struct Journal {
     told: Vec<(Notification, u64)>,
@@ -222,10 +250,15 @@ impl Observer for Journal {
         }
     }
 
-    fn observe(&mut self, notification: Notification, span: Option<&Id>, _context: &Context<'_>) {
-        let number = match span {
-            None => 0,
-            Some(span) => span.into_u64(),
+    fn observe(
+        &mut self,
+        notification: Notification,
+        span: Option<&Id>,
+        _context: &mut Context<'_>,
+    ) {
+        let number = match (notification, span) {
+            (Notification::Happened, _) | (_, None) => 0,
+            (_, Some(span)) => span.into_u64(),
         };
         let _room = self.told.push((notification, number));
     }

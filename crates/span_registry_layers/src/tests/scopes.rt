@@ -14,7 +14,12 @@ struct Paths {
 impl Observer for Paths {
     fn settle(&mut self, _notification: Notification) {}
 
-    fn observe(&mut self, notification: Notification, span: Option<&Id>, context: &Context<'_>) {
+    fn observe(
+        &mut self,
+        notification: Notification,
+        span: Option<&Id>,
+        context: &mut Context<'_>,
+    ) {
         if notification != Notification::Entered {
             return;
         }

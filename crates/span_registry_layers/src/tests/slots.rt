@@ -1,15 +1,16 @@
 // What a layer keeps with spans, from its hooks.
-ghost use Rattle.std.specs.Prelude.{◌==◌};
+ghost use Rattle.std.specs.Prelude.{◌≡◌, ◌==◌};
 ghost use Rattle.span_registry_layers.specs.Aside.{SameButKeys};
 ghost use Rattle.span_registry_layers.specs.Keys.{WritesUnderOne};
 ghost use Rattle.span_registry_layers.specs.Looks.{SameLoan, left};
 
+use super::recording::{Notification, Observer, Observing};
 use super::*;
 use crate::{
     ContextTest, DynFilterFn, Extensions, Filtered, Layer, LayerExt, Output, OutputKey, Slot,
     Stack, Tag, layers_keep_to_keys,
 };
-use tracing_core::{LevelFilter, Record, WeakDispatch};
+use tracing_core::LevelFilter;
 
 /// Counts, in a slot of each span that it sees, how often the span was entered and how many events stood in it, and keeps the
 /// count of the span that closed last.
@@ -27,14 +28,6 @@ fn kept(extensions: &Extensions, key: OutputKey) -> u64 {
     }
 }
 
-/// The id of the span that an event stands in.
-fn span_of(event: &Event<'_, '_>, context: &Context<'_>) -> Option<Id> {
-    match context.event_span(event) {
-        None => None,
-        Some(span) => Some(span.id()),
-    }
-}
-
 impl Entries {
     /// One more of what it counts of a span.
     fn count(&self, span: &Id, context: &mut Context<'_>)
@@ -47,118 +40,59 @@ impl Entries {
             let _before = extensions.replace(key, Tag::Number, Slot::Number(count));
         }
     }
-}
 
-impl Layer for Entries {
-    ghost use Rattle.std.proofs.Common.{ap};
-    ghost use Rattle.std.specs.Prelude.{◌≡◌, ◌==◌, None, true};
-    ghost use Rattle.tracing_core.specs.InterestInner.TheVariants.{Always};
-    ghost use Rattle.span_registry_layers.specs.Combined.{same_word};
-    ghost use Rattle.span_registry_layers.specs.Identities.{idle_fair};
-    ghost use Rattle.span_registry_layers.specs.Notices.{WritesUnder};
-    ghost use Rattle.span_registry_layers.specs.OutputKey.{OutputKey};
-    ghost use Rattle.span_registry_layers.specs.Numbering.{no_numbers};
-    ghost use Rattle.span_registry_layers.specs.Singles.{leaf_once};
-
-    ghost answers = { λ x m v b. b ≡ true };
-
-    ghost event_answers = { λ x e v b. b ≡ true };
-
-    ghost says = { λ x m k. k ≡ Always };
-
-    ghost hint = { λ x. None };
-
-    ghost told = { λ x n y. (y.key ≡ x.key) × WritesUnder (λ k. k == x.key.0) n };
-
-    ghost honest = { λ x. Unit {0} };
-
-    ghost fair = { λ x _. idle_fair };
-
-    ghost stays = { λ x n y t _. (tt, same_word (λ m k. k ≡ Always) None) };
-
-    ghost numbered = { λ x n y t. no_numbers n };
-
-    ghost once = { λ x k. leaf_once };
-
-    ghost keys = { λ x k. k == x.key.0 };
-
-    ghost aside = { λ x n y t. t.1 };
-
-    ghost keyed = { λ x n y t k. ap (λ (key : OutputKey). k == key.0) t.0 };
-
-    fn on_register_dispatch(&mut self, _dispatch: &WeakDispatch) {}
-
-    fn on_layer(&mut self, _registry: &mut Registry) {}
-
-    fn room_left(&self, room: u8) -> Option<u8> {
-        Some(room)
-    }
-
-    fn ask_span(
-        &self,
-        _metadata: &Metadata<'_>,
-        _context: &mut Context<'_>,
-        passes: bool,
-        verdicts: FilterMap,
-    ) -> (FilterMap, bool) {
-        (verdicts, passes)
-    }
-
-    fn register_callsite(&self, _metadata: &Metadata<'_>) -> Interest {
-        Interest::always()
-    }
-
-    fn enabled(&self, _metadata: &Metadata<'_>, _context: &Context<'_>) -> bool {
-        true
-    }
-
-    fn on_new_span(
-        &mut self,
-        _attributes: &Attributes<'_, '_>,
-        _span: &Id,
-        _context: &mut Context<'_>,
-    ) {}
-
-    fn max_level_hint(&self) -> Option<LevelFilter> {
-        None
-    }
-
-    fn on_record(&mut self, _span: &Id, _values: &Record<'_>, _context: &mut Context<'_>) {}
-
-    fn on_follows_from(&mut self, _span: &Id, _follows: &Id, _context: &mut Context<'_>) {}
-
-    fn event_enabled(&self, _event: &Event<'_, '_>, _context: &Context<'_>) -> bool {
-        true
-    }
-
-    fn on_event(&mut self, event: &Event<'_, '_>, context: &mut Context<'_>) {
-        if let Some(span) = span_of(event, context) {
-            self.count(&span, context);
-        }
-    }
-
-    fn on_enter(&mut self, span: &Id, context: &mut Context<'_>) {
-        self.count(span, context);
-    }
-
-    fn on_exit(&mut self, _span: &Id, _context: &mut Context<'_>) {}
-
-    fn on_close(&mut self, span: &Id, context: &mut Context<'_>) {
+    /// Keeps the count of a span that closes.
+    fn close(&mut self, span: &Id, context: &mut Context<'_>)
+        ensures lent { SameLoan context.old context.new }
+        ensures own { SameButKeys (λ key. key == self.old.key.0) (left context.old) (left context.new) }
+        ensures key { self.new.key ≡ self.old.key }
+    {
         let key = self.key;
         if let Some(extensions) = context.extensions_mut(span) {
             self.closed = kept(extensions, key);
         }
     }
+}
 
-    fn on_id_change(&mut self, _old: &Id, _new: &Id, _context: &mut Context<'_>) {}
+impl Observer for Entries {
+    ghost use Rattle.std.specs.Prelude.{◌==◌};
+
+    ghost keys = { λ x key. key == x.key.0 };
+
+    fn settle(&mut self, _notification: Notification) {}
+
+    fn observe(
+        &mut self,
+        notification: Notification,
+        span: Option<&Id>,
+        context: &mut Context<'_>,
+    ) {
+        match (notification, span) {
+            (Notification::Happened | Notification::Entered, Some(span)) => {
+                self.count(span, context);
+            }
+            (Notification::Closed, Some(span)) => self.close(span, context),
+            _ => {}
+        }
+    }
 }
 
 /// It writes slots under its own key alone.
-fn keeps_to_its_key(entries: &Entries)
-    ensures { WritesUnderOne ⟦<Entries as Layer>⟧ entries.now entries.now.key.0 }
+fn keeps_to_its_key(entries: &Observing<Entries>)
+    ensures { WritesUnderOne ⟦<Observing<Entries> as Layer>⟧ entries.now entries.now.observer.key.0 }
 {}
 
-type CountOutput<F> = Filtered<Entries, F>;
+/// A layer that counts under a key, and counted nothing so far.
+fn entries_under(key: u32) -> Observing<Entries> {
+    Observing {
+        observer: Entries {
+            key: OutputKey(key),
+            closed: 0,
+        },
+    }
+}
+
+type CountOutput<F> = Filtered<Observing<Entries>, F>;
 
 /// One more output, with this key and this filter.
 fn add<F: Filter>(
@@ -166,14 +100,10 @@ fn add<F: Filter>(
     key: u32,
     filter: F,
 ) -> Result<(), Fail> {
-    let entries = Entries {
-        key: OutputKey(key),
-        closed: 0,
-    };
     outputs
         .push(Output {
             key: OutputKey(key),
-            output: Filtered::new(entries, filter),
+            output: Filtered::new(entries_under(key), filter),
         })
         .ok()
         .ok_or("room")?;
@@ -216,17 +146,14 @@ fn passed<S: Subscriber>(stack: &mut S, level: Level, times: u64) -> Result<Id, 
 fn closed(stack: &Stack<CountOutput<LevelFilter>>, output: usize) -> u64 {
     match stack.output(output) {
         None => 0,
-        Some(output) => output.inner().closed,
+        Some(output) => output.inner().observer.closed,
     }
 }
 
 #[test]
 fn surface_slots_in_hooks(rt: HostRuntime) -> Result<(), Fail> {
-    layers_keep_to_keys::<Entries, LevelFilter>();
-    keeps_to_its_key(&Entries {
-        key: OutputKey(0),
-        closed: 0,
-    });
+    layers_keep_to_keys::<Observing<Entries>, LevelFilter>();
+    keeps_to_its_key(&entries_under(0));
     let mut stack = counts_of(rt.alloc(), LevelFilter::WARN, LevelFilter::DEBUG)?;
     let loud = passed(&mut stack, Level::WARN, 3)?;
     let quiet = passed(&mut stack, Level::INFO, 2)?;
@@ -249,17 +176,13 @@ fn filters_see_no_slots_of_the_same_event(rt: HostRuntime) -> Result<(), Fail> {
 
 #[test]
 fn a_tree_keeps_slots(rt: HostRuntime) -> Result<(), Fail> {
-    let layer = Entries {
-        key: OutputKey(7),
-        closed: 0,
-    };
-    let mut tree = layer
+    let mut tree = entries_under(7)
         .with_filter(LevelFilter::INFO)
         .with_subscriber(Registry::new(rt.alloc()))
         .ok()
         .ok_or("room")?;
     let span = passed(&mut tree, Level::INFO, 4)?;
-    assert!(rt; tree.try_close(span, PLACE) && tree.layer().inner().closed == 4);
+    assert!(rt; tree.try_close(span, PLACE) && tree.layer().inner().observer.closed == 4);
     Ok(())
 }
 

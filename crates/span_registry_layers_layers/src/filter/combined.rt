@@ -295,8 +295,8 @@ pub(crate) fn either_interest(a: Interest, b: Interest) -> Interest
     }
 }
 
-// Known where both are, the higher of two.
-pub(crate) fn either_hint(a: Option<LevelFilter>, b: Option<LevelFilter>) -> Option<LevelFilter>
+/// The higher of two hints, and none where one is absent.
+pub fn either_hint(a: Option<LevelFilter>, b: Option<LevelFilter>) -> Option<LevelFilter>
     ensures { result ≡ either_hint a b }
 {
     match (a, b) {

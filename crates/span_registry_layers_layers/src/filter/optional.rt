@@ -7,12 +7,13 @@ use tracing_core_requests::{Attributes, Event, Interest, Record};
 /// Passes all where it is absent.
 impl<F: Filter> Filter for Option<F> {
     ghost use Rattle.span_registry_layers_layers.specs.Optional as optional;
+    ghost use Rattle.span_registry_layers_layers.specs.Optional.{AnswersIf, EventAnswersIf, SaysIf};
 
-    ghost answers = { optional.AnswersOf ⟦<F as Filter>⟧ };
+    ghost answers = { AnswersIf F.answers };
 
-    ghost event_answers = { optional.EventAnswersOf ⟦<F as Filter>⟧ };
+    ghost event_answers = { EventAnswersIf F.event_answers };
 
-    ghost says = { optional.SaysOf ⟦<F as Filter>⟧ };
+    ghost says = { SaysIf F.says };
 
     ghost hint = { optional.hint_of ⟦<F as Filter>⟧ };
 

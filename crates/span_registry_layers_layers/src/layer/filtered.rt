@@ -1,16 +1,19 @@
 //! A layer below a filter, as a layer.
 ghost use Rattle.std.specs.Prelude.{◌≡◌, ◌&&◌, None, true};
 ghost use Rattle.tracing_core_requests.specs.declared.interest.InterestInner.TheVariants.{Always};
-ghost use Rattle.tracing_core_requests.specs.PlainRequests.{plain_attributes, plain_event, plain_record};
+ghost use Rattle.tracing_core_requests.specs.PlainRequests.{plain_event};
+ghost use Rattle.span_registry_layers_store.specs.Registries.{RegistryValue};
 ghost use Rattle.span_registry_layers_layers.specs.Combined.{same_word};
-ghost use Rattle.span_registry_layers_layers.specs.Filtereds.{HearsEvent, HearsFollows, HearsId, HearsSpan, MayPass, is_seen};
+ghost use Rattle.span_registry_layers_layers.specs.Filtereds.{Hears, HearsAt, MayHear, MayPass, heard, is_seen};
 ghost use Rattle.span_registry_layers_layers.specs.Identities.{idle_fair};
-ghost use Rattle.span_registry_layers_layers.specs.Looks.{Closed, Entered, Exited, Recorded, SameLoan, SpanMade, left, view};
+ghost use Rattle.span_registry_layers_layers.specs.Looks.{SameLoan, left, view};
+ghost use Rattle.span_registry_layers_layers.specs.Told.{notice};
 
 use crate::context::Context;
 use crate::filter::Filter;
 use crate::filtered::Filtered;
 use crate::layer::Layer;
+use crate::layer::told::Told;
 use span_registry_layers_store::{FilterMap, Registry};
 use tracing_core_fields::{Id, LevelFilter, Metadata};
 use tracing_core_requests::{Attributes, Event, Interest, Record, WeakDispatch};
@@ -105,12 +108,7 @@ impl<L: Layer, F: Filter> Layer for Filtered<L, F> {
         span: &Id,
         context: &mut Context<'_>,
     ) {
-        if let Some(filter) = self.id {
-            let outer = context.filter;
-            context.filter = Some(filter);
-            self.hear_span(attributes, span, context);
-            context.filter = outer;
-        }
+        self.hear(&Told::NewSpan(span, attributes), context);
     }
 
     fn max_level_hint(&self) -> Option<LevelFilter> {
@@ -118,21 +116,11 @@ impl<L: Layer, F: Filter> Layer for Filtered<L, F> {
     }
 
     fn on_record(&mut self, span: &Id, values: &Record<'_>, context: &mut Context<'_>) {
-        if let Some(filter) = self.id {
-            let outer = context.filter;
-            context.filter = Some(filter);
-            self.hear_record(span, values, context);
-            context.filter = outer;
-        }
+        self.hear(&Told::Record(span, values), context);
     }
 
     fn on_follows_from(&mut self, span: &Id, follows: &Id, context: &mut Context<'_>) {
-        if let Some(filter) = self.id {
-            let outer = context.filter;
-            context.filter = Some(filter);
-            self.hear_follows(span, follows, context);
-            context.filter = outer;
-        }
+        self.hear(&Told::FollowsFrom(span, follows), context);
     }
 
     fn event_enabled(&self, _event: &Event<'_, '_>, _context: &Context<'_>) -> bool {
@@ -140,48 +128,23 @@ impl<L: Layer, F: Filter> Layer for Filtered<L, F> {
     }
 
     fn on_event(&mut self, event: &Event<'_, '_>, context: &mut Context<'_>) {
-        if let Some(filter) = self.id {
-            let outer = context.filter;
-            context.filter = Some(filter);
-            self.hear_event(event, context);
-            context.filter = outer;
-        }
+        self.hear(&Told::Event(event), context);
     }
 
     fn on_enter(&mut self, span: &Id, context: &mut Context<'_>) {
-        if let Some(filter) = self.id {
-            let outer = context.filter;
-            context.filter = Some(filter);
-            self.hear_enter(span, context);
-            context.filter = outer;
-        }
+        self.hear(&Told::Enter(span), context);
     }
 
     fn on_exit(&mut self, span: &Id, context: &mut Context<'_>) {
-        if let Some(filter) = self.id {
-            let outer = context.filter;
-            context.filter = Some(filter);
-            self.hear_exit(span, context);
-            context.filter = outer;
-        }
+        self.hear(&Told::Exit(span), context);
     }
 
     fn on_close(&mut self, span: &Id, context: &mut Context<'_>) {
-        if let Some(filter) = self.id {
-            let outer = context.filter;
-            context.filter = Some(filter);
-            self.hear_close(span, context);
-            context.filter = outer;
-        }
+        self.hear(&Told::Close(span), context);
     }
 
     fn on_id_change(&mut self, old: &Id, new: &Id, context: &mut Context<'_>) {
-        if let Some(filter) = self.id {
-            let outer = context.filter;
-            context.filter = Some(filter);
-            self.hear_id_change(old, new, context);
-            context.filter = outer;
-        }
+        self.hear(&Told::IdChange(old, new), context);
     }
 }
 
@@ -195,93 +158,62 @@ fn sees_both(span: &Id, follows: &Id, context: &Context<'_>) -> bool
 impl<L: Layer, F: Filter> Filtered<L, F> {
     // Whether the filter passes the event and its callsite.
     fn passes(&self, event: &Event<'_, '_>, context: &Context<'_>) -> bool
-        ensures { MayPass ⟦<F as Filter>⟧ ⟦<L as Layer>⟧ self.now.filter (plain_event event.now) (view context.now) result }
+        ensures { MayPass ⟦<F as Filter>⟧ self.now.filter (plain_event event.now) (view context.now) result }
     {
         self.filter.enabled(event.metadata(), context) && self.filter.event_enabled(event, context)
     }
 
-    // Tells of an event that the filter passes.
-    fn hear_event(&mut self, event: &Event<'_, '_>, context: &mut Context<'_>)
+    // Tells of a span or an event that the filter sees and passes, where the filter has a number.
+    fn hear(&mut self, told: &Told<'_, '_, '_, '_>, context: &mut Context<'_>)
         ensures lent { SameLoan context.old context.new }
-        ensures notified { HearsEvent ⟦<F as Filter>⟧ ⟦<L as Layer>⟧ self.old (plain_event event.now) (view context.old) (left context.new) self.new }
+        ensures notified { HearsAt ⟦<F as Filter>⟧ ⟦<L as Layer>⟧ self.old.id self.old (notice told.now) (view context.old) (left context.new) self.new }
     {
-        if self.passes(event, context) {
-            self.layer.on_event(event, context);
+        if let Some(filter) = self.id {
+            let outer = context.filter;
+            context.filter = Some(filter);
+            self.hear_under(told, context);
+            context.filter = outer;
         }
     }
 
-    // Tells that a span follows from another one, where both were passed.
-    fn hear_follows(&mut self, span: &Id, follows: &Id, context: &mut Context<'_>)
+    // The same over a context under the filter.
+    fn hear_under(&mut self, told: &Told<'_, '_, '_, '_>, context: &mut Context<'_>)
         ensures lent { SameLoan context.old context.new }
-        ensures notified { HearsFollows ⟦<F as Filter>⟧ ⟦<L as Layer>⟧ self.old span.now follows.now (view context.old) (left context.new) self.new }
+        ensures notified { Hears ⟦<F as Filter>⟧ ⟦<L as Layer>⟧ self.old (notice told.now) (view context.old) (left context.new) self.new }
     {
-        if sees_both(span, follows, context) {
-            self.layer.on_follows_from(span, follows, context);
+        if self.hears(told, context) {
+            tell_filter(&mut self.filter, told, context);
+            told.to(&mut self.layer, context);
         }
     }
 
-    // Tells of a span's new id, where the span was passed.
-    fn hear_id_change(&mut self, old: &Id, new: &Id, context: &mut Context<'_>)
-        ensures lent { SameLoan context.old context.new }
-        ensures notified { HearsId ⟦<F as Filter>⟧ ⟦<L as Layer>⟧ self.old old.now new.now (view context.old) (left context.new) self.new }
+    // Whether the filter passes an event, or sees the spans.
+    fn hears(&self, told: &Told<'_, '_, '_, '_>, context: &Context<'_>) -> bool
+        ensures { (later : RegistryValue) → MayHear ⟦<F as Filter>⟧ self.now.filter (notice told.now (view context.now) later) result }
     {
-        if context.exists(old) {
-            self.layer.on_id_change(old, new, context);
+        match told {
+            Told::Event(event) => self.passes(event, context),
+            Told::FollowsFrom(span, follows) => sees_both(span, follows, context),
+            Told::NewSpan(span, _)
+            | Told::Record(span, _)
+            | Told::Enter(span)
+            | Told::Exit(span)
+            | Told::Close(span)
+            | Told::IdChange(span, _) => context.exists(span),
         }
     }
+}
 
-    // Tells of a new span, where it was passed.
-    fn hear_span(&mut self, attributes: &Attributes<'_, '_>, span: &Id, context: &mut Context<'_>)
-        ensures lent { SameLoan context.old context.new }
-        ensures notified { HearsSpan ⟦<F as Filter>⟧ ⟦<L as Layer>⟧ self.old span.now (SpanMade (plain_attributes attributes.now) span.now) (view context.old) (left context.new) self.new }
-    {
-        if context.exists(span) {
-            self.filter.on_new_span(attributes, span, context);
-            self.layer.on_new_span(attributes, span, context);
-        }
-    }
-
-    // Tells of values that are recorded on a span, where it was passed.
-    fn hear_record(&mut self, span: &Id, values: &Record<'_>, context: &mut Context<'_>)
-        ensures lent { SameLoan context.old context.new }
-        ensures notified { HearsSpan ⟦<F as Filter>⟧ ⟦<L as Layer>⟧ self.old span.now (Recorded span.now (plain_record values.now)) (view context.old) (left context.new) self.new }
-    {
-        if context.exists(span) {
-            self.filter.on_record(span, values, context);
-            self.layer.on_record(span, values, context);
-        }
-    }
-
-    // Tells of an entry of a span, where it was passed.
-    fn hear_enter(&mut self, span: &Id, context: &mut Context<'_>)
-        ensures lent { SameLoan context.old context.new }
-        ensures notified { HearsSpan ⟦<F as Filter>⟧ ⟦<L as Layer>⟧ self.old span.now (Entered span.now) (view context.old) (left context.new) self.new }
-    {
-        if context.exists(span) {
-            self.filter.on_enter(span, context);
-            self.layer.on_enter(span, context);
-        }
-    }
-
-    // Tells of an exit of a span, where it was passed.
-    fn hear_exit(&mut self, span: &Id, context: &mut Context<'_>)
-        ensures lent { SameLoan context.old context.new }
-        ensures notified { HearsSpan ⟦<F as Filter>⟧ ⟦<L as Layer>⟧ self.old span.now (Exited span.now) (view context.old) (left context.new) self.new }
-    {
-        if context.exists(span) {
-            self.filter.on_exit(span, context);
-            self.layer.on_exit(span, context);
-        }
-    }
-
-    // Tells of the close of a span, where it was passed.
-    fn hear_close(&mut self, span: &Id, context: &mut Context<'_>)
-        ensures lent { SameLoan context.old context.new }
-        ensures notified { HearsSpan ⟦<F as Filter>⟧ ⟦<L as Layer>⟧ self.old span.now (Closed span.now) (view context.old) (left context.new) self.new }
-    {
-        if context.exists(span) {
-            self.filter.on_close(span, context);
-            self.layer.on_close(span, context);
-        }
+// Tells a filter of a call on a span.
+fn tell_filter<F: Filter>(filter: &mut F, told: &Told<'_, '_, '_, '_>, context: &Context<'_>)
+    ensures { (later : RegistryValue) → filter.new ≡ heard ⟦<F as Filter>⟧ filter.old (notice told.now (view context.now) later) }
+{
+    match told {
+        Told::NewSpan(span, attributes) => filter.on_new_span(attributes, span, context),
+        Told::Record(span, values) => filter.on_record(span, values, context),
+        Told::Enter(span) => filter.on_enter(span, context),
+        Told::Exit(span) => filter.on_exit(span, context),
+        Told::Close(span) => filter.on_close(span, context),
+        Told::FollowsFrom(..) | Told::Event(_) | Told::IdChange(..) => {}
     }
 }

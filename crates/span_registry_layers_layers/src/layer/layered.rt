@@ -1,9 +1,12 @@
 //! Two layers as one.
 ghost use Rattle.std.specs.Prelude.{◌≡◌};
-ghost use Rattle.span_registry_layers_layers.specs.Layereds.{picked_hint, picked_interest};
+ghost use Rattle.span_registry_layers_layers.specs.Layereds.{BothInTurn, picked_hint, picked_interest};
+ghost use Rattle.span_registry_layers_layers.specs.Looks.{SameLoan, left, view};
+ghost use Rattle.span_registry_layers_layers.specs.Told.{notice};
 
 use crate::context::Context;
 use crate::layer::Layer;
+use crate::layer::told::Told;
 use span_registry_layers_store::{FilterMap, Registry};
 use tracing_core_fields::{Id, LevelFilter, Metadata};
 use tracing_core_requests::{Attributes, Event, Interest, Record, WeakDispatch};
@@ -105,7 +108,7 @@ impl<L: Layer, I: Layer> Layer for Layered<L, I> {
     ) -> (FilterMap, bool) {
         let (verdicts, outer) = self.layer.ask_span(metadata, context, passes, verdicts);
         let (verdicts, inner) = self.inner.ask_span(metadata, context, passes, verdicts);
-        (verdicts, outer || inner)
+        (verdicts, outer | inner)
     }
 
     fn register_callsite(&self, metadata: &Metadata<'_>) -> Interest {
@@ -125,8 +128,7 @@ impl<L: Layer, I: Layer> Layer for Layered<L, I> {
         span: &Id,
         context: &mut Context<'_>,
     ) {
-        self.inner.on_new_span(attributes, span, context);
-        self.layer.on_new_span(attributes, span, context);
+        self.tell(&Told::NewSpan(span, attributes), context);
     }
 
     fn max_level_hint(&self) -> Option<LevelFilter> {
@@ -134,13 +136,11 @@ impl<L: Layer, I: Layer> Layer for Layered<L, I> {
     }
 
     fn on_record(&mut self, span: &Id, values: &Record<'_>, context: &mut Context<'_>) {
-        self.inner.on_record(span, values, context);
-        self.layer.on_record(span, values, context);
+        self.tell(&Told::Record(span, values), context);
     }
 
     fn on_follows_from(&mut self, span: &Id, follows: &Id, context: &mut Context<'_>) {
-        self.inner.on_follows_from(span, follows, context);
-        self.layer.on_follows_from(span, follows, context);
+        self.tell(&Told::FollowsFrom(span, follows), context);
     }
 
     fn event_enabled(&self, event: &Event<'_, '_>, context: &Context<'_>) -> bool {
@@ -148,28 +148,34 @@ impl<L: Layer, I: Layer> Layer for Layered<L, I> {
     }
 
     fn on_event(&mut self, event: &Event<'_, '_>, context: &mut Context<'_>) {
-        self.inner.on_event(event, context);
-        self.layer.on_event(event, context);
+        self.tell(&Told::Event(event), context);
     }
 
     fn on_enter(&mut self, span: &Id, context: &mut Context<'_>) {
-        self.inner.on_enter(span, context);
-        self.layer.on_enter(span, context);
+        self.tell(&Told::Enter(span), context);
     }
 
     fn on_exit(&mut self, span: &Id, context: &mut Context<'_>) {
-        self.inner.on_exit(span, context);
-        self.layer.on_exit(span, context);
+        self.tell(&Told::Exit(span), context);
     }
 
     fn on_close(&mut self, span: &Id, context: &mut Context<'_>) {
-        self.inner.on_close(span, context);
-        self.layer.on_close(span, context);
+        self.tell(&Told::Close(span), context);
     }
 
     fn on_id_change(&mut self, old: &Id, new: &Id, context: &mut Context<'_>) {
-        self.inner.on_id_change(old, new, context);
-        self.layer.on_id_change(old, new, context);
+        self.tell(&Told::IdChange(old, new), context);
+    }
+}
+
+impl<L: Layer, I: Layer> Layered<L, I> {
+    // Tells both, the inner one first, whose slots the outer one sees.
+    fn tell(&mut self, told: &Told<'_, '_, '_, '_>, context: &mut Context<'_>)
+        ensures lent { SameLoan context.old context.new }
+        ensures notified { BothInTurn ⟦<L as Layer>⟧ ⟦<I as Layer>⟧ (notice told.now) self.old (view context.old) (left context.new) self.new }
+    {
+        told.to(&mut self.inner, context);
+        told.to(&mut self.layer, context);
     }
 }
 

@@ -9,12 +9,13 @@ use tracing_core_requests::{Attributes, Event, Interest, Record, WeakDispatch};
 /// word.
 impl<L: Layer> Layer for Option<L> {
     ghost use Rattle.span_registry_layers_layers.specs.Absent as absent;
+    ghost use Rattle.span_registry_layers_layers.specs.Optional.{AnswersIf, EventAnswersIf, SaysIf};
 
-    ghost answers = { absent.AnswersOf ⟦<L as Layer>⟧ };
+    ghost answers = { AnswersIf L.answers };
 
-    ghost event_answers = { absent.EventAnswersOf ⟦<L as Layer>⟧ };
+    ghost event_answers = { EventAnswersIf L.event_answers };
 
-    ghost says = { absent.SaysOf ⟦<L as Layer>⟧ };
+    ghost says = { SaysIf L.says };
 
     ghost hint = { absent.hint_of ⟦<L as Layer>⟧ };
 

@@ -1,16 +1,18 @@
 //! Several layers as one.
 ghost use Rattle.std.specs.Prelude.{◌≡◌, ◌≤◌, ◌+◌, Bool, List, length, Some};
 ghost use Rattle.tracing_core_fields.specs.Metadata.{plain_metadata};
-ghost use Rattle.tracing_core_requests.specs.PlainRequests.{plain_attributes, plain_event, plain_record};
+ghost use Rattle.tracing_core_requests.specs.PlainRequests.{plain_event};
 ghost use Rattle.tracing_core_requests.specs.declared.interest.InterestInner.TheVariants.{Never};
-ghost use Rattle.span_registry_layers_layers.specs.Looks.{Closed, Entered, Exited, Recorded, SameLoan, SpanMade, left, view};
-ghost use Rattle.span_registry_layers_layers.specs.Notices.{AddsFilters, Attached, Dispatched, Followed, Happened, Renamed, Spanned};
+ghost use Rattle.span_registry_layers_layers.specs.Looks.{SameLoan, left, view};
+ghost use Rattle.span_registry_layers_layers.specs.Notices.{AddsFilters, Attached, Dispatched};
 ghost use Rattle.span_registry_layers_layers.specs.Several.{AllAnswer, AllAnswerEvents, EachTold, KeptByEach, SaysFrom, TellsInTurn, NotifiedEach, filters_of, hint_from, numbers_of};
+ghost use Rattle.span_registry_layers_layers.specs.Told.{notice};
 ghost use Rattle.span_registry_layers_layers.specs.Numbering.{AreNumbers, SameBut, SameOf, more_filters, numbers_from, room_after};
 
 use crate::context::Context;
 use crate::filter::{either_hint, either_interest};
 use crate::layer::Layer;
+use crate::layer::told::Told;
 use span_registry_layers_store::{FilterMap, Registry};
 use tracing_core_fields::{Id, LevelFilter, Metadata};
 use tracing_core_requests::{Attributes, Event, Interest, Record, WeakDispatch};
@@ -90,7 +92,11 @@ impl<L: Layer> Layer for Vec<L> {
         span: &Id,
         context: &mut Context<'_>,
     ) {
-        tell_new_span(self.as_mut_slice(), attributes, span, context);
+        tell_each(
+            self.as_mut_slice(),
+            &Told::NewSpan(span, attributes),
+            context,
+        );
     }
 
     fn max_level_hint(&self) -> Option<LevelFilter> {
@@ -98,11 +104,15 @@ impl<L: Layer> Layer for Vec<L> {
     }
 
     fn on_record(&mut self, span: &Id, values: &Record<'_>, context: &mut Context<'_>) {
-        tell_record(self.as_mut_slice(), span, values, context);
+        tell_each(self.as_mut_slice(), &Told::Record(span, values), context);
     }
 
     fn on_follows_from(&mut self, span: &Id, follows: &Id, context: &mut Context<'_>) {
-        tell_follows(self.as_mut_slice(), span, follows, context);
+        tell_each(
+            self.as_mut_slice(),
+            &Told::FollowsFrom(span, follows),
+            context,
+        );
     }
 
     fn event_enabled(&self, event: &Event<'_, '_>, context: &Context<'_>) -> bool {
@@ -110,23 +120,23 @@ impl<L: Layer> Layer for Vec<L> {
     }
 
     fn on_event(&mut self, event: &Event<'_, '_>, context: &mut Context<'_>) {
-        tell_event(self.as_mut_slice(), event, context);
+        tell_each(self.as_mut_slice(), &Told::Event(event), context);
     }
 
     fn on_enter(&mut self, span: &Id, context: &mut Context<'_>) {
-        tell_enter(self.as_mut_slice(), span, context);
+        tell_each(self.as_mut_slice(), &Told::Enter(span), context);
     }
 
     fn on_exit(&mut self, span: &Id, context: &mut Context<'_>) {
-        tell_exit(self.as_mut_slice(), span, context);
+        tell_each(self.as_mut_slice(), &Told::Exit(span), context);
     }
 
     fn on_close(&mut self, span: &Id, context: &mut Context<'_>) {
-        tell_close(self.as_mut_slice(), span, context);
+        tell_each(self.as_mut_slice(), &Told::Close(span), context);
     }
 
     fn on_id_change(&mut self, old: &Id, new: &Id, context: &mut Context<'_>) {
-        tell_id_change(self.as_mut_slice(), old, new, context);
+        tell_each(self.as_mut_slice(), &Told::IdChange(old, new), context);
     }
 }
 
@@ -190,7 +200,7 @@ fn ask_each<L: Layer>(
         [layer, later @ ..] => {
             let (verdicts, first) = layer.ask_span(metadata, context, passes, verdicts);
             let (verdicts, some) = ask_each(later, metadata, context, passes, verdicts);
-            (verdicts, first || some)
+            (verdicts, first | some)
         }
     }
 }
@@ -239,84 +249,11 @@ fn attach<L: Layer>(layers: &mut [L], registry: &mut Registry)
     }
 }
 
-fn tell_new_span<L: Layer>(
-    layers: &mut [L],
-    attributes: &Attributes<'_, '_>,
-    span: &Id,
-    context: &mut Context<'_>,
-)
+fn tell_each<L: Layer>(layers: &mut [L], told: &Told<'_, '_, '_, '_>, context: &mut Context<'_>)
     ensures lent { SameLoan context.old context.new }
-    ensures notified { TellsInTurn ⟦<L as Layer>⟧ (Spanned span.now (SpanMade (plain_attributes attributes.now) span.now)) (view context.old) layers.old (left context.new) layers.new }
+    ensures notified { TellsInTurn ⟦<L as Layer>⟧ (notice told.now) (view context.old) layers.old (left context.new) layers.new }
 {
     for layer in layers.iter_mut() {
-        layer.on_new_span(attributes, span, context);
-    }
-}
-
-fn tell_record<L: Layer>(
-    layers: &mut [L],
-    span: &Id,
-    values: &Record<'_>,
-    context: &mut Context<'_>,
-)
-    ensures lent { SameLoan context.old context.new }
-    ensures notified { TellsInTurn ⟦<L as Layer>⟧ (Spanned span.now (Recorded span.now (plain_record values.now))) (view context.old) layers.old (left context.new) layers.new }
-{
-    for layer in layers.iter_mut() {
-        layer.on_record(span, values, context);
-    }
-}
-
-fn tell_follows<L: Layer>(layers: &mut [L], span: &Id, follows: &Id, context: &mut Context<'_>)
-    ensures lent { SameLoan context.old context.new }
-    ensures notified { TellsInTurn ⟦<L as Layer>⟧ (Followed span.now follows.now) (view context.old) layers.old (left context.new) layers.new }
-{
-    for layer in layers.iter_mut() {
-        layer.on_follows_from(span, follows, context);
-    }
-}
-
-fn tell_event<L: Layer>(layers: &mut [L], event: &Event<'_, '_>, context: &mut Context<'_>)
-    ensures lent { SameLoan context.old context.new }
-    ensures notified { TellsInTurn ⟦<L as Layer>⟧ (Happened (plain_event event.now)) (view context.old) layers.old (left context.new) layers.new }
-{
-    for layer in layers.iter_mut() {
-        layer.on_event(event, context);
-    }
-}
-
-fn tell_enter<L: Layer>(layers: &mut [L], span: &Id, context: &mut Context<'_>)
-    ensures lent { SameLoan context.old context.new }
-    ensures notified { TellsInTurn ⟦<L as Layer>⟧ (Spanned span.now (Entered span.now)) (view context.old) layers.old (left context.new) layers.new }
-{
-    for layer in layers.iter_mut() {
-        layer.on_enter(span, context);
-    }
-}
-
-fn tell_exit<L: Layer>(layers: &mut [L], span: &Id, context: &mut Context<'_>)
-    ensures lent { SameLoan context.old context.new }
-    ensures notified { TellsInTurn ⟦<L as Layer>⟧ (Spanned span.now (Exited span.now)) (view context.old) layers.old (left context.new) layers.new }
-{
-    for layer in layers.iter_mut() {
-        layer.on_exit(span, context);
-    }
-}
-
-fn tell_close<L: Layer>(layers: &mut [L], span: &Id, context: &mut Context<'_>)
-    ensures lent { SameLoan context.old context.new }
-    ensures notified { TellsInTurn ⟦<L as Layer>⟧ (Spanned span.now (Closed span.now)) (view context.old) layers.old (left context.new) layers.new }
-{
-    for layer in layers.iter_mut() {
-        layer.on_close(span, context);
-    }
-}
-
-fn tell_id_change<L: Layer>(layers: &mut [L], old: &Id, new: &Id, context: &mut Context<'_>)
-    ensures lent { SameLoan context.old context.new }
-    ensures notified { TellsInTurn ⟦<L as Layer>⟧ (Renamed old.now new.now) (view context.old) layers.old (left context.new) layers.new }
-{
-    for layer in layers.iter_mut() {
-        layer.on_id_change(old, new, context);
+        told.to(layer, context);
     }
 }

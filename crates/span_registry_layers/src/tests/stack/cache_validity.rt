@@ -1,6 +1,5 @@
 // Stacks of filters of each kind, whose kept answers are right since their filters are consistent.
-ghost use Rattle.std.specs.Prelude.{◌≡◌, IfOk, nat_le};
-ghost use Rattle.tracing_core.specs.Metadata.{plain_metadata};
+ghost use Rattle.std.specs.Prelude.{IfOk};
 ghost use Rattle.tracing_core.specs.PlainRequests.{plain_event};
 ghost use Rattle.span_registry_layers.specs.Dynamic.{IsDeterminedIn};
 ghost use Rattle.span_registry_layers.specs.Functions.{IsDetermined, RefusesAbove};
@@ -109,36 +108,21 @@ fn boxes_keep_their_word(rt: HostRuntime) -> Result<(), Fail> {
 
 #[test]
 fn closures_keep_their_word(rt: HostRuntime) -> Result<(), Fail> {
-    let quiet: MetadataTest = Box::new(
-        rt.alloc(),
-        |metadata: &Metadata<'_>| -> bool
-            ensures { result ≡ nat_le (plain_metadata metadata.now).level 2 }
-        { *metadata.level() <= Level::WARN },
-    )?;
+    let quiet: MetadataTest = Box::new(rt.alloc(), is_quiet)?;
     assert!(rt; heard_by(rt.alloc(), quiet, LevelFilter::WARN)? == 1);
     Ok(())
 }
 
 #[test]
 fn closures_over_contexts_keep_their_word(rt: HostRuntime) -> Result<(), Fail> {
-    let quiet: ContextTest = Box::new(
-        rt.alloc(),
-        |metadata: &Metadata<'_>, _context: &Context<'_>| -> bool
-            ensures { result ≡ nat_le (plain_metadata metadata.now).level 2 }
-        { *metadata.level() <= Level::WARN },
-    )?;
+    let quiet: ContextTest = Box::new(rt.alloc(), is_quiet_anywhere)?;
     assert!(rt; heard_in(rt.alloc(), quiet)? == 1);
     Ok(())
 }
 
 #[test]
 fn levels_and_closures_keep_their_word(rt: HostRuntime) -> Result<(), Fail> {
-    let quiet: MetadataTest = Box::new(
-        rt.alloc(),
-        |metadata: &Metadata<'_>| -> bool
-            ensures { result ≡ nat_le (plain_metadata metadata.now).level 2 }
-        { *metadata.level() <= Level::WARN },
-    )?;
+    let quiet: MetadataTest = Box::new(rt.alloc(), is_quiet)?;
     assert!(rt; heard_by_both(rt.alloc(), LevelFilter::DEBUG, quiet)? == 1);
     Ok(())
 }

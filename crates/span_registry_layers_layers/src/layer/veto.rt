@@ -1,35 +1,44 @@
-//! A level filter as a layer that vetoes what it refuses.
-ghost use Rattle.std.proofs.Common.{subst, sym};
-ghost use Rattle.std.specs.Prelude.{◌≡◌, Some, nat_le, true, false, refl};
-ghost use Rattle.tracing_core_requests.specs.Steady.{SameWord};
-ghost use Rattle.span_registry_layers_layers.specs.Combined.{level_fair, level_interest, same_word};
+//! Filters as layers that veto what they refuse.
+ghost use Rattle.std.specs.Prelude.{◌≡◌, false, refl};
+ghost use Rattle.span_registry_layers_layers.specs.Honesty.{Fair};
 ghost use Rattle.span_registry_layers_layers.specs.Notices.{Untouched, untouched_writes};
 ghost use Rattle.span_registry_layers_layers.specs.Numbering.{no_numbers};
 ghost use Rattle.span_registry_layers_layers.specs.Singles.{leaf_once};
 
 use crate::context::Context;
+use crate::filter::{DynFilterFn, Filter, FilterFn};
 use crate::layer::Layer;
 use span_registry_layers_store::{FilterMap, Registry};
 use tracing_core_fields::{Id, LevelFilter, Metadata};
 use tracing_core_requests::{Attributes, Event, Interest, Record, WeakDispatch};
 
-/// Nobody is told of what is more verbose than the level.
-impl Layer for LevelFilter {
-    ghost answers = { λ f m v b. b ≡ nat_le m.level f };
+/// A filter that is a layer as well: nobody is told of what it refuses, and no notice changes it.
+pub trait Veto: Filter {}
 
-    ghost event_answers = { λ l e v b. b ≡ true };
+impl Veto for LevelFilter {}
 
-    ghost says = { λ f m k. k ≡ level_interest f m.level };
+impl Veto for FilterFn {}
 
-    ghost hint = { λ f. Some f };
+impl Veto for DynFilterFn {}
+
+impl<F: Veto> Layer for F {
+    ghost use Rattle.span_registry_layers_layers.specs.Veto.{veto_stays};
+
+    ghost answers = { F.answers };
+
+    ghost event_answers = { F.event_answers };
+
+    ghost says = { F.says };
+
+    ghost hint = { F.hint };
 
     ghost told = { λ x n y. (y ≡ x) × Untouched n };
 
-    ghost honest = { λ f. Unit {0} };
+    ghost honest = { λ x. Fair (F.answers x) (F.says x) (F.hint x) };
 
-    ghost fair = { λ f _. level_fair f };
+    ghost fair = { λ x k. k };
 
-    ghost stays = { λ x n y t k. subst (λ z. Unit {0} × SameWord (λ m k. k ≡ level_interest x m.level) (λ m k. k ≡ level_interest z m.level) (Some x) (Some z)) (sym t.0) (tt, same_word (λ m k. k ≡ level_interest x m.level) (Some x)) };
+    ghost stays = { λ x n y t k. veto_stays ⟦<F as Filter>⟧ x y t.0 k };
 
     ghost numbered = { λ x n y t. no_numbers n };
 
@@ -58,15 +67,11 @@ impl Layer for LevelFilter {
     }
 
     fn register_callsite(&self, metadata: &Metadata<'_>) -> Interest {
-        if self.passes(*metadata.level()) {
-            Interest::always()
-        } else {
-            Interest::never()
-        }
+        Filter::callsite_enabled(self, metadata)
     }
 
-    fn enabled(&self, metadata: &Metadata<'_>, _context: &Context<'_>) -> bool {
-        self.passes(*metadata.level())
+    fn enabled(&self, metadata: &Metadata<'_>, context: &Context<'_>) -> bool {
+        Filter::enabled(self, metadata, context)
     }
 
     fn on_new_span(
@@ -77,15 +82,15 @@ impl Layer for LevelFilter {
     ) {}
 
     fn max_level_hint(&self) -> Option<LevelFilter> {
-        Some(*self)
+        Filter::max_level_hint(self)
     }
 
     fn on_record(&mut self, _span: &Id, _values: &Record<'_>, _context: &mut Context<'_>) {}
 
     fn on_follows_from(&mut self, _span: &Id, _follows: &Id, _context: &mut Context<'_>) {}
 
-    fn event_enabled(&self, _event: &Event<'_, '_>, _context: &Context<'_>) -> bool {
-        true
+    fn event_enabled(&self, event: &Event<'_, '_>, context: &Context<'_>) -> bool {
+        Filter::event_enabled(self, event, context)
     }
 
     fn on_event(&mut self, _event: &Event<'_, '_>, _context: &mut Context<'_>) {}
