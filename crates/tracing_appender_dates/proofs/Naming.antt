@@ -24,7 +24,7 @@ around_same prefix suffix a b e =
     (append_cancel_left (before_date prefix) (a ++ after_date suffix) (b ++ after_date suffix) (sym (around_is prefix suffix a) ∙ e ∙ around_is prefix suffix b))
 
 -- the day and the clock of a period's first second, which its stamp tells
-record Starts (kind : PeriodKind) (s first : ℤ) : Type 0 where
+record Starts (kind : PeriodKind) (first : ℤ) : Type 0 where
   pub day : ℤ
   pub clock : ℕ
   pub small : clock < 86400
@@ -33,8 +33,8 @@ record Starts (kind : PeriodKind) (s first : ℤ) : Type 0 where
   pub low : negsuc 719527 ≤ℤ day
   pub high : day ≤ℤ pos 2932896
 
-told_first : (kind : PeriodKind) (s first : ℤ) → Starts kind s first → (is_date (day_at first) ≡ true) × (stamped kind first ≡ first)
-told_first kind s first st =
+told_first : (kind : PeriodKind) (first : ℤ) → Starts kind first → (is_date (day_at first) ≡ true) × (stamped kind first ≡ first)
+told_first kind first st =
     let o = on_day st.day st.clock st.small in
     let here : day_at first ≡ st.day = ap day_at st.sum ∙ o.0 in
     let at : clock_at first ≡ st.clock = ap clock_at st.sum ∙ o.1 in (
@@ -42,93 +42,51 @@ told_first kind s first st =
       ap (λ d. (d *ℤ pos 86400) +ℤ pos (told_part kind (clock_at first))) here ∙ ap (λ n. (st.day *ℤ pos 86400) +ℤ pos (told_part kind n)) at ∙ ap (λ n. (st.day *ℤ pos 86400) +ℤ pos n) st.told ∙ sym st.sum,
     )
 
-starts_minute : (s : ℤ) → is_second s ≡ true → Starts Minute s (named_second Minute s)
-starts_minute s is =
+starts_at : (kind : PeriodKind) (s day : ℤ) (clock : ℕ) → is_second s ≡ true → clock < 86400 → named_second kind s ≡ (day *ℤ pos 86400) +ℤ pos clock → told_part kind clock ≡ clock → day ≤ℤ day_at s → day_at s ≤ℤ (day +ℤ pos 6) → Starts kind (named_second kind s)
+starts_at kind s day clock is small sum told before after =
     let r = second_range s is in
-    record {
-      day = day_at s;
-      clock = clock_at s / 60 * 60;
-      small = omega (arith, signed_arith);
-      sum = omega (arith, signed_arith);
-      told = omega arith;
-      low = omega (arith, signed_arith, r.0);
-      high = omega (arith, signed_arith, r.1);
-    }
+    record { day = day; clock = clock; small = small; sum = sum; told = told; low = omega (arith, signed_arith, r.0); high = omega (arith, signed_arith, r.1) }
 
-starts_hour : (s : ℤ) → is_second s ≡ true → Starts Hour s (named_second Hour s)
-starts_hour s is =
-    let r = second_range s is in
-    record {
-      day = day_at s;
-      clock = clock_at s / 3600 * 3600;
-      small = omega (arith, signed_arith);
-      sum = omega (arith, signed_arith);
-      told = omega arith;
-      low = omega (arith, signed_arith, r.0);
-      high = omega (arith, signed_arith, r.1);
-    }
+-- the first second of a second's period, and for all of time the second itself
+starts : (kind : PeriodKind) (s : ℤ) → is_second s ≡ true → kind ≢ Whole → Starts kind (named_second kind s)
+starts Minute s is timed = starts_at Minute s (day_at s) (clock_at s / 60 * 60) is (omega (arith, signed_arith)) (omega (arith, signed_arith)) (omega arith) (omega (arith, signed_arith)) (omega (arith, signed_arith))
+starts Hour s is timed = starts_at Hour s (day_at s) (clock_at s / 3600 * 3600) is (omega (arith, signed_arith)) (omega (arith, signed_arith)) (omega arith) (omega (arith, signed_arith)) (omega (arith, signed_arith))
+starts Day s is timed = starts_at Day s (day_at s) 0 is (omega arith) (omega (arith, signed_arith)) refl (omega (arith, signed_arith)) (omega (arith, signed_arith))
+starts Week s is timed = starts_at Week s ((period_of Week s *ℤ pos 7) -ℤ pos 4) 0 is (omega arith) (omega (arith, signed_arith)) refl (omega (arith, signed_arith)) (omega (arith, signed_arith))
+starts Whole s is timed = absurd (timed refl)
 
-starts_day : (s : ℤ) → is_second s ≡ true → Starts Day s (named_second Day s)
-starts_day s is =
-    let r = second_range s is in
-    record {
-      day = day_at s;
-      clock = 0;
-      small = omega arith;
-      sum = omega (arith, signed_arith);
-      told = refl;
-      low = omega (arith, signed_arith, r.0);
-      high = omega (arith, signed_arith, r.1);
-    }
-
-starts_week : (s : ℤ) → is_second s ≡ true → Starts Week s (named_second Week s)
-starts_week s is =
-    let r = second_range s is in
-    record {
-      day = (period_of Week s *ℤ pos 7) -ℤ pos 4;
-      clock = 0;
-      small = omega arith;
-      sum = omega (arith, signed_arith);
-      told = refl;
-      low = omega (arith, signed_arith, r.0);
-      high = omega (arith, signed_arith, r.1);
-    }
+timed_first : (kind : PeriodKind) (s first : ℤ) → first_second kind (period_of kind s) ≡ Some first → (kind ≢ Whole) × (named_second kind s ≡ first)
+timed_first Minute s first e = (λ w. cc, cc)
+timed_first Hour s first e = (λ w. cc, cc)
+timed_first Day s first e = (λ w. cc, cc)
+timed_first Week s first e = (λ w. cc, cc)
+timed_first Whole s first e = cc
 
 -- the first second of a period is what its stamp tells
 pub first_told : (kind : PeriodKind) (s first : ℤ) → is_second s ≡ true → first_second kind (period_of kind s) ≡ Some first → (is_date (day_at first) ≡ true) × (stamped kind first ≡ first)
-first_told Minute s first is e = let same : named_second Minute s ≡ first = cc in subst (λ f. (is_date (day_at f) ≡ true) × (stamped Minute f ≡ f)) same (told_first Minute s (named_second Minute s) (starts_minute s is))
-first_told Hour s first is e = let same : named_second Hour s ≡ first = cc in subst (λ f. (is_date (day_at f) ≡ true) × (stamped Hour f ≡ f)) same (told_first Hour s (named_second Hour s) (starts_hour s is))
-first_told Day s first is e = let same : named_second Day s ≡ first = cc in subst (λ f. (is_date (day_at f) ≡ true) × (stamped Day f ≡ f)) same (told_first Day s (named_second Day s) (starts_day s is))
-first_told Week s first is e = let same : named_second Week s ≡ first = cc in subst (λ f. (is_date (day_at f) ≡ true) × (stamped Week f ≡ f)) same (told_first Week s (named_second Week s) (starts_week s is))
-first_told Whole s first is e = cc
+first_told kind s first is e =
+    let timed = timed_first kind s first e in
+    subst (λ f. (is_date (day_at f) ≡ true) × (stamped kind f ≡ f)) timed.1 (told_first kind (named_second kind s) (starts kind s is timed.0))
 
-apart : (kind : PeriodKind) (prefix suffix : Option (List ℕ)) (s t a b : ℤ) → Starts kind s a → Starts kind t b → around prefix (stamp kind a) suffix ≡ around prefix (stamp kind b) suffix → a ≡ b
-apart kind prefix suffix s t a b at_s at_t e =
-    let x = told_first kind s a at_s in
-    let y = told_first kind t b at_t in
-    sym x.1 ∙ stamps_apart kind a b x.0 y.0 (around_same prefix suffix (stamp kind a) (stamp kind b) e) ∙ y.1
+apart : (kind : PeriodKind) (prefix suffix : Option (List ℕ)) (s t : ℤ) → is_second s ≡ true → is_second t ≡ true → kind ≢ Whole → around prefix (stamp kind (named_second kind s)) suffix ≡ around prefix (stamp kind (named_second kind t)) suffix → named_second kind s ≡ named_second kind t
+apart kind prefix suffix s t is_s is_t timed e =
+    let x = told_first kind (named_second kind s) (starts kind s is_s timed) in
+    let y = told_first kind (named_second kind t) (starts kind t is_t timed) in
+    sym x.1 ∙ stamps_apart kind (named_second kind s) (named_second kind t) x.0 y.0 (around_same prefix suffix _ _ e) ∙ y.1
 
 -- the first second's day is in the calendar
 pub named_date : (kind : PeriodKind) (s : ℤ) → is_second s ≡ true → is_date (day_at (named_second kind s)) ≡ true
-named_date Minute s is = (told_first Minute s (named_second Minute s) (starts_minute s is)).0
-named_date Hour s is = (told_first Hour s (named_second Hour s) (starts_hour s is)).0
-named_date Day s is = (told_first Day s (named_second Day s) (starts_day s is)).0
-named_date Week s is = (told_first Week s (named_second Week s) (starts_week s is)).0
+named_date Minute s is = (told_first Minute (named_second Minute s) (starts Minute s is (λ w. cc))).0
+named_date Hour s is = (told_first Hour (named_second Hour s) (starts Hour s is (λ w. cc))).0
+named_date Day s is = (told_first Day (named_second Day s) (starts Day s is (λ w. cc))).0
+named_date Week s is = (told_first Week (named_second Week s) (starts Week s is (λ w. cc))).0
 named_date Whole s is = let r = second_range s is in is_date_from (day_at s) (omega (arith, signed_arith, r.0)) (omega (arith, signed_arith, r.1))
 
 pub differ : PeriodsDiffer
-differ Minute prefix suffix s t is_s is_t e =
-    let same = apart Minute prefix suffix s t (named_second Minute s) (named_second Minute t) (starts_minute s is_s) (starts_minute t is_t) e in
-    omega (arith, signed_arith, same)
-differ Hour prefix suffix s t is_s is_t e =
-    let same = apart Hour prefix suffix s t (named_second Hour s) (named_second Hour t) (starts_hour s is_s) (starts_hour t is_t) e in
-    omega (arith, signed_arith, same)
-differ Day prefix suffix s t is_s is_t e =
-    let same = apart Day prefix suffix s t (named_second Day s) (named_second Day t) (starts_day s is_s) (starts_day t is_t) e in
-    omega (arith, signed_arith, same)
-differ Week prefix suffix s t is_s is_t e =
-    let same = apart Week prefix suffix s t (named_second Week s) (named_second Week t) (starts_week s is_s) (starts_week t is_t) e in
-    omega (arith, signed_arith, same)
+differ Minute prefix suffix s t is_s is_t e = omega (arith, signed_arith, apart Minute prefix suffix s t is_s is_t (λ w. cc) e)
+differ Hour prefix suffix s t is_s is_t e = omega (arith, signed_arith, apart Hour prefix suffix s t is_s is_t (λ w. cc) e)
+differ Day prefix suffix s t is_s is_t e = omega (arith, signed_arith, apart Day prefix suffix s t is_s is_t (λ w. cc) e)
+differ Week prefix suffix s t is_s is_t e = omega (arith, signed_arith, apart Week prefix suffix s t is_s is_t (λ w. cc) e)
 differ Whole prefix suffix s t is_s is_t e = refl
 
 -- names that tell no date

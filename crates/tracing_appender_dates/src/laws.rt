@@ -20,6 +20,7 @@ pub fn names_rise()
 {}
 
 /// Worked dates: 2025-02-17, and the first and the last day of moments.
+#[tactic(auto, unfolding(crate::specs::Calendar::in_month, crate::specs::Calendar::in_year, crate::specs::Calendar::date_text))]
 pub fn worked_dates()
     ensures day { DayRow }
     ensures first { FirstRow }
@@ -27,6 +28,7 @@ pub fn worked_dates()
 {}
 
 /// Worked names at 2025-02-17T10:01:00Z, the name of the week of 2025-01-01, and that of the first week of moments.
+#[tactic(auto, unfolding(crate::specs::Calendar::in_month, crate::specs::Calendar::in_year, crate::specs::Calendar::date_text))]
 pub fn worked_names()
     ensures minute { MinuteRow }
     ensures hour { HourRow }

@@ -2,14 +2,17 @@
 use Rattle.std.specs.Prelude.{is_some}
 use Rattle.std.proofs.Common.{◌≡◌, ℕ, suc, Bool, true, false, List, refl, ap, subst, ◌∙◌, sym, arith, cond, Some, None, Option, Result, Ok, Err, min, set}
 use Rattle.std.proofs.Math.Path.{fun_ext}
+use Rattle.std.specs.Borrow.{MutBor}
+use Rattle.std.specs.Fn.{Once, FnOnceReturnsAtMut}
 use Rattle.tracing_appender_folders.specs.declared.fault.FolderFault.{FolderFault}
 use Rattle.tracing_appender_folders.specs.declared.fault.FolderFault.TheVariants.{Refused}
 use Rattle.tracing_appender_folders.specs.declared.fault.FolderError.{FolderError}
 use Rattle.tracing_appender_folders.specs.declared.fault.FolderError.TheVariants.{Fault, OutOfMemory}
 use Rattle.tracing_appender_folders.specs.declared.fault.FileNumber.{FileNumber}
 use Rattle.tracing_appender_folders.specs.Contents.{Contents, Outcome, if_refused, Done, Refuses, Short, Answer, Gives, called, taken, unless_refused, refusal, open_plain, open_at, write_plain, remove_plain, remove_at, close_plain, make_plain, flush_plain, list_plain, link_plain, links_with, link_place, file_named, link_named}
-use Rattle.tracing_appender_folders.specs.Faulty.{Plan, number_after, outcome_of, has_number}
+use Rattle.tracing_appender_folders.specs.Faulty.{Plan, number_after, outcome_of, has_number, plan_of, faulty_contents, Made}
 use Rattle.tracing_appender_folders.specs.Memory.{memory_contents}
+use Rattle.tracing_appender_folders.specs.declared.faulty.FaultyFolder.{FaultyFolder}
 use Rattle.tracing_appender_folders.specs.declared.memory.MemoryFolder.{MemoryFolder}
 
 -- these files and links under a plan
@@ -20,8 +23,8 @@ abbrev pub later : (ℕ → Outcome) → ℕ → Outcome
 later g n = g (suc n)
 
 -- a call answers and leaves the same whatever the plan
-abbrev pub IgnoresPlan : {T : Type 0} → (Contents → Answer T) → Type 0
-IgnoresPlan call = (c : Contents) (g : ℕ → Outcome) → call (planned g c) ≡ ((call c).0, planned (later g) (call c).1)
+pub record IgnoresPlan {T : Type 0} (call : Contents → Answer T) : Type 0 where
+  pub same : (c : Contents) (g : ℕ → Outcome) → call (planned g c) ≡ ((call c).0, planned (later g) (call c).1)
 
 open_ignores_at : (name : List ℕ) (c : Contents) (g : ℕ → Outcome) (found : Option ℕ) → open_at (planned g c) name found ≡ ((open_at c name found).0, planned (later g) (open_at c name found).1)
 open_ignores_at name c g None = refl
@@ -32,17 +35,17 @@ open_ignores_link name c g true = refl
 open_ignores_link name c g false = open_ignores_at name c g (file_named name c.files)
 
 pub open_ignores : (name : List ℕ) → IgnoresPlan (open_plain name)
-open_ignores name c g = open_ignores_link name c g (link_named name c.links)
+open_ignores name = record { same = λ c g. open_ignores_link name c g (link_named name c.links) }
 
 pub write_ignores : (file : FileNumber) (bytes : List ℕ) → IgnoresPlan (write_plain file bytes)
-write_ignores file bytes c g = refl
+write_ignores file bytes = record { same = λ c g. refl }
 
 remove_ignores_at : (c : Contents) (g : ℕ → Outcome) (found : Option ℕ) → remove_at (planned g c) found ≡ ((remove_at c found).0, planned (later g) (remove_at c found).1)
 remove_ignores_at c g None = refl
 remove_ignores_at c g (Some place) = refl
 
 pub remove_ignores : (name : List ℕ) → IgnoresPlan (remove_plain name)
-remove_ignores name c g = remove_ignores_at c g (file_named name c.files)
+remove_ignores name = record { same = λ c g. remove_ignores_at c g (file_named name c.files) }
 
 abbrev link_at : Contents → List (List ℕ × List ℕ) → Bool → Answer (Unit {0})
 link_at c links taken = cond taken (refusal Refused c) (Ok tt, record (called c) { links = links })
@@ -52,16 +55,19 @@ link_ignores_at c g links true = refl
 link_ignores_at c g links false = refl
 
 pub link_ignores : (name target : List ℕ) → IgnoresPlan (link_plain name target)
-link_ignores name target c g = link_ignores_at c g (links_with c.links (link_place name c.links) (name, target)) (is_some (file_named name c.files))
+link_ignores name target = record { same = λ c g. link_ignores_at c g (links_with c.links (link_place name c.links) (name, target)) (is_some (file_named name c.files)) }
 
 pub close_ignores : (file : FileNumber) → IgnoresPlan (close_plain file)
-close_ignores file c g = refl
+close_ignores file = record { same = λ c g. refl }
 
 pub make_ignores : IgnoresPlan make_plain
-make_ignores c g = refl
+make_ignores = record { same = λ c g. refl }
 
 pub flush_ignores : (file : FileNumber) → IgnoresPlan (flush_plain file)
-flush_ignores file c g = refl
+flush_ignores file = record { same = λ c g. refl }
+
+pub list_ignores : IgnoresPlan list_plain
+list_ignores = record { same = λ c g. refl }
 
 -- the plan of a folder in memory
 abbrev pub whole_plan : ℕ → Outcome
@@ -72,10 +78,10 @@ plain call c = unless_refused c (call c)
 
 module _ {T : Type 0} (call : Contents → Answer T) (ignores : IgnoresPlan call) (inner after : Contents) (g : ℕ → Outcome) where
   answer_planned : (call (planned g inner)).0 ≡ (call (planned whole_plan inner)).0
-  answer_planned = ap (λ (a : Answer T). a.0) (ignores inner g) ∙ sym (ap (λ (a : Answer T). a.0) (ignores inner whole_plan))
+  answer_planned = ap (λ (a : Answer T). a.0) (ignores.same inner g) ∙ sym (ap (λ (a : Answer T). a.0) (ignores.same inner whole_plan))
 
   after_planned : planned whole_plan after ≡ (call (planned whole_plan inner)).1 → planned (later g) after ≡ (call (planned g inner)).1
-  after_planned e = ap (planned (later g)) (e ∙ ap (λ (a : Answer T). a.1) (ignores inner whole_plan)) ∙ sym (ap (λ (a : Answer T). a.1) (ignores inner g))
+  after_planned e = ap (planned (later g)) (e ∙ ap (λ (a : Answer T). a.1) (ignores.same inner whole_plan)) ∙ sym (ap (λ (a : Answer T). a.1) (ignores.same inner g))
 
   -- what a call gives over the inner folder it gives under a plan
   pub gives_planned : (r : Result T FolderError) → Gives (plain call) (Some (planned whole_plan inner)) r (Some (planned whole_plan after)) → Gives (λ _. call (planned g inner)) (Some (planned g inner)) r (Some (planned (later g) after))
@@ -91,11 +97,8 @@ plan_later plan calls = fun_ext (λ n. ap (outcome_of plan) (same_number n))
     same_number n = omega arith
 
 -- a planned refusal
-pub gives_refused : {T : Type 0} (call : Contents → Answer T) (c after : Contents) (fault told : FolderFault) → told ≡ fault → c.coming 0 ≡ Refuses fault → after ≡ called c → Gives (plain call) (Some c) (Err (Fault told)) (Some after)
-gives_refused call c after fault told same refused left = (
-  ap (λ o. (if_refused o (λ f. refusal f c) (call c)).0) refused ∙ ap (λ (f : FolderFault). Err (Fault f)) (sym same),
-  ap Some left ∙ ap Some (sym (ap (λ o. (if_refused o (λ f. refusal f c) (call c)).1) refused)),
-)
+gives_refused : {T : Type 0} (call : Contents → Answer T) (c : Contents) (fault : FolderFault) → c.coming 0 ≡ Refuses fault → Gives (plain call) (Some c) (Err (Fault fault)) (Some (called c))
+gives_refused call c fault refused = rw refused (refl, refl)
 
 -- a call that isn't refused
 passed_at : {X : Type 0} (x : FolderFault → X) (y : X) (fault : FolderFault) (most : ℕ) (short : Bool) → if_refused (cond false (Refuses fault) (cond short (Short most) Done)) x y ≡ y
@@ -109,13 +112,39 @@ gives_passed {T} call c after plan n r first free gives =
     ∙ passed_at (λ f. refusal f c) (call c) plan.fault plan.most (has_number plan.short n) in
     subst (λ (a : Answer T). Gives (λ _. a) (Some c) r (Some after)) (sym open_way) gives
 
--- a call of a faulty folder that isn't refused
-pub faulty_gives : {T : Type 0} (call : Contents → Answer T) (ignores : IgnoresPlan call) (m asked after : MemoryFolder) (plan : Plan) (calls : ℕ) (r : Result T FolderError) → has_number plan.refused (number_after calls 0) ≡ false → asked ≡ m → Gives (plain call) (Some (memory_contents asked)) r (Some (memory_contents after)) → Gives (plain call) (Some (planned (λ n. outcome_of plan (number_after calls n)) (memory_contents m))) r (Some (planned (λ n. outcome_of plan (number_after (number_after calls 0) n)) (memory_contents after)))
-faulty_gives call ignores m asked after plan calls r free same gives =
-    let outcomes : ℕ → Outcome = λ n. outcome_of plan (number_after calls n) in
-    subst (λ (g : ℕ → Outcome). Gives (plain call) (Some (planned outcomes (memory_contents m))) r (Some (planned g (memory_contents after)))) (sym (plan_later plan calls))
-    (gives_passed call (planned outcomes (memory_contents m)) (planned (later outcomes) (memory_contents after)) plan (number_after calls 0) r refl free
-    (gives_planned call ignores (memory_contents m) (memory_contents after) outcomes r (subst (λ (x : MemoryFolder). Gives (plain call) (Some (memory_contents x)) r (Some (memory_contents after))) same gives)))
+-- What a call of the folder in memory gives, the call of a faulty folder gives under its plan. A view is what the call's clause tells of its answer.
+module _ {F T X : Type 0} {g : Once F (MutBor MemoryFolder × Unit {0}) (Result T FolderError × (MutBor MemoryFolder × Unit {0}))} {f : F} {old : FaultyFolder} {r : Result T FolderError} {new : FaultyFolder} (view : Result T FolderError → Result X FolderError) (refuses : (e : FolderError) → view (Err e) ≡ Err e) {call : Contents → Answer X} (ignores : IgnoresPlan call) (made : Made g f old r new) (gives : has_number old.refused.items (number_after old.calls 0) ≡ false → FnOnceReturnsAtMut g f old.inner r new.inner → Gives (plain call) (Some (memory_contents old.inner)) (view r) (Some (memory_contents new.inner))) where
+  abbrev pub plan : Plan
+  plan = plan_of old
+
+  abbrev pub n : ℕ
+  n = number_after old.calls 0
+
+  abbrev pub before : Contents
+  before = faulty_contents old
+
+  after : faulty_contents new ≡ planned (later before.coming) (memory_contents new.inner)
+  after = made.later ∙ ap (λ (p : ℕ → Outcome). planned p (memory_contents new.inner)) (plan_later plan old.calls)
+
+  abbrev pub Given : Result X FolderError → Contents → Type 0
+  Given answer c = Gives (plain call) (Some before) answer (Some c)
+
+  by_case : (b : Bool) → has_number plan.refused n ≡ b → Given (view r) (faulty_contents new)
+  by_case true hit =
+      let told = made.refused hit in
+      subst (Given (view r)) (sym (after ∙ ap (λ (m : MemoryFolder). planned (later before.coming) (memory_contents m)) told.1))
+      (subst (λ a. Given a (called before)) (sym (ap view told.0 ∙ refuses (Fault old.fault)))
+      (gives_refused call before old.fault (ap (λ b. cond b (Refuses old.fault) (cond (has_number plan.short n) (Short plan.most) Done)) hit)))
+  by_case false free =
+      subst (Given (view r)) (sym after)
+      (gives_passed call before (planned (later before.coming) (memory_contents new.inner)) plan n (view r) refl free
+      (gives_planned call ignores (memory_contents old.inner) (memory_contents new.inner) before.coming (view r) (gives free (made.called free))))
+
+  pub viewed_gives : Given (view r) (faulty_contents new)
+  viewed_gives = by_case (has_number plan.refused n) refl
+
+pub made_gives : {F T : Type 0} {g : Once F (MutBor MemoryFolder × Unit {0}) (Result T FolderError × (MutBor MemoryFolder × Unit {0}))} {f : F} {old : FaultyFolder} {r : Result T FolderError} {new : FaultyFolder} {call : Contents → Answer T} → IgnoresPlan call → Made g f old r new → (has_number old.refused.items (number_after old.calls 0) ≡ false → FnOnceReturnsAtMut g f old.inner r new.inner → Gives (plain call) (Some (memory_contents old.inner)) r (Some (memory_contents new.inner))) → Gives (plain call) (Some (faulty_contents old)) r (Some (faulty_contents new))
+made_gives ignores made gives = viewed_gives (λ r. r) (λ e. refl) ignores made gives
 
 -- how much a write takes that isn't refused
 taken_at : (fault : FolderFault) (most len : ℕ) (short : Bool) → taken (cond false (Refuses fault) (cond short (Short most) Done)) len ≡ cond short (min most len) len
@@ -124,9 +153,6 @@ taken_at fault most len false = refl
 
 pub taken_free : (plan : Plan) (n len : ℕ) → has_number plan.refused n ≡ false → taken (outcome_of plan n) len ≡ cond (has_number plan.short n) (min plan.most len) len
 taken_free plan n len free = ap (λ b. taken (cond b (Refuses plan.fault) (cond (has_number plan.short n) (Short plan.most) Done)) len) free ∙ taken_at plan.fault plan.most len (has_number plan.short n)
-
-pub list_ignores : IgnoresPlan list_plain
-list_ignores c g = refl
 
 -- a link in the place of another, in a folder that refuses nothing of itself
 pub linked_over : (before : Contents) (after : List (List ℕ × List ℕ)) (name target : List ℕ) (place : ℕ) → is_some (file_named name before.files) ≡ false → Some place ≡ link_place name before.links → after ≡ set before.links place (name, target) → ((link_plain name target before).0 ≡ Ok tt) × (Some (record (called before) { links = after }) ≡ Some (link_plain name target before).1)

@@ -1,9 +1,14 @@
 -- A folder in memory that refuses the calls with some numbers with a fault, and cuts writes with some others short.
-use Rattle.std.specs.Prelude.{ℕ, ◌+◌, ◌-◌, ◌^◌, min, Bool, List, if◌then◌else◌, ◌==◌}
+use Rattle.std.specs.Prelude.{◌≡◌, ℕ, ◌+◌, ◌-◌, ◌^◌, min, Bool, true, false, List, if◌then◌else◌, ◌==◌, Result, Err}
+use Rattle.std.specs.Borrow.{MutBor}
+use Rattle.std.specs.Fn.{Once, FnOnceReturnsAtMut}
 use Rattle.std.specs.List.{list_any}
 use Rattle.tracing_appender_folders.specs.declared.fault.FolderFault.{FolderFault}
+use Rattle.tracing_appender_folders.specs.declared.fault.FolderError.{FolderError}
+use Rattle.tracing_appender_folders.specs.declared.fault.FolderError.TheVariants.{Fault}
 use Rattle.tracing_appender_folders.specs.declared.faulty.FaultyFolder.{FaultyFolder}
 use Rattle.tracing_appender_folders.specs.Contents.{Contents, Outcome, Done, Refuses, Short}
+use Rattle.tracing_appender_folders.specs.declared.memory.MemoryFolder.{MemoryFolder}
 use Rattle.tracing_appender_folders.specs.Memory.{memory_contents}
 
 abbrev pub has_number : List ℕ → ℕ → Bool
@@ -33,3 +38,9 @@ plan_of f = record { refused = f.refused.items; fault = f.fault; short = f.short
 
 abbrev pub faulty_contents : FaultyFolder → Contents
 faulty_contents f = under_plan (memory_contents f.inner) (plan_of f) f.calls
+
+-- the next call is refused by the plan, or f is called on the folder in memory; then the call is behind
+pub record Made {F T : Type 0} (g : Once F (MutBor MemoryFolder × Unit {0}) (Result T FolderError × (MutBor MemoryFolder × Unit {0}))) (f : F) (old : FaultyFolder) (result : Result T FolderError) (new : FaultyFolder) : Type 0 where
+  pub refused : has_number old.refused.items (number_after old.calls 0) ≡ true → (result ≡ Err (Fault old.fault)) × (new.inner ≡ old.inner)
+  pub called : has_number old.refused.items (number_after old.calls 0) ≡ false → FnOnceReturnsAtMut g f old.inner result new.inner
+  pub later : faulty_contents new ≡ under_plan (memory_contents new.inner) (plan_of old) (number_after old.calls 0)

@@ -1,8 +1,8 @@
 //! A folder in memory that refuses some calls, and cuts some writes short.
 
-ghost use Rattle.std.specs.Prelude.{◌≡◌, [], ◌+◌, ◌-◌, ◌^◌, min, if◌then◌else◌};
+ghost use Rattle.std.specs.Prelude.{◌≡◌, [], min, if◌then◌else◌};
 ghost use Rattle.tracing_appender_folders.specs.Contents.{failures_after};
-ghost use Rattle.tracing_appender_folders.specs.Listings.{listed_all};
+ghost use Rattle.tracing_appender_folders.specs.Faulty.{has_number};
 
 use crate::fault::{Entry, FileNumber, FolderError, FolderFault};
 use crate::folder::Folder;
@@ -22,7 +22,7 @@ pub struct FaultyFolder {
 }
 
 impl FaultyFolder {
-    ghost use Rattle.tracing_appender_folders.specs.Faulty.{faulty_contents, plan_of, under_plan, has_number, number_after};
+    ghost use Rattle.tracing_appender_folders.specs.Faulty.{faulty_contents, plan_of, under_plan, number_after, Made};
     ghost use Rattle.tracing_appender_folders.specs.Memory.{memory_contents};
 
     /// Refuses the calls with these numbers, over a folder in memory.
@@ -69,72 +69,50 @@ impl FaultyFolder {
         &self.inner
     }
 
-    /// Counts the call, and tells whether it is refused.
-    fn is_refused(&mut self) -> bool
-        ensures result { result ≡ has_number self.old.refused.items (number_after self.old.calls 0) }
-        ensures calls { self.new.calls ≡ number_after self.old.calls 0 }
-        ensures inner { self.new.inner ≡ self.old.inner }
-        ensures refused { self.new.refused ≡ self.old.refused }
-        ensures fault { self.new.fault ≡ self.old.fault }
-        ensures short { self.new.short ≡ self.old.short }
-        ensures most { self.new.most ≡ self.old.most }
-        ensures failures { self.new.failures ≡ self.old.failures }
+    /// The number of the next call.
+    fn next_number(&self) -> u64
+        ensures { result ≡ number_after self.now.calls 0 }
     {
-        self.calls = self.calls.saturating_add(1);
-        let number = self.calls;
-        self.refused.iter().any(|n| *n == number)
+        self.calls.saturating_add(1)
     }
 
-    fn is_short(&self) -> bool
-        ensures { result ≡ has_number self.now.short.items self.now.calls }
-    {
-        let number = self.calls;
-        self.short.iter().any(|n| *n == number)
-    }
-
-    /// How many of so many bytes a write takes.
+    /// How many of so many bytes the next call takes, if it is a write and isn't refused.
     fn taken_of(&self, len: usize) -> usize
-        ensures { result ≡ (if has_number self.now.short.items self.now.calls then min self.now.most len else len) }
+        ensures { result ≡ (if has_number self.now.short.items (number_after self.now.calls 0) then min self.now.most len else len) }
     {
-        if self.is_short() {
+        if has_number(self.short.as_slice(), self.next_number()) {
             len.min(self.most)
         } else {
             len
         }
     }
 
-    fn refuse(&mut self) -> FolderError
-        ensures result { result ≡ FolderError.Fault self.old.fault }
-        ensures same { faulty_contents self.new ≡ faulty_contents self.old }
-        ensures count { self.new.failures ≡ min (self.old.failures + 1) (2 ^ 64 - 1) }
-    {
-        self.failures = self.failures.saturating_add(1);
-        FolderError::Fault(self.fault)
-    }
-
-    fn told_list(
-        &mut self,
-        answer: Result<Vec<Entry>, FolderError>,
-    ) -> Result<Vec<Entry>, FolderError>
-        ensures result { result ≡ answer }
-        ensures same { faulty_contents self.new ≡ faulty_contents self.old }
-        ensures count { self.new.failures ≡ failures_after self.old.failures (listed_all answer) }
-    {
-        if let Err(FolderError::Fault(_)) = &answer {
-            self.failures = self.failures.saturating_add(1);
-        }
-        answer
-    }
-
+    /// Counts the fault, if the answer is one.
     fn told<T: Drop>(&mut self, answer: Result<T, FolderError>) -> Result<T, FolderError>
         ensures result { result ≡ answer }
-        ensures same { faulty_contents self.new ≡ faulty_contents self.old }
-        ensures count { self.new.failures ≡ failures_after self.old.failures answer }
+        ensures count { self.new ≡ record self.old { failures = failures_after self.old.failures answer } }
     {
         if let Err(FolderError::Fault(_)) = &answer {
             self.failures = self.failures.saturating_add(1);
         }
         answer
+    }
+
+    /// Makes the next call on the folder in memory, where the plan doesn't refuse it.
+    fn make<T: Drop, F: FnOnce(&mut MemoryFolder) -> Result<T, FolderError>>(
+        &mut self,
+        call: F,
+    ) -> Result<T, FolderError>
+        requires { F.IsAlwaysCallable call }
+        ensures made { Made F.FnOnce call self.old result self.new }
+        ensures count { self.new.failures ≡ failures_after self.old.failures result }
+    {
+        self.calls = self.next_number();
+        if has_number(self.refused.as_slice(), self.calls) {
+            return self.told(Err(FolderError::Fault(self.fault)));
+        }
+        let answer = call(&mut self.inner);
+        self.told(answer)
     }
 }
 
@@ -147,71 +125,45 @@ impl Folder for FaultyFolder {
     ghost failed = { λ f. f.failures };
 
     fn open_append(&mut self, name: &str) -> Result<FileNumber, FolderError> {
-        if self.is_refused() {
-            return Err(self.refuse());
-        }
-        let answer = self.inner.open_append(name);
-        self.told(answer)
+        self.make(|inner| inner.open_append(name))
     }
 
     fn close_file(&mut self, file: FileNumber) -> Result<(), FolderError> {
-        if self.is_refused() {
-            return Err(self.refuse());
-        }
-        let answer = self.inner.close_file(file);
-        self.told(answer)
+        self.make(|inner| inner.close_file(file))
     }
 
     fn write(&mut self, file: FileNumber, bytes: &[u8]) -> Result<usize, FolderError> {
-        if self.is_refused() {
-            return Err(self.refuse());
-        }
-        let taken = self.taken_of(bytes.len());
-        let answer = self.inner.write(file, &bytes[..taken]);
-        self.told(answer)
+        let taken = &bytes[..self.taken_of(bytes.len())];
+        self.make(|inner| inner.write(file, taken))
     }
 
     fn remove(&mut self, name: &str) -> Result<(), FolderError> {
-        if self.is_refused() {
-            return Err(self.refuse());
-        }
-        let answer = self.inner.remove(name);
-        self.told(answer)
+        self.make(|inner| inner.remove(name))
     }
 
     fn list(&mut self) -> Result<Vec<Entry>, FolderError> {
-        if self.is_refused() {
-            return Err(self.refuse());
-        }
-        let answer = self.inner.list();
-        self.told_list(answer)
+        self.make(|inner| inner.list())
     }
 
     fn create_dirs(&mut self) -> Result<(), FolderError> {
-        if self.is_refused() {
-            return Err(self.refuse());
-        }
-        let answer = self.inner.create_dirs();
-        self.told(answer)
+        self.make(|inner| inner.create_dirs())
     }
 
     fn flush(&mut self, file: FileNumber) -> Result<(), FolderError> {
-        if self.is_refused() {
-            return Err(self.refuse());
-        }
-        let answer = self.inner.flush(file);
-        self.told(answer)
+        self.make(|inner| inner.flush(file))
     }
 
     fn link(&mut self, name: &str, target: &str) -> Result<(), FolderError> {
-        if self.is_refused() {
-            return Err(self.refuse());
-        }
-        let answer = self.inner.link(name, target);
-        self.told(answer)
+        self.make(|inner| inner.link(name, target))
     }
 
     fn failures(&self) -> u64 {
         self.failures
     }
+}
+
+fn has_number(numbers: &[u64], number: u64) -> bool
+    ensures { result ≡ has_number numbers.now number }
+{
+    numbers.iter().any(|n| *n == number)
 }

@@ -1,6 +1,6 @@
 //! A folder in memory.
 
-ghost use Rattle.std.specs.Prelude.{◌≡◌, ◌+◌, ◌-◌, ◌^◌, ℕ, List, Some, None, true, map, min, OnOk, OnErr, IfOk, IfSome, IfNone, if◌then◌else◌};
+ghost use Rattle.std.specs.Prelude.{◌≡◌, ◌+◌, ◌-◌, ◌^◌, ℕ, List, Some, None, true, map, min, OnOk, OnErr, IfOk, IfSome, IfNone, ◌<◌, length, if◌then◌else◌};
 ghost use Rattle.std.specs.Str.{bytes_eq};
 ghost use Rattle.tracing_appender_folders.specs.Contents.{file_named, bytes_at, link_place, listing};
 
@@ -94,8 +94,8 @@ impl MemoryFolder {
             created,
             bytes: Vec::from_slice(self.alloc, bytes)?,
         };
-        match self.place_of(name) {
-            Some(place) => self.files[place] = file,
+        match self.index_of(name) {
+            Some(index) => self.files[index] = file,
             None => self.files.push(file)?,
         }
         Ok(())
@@ -183,26 +183,22 @@ impl MemoryFolder {
         FolderError::Fault(fault)
     }
 
-    fn place_of_link(&self, name: &str) -> Option<usize>
-        ensures { result ≡ link_place name.now (memory_contents self.now).links }
+    fn index_of_link(&self, name: &str) -> Option<usize>
+        ensures first { result ≡ link_place name.now (memory_contents self.now).links }
+        ensures within { IfSome result (λ i. i < length self.now.links.items) }
     {
-        for (place, link) in self.links.iter().enumerate() {
-            if link.name.as_str() == name {
-                return Some(place);
-            }
-        }
-        None
+        self.links
+            .iter()
+            .position(|link| link.name.as_str() == name)
     }
 
-    fn place_of(&self, name: &str) -> Option<usize>
-        ensures { result ≡ file_named name.now (memory_contents self.now).files }
+    fn index_of(&self, name: &str) -> Option<usize>
+        ensures first { result ≡ file_named name.now (memory_contents self.now).files }
+        ensures within { IfSome result (λ i. i < length self.now.files.items) }
     {
-        for (place, file) in self.files.iter().enumerate() {
-            if file.stands && file.name.as_str() == name {
-                return Some(place);
-            }
-        }
-        None
+        self.files
+            .iter()
+            .position(|file| file.stands && file.name.as_str() == name)
     }
 }
 
@@ -215,11 +211,11 @@ impl Folder for MemoryFolder {
     ghost failed = { λ m. m.failures };
 
     fn open_append(&mut self, name: &str) -> Result<FileNumber, FolderError> {
-        if self.place_of_link(name).is_some() {
+        if self.index_of_link(name).is_some() {
             return Err(self.refuse(FolderFault::Refused));
         }
         self.open_files.reserve(1)?;
-        if let Some(index) = self.place_of(name) {
+        if let Some(index) = self.index_of(name) {
             self.open_files.push_reserved(index);
             return Ok(FileNumber { index });
         }
@@ -261,9 +257,9 @@ impl Folder for MemoryFolder {
     }
 
     fn remove(&mut self, name: &str) -> Result<(), FolderError> {
-        match self.place_of(name) {
-            Some(place) => {
-                self.files[place].stands = false;
+        match self.index_of(name) {
+            Some(index) => {
+                self.files[index].stands = false;
                 Ok(())
             }
             None => Err(self.refuse(FolderFault::NotFound)),
@@ -271,15 +267,15 @@ impl Folder for MemoryFolder {
     }
 
     fn link(&mut self, name: &str, target: &str) -> Result<(), FolderError> {
-        if self.place_of(name).is_some() {
+        if self.index_of(name).is_some() {
             return Err(self.refuse(FolderFault::Refused));
         }
         let link = MemoryLink {
             name: String::from_str(self.alloc, name)?,
             target: String::from_str(self.alloc, target)?,
         };
-        match self.place_of_link(name) {
-            Some(place) => self.links[place] = link,
+        match self.index_of_link(name) {
+            Some(index) => self.links[index] = link,
             None => self.links.push(link)?,
         }
         Ok(())

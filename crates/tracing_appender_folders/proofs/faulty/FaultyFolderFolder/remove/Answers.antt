@@ -1,22 +1,6 @@
-use Rattle.std.proofs.Common.{◌≡◌, ap, cond, ℕ, true, false}
-use Rattle.tracing_appender_folders.specs.Contents.{remove_plain, Outcome, Refuses, Done, Short}
-use Rattle.tracing_appender_folders.specs.Faulty.{faulty_contents, plan_of, has_number, number_after}
-use Rattle.tracing_appender_folders.proofs.Wrapped.{faulty_gives, gives_refused, plan_later, remove_ignores}
+use Rattle.std.proofs.Common.{rules}
+use Rattle.tracing_appender_folders.proofs.Wrapped.{made_gives, remove_ignores}
 use Rattle.tracing_appender_folders.proofs.faulty.FaultyFolderFolder.remove.Goals as goal
 
-pub returns-then-is_refused-clause-gives : goal.returns-then-is_refused-clause-gives
-returns-then-is_refused-clause-gives c =
-    let f = c.args.self.now in
-    let hit : has_number f.refused.items (number_after f.calls 0) ≡ true = cc (c.is_refused.ensures.result, c.if-is_refused.true) in
-    rw (c.refuse.ensures.result, c.refuse.ensures.same) (gives_refused (remove_plain c.args.name.now) (faulty_contents f) (faulty_contents c.is_refused.new.self)
-    f.fault c.is_refused.new.self.fault c.is_refused.ensures.fault
-    (ap (λ b. cond b (Refuses f.fault) (cond (has_number f.short.items (number_after f.calls 0)) (Short f.most) Done)) hit)
-    (rw (c.is_refused.ensures.inner, c.is_refused.ensures.refused, c.is_refused.ensures.fault, c.is_refused.ensures.short, c.is_refused.ensures.most, c.is_refused.ensures.calls)
-    (ap (λ (g : ℕ → Outcome). record (faulty_contents f) { coming = g }) (plan_later (plan_of f) f.calls))))
-
 pub returns-clause-gives : goal.returns-clause-gives
-returns-clause-gives c =
-    let f = c.args.self.now in
-    let free : has_number f.refused.items (number_after f.calls 0) ≡ false = cc (c.is_refused.ensures.result, c.if-is_refused.false) in
-    rw (c.told.ensures.result, c.told.ensures.same, c.is_refused.ensures.refused, c.is_refused.ensures.fault, c.is_refused.ensures.short, c.is_refused.ensures.most, c.is_refused.ensures.calls)
-    (faulty_gives (remove_plain c.args.name.now) (remove_ignores c.args.name.now) f.inner c.is_refused.new.self.inner c.remove-answer.new.self (plan_of f) f.calls c.remove-answer.result free c.is_refused.ensures.inner c.remove-answer.ensures.gives)
+returns-clause-gives c = made_gives (remove_ignores c.args.name.now) c.make.ensures.made (λ free called. search rules)

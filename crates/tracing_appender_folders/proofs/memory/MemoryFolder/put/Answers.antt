@@ -2,23 +2,18 @@ use Rattle.std.proofs.Common.{arith, refl, sym, map}
 use Rattle.std.proofs.lemmas.List.{length-map}
 use Rattle.tracing_appender_folders.specs.Contents.{has_name}
 use Rattle.tracing_appender_folders.specs.Memory.{kept_of}
-use Rattle.tracing_appender_folders.proofs.Named.{found_within}
 use Rattle.tracing_appender_folders.proofs.Puts.{put_over, put_new, placed_over}
 use Rattle.tracing_appender_folders.proofs.memory.MemoryFolder.put.Goals as goal
 
-pub index_mut-requires : goal.index_mut-requires
-index_mut-requires c =
-    let h = found_within (has_name c.args.name.now) 0 (map kept_of c.args.self.now.files.items) c.in-Some.place (sym c.in-Some.ensures) in omega (arith, rw length-map at h)
-
 pub returns-in-Some-clause-ok : goal.returns-in-Some-clause-ok
 returns-in-Some-clause-ok c =
-    put_over c.args.self.now.files.items c.in-Some.place _ c.args.name.now c.args.bytes.now (record { named = c.in_ok-from_str.ensures.ok; stands = refl; filled = c.in_ok-from_slice.ensures.items }) c.in-Some.ensures
+    put_over c.args.self.now.files.items c.in-Some.index _ c.args.name.now c.args.bytes.now (record { named = c.in_ok-from_str.ensures.ok; stands = refl; filled = c.in_ok-from_slice.ensures.items }) c.in-Some.ensures.first
 
 pub returns-in-Some-clause-place : goal.returns-in-Some-clause-place
 returns-in-Some-clause-place c =
-    placed_over c.args.self.now.files.items c.in-Some.place _ c.args.name.now c.args.bytes.now (record { named = c.in_ok-from_str.ensures.ok; stands = refl; filled = c.in_ok-from_slice.ensures.items }) c.in-Some.ensures
+    placed_over c.args.self.now.files.items c.in-Some.index _ c.args.name.now c.args.bytes.now (record { named = c.in_ok-from_str.ensures.ok; stands = refl; filled = c.in_ok-from_slice.ensures.items }) c.in-Some.ensures.first
 
 pub returns-in_ok-push-in-None-clause-ok : goal.returns-in_ok-push-in-None-clause-ok
 returns-in_ok-push-in-None-clause-ok c = λ q.
     rw c.in_ok-push-in-None.ensures.items
-    (put_new c.args.self.now.files.items _ c.args.name.now c.args.bytes.now (record { named = c.in_ok-from_str.ensures.ok; stands = refl; filled = c.in_ok-from_slice.ensures.items }) c.in-None.ensures q)
+    (put_new c.args.self.now.files.items _ c.args.name.now c.args.bytes.now (record { named = c.in_ok-from_str.ensures.ok; stands = refl; filled = c.in_ok-from_slice.ensures.items }) c.in-None.ensures.first q)
