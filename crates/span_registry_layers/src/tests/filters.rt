@@ -1,4 +1,4 @@
-// Filters.
+// Each way to make a filter, and each call of one.
 use super::*;
 use crate::{
     And, CallsiteTest, ContextTest, DynFilterFn, FilterExt, FilterFn, Filtered, Identity,

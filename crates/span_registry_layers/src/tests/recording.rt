@@ -28,11 +28,11 @@ pub trait Observer: Drop {
     ghost keys: { Self → ℕ → Bool } = { λ x key. false };
 
     /// The layer was attached to a registry, or a hub took its stack.
-    fn settle(&mut self, notification: Notification)
+    fn settle(&mut self, notice: Notification)
         ensures { (key : ℕ) → keys self.new key ≡ keys self.old key };
 
     /// An event happened in a span or in none, or something was done with a span.
-    fn observe(&mut self, notification: Notification, span: Option<&Id>, context: &mut Context<'_>)
+    fn observe(&mut self, notice: Notification, span: Option<&Id>, context: &mut Context<'_>)
         ensures lent { SameLoan context.old context.new }
         ensures own { SameButKeys (keys self.old) (left context.old) (left context.new) }
         ensures keyed { (key : ℕ) → keys self.new key ≡ keys self.old key };
@@ -184,22 +184,17 @@ pub struct Tally {
 }
 
 impl Observer for Tally {
-    fn settle(&mut self, notification: Notification) {
+    fn settle(&mut self, notice: Notification) {
         self.told = self.told.wrapping_add(1);
-        if notification == Notification::Taken {
+        if notice == Notification::Taken {
             self.others = self.others.wrapping_add(1);
         }
     }
 
     // It counts those events apart for which it sees the lane's span.
-    fn observe(
-        &mut self,
-        notification: Notification,
-        _span: Option<&Id>,
-        context: &mut Context<'_>,
-    ) {
+    fn observe(&mut self, notice: Notification, _span: Option<&Id>, context: &mut Context<'_>) {
         self.told = self.told.wrapping_add(1);
-        match notification {
+        match notice {
             Notification::Happened => {
                 self.events = self.events.wrapping_add(1);
                 if context.lookup_current().is_some() {
@@ -244,23 +239,18 @@ impl Journal {
 }
 
 impl Observer for Journal {
-    fn settle(&mut self, notification: Notification) {
-        if notification == Notification::Taken {
-            let _room = self.told.push((notification, 0));
+    fn settle(&mut self, notice: Notification) {
+        if notice == Notification::Taken {
+            let _room = self.told.push((notice, 0));
         }
     }
 
-    fn observe(
-        &mut self,
-        notification: Notification,
-        span: Option<&Id>,
-        _context: &mut Context<'_>,
-    ) {
-        let number = match (notification, span) {
+    fn observe(&mut self, notice: Notification, span: Option<&Id>, _context: &mut Context<'_>) {
+        let number = match (notice, span) {
             (Notification::Happened, _) | (_, None) => 0,
             (_, Some(span)) => span.into_u64(),
         };
-        let _room = self.told.push((notification, number));
+        let _room = self.told.push((notice, number));
     }
 }
 

@@ -12,15 +12,10 @@ struct Paths {
 }
 
 impl Observer for Paths {
-    fn settle(&mut self, _notification: Notification) {}
+    fn settle(&mut self, _notice: Notification) {}
 
-    fn observe(
-        &mut self,
-        notification: Notification,
-        span: Option<&Id>,
-        context: &mut Context<'_>,
-    ) {
-        if notification != Notification::Entered {
+    fn observe(&mut self, notice: Notification, span: Option<&Id>, context: &mut Context<'_>) {
+        if notice != Notification::Entered {
             return;
         }
         let Some(span) = span else {

@@ -59,15 +59,10 @@ impl Observer for Entries {
 
     ghost keys = { λ x key. key == x.key.0 };
 
-    fn settle(&mut self, _notification: Notification) {}
+    fn settle(&mut self, _notice: Notification) {}
 
-    fn observe(
-        &mut self,
-        notification: Notification,
-        span: Option<&Id>,
-        context: &mut Context<'_>,
-    ) {
-        match (notification, span) {
+    fn observe(&mut self, notice: Notification, span: Option<&Id>, context: &mut Context<'_>) {
+        match (notice, span) {
             (Notification::Happened | Notification::Entered, Some(span)) => {
                 self.count(span, context);
             }

@@ -1,4 +1,4 @@
-// Stacks.
+// Each call of a stack, and what its outputs are told.
 mod cache_validity;
 mod caching;
 mod calls;

@@ -1,4 +1,4 @@
-// The registry.
+// Each call of a registry of spans.
 mod filtered_spans;
 mod lookups;
 

@@ -1,4 +1,4 @@
-// Stacks of other filters.
+// Stacks whose filters are closures, combined filters or boxes.
 use super::*;
 use crate::{And, FilterFn};
 

@@ -1,4 +1,4 @@
-// Stacks in a hub.
+// What a hub keeps of a stack.
 use super::*;
 use tracing_core::Dispatch;
 
