@@ -13,20 +13,10 @@ use Rattle.tracing_appender_rolling.specs.Writes.{taken_by, Takes, WroteAll}
 use Rattle.tracing_appender_rolling.proofs.PeriodFacts.{own_not_due}
 use Rattle.tracing_appender_batch.specs.declared.step.Written.{Written}
 use Rattle.tracing_appender_batch.specs.declared.step.Written.TheVariants.{Whole, Failed, Missed}
-use Rattle.tracing_appender_batch.specs.Steps.{is_whole, last_whole, LineTo, LinesTo, with_flush, flushed_if, IsAlike, AllWhole, FoldersMayBeCut}
+use Rattle.tracing_appender_batch.specs.Steps.{is_whole, last_whole, LineTo, LinesTo, with_flush, flushed_if, IsNear, IsAlike, AllWhole, FoldersMayBeCut}
 
 alike_self : (h : Held) → IsAlike h h
-alike_self h = record { until = refl; open_file = refl; counts = refl; files = refl; links = refl; open_files = refl; dirs = refl; flushes = refl }
-
--- the same, whatever was flushed last
-record IsNear (h k : Held) : Type 0 where
-  pub until : h.boundary ≡ k.boundary
-  pub open_file : h.current ≡ k.current
-  pub counts : h.faults ≡ k.faults
-  pub files : h.contents.files ≡ k.contents.files
-  pub links : h.contents.links ≡ k.contents.links
-  pub open_files : h.contents.open_files ≡ k.contents.open_files
-  pub dirs : h.contents.has_dirs ≡ k.contents.has_dirs
+alike_self h = record { near = record { until = refl; open_file = refl; counts = refl; files = refl; links = refl; open_files = refl; dirs = refl }; flushes = refl }
 
 -- a flush that isn't refused
 abbrev flush_done : Held → Held
@@ -39,7 +29,7 @@ flush_sound h sound = ap (λ (o : Outcome). record h { contents = (if_refused o 
 near_flushed : (h k : Held) → IsNear h k → IsSound h.contents → IsSound k.contents → IsAlike (with_flush h) (with_flush k)
 near_flushed h k x sound_h sound_k =
     let done : IsAlike (flush_done h) (flush_done k) =
-    record { until = x.until; open_file = x.open_file; counts = x.counts; files = x.files; links = x.links; open_files = x.open_files; dirs = x.dirs; flushes = ap (λ (f : FileNumber). Some f.index) x.open_file } in
+    record { near = record { until = x.until; open_file = x.open_file; counts = x.counts; files = x.files; links = x.links; open_files = x.open_files; dirs = x.dirs }; flushes = ap (λ (f : FileNumber). Some f.index) x.open_file } in
     subst (λ (y : Held). IsAlike y (with_flush k)) (sym (flush_sound h sound_h)) (subst (IsAlike (flush_done h)) (sym (flush_sound k sound_k)) done)
 
 lines_both : (names : FileNames) (m : Moment) (h middle last : Held) (xs ys : List (List ℕ)) (one two : List Written) → LinesTo names m h xs one middle → LinesTo names m middle ys two last → LinesTo names m h (xs ++ ys) (one ++ two) last

@@ -97,8 +97,8 @@ abbrev pub StepsHaveOneEnd : Type 0
 StepsHaveOneEnd = (names : FileNames) (m : Moment) (h last other : Held) (lines : List (List ℕ)) (one two : List Written) → missed_in one ≡ 0 → missed_in two ≡ 0 →
     LinesTo names m h lines one last → LinesTo names m h lines two other → (one ≡ two) × (last ≡ other)
 
--- these stand for the same: file, end of the period, count of faults, and the folder but for its coming calls
-pub record IsAlike (h k : Held) : Type 0 where
+-- these stand for the same, whatever was flushed last: file, end of the period, count of faults, and the folder but for its coming calls
+pub record IsNear (h k : Held) : Type 0 where
   pub until : h.boundary ≡ k.boundary
   pub open_file : h.current ≡ k.current
   pub counts : h.faults ≡ k.faults
@@ -106,6 +106,10 @@ pub record IsAlike (h k : Held) : Type 0 where
   pub links : h.contents.links ≡ k.contents.links
   pub open_files : h.contents.open_files ≡ k.contents.open_files
   pub dirs : h.contents.has_dirs ≡ k.contents.has_dirs
+
+-- these stand for the same
+pub record IsAlike (h k : Held) : Type 0 where
+  pub near : IsNear h k
   pub flushes : h.contents.last_flushed ≡ k.contents.last_flushed
 
 -- all were written whole

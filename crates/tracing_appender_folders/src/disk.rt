@@ -2,9 +2,8 @@
 
 ghost use Rattle.std.specs.Prelude.{◌≡◌, ◌≤◌, ◌+◌, ◌-◌, ◌^◌, min, length, IfOk};
 ghost use Rattle.tracing_appender_folders.specs.Contents.{failures_after};
-ghost use Rattle.tracing_appender_folders.specs.Listings.{listed_all};
 
-use crate::fault::{Entry, FileNumber, FolderError, FolderFault};
+use crate::fault::{Entry, FileNumber, FolderError, FolderFault, failures_after};
 use crate::folder::Folder;
 use std::fs::{self, OpenOptions};
 use std::io::{ErrorKind, Write};
@@ -53,21 +52,7 @@ impl<R: Files + AllocGlobal + Clone + Drop> DiskFolder<R> {
         ensures result { result ≡ answer }
         ensures count { self.new.failures ≡ failures_after self.old.failures answer }
     {
-        if let Err(FolderError::Fault(_)) = &answer {
-            self.failures = self.failures.saturating_add(1);
-        }
-        answer
-    }
-
-    fn told_list(
-        &mut self,
-        answer: Result<Vec<Entry>, FolderError>,
-    ) -> Result<Vec<Entry>, FolderError>
-        ensures { self.new.failures ≡ failures_after self.old.failures (listed_all result) }
-    {
-        if let Err(FolderError::Fault(_)) = &answer {
-            self.failures = self.failures.saturating_add(1);
-        }
+        self.failures = failures_after(self.failures, &answer);
         answer
     }
 
@@ -217,7 +202,7 @@ impl<R: Files + AllocGlobal + Clone + Drop> Folder for DiskFolder<R> {
 
     fn list(&mut self) -> Result<Vec<Entry>, FolderError> {
         let answer = self.entries();
-        self.told_list(answer)
+        self.told(answer)
     }
 
     fn remove(&mut self, name: &str) -> Result<(), FolderError> {

@@ -15,35 +15,35 @@ pub(crate) fn add_entry<'a>(
 ) -> Result<(), AllocError>
     ensures { OnOk result (entries.new.items ≡ with_entry entry.entry entries.old.items) }
 {
-    let place = place_among(entries.as_slice(), entry.name);
-    if has_name_at(entries.as_slice(), place, entry.name) {
+    let index = index_among(entries.as_slice(), entry.name);
+    if has_name_at(entries.as_slice(), index, entry.name) {
         return Ok(());
     }
-    entries.insert(place, entry)?;
+    entries.insert(index, entry)?;
     Ok(())
 }
 
 /// How many first entries come before a name.
-fn place_among(entries: &[FileEntry<'_>], name: &str) -> usize
+fn index_among(entries: &[FileEntry<'_>], name: &str) -> usize
     ensures bound { result ≤ length entries.now }
     ensures before { (k : ℕ) (d : FileEntry) → k < result → comes_before (slice_index_or entries.now k d) name.now ≡ true }
     ensures at { (d : FileEntry) → result < length entries.now → comes_before (slice_index_or entries.now result d) name.now ≡ false }
 {
-    for (place, entry) in entries.iter().enumerate() {
+    for (index, entry) in entries.iter().enumerate() {
         if entry.name >= name {
-            return place;
+            return index;
         }
     }
     entries.len()
 }
 
-/// Whether an entry stands at the place and has the name.
-fn has_name_at(entries: &[FileEntry<'_>], place: usize, name: &str) -> bool
-    ensures bound { result ≡ true → place < length entries.now }
-    ensures same { (d : FileEntry) → result ≡ true → bytes_eq (slice_index_or entries.now place d).name.now name.now ≡ true }
-    ensures differs { (d : FileEntry) → result ≡ false → place < length entries.now → bytes_eq (slice_index_or entries.now place d).name.now name.now ≡ false }
+/// Whether an entry stands at the index and has the name.
+fn has_name_at(entries: &[FileEntry<'_>], index: usize, name: &str) -> bool
+    ensures bound { result ≡ true → index < length entries.now }
+    ensures same { (d : FileEntry) → result ≡ true → bytes_eq (slice_index_or entries.now index d).name.now name.now ≡ true }
+    ensures differs { (d : FileEntry) → result ≡ false → index < length entries.now → bytes_eq (slice_index_or entries.now index d).name.now name.now ≡ false }
 {
-    match entries.get(place) {
+    match entries.get(index) {
         Some(entry) => entry.name == name,
         None => false,
     }

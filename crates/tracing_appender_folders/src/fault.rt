@@ -1,6 +1,7 @@
 //! Why a folder refuses a call.
 
 ghost use Rattle.std.specs.Prelude.{◌≡◌};
+ghost use Rattle.tracing_appender_folders.specs.Contents.{failures_after};
 ghost use Rattle.tracing_appender_folders.specs.declared.fault.FolderError.TheVariants.{OutOfMemory};
 
 use crate::moment::Moment;
@@ -42,6 +43,16 @@ impl<T: Drop> From<AllocFailed<T>> for FolderError {
 
     fn from(_: AllocFailed<T>) -> FolderError {
         FolderError::OutOfMemory
+    }
+}
+
+/// The count of faults after an answer: a fault raises it, up to the greatest number.
+pub(crate) fn failures_after<T>(failures: u64, answer: &Result<T, FolderError>) -> u64
+    ensures { result ≡ failures_after failures answer.now }
+{
+    match answer {
+        Err(FolderError::Fault(_)) => failures.saturating_add(1),
+        Ok(_) | Err(FolderError::OutOfMemory) => failures,
     }
 }
 

@@ -4,7 +4,7 @@ ghost use Rattle.std.specs.Prelude.{◌≡◌, [], min, if◌then◌else◌};
 ghost use Rattle.tracing_appender_folders.specs.Contents.{failures_after};
 ghost use Rattle.tracing_appender_folders.specs.Faulty.{has_number};
 
-use crate::fault::{Entry, FileNumber, FolderError, FolderFault};
+use crate::fault::{Entry, FileNumber, FolderError, FolderFault, failures_after};
 use crate::folder::Folder;
 use crate::memory::MemoryFolder;
 
@@ -92,9 +92,7 @@ impl FaultyFolder {
         ensures result { result ≡ answer }
         ensures count { self.new ≡ record self.old { failures = failures_after self.old.failures answer } }
     {
-        if let Err(FolderError::Fault(_)) = &answer {
-            self.failures = self.failures.saturating_add(1);
-        }
+        self.failures = failures_after(self.failures, &answer);
         answer
     }
 

@@ -41,31 +41,25 @@ to_no_earlier a b e = by_case (int_le b.seconds a.seconds) (int_le a.seconds b.s
     by_case true true true h k l f = cc
     by_case true true false h k l f = inr (omega (arith, signed_arith, h, k), ltb-false a.nanoseconds b.nanoseconds l)
 
+earlier_clash : (a b : Moment) → NoEarlier a b → Earlier a b → ⊥
+earlier_clash a b (inl x) (inl y) = omega (arith, signed_arith, x, y)
+earlier_clash a b (inl x) (inr (same, less)) = omega (arith, signed_arith, x, same)
+earlier_clash a b (inr (same, le)) (inl y) = omega (arith, signed_arith, y, same)
+earlier_clash a b (inr (same, le)) (inr (again, less)) = omega (arith, le, less)
+
 from_earlier : (a b : Moment) → Earlier a b → is_earlier a b ≡ true
 from_earlier a b e = by_case (is_earlier a b) refl
   where
-    clash : NoEarlier a b → Earlier a b → is_earlier a b ≡ true
-    clash (inl x) (inl y) = absurd (omega (arith, signed_arith, x, y))
-    clash (inl x) (inr (same, less)) = absurd (omega (arith, signed_arith, x, same))
-    clash (inr (same, le)) (inl y) = absurd (omega (arith, signed_arith, y, same))
-    clash (inr (same, le)) (inr (again, less)) = absurd (omega (arith, le, less))
-
     by_case : (t : Bool) → is_earlier a b ≡ t → is_earlier a b ≡ true
     by_case true h = h
-    by_case false h = clash (to_no_earlier a b h) e
+    by_case false h = absurd (earlier_clash a b (to_no_earlier a b h) e)
 
 from_no_earlier : (a b : Moment) → NoEarlier a b → is_earlier a b ≡ false
 from_no_earlier a b e = by_case (is_earlier a b) refl
   where
-    clash : NoEarlier a b → Earlier a b → is_earlier a b ≡ false
-    clash (inl x) (inl y) = absurd (omega (arith, signed_arith, x, y))
-    clash (inl x) (inr (same, less)) = absurd (omega (arith, signed_arith, x, same))
-    clash (inr (same, le)) (inl y) = absurd (omega (arith, signed_arith, y, same))
-    clash (inr (same, le)) (inr (again, less)) = absurd (omega (arith, le, less))
-
     by_case : (t : Bool) → is_earlier a b ≡ t → is_earlier a b ≡ false
     by_case false h = h
-    by_case true h = clash e (to_earlier a b h)
+    by_case true h = absurd (earlier_clash a b e (to_earlier a b h))
 
 -- one candidate before another
 abbrev pub NameBefore : PlainCandidate → PlainCandidate → Type 0

@@ -2,13 +2,10 @@
 use Rattle.std.proofs.Common.{◌≡◌, ℕ, ◌+◌, ◌<◌, ◌≤◌, List, [], Option, Some, None, Result, Ok, Err, IsErrAnd, length, drop, filter_map, get_or, ap, subst, sym, ◌∙◌}
 use Rattle.std.specs.List.{cons_option, enumerate_from}
 use Rattle.std.proofs.lemmas.List.{drop_more, drop_all}
-use Rattle.tracing_core_fields.specs.OwnedValues.{indexed_entry, indexed_entries}
 use Rattle.tracing_core_fields.specs.PlainField.{PlainField}
 use Rattle.tracing_core_fields.specs.PlainValue.{PlainValue}
-use Rattle.tracing_core_fields.specs.Values.{given_entry, given_entries, placed_entry}
+use Rattle.tracing_core_fields.specs.Values.{placed_entry}
 use Rattle.tracing_core_fields.specs.Visits.{TakesIfThere, Visits, all_taken, taken, refused}
-use Rattle.tracing_core_fields.specs.declared.field.Field.{Field}
-use Rattle.tracing_core_fields.specs.declared.owned_value.FieldValue.{FieldValue}
 use Rattle.tracing_core_fields.specs.declared.value_set.AnyValue.{AnyValue}
 
 -- a refusal that is handed on as it is
@@ -17,30 +14,12 @@ same_refusal (Ok x) error is = absurd is
 same_refusal (Err e) error is = ap Err is
 
 -- the entries from a place on
-pub given_more : (callsite : ℕ) (entries : List (Field × Option AnyValue)) (i : ℕ) (entry : Field × Option AnyValue) → i < length entries → entry ≡ get_or entries i entry →
-    given_entries callsite (drop i entries) ≡ cons_option (given_entry callsite entry) (given_entries callsite (drop (i + 1) entries))
-given_more callsite entries i entry below is =
-    ap (given_entries callsite) (drop_more entries i entry below)
-    ∙ ap (λ e. cons_option (given_entry callsite e) (given_entries callsite (drop (i + 1) entries))) (sym is)
-
-pub given_none : (callsite : ℕ) (entries : List (Field × Option AnyValue)) (i : ℕ) → length entries ≤ i → given_entries callsite (drop i entries) ≡ []
-given_none callsite entries i past = ap (given_entries callsite) (drop_all i entries past)
-
 pub placed_more : (values : List (Option AnyValue)) (i : ℕ) → i < length values →
     filter_map placed_entry (enumerate_from i (drop i values)) ≡ cons_option (placed_entry (i, get_or values i None)) (filter_map placed_entry (enumerate_from (i + 1) (drop (i + 1) values)))
 placed_more values i below = ap (λ left. filter_map placed_entry (enumerate_from i left)) (drop_more values i None below)
 
 pub placed_none : (values : List (Option AnyValue)) (i : ℕ) → length values ≤ i → filter_map placed_entry (enumerate_from i (drop i values)) ≡ []
 placed_none values i past = ap (λ left. filter_map placed_entry (enumerate_from i left)) (drop_all i values past)
-
-pub indexed_more : (count : ℕ) (values : List FieldValue) (i : ℕ) (given : FieldValue) → i < length values → given ≡ get_or values i given →
-    indexed_entries count (drop i values) ≡ cons_option (indexed_entry count given) (indexed_entries count (drop (i + 1) values))
-indexed_more count values i given below is =
-    ap (indexed_entries count) (drop_more values i given below)
-    ∙ ap (λ v. cons_option (indexed_entry count v) (indexed_entries count (drop (i + 1) values))) (sym is)
-
-pub indexed_none : (count : ℕ) (values : List FieldValue) (i : ℕ) → length values ≤ i → indexed_entries count (drop i values) ≡ []
-indexed_none count values i past = ap (indexed_entries count) (drop_all i values past)
 
 module _ {V E : Type 0} (takes : V → PlainField → PlainValue → Result (Unit {0}) E → V → Type 0) (callsite : ℕ) (names : List (List ℕ)) where
   -- a visit of what is left, by the visitor as it is now, ends the visit of all from the start
@@ -72,3 +51,20 @@ module _ {V E : Type 0} (takes : V → PlainField → PlainValue → Result (Uni
   -- nothing is left
   pub leads_to_end : (left all : List (ℕ × PlainValue)) (now start : V) → left ≡ [] → Leads left now all start → Visits takes callsite names all start (Ok tt) now
   leads_to_end left all now start is leads = leads (Ok tt) now (subst (λ l. Visits takes callsite names l now (Ok tt) now) (sym is) all_taken)
+
+  -- the same of a list whose elements give the entries, at each element in turn
+  module _ {A : Type 0} (entry_of : A → Option (ℕ × PlainValue)) (all : List A) (i : ℕ) (item : A) (below : i < length all) (is : item ≡ get_or all i item) (now start : V) where
+    abbrev pub entries : List A → List (ℕ × PlainValue)
+    entries xs = filter_map entry_of xs
+
+    more : entries (drop i all) ≡ cons_option (entry_of item) (entries (drop (i + 1) all))
+    more = ap (filter_map entry_of) (drop_more all i item below) ∙ ap (λ x. cons_option (entry_of x) (entries (drop (i + 1) all))) (sym is)
+
+    pub item_on : (next : V) → TakesIfThere takes callsite names (entry_of item) now (Ok tt) next → Leads (entries (drop i all)) now (entries all) start → Leads (entries (drop (i + 1) all)) next (entries all) start
+    item_on next call leads = leads_on (entries (drop i all)) (entries (drop (i + 1) all)) (entries all) now next start (entry_of item) more call leads
+
+    pub item_out : (after : V) (error : E) (answer : Result (Unit {0}) E) → TakesIfThere takes callsite names (entry_of item) now (Err error) after → answer ≡ Err error → Leads (entries (drop i all)) now (entries all) start → Visits takes callsite names (entries all) start answer after
+    item_out after error answer call same leads = leads_out (entries (drop i all)) (entries (drop (i + 1) all)) (entries all) now after start (entry_of item) error answer more call same leads
+
+  pub items_end : {A : Type 0} (entry_of : A → Option (ℕ × PlainValue)) (all : List A) (i : ℕ) (now start : V) → length all ≤ i → Leads (filter_map entry_of (drop i all)) now (filter_map entry_of all) start → Visits takes callsite names (filter_map entry_of all) start (Ok tt) now
+  items_end entry_of all i now start past leads = leads_to_end (filter_map entry_of (drop i all)) (filter_map entry_of all) now start (ap (filter_map entry_of) (drop_all i all past)) leads

@@ -52,14 +52,14 @@ impl<'a> FieldSet<'a> {
         ensures index { option_map field_index result ≡ index_of_name self.now name.now }
         ensures set { IfSome result (λ field. set_of_field field ≡ self.now) }
     {
-        let index = self.names.place_of(name)?;
+        let index = self.names.index_of(name)?;
         Some(Field {
             index,
             fields: *self,
         })
     }
 
-    /// Whether the field is one of this set: it has the set's callsite, and a place below the set's length.
+    /// Whether the field is one of this set: it has the set's callsite, and an index below the set's length.
     pub fn contains(&self, field: &Field<'_>) -> bool
         ensures { IsTrue result ↔ ((field_callsite field.now ≡ set_callsite self.now)
             × (field_index field.now < length (field_names self.now))) }
@@ -67,19 +67,19 @@ impl<'a> FieldSet<'a> {
         field.callsite() == self.callsite && field.index < self.names.len()
     }
 
-    // The field at the place.
-    pub(crate) fn at(&self, place: usize) -> Field<'a>
-        requires { place < length (field_names self.now) }
-        ensures { IsFieldAt (set_callsite self.now) (field_names self.now) place (plain_field result) }
+    // The field at the index.
+    pub(crate) fn at(&self, index: usize) -> Field<'a>
+        requires { index < length (field_names self.now) }
+        ensures { IsFieldAt (set_callsite self.now) (field_names self.now) index (plain_field result) }
     {
         Field {
-            index: place,
+            index,
             fields: *self,
         }
     }
 
-    // The field of this set at the place of the field, which has the set's callsite. Where the set has no
-    // such place, the field itself.
+    // The field of this set at the index of the field, which has the set's callsite. Where the set has no
+    // such index, the field itself.
     pub(crate) fn own(&self, field: &Field<'a>) -> Field<'a>
         requires { field_callsite field.now ≡ set_callsite self.now }
         ensures { IsFieldAt (set_callsite self.now) (field_names self.now) (field_index field.now) (plain_field result) }
@@ -191,7 +191,7 @@ impl<'a> Field<'a> {
         self.fields.names.name(self.index)
     }
 
-    /// The place of the field in its set.
+    /// The index of the field in its set.
     pub fn index(&self) -> usize
         ensures value { result ≡ field_index self.now }
         ensures range { result < length (field_names (set_of_field self.now)) }

@@ -15,20 +15,20 @@ pub(crate) enum Names<'a> {
     Owned(&'a [String]),
 }
 
-// The name at the place of names that are lent.
-fn lent_name<'a>(names: &'a [&'a str], place: usize) -> &'a str
-    requires { place < length (map (λ name. name.now) names.now) }
-    ensures { result.now ≡ slice_index_or (map (λ name. name.now) names.now) place [] }
+// The name at the index of names that are lent.
+fn lent_name<'a>(names: &'a [&'a str], index: usize) -> &'a str
+    requires { index < length (map (λ name. name.now) names.now) }
+    ensures { result.now ≡ slice_index_or (map (λ name. name.now) names.now) index [] }
 {
-    names[place]
+    names[index]
 }
 
-// The name at the place of names that are owned.
-fn owned_name(names: &[String], place: usize) -> &str
-    requires { place < length (map string_bytes names.now) }
-    ensures { result.now ≡ slice_index_or (map string_bytes names.now) place [] }
+// The name at the index of names that are owned.
+fn owned_name(names: &[String], index: usize) -> &str
+    requires { index < length (map string_bytes names.now) }
+    ensures { result.now ≡ slice_index_or (map string_bytes names.now) index [] }
 {
-    names[place].as_str()
+    names[index].as_str()
 }
 
 impl<'a> Names<'a> {
@@ -42,25 +42,25 @@ impl<'a> Names<'a> {
         }
     }
 
-    // The name at the place.
-    pub(crate) fn name(&self, place: usize) -> &'a str
-        requires { place < length (names_in self.now) }
-        ensures { result.now ≡ slice_index_or (names_in self.now) place [] }
+    // The name at the index.
+    pub(crate) fn name(&self, index: usize) -> &'a str
+        requires { index < length (names_in self.now) }
+        ensures { result.now ≡ slice_index_or (names_in self.now) index [] }
     {
         match self {
-            Names::Lent(names) => lent_name(names, place),
-            Names::Owned(names) => owned_name(names, place),
+            Names::Lent(names) => lent_name(names, index),
+            Names::Owned(names) => owned_name(names, index),
         }
     }
 
-    // The place of the first name that is this one.
-    pub(crate) fn place_of(&self, name: &str) -> Option<usize>
+    // The index of the first name that is this one.
+    pub(crate) fn index_of(&self, name: &str) -> Option<usize>
         ensures value { result ≡ position_from (λ other. bytes_eq other name.now) 0 (names_in self.now) }
-        ensures bound { IfSome result (λ place. place < length (names_in self.now)) }
+        ensures bound { IfSome result (λ index. index < length (names_in self.now)) }
     {
-        for place in 0..self.len() {
-            if self.name(place) == name {
-                return Some(place);
+        for index in 0..self.len() {
+            if self.name(index) == name {
+                return Some(index);
             }
         }
         None
@@ -73,29 +73,29 @@ impl<'a> Names<'a> {
         if self.len() != others.len() {
             return false;
         }
-        for place in 0..self.len() {
-            if self.name(place) != others.name(place) {
+        for index in 0..self.len() {
+            if self.name(index) != others.name(index) {
                 return false;
             }
         }
         true
     }
 
-    // Writes a comma, and then the name at the place.
-    fn write_later<W: fmt::Write>(&self, place: usize, f: &mut fmt::Formatter<W>) -> fmt::Result
-        requires { place < length (names_in self.now) }
-        ensures { WritesOnOk W.write_str_gives f.old result (comma_space ++ slice_index_or (names_in self.now) place []) f.new }
+    // Writes a comma, and then the name at the index.
+    fn write_later<W: fmt::Write>(&self, index: usize, f: &mut fmt::Formatter<W>) -> fmt::Result
+        requires { index < length (names_in self.now) }
+        ensures { WritesOnOk W.write_str_gives f.old result (comma_space ++ slice_index_or (names_in self.now) index []) f.new }
     {
         f.write_str(", ")?;
-        f.write_str(self.name(place))
+        f.write_str(self.name(index))
     }
 
     // Writes the names after the first, a comma before each.
     fn write_all_later<W: fmt::Write>(&self, f: &mut fmt::Formatter<W>) -> fmt::Result
         ensures { WritesOnOk W.write_str_gives f.old result (flat_map (λ name. comma_space ++ name) (drop 1 (names_in self.now))) f.new }
     {
-        for place in 1..self.len() {
-            self.write_later(place, f)?;
+        for index in 1..self.len() {
+            self.write_later(index, f)?;
         }
         Ok(())
     }

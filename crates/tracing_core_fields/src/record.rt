@@ -68,18 +68,18 @@ fn record_given<'a, V: Visit>(
     Ok(())
 }
 
-// Hands on the value of the field at the place.
+// Hands on the value of the field at the index.
 fn record_at<V: Visit>(
     fields: &FieldSet<'_>,
-    place: usize,
+    index: usize,
     value: &Option<AnyValue<'_>>,
     visitor: &mut V,
 ) -> Result<(), V::Error>
-    requires { place < length (field_names fields.now) }
+    requires { index < length (field_names fields.now) }
     ensures { TakesIfThere V.takes (set_callsite fields.now) (field_names fields.now)
-        (placed_entry (place, value.now)) visitor.old result visitor.new }
+        (placed_entry (index, value.now)) visitor.old result visitor.new }
 {
-    record_value(visitor, &fields.at(place), value)
+    record_value(visitor, &fields.at(index), value)
 }
 
 // Visits the fields of the set whose values are given in order.
@@ -92,8 +92,8 @@ fn record_placed<V: Visit>(
     ensures { Visits V.takes (set_callsite fields.now) (field_names fields.now)
         (placed_entries values.now) visitor.old result visitor.new }
 {
-    for (place, value) in values.iter().enumerate() {
-        record_at(fields, place, value, visitor)?;
+    for (index, value) in values.iter().enumerate() {
+        record_at(fields, index, value, visitor)?;
     }
     Ok(())
 }
@@ -133,7 +133,7 @@ impl ValueSet<'_> {
     /// Hands the values to the visitor, in order, up to its first refusal, which is the answer.
     ///
     /// Absent values, [`AnyValue::Empty`] and the fields of other callsites are passed over. Each field
-    /// that the visitor meets is the set's own field at that place.
+    /// that the visitor meets is the set's own field at that index.
     pub fn record<V: Visit>(&self, visitor: &mut V) -> Result<(), V::Error>
         ensures { Visits V.takes (set_callsite (fields_of_values self.now)) (field_names (fields_of_values self.now))
             (entries_of self.now) visitor.old result visitor.new }

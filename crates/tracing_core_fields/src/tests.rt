@@ -7,7 +7,7 @@ mod visits;
 const NAMES: [&str; 3] = ["message", "count", "count"];
 
 /// Texts, each with the level and the filter that it is read as.
-fn level_texts() -> [(&'static str, Option<Level>, Option<LevelFilter>); 24] {
+fn level_texts() -> [(&'static str, Option<Level>, Option<LevelFilter>); 28] {
     [
         ("ERROR", Some(Level::ERROR), Some(LevelFilter::ERROR)),
         ("Error", Some(Level::ERROR), Some(LevelFilter::ERROR)),
@@ -33,26 +33,18 @@ fn level_texts() -> [(&'static str, Option<Level>, Option<LevelFilter>); 24] {
         ("+", None, None),
         ("inf", None, None),
         ("18446744073709551619", None, None),
+        (" 3", None, None),
+        ("3 ", None, None),
+        (" off", None, None),
+        ("none", None, None),
     ]
 }
 
 #[test]
-fn levels_parse(rt: HostRuntime) {
-    for (text, want, _filter) in level_texts() {
-        assert_eq!(rt; text.parse::<Level>().ok(), want, "at {text}");
-    }
-    for text in [" 3", "3 ", " off", "none"] {
-        assert_eq!(rt; text.parse::<Level>().ok(), None, "at {text}");
-    }
-}
-
-#[test]
-fn filters_parse(rt: HostRuntime) {
-    for (text, _level, want) in level_texts() {
-        assert_eq!(rt; text.parse::<LevelFilter>().ok(), want, "at {text}");
-    }
-    for text in [" 3", "3 ", " off", "none"] {
-        assert_eq!(rt; text.parse::<LevelFilter>().ok(), None, "at {text}");
+fn levels_and_filters_parse(rt: HostRuntime) {
+    for (text, level, filter) in level_texts() {
+        assert_eq!(rt; text.parse::<Level>().ok(), level, "at {text}");
+        assert_eq!(rt; text.parse::<LevelFilter>().ok(), filter, "at {text}");
     }
 }
 

@@ -164,39 +164,39 @@ fn lacks_indexed(count: usize, values: &[FieldValue]) -> bool
     true
 }
 
-// Whether the field of the callsite at the place has a value.
+// Whether the field of the callsite at the index has a value.
 fn has_given(
     callsite: Identifier,
-    place: usize,
+    index: usize,
     entries: &[(Field<'_>, Option<AnyValue<'_>>)],
 ) -> bool
-    ensures { result ≡ has_entry place (given_entries callsite.0 entries.now) }
+    ensures { result ≡ has_entry index (given_entries callsite.0 entries.now) }
 {
     for entry in entries {
-        if entry.0.callsite() == callsite && entry.0.index() == place && is_present(&entry.1) {
+        if entry.0.callsite() == callsite && entry.0.index() == index && is_present(&entry.1) {
             return true;
         }
     }
     false
 }
 
-// Whether the value at the place is present.
-fn has_placed(place: usize, values: &[Option<AnyValue<'_>>]) -> bool
-    ensures { result ≡ has_entry place (placed_entries values.now) }
+// Whether the value at the index is present.
+fn has_placed(index: usize, values: &[Option<AnyValue<'_>>]) -> bool
+    ensures { result ≡ has_entry index (placed_entries values.now) }
 {
-    match values.get(place) {
+    match values.get(index) {
         Some(value) => is_present(value),
         None => false,
     }
 }
 
-// Whether the field at the place, which is below the count, has a value.
-fn has_indexed(count: usize, place: usize, values: &[FieldValue]) -> bool
-    ensures { result ≡ has_entry place (indexed_entries count values.now) }
+// Whether the field at the index, which is below the count, has a value.
+fn has_indexed(count: usize, index: usize, values: &[FieldValue]) -> bool
+    ensures { result ≡ has_entry index (indexed_entries count values.now) }
 {
     for given in values {
         let is_shown = given.field < count && !matches!(given.value, OwnedValue::Empty);
-        if is_shown && given.field == place {
+        if is_shown && given.field == index {
             return true;
         }
     }
@@ -244,19 +244,19 @@ impl<'a> ValueSet<'a> {
     pub fn contains(&self, field: &Field<'_>) -> bool
         ensures { result ≡ has_value self.now field.now }
     {
-        field.callsite() == self.callsite() && self.has_place(field.index())
+        field.callsite() == self.callsite() && self.has_index(field.index())
     }
 
-    // Whether its own field at the place has a value.
-    fn has_place(&self, place: usize) -> bool
-        ensures { result ≡ has_entry place (entries_of self.now) }
+    // Whether its own field at the index has a value.
+    fn has_index(&self, index: usize) -> bool
+        ensures { result ≡ has_entry index (entries_of self.now) }
     {
         match self.values {
-            Values::Explicit(entries) => has_given(self.callsite(), place, entries),
+            Values::Explicit(entries) => has_given(self.callsite(), index, entries),
             Values::All(values) => {
-                has_placed(place, &values[..self.fields.len().min(values.len())])
+                has_placed(index, &values[..self.fields.len().min(values.len())])
             }
-            Values::Indexed(values) => has_indexed(self.fields.len(), place, values),
+            Values::Indexed(values) => has_indexed(self.fields.len(), index, values),
         }
     }
 }

@@ -5,6 +5,6 @@ use Rattle.tracing_core_fields.specs.FieldSet.{field_names, set_callsite}
 use Rattle.tracing_core_fields.specs.Values.{placed_entry, placed_entries}
 use Rattle.tracing_core_fields.proofs.record.record_placed.Given as goal
 
-abbrev pub invariant-loop-place : goal.invariant-loop-place
-invariant-loop-place g l =
-    Leads g.V.Visit.takes (set_callsite l.fields) (field_names l.fields) (filter_map placed_entry (enumerate_from l.place (drop l.place l.values))) l.visitor (placed_entries l.values) l.initial.visitor
+abbrev pub invariant-loop-index : goal.invariant-loop-index
+invariant-loop-index g l =
+    Leads g.V.Visit.takes (set_callsite l.fields) (field_names l.fields) (filter_map placed_entry (enumerate_from l.index (drop l.index l.values))) l.visitor (placed_entries l.values) l.initial.visitor

@@ -4,6 +4,6 @@ use Rattle.std.specs.Str.{bytes_eq}
 use Rattle.tracing_core_fields.specs.Names.{names_in}
 use Rattle.tracing_core_fields.proofs.names.Names.are.Given as goal
 
-abbrev pub invariant-loop-place : goal.invariant-loop-place
-invariant-loop-place l =
-    pointwise bytes_eq (drop l.place (names_in l.self)) (drop l.place (names_in l.others)) ≡ pointwise bytes_eq (names_in l.self) (names_in l.others)
+abbrev pub invariant-loop-index : goal.invariant-loop-index
+invariant-loop-index l =
+    pointwise bytes_eq (drop l.index (names_in l.self)) (drop l.index (names_in l.others)) ≡ pointwise bytes_eq (names_in l.self) (names_in l.others)

@@ -5,8 +5,8 @@ use Rattle.tracing_core_fields.proofs.NamesLemmas.{later_more}
 use Rattle.tracing_core_fields.specs.Names.{names_in}
 use Rattle.tracing_core_fields.proofs.names.Names.write_all_later.Goals as goal
 
-pub loop-place-preserved : goal.loop-place-preserved
-loop-place-preserved g c = λ plain.
-    let before = c.loop-place.invariant plain in
+pub loop-index-preserved : goal.loop-index-preserved
+loop-index-preserved g c = λ plain.
+    let before = c.loop-index.invariant plain in
     let now = c.in_ok-write_later.ensures before.plain refl in
-    put_two _ _ _ _ _ _ _ before now (later_more (λ name. comma_space ++ name) (names_in c.args.self.now) c.loop-place.place (omega arith) (omega arith))
+    put_two _ _ _ _ _ _ _ before now (later_more (λ name. comma_space ++ name) (names_in c.args.self.now) c.loop-index.index (omega arith) (omega arith))

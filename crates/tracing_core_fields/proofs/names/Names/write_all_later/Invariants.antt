@@ -4,6 +4,6 @@ use Rattle.std.specs.List.{flat_map}
 use Rattle.tracing_core_fields.specs.Names.{names_in}
 use Rattle.tracing_core_fields.proofs.names.Names.write_all_later.Given as goal
 
-abbrev pub invariant-loop-place : goal.invariant-loop-place
-invariant-loop-place g l =
-    IsPlainFormatter l.initial.f → HasWritten g.W.Write.write_str_gives l.initial.f (flat_map (λ name. comma_space ++ name) (drop 1 (take l.place (names_in l.self)))) l.f
+abbrev pub invariant-loop-index : goal.invariant-loop-index
+invariant-loop-index g l =
+    IsPlainFormatter l.initial.f → HasWritten g.W.Write.write_str_gives l.initial.f (flat_map (λ name. comma_space ++ name) (drop 1 (take l.index (names_in l.self)))) l.f
