@@ -1,9 +1,8 @@
 -- Days and seconds in range.
-use Rattle.std.proofs.Common.{◌≡◌, Bool, true, false, refl, ◌&&◌, arith, ℤ, pos, negsuc, ◌≤ℤ◌, FitsSigned, w64, to_z, of_z}
+use Rattle.std.proofs.Common.{◌≡◌, Bool, true, false, refl, ◌&&◌, arith, ℤ, pos, negsuc, ◌≤ℤ◌}
 use Rattle.std.specs.Prelude.{int_le}
 use Rattle.std.proofs.lemmas.Bool.{true_from_ne_false}
-use Rattle.std.proofs.lemmas.Int.{to_z-of_z}
-use Rattle.jiff_core.proofs.SignedLemmas.{signed_arith, fits_between}
+use Rattle.jiff_core.proofs.SignedLemmas.{signed_arith}
 use Rattle.tracing_appender_dates.specs.Days.{is_date, is_second}
 
 pub first_holds : (p q : Bool) → (p && q) ≡ true → p ≡ true

@@ -1,5 +1,5 @@
 -- Seconds, their days and clocks, and their stamps.
-use Rattle.std.proofs.Common.{arith, ◌≡◌, ◌≢◌, ◌∙◌, sym, ap, refl, true, pos, ◌+ℤ◌, ◌*ℤ◌, ◌<◌, ◌≤◌, ◌/◌, ◌%◌, ℕ, ℤ, List, [], ◌++◌}
+use Rattle.std.proofs.Common.{arith, ◌≡◌, ◌≢◌, ◌∙◌, sym, ap, refl, true, pos, ◌+ℤ◌, ◌*ℤ◌, ◌<◌, ◌/◌, ◌%◌, ℕ, ℤ, List, [], ◌++◌}
 use Rattle.std.proofs.lemmas.List.{append_cancel_right}
 use Rattle.jiff_core.proofs.SignedLemmas.{signed_arith}
 use Rattle.tracing_appender_dates.specs.declared.period.PeriodKind.{PeriodKind}

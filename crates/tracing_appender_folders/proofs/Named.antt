@@ -1,6 +1,5 @@
 -- Files in memory by name.
-use Rattle.std.proofs.Common.{◌≡◌, ℕ, zero, suc, ◌+◌, ◌<◌, ◌≤◌, Bool, true, false, List, [], ◌∷◌, ◌++◌, map, refl, sym, ap, ◌∙◌, string_bytes, arith, length, Some, None, get_or, set, drop, take, cond}
-use Rattle.std.proofs.lemmas.List.{at_drop_more, at_drop_all}
+use Rattle.std.proofs.Common.{◌≡◌, ℕ, zero, suc, ◌+◌, ◌<◌, ◌≤◌, Bool, true, false, List, [], ◌∷◌, ◌++◌, map, refl, sym, ap, ◌∙◌, string_bytes, arith, length, Some, get_or, set, take, cond}
 use Rattle.std.specs.List.{position_from}
 use Rattle.tracing_appender_folders.specs.declared.memory.MemoryFile.{MemoryFile}
 use Rattle.std.specs.List.{filter}
@@ -9,7 +8,7 @@ use Rattle.std.proofs.lemmas.List.{take_more}
 use Rattle.tracing_appender_folders.specs.declared.memory.MemoryLink.{MemoryLink}
 use Rattle.tracing_appender_folders.specs.declared.memory.MemoryFolder.{MemoryFolder}
 use Rattle.tracing_appender_folders.specs.Contents.{has_name, file_named, link_place, StoredFile, Listed, listing, listed_file, listed_link, appended, unnamed}
-use Rattle.tracing_appender_folders.specs.Memory.{kept_of, link_of, memory_contents, files_listed, links_listed, target_at}
+use Rattle.tracing_appender_folders.specs.Memory.{kept_of, link_of, memory_contents, files_listed, links_listed}
 
 position-map : {X Y : Type 0} (f : X → Y) (p : Y → Bool) (i : ℕ) (xs : List X) → position_from p i (map f xs) ≡ position_from (λ x. p (f x)) i xs
 position-map f p i [] = refl
@@ -17,22 +16,6 @@ position-map f p i (x ∷ xs) = ap (cond (p (f x)) (Some i)) (position-map f p (
 
 pub file_named-memory : (name : List ℕ) (files : List MemoryFile) → file_named name (map kept_of files) ≡ position_from (λ m. has_name name (kept_of m)) 0 files
 file_named-memory name files = position-map kept_of (has_name name) 0 files
-
--- one step of a search by place
-pub found_here : {X : Type 0} (t : X → Bool) (xs : List X) (i : ℕ) (d : X) → i < length xs → t (get_or xs i d) ≡ true → position_from t i (drop i xs) ≡ Some i
-found_here t xs i d lt holds = at_drop_more (position_from t i) xs i d lt ∙ ap (λ b. cond b (Some i) (position_from t (i + 1) (drop (i + 1) xs))) holds
-
-pub none_left : {X : Type 0} (t : X → Bool) (xs : List X) (i : ℕ) → length xs ≤ i → position_from t i (drop i xs) ≡ None
-none_left t xs i le = at_drop_all (position_from t i) xs i le
-
--- a place that a search gives lies within
-found_cases : {X : Type 0} (t : X → Bool) (k : ℕ) (xs : List X) (i : ℕ) → ((j : ℕ) → position_from t (k + 1) xs ≡ Some j → j < (k + 1) + length xs) → (b : Bool) → cond b (Some k) (position_from t (k + 1) xs) ≡ Some i → i < k + suc (length xs)
-found_cases t k xs i rest true e = let same : k ≡ i = cc in omega (arith, same)
-found_cases t k xs i rest false e = let h = rest i e in omega (arith, h)
-
-pub found_within : {X : Type 0} (t : X → Bool) (k : ℕ) (xs : List X) (i : ℕ) → position_from t k xs ≡ Some i → i < k + length xs
-found_within t k [] i e = cc
-found_within t k (x ∷ xs) i e = found_cases t k xs i (λ j h. found_within t (k + 1) xs j h) (t x) e
 
 -- a file in memory with more bytes
 pub appended-kept : (files : List MemoryFile) (i : ℕ) (old new : MemoryFile) (bytes : List ℕ) → i < length files → old ≡ get_or files i old → kept_of new ≡ record { name = string_bytes old.name; stands = old.stands; created = old.created; bytes = old.bytes.items ++ bytes } → map kept_of (set files i new) ≡ appended (map kept_of files) i bytes

@@ -1,7 +1,4 @@
-use Rattle.std.proofs.Common.{arith, refl, sym, map}
-use Rattle.std.proofs.lemmas.List.{length-map}
-use Rattle.tracing_appender_folders.specs.Contents.{has_name}
-use Rattle.tracing_appender_folders.specs.Memory.{kept_of}
+use Rattle.std.proofs.Common.{refl}
 use Rattle.tracing_appender_folders.proofs.Puts.{put_over, put_new, placed_over}
 use Rattle.tracing_appender_folders.proofs.memory.MemoryFolder.put.Goals as goal
 

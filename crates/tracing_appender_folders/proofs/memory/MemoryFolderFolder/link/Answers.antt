@@ -1,7 +1,6 @@
-use Rattle.std.proofs.Common.{arith, ap, sym, ◌∙◌, map, List, ℕ, ◌≡◌, false, set, string_bytes}
+use Rattle.std.proofs.Common.{ap, sym, ◌∙◌, map, List, ℕ, ◌≡◌, false, set, string_bytes}
 use Rattle.std.specs.Prelude.{is_some}
-use Rattle.std.specs.Str.{bytes_eq}
-use Rattle.std.proofs.lemmas.List.{length-map, map-set}
+use Rattle.std.proofs.lemmas.List.{map-set}
 use Rattle.tracing_appender_folders.specs.Contents.{file_named}
 use Rattle.tracing_appender_folders.specs.Memory.{kept_of, link_of, memory_contents}
 use Rattle.tracing_appender_folders.proofs.Wrapped.{linked_over}

@@ -1,7 +1,6 @@
-use Rattle.std.proofs.Common.{sym, arith, ap, refl, Some, List, map}
-use Rattle.std.proofs.lemmas.List.{length-map}
-use Rattle.tracing_appender_folders.specs.Memory.{kept_of, memory_contents}
-use Rattle.tracing_appender_folders.specs.Contents.{has_name, StoredFile}
+use Rattle.std.proofs.Common.{ap, refl, Some, List}
+use Rattle.tracing_appender_folders.specs.Memory.{memory_contents}
+use Rattle.tracing_appender_folders.specs.Contents.{StoredFile}
 use Rattle.tracing_appender_folders.proofs.Named.{unnamed-kept}
 use Rattle.tracing_appender_folders.proofs.memory.MemoryFolderFolder.remove.Goals as goal
 

@@ -14,7 +14,7 @@ use Rattle.tracing_appender_rolling.proofs.appender.RollingFileAppender.look.Goa
 
 pub returns-then-not-is_due-clause-ok : goal.returns-then-not-is_due-clause-ok
 returns-then-not-is_due-clause-ok g c = λ s k.
-    look_early (g.D.Folder.contents c.args.self.now.folder) (builder_names c.args.self.now.builder) c.args.self.now.boundary c.args.self.now.current s c.args.moment (sym c.is_due.ensures ∙ c.if-not-is_due.true) k
+    look_early _ _ _ _ s c.args.moment (sym c.is_due.ensures ∙ c.if-not-is_due.true) k
 
 pub returns-clause-ok : goal.returns-clause-ok
 returns-clause-ok g c = λ s k.
@@ -38,9 +38,7 @@ returns-in_err-switch-clause-err g c =
 
 pub returns-clause-unfaulted : goal.returns-clause-unfaulted
 returns-clause-unfaulted g c = λ d s is k.
-    let old = c.args.self.now in
-    let new = c.switch.new.self in
-    look_counts (builder_names old.builder) old.boundary old.current old.faults s c.args.moment c.requires (sym c.is_due.ensures ∙ c.if-not-is_due.false) AllocError d (g.D.Folder.contents old.folder) (g.D.Folder.contents new.folder) tt new.boundary new.current new.faults is c.in_ok-switch.ensures.switched k
+    look_counts _ _ _ _ s c.args.moment c.requires (sym c.is_due.ensures ∙ c.if-not-is_due.false) AllocError d _ _ tt _ _ _ is c.in_ok-switch.ensures.switched k
 
 pub returns-then-not-is_due-clause-state : goal.returns-then-not-is_due-clause-state
 returns-then-not-is_due-clause-state g c = λ d p is left.
