@@ -1,5 +1,5 @@
 -- What a layer is told over a loan that others had before it.
-use Rattle.std.proofs.Common.{◌≡◌, refl, ap, sym, ◌∙◌, subst}
+use Rattle.std.proofs.Common.{◌≡◌, ap, ◌∙◌, subst}
 use Rattle.span_registry_layers_store.specs.Registries.{RegistryValue}
 use Rattle.span_registry_layers_store.specs.Views.{mask_of}
 use Rattle.span_registry_layers_layers.specs.Looks.{SameLoan, View, left, seeing, view}

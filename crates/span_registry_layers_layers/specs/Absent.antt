@@ -1,9 +1,6 @@
 -- A layer that may be absent: where it is, it vetoes nothing, but its hint is that nothing passes.
-use Rattle.std.specs.Prelude.{◌≡◌, ℕ, Bool, true, false, List, [], Option, Some, None, refl}
-use Rattle.tracing_core_requests.specs.declared.interest.InterestInner.TheVariants.{Always}
-use Rattle.tracing_core_requests.specs.Interests.{PlainInterest}
+use Rattle.std.specs.Prelude.{◌≡◌, ℕ, Bool, false, List, [], Option, Some, None, refl}
 use Rattle.tracing_core_fields.specs.PlainMetadata.{PlainMetadata}
-use Rattle.tracing_core_requests.specs.PlainRequests.{PlainEvent}
 use Rattle.tracing_core_requests.specs.Steady.{SameWord}
 use Rattle.span_registry_layers_layers.specs.Honesty.{Fair, OneAnswer}
 use Rattle.span_registry_layers_layers.specs.Looks.{View}

@@ -1,5 +1,5 @@
 -- A layer below a filter stays consistent, keeps its numbers and its keys, and writes slots under these alone.
-use Rattle.std.specs.Prelude.{◌≡◌, ◌&&◌, ℕ, Bool, true, false, List, Option, Some, None}
+use Rattle.std.specs.Prelude.{◌≡◌, ℕ, Bool, true, false, Option, Some, None}
 use Rattle.std.proofs.Common.{sym, ap, subst, ◌∙◌}
 use Rattle.tracing_core_requests.specs.declared.interest.InterestInner.TheVariants.{Always}
 use Rattle.tracing_core_requests.specs.Steady.{SameWord}

@@ -27,7 +27,6 @@ pub use layered::Layered;
 use span_registry_layers_store::{FilterMap, Registry};
 use tracing_core_fields::{Id, LevelFilter, Metadata};
 use tracing_core_requests::{Attributes, Event, Interest, Record, WeakDispatch};
-pub use veto::Veto;
 
 /// What an output does with the spans and events that it is told.
 ///

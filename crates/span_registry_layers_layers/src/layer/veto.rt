@@ -12,7 +12,7 @@ use span_registry_layers_store::{FilterMap, Registry};
 use tracing_core_fields::{Id, LevelFilter, Metadata};
 use tracing_core_requests::{Attributes, Event, Interest, Record, WeakDispatch};
 
-/// A filter that is a layer as well: nobody is told of what it refuses, and no notice changes it.
+/// A filter of this crate that is a layer as well: nobody is told of what it refuses, and no notice changes it.
 pub trait Veto: Filter {}
 
 impl Veto for LevelFilter {}

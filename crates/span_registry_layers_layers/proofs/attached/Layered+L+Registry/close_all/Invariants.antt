@@ -1,4 +1,4 @@
-use Rattle.std.proofs.Common.{◌≡◌, length}
+use Rattle.std.proofs.Common.{length}
 use Rattle.span_registry_layers_store.specs.Aside.{SameButSlots, ids_of}
 use Rattle.span_registry_layers_store.specs.Registries.{RegistryValue, closing_in, swept}
 use Rattle.span_registry_layers_layers.specs.Trees.{ClosesEach}
