@@ -92,10 +92,6 @@ line_text false gone text line left = refl
 line_text true true text line left = absurd (false≢true (sym (left refl)))
 line_text true false text line left = refl
 
-either : (a b : Bool) → (a || b) ≡ true → (a ≡ false → b ≡ true)
-either true b e miss = absurd (false≢true (sym miss))
-either false b e miss = e
-
 or_true : (b : Bool) → (b || true) ≡ true
 or_true true = refl
 or_true false = refl
