@@ -76,8 +76,8 @@ module _ {S C : Type 0} (h : SiteGhosts C) where
     pub new_row_true : (callsite : C) → IsReal (h.metadata_of callsite) → IsTrueRow h (new_row h callsite)
     new_row_true callsite real = (refl, real, refl)
 
-    pub registered_sound : (t u : Table S C) (callsite : C) (interest : PlainInterest) → IsReal (h.metadata_of callsite) → Registered g h t callsite interest u → IsSound h t → IsSound h u
-    registered_sound t u callsite interest real r sound =
+    pub registered_sound : (t u : Table S C) (callsite : C) (interest : PlainInterest) → Registered g h t callsite interest u → IsSound h t → IsSound h u
+    registered_sound t u callsite interest r sound =
         let rows : u.rows ≡ t.rows ++ r.row ∷ [] = ap (λ (v : Table S C). v.rows) r.kept in
         let next : u.next ≡ t.next = ap (λ (v : Table S C). v.next) r.kept in
         let numbers : serials u.entries ≡ serials t.entries = asked_serials (h.metadata_of callsite) t.entries u.entries None r.asked.0.0 r.asked.0.1 in
@@ -88,5 +88,5 @@ module _ {S C : Type 0} (h : SiteGhosts C) where
           apart = subst (λ (rs : List (RegisteredCallsite C)). AreDistinct (identifiers rs)) (sym rows) (
               subst AreDistinct (sym (identifiers_append t.rows r.row)) (distinct_append (identifiers t.rows) r.row.identifier sound.apart (unknown_apart r.row.identifier t.rows unknown))
               );
-          sites = subst (Every (IsTrueRow h)) (sym rows) (every_append (IsTrueRow h) t.rows r.row sound.sites (row_true t.entries u.entries (new_row h callsite) r.row r.asked (new_row_true callsite real)));
+          sites = subst (Every (IsTrueRow h)) (sym rows) (every_append (IsTrueRow h) t.rows r.row sound.sites (row_true t.entries u.entries (new_row h callsite) r.row r.asked (new_row_true callsite r.real)));
         }

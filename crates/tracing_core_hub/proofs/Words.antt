@@ -282,12 +282,28 @@ module _ {S C : Type 0} (g : Ghosts S) (h : SiteGhosts C) where
       }
 
   -- a request through a handle
-  pub call_keeps : (c : Call) (dispatch : Option ℕ) (t u : Table S C) (reply : ReplyTo c) → IsRealCall c → HubGives g c dispatch t reply u → PreservesCaches g h t u
+  call_keeps : (c : Call) (dispatch : Option ℕ) (t u : Table S C) (reply : ReplyTo c) → IsRealCall c → HubGives g c dispatch t reply u → PreservesCaches g h t u
   call_keeps c dispatch t u reply real given = moved_keeps t u (call_moves c dispatch t.entries u.entries reply real given.0) (alike_but_entries t u given.1)
 
   -- a question through a handle
-  pub ask_keeps : (m : PlainMetadata) (place : At) (dispatch : Option ℕ) (t u : Table S C) (answer : Bool) → IsReal m → AskGives g m place dispatch t.entries answer u.entries → u ≡ record t { entries = u.entries } → PreservesCaches g h t u
+  ask_keeps : (m : PlainMetadata) (place : At) (dispatch : Option ℕ) (t u : Table S C) (answer : Bool) → IsReal m → AskGives g m place dispatch t.entries answer u.entries → u ≡ record t { entries = u.entries } → PreservesCaches g h t u
   ask_keeps m place dispatch t u answer real given left = moved_keeps t u (ask_moves m place dispatch t.entries u.entries answer real given) (alike_but_entries t u left)
+
+  -- what the subscribers give by the number of a handle is what the hub gives
+  on_hub : (Gives : Option ℕ → List (RegisteredSubscriber S) → List (RegisteredSubscriber S) → Type 0) {serial dispatch : Option ℕ} {t v : Table S C} {es fs left : List (RegisteredSubscriber S)} → serial ≡ dispatch → v ≡ t → es ≡ v.entries → left ≡ fs → Gives serial es fs → Gives dispatch t.entries left
+  on_hub Gives {serial} {dispatch} {t} {v} {es} {fs} {left} led view shown same given =
+      subst (λ d. Gives d t.entries left) led (subst (λ xs. Gives serial xs left) (shown ∙ ap (λ (w : Table S C). w.entries) view) (subst (λ ys. Gives serial es ys) (sym same) given))
+
+  with_entries : {t v : Table S C} (left : List (RegisteredSubscriber S)) → v ≡ t → ◌≡◌ {A = Table S C} (record v { entries = left }) (record t { entries = left })
+  with_entries left view = ap (λ (w : Table S C). record w { entries = left }) view
+
+  pub handed_keeps : (c : Call) (reply : ReplyTo c) {serial dispatch : Option ℕ} {t v : Table S C} {es fs left : List (RegisteredSubscriber S)} → IsRealCall c → serial ≡ dispatch → v ≡ t → es ≡ v.entries → left ≡ fs → CallGives g c serial es reply fs → PreservesCaches g h t (record v { entries = left })
+  handed_keeps c reply {dispatch = dispatch} {t = t} {v = v} {left = left} real led view shown same given =
+      call_keeps c dispatch t (record v { entries = left }) reply real (on_hub (λ d xs ys. CallGives g c d xs reply ys) led view shown same given, with_entries left view)
+
+  pub asked_keeps : (m : PlainMetadata) (at : At) (answer : Bool) {serial dispatch : Option ℕ} {t v : Table S C} {es fs left : List (RegisteredSubscriber S)} → IsReal m → serial ≡ dispatch → v ≡ t → es ≡ v.entries → left ≡ fs → AskGives g m at serial es answer fs → PreservesCaches g h t (record v { entries = left })
+  asked_keeps m at answer {dispatch = dispatch} {t = t} {v = v} {left = left} real led view shown same given =
+      ask_keeps m at dispatch t (record v { entries = left }) answer real (on_hub (λ d xs ys. AskGives g m at d xs answer ys) led view shown same given) (with_entries left view)
 
   gate_moves_at : (t u : Table S C) (identifier : ℕ) (place : At) (o : Option (RegisteredCallsite C)) (result : Option Bool) → row_of identifier t.rows ≡ o → GateGivesAt g h t o place result u → Every (IsTrueRow h) t.rows → Moved g t.entries u.entries × Alike t u
   gate_moves_at t u identifier place None result found given sites =
@@ -378,46 +394,46 @@ module _ {S C : Type 0} (g : Ghosts S) (h : SiteGhosts C) where
       refreshed_right g h (with_new t given.1.0) u e given.1.2 (inl lent) (entry_appended e.serial t.entries (living t.next given.1.0 ∷ []) e there) steady sites
   added_others t u s (Err e) given = tt
 
-  registered_kept : (t u : Table S C) (callsite : C) (interest : PlainInterest) (e : RegisteredSubscriber S) → IsReal (h.metadata_of callsite) → Registered g h t callsite interest u → HasValidCache g h t e → (z : S) × HasValidCache g h u (becomes z e)
-  registered_kept t u callsite interest e real r kept =
+  registered_kept : (t u : Table S C) (callsite : C) (interest : PlainInterest) (e : RegisteredSubscriber S) → Registered g h t callsite interest u → HasValidCache g h t e → (z : S) × HasValidCache g h u (becomes z e)
+  registered_kept t u callsite interest e r kept =
       let m = h.metadata_of callsite in
       let rows : u.rows ≡ t.rows ++ r.row ∷ [] = ap (λ (v : Table S C). v.rows) r.kept in
       let top : u.greatest ≡ t.greatest = ap (λ (v : Table S C). v.greatest) r.kept in
       let asked = asked_one g m e.serial None r.asked.0.0 t.entries u.entries e r.asked.0.1 kept.stands in
       let z = asked.0 in
       let own = asked.1 in
-      let stays = g.stays e.subscriber (CallsiteRegistered m) own z real asked.4 kept.steady in
+      let stays = g.stays e.subscriber (CallsiteRegistered m) own z r.real asked.4 kept.steady in
       let said : g.says z (h.metadata_of r.row.callsite) own = subst (λ x. g.says z x own) (sym r.asked.1) (stays.1.onward m own asked.3) in (
         z,
         record {
           stands = asked.2;
           unlent = kept.unlent;
           steady = stays.0;
-          rows = subst (Every (IsTrueRow h)) (sym rows) (every_append (IsTrueRow h) t.rows r.row kept.rows (row_true h g t.entries u.entries (new_row h callsite) r.row r.asked (new_row_true h g callsite real)));
+          rows = subst (Every (IsTrueRow h)) (sym rows) (every_append (IsTrueRow h) t.rows r.row kept.rows (row_true h g t.entries u.entries (new_row h callsite) r.row r.asked (new_row_true h g callsite r.real)));
           right = subst (Every (RowRight g h z)) (sym rows) (every_append (RowRight g h z) t.rows r.row (right_onward g h e.subscriber z t.rows stays.1 kept.right) (own, said, subst (λ k. Covers k own) (sym r.asked.0.2) asked.5));
           below = subst (λ o. level_of o ≤ u.greatest) (sym stays.1.same_hint) (subst (λ k. level_of (g.hint e.subscriber) ≤ k) (sym top) kept.below);
         },
       )
 
   -- a callsite more
-  take_keeps : (t u : Table S C) (callsite : C) (r : Result PlainInterest (RegisterError C)) → IsReal (h.metadata_of callsite) → TakeGives g h t callsite r u → PreservesCaches g h t u
-  take_keeps t u callsite (Ok interest) real given =
+  take_keeps : (t u : Table S C) (callsite : C) (r : Result PlainInterest (RegisterError C)) → TakeGives g h t callsite r u → PreservesCaches g h t u
+  take_keeps t u callsite (Ok interest) given =
       record {
-        sound = registered_sound h g t u callsite interest real given;
+        sound = registered_sound h g t u callsite interest given;
         later = λ sound. later_alike t u (asked_serials h g (h.metadata_of callsite) t.entries u.entries None given.asked.0.0 given.asked.0.1) (ap (λ (v : Table S C). v.next) given.kept);
-        right_of = λ e kept. let a = registered_kept t u callsite interest e real given kept in (becomes a.0 e, refl, a.1);
+        right_of = λ e kept. let a = registered_kept t u callsite interest e given kept in (becomes a.0 e, refl, a.1);
       }
-  take_keeps t u callsite (Err (registering.Taken back)) real given = absurd given
-  take_keeps t u callsite (Err (registering.OutOfMemory back)) real given = subst (PreservesCaches g h t) (sym given.1) (itself_keeps t)
+  take_keeps t u callsite (Err (registering.Taken back)) given = absurd given
+  take_keeps t u callsite (Err (registering.OutOfMemory back)) given = subst (PreservesCaches g h t) (sym given.1) (itself_keeps t)
 
-  register_keeps_at : (t u : Table S C) (callsite : C) (o : Option (Option PlainInterest)) (r : Result PlainInterest (RegisterError C)) → IsReal (h.metadata_of callsite) → RegisterGivesAt g h t callsite o r u → PreservesCaches g h t u
-  register_keeps_at t u callsite None r real given = take_keeps t u callsite r real given
-  register_keeps_at t u callsite (Some None) r real given = subst (PreservesCaches g h t) (sym given.1) (itself_keeps t)
-  register_keeps_at t u callsite (Some (Some interest)) r real given = subst (PreservesCaches g h t) (sym given.1) (itself_keeps t)
+  register_keeps_at : (t u : Table S C) (callsite : C) (o : Option (Option PlainInterest)) (r : Result PlainInterest (RegisterError C)) → RegisterGivesAt g h t callsite o r u → PreservesCaches g h t u
+  register_keeps_at t u callsite None r given = take_keeps t u callsite r given
+  register_keeps_at t u callsite (Some None) r given = subst (PreservesCaches g h t) (sym given.1) (itself_keeps t)
+  register_keeps_at t u callsite (Some (Some interest)) r given = subst (PreservesCaches g h t) (sym given.1) (itself_keeps t)
 
-  pub register_keeps : (t u : Table S C) (callsite : C) (r : Result PlainInterest (RegisterError C)) → IsReal (h.metadata_of callsite) → RegisterGives g h t callsite r u → PreservesCaches g h t u
-  register_keeps t u callsite r real given =
-      register_keeps_at t u callsite (kept_alike h (h.metadata_of callsite) (row_of (h.metadata_of callsite).callsite t.rows)) r real given
+  pub register_keeps : (t u : Table S C) (callsite : C) (r : Result PlainInterest (RegisterError C)) → RegisterGives g h t callsite r u → PreservesCaches g h t u
+  register_keeps t u callsite r given =
+      register_keeps_at t u callsite (kept_alike h (h.metadata_of callsite) (row_of (h.metadata_of callsite).callsite t.rows)) r given
 
   -- one command after another
   pub keeps_then : (t v u : Table S C) → PreservesCaches g h t v → PreservesCaches g h v u → PreservesCaches g h t u

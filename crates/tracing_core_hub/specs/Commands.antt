@@ -6,6 +6,7 @@ use Rattle.tracing_core_requests.specs.Calls.{Asked, DispatchRegistered}
 use Rattle.tracing_core_hub.specs.Handles.{entry_of, changed, most}
 use Rattle.tracing_core_requests.specs.Interests.{PlainInterest}
 use Rattle.tracing_core_hub.specs.Refreshing.{Refreshed}
+use Rattle.tracing_core_requests.specs.Steady.{IsReal}
 use Rattle.tracing_core_hub.specs.Table.{Table, chosen, own_setting, effective}
 use Rattle.tracing_core_requests.specs.declared.at.At.{At}
 use Rattle.tracing_core_hub.specs.declared.refusal.AddError.{AddError}
@@ -81,8 +82,9 @@ module _ {S : Type 0} (g : Ghosts S) where
     AddGives t s (Err (add.NumbersSpent back)) u = (t.next ≡ most) × (back ≡ s) × (u ≡ t)
     AddGives t s (Err (add.OutOfMemory back)) u = ¬ (t.next ≡ most) × (back ≡ s) × (u ≡ t)
 
-    -- all were asked of a callsite that wasn't known, and it is kept
+    -- all were asked of a callsite that wasn't known, and it is kept; its level is one of the five
     pub record Registered (t : Table S C) (callsite : C) (interest : PlainInterest) (u : Table S C) : Type 0 where
+      pub real : IsReal (h.metadata_of callsite)
       pub unknown : row_of (h.metadata_of callsite).callsite t.rows ≡ None
       pub row : RegisteredCallsite C
       pub asked : RowAsked g h t.entries (new_row h callsite) row u.entries

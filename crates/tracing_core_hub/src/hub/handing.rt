@@ -1,22 +1,16 @@
-//! Handing requests over to the subscriber of a handle.
-ghost use Rattle.std.specs.Prelude.{◌≡◌};
-ghost use Rattle.tracing_core_fields.specs.Metadata.{plain_metadata};
+//! Handing requests over to the subscriber of a number.
 ghost use Rattle.tracing_core_requests.specs.Calls.{SpanMade, Recorded, FollowsRecorded, EventAsked, EventDispatched, Entered, Exited, Cloned, Dropped, CloseTried, CurrentAsked};
-ghost use Rattle.tracing_core_hub.specs.Commands.{AskGives};
-ghost use Rattle.tracing_core_hub.specs.Handing.{CallGives, HubGives};
+ghost use Rattle.tracing_core_hub.specs.Handing.{CallGives};
 ghost use Rattle.tracing_core_requests.specs.PlainRequests.{plain_attributes, plain_event, plain_record};
 
-use crate::dispatch::Dispatch;
-use crate::hub::Hub;
 use crate::hub::lending::place_or_end;
 use crate::hub::parts::RegisteredSubscriber;
-use crate::hub::rows::ask_one;
-use tracing_core_fields::{Id, Metadata};
+use tracing_core_fields::Id;
 use tracing_core_requests::{
     At, Attributes, CurrentSpan, Event, NoSubscriber, Record, RequestError, Subscriber,
 };
 
-fn new_span_at<S: Subscriber>(
+pub(crate) fn new_span_at<S: Subscriber>(
     entries: &mut [RegisteredSubscriber<S>],
     serial: Option<u64>,
     attributes: &Attributes<'_, '_>,
@@ -32,7 +26,7 @@ fn new_span_at<S: Subscriber>(
     }
 }
 
-fn record_at<S: Subscriber>(
+pub(crate) fn record_at<S: Subscriber>(
     entries: &mut [RegisteredSubscriber<S>],
     serial: Option<u64>,
     span: &Id,
@@ -49,7 +43,7 @@ fn record_at<S: Subscriber>(
     }
 }
 
-fn record_follows_from_at<S: Subscriber>(
+pub(crate) fn record_follows_from_at<S: Subscriber>(
     entries: &mut [RegisteredSubscriber<S>],
     serial: Option<u64>,
     span: &Id,
@@ -68,7 +62,7 @@ fn record_follows_from_at<S: Subscriber>(
     }
 }
 
-fn event_enabled_at<S: Subscriber>(
+pub(crate) fn event_enabled_at<S: Subscriber>(
     entries: &mut [RegisteredSubscriber<S>],
     serial: Option<u64>,
     event: &Event<'_, '_>,
@@ -84,7 +78,7 @@ fn event_enabled_at<S: Subscriber>(
     }
 }
 
-fn event_at<S: Subscriber>(
+pub(crate) fn event_at<S: Subscriber>(
     entries: &mut [RegisteredSubscriber<S>],
     serial: Option<u64>,
     event: &Event<'_, '_>,
@@ -100,7 +94,7 @@ fn event_at<S: Subscriber>(
     }
 }
 
-fn enter_at<S: Subscriber>(
+pub(crate) fn enter_at<S: Subscriber>(
     entries: &mut [RegisteredSubscriber<S>],
     serial: Option<u64>,
     span: &Id,
@@ -116,7 +110,7 @@ fn enter_at<S: Subscriber>(
     }
 }
 
-fn exit_at<S: Subscriber>(
+pub(crate) fn exit_at<S: Subscriber>(
     entries: &mut [RegisteredSubscriber<S>],
     serial: Option<u64>,
     span: &Id,
@@ -131,7 +125,7 @@ fn exit_at<S: Subscriber>(
     entries[place].subscriber.exit(span, at)
 }
 
-fn clone_span_at<S: Subscriber>(
+pub(crate) fn clone_span_at<S: Subscriber>(
     entries: &mut [RegisteredSubscriber<S>],
     serial: Option<u64>,
     span: &Id,
@@ -147,7 +141,7 @@ fn clone_span_at<S: Subscriber>(
     }
 }
 
-fn drop_span_at<S: Subscriber>(
+pub(crate) fn drop_span_at<S: Subscriber>(
     entries: &mut [RegisteredSubscriber<S>],
     serial: Option<u64>,
     span: Id,
@@ -162,7 +156,7 @@ fn drop_span_at<S: Subscriber>(
     entries[place].subscriber.drop_span(span, at)
 }
 
-fn try_close_at<S: Subscriber>(
+pub(crate) fn try_close_at<S: Subscriber>(
     entries: &mut [RegisteredSubscriber<S>],
     serial: Option<u64>,
     span: Id,
@@ -178,7 +172,7 @@ fn try_close_at<S: Subscriber>(
     }
 }
 
-fn current_span_at<S: Subscriber>(
+pub(crate) fn current_span_at<S: Subscriber>(
     entries: &mut [RegisteredSubscriber<S>],
     serial: Option<u64>,
     at: At,
@@ -190,123 +184,5 @@ fn current_span_at<S: Subscriber>(
         entries[place].subscriber.current_span(at)
     } else {
         CurrentSpan::Unknown
-    }
-}
-
-// Each hands one call over, whatever the callsites are.
-impl<S: Subscriber, C> Hub<S, C> {
-    pub(crate) fn hand_enabled(
-        &mut self,
-        dispatch: &Dispatch,
-        metadata: &Metadata<'_>,
-        at: At,
-    ) -> bool
-        ensures asked { AskGives ⟦<S as Subscriber>⟧ (plain_metadata metadata.now) at dispatch.now self.old.entries result self.new.entries }
-        ensures rest { self.new ≡ record self.old { entries = self.new.entries } }
-    {
-        ask_one(&mut self.entries, dispatch.serial(), metadata, at)
-    }
-
-    pub(crate) fn hand_new_span(
-        &mut self,
-        dispatch: &Dispatch,
-        attributes: &Attributes<'_, '_>,
-        at: At,
-    ) -> Result<Option<Id>, RequestError>
-        ensures { HubGives ⟦<S as Subscriber>⟧ (SpanMade (plain_attributes attributes.now) at) dispatch.now self.old result self.new }
-    {
-        new_span_at(&mut self.entries, dispatch.serial(), attributes, at)
-    }
-
-    pub(crate) fn hand_record(
-        &mut self,
-        dispatch: &Dispatch,
-        span: &Id,
-        values: &Record<'_>,
-        at: At,
-    ) -> Result<(), RequestError>
-        ensures { HubGives ⟦<S as Subscriber>⟧ (Recorded span.now (plain_record values.now) at) dispatch.now self.old result self.new }
-    {
-        record_at(&mut self.entries, dispatch.serial(), span, values, at)
-    }
-
-    pub(crate) fn hand_record_follows_from(
-        &mut self,
-        dispatch: &Dispatch,
-        span: &Id,
-        follows: &Id,
-        at: At,
-    ) -> Result<(), RequestError>
-        ensures { HubGives ⟦<S as Subscriber>⟧ (FollowsRecorded span.now follows.now at) dispatch.now self.old result self.new }
-    {
-        record_follows_from_at(&mut self.entries, dispatch.serial(), span, follows, at)
-    }
-
-    pub(crate) fn hand_event_enabled(
-        &mut self,
-        dispatch: &Dispatch,
-        event: &Event<'_, '_>,
-        at: At,
-    ) -> bool
-        ensures { HubGives ⟦<S as Subscriber>⟧ (EventAsked (plain_event event.now) at) dispatch.now self.old result self.new }
-    {
-        event_enabled_at(&mut self.entries, dispatch.serial(), event, at)
-    }
-
-    pub(crate) fn hand_event(
-        &mut self,
-        dispatch: &Dispatch,
-        event: &Event<'_, '_>,
-        at: At,
-    ) -> Result<(), RequestError>
-        ensures { HubGives ⟦<S as Subscriber>⟧ (EventDispatched (plain_event event.now) at) dispatch.now self.old result self.new }
-    {
-        event_at(&mut self.entries, dispatch.serial(), event, at)
-    }
-
-    pub(crate) fn hand_enter(
-        &mut self,
-        dispatch: &Dispatch,
-        span: &Id,
-        at: At,
-    ) -> Result<(), RequestError>
-        ensures { HubGives ⟦<S as Subscriber>⟧ (Entered span.now at) dispatch.now self.old result self.new }
-    {
-        enter_at(&mut self.entries, dispatch.serial(), span, at)
-    }
-
-    pub(crate) fn hand_exit(&mut self, dispatch: &Dispatch, span: &Id, at: At)
-        ensures { HubGives ⟦<S as Subscriber>⟧ (Exited span.now at) dispatch.now self.old tt self.new }
-    {
-        exit_at(&mut self.entries, dispatch.serial(), span, at)
-    }
-
-    pub(crate) fn hand_clone_span(
-        &mut self,
-        dispatch: &Dispatch,
-        span: &Id,
-        at: At,
-    ) -> Result<Id, RequestError>
-        ensures { HubGives ⟦<S as Subscriber>⟧ (Cloned span.now at) dispatch.now self.old result self.new }
-    {
-        clone_span_at(&mut self.entries, dispatch.serial(), span, at)
-    }
-
-    pub(crate) fn hand_drop_span(&mut self, dispatch: &Dispatch, span: Id, at: At)
-        ensures { HubGives ⟦<S as Subscriber>⟧ (Dropped span at) dispatch.now self.old tt self.new }
-    {
-        drop_span_at(&mut self.entries, dispatch.serial(), span, at)
-    }
-
-    pub(crate) fn hand_try_close(&mut self, dispatch: &Dispatch, span: Id, at: At) -> bool
-        ensures { HubGives ⟦<S as Subscriber>⟧ (CloseTried span at) dispatch.now self.old result self.new }
-    {
-        try_close_at(&mut self.entries, dispatch.serial(), span, at)
-    }
-
-    pub(crate) fn hand_current_span(&mut self, dispatch: &Dispatch, at: At) -> CurrentSpan
-        ensures { HubGives ⟦<S as Subscriber>⟧ (CurrentAsked at) dispatch.now self.old result self.new }
-    {
-        current_span_at(&mut self.entries, dispatch.serial(), at)
     }
 }

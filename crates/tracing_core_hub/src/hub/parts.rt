@@ -1,7 +1,7 @@
 //! What a hub keeps.
 ghost use Rattle.std.specs.Prelude.{◌≡◌, ◌<◌, slice_get, length, IfSome};
 
-use tracing_core_fields::Level;
+use tracing_core_fields::LevelFilter;
 use tracing_core_requests::Interest;
 
 // A subscriber that some handle leads to.
@@ -19,7 +19,8 @@ pub(crate) struct RegisteredSubscriber<S> {
 pub(crate) struct RegisteredCallsite<C> {
     pub(crate) callsite: C,
     pub(crate) identifier: u64,
-    pub(crate) level: Level,
+    // the least verbose filter that passes the callsite's level
+    pub(crate) level: LevelFilter,
     pub(crate) interest: Interest,
 }
 

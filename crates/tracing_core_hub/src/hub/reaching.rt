@@ -43,15 +43,6 @@ impl<S, C> Hub<S, C> {
     }
 }
 
-impl<S: Subscriber, C> Hub<S, C> {
-    fn hand_register_callsite(&mut self, dispatch: &Dispatch, metadata: &Metadata<'_>) -> Interest
-        ensures answer { (e : RegisteredSubscriber S) → living_of dispatch.now self.old.entries ≡ Some e → S.says e.subscriber (plain_metadata metadata.now) result }
-        ensures handed { HubGives ⟦<S as Subscriber>⟧ (CallsiteRegistered (plain_metadata metadata.now)) dispatch.now self.old result self.new }
-    {
-        register_callsite_at(&mut self.entries, dispatch.serial(), metadata)
-    }
-}
-
 impl<S: Subscriber, C: Callsite> Hub<S, C> {
     /// Asks the subscriber of the handle for its interest in a callsite, which is never where there is
     /// none. What is kept of callsites stays.
@@ -61,7 +52,7 @@ impl<S: Subscriber, C: Callsite> Hub<S, C> {
         ensures keeps { PreservesCaches ⟦<S as Subscriber>⟧ ⟦<C as Callsite>⟧ self.old self.new }
     {
         is_real(metadata);
-        self.hand_register_callsite(dispatch, metadata)
+        register_callsite_at(&mut self.entries, dispatch.serial(), metadata)
     }
 
     /// Whether the subscriber that the lane reaches wants a span or an event of the callsite. It is asked

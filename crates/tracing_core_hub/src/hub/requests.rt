@@ -9,7 +9,12 @@ ghost use Rattle.tracing_core_requests.specs.PlainRequests.{plain_attributes, pl
 
 use crate::dispatch::Dispatch;
 use crate::hub::Hub;
+use crate::hub::handing::{
+    clone_span_at, current_span_at, drop_span_at, enter_at, event_at, event_enabled_at, exit_at,
+    new_span_at, record_at, record_follows_from_at, try_close_at,
+};
 use crate::hub::ranks::is_real;
+use crate::hub::rows::ask_one;
 use tracing_core_fields::{Id, Metadata};
 use tracing_core_requests::{
     At, Attributes, Callsite, CurrentSpan, Event, Record, RequestError, Subscriber,
@@ -23,7 +28,7 @@ impl<S: Subscriber, C: Callsite> Hub<S, C> {
         ensures keeps { PreservesCaches ⟦<S as Subscriber>⟧ ⟦<C as Callsite>⟧ self.old self.new }
     {
         is_real(metadata);
-        self.hand_enabled(dispatch, metadata, at)
+        ask_one(&mut self.entries, dispatch.serial(), metadata, at)
     }
 
     /// Makes a span through the subscriber of the handle.
@@ -37,7 +42,7 @@ impl<S: Subscriber, C: Callsite> Hub<S, C> {
         ensures keeps { PreservesCaches ⟦<S as Subscriber>⟧ ⟦<C as Callsite>⟧ self.old self.new }
     {
         is_real(attributes.metadata());
-        self.hand_new_span(dispatch, attributes, at)
+        new_span_at(&mut self.entries, dispatch.serial(), attributes, at)
     }
 
     /// Records more values of a span.
@@ -51,7 +56,7 @@ impl<S: Subscriber, C: Callsite> Hub<S, C> {
         ensures gives { HubGives ⟦<S as Subscriber>⟧ (Recorded span.now (plain_record values.now) at) dispatch.now self.old result self.new }
         ensures keeps { PreservesCaches ⟦<S as Subscriber>⟧ ⟦<C as Callsite>⟧ self.old self.new }
     {
-        self.hand_record(dispatch, span, values, at)
+        record_at(&mut self.entries, dispatch.serial(), span, values, at)
     }
 
     /// Records that a span follows from another one.
@@ -65,7 +70,7 @@ impl<S: Subscriber, C: Callsite> Hub<S, C> {
         ensures gives { HubGives ⟦<S as Subscriber>⟧ (FollowsRecorded span.now follows.now at) dispatch.now self.old result self.new }
         ensures keeps { PreservesCaches ⟦<S as Subscriber>⟧ ⟦<C as Callsite>⟧ self.old self.new }
     {
-        self.hand_record_follows_from(dispatch, span, follows, at)
+        record_follows_from_at(&mut self.entries, dispatch.serial(), span, follows, at)
     }
 
     /// Whether the subscriber of the handle wants the event, whose callsite is enabled.
@@ -74,7 +79,7 @@ impl<S: Subscriber, C: Callsite> Hub<S, C> {
         ensures keeps { PreservesCaches ⟦<S as Subscriber>⟧ ⟦<C as Callsite>⟧ self.old self.new }
     {
         is_real(event.metadata());
-        self.hand_event_enabled(dispatch, event, at)
+        event_enabled_at(&mut self.entries, dispatch.serial(), event, at)
     }
 
     /// Hands an event to the subscriber of the handle.
@@ -88,7 +93,7 @@ impl<S: Subscriber, C: Callsite> Hub<S, C> {
         ensures keeps { PreservesCaches ⟦<S as Subscriber>⟧ ⟦<C as Callsite>⟧ self.old self.new }
     {
         is_real(event.metadata());
-        self.hand_event(dispatch, event, at)
+        event_at(&mut self.entries, dispatch.serial(), event, at)
     }
 
     /// The lane enters a span.
@@ -96,7 +101,7 @@ impl<S: Subscriber, C: Callsite> Hub<S, C> {
         ensures gives { HubGives ⟦<S as Subscriber>⟧ (Entered span.now at) dispatch.now self.old result self.new }
         ensures keeps { PreservesCaches ⟦<S as Subscriber>⟧ ⟦<C as Callsite>⟧ self.old self.new }
     {
-        self.hand_enter(dispatch, span, at)
+        enter_at(&mut self.entries, dispatch.serial(), span, at)
     }
 
     /// The lane leaves a span.
@@ -104,7 +109,7 @@ impl<S: Subscriber, C: Callsite> Hub<S, C> {
         ensures gives { HubGives ⟦<S as Subscriber>⟧ (Exited span.now at) dispatch.now self.old tt self.new }
         ensures keeps { PreservesCaches ⟦<S as Subscriber>⟧ ⟦<C as Callsite>⟧ self.old self.new }
     {
-        self.hand_exit(dispatch, span, at)
+        exit_at(&mut self.entries, dispatch.serial(), span, at)
     }
 
     /// Counts one more handle of a span, and answers the id to use for it.
@@ -112,7 +117,7 @@ impl<S: Subscriber, C: Callsite> Hub<S, C> {
         ensures gives { HubGives ⟦<S as Subscriber>⟧ (Cloned span.now at) dispatch.now self.old result self.new }
         ensures keeps { PreservesCaches ⟦<S as Subscriber>⟧ ⟦<C as Callsite>⟧ self.old self.new }
     {
-        self.hand_clone_span(dispatch, span, at)
+        clone_span_at(&mut self.entries, dispatch.serial(), span, at)
     }
 
     /// Counts one handle of a span less.
@@ -120,7 +125,7 @@ impl<S: Subscriber, C: Callsite> Hub<S, C> {
         ensures gives { HubGives ⟦<S as Subscriber>⟧ (Dropped span at) dispatch.now self.old tt self.new }
         ensures keeps { PreservesCaches ⟦<S as Subscriber>⟧ ⟦<C as Callsite>⟧ self.old self.new }
     {
-        self.hand_drop_span(dispatch, span, at)
+        drop_span_at(&mut self.entries, dispatch.serial(), span, at)
     }
 
     /// Counts one handle of a span less, and answers whether the span closed.
@@ -128,7 +133,7 @@ impl<S: Subscriber, C: Callsite> Hub<S, C> {
         ensures gives { HubGives ⟦<S as Subscriber>⟧ (CloseTried span at) dispatch.now self.old result self.new }
         ensures keeps { PreservesCaches ⟦<S as Subscriber>⟧ ⟦<C as Callsite>⟧ self.old self.new }
     {
-        self.hand_try_close(dispatch, span, at)
+        try_close_at(&mut self.entries, dispatch.serial(), span, at)
     }
 
     /// The span that the lane is in.
@@ -136,6 +141,6 @@ impl<S: Subscriber, C: Callsite> Hub<S, C> {
         ensures gives { HubGives ⟦<S as Subscriber>⟧ (CurrentAsked at) dispatch.now self.old result self.new }
         ensures keeps { PreservesCaches ⟦<S as Subscriber>⟧ ⟦<C as Callsite>⟧ self.old self.new }
     {
-        self.hand_current_span(dispatch, at)
+        current_span_at(&mut self.entries, dispatch.serial(), at)
     }
 }

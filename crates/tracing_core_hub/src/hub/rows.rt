@@ -4,11 +4,12 @@ ghost use Rattle.tracing_core_fields.specs.PlainMetadata.{is_same_metadata};
 ghost use Rattle.std.specs.Option.{option_map};
 ghost use Rattle.tracing_core_fields.specs.Metadata.{plain_metadata};
 ghost use Rattle.tracing_core_requests.specs.Calls.{Asked};
+ghost use Rattle.tracing_core_requests.specs.Steady.{IsReal};
 ghost use Rattle.tracing_core_hub.specs.Commands.{row_of, known, AnswerGives, AskGives, new_row};
 
 use crate::hub::entries::place_of;
 use crate::hub::parts::{RegisteredCallsite, RegisteredSubscriber};
-use tracing_core_fields::{Level, LevelFilter, Metadata};
+use tracing_core_fields::{LevelFilter, Metadata};
 use tracing_core_requests::{At, Callsite, Interest, Subscriber};
 
 // The callsite with the identifier.
@@ -27,25 +28,15 @@ pub(crate) fn find_row<C>(
 }
 
 // What is known without asking.
-fn known_answer(greatest: LevelFilter, level: Level, interest: Interest) -> Option<bool>
+fn known_answer(greatest: LevelFilter, level: LevelFilter, interest: Interest) -> Option<bool>
     ensures { result ≡ known greatest level interest }
 {
-    if !greatest.passes(level) || interest.is_never() {
+    if greatest < level || interest.is_never() {
         Some(false)
     } else if interest.is_always() {
         Some(true)
     } else {
         None
-    }
-}
-
-impl<S: Subscriber> RegisteredSubscriber<S> {
-    fn ask(&mut self, metadata: &Metadata<'_>, at: At) -> bool
-        ensures answer { S.answers self.old.subscriber (plain_metadata metadata.now) at result }
-        ensures state { S.moves self.old.subscriber (Asked (plain_metadata metadata.now) at) result self.new.subscriber }
-        ensures rest { self.new ≡ record self.old { subscriber = self.new.subscriber } }
-    {
-        self.subscriber.enabled(metadata, at)
     }
 }
 
@@ -64,17 +55,18 @@ pub(crate) fn ask_one<S: Subscriber>(
     let Some(place) = place_of(entries, serial) else {
         return false;
     };
-    entries[place].ask(metadata, at)
+    entries[place].subscriber.enabled(metadata, at)
 }
 
 impl<C: Callsite> RegisteredCallsite<C> {
     // The callsite as it comes.
     pub(crate) fn new(callsite: C) -> RegisteredCallsite<C>
-        ensures { result ≡ new_row ⟦<C as Callsite>⟧ callsite }
+        ensures row { result ≡ new_row ⟦<C as Callsite>⟧ callsite }
+        ensures real { IsReal (C.metadata_of callsite) }
     {
         let metadata = callsite.metadata();
         let identifier = metadata.callsite().0;
-        let level = *metadata.level();
+        let level = LevelFilter::from_level(*metadata.level());
         RegisteredCallsite {
             callsite,
             identifier,
@@ -95,19 +87,6 @@ impl<C: Callsite> RegisteredCallsite<C> {
         }
     }
 
-    // Asks the subscriber of the number about the callsite.
-    fn ask_one<S: Subscriber>(
-        &self,
-        entries: &mut [RegisteredSubscriber<S>],
-        serial: Option<u64>,
-        at: At,
-    ) -> bool
-        ensures { AskGives ⟦<S as Subscriber>⟧ (C.metadata_of self.now.callsite) at serial entries.old result entries.new }
-    {
-        let metadata = self.callsite.metadata();
-        ask_one(entries, serial, &metadata, at)
-    }
-
     // What is known, or else what the subscriber of the number says. Where there is none, nothing is wanted.
     pub(crate) fn answer<S: Subscriber>(
         &self,
@@ -123,7 +102,10 @@ impl<C: Callsite> RegisteredCallsite<C> {
         }
         match known_answer(greatest, self.level, self.interest) {
             Some(answer) => answer,
-            None => self.ask_one(entries, serial, at),
+            None => {
+                let metadata = self.callsite.metadata();
+                ask_one(entries, serial, &metadata, at)
+            }
         }
     }
 }

@@ -12,7 +12,6 @@ use crate::dispatch::Dispatch;
 use crate::hub::Hub;
 use crate::hub::asking::{ask_hints, ask_rows};
 use crate::hub::parts::{RegisteredCallsite, RegisteredSubscriber};
-use crate::hub::ranks::is_real_callsite;
 use crate::refusal::{AddError, RegisterError};
 use tracing_core_requests::{Callsite, Interest, Subscriber, weak_of};
 
@@ -150,7 +149,6 @@ impl<S: Subscriber, C: Callsite> Hub<S, C> {
         ensures gives { RegisterGives ⟦<S as Subscriber>⟧ ⟦<C as Callsite>⟧ self.old callsite result self.new }
         ensures keeps { PreservesCaches ⟦<S as Subscriber>⟧ ⟦<C as Callsite>⟧ self.old self.new }
     {
-        is_real_callsite(&callsite);
         self.take_once(callsite)
     }
 }

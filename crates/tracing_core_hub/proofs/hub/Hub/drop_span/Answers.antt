@@ -1,7 +1,10 @@
+use Rattle.std.proofs.Common.{arith}
+use Rattle.std.proofs.lemmas.List.{with_items_is}
 use Rattle.tracing_core_requests.specs.Calls.{Dropped}
-use Rattle.tracing_core_hub.proofs.Words.{call_keeps}
+use Rattle.tracing_core_hub.proofs.Words.{handed_keeps}
 use Rattle.tracing_core_hub.proofs.hub.Hub.drop_span.Goals as goal
 
 pub returns-clause-keeps : goal.returns-clause-keeps
 returns-clause-keeps g c =
-    call_keeps g.S.Subscriber g.C.Callsite (Dropped c.args.span c.args.at) c.args.dispatch.now c.args.self.now _ tt tt c.hand_drop_span.ensures
+    handed_keeps g.S.Subscriber g.C.Callsite (Dropped c.args.span c.args.at) tt tt c.serial.ensures c.self.view_is c.deref_mut.ensures.value
+    (with_items_is c.self.inside.entries c.drop_span_at.new.entries (omega arith)) c.drop_span_at.ensures

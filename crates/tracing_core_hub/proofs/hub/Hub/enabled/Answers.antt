@@ -1,7 +1,10 @@
+use Rattle.std.proofs.Common.{arith}
+use Rattle.std.proofs.lemmas.List.{with_items_is}
 use Rattle.tracing_core_fields.specs.Metadata.{plain_metadata}
-use Rattle.tracing_core_hub.proofs.Words.{ask_keeps}
+use Rattle.tracing_core_hub.proofs.Words.{asked_keeps}
 use Rattle.tracing_core_hub.proofs.hub.Hub.enabled.Goals as goal
 
 pub returns-clause-keeps : goal.returns-clause-keeps
 returns-clause-keeps g c =
-    ask_keeps g.S.Subscriber g.C.Callsite (plain_metadata c.args.metadata.now) c.args.at c.args.dispatch.now c.args.self.now _ c.hand_enabled.result c.is_real.ensures c.hand_enabled.ensures.asked c.hand_enabled.ensures.rest
+    asked_keeps g.S.Subscriber g.C.Callsite (plain_metadata c.args.metadata.now) c.args.at c.ask_one.result c.is_real.ensures c.serial.ensures c.self.view_is c.deref_mut.ensures.value
+    (with_items_is c.self.inside.entries c.ask_one.new.entries (omega arith)) c.ask_one.ensures

@@ -1,7 +1,10 @@
+use Rattle.std.proofs.Common.{arith}
+use Rattle.std.proofs.lemmas.List.{with_items_is}
 use Rattle.tracing_core_requests.specs.Calls.{Entered}
-use Rattle.tracing_core_hub.proofs.Words.{call_keeps}
+use Rattle.tracing_core_hub.proofs.Words.{handed_keeps}
 use Rattle.tracing_core_hub.proofs.hub.Hub.enter.Goals as goal
 
 pub returns-clause-keeps : goal.returns-clause-keeps
 returns-clause-keeps g c =
-    call_keeps g.S.Subscriber g.C.Callsite (Entered c.args.span.now c.args.at) c.args.dispatch.now c.args.self.now _ c.hand_enter.result tt c.hand_enter.ensures
+    handed_keeps g.S.Subscriber g.C.Callsite (Entered c.args.span.now c.args.at) c.enter_at.result tt c.serial.ensures c.self.view_is c.deref_mut.ensures.value
+    (with_items_is c.self.inside.entries c.enter_at.new.entries (omega arith)) c.enter_at.ensures

@@ -1,7 +1,10 @@
+use Rattle.std.proofs.Common.{arith}
+use Rattle.std.proofs.lemmas.List.{with_items_is}
 use Rattle.tracing_core_requests.specs.Calls.{Exited}
-use Rattle.tracing_core_hub.proofs.Words.{call_keeps}
+use Rattle.tracing_core_hub.proofs.Words.{handed_keeps}
 use Rattle.tracing_core_hub.proofs.hub.Hub.exit.Goals as goal
 
 pub returns-clause-keeps : goal.returns-clause-keeps
 returns-clause-keeps g c =
-    call_keeps g.S.Subscriber g.C.Callsite (Exited c.args.span.now c.args.at) c.args.dispatch.now c.args.self.now _ tt tt c.hand_exit.ensures
+    handed_keeps g.S.Subscriber g.C.Callsite (Exited c.args.span.now c.args.at) tt tt c.serial.ensures c.self.view_is c.deref_mut.ensures.value
+    (with_items_is c.self.inside.entries c.exit_at.new.entries (omega arith)) c.exit_at.ensures

@@ -1,8 +1,11 @@
+use Rattle.std.proofs.Common.{arith}
+use Rattle.std.proofs.lemmas.List.{with_items_is}
 use Rattle.tracing_core_requests.specs.Calls.{Recorded}
 use Rattle.tracing_core_requests.specs.PlainRequests.{plain_record}
-use Rattle.tracing_core_hub.proofs.Words.{call_keeps}
+use Rattle.tracing_core_hub.proofs.Words.{handed_keeps}
 use Rattle.tracing_core_hub.proofs.hub.Hub.record.Goals as goal
 
 pub returns-clause-keeps : goal.returns-clause-keeps
 returns-clause-keeps g c =
-    call_keeps g.S.Subscriber g.C.Callsite (Recorded c.args.span.now (plain_record c.args.values.now) c.args.at) c.args.dispatch.now c.args.self.now _ c.hand_record.result tt c.hand_record.ensures
+    handed_keeps g.S.Subscriber g.C.Callsite (Recorded c.args.span.now (plain_record c.args.values.now) c.args.at) c.record_at.result tt c.serial.ensures c.self.view_is c.deref_mut.ensures.value
+    (with_items_is c.self.inside.entries c.record_at.new.entries (omega arith)) c.record_at.ensures

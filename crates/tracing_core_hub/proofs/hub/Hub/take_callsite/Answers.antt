@@ -13,9 +13,10 @@ returns g c =
     let whole : take i.entries.len (c.ask.new.entries ++ drop (length c.ask.new.entries) i.entries.items) ≡ c.ask.new.entries = with_items_is i.entries c.ask.new.entries (omega arith) in
     let rows : c.push_reserved.new.self.items ≡ i.rows.items ++ c.ask.new.self ∷ [] = c.push_reserved.ensures.items ∙ ap (λ (rs : List (RegisteredCallsite g.row.C.Denot)). rs ++ c.ask.new.self ∷ []) c.reserve.ensures.items in
     record {
+      real = c.new-row.ensures.real;
       unknown = c.requires;
       row = c.ask.new.self;
-      asked = asked_alike g.S.Subscriber g.C.Callsite _ _ _ _ _ _ c.ask.new.self (c.deref_mut.ensures.value ∙ ap (λ (t : Table g.row.S.Denot g.row.C.Denot). t.entries) c.self.view_is) c.new-row.ensures (sym whole) c.ask.ensures;
+      asked = asked_alike g.S.Subscriber g.C.Callsite _ _ _ _ _ _ c.ask.new.self (c.deref_mut.ensures.value ∙ ap (λ (t : Table g.row.S.Denot g.row.C.Denot). t.entries) c.self.view_is) c.new-row.ensures.row (sym whole) c.ask.ensures;
       told = refl;
       kept = kept_at _ _ _ _ c.ask.new.self c.self.view_is rows;
     }
