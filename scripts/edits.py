@@ -130,6 +130,9 @@ def kind_and_trait(owner):
     head = re.sub(r"^(unsafe )?impl\b|^(pub )?trait\b", "", head)
     trait, is_impl, kind = head.partition(" for ")
     last = lambda it: ([""] + re.findall(r"[A-Za-z_]\w*", re.sub(r"^[\s&]*('\w+ )?(mut )?", "", it).split("<")[0].split("::")[-1]))[-1].lower()
+    bare = re.fullmatch(r"\s*(\w+)\s*\{?\s*", kind)
+    if is_impl and bare and re.search(rf"[<,]\s*{bare[1]}\b", owner.partition(" for ")[0]):
+        return "any", last(trait)  # the type is a parameter: Rattle names such an impl so
     return (last(kind), last(trait)) if is_impl else (last(head), "")
 
 
