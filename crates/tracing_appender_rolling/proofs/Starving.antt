@@ -1,23 +1,20 @@
 -- What is left where a call found no memory.
-use Rattle.std.proofs.Common.{◌≡◌, ℕ, ℤ, suc, ◌+◌, List, Bool, true, false, if◌then◌else◌, refl, ap, subst, ◌∙◌, sym, arith, inl, inr, Option, Some, None, Result, Ok, Err}
+use Rattle.std.proofs.Common.{◌≡◌, ℕ, suc, ◌+◌, List, Bool, true, false, if◌then◌else◌, refl, ap, subst, ◌∙◌, sym, arith, inl, inr, Option, Some, None, Result, Ok, Err}
 use Rattle.tracing_appender_folders.specs.declared.moment.Moment.{Moment}
 use Rattle.tracing_appender_folders.specs.declared.fault.FileNumber.{FileNumber}
 use Rattle.tracing_appender_folders.specs.declared.fault.FolderFault.{FolderFault}
 use Rattle.tracing_appender_folders.specs.declared.fault.FolderFault.TheVariants.{Refused}
 use Rattle.tracing_appender_folders.specs.declared.fault.FolderError.{FolderError}
 use Rattle.tracing_appender_folders.specs.declared.fault.FolderError.TheVariants.{Fault, OutOfMemory}
-use Rattle.tracing_appender_folders.specs.Contents.{Contents, Answer, Gives, Outcome, Done, Refuses, Short, Listed, called, if_refused, refusal, file_named, link_named, open_at, open_plain, opened, dirs_made, make_plain, list_plain, names_listed}
+use Rattle.tracing_appender_folders.specs.Contents.{Contents, Answer, Gives, Outcome, Done, Refuses, Short, Listed, called, if_refused, refusal, file_named, link_named, open_at, open_plain, opened, dirs_made, make_plain, names_listed}
 use Rattle.tracing_appender_rolling.specs.declared.faults.Faults.{Faults}
 use Rattle.tracing_appender_rolling.specs.declared.init.InitContext.TheVariants.{Directory, File}
 use Rattle.tracing_appender_rolling.specs.declared.init.InitFailure.{InitFailure}
 use Rattle.tracing_appender_rolling.specs.Names.{FileNames}
-use Rattle.tracing_appender_rolling.specs.Faults.{no_faults}
 use Rattle.tracing_appender_rolling.specs.Writes.{Unchanged}
-use Rattle.tracing_appender_rolling.specs.Retention.{PlainCandidate, IsCandidates}
-use Rattle.tracing_appender_rolling.specs.Pruning.{Pruned, Removes, UnprunedAfter, UnprunedBy, Prunes, doomed}
-use Rattle.tracing_appender_rolling.specs.Tries.{Tried, Tries, TriesFile, MissedFile, MissesOr, Gave, failure, after_dirs, made_again, after_opening, last_opening, opened_twice}
-use Rattle.tracing_appender_rolling.specs.Looks.{Switches, Starved, StarvedTry, name_at, try_at}
-use Rattle.tracing_appender_rolling.specs.Appenders.{Begins, FailedAt}
+use Rattle.tracing_appender_rolling.specs.Pruning.{UnprunedAfter, UnprunedBy}
+use Rattle.tracing_appender_rolling.specs.Tries.{Tried, Tries, MissedFile, MissesOr, Gave, failure, after_dirs, made_again, after_opening, last_opening, opened_twice}
+use Rattle.tracing_appender_rolling.specs.Looks.{Starved, name_at}
 
 -- calls that changed nothing
 unchanged_called : (c : Contents) (after : Option Contents) → after ≡ Some (called c) → Unchanged c after
@@ -127,76 +124,6 @@ twice_again name (Some c) middle after fault r (told, left) tries =
 pub twice_starved : (name : List ℕ) (known after : Option Contents) (f : InitFailure) → f.error ≡ OutOfMemory → Gives (λ c. opened c name) known (Err OutOfMemory) after → Tries Unchanged (opened_twice name) known (Err f) after
 twice_starved name None after f starved left = left
 twice_starved name (Some c) after f starved left = subst (λ (e : FolderError). MissesOr (Unchanged c) (opened_twice name c) f e after) (sym starved) (unchanged_called c after left)
-
--- retention
-listed_by : (c : Contents) (o : Outcome) → (if_refused o (λ e. refusal e c) (list_plain c)).1 ≡ called c
-listed_by c (Refuses e) = refl
-listed_by c Done = refl
-listed_by c (Short most) = refl
-
-module _ (E : Type 0) (names : FileNames) (limit : ℕ) (f : Faults) (e : E) (limited : names.limit ≡ Some limit) where
-  unpruned : (c : Contents) (after : Option Contents) → UnprunedBy (Some limit) names f c after → Prunes {E = E} names f (Some c) (Err e) after
-  unpruned c after u = subst (λ (n : Option ℕ). UnprunedBy n names f c after) (sym limited) u
-
-  pub prune_unlisted : (known after : Option Contents) → Gives names_listed known (Err OutOfMemory) after → Prunes {E = E} names f known (Err e) after
-  prune_unlisted None after left = left
-  prune_unlisted (Some c) after left = unpruned c after (inl left)
-
-  pub prune_unread : (known after : Option Contents) (listing : List Listed) → Gives names_listed known (Ok listing) after → Prunes {E = E} names f known (Err e) after
-  prune_unread None after listing left = left
-  prune_unread (Some c) after listing (told, left) = unpruned c after (inl (left ∙ ap (λ (d : Contents). Some d) (listed_by c (c.coming 0))))
-
-  pub prune_stops : (known middle after : Option Contents) (listing : List Listed) (cs : List PlainCandidate) → Gives names_listed known (Ok listing) middle → IsCandidates names listing cs → Removes {E = E} (doomed limit cs) f middle (Err e) after → Prunes {E = E} names f known (Err e) after
-  prune_stops None middle after listing cs none are stops = subst (λ (o : Option Contents). Removes {E = E} (doomed limit cs) f o (Err e) after) none stops
-  prune_stops (Some c) middle after listing cs (told, left) are stops =
-      let is : names_listed c ≡ (Ok listing, (names_listed c).1) = ap (λ (r : Result (List Listed) FolderError). (r, (names_listed c).1)) told in
-      unpruned c after (inr (subst (λ (a : Answer (List Listed)). UnprunedAfter names limit f a after) (sym is) (cs, are, subst (λ (o : Option Contents). Removes {E = E} (doomed limit cs) f o (Err e) after) left stops)))
-
--- a try behind retention
-missed_try : (names : FileNames) (m : Moment) (f g : Faults) (c d : Contents) (middle after : Option Contents) (name : List ℕ) (failed : InitFailure) → name ≡ name_at names m → failed.error ≡ OutOfMemory → Pruned names f c g d → middle ≡ Some d → TriesFile names.latest name middle (Err failed) after → StarvedTry names m f c after
-missed_try names m f g c d middle after name failed is starved pruned left tries =
-    let gave = subst (λ (o : Option Contents). TriesFile names.latest (name_at names m) o (Err failed) after) left (subst (λ (n : List ℕ). TriesFile names.latest n middle (Err failed) after) is tries) in
-    record {
-      counted = g;
-      pruned = d;
-      retention = pruned;
-      missed = subst (λ (e : FolderError). MissesOr (MissedFile names.latest (name_at names m) d) (try_at names m d) failed e after) starved gave;
-    }
-
--- a switch
-module _ (E F : Type 0) (names : FileNames) (m : Moment) (boundary end : Option ℤ) (current file : FileNumber) (f l : Faults) where
-  pub switch_unnamed : (e : E) (known : Option Contents) → Switches {E = E} names m boundary current f known (Err e) end file l known
-  switch_unnamed e None = refl
-  switch_unnamed e (Some c) = inl refl
-
-  pub switch_unpruned : (e : E) (x : F) (known after : Option Contents) → Prunes {E = F} names f known (Err x) after → Switches {E = E} names m boundary current f known (Err e) end file l after
-  switch_unpruned e x None after left = left
-  switch_unpruned e x (Some c) after left = inr (inl left)
-
-  pub switch_untried : (e : E) (g : Faults) (known middle after : Option Contents) (name : List ℕ) (failed : InitFailure) → name ≡ name_at names m → failed.error ≡ OutOfMemory → Prunes {E = F} names f known (Ok g) middle → TriesFile names.latest name middle (Err failed) after → Switches {E = E} names m boundary current f known (Err e) end file l after
-  switch_untried e g None middle after name failed is starved none tries = subst (λ (o : Option Contents). TriesFile names.latest name o (Err failed) after) none tries
-  switch_untried e g (Some c) middle after name failed is starved (d, pruned, left) tries = inr (inr (missed_try names m f g c d middle after name failed is starved pruned left tries))
-
--- a building
-module _ (E : Type 0) (names : FileNames) (m : Moment) where
-  pub begins_unnamed : (failed : InitFailure) (known : Option Contents) → failed.error ≡ OutOfMemory → Begins names m known (Err failed) known
-  begins_unnamed failed None starved = refl
-  begins_unnamed failed (Some c) starved = subst (λ (e : FolderError). FailedAt names m c failed.context e (Some c)) (sym starved) (inl refl)
-
-  pub begins_unpruned : (failed : InitFailure) (x : E) (known after : Option Contents) → failed.error ≡ OutOfMemory → Prunes {E = E} names no_faults known (Err x) after → Begins names m known (Err failed) after
-  begins_unpruned failed x None after starved left = left
-  begins_unpruned failed x (Some c) after starved left = subst (λ (e : FolderError). FailedAt names m c failed.context e after) (sym starved) (inr (inl left))
-
-  begins_by : (g : Faults) (c : Contents) (middle after : Option Contents) (name : List ℕ) (failed : InitFailure) (e : FolderError) → failed.error ≡ e → name ≡ name_at names m → Prunes {E = E} names no_faults (Some c) (Ok g) middle → TriesFile names.latest name middle (Err failed) after → FailedAt names m c failed.context e after
-  begins_by g c middle after name failed OutOfMemory is_e is (p, pruned, left) tries = inr (inr (missed_try names m no_faults g c p middle after name failed is is_e pruned left tries))
-  begins_by g c middle after name failed (Fault fault) is_e is (p, pruned, left) tries =
-      let gave = subst (λ (o : Option Contents). TriesFile names.latest (name_at names m) o (Err failed) after) left (subst (λ (n : List ℕ). TriesFile names.latest n middle (Err failed) after) is tries) in
-      let told = subst (λ (x : FolderError). MissesOr (MissedFile names.latest (name_at names m) p) (try_at names m p) failed x after) is_e gave in
-      record { counted = g; pruned = p; retention = pruned; answered = told.0 ∙ ap (λ (x : FolderError). Err (failure failed.context x)) is_e; left = told.1 }
-
-  pub begins_untried : (g : Faults) (known middle after : Option Contents) (name : List ℕ) (failed : InitFailure) → name ≡ name_at names m → Prunes {E = E} names no_faults known (Ok g) middle → TriesFile names.latest name middle (Err failed) after → Begins names m known (Err failed) after
-  begins_untried g None middle after name failed is none tries = subst (λ (o : Option Contents). TriesFile names.latest name o (Err failed) after) none tries
-  begins_untried g (Some c) middle after name failed is pruned tries = begins_by g c middle after name failed failed.error refl is pruned tries
 
 -- known contents stay known
 pub starved_known : (names : FileNames) (m : Moment) (f : Faults) (c : Contents) (after : Option Contents) → Starved names m f c after → (d : Contents) × (after ≡ Some d)
