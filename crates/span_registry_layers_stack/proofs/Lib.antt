@@ -1,6 +1,7 @@
 pub mod Telling
 pub mod Loops
 pub mod Keeping
+pub mod OnStack
 pub mod Written
 pub mod Closing
 pub mod Making

@@ -4,6 +4,7 @@ pub mod Asked
 pub mod Stacks
 pub mod CacheValidity
 pub mod Hearing
+pub mod SpanSteps
 pub mod Calls
 pub mod New
 pub mod Swaps

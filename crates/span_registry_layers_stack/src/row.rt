@@ -12,6 +12,7 @@ mod spans;
 
 use span_registry_layers_layers::{Context, Filter, Filtered, Layer};
 use span_registry_layers_store::{FilterId, FilterMap, OutputKey, Registry};
+pub(crate) use spans::SpanStep;
 use tracing_core_fields::{LevelFilter, Metadata};
 use tracing_core_requests::{At, Event, Interest};
 

@@ -13,9 +13,7 @@ mod spans;
 use crate::row::Row;
 use span_registry_layers_layers::{Filter, Filtered, Layer, either_hint};
 use span_registry_layers_store::{FilterMap, Registry};
-pub(crate) use spans::{
-    tell_close, tell_dispatch, tell_enter, tell_exit, tell_follows, tell_new_span, tell_record,
-};
+pub(crate) use spans::{tell_dispatch, tell_follows, tell_new_span, tell_record, tell_step};
 use tracing_core_fields::{LevelFilter, Metadata};
 use tracing_core_requests::{At, Event, Interest};
 

@@ -11,7 +11,6 @@ ghost use Rattle.span_registry_layers_stack.specs.Stacks.{EventAsked, EventCache
 ghost use Rattle.span_registry_layers_stack.specs.CacheValidity.{CacheIsValid};
 ghost use Rattle.span_registry_layers_stack.specs.declared.output.Output.{Output};
 
-mod handing;
 mod reading;
 mod spans;
 mod swapping;
@@ -101,7 +100,7 @@ impl<L: Layer, F: Filter> Stack<Filtered<L, F>> {
         ensures asking { CacheIsValid ⟦<F as Filter>⟧ self.old → EventAsked ⟦<F as Filter>⟧ ⟦<L as Layer>⟧ (plain_event event.now) at self.old result self.new }
         ensures kept { CacheIsValid ⟦<F as Filter>⟧ self.old → CacheIsValid ⟦<F as Filter>⟧ self.new }
     {
-        self.hand_event(event, at)
+        self.parts.event(event, at)
     }
 
     /// Whether some output's filter passes what is made of the callsite there and then. It leaves no mark.
@@ -110,6 +109,6 @@ impl<L: Layer, F: Filter> Stack<Filtered<L, F>> {
         ensures asking { CacheIsValid ⟦<F as Filter>⟧ self.old → PassesAsked ⟦<F as Filter>⟧ self.old (plain_metadata metadata.now) at result }
         ensures same { self.new ≡ self.old }
     {
-        self.some_passes(metadata, at)
+        self.parts.enabled(metadata, at)
     }
 }

@@ -36,19 +36,19 @@ impl<L: Layer, F: Filter> Subscriber for Stack<Filtered<L, F>> {
     ghost quiet = { λ x m n at place r y b moved k. stack_quiet ⟦<F as Filter>⟧ x y n place b (asked_stays ⟦<F as Filter>⟧ ⟦<L as Layer>⟧ x m at r y moved) };
 
     fn on_register_dispatch(&mut self, dispatch: &WeakDispatch) {
-        self.tell_dispatch(dispatch)
+        self.parts.tell_dispatch(dispatch)
     }
 
     fn register_callsite(&mut self, metadata: &Metadata<'_>) -> Interest {
-        self.ask_interest(metadata)
+        self.parts.register(metadata)
     }
 
     fn enabled(&mut self, metadata: &Metadata<'_>, at: At) -> bool {
-        self.some_passes(metadata, at)
+        Stack::enabled(self, metadata, at)
     }
 
     fn max_level_hint(&mut self) -> Option<LevelFilter> {
-        self.ask_hint()
+        self.parts.ask_hint()
     }
 
     fn new_span(
@@ -56,15 +56,15 @@ impl<L: Layer, F: Filter> Subscriber for Stack<Filtered<L, F>> {
         attributes: &Attributes<'_, '_>,
         at: At,
     ) -> Result<Option<Id>, RequestError> {
-        self.hand_span(attributes, at)
+        Stack::new_span(self, attributes, at)
     }
 
     fn record(&mut self, span: &Id, values: &Record<'_>, at: At) -> Result<(), RequestError> {
-        self.hand_record(span, values, at)
+        Stack::record(self, span, values, at)
     }
 
     fn record_follows_from(&mut self, span: &Id, follows: &Id, at: At) -> Result<(), RequestError> {
-        self.hand_follows(span, follows, at)
+        Stack::record_follows_from(self, span, follows, at)
     }
 
     fn event_enabled(&mut self, _event: &Event<'_, '_>, _at: At) -> bool {
@@ -72,30 +72,30 @@ impl<L: Layer, F: Filter> Subscriber for Stack<Filtered<L, F>> {
     }
 
     fn event(&mut self, event: &Event<'_, '_>, at: At) -> Result<(), RequestError> {
-        self.hand_event(event, at)
+        Stack::event(self, event, at)
     }
 
     fn enter(&mut self, span: &Id, at: At) -> Result<(), RequestError> {
-        self.hand_enter(span, at)
+        Stack::enter(self, span, at)
     }
 
     fn exit(&mut self, span: &Id, at: At) {
-        self.hand_exit(span, at)
+        Stack::exit(self, span, at)
     }
 
     fn clone_span(&mut self, span: &Id, _at: At) -> Result<Id, RequestError> {
-        self.hand_clone(span)
+        self.parts.clone_span(span)
     }
 
     fn drop_span(&mut self, span: Id, at: At) {
-        let _closed = self.hand_close(span, at);
+        let _closed = Stack::try_close(self, span, at);
     }
 
     fn try_close(&mut self, span: Id, at: At) -> bool {
-        self.hand_close(span, at)
+        Stack::try_close(self, span, at)
     }
 
     fn current_span(&mut self, at: At) -> CurrentSpan {
-        self.current_on(at.lane)
+        self.parts.current_span(at.lane)
     }
 }

@@ -8,6 +8,7 @@ ghost use Rattle.span_registry_layers_stack.specs.Calls.{AsksUnless, CloneGives,
 ghost use Rattle.span_registry_layers_stack.specs.Stacks.{is_refused, plain_stack};
 
 use crate::parts::StackParts;
+use crate::row::SpanStep;
 use crate::rows::ask_span;
 use span_registry_layers_layers::{Filter, Filtered, Layer};
 use span_registry_layers_store::FilterMap;
@@ -67,7 +68,7 @@ impl<L: Layer, F: Filter> StackParts<Filtered<L, F>> {
         ensures { EnterGives ⟦<F as Filter>⟧ ⟦<L as Layer>⟧ span.now at (plain_stack self.old) result (plain_stack self.new) }
     {
         self.registry.enter(span, at.lane)?;
-        self.tell_enter(span, at);
+        self.tell_step(SpanStep::Entered, span, at);
         Ok(())
     }
 
@@ -78,7 +79,7 @@ impl<L: Layer, F: Filter> StackParts<Filtered<L, F>> {
         let Some(span) = self.registry.closing() else {
             return false;
         };
-        self.tell_close(&span, at);
+        self.tell_step(SpanStep::Closed, &span, at);
         let _span = self.registry.forget();
         true
     }
@@ -95,7 +96,7 @@ impl<L: Layer, F: Filter> StackParts<Filtered<L, F>> {
         ensures { ExitGives ⟦<F as Filter>⟧ ⟦<L as Layer>⟧ span.now at (plain_stack self.old) (plain_stack self.new) }
     {
         self.registry.leave(span, at.lane);
-        self.tell_exit(span, at);
+        self.tell_step(SpanStep::Exited, span, at);
         self.close_all(at);
     }
 

@@ -1,14 +1,15 @@
 //! Telling the outputs of a stack of events and spans.
 ghost use Rattle.tracing_core_requests.specs.PlainRequests.{plain_attributes, plain_event, plain_record};
-ghost use Rattle.span_registry_layers_layers.specs.Looks.{Closed, Entered, Exited, Recorded, SpanMade};
+ghost use Rattle.span_registry_layers_layers.specs.Looks.{Recorded, SpanMade};
 ghost use Rattle.span_registry_layers_stack.specs.Hearing.{TellsDispatch, TellsFollows, TellsMade, TellsSpan};
 ghost use Rattle.span_registry_layers_stack.specs.Rows.{AsksEvent, TellsEvent};
+ghost use Rattle.span_registry_layers_stack.specs.SpanSteps.{hook_of};
 ghost use Rattle.span_registry_layers_stack.specs.Stacks.{RowsBecome, RowsInTurn, plain_stack};
 
 use crate::parts::StackParts;
+use crate::row::SpanStep;
 use crate::rows::{
-    ask_event, tell_close, tell_dispatch, tell_enter, tell_event, tell_exit, tell_follows,
-    tell_new_span, tell_record,
+    ask_event, tell_dispatch, tell_event, tell_follows, tell_new_span, tell_record, tell_step,
 };
 use span_registry_layers_layers::{Filter, Filtered, Layer};
 use tracing_core_fields::Id;
@@ -47,22 +48,10 @@ impl<L: Layer, F: Filter> StackParts<Filtered<L, F>> {
         tell_follows(&mut self.rows, span, follows, &mut self.registry, at);
     }
 
-    pub(super) fn tell_enter(&mut self, span: &Id, at: At)
-        ensures { RowsInTurn (TellsSpan ⟦<F as Filter>⟧ ⟦<L as Layer>⟧ (Entered span.now) span.now at) (plain_stack self.old) (plain_stack self.new) }
+    pub(super) fn tell_step(&mut self, step: SpanStep, span: &Id, at: At)
+        ensures { RowsInTurn (TellsSpan ⟦<F as Filter>⟧ ⟦<L as Layer>⟧ (hook_of step span.now) span.now at) (plain_stack self.old) (plain_stack self.new) }
     {
-        tell_enter(&mut self.rows, span, &mut self.registry, at);
-    }
-
-    pub(super) fn tell_exit(&mut self, span: &Id, at: At)
-        ensures { RowsInTurn (TellsSpan ⟦<F as Filter>⟧ ⟦<L as Layer>⟧ (Exited span.now) span.now at) (plain_stack self.old) (plain_stack self.new) }
-    {
-        tell_exit(&mut self.rows, span, &mut self.registry, at);
-    }
-
-    pub(super) fn tell_close(&mut self, span: &Id, at: At)
-        ensures { RowsInTurn (TellsSpan ⟦<F as Filter>⟧ ⟦<L as Layer>⟧ (Closed span.now) span.now at) (plain_stack self.old) (plain_stack self.new) }
-    {
-        tell_close(&mut self.rows, span, &mut self.registry, at);
+        tell_step(&mut self.rows, step, span, &mut self.registry, at);
     }
 
     pub(crate) fn tell_dispatch(&mut self, dispatch: &WeakDispatch)

@@ -1,16 +1,25 @@
 //! What one output is told of spans.
 ghost use Rattle.std.specs.Prelude.{◌≡◌, ◌&&◌};
 ghost use Rattle.tracing_core_requests.specs.PlainRequests.{plain_attributes, plain_record};
-ghost use Rattle.span_registry_layers_layers.specs.Looks.{Closed, Entered, Exited, Recorded, SpanMade};
+ghost use Rattle.span_registry_layers_layers.specs.Looks.{Recorded, SpanMade};
 ghost use Rattle.span_registry_layers_layers.specs.Notices.{Followed};
 ghost use Rattle.span_registry_layers_stack.specs.Rows.{view_of, with_layer};
 ghost use Rattle.span_registry_layers_stack.specs.Hearing.{Hears, TellsDispatch, TellsFollows, TellsMade, TellsSpan, sees};
+ghost use Rattle.span_registry_layers_stack.specs.SpanSteps.{hook_of};
 
 use crate::row::Row;
 use span_registry_layers_layers::{Context, Filter, Filtered, Layer};
 use span_registry_layers_store::Registry;
 use tracing_core_fields::Id;
 use tracing_core_requests::{At, Attributes, Record, WeakDispatch};
+
+// What happens to a span that was made.
+#[derive(Clone, Copy)]
+pub(crate) enum SpanStep {
+    Entered,
+    Exited,
+    Closed,
+}
 
 impl<O> Row<O> {
     // Whether it sees the span: the span is open, and the filter passed it when it was made.
@@ -109,54 +118,33 @@ impl<L: Layer, F: Filter> Row<Filtered<L, F>> {
         }
     }
 
-    fn hear_enter(&mut self, span: &Id, registry: &mut Registry, at: At)
-        ensures { Hears ⟦<F as Filter>⟧ ⟦<L as Layer>⟧ span.now (Entered span.now) (view_of at registry.old self.old) self.old registry.new self.new }
+    // Its filter hears of it, and then its layer.
+    fn hear_step(&mut self, step: SpanStep, span: &Id, registry: &mut Registry, at: At)
+        ensures { Hears ⟦<F as Filter>⟧ ⟦<L as Layer>⟧ span.now (hook_of step span.now) (view_of at registry.old self.old) self.old registry.new self.new }
     {
         let mut context = Context::new(registry, at, Some(self.id));
-        self.output.filter_mut().on_enter(span, &context);
-        self.output.inner_mut().on_enter(span, &mut context);
-    }
-
-    // A span was entered.
-    pub(crate) fn enter(&mut self, span: &Id, registry: &mut Registry, at: At)
-        ensures { TellsSpan ⟦<F as Filter>⟧ ⟦<L as Layer>⟧ (Entered span.now) span.now at registry.old self.old registry.new self.new }
-    {
-        if self.sees(span, registry) {
-            self.hear_enter(span, registry, at);
+        match step {
+            SpanStep::Entered => {
+                self.output.filter_mut().on_enter(span, &context);
+                self.output.inner_mut().on_enter(span, &mut context);
+            }
+            SpanStep::Exited => {
+                self.output.filter_mut().on_exit(span, &context);
+                self.output.inner_mut().on_exit(span, &mut context);
+            }
+            SpanStep::Closed => {
+                self.output.filter_mut().on_close(span, &context);
+                self.output.inner_mut().on_close(span, &mut context);
+            }
         }
     }
 
-    fn hear_exit(&mut self, span: &Id, registry: &mut Registry, at: At)
-        ensures { Hears ⟦<F as Filter>⟧ ⟦<L as Layer>⟧ span.now (Exited span.now) (view_of at registry.old self.old) self.old registry.new self.new }
-    {
-        let mut context = Context::new(registry, at, Some(self.id));
-        self.output.filter_mut().on_exit(span, &context);
-        self.output.inner_mut().on_exit(span, &mut context);
-    }
-
-    // A span was left.
-    pub(crate) fn exit(&mut self, span: &Id, registry: &mut Registry, at: At)
-        ensures { TellsSpan ⟦<F as Filter>⟧ ⟦<L as Layer>⟧ (Exited span.now) span.now at registry.old self.old registry.new self.new }
+    // A span was entered or left, or closes.
+    pub(crate) fn step(&mut self, step: SpanStep, span: &Id, registry: &mut Registry, at: At)
+        ensures { TellsSpan ⟦<F as Filter>⟧ ⟦<L as Layer>⟧ (hook_of step span.now) span.now at registry.old self.old registry.new self.new }
     {
         if self.sees(span, registry) {
-            self.hear_exit(span, registry, at);
-        }
-    }
-
-    fn hear_close(&mut self, span: &Id, registry: &mut Registry, at: At)
-        ensures { Hears ⟦<F as Filter>⟧ ⟦<L as Layer>⟧ span.now (Closed span.now) (view_of at registry.old self.old) self.old registry.new self.new }
-    {
-        let mut context = Context::new(registry, at, Some(self.id));
-        self.output.filter_mut().on_close(span, &context);
-        self.output.inner_mut().on_close(span, &mut context);
-    }
-
-    // A span closes.
-    pub(crate) fn close(&mut self, span: &Id, registry: &mut Registry, at: At)
-        ensures { TellsSpan ⟦<F as Filter>⟧ ⟦<L as Layer>⟧ (Closed span.now) span.now at registry.old self.old registry.new self.new }
-    {
-        if self.sees(span, registry) {
-            self.hear_close(span, registry, at);
+            self.hear_step(step, span, registry, at);
         }
     }
 }

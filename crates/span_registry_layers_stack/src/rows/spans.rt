@@ -1,11 +1,12 @@
 //! What all outputs are told of spans, in order.
 ghost use Rattle.tracing_core_requests.specs.PlainRequests.{plain_attributes, plain_record};
-ghost use Rattle.span_registry_layers_layers.specs.Looks.{Closed, Entered, Exited, Recorded, SpanMade};
+ghost use Rattle.span_registry_layers_layers.specs.Looks.{Recorded, SpanMade};
 ghost use Rattle.span_registry_layers_layers.specs.Several.{EachInTurn};
 ghost use Rattle.span_registry_layers_stack.specs.Rows.{EachBecomes};
 ghost use Rattle.span_registry_layers_stack.specs.Hearing.{TellsDispatch, TellsFollows, TellsMade, TellsSpan};
+ghost use Rattle.span_registry_layers_stack.specs.SpanSteps.{hook_of};
 
-use crate::row::Row;
+use crate::row::{Row, SpanStep};
 use span_registry_layers_layers::{Filter, Filtered, Layer};
 use span_registry_layers_store::Registry;
 use tracing_core_fields::Id;
@@ -56,45 +57,18 @@ pub(crate) fn tell_follows<L: Layer, F: Filter>(
     }
 }
 
-// A span was entered.
-pub(crate) fn tell_enter<L: Layer, F: Filter>(
+// A span was entered or left, or closes.
+pub(crate) fn tell_step<L: Layer, F: Filter>(
     rows: &mut [Row<Filtered<L, F>>],
+    step: SpanStep,
     span: &Id,
     registry: &mut Registry,
     at: At,
 )
-    ensures { EachInTurn (TellsSpan ⟦<F as Filter>⟧ ⟦<L as Layer>⟧ (Entered span.now) span.now at) registry.old rows.old registry.new rows.new }
+    ensures { EachInTurn (TellsSpan ⟦<F as Filter>⟧ ⟦<L as Layer>⟧ (hook_of step span.now) span.now at) registry.old rows.old registry.new rows.new }
 {
     for row in rows.iter_mut() {
-        row.enter(span, registry, at);
-    }
-}
-
-// A span was left.
-pub(crate) fn tell_exit<L: Layer, F: Filter>(
-    rows: &mut [Row<Filtered<L, F>>],
-    span: &Id,
-    registry: &mut Registry,
-    at: At,
-)
-    ensures { EachInTurn (TellsSpan ⟦<F as Filter>⟧ ⟦<L as Layer>⟧ (Exited span.now) span.now at) registry.old rows.old registry.new rows.new }
-{
-    for row in rows.iter_mut() {
-        row.exit(span, registry, at);
-    }
-}
-
-// A span closes.
-pub(crate) fn tell_close<L: Layer, F: Filter>(
-    rows: &mut [Row<Filtered<L, F>>],
-    span: &Id,
-    registry: &mut Registry,
-    at: At,
-)
-    ensures { EachInTurn (TellsSpan ⟦<F as Filter>⟧ ⟦<L as Layer>⟧ (Closed span.now) span.now at) registry.old rows.old registry.new rows.new }
-{
-    for row in rows.iter_mut() {
-        row.close(span, registry, at);
+        row.step(step, span, registry, at);
     }
 }
 

@@ -14,7 +14,7 @@ impl<O> Stack<O> {
     pub fn current_span(&self, lane: u64) -> CurrentSpan
         ensures { result ≡ current_in self.now lane }
     {
-        self.current_on(lane)
+        self.parts.current_span(lane)
     }
 }
 
@@ -36,7 +36,7 @@ impl<L: Layer, F: Filter> Stack<Filtered<L, F>> {
         ensures asking { CacheIsValid ⟦<F as Filter>⟧ self.old → SpanAsked ⟦<F as Filter>⟧ ⟦<L as Layer>⟧ (plain_attributes attributes.now) at self.old result self.new }
         ensures kept { CacheIsValid ⟦<F as Filter>⟧ self.old → CacheIsValid ⟦<F as Filter>⟧ self.new }
     {
-        self.hand_span(attributes, at)
+        self.parts.new_span(attributes, at)
     }
 
     /// Tells each output that sees the span of values that are recorded on it.
@@ -48,7 +48,7 @@ impl<L: Layer, F: Filter> Stack<Filtered<L, F>> {
         ensures gives { RecordGives ⟦<F as Filter>⟧ ⟦<L as Layer>⟧ span.now (plain_record values.now) at self.old result self.new }
         ensures kept { CacheIsValid ⟦<F as Filter>⟧ self.old → CacheIsValid ⟦<F as Filter>⟧ self.new }
     {
-        self.hand_record(span, values, at)
+        self.parts.record(span, values, at)
     }
 
     /// Tells each output that sees both spans that the first follows from the second.
@@ -65,7 +65,7 @@ impl<L: Layer, F: Filter> Stack<Filtered<L, F>> {
         ensures gives { FollowsGives ⟦<F as Filter>⟧ ⟦<L as Layer>⟧ span.now follows.now at self.old result self.new }
         ensures kept { CacheIsValid ⟦<F as Filter>⟧ self.old → CacheIsValid ⟦<F as Filter>⟧ self.new }
     {
-        self.hand_follows(span, follows, at)
+        self.parts.record_follows_from(span, follows, at)
     }
 
     /// A lane enters a span, and each output that sees it is told.
@@ -77,7 +77,7 @@ impl<L: Layer, F: Filter> Stack<Filtered<L, F>> {
         ensures gives { EnterGives ⟦<F as Filter>⟧ ⟦<L as Layer>⟧ span.now at self.old result self.new }
         ensures kept { CacheIsValid ⟦<F as Filter>⟧ self.old → CacheIsValid ⟦<F as Filter>⟧ self.new }
     {
-        self.hand_enter(span, at)
+        self.parts.enter(span, at)
     }
 
     /// A lane leaves a span: its last entry there goes, where there is one, and the exit is told. Then what nothing keeps open
@@ -86,7 +86,7 @@ impl<L: Layer, F: Filter> Stack<Filtered<L, F>> {
         ensures gives { ExitGives ⟦<F as Filter>⟧ ⟦<L as Layer>⟧ span.now at self.old self.new }
         ensures kept { CacheIsValid ⟦<F as Filter>⟧ self.old → CacheIsValid ⟦<F as Filter>⟧ self.new }
     {
-        self.hand_exit(span, at)
+        self.parts.exit(span, at)
     }
 
     /// Counts one more handle of a span. It takes no memory.
@@ -99,7 +99,7 @@ impl<L: Layer, F: Filter> Stack<Filtered<L, F>> {
         ensures gives { CloneGives span.now self.old result self.new }
         ensures kept { CacheIsValid ⟦<F as Filter>⟧ self.old → CacheIsValid ⟦<F as Filter>⟧ self.new }
     {
-        self.hand_clone(span)
+        self.parts.clone_span(span)
     }
 
     /// Gives up one handle of a span, where it has one, and answers whether the span closed. What nothing keeps open closes,
@@ -108,6 +108,6 @@ impl<L: Layer, F: Filter> Stack<Filtered<L, F>> {
         ensures gives { CloseGives ⟦<F as Filter>⟧ ⟦<L as Layer>⟧ span at self.old result self.new }
         ensures kept { CacheIsValid ⟦<F as Filter>⟧ self.old → CacheIsValid ⟦<F as Filter>⟧ self.new }
     {
-        self.hand_close(span, at)
+        self.parts.try_close(span, at)
     }
 }

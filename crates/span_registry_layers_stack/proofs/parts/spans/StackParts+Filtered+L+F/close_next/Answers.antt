@@ -9,8 +9,8 @@ use Rattle.span_registry_layers_stack.proofs.parts.spans.StackParts+Filtered+L+F
 pub returns : goal.returns
 returns g c =
     let s = plain_stack c.args.self.now in
-    let told = c.tell_close.new.self in
+    let told = c.tell_step.new.self in
     let id = c.in-Some.span in
     let next : IsNext s.registry id = subst (λ o. MatchOption o (IsSettled s.registry) (λ (n : ℕ). IsNext s.registry n)) c.in-Some.is c.closing.ensures in
-    closed_one g.F.Filter g.L.Layer c.args.at s id told.registry c.forget-span.result (plain_stack (record told { registry = c.forget-span.new.self })) next c.tell_close.ensures.0 c.forget-span.ensures
-    (ap (λ (v : StackValue (Filtered g.row.L.Denot g.row.F.Denot)). record v { registry = c.forget-span.new.self }) c.tell_close.ensures.1)
+    closed_one g.F.Filter g.L.Layer c.args.at s id told.registry c.forget-span.result (plain_stack (record told { registry = c.forget-span.new.self })) next c.tell_step.ensures.0 c.forget-span.ensures
+    (ap (λ (v : StackValue (Filtered g.row.L.Denot g.row.F.Denot)). record v { registry = c.forget-span.new.self }) c.tell_step.ensures.1)

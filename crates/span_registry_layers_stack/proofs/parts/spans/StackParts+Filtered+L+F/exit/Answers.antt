@@ -4,5 +4,5 @@ use Rattle.span_registry_layers_stack.proofs.parts.spans.StackParts+Filtered+L+F
 
 pub returns : goal.returns
 returns g c =
-    exited g.F.Filter g.L.Layer c.args.span.now c.args.at c.leave.new.self (plain_stack c.args.self.now) (plain_stack c.tell_exit.new.self) (plain_stack c.close_all.new.self)
-    c.leave.ensures c.tell_exit.ensures c.close_all.ensures
+    exited g.F.Filter g.L.Layer c.args.span.now c.args.at c.leave.new.self (plain_stack c.args.self.now) (plain_stack c.tell_step.new.self) (plain_stack c.close_all.new.self)
+    c.leave.ensures c.tell_step.ensures c.close_all.ensures

@@ -1,5 +1,10 @@
-use Rattle.span_registry_layers_stack.specs.Steps.{keeps_word, clone_keeps}
+use Rattle.span_registry_layers_stack.specs.Calls.{CloneGives}
+use Rattle.span_registry_layers_stack.specs.Stacks.{plain_stack}
+use Rattle.span_registry_layers_stack.specs.Steps.{clone_keeps}
+use Rattle.span_registry_layers_stack.proofs.OnStack.{on_stack}
 use Rattle.span_registry_layers_stack.proofs.stack.spans.Stack+Filtered+L+F.clone_span.Goals as goal
 
-pub returns-clause-kept : goal.returns-clause-kept
-returns-clause-kept g c w = keeps_word g.F.Filter g.L.Layer c.args.self.now c.hand_clone.new.self (clone_keeps g.F.Filter g.L.Layer c.args.span.now c.args.self.now c.hand_clone.new.self c.hand_clone.result c.hand_clone.ensures) w
+pub returns : goal.returns
+returns g c =
+    let both = on_stack g.F.Filter g.L.Layer (λ s t. CloneGives c.args.span.now s c.clone_span.result t) (λ s t given. clone_keeps g.F.Filter g.L.Layer c.args.span.now s t c.clone_span.result given) _ _ (plain_stack c.clone_span.new.self) c.self.view_is c.clone_span.ensures in
+    record { gives = both.0; kept = both.1 }

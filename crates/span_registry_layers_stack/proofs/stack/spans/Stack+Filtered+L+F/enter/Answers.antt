@@ -1,5 +1,10 @@
-use Rattle.span_registry_layers_stack.specs.Steps.{keeps_word, enter_keeps}
+use Rattle.span_registry_layers_stack.specs.Calls.{EnterGives}
+use Rattle.span_registry_layers_stack.specs.Stacks.{plain_stack}
+use Rattle.span_registry_layers_stack.specs.Steps.{enter_keeps}
+use Rattle.span_registry_layers_stack.proofs.OnStack.{on_stack}
 use Rattle.span_registry_layers_stack.proofs.stack.spans.Stack+Filtered+L+F.enter.Goals as goal
 
-pub returns-clause-kept : goal.returns-clause-kept
-returns-clause-kept g c w = keeps_word g.F.Filter g.L.Layer c.args.self.now c.hand_enter.new.self (enter_keeps g.F.Filter g.L.Layer c.args.span.now c.args.at c.args.self.now c.hand_enter.new.self c.hand_enter.result c.hand_enter.ensures) w
+pub returns : goal.returns
+returns g c =
+    let both = on_stack g.F.Filter g.L.Layer (λ s t. EnterGives g.F.Filter g.L.Layer c.args.span.now c.args.at s c.enter.result t) (λ s t given. enter_keeps g.F.Filter g.L.Layer c.args.span.now c.args.at s t c.enter.result given) _ _ (plain_stack c.enter.new.self) c.self.view_is c.enter.ensures in
+    record { gives = both.0; kept = both.1 }

@@ -1,5 +1,10 @@
-use Rattle.span_registry_layers_stack.specs.Steps.{keeps_word, exit_keeps}
+use Rattle.span_registry_layers_stack.specs.Calls.{ExitGives}
+use Rattle.span_registry_layers_stack.specs.Stacks.{plain_stack}
+use Rattle.span_registry_layers_stack.specs.Steps.{exit_keeps}
+use Rattle.span_registry_layers_stack.proofs.OnStack.{on_stack}
 use Rattle.span_registry_layers_stack.proofs.stack.spans.Stack+Filtered+L+F.exit.Goals as goal
 
-pub returns-clause-kept : goal.returns-clause-kept
-returns-clause-kept g c w = keeps_word g.F.Filter g.L.Layer c.args.self.now c.hand_exit.new.self (exit_keeps g.F.Filter g.L.Layer c.args.span.now c.args.at c.args.self.now c.hand_exit.new.self c.hand_exit.ensures) w
+pub returns : goal.returns
+returns g c =
+    let both = on_stack g.F.Filter g.L.Layer (λ s t. ExitGives g.F.Filter g.L.Layer c.args.span.now c.args.at s t) (λ s t given. exit_keeps g.F.Filter g.L.Layer c.args.span.now c.args.at s t given) _ _ (plain_stack c.exit.new.self) c.self.view_is c.exit.ensures in
+    record { gives = both.0; kept = both.1 }

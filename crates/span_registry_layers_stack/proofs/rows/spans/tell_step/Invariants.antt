@@ -1,12 +1,12 @@
 use Rattle.std.proofs.Common.{◌≡◌, take, drop}
-use Rattle.span_registry_layers_layers.specs.Looks.{Closed}
 use Rattle.span_registry_layers_layers.specs.Several.{EachInTurn}
 use Rattle.span_registry_layers_stack.specs.Hearing.{TellsSpan}
-use Rattle.span_registry_layers_stack.proofs.rows.spans.tell_close.Given as goal
+use Rattle.span_registry_layers_stack.specs.SpanSteps.{hook_of}
+use Rattle.span_registry_layers_stack.proofs.rows.spans.tell_step.Given as goal
 
 abbrev pub invariant-loop-row : goal.invariant-loop-row
 invariant-loop-row g l =
     record {
-      done : EachInTurn (TellsSpan g.F.Filter g.L.Layer (Closed l.span) l.span l.at) l.fn.registry (take l.row-index l.fn.rows) l.registry (take l.row-index l.rows);
+      done : EachInTurn (TellsSpan g.F.Filter g.L.Layer (hook_of l.step l.span) l.span l.at) l.fn.registry (take l.row-index l.fn.rows) l.registry (take l.row-index l.rows);
       left : drop l.row-index l.rows ≡ drop l.row-index l.fn.rows;
     }
