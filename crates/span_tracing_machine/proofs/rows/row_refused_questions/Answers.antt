@@ -1,7 +1,0 @@
-use Rattle.std.proofs.Common.{refl}
-use Rattle.span_tracing_machine.proofs.Computing.{computing}
-use Rattle.span_tracing_machine.proofs.rows.row_refused_questions.Goals as goal
-
-pub returns : goal.returns
-unfolding computing
-returns c = refl
