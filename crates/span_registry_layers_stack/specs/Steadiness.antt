@@ -8,7 +8,7 @@ use Rattle.tracing_core_requests.specs.Calls.{Call, ReplyTo, DispatchRegistered,
 use Rattle.tracing_core_requests.specs.declared.interest.InterestInner.TheVariants.{Never, Sometimes, Always}
 use Rattle.tracing_core_requests.specs.Lists.{Every}
 use Rattle.tracing_core_fields.specs.PlainMetadata.{PlainMetadata, is_same_metadata-decides}
-use Rattle.tracing_core_requests.specs.Steady.{Agrees, HintFits, InterestFits, IsReal, IsRealCall, SameWord}
+use Rattle.tracing_core_requests.specs.Steady.{Agrees, HintFits, InterestFits, SameWord}
 use Rattle.span_registry_layers_store.specs.Registries.{RegistryValue}
 use Rattle.span_registry_layers_layers.specs.Combined.{Either, Else, either_hint}
 use Rattle.span_registry_layers_layers.specs.Honesty.{One}
@@ -210,8 +210,8 @@ module _ {F : Type 0} (g : Ghosts F) where
     passes_one s m at w false a b p q = some_one m at s.registry s.rows w.honest a b p q
 
     -- asked twice in one place, it answers the same
-    pub stack_single : (s : StackValue (Filtered L F)) (m : PlainMetadata) (at : At) (a b : Bool) → IsReal m → CacheIsValid g s → PassesCached g s m at a → PassesCached g s m at b → a ≡ b
-    stack_single s m at a b real w x y = passes_one s m at w (is_refused s m) a b x y
+    pub stack_single : (s : StackValue (Filtered L F)) (m : PlainMetadata) (at : At) (a b : Bool) → CacheIsValid g s → PassesCached g s m at a → PassesCached g s m at b → a ≡ b
+    stack_single s m at a b w x y = passes_one s m at w (is_refused s m) a b x y
 
   -- an interest that is right is kept
   renewed_right : (b : Bool) (m : PlainMetadata) (k : PlainInterest) (fs : List F) (site : PlainCachedInterest) → is_of m site ≡ b → Every (Knows g m k) fs → Every (Knows g site.metadata site.interest) fs → Every (Knows g (renewed m k site).metadata (renewed m k site).interest) fs
@@ -244,8 +244,8 @@ module _ {F : Type 0} (g : Ghosts F) where
         hints = w.hints;
       })
 
-  pub stack_quiet : {L : Type 0} (s t : StackValue (Filtered L F)) (n : PlainMetadata) (place : At) (b : Bool) → t ≡ s → PassesCached g s n place b ↔ PassesCached g t n place b
-  stack_quiet s t n place b e = (subst (λ x. PassesCached g x n place b) (sym e), subst (λ x. PassesCached g x n place b) e)
+  pub stack_quiet : {L : Type 0} (s t : StackValue (Filtered L F)) (n : PlainMetadata) (now : At) (b : Bool) → t ≡ s → PassesCached g s n now b ↔ PassesCached g t n now b
+  stack_quiet s t n now b e = (subst (λ x. PassesCached g x n now b) (sym e), subst (λ x. PassesCached g x n now b) e)
 
 module _ {L F : Type 0} (g : Ghosts F) (h : LayerGhosts L) where
   abbrev SameWords : StackValue (Filtered L F) → StackValue (Filtered L F) → Type 0
@@ -270,24 +270,24 @@ module _ {L F : Type 0} (g : Ghosts F) (h : LayerGhosts L) where
         same_hint = ap (common_hint g (Some 0)) e;
       }
 
-  pub stack_stays : (s : StackValue (Filtered L F)) (c : Call) (r : ReplyTo c) (t : StackValue (Filtered L F)) → IsRealCall c → Moves g h s c r t → CacheIsValid g s → CacheIsValid g t × SameWords s t
-  stack_stays s (DispatchRegistered dispatch) r t real m w = after_keeping s t w (dispatch_keeps g h dispatch s t m)
-  stack_stays s (CallsiteRegistered n) r t real m w =
+  pub stack_stays : (s : StackValue (Filtered L F)) (c : Call) (r : ReplyTo c) (t : StackValue (Filtered L F)) → Moves g h s c r t → CacheIsValid g s → CacheIsValid g t × SameWords s t
+  stack_stays s (DispatchRegistered dispatch) r t m w = after_keeping s t w (dispatch_keeps g h dispatch s t m)
+  stack_stays s (CallsiteRegistered n) r t m w =
       (word_registered g s t n r m.0 m.1 w, same_filters s t (ap (λ (v : StackValue (Filtered L F)). filters_of v.rows) m.1.1))
-  stack_stays s (Asked n at) r t real m w = after_keeping s t w (keeps_same g h s t m.1)
-  stack_stays s HintAsked r t real m w =
+  stack_stays s (Asked n at) r t m w = after_keeping s t w (keeps_same g h s t m.1)
+  stack_stays s HintAsked r t m w =
       (subst (CacheIsValid g) (sym (m.1 ∙ ap (λ hint. with_hint hint s) m.0)) (word_hinted g s w), same_filters s t (ap (λ (v : StackValue (Filtered L F)). filters_of v.rows) m.1))
-  stack_stays s (SpanMade a at) r t real m w = after_keeping s t w (span_keeps g h a at s t r m)
-  stack_stays s (Recorded id values at) r t real m w = after_keeping s t w (record_keeps g h id values at s t r m)
-  stack_stays s (FollowsRecorded id follows at) r t real m w = after_keeping s t w (follows_keeps g h id follows at s t r m)
-  stack_stays s (EventAsked e at) r t real m w = after_keeping s t w (keeps_same g h s t m.1)
-  stack_stays s (EventDispatched e at) r t real m w = after_keeping s t w (event_keeps g h e at s t r m)
-  stack_stays s (Entered id at) r t real m w = after_keeping s t w (enter_keeps g h id at s t r m)
-  stack_stays s (Exited id at) r t real m w = after_keeping s t w (exit_keeps g h id at s t m)
-  stack_stays s (Cloned id at) r t real m w = after_keeping s t w (clone_keeps g h id s t r m)
-  stack_stays s (Dropped id at) r t real m w = after_keeping s t w (close_keeps g h id at s t m.0 m.1)
-  stack_stays s (CloseTried id at) r t real m w = after_keeping s t w (close_keeps g h id at s t r m)
-  stack_stays s (CurrentAsked at) r t real m w = after_keeping s t w (keeps_same g h s t m.1)
+  stack_stays s (SpanMade a at) r t m w = after_keeping s t w (span_keeps g h a at s t r m)
+  stack_stays s (Recorded id values at) r t m w = after_keeping s t w (record_keeps g h id values at s t r m)
+  stack_stays s (FollowsRecorded id follows at) r t m w = after_keeping s t w (follows_keeps g h id follows at s t r m)
+  stack_stays s (EventAsked e at) r t m w = after_keeping s t w (keeps_same g h s t m.1)
+  stack_stays s (EventDispatched e at) r t m w = after_keeping s t w (event_keeps g h e at s t r m)
+  stack_stays s (Entered id at) r t m w = after_keeping s t w (enter_keeps g h id at s t r m)
+  stack_stays s (Exited id at) r t m w = after_keeping s t w (exit_keeps g h id at s t m)
+  stack_stays s (Cloned id at) r t m w = after_keeping s t w (clone_keeps g h id s t r m)
+  stack_stays s (Dropped id at) r t m w = after_keeping s t w (close_keeps g h id at s t m.0 m.1)
+  stack_stays s (CloseTried id at) r t m w = after_keeping s t w (close_keeps g h id at s t r m)
+  stack_stays s (CurrentAsked at) r t m w = after_keeping s t w (keeps_same g h s t m.1)
 
   pub asked_stays : (s : StackValue (Filtered L F)) (m : PlainMetadata) (at : At) (r : Bool) (t : StackValue (Filtered L F)) → Moves g h s (Asked m at) r t → t ≡ s
   asked_stays s m at r t w = w.1

@@ -29,11 +29,11 @@ impl<L: Layer, F: Filter> Subscriber for Stack<Filtered<L, F>> {
 
     ghost fair = { λ x k. stack_fair ⟦<F as Filter>⟧ x k };
 
-    ghost single = { λ x m at a b real k p q. stack_single ⟦<F as Filter>⟧ x m at a b real k p q };
+    ghost single = { λ x m at a b k p q. stack_single ⟦<F as Filter>⟧ x m at a b k p q };
 
-    ghost stays = { λ x c r y real moved k. stack_stays ⟦<F as Filter>⟧ ⟦<L as Layer>⟧ x c r y real moved k };
+    ghost stays = { λ x c r y moved k. stack_stays ⟦<F as Filter>⟧ ⟦<L as Layer>⟧ x c r y moved k };
 
-    ghost quiet = { λ x m n at place r y b moved k. stack_quiet ⟦<F as Filter>⟧ x y n place b (asked_stays ⟦<F as Filter>⟧ ⟦<L as Layer>⟧ x m at r y moved) };
+    ghost quiet = { λ x m n at now r y b moved k. stack_quiet ⟦<F as Filter>⟧ x y n now b (asked_stays ⟦<F as Filter>⟧ ⟦<L as Layer>⟧ x m at r y moved) };
 
     fn on_register_dispatch(&mut self, dispatch: &WeakDispatch) {
         self.parts.tell_dispatch(dispatch)

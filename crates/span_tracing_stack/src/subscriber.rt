@@ -71,9 +71,9 @@ impl<F: Filter> Subscriber for Stack<F> {
 
     ghost fair = { λ x k. is_fair ⟦<F as Filter>⟧ x k };
 
-    ghost single = { λ x m at a b real k p q. is_single ⟦<F as Filter>⟧ x m at a b k p q };
+    ghost single = { λ x m at a b k p q. is_single ⟦<F as Filter>⟧ x m at a b k p q };
 
-    ghost stays = { λ x c r y real moved k. word_stays ⟦<F as Filter>⟧ x c r y moved k };
+    ghost stays = { λ x c r y moved k. word_stays ⟦<F as Filter>⟧ x c r y moved k };
 
     ghost quiet = { λ x m n at place r y b moved k. probe_quiet ⟦<F as Filter>⟧ x m n at place r y b moved };
 

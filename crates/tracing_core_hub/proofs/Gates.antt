@@ -49,7 +49,7 @@ module _ {S C : Type 0} (g : Ghosts S) (h : SiteGhosts C) where
   answer_right t e row place (Some b) answer p fs found kept true_row right may given = given.0 ∙ sym (known_right t e row place b p kept true_row right may found)
   answer_right t e row place None answer p fs found kept true_row right may given =
       let m = h.metadata_of row.callsite in
-      g.single e.subscriber m place answer p true_row.1 kept.steady (asked_right t e m place answer fs kept.stands given) may
+      g.single e.subscriber m place answer p kept.steady (asked_right t e m place answer fs kept.stands given) may
 
   -- a gate answers what asking the reached subscriber does
   pub gate_right : (t u : Table S C) (e : RegisteredSubscriber S) (row : RegisteredCallsite C) (identifier : ℕ) (place : At) (result : Option Bool) (p : Bool) → GateGives g h t identifier place result u → row_of identifier t.rows ≡ Some row → reached t place.lane ≡ Some e.serial → HasValidCache g h t e → g.answers e.subscriber (h.metadata_of row.callsite) place p → result ≡ Some p

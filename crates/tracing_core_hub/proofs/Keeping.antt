@@ -169,7 +169,7 @@ module _ {S : Type 0} (g : Ghosts S) where
         let m = h.metadata_of row.callsite in
         let turn = each.1 in
         let a = asked_one m n None turn.0.0 es each.0 e turn.0.1 there in
-        let kept = g.stays e.subscriber (CallsiteRegistered m) a.1 a.0 known.0.1 a.4 steady in
+        let kept = g.stays e.subscriber (CallsiteRegistered m) a.1 a.0 a.4 steady in
         let rest = rows_all n each.0 fs rows laters (becomes a.0 e) each.2 known.1 a.2 kept.0 in
         let word = both_words e.subscriber a.0 rest.0 kept.1 rest.3 in
         let level : later.level ≡ row.level = ap (λ (r : RegisteredCallsite C). r.level) turn.3 in
@@ -187,7 +187,7 @@ module _ {S : Type 0} (g : Ghosts S) where
     rebuilt_keeps t u e r there steady known =
         let a = rows_all e.serial t.entries r.asked t.rows u.rows e r.rows known there steady in
         let b = hinted_one e.serial 0 u.greatest r.asked u.entries (becomes a.0 e) r.hints a.1 in
-        let kept = g.stays a.0 HintAsked (g.hint a.0) b.0 tt b.2 a.2 in (
+        let kept = g.stays a.0 HintAsked (g.hint a.0) b.0 b.2 a.2 in (
           b.0,
           record {
             stands = b.1;

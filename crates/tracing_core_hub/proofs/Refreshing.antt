@@ -201,9 +201,9 @@ module _ {S C : Type 0} (g : Ghosts S) (h : SiteGhosts C) (t : Table S C) where
   said row x y own f (inl lent) word (inr a) = let unlent : x.lent ≡ false = a.0 in absurd (cc)
   said row x y own f (inr kept) word (inr a) = word.onward (h.metadata_of row.callsite) own (a.3 x refl kept)
 
-  stays_row : (row : RegisteredCallsite C) (e : RegisteredSubscriber S) (own : PlainInterest) (f : RegisteredSubscriber S) → IsReal (h.metadata_of row.callsite) → g.steady e.subscriber → Gives row e own f → g.steady f.subscriber × SaysTheSame e.subscriber f.subscriber
-  stays_row row e own f real steady (inl a) = g.stays e.subscriber (CallsiteRegistered (h.metadata_of row.callsite)) own f.subscriber real a.1 steady
-  stays_row row e own f real steady (inr a) = subst (λ (d : RegisteredSubscriber S). g.steady d.subscriber × SaysTheSame e.subscriber d.subscriber) (sym a.1) (steady, same_word g e.subscriber)
+  stays_row : (row : RegisteredCallsite C) (e : RegisteredSubscriber S) (own : PlainInterest) (f : RegisteredSubscriber S) → g.steady e.subscriber → Gives row e own f → g.steady f.subscriber × SaysTheSame e.subscriber f.subscriber
+  stays_row row e own f steady (inl a) = g.stays e.subscriber (CallsiteRegistered (h.metadata_of row.callsite)) own f.subscriber a.1 steady
+  stays_row row e own f steady (inr a) = subst (λ (d : RegisteredSubscriber S). g.steady d.subscriber × SaysTheSame e.subscriber d.subscriber) (sym a.1) (steady, same_word g e.subscriber)
 
   hint_told : (x : RegisteredSubscriber S) (y : S) (top : Option ℕ) (f : RegisteredSubscriber S) → IsHeard x → SaysTheSame x.subscriber y → Hinted (becomes y x) top f → top ≡ g.hint y
   hint_told x y top f heard word (inl a) = a.0
@@ -211,22 +211,22 @@ module _ {S C : Type 0} (g : Ghosts S) (h : SiteGhosts C) (t : Table S C) where
   hint_told x y top f (inr kept) word (inr a) = a.3 x refl kept ∙ sym word.same_hint
 
   stays_hint : (e : RegisteredSubscriber S) (top : Option ℕ) (f : RegisteredSubscriber S) → g.steady e.subscriber → Hinted e top f → g.steady f.subscriber × SaysTheSame e.subscriber f.subscriber
-  stays_hint e top f steady (inl a) = g.stays e.subscriber HintAsked (g.hint e.subscriber) f.subscriber tt a.1 steady
+  stays_hint e top f steady (inl a) = g.stays e.subscriber HintAsked (g.hint e.subscriber) f.subscriber a.1 steady
   stays_hint e top f steady (inr a) = subst (λ (d : RegisteredSubscriber S). g.steady d.subscriber × SaysTheSame e.subscriber d.subscriber) (sym a.1) (steady, same_word g e.subscriber)
 
-  rows_heard : (x : RegisteredSubscriber S) (y : S) (es fs : List (RegisteredSubscriber S)) (rows laters : List (RegisteredCallsite C)) → IsHeard x → g.steady y → SaysTheSame x.subscriber y → Each (RowRefreshed g h t) es rows laters fs → Every (IsTrueRow h) rows → entry_of x.serial es ≡ Some (becomes y x) →
+  rows_heard : (x : RegisteredSubscriber S) (y : S) (es fs : List (RegisteredSubscriber S)) (rows laters : List (RegisteredCallsite C)) → IsHeard x → g.steady y → SaysTheSame x.subscriber y → Each (RowRefreshed g h t) es rows laters fs → entry_of x.serial es ≡ Some (becomes y x) →
       (z : S) × (entry_of x.serial fs ≡ Some (becomes z x)) × g.steady z × SaysTheSame x.subscriber z × Every (RowRight g h z) laters
-  rows_heard x y es fs [] [] heard steady word each known there = (y, subst (λ xs. entry_of x.serial xs ≡ Some (becomes y x)) (sym each) there, steady, word, tt)
-  rows_heard x y es fs [] (later ∷ laters) heard steady word each known there = absurd each
-  rows_heard x y es fs (row ∷ rows) [] heard steady word each known there = absurd each
-  rows_heard x y es fs (row ∷ rows) (later ∷ laters) heard steady word each known there =
+  rows_heard x y es fs [] [] heard steady word each there = (y, subst (λ xs. entry_of x.serial xs ≡ Some (becomes y x)) (sym each) there, steady, word, tt)
+  rows_heard x y es fs [] (later ∷ laters) heard steady word each there = absurd each
+  rows_heard x y es fs (row ∷ rows) [] heard steady word each there = absurd each
+  rows_heard x y es fs (row ∷ rows) (later ∷ laters) heard steady word each there =
       let m = h.metadata_of row.callsite in
       let turn = each.1 in
       let gave = gave_one row x.serial None turn.0.0 es each.0 (becomes y x) turn.0.1 there in
       let own = gave.1 in
       let says = said row x y own (becomes gave.0 x) heard word gave.3 in
-      let stays = stays_row row (becomes y x) own (becomes gave.0 x) known.0.1 steady gave.3 in
-      let rest = rows_heard x gave.0 each.0 fs rows laters heard stays.0 (both_words g x.subscriber y gave.0 word stays.1) each.2 known.1 gave.2 in (
+      let stays = stays_row row (becomes y x) own (becomes gave.0 x) steady gave.3 in
+      let rest = rows_heard x gave.0 each.0 fs rows laters heard stays.0 (both_words g x.subscriber y gave.0 word stays.1) each.2 gave.2 in (
         rest.0,
         rest.1,
         rest.2,
@@ -237,7 +237,7 @@ module _ {S C : Type 0} (g : Ghosts S) (h : SiteGhosts C) (t : Table S C) where
   -- a refresh makes what is kept right of whoever was lent and is consistent, and keeps it right of others
   pub refreshed_right : (u : Table S C) (x : RegisteredSubscriber S) → Refreshed g h t u → IsHeard x → entry_of x.serial t.entries ≡ Some x → g.steady x.subscriber → Every (IsTrueRow h) t.rows → (z : S) × HasValidCache g h u (asked_anew z x)
   refreshed_right u x r heard there steady known =
-      let a = rows_heard x x.subscriber t.entries r.asked t.rows u.rows heard steady (same_word g x.subscriber) r.rows known there in
+      let a = rows_heard x x.subscriber t.entries r.asked t.rows u.rows heard steady (same_word g x.subscriber) r.rows there in
       let b = gave_hint x.serial 0 u.greatest r.asked u.entries (becomes a.0 x) r.hints a.1 in
       let top : b.1 ≡ g.hint a.0 = hint_told x a.0 b.1 (asked_anew b.0 x) heard a.3 b.3 in
       let kept = stays_hint (becomes a.0 x) b.1 (asked_anew b.0 x) a.2 b.3 in (

@@ -17,7 +17,7 @@ use Rattle.tracing_core_hub.specs.ValidCaches.{IsTrueRow, RowRight, HasValidCach
 use Rattle.tracing_core_hub.specs.Lent.{lent_to, given_as}
 use Rattle.tracing_core_hub.specs.Refreshing.{Refreshed}
 use Rattle.tracing_core_hub.specs.Sound.{Ascends, IsSound, serials}
-use Rattle.tracing_core_requests.specs.Steady.{IsReal, IsRealCall, SameWord}
+use Rattle.tracing_core_requests.specs.Steady.{SameWord}
 use Rattle.tracing_core_hub.specs.Table.{Table, chosen}
 use Rattle.tracing_core_requests.specs.declared.at.At.{At}
 use Rattle.tracing_core_requests.specs.declared.callsite.Callsite.{Ghosts as SiteGhosts}
@@ -49,7 +49,7 @@ pub record Alike {S C : Type 0} (t u : Table S C) : Type 0 where
 -- the subscribers are as they were, but for one that a call was made of
 pub data Moved {S : Type 0} (g : Ghosts S) (es fs : List (RegisteredSubscriber S)) : Type 0 where
   Still : fs ≡ es → Moved g es fs
-  By : (n : ℕ) (x : RegisteredSubscriber S) (c : Call) (r : ReplyTo c) (after : S) → IsRealCall c → entry_of n es ≡ Some x → g.moves x.subscriber c r after → fs ≡ changed n (becomes after) es → Moved g es fs
+  By : (n : ℕ) (x : RegisteredSubscriber S) (c : Call) (r : ReplyTo c) (after : S) → entry_of n es ≡ Some x → g.moves x.subscriber c r after → fs ≡ changed n (becomes after) es → Moved g es fs
 
 module _ {S C : Type 0} (g : Ghosts S) (h : SiteGhosts C) where
   kept_moved : (t u : Table S C) (e f : RegisteredSubscriber S) → HasValidCache g h t e → entry_of f.serial u.entries ≡ Some f → f.lent ≡ false → g.steady f.subscriber → SameWord (g.says e.subscriber) (g.says f.subscriber) (g.hint e.subscriber) (g.hint f.subscriber) → Alike t u → HasValidCache g h u f
@@ -228,8 +228,8 @@ module _ {S C : Type 0} (g : Ghosts S) (h : SiteGhosts C) where
   lent_keeps t None w = others_from t t (itself_keeps t)
   lent_keeps t (Some n) w = lent_keeps_at n w t
 
-  moved_keeps_by : (n : ℕ) (x : RegisteredSubscriber S) (c : Call) (r : ReplyTo c) (after : S) (t u : Table S C) → IsRealCall c → entry_of n t.entries ≡ Some x → g.moves x.subscriber c r after → u.entries ≡ changed n (becomes after) t.entries → Alike t u → PreservesCaches g h t u
-  moved_keeps_by n x c r after t u real there moved left alike =
+  moved_keeps_by : (n : ℕ) (x : RegisteredSubscriber S) (c : Call) (r : ReplyTo c) (after : S) (t u : Table S C) → entry_of n t.entries ≡ Some x → g.moves x.subscriber c r after → u.entries ≡ changed n (becomes after) t.entries → Alike t u → PreservesCaches g h t u
+  moved_keeps_by n x c r after t u there moved left alike =
       record {
         sound = sound_alike h t u (ap (λ (es : List (RegisteredSubscriber S)). serials es) left ∙ serials_changed n (becomes after) (λ y. refl) t.entries) alike.next alike.rows;
         later = λ sound. later_alike t u (ap (λ (es : List (RegisteredSubscriber S)). serials es) left ∙ serials_changed n (becomes after) (λ y. refl) t.entries) alike.next;
@@ -240,7 +240,7 @@ module _ {S C : Type 0} (g : Ghosts S) (h : SiteGhosts C) where
             let found : entry_of n t.entries ≡ Some e = subst (λ k. entry_of k t.entries ≡ Some e) number kept.stands in
             let same : x ≡ e = same_entry t.entries n x e there found in
             let own : entry_of n u.entries ≡ Some (becomes after e) = subst (λ es. entry_of n es ≡ Some (becomes after e)) (sym left) (changed_own n (becomes after) (λ y. refl) t.entries e found) in
-            let word = g.stays e.subscriber c r after real (subst (λ (d : RegisteredSubscriber S). g.moves d.subscriber c r after) same moved) kept.steady in (
+            let word = g.stays e.subscriber c r after (subst (λ (d : RegisteredSubscriber S). g.moves d.subscriber c r after) same moved) kept.steady in (
               becomes after e,
               refl,
               kept_moved t u e (becomes after e) kept (subst (λ k. entry_of k u.entries ≡ Some (becomes after e)) (sym number) own) kept.unlent word.0 word.1 alike,
@@ -250,28 +250,28 @@ module _ {S C : Type 0} (g : Ghosts S) (h : SiteGhosts C) where
 
   moved_keeps : (t u : Table S C) → Moved g t.entries u.entries → Alike t u → PreservesCaches g h t u
   moved_keeps t u (Still same) alike = same_keeps t u same alike
-  moved_keeps t u (By n x c r after real there moved left) alike = moved_keeps_by n x c r after t u real there moved left alike
+  moved_keeps t u (By n x c r after there moved left) alike = moved_keeps_by n x c r after t u there moved left alike
 
-  ask_moves_at : (m : PlainMetadata) (place : At) (n : ℕ) (es fs : List (RegisteredSubscriber S)) (o : Option (RegisteredSubscriber S)) (answer : Bool) → entry_of n es ≡ o → IsReal m → AskGivesAt g m place n es o answer fs → Moved g es fs
-  ask_moves_at m place n es fs None answer there real given = Still given.1
-  ask_moves_at m place n es fs (Some x) answer there real given = By n x (Asked m place) answer given.0 real there given.2 given.3
+  ask_moves_at : (m : PlainMetadata) (now : At) (n : ℕ) (es fs : List (RegisteredSubscriber S)) (o : Option (RegisteredSubscriber S)) (answer : Bool) → entry_of n es ≡ o → AskGivesAt g m now n es o answer fs → Moved g es fs
+  ask_moves_at m now n es fs None answer there given = Still given.1
+  ask_moves_at m now n es fs (Some x) answer there given = By n x (Asked m now) answer given.0 there given.2 given.3
 
-  ask_moves : (m : PlainMetadata) (place : At) (serial : Option ℕ) (es fs : List (RegisteredSubscriber S)) (answer : Bool) → IsReal m → AskGives g m place serial es answer fs → Moved g es fs
-  ask_moves m place None es fs answer real given = Still given.1
-  ask_moves m place (Some n) es fs answer real given = ask_moves_at m place n es fs (entry_of n es) answer refl real given
+  ask_moves : (m : PlainMetadata) (now : At) (serial : Option ℕ) (es fs : List (RegisteredSubscriber S)) (answer : Bool) → AskGives g m now serial es answer fs → Moved g es fs
+  ask_moves m now None es fs answer given = Still given.1
+  ask_moves m now (Some n) es fs answer given = ask_moves_at m now n es fs (entry_of n es) answer refl given
 
-  answer_moves : (row : RegisteredCallsite C) (place : At) (k : Option Bool) (serial : Option ℕ) (es fs : List (RegisteredSubscriber S)) (answer : Bool) → IsReal (h.metadata_of row.callsite) → AnswerGives g h row place k serial es answer fs → Moved g es fs
-  answer_moves row place k None es fs answer real given = Still given.1
-  answer_moves row place (Some b) (Some n) es fs answer real given = Still given.1
-  answer_moves row place None (Some n) es fs answer real given = ask_moves (h.metadata_of row.callsite) place (Some n) es fs answer real given
+  answer_moves : (row : RegisteredCallsite C) (now : At) (k : Option Bool) (serial : Option ℕ) (es fs : List (RegisteredSubscriber S)) (answer : Bool) → AnswerGives g h row now k serial es answer fs → Moved g es fs
+  answer_moves row now k None es fs answer given = Still given.1
+  answer_moves row now (Some b) (Some n) es fs answer given = Still given.1
+  answer_moves row now None (Some n) es fs answer given = ask_moves (h.metadata_of row.callsite) now (Some n) es fs answer given
 
-  call_moves_at : (c : Call) (n : ℕ) (es fs : List (RegisteredSubscriber S)) (o : Option (RegisteredSubscriber S)) (reply : ReplyTo c) → entry_of n es ≡ o → IsRealCall c → CallGivesAt g c (Some n) es o reply fs → Moved g es fs
-  call_moves_at c n es fs None reply there real given = Still given.1
-  call_moves_at c n es fs (Some x) reply there real given = By n x c reply given.0 real there given.1 given.2
+  call_moves_at : (c : Call) (n : ℕ) (es fs : List (RegisteredSubscriber S)) (o : Option (RegisteredSubscriber S)) (reply : ReplyTo c) → entry_of n es ≡ o → CallGivesAt g c (Some n) es o reply fs → Moved g es fs
+  call_moves_at c n es fs None reply there given = Still given.1
+  call_moves_at c n es fs (Some x) reply there given = By n x c reply given.0 there given.1 given.2
 
-  call_moves : (c : Call) (dispatch : Option ℕ) (es fs : List (RegisteredSubscriber S)) (reply : ReplyTo c) → IsRealCall c → CallGives g c dispatch es reply fs → Moved g es fs
-  call_moves c None es fs reply real given = Still given.1
-  call_moves c (Some n) es fs reply real given = call_moves_at c n es fs (entry_of n es) reply refl real given
+  call_moves : (c : Call) (dispatch : Option ℕ) (es fs : List (RegisteredSubscriber S)) (reply : ReplyTo c) → CallGives g c dispatch es reply fs → Moved g es fs
+  call_moves c None es fs reply given = Still given.1
+  call_moves c (Some n) es fs reply given = call_moves_at c n es fs (entry_of n es) reply refl given
 
   alike_but_entries : (t u : Table S C) → u ≡ record t { entries = u.entries } → Alike t u
   alike_but_entries t u left =
@@ -282,12 +282,12 @@ module _ {S C : Type 0} (g : Ghosts S) (h : SiteGhosts C) where
       }
 
   -- a request through a handle
-  call_keeps : (c : Call) (dispatch : Option ℕ) (t u : Table S C) (reply : ReplyTo c) → IsRealCall c → HubGives g c dispatch t reply u → PreservesCaches g h t u
-  call_keeps c dispatch t u reply real given = moved_keeps t u (call_moves c dispatch t.entries u.entries reply real given.0) (alike_but_entries t u given.1)
+  call_keeps : (c : Call) (dispatch : Option ℕ) (t u : Table S C) (reply : ReplyTo c) → HubGives g c dispatch t reply u → PreservesCaches g h t u
+  call_keeps c dispatch t u reply given = moved_keeps t u (call_moves c dispatch t.entries u.entries reply given.0) (alike_but_entries t u given.1)
 
   -- a question through a handle
-  ask_keeps : (m : PlainMetadata) (place : At) (dispatch : Option ℕ) (t u : Table S C) (answer : Bool) → IsReal m → AskGives g m place dispatch t.entries answer u.entries → u ≡ record t { entries = u.entries } → PreservesCaches g h t u
-  ask_keeps m place dispatch t u answer real given left = moved_keeps t u (ask_moves m place dispatch t.entries u.entries answer real given) (alike_but_entries t u left)
+  ask_keeps : (m : PlainMetadata) (now : At) (dispatch : Option ℕ) (t u : Table S C) (answer : Bool) → AskGives g m now dispatch t.entries answer u.entries → u ≡ record t { entries = u.entries } → PreservesCaches g h t u
+  ask_keeps m now dispatch t u answer given left = moved_keeps t u (ask_moves m now dispatch t.entries u.entries answer given) (alike_but_entries t u left)
 
   -- what the subscribers give by the number of a handle is what the hub gives
   on_hub : (Gives : Option ℕ → List (RegisteredSubscriber S) → List (RegisteredSubscriber S) → Type 0) {serial dispatch : Option ℕ} {t v : Table S C} {es fs left : List (RegisteredSubscriber S)} → serial ≡ dispatch → v ≡ t → es ≡ v.entries → left ≡ fs → Gives serial es fs → Gives dispatch t.entries left
@@ -297,32 +297,23 @@ module _ {S C : Type 0} (g : Ghosts S) (h : SiteGhosts C) where
   with_entries : {t v : Table S C} (left : List (RegisteredSubscriber S)) → v ≡ t → ◌≡◌ {A = Table S C} (record v { entries = left }) (record t { entries = left })
   with_entries left view = ap (λ (w : Table S C). record w { entries = left }) view
 
-  pub handed_keeps : (c : Call) (reply : ReplyTo c) {serial dispatch : Option ℕ} {t v : Table S C} {es fs left : List (RegisteredSubscriber S)} → IsRealCall c → serial ≡ dispatch → v ≡ t → es ≡ v.entries → left ≡ fs → CallGives g c serial es reply fs → PreservesCaches g h t (record v { entries = left })
-  handed_keeps c reply {dispatch = dispatch} {t = t} {v = v} {left = left} real led view shown same given =
-      call_keeps c dispatch t (record v { entries = left }) reply real (on_hub (λ d xs ys. CallGives g c d xs reply ys) led view shown same given, with_entries left view)
+  pub handed_keeps : (c : Call) (reply : ReplyTo c) {serial dispatch : Option ℕ} {t v : Table S C} {es fs left : List (RegisteredSubscriber S)} → serial ≡ dispatch → v ≡ t → es ≡ v.entries → left ≡ fs → CallGives g c serial es reply fs → PreservesCaches g h t (record v { entries = left })
+  handed_keeps c reply {dispatch = dispatch} {t = t} {v = v} {left = left} led view shown same given =
+      call_keeps c dispatch t (record v { entries = left }) reply (on_hub (λ d xs ys. CallGives g c d xs reply ys) led view shown same given, with_entries left view)
 
-  pub asked_keeps : (m : PlainMetadata) (at : At) (answer : Bool) {serial dispatch : Option ℕ} {t v : Table S C} {es fs left : List (RegisteredSubscriber S)} → IsReal m → serial ≡ dispatch → v ≡ t → es ≡ v.entries → left ≡ fs → AskGives g m at serial es answer fs → PreservesCaches g h t (record v { entries = left })
-  asked_keeps m at answer {dispatch = dispatch} {t = t} {v = v} {left = left} real led view shown same given =
-      ask_keeps m at dispatch t (record v { entries = left }) answer real (on_hub (λ d xs ys. AskGives g m at d xs answer ys) led view shown same given) (with_entries left view)
+  pub asked_keeps : (m : PlainMetadata) (now : At) (answer : Bool) {serial dispatch : Option ℕ} {t v : Table S C} {es fs left : List (RegisteredSubscriber S)} → serial ≡ dispatch → v ≡ t → es ≡ v.entries → left ≡ fs → AskGives g m now serial es answer fs → PreservesCaches g h t (record v { entries = left })
+  asked_keeps m now answer {dispatch = dispatch} {t = t} {v = v} {left = left} led view shown same given =
+      ask_keeps m now dispatch t (record v { entries = left }) answer (on_hub (λ d xs ys. AskGives g m now d xs answer ys) led view shown same given) (with_entries left view)
 
-  gate_moves_at : (t u : Table S C) (identifier : ℕ) (place : At) (o : Option (RegisteredCallsite C)) (result : Option Bool) → row_of identifier t.rows ≡ o → GateGivesAt g h t o place result u → Every (IsTrueRow h) t.rows → Moved g t.entries u.entries × Alike t u
-  gate_moves_at t u identifier place None result found given sites =
+  gate_moves_at : (t u : Table S C) (now : At) (o : Option (RegisteredCallsite C)) (result : Option Bool) → GateGivesAt g h t o now result u → Moved g t.entries u.entries × Alike t u
+  gate_moves_at t u now None result given =
       (Still (ap (λ (v : Table S C). v.entries) given.1), record { next = ap (λ (v : Table S C). v.next) given.1; rows = ap (λ (v : Table S C). v.rows) given.1; greatest = ap (λ (v : Table S C). v.greatest) given.1 })
-  gate_moves_at t u identifier place (Some row) result found given sites =
-      let true_row = row_every (IsTrueRow h) identifier t.rows row found sites in
-      (answer_moves row place (known t.greatest row.level row.interest) (reached t place.lane) t.entries u.entries given.0.0 true_row.1 given.0.2, alike_but_entries t u given.1)
-
-  gate_moves : (t u : Table S C) (identifier : ℕ) (place : At) (result : Option Bool) → GateGives g h t identifier place result u → Every (IsTrueRow h) t.rows → Moved g t.entries u.entries × Alike t u
-  gate_moves t u identifier place result given sites = gate_moves_at t u identifier place (row_of identifier t.rows) result refl given sites
+  gate_moves_at t u now (Some row) result given =
+      (answer_moves row now (known t.greatest row.level row.interest) (reached t now.lane) t.entries u.entries given.0.0 given.0.2, alike_but_entries t u given.1)
 
   -- a gate
-  pub gate_keeps : (t u : Table S C) (identifier : ℕ) (place : At) (result : Option Bool) → GateGives g h t identifier place result u → PreservesCaches g h t u
-  gate_keeps t u identifier place result given =
-      record {
-        sound = λ sound. let m = gate_moves t u identifier place result given sound.sites in (moved_keeps t u m.0 m.1).sound sound;
-        later = λ sound. let m = gate_moves t u identifier place result given sound.sites in (moved_keeps t u m.0 m.1).later sound;
-        right_of = λ e kept. let m = gate_moves t u identifier place result given kept.rows in (moved_keeps t u m.0 m.1).right_of e kept;
-      }
+  pub gate_keeps : (t u : Table S C) (identifier : ℕ) (now : At) (result : Option Bool) → GateGives g h t identifier now result u → PreservesCaches g h t u
+  gate_keeps t u identifier now result given = let m = gate_moves_at t u now (row_of identifier t.rows) result given in moved_keeps t u m.0 m.1
 
   -- asking again whoever was lent, and maybe others
   pub refresh_keeps : (t u : Table S C) → Refreshed g h t u → PreservesCaches g h t u
@@ -377,7 +368,7 @@ module _ {S C : Type 0} (g : Ghosts S) (h : SiteGhosts C) where
       let z = given.1.0 in
       let v : Table S C = with_new t z in
       let asked : Refreshed g h v u = given.1.2 in
-      let later = g.stays s (DispatchRegistered (Some t.next)) tt z tt given.1.1 steady in
+      let later = g.stays s (DispatchRegistered (Some t.next)) tt z given.1.1 steady in
       let is : is_of t.next (living t.next z) ≡ true = (unsigned_Decides t.next t.next).1 refl in
       let there : entry_of t.next v.entries ≡ Some (living t.next z) = entry_last t.next t.entries (living t.next z) (absent_above 0 t.next t.entries sound.numbers) is in
       let a = refreshed_right g h v u (living t.next z) asked (inl refl) there later.0 sound.sites in
@@ -402,7 +393,7 @@ module _ {S C : Type 0} (g : Ghosts S) (h : SiteGhosts C) where
       let asked = asked_one g m e.serial None r.asked.0.0 t.entries u.entries e r.asked.0.1 kept.stands in
       let z = asked.0 in
       let own = asked.1 in
-      let stays = g.stays e.subscriber (CallsiteRegistered m) own z r.real asked.4 kept.steady in
+      let stays = g.stays e.subscriber (CallsiteRegistered m) own z asked.4 kept.steady in
       let said : g.says z (h.metadata_of r.row.callsite) own = subst (λ x. g.says z x own) (sym r.asked.1) (stays.1.onward m own asked.3) in (
         z,
         record {

@@ -15,7 +15,6 @@ mod handing;
 mod handles;
 mod lending;
 mod parts;
-mod ranks;
 mod reaching;
 mod requests;
 mod rows;

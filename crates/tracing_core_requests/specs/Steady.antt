@@ -2,7 +2,6 @@
 use Rattle.std.specs.Prelude.{◌≡◌, ◌<◌, ℕ, Bool, true, false, Option, Some, None}
 use Rattle.tracing_core_fields.specs.Level.{IsRank}
 use Rattle.tracing_core_fields.specs.PlainMetadata.{PlainMetadata}
-use Rattle.tracing_core_requests.specs.Calls.{Call, CallsiteRegistered, Asked, SpanMade, EventAsked, EventDispatched}
 use Rattle.tracing_core_requests.specs.Interests.{PlainInterest}
 use Rattle.tracing_core_requests.specs.declared.at.At.{At}
 use Rattle.tracing_core_requests.specs.declared.interest.InterestInner.TheVariants.{Never, Sometimes, Always}
@@ -10,15 +9,6 @@ use Rattle.tracing_core_requests.specs.declared.interest.InterestInner.TheVarian
 -- metadata that a callsite can have: its level is one of the five
 abbrev pub IsReal : PlainMetadata → Type 0
 IsReal metadata = IsRank metadata.level
-
--- the metadata that a call names, if any, is real
-abbrev pub IsRealCall : Call → Type 0
-IsRealCall (CallsiteRegistered metadata) = IsReal metadata
-IsRealCall (Asked metadata at) = IsReal metadata
-IsRealCall (SpanMade attributes at) = IsReal attributes.metadata
-IsRealCall (EventAsked event at) = IsReal event.metadata
-IsRealCall (EventDispatched event at) = IsReal event.metadata
-IsRealCall other = Unit {0}
 
 -- what is never enabled isn't enabled, and what is always enabled is
 abbrev pub InterestFits : PlainInterest → Bool → Type 0

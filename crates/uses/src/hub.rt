@@ -58,11 +58,11 @@ impl Subscriber for Tally {
 
     ghost fair = { λ x _. level_agrees x.most };
 
-    ghost single = { λ x m at a b real k p q. p ∙ sym q };
+    ghost single = { λ x m at a b k p q. p ∙ sym q };
 
-    ghost stays = { λ x c r y real moved k. (tt, subst (λ z. SameWord (λ m j. j ≡ level_interest x.most m.level) (λ m j. j ≡ level_interest z.most m.level) (Some x.most) (Some z.most)) (sym moved.1) (same_word (λ m j. j ≡ level_interest x.most m.level) (Some x.most))) };
+    ghost stays = { λ x c r y moved k. (tt, subst (λ z. SameWord (λ m j. j ≡ level_interest x.most m.level) (λ m j. j ≡ level_interest z.most m.level) (Some x.most) (Some z.most)) (sym moved.1) (same_word (λ m j. j ≡ level_interest x.most m.level) (Some x.most))) };
 
-    ghost quiet = { λ x m n at place r y b moved k. subst (λ z. (b ≡ nat_le n.level x.most) ↔ (b ≡ nat_le n.level z.most)) (sym moved.1) (λ e. e, λ e. e) };
+    ghost quiet = { λ x m n at now r y b moved k. subst (λ z. (b ≡ nat_le n.level x.most) ↔ (b ≡ nat_le n.level z.most)) (sym moved.1) (λ e. e, λ e. e) };
 
     fn on_register_dispatch(&mut self, _dispatch: &WeakDispatch) {}
 

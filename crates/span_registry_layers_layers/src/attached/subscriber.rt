@@ -29,9 +29,9 @@ impl<L: Layer> Subscriber for Layered<L, Registry> {
 
     ghost fair = { λ x _. staying.tree_fair ⟦<L as Layer>⟧ x };
 
-    ghost single = { λ x m at a b _ k p q. staying.tree_single ⟦<L as Layer>⟧ x m at a b k p q };
+    ghost single = { λ x m at a b k p q. staying.tree_single ⟦<L as Layer>⟧ x m at a b k p q };
 
-    ghost stays = { λ x c r y _ moved k. staying.tree_stays ⟦<L as Layer>⟧ x c r y moved k };
+    ghost stays = { λ x c r y moved k. staying.tree_stays ⟦<L as Layer>⟧ x c r y moved k };
 
     ghost quiet = { λ x m n at place r y b moved _. subst (λ z. trees.AnswersOf ⟦<L as Layer>⟧ x n place b ↔ trees.AnswersOf ⟦<L as Layer>⟧ z n place b) (sym moved.1) (λ p. p, λ p. p) };
 

@@ -1,10 +1,9 @@
 //! Making an event and handing it over at once.
-ghost use Rattle.tracing_core_fields.specs.Metadata.{plain_metadata};
 ghost use Rattle.tracing_core_requests.specs.Calls.{EventDispatched};
 ghost use Rattle.tracing_core_hub.specs.Commands.{reached};
 ghost use Rattle.tracing_core_hub.specs.Handing.{HubGives};
 ghost use Rattle.tracing_core_hub.specs.Keeping.{PreservesCaches};
-ghost use Rattle.tracing_core_requests.specs.PlainRequests.{child_or_root, plain_values};
+ghost use Rattle.tracing_core_requests.specs.PlainRequests.{child_or_root, plain_request};
 ghost use Rattle.tracing_core_requests.specs.declared.requests.parent.Parent.TheVariants.{Current};
 
 use crate::hub::Hub;
@@ -19,11 +18,7 @@ impl<S: Subscriber, C: Callsite> Hub<S, C> {
         values: ValueSet<'_>,
         at: At,
     ) -> Result<(), RequestError>
-        ensures gives { HubGives ⟦<S as Subscriber>⟧ (EventDispatched (record {
-          metadata = plain_metadata metadata.now;
-          values = plain_values values.entry;
-          parent = Current;
-        }) at) (reached self.old at.lane) self.old result self.new }
+        ensures gives { HubGives ⟦<S as Subscriber>⟧ (EventDispatched (plain_request metadata.now values.entry Current) at) (reached self.old at.lane) self.old result self.new }
         ensures keeps { PreservesCaches ⟦<S as Subscriber>⟧ ⟦<C as Callsite>⟧ self.old self.new }
     {
         self.event_here(&Event::new(metadata, values), at)
@@ -38,11 +33,7 @@ impl<S: Subscriber, C: Callsite> Hub<S, C> {
         values: ValueSet<'_>,
         at: At,
     ) -> Result<(), RequestError>
-        ensures gives { HubGives ⟦<S as Subscriber>⟧ (EventDispatched (record {
-          metadata = plain_metadata metadata.now;
-          values = plain_values values.entry;
-          parent = child_or_root parent;
-        }) at) (reached self.old at.lane) self.old result self.new }
+        ensures gives { HubGives ⟦<S as Subscriber>⟧ (EventDispatched (plain_request metadata.now values.entry (child_or_root parent)) at) (reached self.old at.lane) self.old result self.new }
         ensures keeps { PreservesCaches ⟦<S as Subscriber>⟧ ⟦<C as Callsite>⟧ self.old self.new }
     {
         self.event_here(&Event::new_child_of(parent, metadata, values), at)

@@ -12,7 +12,6 @@ use crate::dispatch::Dispatch;
 use crate::hub::Hub;
 use crate::hub::lending::place_or_end;
 use crate::hub::parts::RegisteredSubscriber;
-use crate::hub::ranks::is_real;
 use tracing_core_fields::{Id, Metadata};
 use tracing_core_requests::{
     At, Attributes, Callsite, CurrentSpan, Event, Interest, RequestError, Subscriber, serial_of,
@@ -51,7 +50,6 @@ impl<S: Subscriber, C: Callsite> Hub<S, C> {
         ensures handed { HubGives ⟦<S as Subscriber>⟧ (CallsiteRegistered (plain_metadata metadata.now)) dispatch.now self.old result self.new }
         ensures keeps { PreservesCaches ⟦<S as Subscriber>⟧ ⟦<C as Callsite>⟧ self.old self.new }
     {
-        is_real(metadata);
         register_callsite_at(&mut self.entries, dispatch.serial(), metadata)
     }
 

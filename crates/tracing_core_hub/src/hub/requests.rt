@@ -13,7 +13,6 @@ use crate::hub::handing::{
     clone_span_at, current_span_at, drop_span_at, enter_at, event_at, event_enabled_at, exit_at,
     new_span_at, record_at, record_follows_from_at, try_close_at,
 };
-use crate::hub::ranks::is_real;
 use crate::hub::rows::ask_one;
 use tracing_core_fields::{Id, Metadata};
 use tracing_core_requests::{
@@ -27,7 +26,6 @@ impl<S: Subscriber, C: Callsite> Hub<S, C> {
         ensures rest { self.new ≡ record self.old { entries = self.new.entries } }
         ensures keeps { PreservesCaches ⟦<S as Subscriber>⟧ ⟦<C as Callsite>⟧ self.old self.new }
     {
-        is_real(metadata);
         ask_one(&mut self.entries, dispatch.serial(), metadata, at)
     }
 
@@ -41,7 +39,6 @@ impl<S: Subscriber, C: Callsite> Hub<S, C> {
         ensures gives { HubGives ⟦<S as Subscriber>⟧ (SpanMade (plain_attributes attributes.now) at) dispatch.now self.old result self.new }
         ensures keeps { PreservesCaches ⟦<S as Subscriber>⟧ ⟦<C as Callsite>⟧ self.old self.new }
     {
-        is_real(attributes.metadata());
         new_span_at(&mut self.entries, dispatch.serial(), attributes, at)
     }
 
@@ -78,7 +75,6 @@ impl<S: Subscriber, C: Callsite> Hub<S, C> {
         ensures gives { HubGives ⟦<S as Subscriber>⟧ (EventAsked (plain_event event.now) at) dispatch.now self.old result self.new }
         ensures keeps { PreservesCaches ⟦<S as Subscriber>⟧ ⟦<C as Callsite>⟧ self.old self.new }
     {
-        is_real(event.metadata());
         event_enabled_at(&mut self.entries, dispatch.serial(), event, at)
     }
 
@@ -92,7 +88,6 @@ impl<S: Subscriber, C: Callsite> Hub<S, C> {
         ensures gives { HubGives ⟦<S as Subscriber>⟧ (EventDispatched (plain_event event.now) at) dispatch.now self.old result self.new }
         ensures keeps { PreservesCaches ⟦<S as Subscriber>⟧ ⟦<C as Callsite>⟧ self.old self.new }
     {
-        is_real(event.metadata());
         event_at(&mut self.entries, dispatch.serial(), event, at)
     }
 

@@ -4,7 +4,7 @@ ghost use Rattle.std.specs.Option.{option_copied};
 ghost use Rattle.tracing_core_fields.specs.Metadata.{plain_metadata};
 ghost use Rattle.tracing_core_fields.specs.ValueSet.{fields_of_values, has_value};
 ghost use Rattle.tracing_core_fields.specs.Visits.{Visits};
-ghost use Rattle.tracing_core_requests.specs.PlainRequests.{plain_attributes, plain_values, explicit_parent};
+ghost use Rattle.tracing_core_requests.specs.PlainRequests.{plain_attributes, plain_request, plain_values, explicit_parent};
 ghost use Rattle.tracing_core_requests.specs.Attributes.{attributes_metadata, attributes_values};
 
 use crate::requests::parent::Parent;
@@ -22,11 +22,7 @@ pub struct Attributes<'m, 'v> {
 impl<'m, 'v> Attributes<'m, 'v> {
     /// A span under the current one, where there is one.
     pub fn new(metadata: &'m Metadata<'m>, values: ValueSet<'v>) -> Attributes<'m, 'v>
-        ensures plain { plain_attributes result ≡ record {
-          metadata = plain_metadata metadata.now;
-          values = plain_values values.entry;
-          parent = Parent.Current;
-        } }
+        ensures plain { plain_attributes result ≡ plain_request metadata.now values.entry Parent.Current }
         ensures metadata { attributes_metadata result ≡ metadata.now }
         ensures values { attributes_values result ≡ values.entry }
     {
@@ -39,11 +35,7 @@ impl<'m, 'v> Attributes<'m, 'v> {
 
     /// A span under none.
     pub fn new_root(metadata: &'m Metadata<'m>, values: ValueSet<'v>) -> Attributes<'m, 'v>
-        ensures plain { plain_attributes result ≡ record {
-          metadata = plain_metadata metadata.now;
-          values = plain_values values.entry;
-          parent = Parent.Root;
-        } }
+        ensures plain { plain_attributes result ≡ plain_request metadata.now values.entry Parent.Root }
         ensures metadata { attributes_metadata result ≡ metadata.now }
         ensures values { attributes_values result ≡ values.entry }
     {
@@ -60,11 +52,7 @@ impl<'m, 'v> Attributes<'m, 'v> {
         metadata: &'m Metadata<'m>,
         values: ValueSet<'v>,
     ) -> Attributes<'m, 'v>
-        ensures plain { plain_attributes result ≡ record {
-          metadata = plain_metadata metadata.now;
-          values = plain_values values.entry;
-          parent = Parent.Explicit parent;
-        } }
+        ensures plain { plain_attributes result ≡ plain_request metadata.now values.entry (Parent.Explicit parent) }
         ensures metadata { attributes_metadata result ≡ metadata.now }
         ensures values { attributes_values result ≡ values.entry }
     {

@@ -6,7 +6,7 @@ ghost use Rattle.tracing_core_fields.specs.Iter.{fields_left};
 ghost use Rattle.tracing_core_fields.specs.Metadata.{plain_metadata};
 ghost use Rattle.tracing_core_fields.specs.ValueSet.{fields_of_values};
 ghost use Rattle.tracing_core_fields.specs.Visits.{Visits};
-ghost use Rattle.tracing_core_requests.specs.PlainRequests.{plain_event, plain_values, explicit_parent, child_or_root};
+ghost use Rattle.tracing_core_requests.specs.PlainRequests.{plain_event, plain_request, explicit_parent, child_or_root};
 ghost use Rattle.tracing_core_requests.specs.Events.{event_metadata, event_values};
 
 use crate::requests::parent::Parent;
@@ -23,11 +23,7 @@ pub struct Event<'m, 'v> {
 impl<'m, 'v> Event<'m, 'v> {
     /// An event under the current span, where there is one.
     pub fn new(metadata: &'m Metadata<'m>, values: ValueSet<'v>) -> Event<'m, 'v>
-        ensures plain { plain_event result ≡ record {
-          metadata = plain_metadata metadata.now;
-          values = plain_values values.entry;
-          parent = Parent.Current;
-        } }
+        ensures plain { plain_event result ≡ plain_request metadata.now values.entry Parent.Current }
         ensures metadata { event_metadata result ≡ metadata.now }
         ensures values { event_values result ≡ values.entry }
     {
@@ -44,11 +40,7 @@ impl<'m, 'v> Event<'m, 'v> {
         metadata: &'m Metadata<'m>,
         values: ValueSet<'v>,
     ) -> Event<'m, 'v>
-        ensures plain { plain_event result ≡ record {
-          metadata = plain_metadata metadata.now;
-          values = plain_values values.entry;
-          parent = child_or_root parent;
-        } }
+        ensures plain { plain_event result ≡ plain_request metadata.now values.entry (child_or_root parent) }
         ensures metadata { event_metadata result ≡ metadata.now }
         ensures values { event_values result ≡ values.entry }
     {

@@ -39,11 +39,11 @@ impl Subscriber for NoSubscriber {
 
     ghost fair = { λ x k. is_fair };
 
-    ghost single = { λ x m at a b real k p q. p ∙ sym q };
+    ghost single = { λ x m at a b k p q. p ∙ sym q };
 
-    ghost stays = { λ x c r y real m k. (k, same_word) };
+    ghost stays = { λ x c r y m k. (k, same_word) };
 
-    ghost quiet = { λ x m n at place r y b moved k. (λ e. e, λ e. e) };
+    ghost quiet = { λ x m n at now r y b moved k. (λ e. e, λ e. e) };
 
     fn on_register_dispatch(&mut self, _dispatch: &WeakDispatch) {}
 

@@ -1,12 +1,11 @@
-use Rattle.std.proofs.Common.{arith, subst}
+use Rattle.std.proofs.Common.{arith}
 use Rattle.std.proofs.lemmas.List.{with_items_is}
 use Rattle.tracing_core_requests.specs.Calls.{EventDispatched}
 use Rattle.tracing_core_requests.specs.PlainRequests.{plain_event}
-use Rattle.tracing_core_requests.specs.Steady.{IsReal}
 use Rattle.tracing_core_hub.proofs.Words.{handed_keeps}
 use Rattle.tracing_core_hub.proofs.hub.Hub.event.Goals as goal
 
 pub returns-clause-keeps : goal.returns-clause-keeps
 returns-clause-keeps g c =
-    handed_keeps g.S.Subscriber g.C.Callsite (EventDispatched (plain_event c.args.event.now) c.args.at) c.event_at.result (subst IsReal c.metadata.ensures.plain c.is_real.ensures) c.serial.ensures c.self.view_is c.deref_mut.ensures.value
+    handed_keeps g.S.Subscriber g.C.Callsite (EventDispatched (plain_event c.args.event.now) c.args.at) c.event_at.result c.serial.ensures c.self.view_is c.deref_mut.ensures.value
     (with_items_is c.self.inside.entries c.event_at.new.entries (omega arith)) c.event_at.ensures
