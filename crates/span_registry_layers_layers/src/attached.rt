@@ -39,7 +39,9 @@ fn has_room<L: Layer>(layer: &L, registry: &Registry) -> bool
 // The layer, and the registry that numbers its filters.
 fn number<L: Layer>(layer: L, registry: Registry) -> Layered<L, Registry>
     ensures notified { L.told layer (Attached registry) result.layer }
-    ensures numbers { registry.filters + L.filters layer ≤ 64 → (result.inner ≡ more_filters (L.filters layer) registry) × (L.numbers result.layer ≡ numbers_from registry.filters (L.filters layer)) }
+    ensures numbers { registry.filters + L.filters layer ≤ 64 →
+        (result.inner ≡ more_filters (L.filters layer) registry) ×
+        (L.numbers result.layer ≡ numbers_from registry.filters (L.filters layer)) }
 {
     let mut layer = layer;
     let mut registry = registry;
@@ -77,7 +79,9 @@ impl<L: Layer> Layered<L, Registry> {
 
     // Asks all filters of a new span.
     fn ask(&mut self, metadata: &Metadata<'_>, at: At) -> (FilterMap, bool)
-        ensures kept { IsAttached ⟦<L as Layer>⟧ self.old → L.kept self.old.layer (plain_metadata metadata.now) (whole at self.old.inner) true result.0.passed result.1 }
+        ensures kept { IsAttached ⟦<L as Layer>⟧ self.old →
+            L.kept self.old.layer (plain_metadata metadata.now) (whole at self.old.inner) true result.0.passed
+            result.1 }
         ensures same { self.new ≡ self.old }
     {
         let mut context = Context::new(&mut self.inner, at, None);
@@ -104,7 +108,8 @@ impl<L: Layer> Layered<L, Registry> {
 
     // Whether no layer vetoes the event.
     fn allows(&mut self, event: &Event<'_, '_>, at: At) -> bool
-        ensures answer { Both (L.answers self.old.layer (plain_event event.now).metadata (whole at self.old.inner)) (L.event_answers self.old.layer (plain_event event.now) (whole at self.old.inner)) result }
+        ensures answer { Both (L.answers self.old.layer (plain_event event.now).metadata (whole at self.old.inner))
+            (L.event_answers self.old.layer (plain_event event.now) (whole at self.old.inner)) result }
         ensures same { self.new ≡ self.old }
     {
         let context = Context::new(&mut self.inner, at, None);
@@ -137,7 +142,8 @@ impl<L: Layer> Layered<L, Registry> {
         at: At,
         verdicts: FilterMap,
     ) -> Result<Option<Id>, RequestError>
-        ensures { MakesSpan ⟦<L as Layer>⟧ (plain_attributes attributes.now) at verdicts.passed self.old result self.new }
+        ensures { MakesSpan ⟦<L as Layer>⟧ (plain_attributes attributes.now) at verdicts.passed self.old result
+            self.new }
     {
         let span = self.inner.new_span(attributes, at.lane, verdicts)?;
         self.layer.on_new_span(
@@ -154,7 +160,8 @@ impl<L: Layer> Layered<L, Registry> {
         attributes: &Attributes<'_, '_>,
         at: At,
     ) -> Result<Option<Id>, RequestError>
-        ensures { IsAttached ⟦<L as Layer>⟧ self.old → AsksSpan ⟦<L as Layer>⟧ (plain_attributes attributes.now) at self.old result self.new }
+        ensures { IsAttached ⟦<L as Layer>⟧ self.old →
+            AsksSpan ⟦<L as Layer>⟧ (plain_attributes attributes.now) at self.old result self.new }
     {
         let (verdicts, some) = self.ask(attributes.metadata(), at);
         if some {
@@ -169,7 +176,8 @@ impl<L: Layer> Layered<L, Registry> {
         attributes: &Attributes<'_, '_>,
         at: At,
     ) -> Result<Option<Id>, RequestError>
-        ensures { IsAttached ⟦<L as Layer>⟧ self.old → NewSpanGives ⟦<L as Layer>⟧ (plain_attributes attributes.now) at self.old result self.new }
+        ensures { IsAttached ⟦<L as Layer>⟧ self.old →
+            NewSpanGives ⟦<L as Layer>⟧ (plain_attributes attributes.now) at self.old result self.new }
     {
         if !self.knows(attributes.parent()) {
             return Err(RequestError::UnknownParent);
@@ -229,7 +237,8 @@ impl<L: Layer> Layered<L, Registry> {
 
     // A lane leaves a span, and the exit is told.
     fn leave(&mut self, span: &Id, at: At)
-        ensures { let x = without_entry self.old.inner at.lane span.now in LayersTold ⟦<L as Layer>⟧ (Spanned span.now (Exited span.now) (whole at x)) (over x self.old) self.new }
+        ensures { let x = without_entry self.old.inner at.lane span.now in
+            LayersTold ⟦<L as Layer>⟧ (Spanned span.now (Exited span.now) (whole at x)) (over x self.old) self.new }
     {
         self.inner.leave(span, at.lane);
         self.layer

@@ -93,7 +93,8 @@ impl<'a> Context<'a> {
     /// The span that an event stands in: the one that it names, where the filter passed it, else none for a root,
     /// else the lane's.
     pub fn event_span(&self, event: &Event<'_, '_>) -> Option<SpanRef<'_>>
-        ensures { let v = view self.now in option_map plain_ref result ≡ option_map (ref_in v) (event_span v (plain_event event.now).parent) }
+        ensures { let v = view self.now in option_map plain_ref result
+            ≡ option_map (ref_in v) (event_span v (plain_event event.now).parent) }
     {
         if event.is_contextual() {
             return self.lookup_current();
@@ -107,7 +108,8 @@ impl<'a> Context<'a> {
     /// The span that an event stands in and its ancestors, the nearest first, without those that the filter
     /// refused.
     pub fn event_scope(&self, event: &Event<'_, '_>) -> Option<Scope<'_>>
-        ensures { let v = view self.now in option_map scope_left result ≡ option_map (scope_in v) (event_span v (plain_event event.now).parent) }
+        ensures { let v = view self.now in option_map scope_left result
+            ≡ option_map (scope_in v) (event_span v (plain_event event.now).parent) }
     {
         match self.event_span(event) {
             None => None,

@@ -27,9 +27,10 @@ use tracing_core_requests::{Attributes, Event, Interest, Record};
 
 /// Decides which spans and events an output is told.
 ///
-/// An honest filter passes what it says it always passes, and refuses what it says it never passes and what is
-/// above its hint, wherever it is asked; asked twice of the same in the same place it answers the same; it says one thing of
-/// a callsite, and not that it always passes what is above its hint; no call changes what it says, or its hint, or its honesty.
+/// An honest filter passes what it says it always passes, and refuses what it says it never passes and what
+/// is above its hint, wherever it is asked; asked twice of the same in the same place it answers the same; it
+/// says one thing of a callsite, and not that it always passes what is above its hint; no call changes what
+/// it says, or its hint, or its honesty.
 pub trait Filter: Drop {
     // What it may answer of a callsite, by what it may look at.
     ghost answers: { Self → PlainMetadata → View → Bool → Type 0 };
@@ -51,7 +52,8 @@ pub trait Filter: Drop {
 
     ghost fair: { (x : Self) → honest x → Fair (answers x) (says x) (hint x) };
 
-    ghost stays: { (x : Self) (h : Hook) → honest x → honest (after x h) × SameWord (says x) (says (after x h)) (hint x) (hint (after x h)) };
+    ghost stays: { (x : Self) (h : Hook) → honest x → honest (after x h) ×
+        SameWord (says x) (says (after x h)) (hint x) (hint (after x h)) };
 
     ghost single: { (x : Self) → honest x → Single (answers x) (event_answers x) };
 

@@ -7,9 +7,9 @@ use span_registry_layers_store::FilterId;
 
 /// A layer that is told what its filter passes.
 ///
-/// As a layer of a tree, or in the layer of an output, it has a number in a registry from when it is attached, and tells
-/// nobody before. As an output it has none itself, since the stack keeps that. The layer may have filters of its own: it
-/// is told what all filters above it pass.
+/// As a layer of a tree, or in the layer of an output, it has a number in a registry from when it is
+/// attached, and tells nobody before. As an output it has none itself, since the stack keeps that. The layer
+/// may have filters of its own: it is told what all filters above it pass.
 #[derive(Clone, Copy, Debug, Drop)]
 pub struct Filtered<L, F> {
     pub(crate) layer: L,
@@ -29,8 +29,8 @@ impl<L, F> Filtered<L, F> {
         }
     }
 
-    /// The number that the filter has in a registry, where it is attached to one as a layer of a tree or in the layer of an
-    /// output. The number of an output's own filter is kept by its stack.
+    /// The number that the filter has in a registry, where it is attached to one as a layer of a tree or in
+    /// the layer of an output. The number of an output's own filter is kept by its stack.
     pub fn id(&self) -> Option<FilterId>
         ensures { result ≡ self.now.id }
     {

@@ -9,9 +9,9 @@ pub fn trees_stay_attached<L: Layer>()
     ensures { StayAttached ⟦<L as Layer>⟧ }
 {}
 
-/// The registry of a tree is sound where the layers were attached to a sound one, and each call keeps it so: ids rise,
-/// parents stand before their children, and the listed spans are the open ones. So closes are told of a child before its
-/// parent.
+/// The registry of a tree is sound where the layers were attached to a sound one, and each call keeps it so:
+/// ids rise, parents stand before their children, and the listed spans are the open ones. So closes are told
+/// of a child before its parent.
 pub fn tree_registry_stays_sound<L: Layer>()
     ensures start { AttachedIsSound ⟦<L as Layer>⟧ }
     ensures call { TreeStaysSound ⟦<L as Layer>⟧ }

@@ -60,7 +60,8 @@ pub trait Layer: Drop {
     // The numbers of those that have one.
     ghost numbers: { Self → List ℕ } = { λ x. [] };
 
-    // What its filters may say of a new span where all filters above it say this, and whether one of its layers is told.
+    // What its filters may say of a new span where all filters above it say this, and whether one of its
+    // layers is told.
     ghost kept: { Self → PlainMetadata → View → Bool → List Bool → Bool → Type 0 } = { λ x m v passes verdicts some. some ≡ passes };
 
     // The keys of outputs under which it writes slots.
@@ -68,7 +69,8 @@ pub trait Layer: Drop {
 
     ghost fair: { (x : Self) → honest x → Fair (answers x) (says x) (hint x) };
 
-    ghost stays: { (x : Self) (n : Notice) (y : Self) → told x n y → honest x → honest y × SameWord (says x) (says y) (hint x) (hint y) };
+    ghost stays: { (x : Self) (n : Notice) (y : Self) → told x n y → honest x → honest y ×
+        SameWord (says x) (says y) (hint x) (hint y) };
 
     ghost numbered: { (x : Self) (n : Notice) (y : Self) → told x n y → NumbersStay n (numbers x) (numbers y) };
 
@@ -87,7 +89,9 @@ pub trait Layer: Drop {
         ensures notified { told self.old (Attached registry.old) self.new }
         ensures filters { AddsFilters registry.old registry.new }
         // Its filters are numbered in turn, where there is room for all of them.
-        ensures numbers { registry.old.filters + filters self.old ≤ 64 → (registry.new ≡ more_filters (filters self.old) registry.old) × (numbers self.new ≡ numbers_from registry.old.filters (filters self.old)) };
+        ensures numbers { registry.old.filters + filters self.old ≤ 64 →
+            (registry.new ≡ more_filters (filters self.old) registry.old) ×
+            (numbers self.new ≡ numbers_from registry.old.filters (filters self.old)) };
 
     /// How much is left of a room for filters once it has taken its own, and `None` where that is too little.
     fn room_left(&self, room: u8) -> Option<u8>
@@ -107,7 +111,9 @@ pub trait Layer: Drop {
         ensures room { length result.0.passed ≡ length verdicts.passed }
         ensures others { SameBut (numbers self.now) verdicts.passed result.0.passed }
         // It stays said whatever other filters say.
-        ensures kept { (later : List Bool) → AreNumbers (length verdicts.passed) (numbers self.now) → SameOf (numbers self.now) result.0.passed later → kept self.now (plain_metadata metadata.now) (view context.old) passes later result.1 };
+        ensures kept { (later : List Bool) → AreNumbers (length verdicts.passed) (numbers self.now) →
+            SameOf (numbers self.now) result.0.passed later →
+            kept self.now (plain_metadata metadata.now) (view context.old) passes later result.1 };
 
     /// Its interest in a callsite.
     fn register_callsite(&self, metadata: &Metadata<'_>) -> Interest
@@ -120,7 +126,8 @@ pub trait Layer: Drop {
     /// A span was made.
     fn on_new_span(&mut self, attributes: &Attributes<'_, '_>, span: &Id, context: &mut Context<'_>)
         ensures lent { SameLoan context.old context.new }
-        ensures notified { told self.old (Spanned span.now (SpanMade (plain_attributes attributes.now) span.now) (view context.old) (left context.new)) self.new };
+        ensures notified { told self.old (Spanned span.now (SpanMade (plain_attributes attributes.now) span.now)
+            (view context.old) (left context.new)) self.new };
 
     /// The most verbose level that passes, where it knows one.
     fn max_level_hint(&self) -> Option<LevelFilter>
@@ -129,12 +136,14 @@ pub trait Layer: Drop {
     /// Values were recorded on a span.
     fn on_record(&mut self, span: &Id, values: &Record<'_>, context: &mut Context<'_>)
         ensures lent { SameLoan context.old context.new }
-        ensures notified { told self.old (Spanned span.now (Recorded span.now (plain_record values.now)) (view context.old) (left context.new)) self.new };
+        ensures notified { told self.old (Spanned span.now (Recorded span.now (plain_record values.now))
+            (view context.old) (left context.new)) self.new };
 
     /// A span was said to follow from another one.
     fn on_follows_from(&mut self, span: &Id, follows: &Id, context: &mut Context<'_>)
         ensures lent { SameLoan context.old context.new }
-        ensures notified { told self.old (Followed span.now follows.now (view context.old) (left context.new)) self.new };
+        ensures notified { told self.old (Followed span.now follows.now (view context.old) (left context.new))
+            self.new };
 
     /// Whether an event passes, whose callsite does. Where it refuses, nobody is told.
     fn event_enabled(&self, event: &Event<'_, '_>, context: &Context<'_>) -> bool
@@ -143,22 +152,26 @@ pub trait Layer: Drop {
     /// An event happened.
     fn on_event(&mut self, event: &Event<'_, '_>, context: &mut Context<'_>)
         ensures lent { SameLoan context.old context.new }
-        ensures notified { told self.old (Happened (plain_event event.now) (view context.old) (left context.new)) self.new };
+        ensures notified { told self.old (Happened (plain_event event.now) (view context.old) (left context.new))
+            self.new };
 
     /// A span was entered.
     fn on_enter(&mut self, span: &Id, context: &mut Context<'_>)
         ensures lent { SameLoan context.old context.new }
-        ensures notified { told self.old (Spanned span.now (Entered span.now) (view context.old) (left context.new)) self.new };
+        ensures notified { told self.old (Spanned span.now (Entered span.now) (view context.old) (left context.new))
+            self.new };
 
     /// A span was left.
     fn on_exit(&mut self, span: &Id, context: &mut Context<'_>)
         ensures lent { SameLoan context.old context.new }
-        ensures notified { told self.old (Spanned span.now (Exited span.now) (view context.old) (left context.new)) self.new };
+        ensures notified { told self.old (Spanned span.now (Exited span.now) (view context.old) (left context.new))
+            self.new };
 
     /// A span closes: it can still be looked at.
     fn on_close(&mut self, span: &Id, context: &mut Context<'_>)
         ensures lent { SameLoan context.old context.new }
-        ensures notified { told self.old (Spanned span.now (Closed span.now) (view context.old) (left context.new)) self.new };
+        ensures notified { told self.old (Spanned span.now (Closed span.now) (view context.old) (left context.new))
+            self.new };
 
     /// A span has another id. No stack of this crate calls it.
     fn on_id_change(&mut self, old: &Id, new: &Id, context: &mut Context<'_>)

@@ -30,7 +30,8 @@ impl CachedInterest {
 
     // Keeps another interest, where it is this callsite.
     pub(crate) fn renew(&mut self, metadata: &Metadata<'_>, interest: Interest)
-        ensures { plain_cached_interest self.new ≡ renewed (plain_metadata metadata.now) interest (plain_cached_interest self.old) }
+        ensures { plain_cached_interest self.new ≡ renewed (plain_metadata metadata.now) interest
+            (plain_cached_interest self.old) }
     {
         if self.metadata.is_same(metadata) {
             self.interest = interest;

@@ -7,9 +7,9 @@ use span_registry_layers_layers::{Filter, Filtered, Layer};
 use span_registry_layers_store::OutputKey;
 use thiserror::Error;
 
-/// An output, and its key. A layer that keeps slots with spans should write them under this key alone: where each layer of a
-/// stack does, no output changes the slots of another, and `layers_keep_to_keys` says this of each turn. A stack takes layers
-/// that write under other keys, too.
+/// An output, and its key. A layer that keeps slots with spans should write them under this key alone: where
+/// each layer of a stack does, no output changes the slots of another, and `layers_keep_to_keys` says this of
+/// each turn. A stack takes layers that write under other keys, too.
 #[derive(Debug, Drop)]
 pub struct Output<O> {
     /// The key, which no other output of the stack has.

@@ -63,8 +63,11 @@ impl<O> StackParts<O> {
 
     // Keeps the interest, where there is room.
     fn keep(&mut self, metadata: &Metadata<'_>, interest: Interest)
-        ensures sites { CachesInterest (plain_metadata metadata.now) interest (map plain_cached_interest self.old.sites.items) (map plain_cached_interest self.new.sites.items) }
-        ensures rest { plain_stack self.new ≡ record (plain_stack self.old) { sites = map plain_cached_interest self.new.sites.items } }
+        ensures sites { CachesInterest (plain_metadata metadata.now) interest
+            (map plain_cached_interest self.old.sites.items) (map plain_cached_interest self.new.sites.items) }
+        ensures rest { plain_stack self.new ≡ record (plain_stack self.old) {
+          sites = map plain_cached_interest self.new.sites.items;
+        } }
     {
         if is_kept(&self.sites, metadata) {
             renew(&mut self.sites, metadata, interest);
@@ -84,7 +87,8 @@ impl<O> StackParts<O> {
 impl<L: Layer, F: Filter> StackParts<Filtered<L, F>> {
     // Asks all filters of a callsite, and keeps what they have in common where there is room.
     pub(crate) fn register(&mut self, metadata: &Metadata<'_>) -> Interest
-        ensures answer { CommonInterest ⟦<F as Filter>⟧ (plain_metadata metadata.now) (filters_of self.old.rows.items) result }
+        ensures answer { CommonInterest ⟦<F as Filter>⟧ (plain_metadata metadata.now) (filters_of self.old.rows.items)
+            result }
         ensures state { Registers (plain_metadata metadata.now) result (plain_stack self.old) (plain_stack self.new) }
     {
         let interest = ask_interest(&self.rows, metadata);
@@ -110,7 +114,8 @@ impl<L: Layer, F: Filter> StackParts<Filtered<L, F>> {
     }
 
     fn tell(&mut self, event: &Event<'_, '_>, at: At)
-        ensures { TellsAll ⟦<F as Filter>⟧ ⟦<L as Layer>⟧ (plain_event event.now) at (plain_stack self.old) (plain_stack self.new) }
+        ensures { TellsAll ⟦<F as Filter>⟧ ⟦<L as Layer>⟧ (plain_event event.now) at (plain_stack self.old)
+            (plain_stack self.new) }
     {
         self.ask_event(event, at);
         self.tell_event(event, at);
@@ -118,7 +123,8 @@ impl<L: Layer, F: Filter> StackParts<Filtered<L, F>> {
 
     // Tells each output that passes the event, and asks nobody where what is kept refuses it.
     pub(crate) fn event(&mut self, event: &Event<'_, '_>, at: At) -> Result<(), RequestError>
-        ensures { EventCached ⟦<F as Filter>⟧ ⟦<L as Layer>⟧ (plain_event event.now) at (plain_stack self.old) result (plain_stack self.new) }
+        ensures { EventCached ⟦<F as Filter>⟧ ⟦<L as Layer>⟧ (plain_event event.now) at (plain_stack self.old) result
+            (plain_stack self.new) }
     {
         if !self.knows(event.parent()) {
             return Err(RequestError::UnknownParent);

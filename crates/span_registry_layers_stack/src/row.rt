@@ -16,7 +16,8 @@ pub(crate) use spans::SpanStep;
 use tracing_core_fields::{LevelFilter, Metadata};
 use tracing_core_requests::{At, Event, Interest};
 
-/// An output, its key, the number of its filter, whether its filter passed the callsite of the last request, and whether it was told of that.
+/// An output, its key, the number of its filter, whether its filter passed the callsite of the last request,
+/// and whether it was told of that.
 #[derive(Drop)]
 pub(crate) struct Row<O> {
     pub(crate) key: OutputKey,
@@ -61,7 +62,8 @@ impl<L: Layer, F: Filter> Row<Filtered<L, F>> {
 
     // Whether its filter passes what is made of the callsite.
     pub(crate) fn passes(&self, metadata: &Metadata<'_>, registry: &mut Registry, at: At) -> bool
-        ensures answer { F.answers self.now.output.filter (plain_metadata metadata.now) (view_of at registry.old self.now) result }
+        ensures answer { F.answers self.now.output.filter (plain_metadata metadata.now)
+            (view_of at registry.old self.now) result }
         ensures same { registry.new ≡ registry.old }
     {
         let context = Context::new(registry, at, Some(self.id));
@@ -77,7 +79,8 @@ impl<L: Layer, F: Filter> Row<Filtered<L, F>> {
         at: At,
         verdicts: FilterMap,
     ) -> (FilterMap, bool)
-        ensures asked { AsksRow ⟦<F as Filter>⟧ ⟦<L as Layer>⟧ (plain_metadata metadata.now) at registry.old self.now verdicts.passed result.0.passed result.1 }
+        ensures asked { AsksRow ⟦<F as Filter>⟧ ⟦<L as Layer>⟧ (plain_metadata metadata.now) at registry.old self.now
+            verdicts.passed result.0.passed result.1 }
         ensures same { registry.new ≡ registry.old }
     {
         let passes = self.passes(metadata, registry, at);
@@ -92,7 +95,8 @@ impl<L: Layer, F: Filter> Row<Filtered<L, F>> {
 
     // Whether its filter passes the event, whose callsite it passes.
     fn wants(&self, event: &Event<'_, '_>, registry: &mut Registry, at: At) -> bool
-        ensures answer { F.event_answers self.now.output.filter (plain_event event.now) (view_of at registry.old self.now) result }
+        ensures answer { F.event_answers self.now.output.filter (plain_event event.now)
+            (view_of at registry.old self.now) result }
         ensures same { registry.new ≡ registry.old }
     {
         let context = Context::new(registry, at, Some(self.id));
@@ -101,7 +105,8 @@ impl<L: Layer, F: Filter> Row<Filtered<L, F>> {
 
     // The same, where it is known what it passes of the callsite.
     fn hears(&self, passes: bool, event: &Event<'_, '_>, registry: &mut Registry, at: At) -> bool
-        ensures answer { Then (F.event_answers self.now.output.filter (plain_event event.now) (view_of at registry.old self.now)) passes result }
+        ensures answer { Then (F.event_answers self.now.output.filter (plain_event event.now)
+            (view_of at registry.old self.now)) passes result }
         ensures same { registry.new ≡ registry.old }
     {
         passes && self.wants(event, registry, at)
@@ -109,7 +114,8 @@ impl<L: Layer, F: Filter> Row<Filtered<L, F>> {
 
     // Tells its layer of the event.
     fn tell(&mut self, event: &Event<'_, '_>, registry: &mut Registry, at: At)
-        ensures notified { L.told self.old.output.layer (Happened (plain_event event.now) (view_of at registry.old self.old) registry.new) self.new.output.layer }
+        ensures notified { L.told self.old.output.layer
+            (Happened (plain_event event.now) (view_of at registry.old self.old) registry.new) self.new.output.layer }
         ensures rest { self.new ≡ with_layer self.new.output.layer self.old }
     {
         let mut context = Context::new(registry, at, Some(self.id));

@@ -39,7 +39,8 @@ pub(crate) fn tell_event<L: Layer, F: Filter>(
     registry: &mut Registry,
     at: At,
 )
-    ensures { EachInTurn (TellsEvent ⟦<L as Layer>⟧ (plain_event event.now) at) registry.old rows.old registry.new rows.new }
+    ensures { EachInTurn (TellsEvent ⟦<L as Layer>⟧ (plain_event event.now) at) registry.old rows.old registry.new
+        rows.new }
 {
     for row in rows.iter_mut() {
         row.tell_event(event, registry, at);
@@ -82,7 +83,8 @@ pub(crate) fn ask_span<L: Layer, F: Filter>(
     registry: &mut Registry,
     at: At,
 ) -> (FilterMap, bool)
-    ensures asked { AsksFrom ⟦<F as Filter>⟧ ⟦<L as Layer>⟧ (plain_metadata metadata.now) at registry.old all_pass false rows.now result.0.passed result.1 }
+    ensures asked { AsksFrom ⟦<F as Filter>⟧ ⟦<L as Layer>⟧ (plain_metadata metadata.now) at registry.old all_pass
+        false rows.now result.0.passed result.1 }
     ensures same { registry.new ≡ registry.old }
 {
     let mut verdicts = FilterMap::all();

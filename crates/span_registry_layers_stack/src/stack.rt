@@ -58,7 +58,8 @@ impl<L: Layer, F: Filter> Stack<Filtered<L, F>> {
         ensures numbers { IfOk result (λ s. HasNumbers ⟦<L as Layer>⟧ s) }
         // What is kept is right of honest filters.
         ensures kept { IfOk result (λ s. Every (λ f. F.honest f) (filters_of s.rows) → CacheIsValid ⟦<F as Filter>⟧ s) }
-        ensures honest { Every (λ (o : Output (Filtered L F)). F.honest o.output.filter) outputs.items → IfOk result (λ s. CacheIsValid ⟦<F as Filter>⟧ s) }
+        ensures honest { Every (λ (o : Output (Filtered L F)). F.honest o.output.filter) outputs.items →
+            IfOk result (λ s. CacheIsValid ⟦<F as Filter>⟧ s) }
     {
         Stack::build(alloc, outputs)
     }
@@ -85,11 +86,11 @@ impl<L: Layer, F: Filter> Stack<Filtered<L, F>> {
         Ok(Stack { parts })
     }
 
-    /// Asks the outputs' own filters, then tells each output, in order, whose filter passes the event; it asks nobody where
-    /// what is kept refuses it.
+    /// Asks the outputs' own filters, then tells each output, in order, whose filter passes the event; it
+    /// asks nobody where what is kept refuses it.
     ///
-    /// No output's own filter sees what is written at this event. An output sees the slots that those told before it wrote,
-    /// and so does a filter in its layer, which is asked when the output is told.
+    /// No output's own filter sees what is written at this event. An output sees the slots that those told
+    /// before it wrote, and so does a filter in its layer, which is asked when the output is told.
     ///
     /// # Errors
     ///
@@ -97,7 +98,8 @@ impl<L: Layer, F: Filter> Stack<Filtered<L, F>> {
     pub fn event(&mut self, event: &Event<'_, '_>, at: At) -> Result<(), RequestError>
         ensures exact { EventCached ⟦<F as Filter>⟧ ⟦<L as Layer>⟧ (plain_event event.now) at self.old result self.new }
         // While what is kept is right, this is asking every filter again, and what is kept stays right.
-        ensures asking { CacheIsValid ⟦<F as Filter>⟧ self.old → EventAsked ⟦<F as Filter>⟧ ⟦<L as Layer>⟧ (plain_event event.now) at self.old result self.new }
+        ensures asking { CacheIsValid ⟦<F as Filter>⟧ self.old →
+            EventAsked ⟦<F as Filter>⟧ ⟦<L as Layer>⟧ (plain_event event.now) at self.old result self.new }
         ensures kept { CacheIsValid ⟦<F as Filter>⟧ self.old → CacheIsValid ⟦<F as Filter>⟧ self.new }
     {
         self.parts.event(event, at)
@@ -106,7 +108,8 @@ impl<L: Layer, F: Filter> Stack<Filtered<L, F>> {
     /// Whether some output's filter passes what is made of the callsite there and then. It leaves no mark.
     pub fn enabled(&mut self, metadata: &Metadata<'_>, at: At) -> bool
         ensures exact { PassesCached ⟦<F as Filter>⟧ self.old (plain_metadata metadata.now) at result }
-        ensures asking { CacheIsValid ⟦<F as Filter>⟧ self.old → PassesAsked ⟦<F as Filter>⟧ self.old (plain_metadata metadata.now) at result }
+        ensures asking { CacheIsValid ⟦<F as Filter>⟧ self.old →
+            PassesAsked ⟦<F as Filter>⟧ self.old (plain_metadata metadata.now) at result }
         ensures same { self.new ≡ self.old }
     {
         self.parts.enabled(metadata, at)

@@ -33,7 +33,8 @@ impl<L: Layer, F: Filter> Subscriber for Stack<Filtered<L, F>> {
 
     ghost stays = { λ x c r y moved k. stack_stays ⟦<F as Filter>⟧ ⟦<L as Layer>⟧ x c r y moved k };
 
-    ghost quiet = { λ x m n at now r y b moved k. stack_quiet ⟦<F as Filter>⟧ x y n now b (asked_stays ⟦<F as Filter>⟧ ⟦<L as Layer>⟧ x m at r y moved) };
+    ghost quiet = { λ x m n at now r y b moved k. stack_quiet ⟦<F as Filter>⟧ x y n now b
+        (asked_stays ⟦<F as Filter>⟧ ⟦<L as Layer>⟧ x m at r y moved) };
 
     fn on_register_dispatch(&mut self, dispatch: &WeakDispatch) {
         self.parts.tell_dispatch(dispatch)

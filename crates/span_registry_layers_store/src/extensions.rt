@@ -37,7 +37,8 @@ fn is_at(place: &Place, key: OutputKey, tag: Tag) -> bool
 }
 
 fn place_of(places: &[Place], key: OutputKey, tag: Tag) -> Option<usize>
-    ensures { MatchOption result (slot_at (map plain_place places.now) key.0 tag ≡ None) (λ place. IsSlotPlace places.now key.0 tag place) }
+    ensures { MatchOption result (slot_at (map plain_place places.now) key.0 tag ≡ None) (λ place.
+        IsSlotPlace places.now key.0 tag place) }
 {
     for place in 0..places.len() {
         if is_at(&places[place], key, tag) {
@@ -66,7 +67,8 @@ fn insert_place(
     tag: Tag,
     slot: Slot,
 ) -> Result<(), InsertError>
-    ensures { InsertGives (map plain_place places.old.items) key.0 tag (plain_slot slot) result (map plain_place places.new.items) }
+    ensures { InsertGives (map plain_place places.old.items) key.0 tag (plain_slot slot) result
+        (map plain_place places.new.items) }
 {
     match place_of(places.as_slice(), key, tag) {
         Some(_) => Err(InsertError::Present(slot)),
@@ -87,7 +89,8 @@ fn replace_place(
     tag: Tag,
     slot: Slot,
 ) -> Result<Option<Slot>, Slot>
-    ensures { ReplaceGives (map plain_place places.old.items) key.0 tag (plain_slot slot) result (map plain_place places.new.items) }
+    ensures { ReplaceGives (map plain_place places.old.items) key.0 tag (plain_slot slot) result
+        (map plain_place places.new.items) }
 {
     match place_of(places.as_slice(), key, tag) {
         Some(place) => {

@@ -44,7 +44,8 @@ pub(crate) struct RegistryParts {
 
 /// The place of the copy of the metadata, where it is known.
 fn place_of_known(callsites: &[Arc<OwnedMetadata>], metadata: &Metadata<'_>) -> Option<usize>
-    ensures { IfSome result (λ place. IfSome (slice_get callsites.now place) (λ copy. owned_plain (arc_value copy) ≡ plain_metadata metadata.now)) }
+    ensures { IfSome result (λ place. IfSome (slice_get callsites.now place) (λ copy.
+        owned_plain (arc_value copy) ≡ plain_metadata metadata.now)) }
 {
     for place in 0..callsites.len() {
         if callsites[place].is_same(metadata) {
@@ -146,7 +147,8 @@ impl RegistryParts {
 
     fn place_of(&self, id: Id) -> Option<usize>
         requires { IsRising (plain_registry self.now) }
-        ensures { MatchOption result (found kin_in (plain_registry self.now).spans id ≡ None) (λ place. IsFoundAt self.now.spans.items id place) }
+        ensures { MatchOption result (found kin_in (plain_registry self.now).spans id ≡ None) (λ place.
+            IsFoundAt self.now.spans.items id place) }
     {
         place_of(self.spans.as_slice(), id)
     }
@@ -173,7 +175,8 @@ impl RegistryParts {
     fn entry_seen(&self, lane: &[Id], place: usize, filter: Option<FilterId>) -> Option<&Span>
         requires rising { IsRising (plain_registry self.now) }
         requires within { place < length lane.now }
-        ensures { option_map (λ s. plain_span s.now) result ≡ entry_seen (plain_registry self.now) (mask_of filter) (take place lane.now) (get_or lane.now place 0) }
+        ensures { option_map (λ s. plain_span s.now) result
+            ≡ entry_seen (plain_registry self.now) (mask_of filter) (take place lane.now) (get_or lane.now place 0) }
     {
         let id = lane[place];
         if is_member(&lane[..place], id) {
@@ -185,7 +188,8 @@ impl RegistryParts {
     // The span of the last such entry.
     fn latest_seen(&self, lane: &[Id], filter: Option<FilterId>) -> Option<&Span>
         requires { IsRising (plain_registry self.now) }
-        ensures { option_map (λ s. plain_span s.now) result ≡ latest_seen (plain_registry self.now) (mask_of filter) (reverse lane.now) }
+        ensures { option_map (λ s. plain_span s.now) result
+            ≡ latest_seen (plain_registry self.now) (mask_of filter) (reverse lane.now) }
     {
         let mut rest = lane.len();
         while rest > 0 {
@@ -200,7 +204,8 @@ impl RegistryParts {
     /// The span that a lane is in, as the filter sees it.
     pub(crate) fn current_under(&self, lane: u64, filter: Option<FilterId>) -> Option<&Span>
         requires { IsRising (plain_registry self.now) }
-        ensures { option_map (λ s. plain_span s.now) result ≡ current_under (plain_registry self.now) (mask_of filter) lane }
+        ensures { option_map (λ s. plain_span s.now) result
+            ≡ current_under (plain_registry self.now) (mask_of filter) lane }
     {
         self.latest_seen(self.lane(lane), filter)
     }
@@ -248,7 +253,8 @@ impl RegistryParts {
         passed: FilterMap,
     ) -> Result<(), AllocError>
         requires { self.old.next_id ≡ Some id }
-        ensures ok { OnOk result (plain_registry self.new ≡ with_span (plain_registry self.old) (plain_metadata metadata.now) parent passed.passed) }
+        ensures ok { OnOk result (plain_registry self.new
+            ≡ with_span (plain_registry self.old) (plain_metadata metadata.now) parent passed.passed) }
         ensures err { OnErr result (plain_registry self.new ≡ plain_registry self.old) }
         ensures fits { id ≤ 18446744073709551615 }
     {
@@ -276,7 +282,9 @@ impl RegistryParts {
         passed: FilterMap,
     ) -> Result<Id, RequestError>
         requires { IsRising (plain_registry self.old) }
-        ensures { let a = plain_attributes attributes.now in SpanGives (plain_registry self.old) a.metadata a.parent lane passed.passed result (plain_registry self.new) }
+        ensures { let a = plain_attributes attributes.now in
+            SpanGives (plain_registry self.old) a.metadata a.parent lane passed.passed result
+            (plain_registry self.new) }
     {
         if !self.knows_parent(attributes) {
             return Err(RequestError::UnknownParent);

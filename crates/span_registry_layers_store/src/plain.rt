@@ -129,7 +129,8 @@ fn later_than(spans: &[Span], place: usize) -> &[Span]
 
 /// The place of the latest span that doesn't stay.
 pub(crate) fn closing(spans: &[Span], lanes: &[Vec<Id>]) -> Option<usize>
-    ensures { MatchOption result (AllStay kin_of (plain_lanes lanes.now) spans.now) (λ place. ClosesNext kin_of (plain_lanes lanes.now) spans.now place) }
+    ensures { MatchOption result (AllStay kin_of (plain_lanes lanes.now) spans.now) (λ place.
+        ClosesNext kin_of (plain_lanes lanes.now) spans.now place) }
 {
     let mut rest = spans.len();
     while rest > 0 {

@@ -107,7 +107,8 @@ impl Registry {
         lane: u64,
         passed: FilterMap,
     ) -> Result<Id, RequestError>
-        ensures { let a = plain_attributes attributes.now in SpanGives self.old a.metadata a.parent lane passed.passed result self.new }
+        ensures { let a = plain_attributes attributes.now in
+            SpanGives self.old a.metadata a.parent lane passed.passed result self.new }
     {
         self.parts.new_span(attributes, lane, passed)
     }
@@ -239,14 +240,17 @@ impl Registry {
 
     /// An open span.
     pub fn span(&self, span: &Id) -> Option<SpanRef<'_>>
-        ensures { option_map plain_ref result ≡ option_map (λ s. record { registry = self.now; span = s; mask = None }) (seen self.now None span.now) }
+        ensures { option_map plain_ref result ≡ option_map (λ s.
+            record { registry = self.now; span = s; mask = None }) (seen self.now None span.now) }
     {
         self.span_under(span, None)
     }
 
     /// An open span, where the filter passed it.
     pub fn span_under(&self, span: &Id, filter: Option<FilterId>) -> Option<SpanRef<'_>>
-        ensures { option_map plain_ref result ≡ option_map (λ s. record { registry = self.now; span = s; mask = mask_of filter }) (seen self.now (mask_of filter) span.now) }
+        ensures { option_map plain_ref result ≡ option_map (λ s.
+            record { registry = self.now; span = s; mask = mask_of filter })
+            (seen self.now (mask_of filter) span.now) }
     {
         match self.parts.find(*span, filter) {
             None => None,
@@ -261,7 +265,8 @@ impl Registry {
     /// The span that a lane is in, as the filter sees it: its last entry that is no duplicate and that the
     /// filter passed.
     pub fn current_under(&self, lane: u64, filter: Option<FilterId>) -> Option<SpanRef<'_>>
-        ensures { option_map plain_ref result ≡ option_map (ref_of self.now (mask_of filter)) (current_under self.now (mask_of filter) lane) }
+        ensures { option_map plain_ref result ≡ option_map (ref_of self.now (mask_of filter))
+            (current_under self.now (mask_of filter) lane) }
     {
         match self.parts.current_under(lane, filter) {
             None => None,

@@ -59,7 +59,8 @@ impl<'a> SpanRef<'a> {
 
     /// The nearest ancestor that the filter passed.
     pub fn parent(&self) -> Option<SpanRef<'a>>
-        ensures { let r = plain_ref self.now in option_map plain_ref result ≡ option_map (ref_of r.registry r.mask) (parent_under r.registry r.mask r.span) }
+        ensures { let r = plain_ref self.now in option_map plain_ref result
+            ≡ option_map (ref_of r.registry r.mask) (parent_under r.registry r.mask r.span) }
     {
         let Some(parent) = self.span.kin.parent else {
             return None;
@@ -75,7 +76,8 @@ impl<'a> SpanRef<'a> {
 
     /// The span and its ancestors, the nearest first, without those that the filter refused.
     pub fn scope(&self) -> Scope<'a>
-        ensures { let r = plain_ref self.now in scope_left result ≡ refs_of r.registry r.mask (line_of kin_in r.registry.spans r.span.kin.id) }
+        ensures { let r = plain_ref self.now in scope_left result
+            ≡ refs_of r.registry r.mask (line_of kin_in r.registry.spans r.span.kin.id) }
     {
         Scope {
             registry: self.registry,

@@ -67,8 +67,9 @@ fn replay<R: Read>(alloc: Global, input: &mut R) -> Result<Answer, Stop> {
 
 /// Runs the program on one word, `replay`, and an input of JSON lines, and gives its status.
 ///
-/// 0: done. 1: a step was refused; all steps ran. 2: the arguments or a line are not readable, or a setup call was refused.
-/// 3: a folder refused a setup call. 4: there was no memory outside a step. 5: the output refused a write.
+/// 0: done. 1: a step was refused; all steps ran. 2: the arguments or a line are not readable, or a setup
+/// call was refused. 3: a folder refused a setup call. 4: there was no memory outside a step. 5: the output
+/// refused a write.
 ///
 /// The output has a line for each step and then one for each file. With 2 and 3 nothing is written to it.
 pub fn main_with<R: Read, W: Write, E: Write>(

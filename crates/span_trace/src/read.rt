@@ -44,8 +44,8 @@ impl Input {
         self.is_whole
     }
 
-    /// The whole lines, with a newline between two of them; none where there is no whole line. Of an input whose end was
-    /// not seen, what stands behind the last newline is no whole line.
+    /// The whole lines, with a newline between two of them; none where there is no whole line. Of an input
+    /// whose end was not seen, what stands behind the last newline is no whole line.
     pub(crate) fn whole_lines(&self) -> Option<&[u8]> {
         let bytes = self.bytes.as_slice();
         if !self.is_whole {

@@ -9,7 +9,8 @@ use tracing_core::LevelFilter;
 #[derive(Debug, Drop)]
 struct Replies {
     replies: Vec<Reply>,
-    /// The callsites of the spans that were made. Ids are given in order from 1, so that of span N stands at place N - 1.
+    /// The callsites of the spans that were made. Ids are given in order from 1, so that of span N stands at
+    /// place N - 1.
     sites: Vec<u64>,
 }
 
@@ -89,8 +90,8 @@ fn record_call(
     })
 }
 
-/// The values of the callsite's fields. One whose field the callsite lacks is passed over, and so are all where there is no
-/// callsite: such a record is refused, or is on no span.
+/// The values of the callsite's fields. One whose field the callsite lacks is passed over, and so are all
+/// where there is no callsite: such a record is refused, or is on no span.
 fn values_at(
     alloc: Global,
     callsite: Option<&CallsiteLine>,

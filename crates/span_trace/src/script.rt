@@ -17,7 +17,8 @@ impl Script {
     ///
     /// # Errors
     ///
-    /// The first line at fault. Where the end of the input was not seen, the line behind the whole ones is not readable.
+    /// The first line at fault. Where the end of the input was not seen, the line behind the whole ones is
+    /// not readable.
     pub(crate) fn read(alloc: Global, input: &Input) -> Result<Script, Stop> {
         let mut script = Script {
             setup: Vec::new(alloc),

@@ -70,8 +70,8 @@ fn parse(alloc: Global, bytes: &[u8]) -> Result<Json, LineFault>
     }
 }
 
-/// Reads one line. Value lists name the fields of the first callsite in `setup` with the step's id, those of a record the
-/// fields of any callsite.
+/// Reads one line. Value lists name the fields of the first callsite in `setup` with the step's id, those of
+/// a record the fields of any callsite.
 ///
 /// # Errors
 ///

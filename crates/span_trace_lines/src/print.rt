@@ -97,8 +97,8 @@ fn file_value(alloc: Global, folder: &str, file: &FileEntry<'_>) -> Result<Json,
 
 /// Writes a value without spaces, and a newline.
 fn write_line<W: Write>(alloc: Global, value: &Json, output: &mut W) -> Result<(), PrintFault>
-    ensures { has_float (view value.now) ≡ false →
-        OnOk result (Appends (W.contents output.old) (W.contents output.new) (compact_text (view value.now) ++ 10 ∷ [])) }
+    ensures { has_float (view value.now) ≡ false → OnOk result
+        (Appends (W.contents output.old) (W.contents output.new) (compact_text (view value.now) ++ 10 ∷ [])) }
 {
     let mut text = value.to_string(alloc)?;
     text.push('\n')?;

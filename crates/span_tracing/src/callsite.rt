@@ -76,7 +76,8 @@ impl Callsite {
         number: u64,
         metadata: &Metadata<'_>,
     ) -> Result<Callsite, AllocError>
-        ensures { IfOk result (λ callsite. plain_callsite callsite ≡ record { number = number; metadata = plain_metadata metadata.now }) }
+        ensures { IfOk result (λ callsite. plain_callsite callsite
+            ≡ record { number = number; metadata = plain_metadata metadata.now }) }
     {
         Ok(Callsite {
             number,

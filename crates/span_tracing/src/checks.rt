@@ -270,7 +270,8 @@ impl<F: Filter> TraceParts<F> {
 
     fn clone_refusal(&self, call: &SpanCall) -> Option<Refusal>
         requires { IsSound ⟦<F as Filter>⟧ self.now }
-        ensures { result ≡ first (call_refusal (skeleton_of (value_in self.now)) call.now) (count_refusal (skeleton_of (value_in self.now)) call.now.span) }
+        ensures { result ≡ first (call_refusal (skeleton_of (value_in self.now)) call.now)
+            (count_refusal (skeleton_of (value_in self.now)) call.now.span) }
     {
         let refusal = self.call_refusal(*call);
         if refusal.is_some() {
@@ -281,7 +282,8 @@ impl<F: Filter> TraceParts<F> {
 
     fn close_refusal(&self, call: &SpanCall) -> Option<Refusal>
         requires { IsSound ⟦<F as Filter>⟧ self.now }
-        ensures { result ≡ first (call_refusal (skeleton_of (value_in self.now)) call.now) (handle_refusal (skeleton_of (value_in self.now)) call.now.span) }
+        ensures { result ≡ first (call_refusal (skeleton_of (value_in self.now)) call.now)
+            (handle_refusal (skeleton_of (value_in self.now)) call.now.span) }
     {
         let refusal = self.call_refusal(*call);
         if refusal.is_some() {
@@ -291,7 +293,8 @@ impl<F: Filter> TraceParts<F> {
     }
 
     fn global_refusal(&self, handle: usize) -> Option<Refusal>
-        ensures { result ≡ first (when (not (knows_stack (skeleton_of (value_in self.now)) handle)) UnknownStack) (when (skeleton_of (value_in self.now)).is_global GlobalSet) }
+        ensures { result ≡ first (when (not (knows_stack (skeleton_of (value_in self.now)) handle)) UnknownStack)
+            (when (skeleton_of (value_in self.now)).is_global GlobalSet) }
     {
         if !self.knows_stack(handle) {
             return Some(Refusal::UnknownStack);
@@ -302,14 +305,16 @@ impl<F: Filter> TraceParts<F> {
         None
     }
 
-    /// What the stack's filter answers of a request at a callsite, where a stack is reached and the callsite is known. It is asked by
-    /// the hub where nothing that is kept tells.
+    /// What the stack's filter answers of a request at a callsite, where a stack is reached and the callsite
+    /// is known. It is asked by the hub where nothing that is kept tells.
     #[inline(always)]
     pub(crate) fn ask(&mut self, lane: usize, moment: Moment, number: u64) -> Option<bool>
         requires sound { IsSound ⟦<F as Filter>⟧ self.old }
         requires lane { lane < length self.old.threads.items }
-        ensures asked { AskedOf (skeleton_of (value_in self.old)).is_global (callsite_named (skeleton_of (value_in self.old)).callsites number)
-            (λ c b. WouldPass ⟦<F as Filter>⟧ (value_in self.old).filter (made_with c) (view_in (skeleton_of (value_in self.old)).registry (place_at lane moment)) b) (mask_by result) }
+        ensures asked { AskedOf (skeleton_of (value_in self.old)).is_global
+            (callsite_named (skeleton_of (value_in self.old)).callsites number) (λ c b.
+            WouldPass ⟦<F as Filter>⟧ (value_in self.old).filter (made_with c)
+            (view_in (skeleton_of (value_in self.old)).registry (place_at lane moment)) b) (mask_by result) }
         ensures kept { self.new ≡ self.old }
     {
         if !self.hub.has_been_set() {

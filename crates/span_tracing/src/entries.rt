@@ -23,7 +23,8 @@ impl<F: Filter> TraceParts<F> {
     /// The callsite with an identifier.
     #[tactic(auto, using(crate::proofs::Lists::slice_get_map))]
     pub(crate) fn callsite(&self, number: u64) -> Option<&Callsite>
-        ensures { option_map plain_callsite (option_copied result) ≡ callsite_named (skeleton_of (value_in self.now)).callsites number }
+        ensures { option_map plain_callsite (option_copied result)
+            ≡ callsite_named (skeleton_of (value_in self.now)).callsites number }
     {
         self.callsites
             .get(place_of(self.callsites.as_slice(), number)?)
@@ -33,7 +34,9 @@ impl<F: Filter> TraceParts<F> {
     pub(crate) fn interest(&self, number: u64) -> Option<Interest>
         requires { IsSound ⟦<F as Filter>⟧ self.now }
         ensures known { is_some result ≡ is_some (callsite_named (skeleton_of (value_in self.now)).callsites number) }
-        ensures says { IfSome result (λ interest. (c : PlainCallsite) → callsite_named (skeleton_of (value_in self.now)).callsites number ≡ Some c → Says ⟦<F as Filter>⟧ (value_in self.now).filter (made_with c) interest) }
+        ensures says { IfSome result (λ interest. (c : PlainCallsite) →
+            callsite_named (skeleton_of (value_in self.now)).callsites number ≡ Some c →
+            Says ⟦<F as Filter>⟧ (value_in self.now).filter (made_with c) interest) }
     {
         self.hub.interest(Identifier(number))
     }
@@ -47,8 +50,14 @@ impl<F: Filter> TraceParts<F> {
         requires sound { IsSound ⟦<F as Filter>⟧ self.old }
         requires unknown { callsite_named (skeleton_of (value_in self.old)).callsites number ≡ None }
         ensures sound { IsSound ⟦<F as Filter>⟧ self.new }
-        ensures interest { IfOk result (λ interest. Says ⟦<F as Filter>⟧ (value_in self.old).filter (made_with (record { number = number; metadata = plain_metadata metadata.now })) interest) }
-        ensures ok { OnOk result (value_in self.new ≡ record (value_in self.old) { skeleton = record (skeleton_of (value_in self.old)) { callsites = (skeleton_of (value_in self.old)).callsites ++ (record { number = number; metadata = plain_metadata metadata.now }) ∷ [] } }) }
+        ensures interest { IfOk result (λ interest. Says ⟦<F as Filter>⟧ (value_in self.old).filter
+            (made_with (record { number = number; metadata = plain_metadata metadata.now })) interest) }
+        ensures ok { OnOk result (value_in self.new ≡ record (value_in self.old) {
+          skeleton = record (skeleton_of (value_in self.old)) {
+            callsites = (skeleton_of (value_in self.old)).callsites
+                ++ (record { number = number; metadata = plain_metadata metadata.now }) ∷ [];
+          };
+        }) }
         ensures err { OnErr result (value_in self.new ≡ value_in self.old) }
     {
         let callsite = Callsite::new(self.alloc, number, metadata)?;
@@ -80,8 +89,11 @@ impl<F: Filter> TraceParts<F> {
         ensures sound { IsSound ⟦<F as Filter>⟧ self.new }
         ensures number { IfOk result (λ lane. lane ≡ (skeleton_of (value_in self.old)).lanes) }
         ensures ok { OnOk result (value_in self.new ≡ record (value_in self.old) {
-          skeleton = record (skeleton_of (value_in self.old)) { lanes = (skeleton_of (value_in self.old)).lanes + 1 };
-          threads = threads_of (value_in self.old) ++ (record { name = option_map string_bytes name; number = thread_id }) ∷ [];
+          skeleton = record (skeleton_of (value_in self.old)) {
+            lanes = (skeleton_of (value_in self.old)).lanes + 1;
+          };
+          threads = threads_of (value_in self.old) ++
+              (record { name = option_map string_bytes name; number = thread_id }) ∷ [];
         }) }
         ensures err { OnErr result (value_in self.new ≡ value_in self.old) }
     {

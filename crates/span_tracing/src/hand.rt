@@ -36,7 +36,8 @@ pub(crate) fn hand_event<F: Filter>(
     callsite: &Callsite,
     event: &Request<'_>,
 ) -> Result<(), RequestError>
-    ensures { HubGives ⟦<Stack<F> as Subscriber>⟧ (EventDispatched (event_of callsite.now event.now) (place_at event.now.lane event.now.moment)) handle.now hub.old result hub.new }
+    ensures { HubGives ⟦<Stack<F> as Subscriber>⟧ (EventDispatched (event_of callsite.now event.now)
+        (place_at event.now.lane event.now.moment)) handle.now hub.old result hub.new }
 {
     let metadata = callsite.metadata();
     let values = metadata.fields().value_set_indexed(event.values);
@@ -58,7 +59,8 @@ pub(crate) fn hand_span<F: Filter>(
     callsite: &Callsite,
     span: &Request<'_>,
 ) -> Result<Option<Id>, RequestError>
-    ensures { HubGives ⟦<Stack<F> as Subscriber>⟧ (SpanMade (attributes_of callsite.now span.now) (place_at span.now.lane span.now.moment)) handle.now hub.old result hub.new }
+    ensures { HubGives ⟦<Stack<F> as Subscriber>⟧ (SpanMade (attributes_of callsite.now span.now)
+        (place_at span.now.lane span.now.moment)) handle.now hub.old result hub.new }
 {
     let metadata = callsite.metadata();
     let values = metadata.fields().value_set_indexed(span.values);
@@ -81,7 +83,8 @@ pub(crate) fn hand_record<F: Filter>(
     id: Id,
     call: &RecordRequest<'_>,
 ) -> Result<(), RequestError>
-    ensures { HubGives ⟦<Stack<F> as Subscriber>⟧ (Recorded id (values_with callsite.now call.now.values.now) (place_at call.now.lane call.now.moment)) handle.now hub.old result hub.new }
+    ensures { HubGives ⟦<Stack<F> as Subscriber>⟧ (Recorded id (values_with callsite.now call.now.values.now)
+        (place_at call.now.lane call.now.moment)) handle.now hub.old result hub.new }
 {
     let metadata = callsite.metadata();
     let values = Record::new(metadata.fields().value_set_indexed(call.values));

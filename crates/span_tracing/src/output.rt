@@ -77,7 +77,12 @@ impl<D: Drop, F: Drop> Output<D, F> {
         ensures made { is_bad_route route (vec_len sinks) ≡ false →
             IfOk result (λ output. MadeOf filter format sinks.items key output) }
         ensures memory { is_bad_route route (vec_len sinks) ≡ false →
-            IfErr result (λ refused. refused ≡ record { refusal = Refusal.OutOfMemory; filter = filter; format = format; sinks = sinks }) }
+            IfErr result (λ refused. refused ≡ record {
+              refusal = Refusal.OutOfMemory;
+              filter = filter;
+              format = format;
+              sinks = sinks;
+            }) }
     {
         if is_bad_route(route, sinks.len()) {
             return Err(OutputRefusal {

@@ -73,7 +73,9 @@ impl<F: Filter> TraceParts<F> {
     /// The place of an open span's callsite.
     pub(crate) fn span_place(&self, id: Id) -> Option<usize>
         ensures within { IfSome result (λ place. place < length self.now.callsites.items) }
-        ensures value { result ≡ option_and_then (λ (s : PlainSpan). place_of (map plain_callsite self.now.callsites.items) s.metadata.callsite) (found kin_in (registry_in (stack_in self.now)).spans id) }
+        ensures value { result ≡ option_and_then (λ (s : PlainSpan).
+            place_of (map plain_callsite self.now.callsites.items) s.metadata.callsite)
+            (found kin_in (registry_in (stack_in self.now)).spans id) }
     {
         place_of(self.callsites.as_slice(), self.stack()?.callsite_of(id)?)
     }

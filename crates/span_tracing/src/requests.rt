@@ -60,7 +60,8 @@ impl<F: Filter> TraceParts<F> {
         let _told = hand_event(&mut self.hub, handle, &self.callsites[place], event);
     }
 
-    /// Hands the stack's line over, where it has one; else the stack wasn't told of the event, or its line found no memory.
+    /// Hands the stack's line over, where it has one; else the stack wasn't told of the event, or its line
+    /// found no memory.
     #[inline(never)]
     pub(crate) fn write_told<D: Folder>(
         &self,
@@ -69,8 +70,10 @@ impl<F: Filter> TraceParts<F> {
     ) -> EventDone
         requires { is_moment moment ≡ true }
         ensures notified { (fate : Fate) (line : List ℕ) → told_in (stack_in self.now) ≡ line_told fate line →
-            (result.answer ≡ Some true) × TakesLines D.contents sink.old sink.new (handed_by result.fate (handed_at moment line)) }
-        ensures dropped { told_in (stack_in self.now) ≡ Quiet → (result ≡ record { fate = Fate.Whole; answer = Some false }) × (sink.new ≡ sink.old) }
+            (result.answer ≡ Some true) × TakesLines D.contents sink.old sink.new
+            (handed_by result.fate (handed_at moment line)) }
+        ensures dropped { told_in (stack_in self.now) ≡ Quiet →
+            (result ≡ record { fate = Fate.Whole; answer = Some false }) × (sink.new ≡ sink.old) }
     {
         match self.line() {
             Some(line) => EventDone {
@@ -130,7 +133,8 @@ impl<F: Filter> TraceParts<F> {
         requires sound { IsSound ⟦<F as Filter>⟧ self.old }
         requires place { place < length self.old.callsites.items }
         requires there { is_open kin_in (registry_in (stack_in self.old)).spans id ≡ true }
-        ensures { RecordsFields ⟦<F as Filter>⟧ self.old self.new id (list_at (skeleton_of (value_in self.old)) place (plain_record call.now).values) }
+        ensures { RecordsFields ⟦<F as Filter>⟧ self.old self.new id
+            (list_at (skeleton_of (value_in self.old)) place (plain_record call.now).values) }
     {
         let Some(handle) = &self.handle else {
             return;
@@ -150,7 +154,8 @@ impl<F: Filter> TraceParts<F> {
         requires lane { lane < length self.old.threads.items }
         requires there { is_open kin_in (registry_in (stack_in self.old)).spans id ≡ true }
         ensures sound { IsSound ⟦<F as Filter>⟧ self.new }
-        ensures ok { OnOk result (Heard ⟦<F as Filter>⟧ (value_in self.old) (with_entry (value_in self.old) lane id) (value_in self.new)) }
+        ensures ok { OnOk result (Heard ⟦<F as Filter>⟧ (value_in self.old) (with_entry (value_in self.old) lane id)
+            (value_in self.new)) }
         ensures err { OnErr result (value_in self.new ≡ value_in self.old) }
     {
         let Some(handle) = &self.handle else {
@@ -167,7 +172,8 @@ impl<F: Filter> TraceParts<F> {
         requires sound { IsSound ⟦<F as Filter>⟧ self.old }
         requires there { is_open kin_in (registry_in (stack_in self.old)).spans id ≡ true }
         ensures sound { IsSound ⟦<F as Filter>⟧ self.new }
-        ensures state { Heard ⟦<F as Filter>⟧ (value_in self.old) (without_entry (value_in self.old) lane id) (value_in self.new) }
+        ensures state { Heard ⟦<F as Filter>⟧ (value_in self.old) (without_entry (value_in self.old) lane id)
+            (value_in self.new) }
     {
         let Some(handle) = &self.handle else {
             return;
@@ -209,7 +215,8 @@ impl<F: Filter> TraceParts<F> {
         requires sound { IsSound ⟦<F as Filter>⟧ self.old }
         requires some { ¬ (handles_of kin_in (registry_in (stack_in self.old)).spans id ≡ 0) }
         ensures sound { IsSound ⟦<F as Filter>⟧ self.new }
-        ensures state { Heard ⟦<F as Filter>⟧ (value_in self.old) (without_one (value_in self.old) id) (value_in self.new) }
+        ensures state { Heard ⟦<F as Filter>⟧ (value_in self.old) (without_one (value_in self.old) id)
+            (value_in self.new) }
         ensures closed { result ≡ not (is_open kin_in (skeleton_of (without_one (value_in self.old) id)).registry.spans id) }
     {
         let Some(handle) = &self.handle else {

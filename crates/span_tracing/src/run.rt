@@ -47,8 +47,16 @@ fn whole(reply: Reply) -> StepDone
 
 /// What a span request comes to.
 fn span_done(made: Result<MadeSpan, SpanError>) -> StepDone
-    ensures made { IfOk made (λ made. result ≡ record { reply = Reply.Span made.name; fate = made.fate; answer = made.answer }) }
-    ensures refused { IfErr made (λ error. result ≡ record { reply = Reply.Refused (refusal_by error); fate = Fate.Whole; answer = Some true }) }
+    ensures made { IfOk made (λ made. result ≡ record {
+      reply = Reply.Span made.name;
+      fate = made.fate;
+      answer = made.answer;
+    }) }
+    ensures refused { IfErr made (λ error. result ≡ record {
+      reply = Reply.Refused (refusal_by error);
+      fate = Fate.Whole;
+      answer = Some true;
+    }) }
 {
     match made {
         Ok(made) => StepDone {
@@ -77,7 +85,8 @@ impl<D: Folder, F: Filter> Trace<D, F> {
     #[tactic(auto, unfolding(span_tracing_machine::specs::Machine::answered, span_tracing_machine::specs::Machine::after, span_tracing_machine::specs::Machine::reply_of, span_tracing_machine::specs::Missed::wants_of, span_tracing_machine::specs::State::offer_of))]
     fn step_once(&mut self, action: &Action<'_>) -> StepDone
         ensures went { Went ⟦<F as Filter>⟧ D.contents self.old self.new (plain_action action.now) result }
-        ensures refused { (refusal : Refusal) → result.reply ≡ Reply.Refused refusal → value_of self.new ≡ value_of self.old }
+        ensures refused { (refusal : Refusal) → result.reply ≡ Reply.Refused refusal →
+            value_of self.new ≡ value_of self.old }
         ensures asked { (call : EnabledCall) → plain_action action.now ≡ EnabledStep call → self.new ≡ self.old }
     {
         if let Some(refusal) = self.state.refusal(action) {
@@ -132,35 +141,41 @@ impl<D: Folder, F: Filter> Trace<D, F> {
     /// A step of the plain machine, from each plain state that the trace agrees with.
     #[inline(always)]
     fn act(&mut self, action: &Action<'_>) -> Reply
-        ensures follows { result ≢ Reply.Refused Refusal.OutOfMemory → FollowsStep ⟦<F as Filter>⟧ D.contents self.old self.new result (plain_action action.now) }
+        ensures follows { result ≢ Reply.Refused Refusal.OutOfMemory →
+            FollowsStep ⟦<F as Filter>⟧ D.contents self.old self.new result (plain_action action.now) }
         ensures refused { (refusal : Refusal) → result ≡ Reply.Refused refusal → value_of self.new ≡ value_of self.old }
-        ensures memory { result ≡ Reply.Refused Refusal.OutOfMemory → Wants ⟦<F as Filter>⟧ self.old.state (plain_action action.now) }
+        ensures memory { result ≡ Reply.Refused Refusal.OutOfMemory →
+            Wants ⟦<F as Filter>⟧ self.old.state (plain_action action.now) }
         ensures asked { (call : EnabledCall) → plain_action action.now ≡ EnabledStep call → self.new ≡ self.old }
     {
         let done = self.step_once(action);
         done.reply
     }
 
-    /// A step. The reply and the new state are the plain machine's, from each plain state that the trace agrees with, with what the
-    /// stack's filter answered.
+    /// A step. The reply and the new state are the plain machine's, from each plain state that the trace
+    /// agrees with, with what the stack's filter answered.
     ///
     /// A refusal changes nothing. Want of memory is answered for a new span or an entry alone.
     pub fn step(&mut self, step: &Step) -> Reply
-        ensures follows { result ≢ Reply.Refused Refusal.OutOfMemory → FollowsStep ⟦<F as Filter>⟧ D.contents self.old self.new result (plain_step step.now) }
+        ensures follows { result ≢ Reply.Refused Refusal.OutOfMemory →
+            FollowsStep ⟦<F as Filter>⟧ D.contents self.old self.new result (plain_step step.now) }
         ensures refused { (refusal : Refusal) → result ≡ Reply.Refused refusal → value_of self.new ≡ value_of self.old }
-        ensures memory { result ≡ Reply.Refused Refusal.OutOfMemory → Wants ⟦<F as Filter>⟧ self.old.state (plain_step step.now) }
+        ensures memory { result ≡ Reply.Refused Refusal.OutOfMemory →
+            Wants ⟦<F as Filter>⟧ self.old.state (plain_step step.now) }
     {
         self.act(&action_of(step))
     }
 
-    /// Steps in order, with a reply to each. A step that is refused for want of memory does nothing, and the others run. The files of the
-    /// sink hold exactly the lines of the events that passed, as the stack's filter answered of each.
+    /// Steps in order, with a reply to each. A step that is refused for want of memory does nothing, and the
+    /// others run. The files of the sink hold exactly the lines of the events that passed, as the stack's
+    /// filter answered of each.
     ///
     /// # Errors
     ///
     /// Want of memory for the replies, whose room is made first: then nothing was done.
     pub fn run(&mut self, steps: &[Step]) -> Result<Vec<Reply>, AllocError>
-        ensures run { IfOk result (λ replies. RunsAll ⟦<F as Filter>⟧ D.contents self.old self.new replies.items (plain_steps steps.now)) }
+        ensures run { IfOk result (λ replies. RunsAll ⟦<F as Filter>⟧ D.contents self.old self.new replies.items
+            (plain_steps steps.now)) }
         ensures err { OnErr result (self.new ≡ self.old) }
     {
         self.run_all(steps)
@@ -168,7 +183,8 @@ impl<D: Folder, F: Filter> Trace<D, F> {
 
     // What the files hold follows from this clause, once for all paths.
     fn run_all(&mut self, steps: &[Step]) -> Result<Vec<Reply>, AllocError>
-        ensures run { IfOk result (λ replies. RunsSteps ⟦<F as Filter>⟧ D.contents self.old self.new replies.items (plain_steps steps.now)) }
+        ensures run { IfOk result (λ replies. RunsSteps ⟦<F as Filter>⟧ D.contents self.old self.new replies.items
+            (plain_steps steps.now)) }
         ensures err { OnErr result (self.new ≡ self.old) }
     {
         let mut replies = Vec::with_capacity(self.state.alloc(), steps.len())?;
@@ -195,7 +211,14 @@ impl<D: Folder, F: Filter> Trace<D, F> {
         parent: Parent,
         values: &[FieldValue],
     ) -> Reply
-        ensures follows { FollowsStep ⟦<F as Filter>⟧ D.contents self.old self.new result (EventStep (record { lane = lane; moment = moment; callsite = callsite.0; parent = parent; values = owned_entries values.now })) }
+        ensures follows { FollowsStep ⟦<F as Filter>⟧ D.contents self.old self.new result
+            (EventStep (record {
+              lane = lane;
+              moment = moment;
+              callsite = callsite.0;
+              parent = parent;
+              values = owned_entries values.now;
+            })) }
         ensures refused { (refusal : Refusal) → result ≡ Reply.Refused refusal → value_of self.new ≡ value_of self.old }
     {
         self.act(&Action::Event(Request {
@@ -207,10 +230,11 @@ impl<D: Folder, F: Filter> Trace<D, F> {
         }))
     }
 
-    /// Asks what the stack's filter answers of a callsite on a lane: by it a new span would be made, and an event unless the filter
-    /// refuses the event itself. Asking leaves no mark, and takes no memory.
+    /// Asks what the stack's filter answers of a callsite on a lane: by it a new span would be made, and an
+    /// event unless the filter refuses the event itself. Asking leaves no mark, and takes no memory.
     pub fn enabled(&mut self, lane: usize, moment: Moment, callsite: Identifier) -> Reply
-        ensures follows { FollowsStep ⟦<F as Filter>⟧ D.contents self.old self.new result (EnabledStep (record { lane = lane; moment = moment; callsite = callsite })) }
+        ensures follows { FollowsStep ⟦<F as Filter>⟧ D.contents self.old self.new result
+            (EnabledStep (record { lane = lane; moment = moment; callsite = callsite })) }
         ensures still { self.new ≡ self.old }
     {
         self.act(&Action::Enabled(EnabledCall {
@@ -220,8 +244,8 @@ impl<D: Folder, F: Filter> Trace<D, F> {
         }))
     }
 
-    /// A new span on a lane; answers its name, or none where it is dropped. Where its text finds no memory, the text alone is
-    /// missing.
+    /// A new span on a lane; answers its name, or none where it is dropped. Where its text finds no memory,
+    /// the text alone is missing.
     pub fn new_span(
         &mut self,
         lane: usize,
@@ -230,10 +254,23 @@ impl<D: Folder, F: Filter> Trace<D, F> {
         parent: Parent,
         values: &[FieldValue],
     ) -> Reply
-        ensures follows { result ≢ Reply.Refused Refusal.OutOfMemory → FollowsStep ⟦<F as Filter>⟧ D.contents self.old self.new result
-            (SpanStep (record { lane = lane; moment = moment; callsite = callsite.0; parent = parent; values = owned_entries values.now })) }
-        ensures memory { let step = SpanStep (record { lane = lane; moment = moment; callsite = callsite.0; parent = parent; values = owned_entries values.now }) in
-            result ≡ Reply.Refused Refusal.OutOfMemory → Wants ⟦<F as Filter>⟧ self.old.state step }
+        ensures follows { result ≢ Reply.Refused Refusal.OutOfMemory →
+            FollowsStep ⟦<F as Filter>⟧ D.contents self.old self.new result
+            (SpanStep (record {
+              lane = lane;
+              moment = moment;
+              callsite = callsite.0;
+              parent = parent;
+              values = owned_entries values.now;
+            })) }
+        ensures memory { let step = SpanStep (record {
+          lane = lane;
+          moment = moment;
+          callsite = callsite.0;
+          parent = parent;
+          values = owned_entries values.now;
+        }) in result ≡ Reply.Refused Refusal.OutOfMemory →
+            Wants ⟦<F as Filter>⟧ self.old.state step }
         ensures refused { (refusal : Refusal) → result ≡ Reply.Refused refusal → value_of self.new ≡ value_of self.old }
     {
         self.act(&Action::NewSpan(Request {
@@ -247,7 +284,9 @@ impl<D: Folder, F: Filter> Trace<D, F> {
 
     /// Enters a span on a lane.
     pub fn enter(&mut self, lane: usize, moment: Moment, span: Option<SpanName>) -> Reply
-        ensures follows { result ≢ Reply.Refused Refusal.OutOfMemory → FollowsStep ⟦<F as Filter>⟧ D.contents self.old self.new result (EnterStep (record { lane = lane; moment = moment; span = span })) }
+        ensures follows { result ≢ Reply.Refused Refusal.OutOfMemory →
+            FollowsStep ⟦<F as Filter>⟧ D.contents self.old self.new result
+            (EnterStep (record { lane = lane; moment = moment; span = span })) }
         ensures memory { let step = EnterStep (record { lane = lane; moment = moment; span = span }) in
             result ≡ Reply.Refused Refusal.OutOfMemory → Wants ⟦<F as Filter>⟧ self.old.state step }
         ensures refused { (refusal : Refusal) → result ≡ Reply.Refused refusal → value_of self.new ≡ value_of self.old }
@@ -257,14 +296,15 @@ impl<D: Folder, F: Filter> Trace<D, F> {
 
     /// Leaves a span on a lane: its last entry there goes. Takes no memory.
     pub fn exit(&mut self, lane: usize, moment: Moment, span: Option<SpanName>) -> Reply
-        ensures follows { FollowsStep ⟦<F as Filter>⟧ D.contents self.old self.new result (ExitStep (record { lane = lane; moment = moment; span = span })) }
+        ensures follows { FollowsStep ⟦<F as Filter>⟧ D.contents self.old self.new result
+            (ExitStep (record { lane = lane; moment = moment; span = span })) }
         ensures refused { (refusal : Refusal) → result ≡ Reply.Refused refusal → value_of self.new ≡ value_of self.old }
     {
         self.act(&Action::Exit(SpanCall { lane, moment, span }))
     }
 
-    /// Adds values to a span's. A field is told by its place among those of the span's callsite; one that the callsite lacks
-    /// is passed over. Where the text finds no memory, these values alone are missing from it.
+    /// Adds values to a span's. A field is told by its place among those of the span's callsite; one that the
+    /// callsite lacks is passed over. Where the text finds no memory, these values alone are missing from it.
     pub fn record(
         &mut self,
         lane: usize,
@@ -292,7 +332,8 @@ impl<D: Folder, F: Filter> Trace<D, F> {
         span: Option<SpanName>,
         follows: Option<SpanName>,
     ) -> Reply
-        ensures follows { FollowsStep ⟦<F as Filter>⟧ D.contents self.old self.new result (FollowsFromStep (record { lane = lane; moment = moment; span = span; follows = follows })) }
+        ensures follows { FollowsStep ⟦<F as Filter>⟧ D.contents self.old self.new result
+            (FollowsFromStep (record { lane = lane; moment = moment; span = span; follows = follows })) }
         ensures refused { (refusal : Refusal) → result ≡ Reply.Refused refusal → value_of self.new ≡ value_of self.old }
     {
         self.act(&Action::RecordFollowsFrom(FollowsCall {
@@ -305,7 +346,8 @@ impl<D: Folder, F: Filter> Trace<D, F> {
 
     /// Takes one more handle of a span. Takes no memory.
     pub fn clone_span(&mut self, lane: usize, moment: Moment, span: Option<SpanName>) -> Reply
-        ensures follows { FollowsStep ⟦<F as Filter>⟧ D.contents self.old self.new result (CloneStep (record { lane = lane; moment = moment; span = span })) }
+        ensures follows { FollowsStep ⟦<F as Filter>⟧ D.contents self.old self.new result
+            (CloneStep (record { lane = lane; moment = moment; span = span })) }
         ensures refused { (refusal : Refusal) → result ≡ Reply.Refused refusal → value_of self.new ≡ value_of self.old }
     {
         self.act(&Action::CloneSpan(SpanCall { lane, moment, span }))
@@ -313,7 +355,8 @@ impl<D: Folder, F: Filter> Trace<D, F> {
 
     /// Gives up one handle of a span; answers whether the span closed. Takes no memory.
     pub fn try_close(&mut self, lane: usize, moment: Moment, span: Option<SpanName>) -> Reply
-        ensures follows { FollowsStep ⟦<F as Filter>⟧ D.contents self.old self.new result (CloseStep (record { lane = lane; moment = moment; span = span })) }
+        ensures follows { FollowsStep ⟦<F as Filter>⟧ D.contents self.old self.new result
+            (CloseStep (record { lane = lane; moment = moment; span = span })) }
         ensures refused { (refusal : Refusal) → result ≡ Reply.Refused refusal → value_of self.new ≡ value_of self.old }
     {
         self.act(&Action::TryClose(SpanCall { lane, moment, span }))

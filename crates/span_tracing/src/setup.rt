@@ -75,9 +75,10 @@ impl<D: Folder, F: Filter> Trace<D, F> {
         self.state.has_stack()
     }
 
-    /// Registers a callsite under an identifier, and answers the interest in it that the hub keeps: what the stack's filter says of it,
-    /// and never where there is no stack. Equal metadata may be registered again, which answers the interest and changes nothing.
-    /// Else the callsite is the last one, and all else stays: lanes, the output, its filter and its sink.
+    /// Registers a callsite under an identifier, and answers the interest in it that the hub keeps: what the
+    /// stack's filter says of it, and never where there is no stack. Equal metadata may be registered again,
+    /// which answers the interest and changes nothing. Else the callsite is the last one, and all else stays:
+    /// lanes, the output, its filter and its sink.
     ///
     /// # Errors
     ///
@@ -87,14 +88,25 @@ impl<D: Folder, F: Filter> Trace<D, F> {
         identifier: Identifier,
         metadata: &Metadata<'_>,
     ) -> Result<Interest, Refusal>
-        ensures refused { (refusal : Refusal) → register_refusal (skeleton_of self.old.state) (record { number = identifier.0; metadata = plain_metadata metadata.now }) ≡ Some refusal → result ≡ Err refusal }
-        ensures accepted { register_refusal (skeleton_of self.old.state) (record { number = identifier.0; metadata = plain_metadata metadata.now }) ≡ None → IfErr result (λ refusal. refusal ≡ Refusal.OutOfMemory) }
-        ensures ok { OnOk result ((p : Plain) → Agrees self.old.state p → Agrees self.new.state (registered p (record { number = identifier.0; metadata = plain_metadata metadata.now }))) }
+        ensures refused { (refusal : Refusal) → register_refusal (skeleton_of self.old.state)
+            (record { number = identifier.0; metadata = plain_metadata metadata.now }) ≡ Some refusal →
+            result ≡ Err refusal }
+        ensures accepted { register_refusal (skeleton_of self.old.state)
+            (record { number = identifier.0; metadata = plain_metadata metadata.now }) ≡ None →
+            IfErr result (λ refusal. refusal ≡ Refusal.OutOfMemory) }
+        ensures ok { OnOk result ((p : Plain) → Agrees self.old.state p →
+            Agrees self.new.state (registered p (record {
+              number = identifier.0;
+              metadata = plain_metadata metadata.now;
+            }))) }
         ensures interest { callsite_named (skeleton_of self.old.state).callsites identifier.0 ≡ None →
-            IfOk result (λ interest. Says ⟦<F as Filter>⟧ self.old.state.filter (made_with (record { number = identifier.0; metadata = plain_metadata metadata.now })) interest) }
-        ensures again { IfOk result (λ interest. (c : PlainCallsite) → callsite_named (skeleton_of self.old.state).callsites identifier.0 ≡ Some c →
+            IfOk result (λ interest. Says ⟦<F as Filter>⟧ self.old.state.filter
+            (made_with (record { number = identifier.0; metadata = plain_metadata metadata.now })) interest) }
+        ensures again { IfOk result (λ interest. (c : PlainCallsite) →
+            callsite_named (skeleton_of self.old.state).callsites identifier.0 ≡ Some c →
             Says ⟦<F as Filter>⟧ self.old.state.filter (made_with c) interest) }
-        ensures state { OnOk result (self.new.state ≡ with_callsite self.old.state (record { number = identifier.0; metadata = plain_metadata metadata.now })) }
+        ensures state { OnOk result (self.new.state ≡ with_callsite self.old.state
+            (record { number = identifier.0; metadata = plain_metadata metadata.now })) }
         ensures files { self.new.sink ≡ self.old.sink }
         ensures starved { self.new.state.starved ≡ self.old.state.starved }
         ensures err { OnErr result (value_of self.new ≡ value_of self.old) }
@@ -117,7 +129,8 @@ impl<D: Folder, F: Filter> Trace<D, F> {
         }
     }
 
-    /// Adds a lane, and answers its number: lanes are numbered from 0. All else stays: callsites, the output, its filter and its sink.
+    /// Adds a lane, and answers its number: lanes are numbered from 0. All else stays: callsites, the output,
+    /// its filter and its sink.
     ///
     /// # Errors
     ///
@@ -125,8 +138,10 @@ impl<D: Folder, F: Filter> Trace<D, F> {
     pub fn thread(&mut self, name: Option<&str>, thread_id: u64) -> Result<usize, AllocError>
         ensures number { IfOk result (λ lane. lane ≡ (skeleton_of self.old.state).lanes) }
         ensures ok { OnOk result ((p : Plain) → Agrees self.old.state p → Agrees self.new.state (with_lane p)) }
-        ensures thread { OnOk result (threads_of self.new.state ≡ threads_of self.old.state ++ (record { name = option_copied name.entry; number = thread_id }) ∷ []) }
-        ensures state { OnOk result (self.new.state ≡ with_thread self.old.state (record { name = option_copied name.entry; number = thread_id })) }
+        ensures thread { OnOk result (threads_of self.new.state ≡ threads_of self.old.state
+            ++ (record { name = option_copied name.entry; number = thread_id }) ∷ []) }
+        ensures state { OnOk result (self.new.state ≡ with_thread self.old.state
+            (record { name = option_copied name.entry; number = thread_id })) }
         ensures sink { self.new.sink ≡ self.old.sink }
         ensures starved { self.new.state.starved ≡ self.old.state.starved }
         ensures err { OnErr result (value_of self.new ≡ value_of self.old) }
@@ -138,8 +153,9 @@ impl<D: Folder, F: Filter> Trace<D, F> {
         self.state.add_lane(name, thread_id)
     }
 
-    /// Adds the stack, which has one output, and opens the output's first file. Answers the stack's handle, which is 0. The trace
-    /// then has the output's setting and filter, and a registry that knows of one filter more; callsites and lanes stay.
+    /// Adds the stack, which has one output, and opens the output's first file. Answers the stack's handle,
+    /// which is 0. The trace then has the output's setting and filter, and a registry that knows of one
+    /// filter more; callsites and lanes stay.
     ///
     /// # Errors
     ///
@@ -153,18 +169,23 @@ impl<D: Folder, F: Filter> Trace<D, F> {
         requires no_stack { is_some self.old.state.output ≡ false }
         requires one { vec_len outputs ≤ 1 }
         requires honest { (output : Output D F) → outputs.items ≡ output ∷ [] → F.honest output.filter }
-        ensures refused { (refusal : Refusal) → stack_refusal outputs.items moment ≡ Some refusal → result ≡ Err (record { refusal = refusal; outputs = outputs }) }
+        ensures refused { (refusal : Refusal) → stack_refusal outputs.items moment ≡ Some refusal →
+            result ≡ Err (record { refusal = refusal; outputs = outputs }) }
         ensures handle { IfOk result (λ handle. handle ≡ 0) }
         ensures moment { OnOk result (is_moment moment ≡ true) }
         ensures starved { self.new.state.starved ≡ self.old.state.starved }
-        ensures kept { OnOk result ((output : Output D F) → outputs.items ≡ output ∷ [] → (self.new.state.output ≡ Some (setting_of output)) × (self.new.state.filter ≡ Some output.filter)) }
-        ensures state { OnOk result ((output : Output D F) → outputs.items ≡ output ∷ [] → self.new.state ≡ with_output self.old.state (setting_of output) output.filter) }
-        ensures ok { OnOk result ((output : Output D F) → outputs.items ≡ output ∷ [] → (p : Plain) → Agrees self.old.state p →
-            Agrees self.new.state (with_stack p (plain_output D.contents output moment))) }
-        ensures files { OnOk result ((output : Output D F) → outputs.items ≡ output ∷ [] → MayOpen (D.contents output.folder) (output_names output) → (p : Plain) →
+        ensures kept { OnOk result ((output : Output D F) → outputs.items ≡ output ∷ [] →
+            (self.new.state.output ≡ Some (setting_of output)) × (self.new.state.filter ≡ Some output.filter)) }
+        ensures state { OnOk result ((output : Output D F) → outputs.items ≡ output ∷ [] →
+            self.new.state ≡ with_output self.old.state (setting_of output) output.filter) }
+        ensures ok { OnOk result ((output : Output D F) → outputs.items ≡ output ∷ [] → (p : Plain) →
+            Agrees self.old.state p → Agrees self.new.state (with_stack p (plain_output D.contents output moment))) }
+        ensures files { OnOk result ((output : Output D F) → outputs.items ≡ output ∷ [] →
+            MayOpen (D.contents output.folder) (output_names output) → (p : Plain) →
             AgreesFiles D.contents self.new (with_stack p (plain_output D.contents output moment))) }
         ensures err { OnErr result (value_of self.new ≡ value_of self.old) }
-        ensures opening { stack_refusal outputs.items moment ≡ None → IfErr result (λ back. HandsOutputsBack D.contents outputs.items back.refusal back.outputs.items) }
+        ensures opening { stack_refusal outputs.items moment ≡ None →
+            IfErr result (λ back. HandsOutputsBack D.contents outputs.items back.refusal back.outputs.items) }
     {
         if !moment.is_in_range() {
             return Err(StackRefusal {
@@ -212,9 +233,11 @@ impl<D: Folder, F: Filter> Trace<D, F> {
     /// The folder of a sink: sinks are numbered from 0.
     pub fn folder(&self, sink: usize) -> Option<&D>
         ensures there { IsSome result ↔ ((sink ≡ 0) × IsSome self.now.sink) }
-        ensures same { sink ≡ 0 → option_and_then (λ folder. D.contents folder) (option_copied result) ≡ folder_of D.contents self.now.sink }
-        ensures files { IfSome result (λ folder. (p : Plain) (o : PlainOutput) (c : Contents) → AgreesFiles D.contents self.now p → p.output ≡ Some o →
-            D.contents folder.now ≡ Some c → (name : List ℕ) → bytes_at c.files name ≡ file_text o.sink name) }
+        ensures same { sink ≡ 0 → option_and_then (λ folder. D.contents folder) (option_copied result)
+            ≡ folder_of D.contents self.now.sink }
+        ensures files { IfSome result (λ folder. (p : Plain) (o : PlainOutput) (c : Contents) →
+            AgreesFiles D.contents self.now p → p.output ≡ Some o → D.contents folder.now ≡ Some c → (name : List ℕ) →
+            bytes_at c.files name ≡ file_text o.sink name) }
     {
         if sink != 0 {
             return None;

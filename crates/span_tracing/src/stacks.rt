@@ -134,7 +134,8 @@ impl<F: Filter> TraceParts<F> {
         requires moment { is_moment moment ≡ true }
         requires honest { F.honest output.filter }
         ensures sound { IsSound ⟦<F as Filter>⟧ self.new }
-        ensures ok { OnOk result (value_in self.new ≡ with_output (value_in self.old) (setting_of output) output.filter) }
+        ensures ok { OnOk result (value_in self.new ≡ with_output (value_in self.old) (setting_of output)
+            output.filter) }
         ensures files { IfOk result (λ sink. MayOpen (D.contents output.folder) (output_names output) →
             AgreesOption D.contents (Some sink) (Some (plain_output D.contents output moment).sink)) }
         ensures err { OnErr result (value_in self.new ≡ value_in self.old) }
@@ -178,7 +179,8 @@ impl<F: Filter> TraceParts<F> {
         ensures notified { IfErr result (λ back. (error : FolderError) × (back.refusal ≡ refusal_by error)) }
         ensures names { IfErr result (λ back. output_names back.output ≡ builder_names builder) }
         ensures known { (c : Contents) → D.contents folder ≡ Some c → MayOpen (Some c) (builder_names builder) →
-            IfErr result (λ back. (back.refusal ≡ Refusal.OutOfMemory) × HandsBack c (builder_names builder) (D.contents back.output.folder)) }
+            IfErr result (λ back. (back.refusal ≡ Refusal.OutOfMemory) ×
+            HandsBack c (builder_names builder) (D.contents back.output.folder)) }
     {
         match RollingFileAppender::open(self.alloc, builder, folder, moment) {
             Ok(sink) => Ok(sink),

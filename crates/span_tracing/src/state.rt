@@ -91,7 +91,8 @@ impl<F: Filter> TraceState<F> {
 
     /// The callsite with an identifier.
     pub(crate) fn callsite(&self, number: u64) -> Option<&Callsite>
-        ensures { option_map plain_callsite (option_copied result) ≡ callsite_named (skeleton_of self.now).callsites number }
+        ensures { option_map plain_callsite (option_copied result)
+            ≡ callsite_named (skeleton_of self.now).callsites number }
     {
         self.parts.callsite(number)
     }
@@ -99,7 +100,9 @@ impl<F: Filter> TraceState<F> {
     /// The interest that is kept of the callsite with an identifier.
     pub(crate) fn interest(&self, number: u64) -> Option<Interest>
         ensures known { is_some result ≡ is_some (callsite_named (skeleton_of self.now).callsites number) }
-        ensures says { IfSome result (λ interest. (c : PlainCallsite) → callsite_named (skeleton_of self.now).callsites number ≡ Some c → Says ⟦<F as Filter>⟧ self.now.filter (made_with c) interest) }
+        ensures says { IfSome result (λ interest. (c : PlainCallsite) →
+            callsite_named (skeleton_of self.now).callsites number ≡ Some c →
+            Says ⟦<F as Filter>⟧ self.now.filter (made_with c) interest) }
     {
         self.parts.interest(number)
     }
@@ -111,8 +114,14 @@ impl<F: Filter> TraceState<F> {
         metadata: &Metadata<'_>,
     ) -> Result<Interest, AllocError>
         requires { callsite_named (skeleton_of self.old).callsites number ≡ None }
-        ensures interest { IfOk result (λ interest. Says ⟦<F as Filter>⟧ self.old.filter (made_with (record { number = number; metadata = plain_metadata metadata.now })) interest) }
-        ensures ok { OnOk result (self.new ≡ record self.old { skeleton = record (skeleton_of self.old) { callsites = (skeleton_of self.old).callsites ++ (record { number = number; metadata = plain_metadata metadata.now }) ∷ [] } }) }
+        ensures interest { IfOk result (λ interest. Says ⟦<F as Filter>⟧ self.old.filter
+            (made_with (record { number = number; metadata = plain_metadata metadata.now })) interest) }
+        ensures ok { OnOk result (self.new ≡ record self.old {
+          skeleton = record (skeleton_of self.old) {
+            callsites = (skeleton_of self.old).callsites
+                ++ (record { number = number; metadata = plain_metadata metadata.now }) ∷ [];
+          };
+        }) }
         ensures err { OnErr result (self.new ≡ self.old) }
     {
         self.parts.add_callsite(number, metadata)
@@ -170,9 +179,12 @@ impl<F: Filter> TraceState<F> {
         sink: &mut Option<RollingFileAppender<D>>,
     ) -> EventDone
         requires { refusal_of (skeleton_of self.old) (EventStep (plain_request event.now)) [] ≡ None }
-        ensures asked { IsMask ⟦<F as Filter>⟧ self.old.filter (skeleton_of self.old) (EventStep (plain_request event.now)) (mask_by result.answer) }
-        ensures acted { Acted ⟦<F as Filter>⟧ self.old self.new (EventStep (plain_request event.now)) (mask_by result.answer) result.fate }
-        ensures takes { TakesLines D.contents sink.old sink.new (handed_lines (result.fate ∷ []) (offer_of (skeleton_of self.old) (texts_of self.old)
+        ensures asked { IsMask ⟦<F as Filter>⟧ self.old.filter (skeleton_of self.old)
+            (EventStep (plain_request event.now)) (mask_by result.answer) }
+        ensures acted { Acted ⟦<F as Filter>⟧ self.old self.new (EventStep (plain_request event.now))
+            (mask_by result.answer) result.fate }
+        ensures takes { TakesLines D.contents sink.old sink.new
+            (handed_lines (result.fate ∷ []) (offer_of (skeleton_of self.old) (texts_of self.old)
             (time_in self.old.output) (EventStep (plain_request event.now)) (mask_by result.answer))) }
     {
         self.parts.event(event, sink)
@@ -181,7 +193,8 @@ impl<F: Filter> TraceState<F> {
     /// A question that is not refused; answers what the stack's filter answers, where it is asked.
     pub(crate) fn enabled(&mut self, call: &EnabledCall) -> Option<bool>
         requires { refusal_of (skeleton_of self.old) (EnabledStep call.now) [] ≡ None }
-        ensures asked { IsMask ⟦<F as Filter>⟧ self.old.filter (skeleton_of self.old) (EnabledStep call.now) (mask_by result) }
+        ensures asked { IsMask ⟦<F as Filter>⟧ self.old.filter (skeleton_of self.old) (EnabledStep call.now)
+            (mask_by result) }
         ensures kept { self.new ≡ self.old }
     {
         self.parts.enabled(call)

@@ -28,7 +28,8 @@ pub(crate) struct EventDone {
     pub(crate) answer: Option<bool>,
 }
 
-/// A made span's name, if it was made, what became of its text, and what the stack's filter answered of it, where it was asked.
+/// A made span's name, if it was made, what became of its text, and what the stack's filter answered of it,
+/// where it was asked.
 #[derive(Clone, Copy, Debug)]
 pub(crate) struct MadeSpan {
     pub(crate) name: Option<SpanName>,
@@ -53,7 +54,9 @@ impl<F: Filter> TraceParts<F> {
     fn count(&mut self, fate: Fate)
         requires { IsSound ⟦<F as Filter>⟧ self.old }
         ensures sound { IsSound ⟦<F as Filter>⟧ self.new }
-        ensures counted { value_in self.new ≡ record (value_in self.old) { starved = count_by (value_in self.old).starved fate } }
+        ensures counted { value_in self.new ≡ record (value_in self.old) {
+          starved = count_by (value_in self.old).starved fate;
+        } }
     {
         match fate {
             Fate::Whole => {}
@@ -65,7 +68,9 @@ impl<F: Filter> TraceParts<F> {
     fn count_one(&mut self)
         requires { IsSound ⟦<F as Filter>⟧ self.old }
         ensures sound { IsSound ⟦<F as Filter>⟧ self.new }
-        ensures counted { value_in self.new ≡ record (value_in self.old) { starved = count_by (value_in self.old).starved Fate.Missed } }
+        ensures counted { value_in self.new ≡ record (value_in self.old) {
+          starved = count_by (value_in self.old).starved Fate.Missed;
+        } }
     {
         if self.starved < usize::MAX {
             self.starved += 1;
@@ -80,12 +85,17 @@ impl<F: Filter> TraceParts<F> {
         sink: &mut Option<RollingFileAppender<D>>,
     ) -> EventDone
         requires sound { IsSound ⟦<F as Filter>⟧ self.old }
-        requires unrefused { refusal_of (skeleton_of (value_in self.old)) (EventStep (plain_request event.now)) [] ≡ None }
+        requires unrefused { refusal_of (skeleton_of (value_in self.old)) (EventStep (plain_request event.now)) []
+            ≡ None }
         ensures sound { IsSound ⟦<F as Filter>⟧ self.new }
-        ensures asked { IsMask ⟦<F as Filter>⟧ (value_in self.old).filter (skeleton_of (value_in self.old)) (EventStep (plain_request event.now)) (mask_by result.answer) }
-        ensures acted { Acted ⟦<F as Filter>⟧ (value_in self.old) (value_in self.new) (EventStep (plain_request event.now)) (mask_by result.answer) result.fate }
-        ensures takes { TakesLines D.contents sink.old sink.new (handed_lines (result.fate ∷ []) (offer_of (skeleton_of (value_in self.old)) (texts_of (value_in self.old))
-            (time_in (value_in self.old).output) (EventStep (plain_request event.now)) (mask_by result.answer))) }
+        ensures asked { IsMask ⟦<F as Filter>⟧ (value_in self.old).filter (skeleton_of (value_in self.old))
+            (EventStep (plain_request event.now)) (mask_by result.answer) }
+        ensures acted { Acted ⟦<F as Filter>⟧ (value_in self.old) (value_in self.new)
+            (EventStep (plain_request event.now)) (mask_by result.answer) result.fate }
+        ensures takes { TakesLines D.contents sink.old sink.new
+            (handed_lines (result.fate ∷ []) (offer_of (skeleton_of (value_in self.old))
+            (texts_of (value_in self.old)) (time_in (value_in self.old).output) (EventStep (plain_request event.now))
+            (mask_by result.answer))) }
     {
         let Some(place) = known_place(self.callsites.as_slice(), event.callsite, false) else {
             unreachable!()
@@ -107,7 +117,8 @@ impl<F: Filter> TraceParts<F> {
     pub(crate) fn enabled(&mut self, call: &EnabledCall) -> Option<bool>
         requires sound { IsSound ⟦<F as Filter>⟧ self.old }
         requires unrefused { refusal_of (skeleton_of (value_in self.old)) (EnabledStep call.now) [] ≡ None }
-        ensures asked { IsMask ⟦<F as Filter>⟧ (value_in self.old).filter (skeleton_of (value_in self.old)) (EnabledStep call.now) (mask_by result) }
+        ensures asked { IsMask ⟦<F as Filter>⟧ (value_in self.old).filter (skeleton_of (value_in self.old))
+            (EnabledStep call.now) (mask_by result) }
         ensures kept { self.new ≡ self.old }
     {
         self.ask(call.lane, call.moment, call.callsite.0)
@@ -116,10 +127,13 @@ impl<F: Filter> TraceParts<F> {
     /// A new span; answers its name where it is made.
     pub(crate) fn new_span(&mut self, span: &Request<'_>) -> Result<MadeSpan, SpanError>
         requires sound { IsSound ⟦<F as Filter>⟧ self.old }
-        requires unrefused { refusal_of (skeleton_of (value_in self.old)) (SpanStep (plain_request span.now)) [] ≡ None }
+        requires unrefused { refusal_of (skeleton_of (value_in self.old)) (SpanStep (plain_request span.now)) []
+            ≡ None }
         ensures sound { IsSound ⟦<F as Filter>⟧ self.new }
-        ensures made { IfOk result (λ made. SpanDone ⟦<F as Filter>⟧ (value_in self.old) (value_in self.new) (plain_request span.now) made) }
-        ensures refused { IfErr result (λ error. SpanRefused ⟦<F as Filter>⟧ (value_in self.old) (plain_request span.now) error) }
+        ensures made { IfOk result (λ made. SpanDone ⟦<F as Filter>⟧ (value_in self.old) (value_in self.new)
+            (plain_request span.now) made) }
+        ensures refused { IfErr result (λ error. SpanRefused ⟦<F as Filter>⟧ (value_in self.old)
+            (plain_request span.now) error) }
         ensures err { OnErr result (value_in self.new ≡ value_in self.old) }
     {
         let Some(place) = known_place(self.callsites.as_slice(), span.callsite, true) else {
@@ -149,7 +163,8 @@ impl<F: Filter> TraceParts<F> {
         requires sound { IsSound ⟦<F as Filter>⟧ self.old }
         requires unrefused { call_refusal (skeleton_of (value_in self.old)) call.now ≡ None }
         ensures sound { IsSound ⟦<F as Filter>⟧ self.new }
-        ensures ok { OnOk result (Acted ⟦<F as Filter>⟧ (value_in self.old) (value_in self.new) (EnterStep call.now) [] Fate.Whole) }
+        ensures ok { OnOk result (Acted ⟦<F as Filter>⟧ (value_in self.old) (value_in self.new) (EnterStep call.now)
+            [] Fate.Whole) }
         ensures given { OnErr result (IsSome call.now.span) }
         ensures err { OnErr result (value_in self.new ≡ value_in self.old) }
     {
@@ -165,7 +180,8 @@ impl<F: Filter> TraceParts<F> {
         requires sound { IsSound ⟦<F as Filter>⟧ self.old }
         requires unrefused { call_refusal (skeleton_of (value_in self.old)) call.now ≡ None }
         ensures sound { IsSound ⟦<F as Filter>⟧ self.new }
-        ensures acted { Acted ⟦<F as Filter>⟧ (value_in self.old) (value_in self.new) (ExitStep call.now) [] Fate.Whole }
+        ensures acted { Acted ⟦<F as Filter>⟧ (value_in self.old) (value_in self.new) (ExitStep call.now) []
+            Fate.Whole }
     {
         if let Some(name) = call.span {
             self.drop_entry(name.id, call.lane, call.moment);
@@ -178,7 +194,8 @@ impl<F: Filter> TraceParts<F> {
         requires sound { IsSound ⟦<F as Filter>⟧ self.old }
         requires unrefused { call_refusal (skeleton_of (value_in self.old)) (on_span (plain_record call.now)) ≡ None }
         ensures sound { IsSound ⟦<F as Filter>⟧ self.new }
-        ensures acted { Acted ⟦<F as Filter>⟧ (value_in self.old) (value_in self.new) (RecordStep (plain_record call.now)) [] result }
+        ensures acted { Acted ⟦<F as Filter>⟧ (value_in self.old) (value_in self.new)
+            (RecordStep (plain_record call.now)) [] result }
     {
         let Some(name) = call.span else {
             return Fate::Whole;
@@ -197,7 +214,8 @@ impl<F: Filter> TraceParts<F> {
     pub(crate) fn record_follows_from(&mut self, call: &FollowsCall)
         requires sound { IsSound ⟦<F as Filter>⟧ self.old }
         ensures sound { IsSound ⟦<F as Filter>⟧ self.new }
-        ensures acted { Acted ⟦<F as Filter>⟧ (value_in self.old) (value_in self.new) (FollowsFromStep call.now) [] Fate.Whole }
+        ensures acted { Acted ⟦<F as Filter>⟧ (value_in self.old) (value_in self.new) (FollowsFromStep call.now) []
+            Fate.Whole }
     {
         if let (Some(span), Some(follows)) = (call.span, call.follows) {
             self.tell_follows(span.id, follows.id, call.lane, call.moment);
@@ -210,7 +228,8 @@ impl<F: Filter> TraceParts<F> {
         requires sound { IsSound ⟦<F as Filter>⟧ self.old }
         requires unrefused { refusal_of (skeleton_of (value_in self.old)) (CloneStep call.now) [] ≡ None }
         ensures sound { IsSound ⟦<F as Filter>⟧ self.new }
-        ensures acted { Acted ⟦<F as Filter>⟧ (value_in self.old) (value_in self.new) (CloneStep call.now) [] Fate.Whole }
+        ensures acted { Acted ⟦<F as Filter>⟧ (value_in self.old) (value_in self.new) (CloneStep call.now) []
+            Fate.Whole }
     {
         if let Some(name) = call.span {
             self.take_one(name.id, call.lane, call.moment);
@@ -224,7 +243,8 @@ impl<F: Filter> TraceParts<F> {
         requires unrefused { refusal_of (skeleton_of (value_in self.old)) (CloseStep call.now) [] ≡ None }
         ensures sound { IsSound ⟦<F as Filter>⟧ self.new }
         ensures closed { Reply.Closed result ≡ answered (skeleton_of (value_in self.old)) (CloseStep call.now) [] }
-        ensures acted { Acted ⟦<F as Filter>⟧ (value_in self.old) (value_in self.new) (CloseStep call.now) [] Fate.Whole }
+        ensures acted { Acted ⟦<F as Filter>⟧ (value_in self.old) (value_in self.new) (CloseStep call.now) []
+            Fate.Whole }
     {
         match call.span {
             None => false,

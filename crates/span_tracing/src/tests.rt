@@ -167,7 +167,8 @@ fn outputs_over<D: Folder, F: Filter>(
     timer: Timer,
 ) -> Result<Vec<Output<D, F>>, Fail>
     ensures one { IfOk result (λ outputs. vec_len outputs ≡ 1) }
-    ensures filter { IfOk result (λ outputs. (output : Output D F) → outputs.items ≡ output ∷ [] → output.filter ≡ filter) }
+    ensures filter { IfOk result (λ outputs. (output : Output D F) → outputs.items ≡ output ∷ [] →
+        output.filter ≡ filter) }
 {
     let sinks = sinks_over(alloc, folder, prefix)?;
     let mut outputs = Vec::with_capacity(alloc, 1)?;

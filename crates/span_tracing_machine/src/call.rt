@@ -50,8 +50,8 @@ pub struct SpanCall {
     pub span: Option<SpanName>,
 }
 
-/// Values for a span, or for none. A field is told by its place among those of the span's callsite; one that the callsite
-/// lacks is passed over.
+/// Values for a span, or for none. A field is told by its place among those of the span's callsite; one that
+/// the callsite lacks is passed over.
 #[derive(Debug, Drop)]
 pub struct RecordCall {
     pub lane: usize,
@@ -60,7 +60,8 @@ pub struct RecordCall {
     pub values: Vec<FieldValue>,
 }
 
-/// A span that follows from another one. Where either is none, nothing is told, and the other is looked at all the same.
+/// A span that follows from another one. Where either is none, nothing is told, and the other is looked at
+/// all the same.
 #[derive(Clone, Copy, Debug, PartialEq, Eq)]
 pub struct FollowsCall {
     pub lane: usize,

@@ -4,7 +4,8 @@ ghost use Rattle.span_tracing_machine.specs.Laws.{StartsWellFormed, SetupStaysWe
 
 use span_registry_layers_store::registry_stays_sound;
 
-/// Setup calls and steps keep a skeleton well formed: its registry is sound, and only lanes that were given have entries.
+/// Setup calls and steps keep a skeleton well formed: its registry is sound, and only lanes that were given
+/// have entries.
 pub fn stays_well_formed()
     ensures start { StartsWellFormed }
     ensures setup { SetupStaysWellFormed }

@@ -1,5 +1,5 @@
-//! What callers hand to a trace and what it answers, as plain data; and the plain machine, which says in `specs/` what a
-//! trace does.
+//! What callers hand to a trace and what it answers, as plain data; and the plain machine, which says in
+//! `specs/` what a trace does.
 #![tactic(auto)]
 
 mod call;

@@ -78,7 +78,8 @@ fn push_text_value(out: &mut String, name: &str, text: &str) -> Result<(), Alloc
 
 /// Appends what stands for a value.
 fn push_piece(out: &mut String, name: &str, value: &DebugText<'_>) -> Result<(), AllocError>
-    ensures { OnOk result (string_bytes out.new ≡ string_bytes out.old ++ unwrap_or (debug_piece name.now (plain_debug value.now)) []) }
+    ensures { OnOk result (string_bytes out.new ≡ string_bytes out.old
+        ++ unwrap_or (debug_piece name.now (plain_debug value.now)) []) }
 {
     match value {
         DebugText::I64(number) => write!(out, "{number}"),
@@ -158,7 +159,8 @@ impl Visit for FieldsWriter {
 
 // The place of the last field of a set, where it has any.
 fn last_of(fields: Iter<'_>) -> Option<usize>
-    ensures { (callsite : ℕ) (names : List (List ℕ)) → fields_left fields.entry ≡ fields_named callsite 0 names → count_to result ≡ length names }
+    ensures { (callsite : ℕ) (names : List (List ℕ)) → fields_left fields.entry ≡ fields_named callsite 0 names →
+        count_to result ≡ length names }
 {
     let mut last = None;
     for field in fields {
@@ -212,8 +214,8 @@ fn space_behind(alloc: Global, text: &str) -> Result<String, AllocError>
 
 /// What the fields of a record put behind a text: their text, after a space where that one isn't empty.
 pub(crate) fn more_of(alloc: Global, text: &str, values: &Record<'_>) -> Result<String, AllocError>
-    ensures { let values = plain_record values.now in
-        AllNamed values → IfOk result (λ more. text.now ++ string_bytes more ≡ with_fields text.now (fields_in values)) }
+    ensures { let values = plain_record values.now in AllNamed values →
+        IfOk result (λ more. text.now ++ string_bytes more ≡ with_fields text.now (fields_in values)) }
 {
     let mut writer = FieldsWriter {
         out: space_behind(alloc, text)?,

@@ -1,4 +1,5 @@
-//! The stack of a trace: a subscriber over a stack of one output, which keeps the texts of open spans and writes the lines of events.
+//! The stack of a trace: a subscriber over a stack of one output, which keeps the texts of open spans and
+//! writes the lines of events.
 #![tactic(auto)]
 
 mod fields;

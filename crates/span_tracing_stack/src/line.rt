@@ -39,7 +39,8 @@ fn push_scope(
     ids: &[Id],
 ) -> Result<(), AllocError>
     requires { Rises 0 (map plain_text texts.now) }
-    ensures { OnOk result (string_bytes out.new ≡ string_bytes out.old ++ scope_piece (map (shown_in registry.now (map plain_text texts.now)) ids.now)) }
+    ensures { OnOk result (string_bytes out.new ≡ string_bytes out.old
+        ++ scope_piece (map (shown_in registry.now (map plain_text texts.now)) ids.now)) }
 {
     if ids.is_empty() {
         return Ok(());
@@ -71,7 +72,8 @@ pub(crate) fn push_head(
 ) -> Result<(), AllocError>
     requires { Rises 0 (map plain_text texts.now) }
     ensures { OnOk result (string_bytes out.new ≡ string_bytes out.old
-        ++ (time_piece (option_copied time.entry) ++ scope_piece (map (shown_in registry.now (map plain_text texts.now)) ids.now) ++ target.now ++ codes ": ")) }
+        ++ (time_piece (option_copied time.entry) ++ scope_piece
+        (map (shown_in registry.now (map plain_text texts.now)) ids.now) ++ target.now ++ codes ": ")) }
 {
     push_time(out, time)?;
     push_scope(out, registry, texts, ids)?;

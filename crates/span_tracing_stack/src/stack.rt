@@ -38,7 +38,8 @@ impl<F: Filter> Model for Stack<F> {
     // What is kept of the filter's answers isn't shown, since it is right.
     ghost view = { λ s. plain_state s.state (plain_told s.told (string_bytes s.line)) };
 
-    ghost invariant = { λ s. IsRight ⟦<F as Filter>⟧ ⟦<Identity as Layer>⟧ s.state.outputs (map plain_text s.state.texts.items) };
+    ghost invariant = { λ s. IsRight ⟦<F as Filter>⟧ ⟦<Identity as Layer>⟧ s.state.outputs
+        (map plain_text s.state.texts.items) };
 }
 
 /// What a stack is made of.
@@ -124,7 +125,8 @@ impl<F: Filter> Stack<F> {
 
     /// The number of the identifier of an open span's callsite.
     pub fn callsite_of(&self, id: Id) -> Option<u64>
-        ensures { result ≡ option_map (λ (s : PlainSpan). s.metadata.callsite) (found kin_in self.now.registry.spans id) }
+        ensures { result ≡ option_map (λ (s : PlainSpan). s.metadata.callsite)
+            (found kin_in self.now.registry.spans id) }
     {
         match self.state.outputs.registry().span(&id) {
             None => None,

@@ -63,7 +63,8 @@ impl<F> StackState<F> {
         }
     }
 
-    /// Writes the line of an event under a span, in place of what the text held. The ids of its spans take the room of a list.
+    /// Writes the line of an event under a span, in place of what the text held. The ids of its spans take
+    /// the room of a list.
     #[tactic(auto, using(crate::proofs::Showing::shown_from_root), unfolding(span_tracing_machine::specs::Lines::full_line))]
     fn write_line(
         &self,
@@ -73,8 +74,9 @@ impl<F> StackState<F> {
         start: Option<Id>,
     ) -> Result<(), AllocError>
         requires { Rises 0 (map plain_text self.now.texts.items) }
-        ensures { let e = plain_event event.now in OnOk result (string_bytes line.new
-            ≡ full_line (plain_time self.now.setting.format.timer) (map (shown_span (map plain_text self.now.texts.items)) (from_root self.now.outputs.registry start))
+        ensures { let e = plain_event event.now in OnOk result
+            (string_bytes line.new ≡ full_line (plain_time self.now.setting.format.timer)
+            (map (shown_span (map plain_text self.now.texts.items)) (from_root self.now.outputs.registry start))
             e.metadata.target e.values.names e.values.entries) }
     {
         fill_scope(self.outputs.registry(), ids, start)?;
@@ -94,7 +96,8 @@ impl<F> StackState<F> {
     /// The text of a new span, which is empty where it finds no memory.
     #[tactic(auto, using(crate::proofs::Adding::first_text))]
     pub(crate) fn text_or_missed(&self, attributes: &Attributes<'_, '_>) -> MadeText
-        ensures { let values = (plain_attributes attributes.now).values in string_bytes result.text ≡ span_text values result.fate }
+        ensures { let values = (plain_attributes attributes.now).values in
+            string_bytes result.text ≡ span_text values result.fate }
     {
         match text_of(self.alloc, attributes) {
             Ok(text) => MadeText {
@@ -111,7 +114,8 @@ impl<F> StackState<F> {
     /// Puts the fields of a record behind the text of a span, where it has one, and answers what became of them.
     pub(crate) fn record(&mut self, id: Id, values: &Record<'_>) -> Fate
         requires { Rises 0 (map plain_text self.old.texts.items) }
-        ensures texts { AddsFields (map plain_text self.old.texts.items) id (plain_record values.now) result (map plain_text self.new.texts.items) }
+        ensures texts { AddsFields (map plain_text self.old.texts.items) id (plain_record values.now) result
+            (map plain_text self.new.texts.items) }
         ensures rest { self.new ≡ record self.old { texts = self.new.texts } }
     {
         add_fields(self.alloc, &mut self.texts, id, values)
@@ -119,7 +123,8 @@ impl<F> StackState<F> {
 
     /// Drops the texts of spans that are not open.
     pub(crate) fn drop_texts(&mut self)
-        ensures texts { map plain_text self.new.texts.items ≡ open_texts self.old.outputs.registry.spans (map plain_text self.old.texts.items) }
+        ensures texts { map plain_text self.new.texts.items
+            ≡ open_texts self.old.outputs.registry.spans (map plain_text self.old.texts.items) }
         ensures rest { self.new ≡ record self.old { texts = self.new.texts } }
     {
         drop_texts(&mut self.texts, self.outputs.registry());
@@ -134,7 +139,8 @@ impl<F> StackState<F> {
         lane: u64,
     ) -> RequestOutcome
         requires { Rises 0 (map plain_text self.now.texts.items) }
-        ensures { TellsLine (plain_state self.now Quiet) (plain_event event.now) lane (plain_told result (string_bytes line.new)) }
+        ensures { TellsLine (plain_state self.now Quiet) (plain_event event.now) lane
+            (plain_told result (string_bytes line.new)) }
     {
         let start = self.parent_of(lane, event);
         match self.write_line(line, ids, event, start) {

@@ -30,7 +30,8 @@ impl RequestOutcome {
 }
 
 impl<F: Filter> StackState<F> {
-    // What a span that finds no room for its text is refused with: other refusals, and what the filter drops, come first.
+    // What a span that finds no room for its text is refused with: other refusals, and what the filter drops,
+    // come first.
     fn refuse_span(
         &mut self,
         attributes: &Attributes<'_, '_>,

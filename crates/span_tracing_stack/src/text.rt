@@ -101,8 +101,8 @@ pub(crate) fn drop_texts(texts: &mut Vec<SpanText>, registry: &Registry)
 
 // Puts the fields of a record behind a text, which stays as it is where there is no memory.
 fn append(alloc: Global, text: &mut String, values: &Record<'_>) -> Fate
-    ensures { let values = plain_record values.now in
-        AllNamed values → string_bytes text.new ≡ with_lists (string_bytes text.old) (given_by result (fields_in values)) }
+    ensures { let values = plain_record values.now in AllNamed values →
+        string_bytes text.new ≡ with_lists (string_bytes text.old) (given_by result (fields_in values)) }
 {
     match more_of(alloc, text.as_str(), values) {
         Ok(more) => match text.push_str(more.as_str()) {
@@ -121,7 +121,8 @@ pub(crate) fn add_fields(
     values: &Record<'_>,
 ) -> Fate
     requires { Rises 0 (map plain_text texts.old.items) }
-    ensures { AddsFields (map plain_text texts.old.items) id (plain_record values.now) result (map plain_text texts.new.items) }
+    ensures { AddsFields (map plain_text texts.old.items) id (plain_record values.now) result
+        (map plain_text texts.new.items) }
 {
     match place_of(texts.as_slice(), id) {
         Some(place) => append(alloc, &mut texts[place].text, values),

@@ -81,7 +81,8 @@ fn write_line<D: Folder>(
         AgreesSink D.contents appender.new (with_handed s (record { line = line.now; moment = moment })) }
     ensures handed { (h : Held) → Holds D.contents appender.old h →
         HandsOne D.contents (builder_names appender.old.builder) moment h line.now result appender.new }
-    ensures state { is_missed result ≡ false → (c : Contents) (p : PrunedSink) → D.contents appender.old.folder ≡ Some c → AgreesLeft D.contents appender.old p →
+    ensures state { is_missed result ≡ false → (c : Contents) (p : PrunedSink) →
+        D.contents appender.old.folder ≡ Some c → AgreesLeft D.contents appender.old p →
         HandsLeft D.contents p line.now moment c appender.old appender.new }
     ensures names { builder_names appender.new.builder ≡ builder_names appender.old.builder }
 {
@@ -97,7 +98,8 @@ fn flush_if<D: Folder>(appender: &mut RollingFileAppender<D>, whole: bool)
     ensures state { (p : PrunedSink) → AgreesLeft D.contents appender.old p → AgreesLeft D.contents appender.new p }
     ensures faults { appender.new.faults ≡ appender.old.faults }
     ensures current { appender.new.current ≡ appender.old.current }
-    ensures opens { (files : List ℕ) → IsOpenIn (D.contents appender.old.folder) files → IsOpenIn (D.contents appender.new.folder) files }
+    ensures opens { (files : List ℕ) → IsOpenIn (D.contents appender.old.folder) files →
+        IsOpenIn (D.contents appender.new.folder) files }
     ensures names { builder_names appender.new.builder ≡ builder_names appender.old.builder }
     ensures flushed { (h : Held) → Holds D.contents appender.old h → HoldsFlushed D.contents whole h appender.new }
 {
@@ -106,9 +108,9 @@ fn flush_if<D: Folder>(appender: &mut RollingFileAppender<D>, whole: bool)
     }
 }
 
-/// Takes the first `k` lines, or all before the mark, and writes each at the moment; a mark that then stands at the head is taken too.
-/// A failing write loses its line's rest alone. After a last line that was written whole the file is flushed; what that answers is
-/// passed over.
+/// Takes the first `k` lines, or all before the mark, and writes each at the moment; a mark that then stands
+/// at the head is taken too. A failing write loses its line's rest alone. After a last line that was written
+/// whole the file is flushed; what that answers is passed over.
 pub fn batch<D: Folder>(
     queue: &mut QueueState,
     appender: &mut RollingFileAppender<D>,
@@ -123,10 +125,12 @@ pub fn batch<D: Folder>(
     ensures agrees { (s : PlainSink) → AgreesSink D.contents appender.old s → result.missed ≡ 0 →
         AgreesSink D.contents appender.new (with_lines s (lines_in k queue.old) moment) }
     ensures handed { (h : Held) → Holds D.contents appender.old h →
-        HandsAll D.contents (builder_names appender.old.builder) moment h (lines_in k queue.old) result.missed appender.new }
+        HandsAll D.contents (builder_names appender.old.builder) moment h (lines_in k queue.old) result.missed
+        appender.new }
     // over a folder that refuses nothing, with retention or a link too
-    ensures state { result.missed ≡ 0 → (c : Contents) (p : PrunedSink) → D.contents appender.old.folder ≡ Some c → AgreesLeft D.contents appender.old p →
-        LinesLeft D.contents p (lines_in k queue.old) moment c appender.old appender.new }
+    ensures state { result.missed ≡ 0 → (c : Contents) (p : PrunedSink) → D.contents appender.old.folder ≡ Some c →
+        AgreesLeft D.contents appender.old p → LinesLeft D.contents p (lines_in k queue.old) moment c appender.old
+        appender.new }
 {
     let mut taken = 0;
     let mut missed = 0;

@@ -31,7 +31,8 @@ pub fn date_text(alloc: Global, day: i64) -> Result<String, AllocError>
     format!(in alloc; "{date}")
 }
 
-/// The date text of a second's day, with the hour for `Hour`, and with the hour and the minute for `Minute`: `YYYY-MM-DD-HH-MM`.
+/// The date text of a second's day, with the hour for `Hour`, and with the hour and the minute for `Minute`:
+/// `YYYY-MM-DD-HH-MM`.
 ///
 /// # Errors
 ///

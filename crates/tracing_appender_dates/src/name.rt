@@ -10,8 +10,9 @@ use crate::date::stamp_text;
 use crate::period::PeriodKind;
 use std::alloc::{AllocError, Global};
 
-/// The name of the file of a second's period: the prefix, the date of the period's first second, and the suffix, with a point
-/// between two. The one file for all of time has a date only where it has neither prefix nor suffix.
+/// The name of the file of a second's period: the prefix, the date of the period's first second, and the
+/// suffix, with a point between two. The one file for all of time has a date only where it has neither prefix
+/// nor suffix.
 ///
 /// # Errors
 ///

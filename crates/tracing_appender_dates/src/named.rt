@@ -39,8 +39,10 @@ fn dated_named(
 ) -> Option<i64>
     ensures some { IfSome result (λ second. (is_second second ≡ true) ×
         HasName kind (option_map string_bytes prefix.now) (option_map string_bytes suffix.now) name.now second) }
-    ensures none { IfNone result ((second first : ℤ) → is_second second ≡ true → first_second kind (period_of kind second) ≡ Some first →
-        name.now ≢ around (option_map string_bytes prefix.now) (stamp kind first) (option_map string_bytes suffix.now)) }
+    ensures none { IfNone result ((second first : ℤ) → is_second second ≡ true →
+        first_second kind (period_of kind second) ≡ Some first →
+        name.now ≢ around (option_map string_bytes prefix.now) (stamp kind first)
+        (option_map string_bytes suffix.now)) }
 {
     let Some(first) = read_name(kind, prefix, suffix, name) else {
         return None;
@@ -53,8 +55,10 @@ fn dated_named(
 
 /// A second of moments whose period begins at a second.
 fn starting_at(kind: PeriodKind, first: i64) -> Option<i64>
-    ensures some { IfSome result (λ second. (is_second second ≡ true) × (first_second kind (period_of kind second) ≡ Some first)) }
-    ensures none { IfNone result ((second : ℤ) → is_second second ≡ true → first_second kind (period_of kind second) ≢ Some first) }
+    ensures some { IfSome result (λ second. (is_second second ≡ true) ×
+        (first_second kind (period_of kind second) ≡ Some first)) }
+    ensures none { IfNone result ((second : ℤ) → is_second second ≡ true →
+        first_second kind (period_of kind second) ≢ Some first) }
 {
     let second = first.max(-62_135_596_800);
     if second <= 253_370_764_799 && kind.first_of(second) == Some(first) {
@@ -67,9 +71,11 @@ fn starting_at(kind: PeriodKind, first: i64) -> Option<i64>
 /// The same of the one file for all of time.
 fn lasting_named(prefix: &Option<String>, suffix: &Option<String>, name: &[u8]) -> Option<i64>
     ensures some { IfSome result (λ second. (is_second second ≡ true) ×
-        (name.now ≡ lasting_name (option_map string_bytes prefix.now) (stamp PeriodKind.Whole second) (option_map string_bytes suffix.now))) }
+        (name.now ≡ lasting_name (option_map string_bytes prefix.now) (stamp PeriodKind.Whole second)
+        (option_map string_bytes suffix.now))) }
     ensures none { IfNone result ((second : ℤ) → is_second second ≡ true →
-        name.now ≢ lasting_name (option_map string_bytes prefix.now) (stamp PeriodKind.Whole second) (option_map string_bytes suffix.now)) }
+        name.now ≢ lasting_name (option_map string_bytes prefix.now) (stamp PeriodKind.Whole second)
+        (option_map string_bytes suffix.now)) }
 {
     match (prefix, suffix) {
         (Some(_), Some(last)) => {

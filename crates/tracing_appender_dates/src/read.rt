@@ -10,10 +10,11 @@ ghost use Rattle.tracing_appender_dates.specs.Names.{around, before_date, after_
 use crate::period::PeriodKind;
 use jiff::civil::Date;
 
-/// The second that a date text tells, where it is one: `YYYY-MM-DD`, with `-HH` for `Hour` and `-HH-MM` for `Minute`, of a year
-/// from 0000 to 9999. Nothing may stand before or after it.
+/// The second that a date text tells, where it is one: `YYYY-MM-DD`, with `-HH` for `Hour` and `-HH-MM` for
+/// `Minute`, of a year from 0000 to 9999. Nothing may stand before or after it.
 pub fn read_stamp(kind: PeriodKind, bytes: &[u8]) -> Option<i64>
-    ensures some { IfSome result (λ second. (is_date (day_at second) ≡ true) × (stamped kind second ≡ second) × (bytes.now ≡ stamp kind second)) }
+    ensures some { IfSome result (λ second. (is_date (day_at second) ≡ true) × (stamped kind second ≡ second) ×
+        (bytes.now ≡ stamp kind second)) }
     ensures none { IfNone result ((second : ℤ) → is_date (day_at second) ≡ true → bytes.now ≢ stamp kind second) }
 {
     let Some((day, rest)) = take_date(bytes) else {
@@ -33,9 +34,11 @@ pub fn read_name(
     name: &[u8],
 ) -> Option<i64>
     ensures some { IfSome result (λ second. (is_date (day_at second) ≡ true) × (stamped kind second ≡ second) ×
-        (name.now ≡ around (option_map string_bytes prefix.now) (stamp kind second) (option_map string_bytes suffix.now))) }
+        (name.now ≡ around (option_map string_bytes prefix.now) (stamp kind second)
+        (option_map string_bytes suffix.now))) }
     ensures none { IfNone result ((second : ℤ) → is_date (day_at second) ≡ true →
-        name.now ≢ around (option_map string_bytes prefix.now) (stamp kind second) (option_map string_bytes suffix.now)) }
+        name.now ≢ around (option_map string_bytes prefix.now) (stamp kind second)
+        (option_map string_bytes suffix.now)) }
 {
     let Some(rest) = without_prefix(prefix, name) else {
         return None;
@@ -52,7 +55,8 @@ pub fn read_name(
 /// What stands behind a prefix and a point.
 pub(crate) fn without_prefix<'a>(prefix: &Option<String>, name: &'a [u8]) -> Option<&'a [u8]>
     ensures some { IfSome result (λ rest. name.now ≡ before_date (option_map string_bytes prefix.now) ++ rest.now) }
-    ensures none { IfNone result ((rest : List ℕ) → name.now ≢ before_date (option_map string_bytes prefix.now) ++ rest) }
+    ensures none { IfNone result ((rest : List ℕ) → name.now ≢ before_date (option_map string_bytes prefix.now)
+        ++ rest) }
 {
     match prefix {
         None => Some(name),
@@ -71,7 +75,8 @@ pub(crate) fn without_prefix<'a>(prefix: &Option<String>, name: &'a [u8]) -> Opt
 /// What stands before a point and a suffix.
 fn without_suffix<'a>(suffix: &Option<String>, name: &'a [u8]) -> Option<&'a [u8]>
     ensures some { IfSome result (λ rest. name.now ≡ rest.now ++ after_date (option_map string_bytes suffix.now)) }
-    ensures none { IfNone result ((rest : List ℕ) → name.now ≢ rest ++ after_date (option_map string_bytes suffix.now)) }
+    ensures none { IfNone result ((rest : List ℕ) → name.now ≢ rest
+        ++ after_date (option_map string_bytes suffix.now)) }
 {
     match suffix {
         None => Some(name),
@@ -135,8 +140,10 @@ fn take_date(bytes: &[u8]) -> Option<(i64, &[u8])>
 /// The number of a day of the calendar.
 fn day_of_date(year: u32, month: u32, day: u32) -> Option<i64>
     requires { (year < 10000) × (month < 100) × (day < 100) }
-    ensures some { IfSome result (λ number. (is_date number ≡ true) × (date_text number ≡ civil_text (record { year = year; month = month; day = day }))) }
-    ensures none { IfNone result ((number : ℤ) → is_date number ≡ true → date_text number ≢ civil_text (record { year = year; month = month; day = day })) }
+    ensures some { IfSome result (λ number. (is_date number ≡ true) ×
+        (date_text number ≡ civil_text (record { year = year; month = month; day = day }))) }
+    ensures none { IfNone result ((number : ℤ) → is_date number ≡ true →
+        date_text number ≢ civil_text (record { year = year; month = month; day = day })) }
 {
     match Date::new(year as i16, month as i8, day as i8) {
         Ok(date) => Some(date.to_plain().to_unix_epoch_day() as i64),
@@ -146,7 +153,8 @@ fn day_of_date(year: u32, month: u32, day: u32) -> Option<i64>
 
 /// The second of the day that the hour and the minute tell; 0 for kinds that have neither.
 fn read_clock(kind: PeriodKind, bytes: &[u8]) -> Option<u32>
-    ensures some { IfSome result (λ clock. (clock < 86400) × (told_part kind clock ≡ clock) × (bytes.now ≡ clock_part kind clock)) }
+    ensures some { IfSome result (λ clock. (clock < 86400) × (told_part kind clock ≡ clock) ×
+        (bytes.now ≡ clock_part kind clock)) }
     ensures none { IfNone result ((clock : ℕ) → clock < 86400 → bytes.now ≢ clock_part kind clock) }
 {
     match kind {
@@ -159,7 +167,8 @@ fn read_clock(kind: PeriodKind, bytes: &[u8]) -> Option<u32>
 }
 
 fn read_hour(bytes: &[u8]) -> Option<u32>
-    ensures some { IfSome result (λ clock. (clock < 86400) × (clock / 3600 * 3600 ≡ clock) × (bytes.now ≡ hour_text (clock / 3600))) }
+    ensures some { IfSome result (λ clock. (clock < 86400) × (clock / 3600 * 3600 ≡ clock) ×
+        (bytes.now ≡ hour_text (clock / 3600))) }
     ensures none { IfNone result ((clock : ℕ) → clock < 86400 → bytes.now ≢ hour_text (clock / 3600)) }
 {
     match take_field(bytes)? {
@@ -169,8 +178,10 @@ fn read_hour(bytes: &[u8]) -> Option<u32>
 }
 
 fn read_minute(bytes: &[u8]) -> Option<u32>
-    ensures some { IfSome result (λ clock. (clock < 86400) × (clock / 60 * 60 ≡ clock) × (bytes.now ≡ hour_text (clock / 3600) ++ hour_text (clock % 3600 / 60))) }
-    ensures none { IfNone result ((clock : ℕ) → clock < 86400 → bytes.now ≢ hour_text (clock / 3600) ++ hour_text (clock % 3600 / 60)) }
+    ensures some { IfSome result (λ clock. (clock < 86400) × (clock / 60 * 60 ≡ clock) ×
+        (bytes.now ≡ hour_text (clock / 3600) ++ hour_text (clock % 3600 / 60))) }
+    ensures none { IfNone result ((clock : ℕ) → clock < 86400 →
+        bytes.now ≢ hour_text (clock / 3600) ++ hour_text (clock % 3600 / 60)) }
 {
     let (hour, rest) = take_field(bytes)?;
     match take_field(rest)? {

@@ -14,7 +14,8 @@ const TRIES: u32 = 1_000;
 
 /// A folder of the system. Nothing is claimed of what it has; its faults are counted.
 ///
-/// Its listing passes over what can't be read and over names that are no UTF-8, and knows no creation moments. It makes no links.
+/// Its listing passes over what can't be read and over names that are no UTF-8, and knows no creation
+/// moments. It makes no links.
 #[derive(Drop)]
 pub struct DiskFolder<R: Files + AllocGlobal + Clone + Drop> {
     rt: R,

@@ -26,8 +26,10 @@ pub(crate) fn add_entry<'a>(
 /// How many first entries come before a name.
 fn index_among(entries: &[FileEntry<'_>], name: &str) -> usize
     ensures bound { result ≤ length entries.now }
-    ensures before { (k : ℕ) (d : FileEntry) → k < result → comes_before (slice_index_or entries.now k d) name.now ≡ true }
-    ensures at { (d : FileEntry) → result < length entries.now → comes_before (slice_index_or entries.now result d) name.now ≡ false }
+    ensures before { (k : ℕ) (d : FileEntry) → k < result →
+        comes_before (slice_index_or entries.now k d) name.now ≡ true }
+    ensures at { (d : FileEntry) → result < length entries.now →
+        comes_before (slice_index_or entries.now result d) name.now ≡ false }
 {
     for (index, entry) in entries.iter().enumerate() {
         if entry.name >= name {
@@ -40,8 +42,10 @@ fn index_among(entries: &[FileEntry<'_>], name: &str) -> usize
 /// Whether an entry stands at the index and has the name.
 fn has_name_at(entries: &[FileEntry<'_>], index: usize, name: &str) -> bool
     ensures bound { result ≡ true → index < length entries.now }
-    ensures same { (d : FileEntry) → result ≡ true → bytes_eq (slice_index_or entries.now index d).name.now name.now ≡ true }
-    ensures differs { (d : FileEntry) → result ≡ false → index < length entries.now → bytes_eq (slice_index_or entries.now index d).name.now name.now ≡ false }
+    ensures same { (d : FileEntry) → result ≡ true → bytes_eq (slice_index_or entries.now index d).name.now name.now
+        ≡ true }
+    ensures differs { (d : FileEntry) → result ≡ false → index < length entries.now →
+        bytes_eq (slice_index_or entries.now index d).name.now name.now ≡ false }
 {
     match entries.get(index) {
         Some(entry) => entry.name == name,

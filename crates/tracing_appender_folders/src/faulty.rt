@@ -8,7 +8,8 @@ use crate::fault::{Entry, FileNumber, FolderError, FolderFault, failures_after};
 use crate::folder::Folder;
 use crate::memory::MemoryFolder;
 
-/// A folder in memory that refuses calls by their numbers, for tests of what a folder's faults leave. All calls of `Folder` but
+/// A folder in memory that refuses calls by their numbers, for tests of what a folder's faults leave. All
+/// calls of `Folder` but
 /// `failures` are numbered, from 1; its faults are `Refused`, unless it is told others.
 #[derive(Debug, Drop)]
 pub struct FaultyFolder {
@@ -27,7 +28,8 @@ impl FaultyFolder {
 
     /// Refuses the calls with these numbers, over a folder in memory.
     pub fn new(inner: MemoryFolder, refused: Vec<u64>) -> FaultyFolder
-        ensures contents { faulty_contents result ≡ under_plan (memory_contents inner) (record { refused = refused.items; fault = FolderFault.Refused; short = []; most = 0 }) 0 }
+        ensures contents { faulty_contents result ≡ under_plan (memory_contents inner)
+            (record { refused = refused.items; fault = FolderFault.Refused; short = []; most = 0 }) 0 }
         ensures failures { result.failures ≡ 0 }
     {
         let alloc = inner.alloc;
@@ -44,7 +46,8 @@ impl FaultyFolder {
 
     /// Refused calls answer this fault.
     pub fn with_fault(self, fault: FolderFault) -> FaultyFolder
-        ensures contents { faulty_contents result ≡ under_plan (memory_contents self.inner) (record (plan_of self) { fault = fault }) self.calls }
+        ensures contents { faulty_contents result ≡ under_plan (memory_contents self.inner)
+            (record (plan_of self) { fault = fault }) self.calls }
         ensures failures { result.failures ≡ self.failures }
     {
         FaultyFolder { fault, ..self }
@@ -52,7 +55,8 @@ impl FaultyFolder {
 
     /// A write with one of these numbers takes at most so many bytes, which may be none.
     pub fn with_short_writes(self, short: Vec<u64>, most: usize) -> FaultyFolder
-        ensures contents { faulty_contents result ≡ under_plan (memory_contents self.inner) (record (plan_of self) { short = short.items; most = most }) self.calls }
+        ensures contents { faulty_contents result ≡ under_plan (memory_contents self.inner)
+            (record (plan_of self) { short = short.items; most = most }) self.calls }
         ensures failures { result.failures ≡ self.failures }
     {
         FaultyFolder {
@@ -78,7 +82,8 @@ impl FaultyFolder {
 
     /// How many of so many bytes the next call takes, if it is a write and isn't refused.
     fn taken_of(&self, len: usize) -> usize
-        ensures { result ≡ (if has_number self.now.short.items (number_after self.now.calls 0) then min self.now.most len else len) }
+        ensures { result ≡ (if has_number self.now.short.items (number_after self.now.calls 0) then min self.now.most
+            len else len) }
     {
         if has_number(self.short.as_slice(), self.next_number()) {
             len.min(self.most)

@@ -6,7 +6,8 @@ ghost use Rattle.tracing_appender_folders.specs.Listings.{listed_all};
 
 use crate::fault::{Entry, FileNumber, FolderError};
 
-/// Names that stand for files with bytes. An opened file can be written after its name was removed; a call that answers an error changed nothing.
+/// Names that stand for files with bytes. An opened file can be written after its name was removed; a call
+/// that answers an error changed nothing.
 pub trait Folder: Drop {
     /// What the folder has, where that is known. Of a folder of the system nothing is.
     ghost contents: { Self → Option Contents };
@@ -25,7 +26,8 @@ pub trait Folder: Drop {
         ensures fed { IfErr result (λ e. e ≢ FolderError.OutOfMemory) }
         ensures failures { failed self.new ≡ failures_after (failed self.old) result };
 
-    /// Appends some first bytes, and answers how many. It may take none of some bytes, which is for the caller to call a fault.
+    /// Appends some first bytes, and answers how many. It may take none of some bytes, which is for the
+    /// caller to call a fault.
     fn write(&mut self, file: FileNumber, bytes: &[u8]) -> Result<usize, FolderError>
         ensures bound { IfOk result (λ n. n ≤ length bytes.now) }
         ensures gives { Gives (λ c. written c file bytes.now) (contents self.old) result (contents self.new) }

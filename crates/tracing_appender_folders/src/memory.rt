@@ -33,7 +33,8 @@ pub struct MemoryLink {
     target: String,
 }
 
-/// A folder whose files lie in memory. It refuses to open a link, to remove what isn't there, and to put a link in a file's place.
+/// A folder whose files lie in memory. It refuses to open a link, to remove what isn't there, and to put a
+/// link in a file's place.
 #[derive(Debug, Drop)]
 pub struct MemoryFolder {
     pub(crate) alloc: Global,
@@ -82,10 +83,13 @@ impl MemoryFolder {
     ) -> Result<(), AllocError>
         ensures ok { OnOk result ((q : List ℕ) → bytes_at (memory_contents self.new).files q ≡
             (if bytes_eq name.now q then Some bytes.now else bytes_at (memory_contents self.old).files q)) }
-        ensures place { OnOk result ((memory_contents self.new).files ≡ put_at (memory_contents self.old).files (file_named name.now (memory_contents self.old).files)
+        ensures place { OnOk result ((memory_contents self.new).files
+            ≡ put_at (memory_contents self.old).files (file_named name.now (memory_contents self.old).files)
             (record { name = name.now; stands = true; created = created; bytes = bytes.now })) }
         ensures err { OnErr result (memory_contents self.new ≡ memory_contents self.old) }
-        ensures rest { memory_contents self.new ≡ record (memory_contents self.old) { files = (memory_contents self.new).files } }
+        ensures rest { memory_contents self.new ≡ record (memory_contents self.old) {
+          files = (memory_contents self.new).files;
+        } }
         ensures failures { self.new.failures ≡ self.old.failures }
     {
         let file = MemoryFile {

@@ -24,7 +24,8 @@ impl Moment {
     ///
     /// It lies before 0001-01-01 or after 9998-12-31, or the nanoseconds make a second.
     pub fn new(seconds: i64, nanoseconds: u32) -> Result<Moment, BadMoment>
-        ensures ok { IfOk result (λ moment. (moment ≡ record { seconds = seconds; nanoseconds = nanoseconds }) × (is_moment moment ≡ true)) }
+        ensures ok { IfOk result (λ moment. (moment ≡ record { seconds = seconds; nanoseconds = nanoseconds }) ×
+            (is_moment moment ≡ true)) }
         ensures err { OnErr result (is_moment (record { seconds = seconds; nanoseconds = nanoseconds }) ≡ false) }
     {
         let moment = Moment {

@@ -8,7 +8,8 @@ use std::alloc::{AllocFailed, Global};
 use std::marker::Model;
 use thiserror::Error;
 
-/// Lines that wait to be written, at most so many, and one mark that closes the queue once it is taken. The mark counts for the limit.
+/// Lines that wait to be written, at most so many, and one mark that closes the queue once it is taken. The
+/// mark counts for the limit.
 ///
 /// A lossy queue drops a line that it has no room for, and counts it; a waiting one hands the line back.
 #[derive(Drop)]
@@ -139,8 +140,8 @@ impl QueueState {
         self.accepting && items < self.limit
     }
 
-    /// Takes the next line before the mark, or else the mark at the head, with which the queue closes and what stands behind is
-    /// left for good, or else nothing.
+    /// Takes the next line before the mark, or else the mark at the head, with which the queue closes and
+    /// what stands behind is left for good, or else nothing.
     pub fn take(&mut self) -> Option<Taken>
         ensures taken { Takes self.old result self.new }
         ensures next { self.new ≡ after_take self.old }
@@ -178,7 +179,8 @@ impl QueueState {
         ensures ok { OnOk result (self.new ≡ after_mark self.old) }
         ensures err { OnErr result (self.new ≡ self.old) }
         ensures sent { IsErrOf result MarkError.MarkSent ↔ (self.old.sent ≡ true) }
-        ensures full { IsErrOf result MarkError.NoRoom → (self.old.sent ≡ false) × (self.old.limit ≤ length self.old.queued) }
+        ensures full { IsErrOf result MarkError.NoRoom → (self.old.sent ≡ false) ×
+            (self.old.limit ≤ length self.old.queued) }
         ensures put { OnOk result ((self.old.sent ≡ false) × (length self.old.queued < self.old.limit)) }
     {
         if self.sent {

@@ -69,24 +69,30 @@ impl<D: Folder> RollingFileAppender<D> {
     ) -> Result<Self, OpenRefusal<D>>
         requires { is_moment moment ≡ true }
         ensures opens { MayOpen (D.contents folder) (builder_names builder) →
-            IfOk result (λ appender. AgreesSink D.contents appender (fresh_sink (builder_names builder) moment (D.contents folder))) }
+            IfOk result (λ appender. AgreesSink D.contents appender
+            (fresh_sink (builder_names builder) moment (D.contents folder))) }
         ensures faults { (builder_names builder).limit ≡ None → IfOk result (λ appender. appender.faults ≡ no_faults) }
         ensures names { IfOk result (λ appender. builder_names appender.builder ≡ builder_names builder) }
         // whatever the folder refuses
         ensures held { (c : Contents) → D.contents folder ≡ Some c →
             IfOk result (λ appender. IsOpened D.contents (builder_names builder) moment c appender) }
         ensures failed { (c : Contents) → D.contents folder ≡ Some c →
-            IfErr result (λ refusal. FailedAt (builder_names builder) moment c refusal.context refusal.error (D.contents refusal.folder)) }
+            IfErr result (λ refusal. FailedAt (builder_names builder) moment c refusal.context refusal.error
+            (D.contents refusal.folder)) }
         // without a fault of the folder only want of memory is told
         ensures known { (c : Contents) → D.contents folder ≡ Some c → MayOpen (Some c) (builder_names builder) →
-            IfErr result (λ refusal. (refusal.error ≡ FolderError.OutOfMemory) × HandsBack c (builder_names builder) (D.contents refusal.folder)) }
+            IfErr result (λ refusal. (refusal.error ≡ FolderError.OutOfMemory) ×
+            HandsBack c (builder_names builder) (D.contents refusal.folder)) }
         // over a folder that refuses nothing, with retention or a link too
         ensures state { (c : Contents) → D.contents folder ≡ Some c → MayOpenSink c (builder_names builder) →
             IfOk result (λ appender. OpensLeft D.contents (builder_names builder) moment c appender) }
-        ensures starved { (c : Contents) → D.contents folder ≡ Some c → MayOpenSink c (builder_names builder) → IfErr result (λ refusal. refusal.error ≡ FolderError.OutOfMemory) }
+        ensures starved { (c : Contents) → D.contents folder ≡ Some c → MayOpenSink c (builder_names builder) →
+            IfErr result (λ refusal. refusal.error ≡ FolderError.OutOfMemory) }
         ensures back { IfErr result (λ refusal. builder_names refusal.builder ≡ builder_names builder) }
-        ensures counted { IfOk result (λ appender. Counts (D.failed folder) no_faults appender.faults (D.failed appender.folder)) }
-        ensures error { IfErr result (λ refusal. ReportsError (D.failed folder) refusal.error (D.failed refusal.folder)) }
+        ensures counted { IfOk result (λ appender. Counts (D.failed folder) no_faults appender.faults
+            (D.failed appender.folder)) }
+        ensures error { IfErr result (λ refusal. ReportsError (D.failed folder) refusal.error
+            (D.failed refusal.folder)) }
     {
         match open_first(alloc, &builder, &mut folder, moment) {
             Ok(opened) => Ok(RollingFileAppender {
@@ -116,8 +122,9 @@ impl<D: Folder> RollingFileAppender<D> {
         }
     }
 
-    /// Looks at a moment before a line is written: from the end of the file's period on, retention runs and the file of the moment's
-    /// period is opened. A folder's fault keeps the old file until the moment's period ends, and is counted.
+    /// Looks at a moment before a line is written: from the end of the file's period on, retention runs and
+    /// the file of the moment's period is opened. A folder's fault keeps the old file until the moment's
+    /// period ends, and is counted.
     ///
     /// # Errors
     ///
@@ -126,18 +133,19 @@ impl<D: Folder> RollingFileAppender<D> {
         requires { is_moment moment ≡ true }
         ensures ok { OnOk result ((s : PlainSink) → AgreesSink D.contents self.old s →
             AgreesSink D.contents self.new (with_handed s (record { line = []; moment = moment }))) }
-        ensures err { OnErr result ((s : PlainSink) → AgreesSink D.contents self.old s → AgreesSink D.contents self.new s) }
+        ensures err { OnErr result ((s : PlainSink) → AgreesSink D.contents self.old s →
+            AgreesSink D.contents self.new s) }
         ensures looked { (h : Held) → Holds D.contents self.old h →
             OnOk result (LooksAt D.contents (builder_names self.old.builder) moment h self.new) }
         ensures missed { (h : Held) → Holds D.contents self.old h →
             OnErr result (MissesAt D.contents (builder_names self.old.builder) moment h self.new) }
         ensures early { is_due self.old.boundary moment.seconds ≡ false → (result ≡ Ok tt) × (self.new ≡ self.old) }
         ensures still { OnErr result (record self.new { folder = self.old.folder } ≡ self.old) }
-        ensures unfaulted { (c : Contents) (s : PlainSink) → D.contents self.old.folder ≡ Some c → AgreesSink D.contents self.old s →
-            self.new.faults ≡ self.old.faults }
+        ensures unfaulted { (c : Contents) (s : PlainSink) → D.contents self.old.folder ≡ Some c →
+            AgreesSink D.contents self.old s → self.new.faults ≡ self.old.faults }
         // over a folder that refuses nothing, with retention or a link too
-        ensures state { OnOk result ((c : Contents) (p : PrunedSink) → D.contents self.old.folder ≡ Some c → AgreesLeft D.contents self.old p →
-            HandsLeft D.contents p [] moment c self.old self.new) }
+        ensures state { OnOk result ((c : Contents) (p : PrunedSink) → D.contents self.old.folder ≡ Some c →
+            AgreesLeft D.contents self.old p → HandsLeft D.contents p [] moment c self.old self.new) }
         ensures names { builder_names self.new.builder ≡ builder_names self.old.builder }
         ensures counted { Counts (D.failed self.old.folder) self.old.faults self.new.faults (D.failed self.new.folder) }
     {
@@ -151,8 +159,9 @@ impl<D: Folder> RollingFileAppender<D> {
     /// Runs retention and opens the file of the moment's period.
     fn switch(&mut self, moment: Moment) -> Result<(), AllocError>
         requires { is_moment moment ≡ true }
-        ensures switched { Switches (builder_names self.old.builder) moment self.old.boundary self.old.current self.old.faults (D.contents self.old.folder)
-            result self.new.boundary self.new.current self.new.faults (D.contents self.new.folder) }
+        ensures switched { Switches (builder_names self.old.builder) moment self.old.boundary self.old.current
+            self.old.faults (D.contents self.old.folder) result self.new.boundary self.new.current self.new.faults
+            (D.contents self.new.folder) }
         ensures still { OnErr result (record self.new { folder = self.old.folder } ≡ self.old) }
         ensures builder { self.new.builder ≡ self.old.builder }
         ensures counted { Counts (D.failed self.old.folder) self.old.faults self.new.faults (D.failed self.new.folder) }
@@ -186,16 +195,23 @@ impl<D: Folder> RollingFileAppender<D> {
     ///
     /// The fault, or want of memory, which is no fault.
     pub fn push(&mut self, bytes: &[u8]) -> Result<(), FolderError>
-        ensures ok { OnOk result ((s : PlainSink) (m : Moment) → AgreesSink D.contents self.old (with_handed s (record { line = []; moment = m })) →
+        ensures ok { OnOk result ((s : PlainSink) (m : Moment) →
+            AgreesSink D.contents self.old (with_handed s (record { line = []; moment = m })) →
             AgreesSink D.contents self.new (with_handed s (record { line = bytes.now; moment = m }))) }
-        ensures err { OnErr result ((s : PlainSink) → AgreesSink D.contents self.old s → AgreesSink D.contents self.new s) }
-        ensures written { WritesAll (D.contents self.old.folder) self.old.current bytes.now result (D.contents self.new.folder) }
+        ensures err { OnErr result ((s : PlainSink) → AgreesSink D.contents self.old s →
+            AgreesSink D.contents self.new s) }
+        ensures written { WritesAll (D.contents self.old.folder) self.old.current bytes.now result
+            (D.contents self.new.folder) }
         ensures faults { self.new.faults ≡ after_write self.old.faults result }
         ensures still { self.new ≡ record self.old { folder = self.new.folder; faults = self.new.faults } }
-        ensures unfaulted { (c : Contents) (s : PlainSink) → D.contents self.old.folder ≡ Some c → AgreesSink D.contents self.old s →
-            (self.new.faults ≡ self.old.faults) × IfErr result (λ e. e ≡ FolderError.OutOfMemory) }
-        ensures state { OnOk result ((p : PrunedSink) (m : Moment) → AgreesLeft D.contents self.old (with_line p [] m) → AgreesLeft D.contents self.new (with_line p bytes.now m)) }
-        ensures starved { IfErr result (λ e. (p : PrunedSink) → AgreesLeft D.contents self.old p → (e ≡ FolderError.OutOfMemory) × AgreesLeft D.contents self.new p) }
+        ensures unfaulted { (c : Contents) (s : PlainSink) → D.contents self.old.folder ≡ Some c →
+            AgreesSink D.contents self.old s → (self.new.faults ≡ self.old.faults) ×
+            IfErr result (λ e. e ≡ FolderError.OutOfMemory) }
+        ensures state { OnOk result ((p : PrunedSink) (m : Moment) →
+            AgreesLeft D.contents self.old (with_line p [] m) →
+            AgreesLeft D.contents self.new (with_line p bytes.now m)) }
+        ensures starved { IfErr result (λ e. (p : PrunedSink) → AgreesLeft D.contents self.old p →
+            (e ≡ FolderError.OutOfMemory) × AgreesLeft D.contents self.new p) }
         ensures names { builder_names self.new.builder ≡ builder_names self.old.builder }
         ensures error { ReportsAll (D.failed self.old.folder) result (length bytes.now) (D.failed self.new.folder) }
     {
@@ -236,7 +252,8 @@ fn open_first<D: Folder>(
     requires { is_moment moment ≡ true }
     ensures begins { Begins (builder_names builder.now) moment (D.contents folder.old) result (D.contents folder.new) }
     ensures faults { (builder_names builder.now).limit ≡ None → IfOk result (λ opened. opened.faults ≡ no_faults) }
-    ensures counted { IfOk result (λ opened. Counts (D.failed folder.old) no_faults opened.faults (D.failed folder.new)) }
+    ensures counted { IfOk result (λ opened. Counts (D.failed folder.old) no_faults opened.faults
+        (D.failed folder.new)) }
     ensures error { ReportsTry (D.failed folder.old) result (D.failed folder.new) }
 {
     let starved = InitFailure {

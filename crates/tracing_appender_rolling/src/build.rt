@@ -108,7 +108,8 @@ impl<D: Folder> RollingFileAppender<D> {
         moment: Moment,
     ) -> Result<RollingFileAppender<D>, BuildRefusal<D>>
         requires { is_moment moment ≡ true }
-        ensures { Builds D.contents D.failed (prefixed_names (kind_of rotation) (string_bytes prefix)) folder moment result }
+        ensures { Builds D.contents D.failed (prefixed_names (kind_of rotation) (string_bytes prefix)) folder moment
+            result }
     {
         Builder::new()
             .rotation(rotation)

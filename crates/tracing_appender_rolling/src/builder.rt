@@ -111,7 +111,8 @@ impl Builder {
 
     /// Whether the one file for all of time would be named `.` or `..`.
     fn is_lasting_dots(&self) -> bool
-        ensures { result ≡ is_lasting_dots (kind_of self.now.rotation) (option_map string_bytes self.now.prefix) (option_map string_bytes self.now.suffix) }
+        ensures { result ≡ is_lasting_dots (kind_of self.now.rotation) (option_map string_bytes self.now.prefix)
+            (option_map string_bytes self.now.suffix) }
     {
         match (self.rotation.0, &self.prefix, &self.suffix) {
             (PeriodKind::Whole, Some(_), None) => is_dots(&self.prefix),
@@ -123,7 +124,8 @@ impl Builder {
     /// The name of the file of a moment's period, where it is the first that is opened.
     pub(crate) fn name_at(&self, alloc: Global, moment: Moment) -> Result<String, AllocError>
         requires { is_moment moment ≡ true }
-        ensures { IfOk result (λ name. string_bytes name ≡ file_name (builder_names self.now) moment.seconds (period_at (kind_of self.now.rotation) moment)) }
+        ensures { IfOk result (λ name. string_bytes name
+            ≡ file_name (builder_names self.now) moment.seconds (period_at (kind_of self.now.rotation) moment)) }
     {
         let name = name_text(
             alloc,

@@ -27,7 +27,8 @@ pub fn lines_stand_whole()
     ensures { LinesStandWhole }
 {}
 
-/// What becomes of a line, and what it leaves, is settled by the state before it, under any plan of refusals, while no memory is refused.
+/// What becomes of a line, and what it leaves, is settled by the state before it, under any plan of refusals,
+/// while no memory is refused.
 pub fn lines_have_one_end()
     ensures { LinesHaveOneEnd }
 {}
@@ -38,8 +39,8 @@ pub fn files_read_in_order()
     ensures own { OwnFilesReadInOrder }
 {}
 
-/// Retention takes older files before newer ones. Where it did so, and files were empty at their opening, those that it left, read in byte
-/// order of their names, are the last handed lines in order.
+/// Retention takes older files before newer ones. Where it did so, and files were empty at their opening,
+/// those that it left, read in byte order of their names, are the last handed lines in order.
 pub fn left_files_read_in_order()
     ensures oldest { OldestGoFirst }
     ensures stays { OldestStayGone }
@@ -52,8 +53,8 @@ pub fn retention_spares_others()
     ensures { RetentionSpares }
 {}
 
-/// Where files are removed or a link is kept, each period's file that retention left holds what its opening found and then that period's
-/// lines.
+/// Where files are removed or a link is kept, each period's file that retention left holds what its opening
+/// found and then that period's lines.
 pub fn left_files_by_period()
     ensures { LeftByPeriod }
 {}

@@ -17,7 +17,8 @@ impl<D: Folder> RollingFileAppender<D> {
     ghost use Rattle.tracing_appender_rolling.specs.Remaining.{PrunedSink, AgreesLeft, HandsLeft, with_line};
     ghost use Rattle.tracing_appender_rolling.specs.Handing.{HandsLine, WritesOnce, Misses, is_starved};
 
-    /// Looks at the moment, also for no bytes, and writes until all bytes are taken. A fault loses the rest, and is counted.
+    /// Looks at the moment, also for no bytes, and writes until all bytes are taken. A fault loses the rest,
+    /// and is counted.
     ///
     /// # Errors
     ///
@@ -26,17 +27,22 @@ impl<D: Folder> RollingFileAppender<D> {
         requires { is_moment moment ≡ true }
         ensures ok { is_starved result ≡ false → (s : PlainSink) → AgreesSink D.contents self.old s →
             AgreesSink D.contents self.new (with_handed s (record { line = bytes.now; moment = moment })) }
-        ensures err { OnErr result ((s : PlainSink) → AgreesSink D.contents self.old s → Misses D.contents s moment self.new) }
-        ensures handed { (h : Held) → Holds D.contents self.old h → HandsLine D.contents (builder_names self.old.builder) moment h bytes.now result self.new }
+        ensures err { OnErr result ((s : PlainSink) → AgreesSink D.contents self.old s →
+            Misses D.contents s moment self.new) }
+        ensures handed { (h : Held) → Holds D.contents self.old h →
+            HandsLine D.contents (builder_names self.old.builder) moment h bytes.now result self.new }
         // over a folder that refuses nothing, with retention or a link too
-        ensures state { OnOk result ((c : Contents) (p : PrunedSink) → D.contents self.old.folder ≡ Some c → AgreesLeft D.contents self.old p →
-            HandsLeft D.contents p bytes.now moment c self.old self.new) }
-        ensures starved { IfErr result (λ e. (p : PrunedSink) → AgreesLeft D.contents self.old p → e ≡ FolderError.OutOfMemory) }
+        ensures state { OnOk result ((c : Contents) (p : PrunedSink) → D.contents self.old.folder ≡ Some c →
+            AgreesLeft D.contents self.old p → HandsLeft D.contents p bytes.now moment c self.old self.new) }
+        ensures starved { IfErr result (λ e. (p : PrunedSink) → AgreesLeft D.contents self.old p →
+            e ≡ FolderError.OutOfMemory) }
         ensures names { builder_names self.new.builder ≡ builder_names self.old.builder }
         ensures error { ReportsWrites (D.failed self.old.folder) result (length bytes.now) (D.failed self.new.folder) }
         // within the period of the last try the folder is asked for writes alone
-        ensures early { is_due self.old.boundary moment.seconds ≡ false → ReportsAll (D.failed self.old.folder) result (length bytes.now) (D.failed self.new.folder) }
-        ensures counted { CountsLine (D.failed self.old.folder) self.old.faults self.new.faults result (length bytes.now) (D.failed self.new.folder) }
+        ensures early { is_due self.old.boundary moment.seconds ≡ false →
+            ReportsAll (D.failed self.old.folder) result (length bytes.now) (D.failed self.new.folder) }
+        ensures counted { CountsLine (D.failed self.old.folder) self.old.faults self.new.faults result
+            (length bytes.now) (D.failed self.new.folder) }
     {
         self.look(moment)?;
         self.push(bytes)
@@ -50,18 +56,22 @@ impl<D: Folder> RollingFileAppender<D> {
     pub fn write_at(&mut self, bytes: &[u8], moment: Moment) -> Result<usize, FolderError>
         requires { is_moment moment ≡ true }
         ensures bound { IfOk result (λ n. n ≤ length bytes.now) }
-        ensures written { (h : Held) → Holds D.contents self.old h → WritesOnce D.contents (builder_names self.old.builder) moment h bytes.now result self.new }
+        ensures written { (h : Held) → Holds D.contents self.old h →
+            WritesOnce D.contents (builder_names self.old.builder) moment h bytes.now result self.new }
         ensures agrees { IfOk result (λ n. (s : PlainSink) → AgreesSink D.contents self.old s →
             AgreesSink D.contents self.new (with_handed s (record { line = take n bytes.now; moment = moment }))) }
-        ensures missed { OnErr result ((s : PlainSink) → AgreesSink D.contents self.old s → Misses D.contents s moment self.new) }
+        ensures missed { OnErr result ((s : PlainSink) → AgreesSink D.contents self.old s →
+            Misses D.contents s moment self.new) }
         // over a folder that refuses nothing, with retention or a link too
-        ensures state { IfOk result (λ n. (c : Contents) (p : PrunedSink) → D.contents self.old.folder ≡ Some c → AgreesLeft D.contents self.old p →
-            HandsLeft D.contents p (take n bytes.now) moment c self.old self.new) }
-        ensures starved { IfErr result (λ e. (p : PrunedSink) → AgreesLeft D.contents self.old p → e ≡ FolderError.OutOfMemory) }
+        ensures state { IfOk result (λ n. (c : Contents) (p : PrunedSink) → D.contents self.old.folder ≡ Some c →
+            AgreesLeft D.contents self.old p → HandsLeft D.contents p (take n bytes.now) moment c self.old self.new) }
+        ensures starved { IfErr result (λ e. (p : PrunedSink) → AgreesLeft D.contents self.old p →
+            e ≡ FolderError.OutOfMemory) }
         ensures names { builder_names self.new.builder ≡ builder_names self.old.builder }
         ensures error { ReportsCall (D.failed self.old.folder) result (D.failed self.new.folder) }
         // within the period of the last try the folder is asked for the write alone
-        ensures early { is_due self.old.boundary moment.seconds ≡ false → D.failed self.new.folder ≡ failures_after (D.failed self.old.folder) result }
+        ensures early { is_due self.old.boundary moment.seconds ≡ false →
+            D.failed self.new.folder ≡ failures_after (D.failed self.old.folder) result }
         ensures counted { Counts (D.failed self.old.folder) self.old.faults self.new.faults (D.failed self.new.folder) }
     {
         self.look(moment)?;
@@ -71,13 +81,17 @@ impl<D: Folder> RollingFileAppender<D> {
     /// Writes once to the current file. A fault is counted.
     fn write_once(&mut self, bytes: &[u8]) -> Result<usize, FolderError>
         ensures bound { IfOk result (λ n. n ≤ length bytes.now) }
-        ensures gives { Gives (λ c. written c self.old.current bytes.now) (D.contents self.old.folder) result (D.contents self.new.folder) }
+        ensures gives { Gives (λ c. written c self.old.current bytes.now) (D.contents self.old.folder) result
+            (D.contents self.new.folder) }
         ensures faults { self.new.faults ≡ after_write self.old.faults (unit_of result) }
         ensures failures { D.failed self.new.folder ≡ failures_after (D.failed self.old.folder) result }
-        ensures agrees { IfOk result (λ n. (s : PlainSink) (m : Moment) → AgreesSink D.contents self.old (with_handed s (record { line = []; moment = m })) →
+        ensures agrees { IfOk result (λ n. (s : PlainSink) (m : Moment) →
+            AgreesSink D.contents self.old (with_handed s (record { line = []; moment = m })) →
             AgreesSink D.contents self.new (with_handed s (record { line = take n bytes.now; moment = m }))) }
-        ensures missed { OnErr result ((s : PlainSink) → AgreesSink D.contents self.old s → AgreesSink D.contents self.new s) }
-        ensures state { IfOk result (λ n. (p : PrunedSink) (m : Moment) → AgreesLeft D.contents self.old (with_line p [] m) →
+        ensures missed { OnErr result ((s : PlainSink) → AgreesSink D.contents self.old s →
+            AgreesSink D.contents self.new s) }
+        ensures state { IfOk result (λ n. (p : PrunedSink) (m : Moment) →
+            AgreesLeft D.contents self.old (with_line p [] m) →
             AgreesLeft D.contents self.new (with_line p (take n bytes.now) m)) }
         ensures starved { IfErr result (λ e. (p : PrunedSink) → AgreesLeft D.contents self.old p →
             (e ≡ FolderError.OutOfMemory) × AgreesLeft D.contents self.new p) }
@@ -100,7 +114,8 @@ impl<D: Folder> RollingFileAppender<D> {
     ///
     /// The folder's fault, which isn't counted.
     pub fn flush(&mut self) -> Result<(), FolderError>
-        ensures gives { Gives (λ c. flushed c self.old.current) (D.contents self.old.folder) result (D.contents self.new.folder) }
+        ensures gives { Gives (λ c. flushed c self.old.current) (D.contents self.old.folder) result
+            (D.contents self.new.folder) }
         ensures fed { IfErr result (λ e. e ≢ FolderError.OutOfMemory) }
         ensures still { self.new ≡ record self.old { folder = self.new.folder } }
         ensures counted { D.failed self.new.folder ≡ failures_after (D.failed self.old.folder) result }

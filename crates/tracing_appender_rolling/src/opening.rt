@@ -51,7 +51,8 @@ fn link_file<D: Folder>(
     link: &str,
     name: &str,
 ) -> Result<FileNumber, InitFailure>
-    ensures tries { Tries (Unlinked file) (linked_to link.now name.now file) (D.contents folder.old) result (D.contents folder.new) }
+    ensures tries { Tries (Unlinked file) (linked_to link.now name.now file) (D.contents folder.old) result
+        (D.contents folder.new) }
     ensures error { ReportsTry (D.failed folder.old) result (D.failed folder.new) }
 {
     match folder.link(link, name) {
@@ -72,7 +73,8 @@ pub(crate) fn open_linked<D: Folder>(
     name: &str,
     latest: &Option<String>,
 ) -> Result<FileNumber, InitFailure>
-    ensures tries { TriesFile (option_map string_bytes latest.now) name.now (D.contents folder.old) result (D.contents folder.new) }
+    ensures tries { TriesFile (option_map string_bytes latest.now) name.now (D.contents folder.old) result
+        (D.contents folder.new) }
     ensures error { ReportsTry (D.failed folder.old) result (D.failed folder.new) }
 {
     match open_twice(folder, name) {

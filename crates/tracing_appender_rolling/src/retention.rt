@@ -74,7 +74,8 @@ fn add_candidate<'a>(
     all: &mut Vec<Candidate<'a>>,
     entry: &'a Entry,
 ) -> Result<(), AllocError>
-    ensures { OnOk result (IsAdded (builder_names builder.now) (listed_of entry.now) (map candidate_of all.old.items) (map candidate_of all.new.items)) }
+    ensures { OnOk result (IsAdded (builder_names builder.now) (listed_of entry.now) (map candidate_of all.old.items)
+        (map candidate_of all.new.items)) }
 {
     let date = date_of(builder, entry);
     if let Some(made) = made_at(builder, entry, date) {
@@ -90,7 +91,8 @@ fn candidates<'a>(
     builder: &Builder,
     entries: &'a [Entry],
 ) -> Result<Vec<Candidate<'a>>, AllocError>
-    ensures { IfOk result (λ all. IsCandidates (builder_names builder.now) (map listed_of entries.now) (map candidate_of all.items)) }
+    ensures { IfOk result (λ all. IsCandidates (builder_names builder.now) (map listed_of entries.now)
+        (map candidate_of all.items)) }
 {
     let mut all = Vec::new(alloc);
     for entry in entries {
@@ -148,7 +150,8 @@ fn remove_if_doomed<D: Folder>(
     limit: usize,
     faults: Faults,
 ) -> Result<Faults, AllocError>
-    ensures removes { Removes (doomed_of limit (map candidate_of all.now) (candidate_of candidate.now ∷ [])) faults (D.contents folder.old) result (D.contents folder.new) }
+    ensures removes { Removes (doomed_of limit (map candidate_of all.now) (candidate_of candidate.now ∷ [])) faults
+        (D.contents folder.old) result (D.contents folder.new) }
     ensures once { CountsOnce (D.failed folder.old) faults result (D.failed folder.new) }
     ensures error { CountsOk (D.failed folder.old) faults result (D.failed folder.new) }
 {
@@ -166,7 +169,8 @@ fn remove_doomed<D: Folder>(
     limit: usize,
     faults: Faults,
 ) -> Result<Faults, AllocError>
-    ensures removes { Removes (doomed limit (map candidate_of all.now)) faults (D.contents folder.old) result (D.contents folder.new) }
+    ensures removes { Removes (doomed limit (map candidate_of all.now)) faults (D.contents folder.old) result
+        (D.contents folder.new) }
     ensures error { CountsOk (D.failed folder.old) faults result (D.failed folder.new) }
 {
     let mut faults = faults;
@@ -176,7 +180,8 @@ fn remove_doomed<D: Folder>(
     Ok(faults)
 }
 
-/// Removes the files that go where one more is to be opened, where there is a limit. A fault is counted, and the work goes on.
+/// Removes the files that go where one more is to be opened, where there is a limit. A fault is counted, and
+/// the work goes on.
 pub(crate) fn prune<D: Folder>(
     alloc: Global,
     builder: &Builder,

@@ -33,7 +33,8 @@ impl Rotation {
         self.0.first_of(moment.seconds)
     }
 
-    /// The first second of the period after the one in which a moment lies, which may lie past the last moment; none for `NEVER`.
+    /// The first second of the period after the one in which a moment lies, which may lie past the last
+    /// moment; none for `NEVER`.
     pub fn next_date(self, moment: Moment) -> Option<i64>
         requires { is_moment moment ≡ true }
         ensures { result ≡ end_of (kind_of self) (period_at (kind_of self) moment) }

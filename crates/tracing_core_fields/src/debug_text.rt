@@ -78,7 +78,8 @@ fn write_bytes<W: fmt::Write>(bytes: &[u8], f: &mut fmt::Formatter<W>) -> fmt::R
 
 // Writes the text under the options of the formatter.
 fn write_under<W: fmt::Write>(text: &DebugText<'_>, f: &mut fmt::Formatter<W>) -> fmt::Result
-    ensures options { DisplaysStyledOnOk W.write_str_gives f.old result (output_under f.old (plain_debug text.now)) f.new }
+    ensures options { DisplaysStyledOnOk W.write_str_gives f.old result (output_under f.old (plain_debug text.now))
+        f.new }
     ensures failing { plain_debug text.now ≡ Unwritable → IsErr result }
 {
     match text {

@@ -82,7 +82,8 @@ impl<'a> FieldSet<'a> {
     // such index, the field itself.
     pub(crate) fn own(&self, field: &Field<'a>) -> Field<'a>
         requires { field_callsite field.now ≡ set_callsite self.now }
-        ensures { IsFieldAt (set_callsite self.now) (field_names self.now) (field_index field.now) (plain_field result) }
+        ensures { IsFieldAt (set_callsite self.now) (field_names self.now) (field_index field.now)
+            (plain_field result) }
     {
         if field.index < self.names.len() {
             self.at(field.index)

@@ -84,7 +84,8 @@ impl<'a> Names<'a> {
     // Writes a comma, and then the name at the index.
     fn write_later<W: fmt::Write>(&self, index: usize, f: &mut fmt::Formatter<W>) -> fmt::Result
         requires { index < length (names_in self.now) }
-        ensures { WritesOnOk W.write_str_gives f.old result (comma_space ++ slice_index_or (names_in self.now) index []) f.new }
+        ensures { WritesOnOk W.write_str_gives f.old result
+            (comma_space ++ slice_index_or (names_in self.now) index []) f.new }
     {
         f.write_str(", ")?;
         f.write_str(self.name(index))
@@ -92,7 +93,8 @@ impl<'a> Names<'a> {
 
     // Writes the names after the first, a comma before each.
     fn write_all_later<W: fmt::Write>(&self, f: &mut fmt::Formatter<W>) -> fmt::Result
-        ensures { WritesOnOk W.write_str_gives f.old result (flat_map (λ name. comma_space ++ name) (drop 1 (names_in self.now))) f.new }
+        ensures { WritesOnOk W.write_str_gives f.old result
+            (flat_map (λ name. comma_space ++ name) (drop 1 (names_in self.now))) f.new }
     {
         for index in 1..self.len() {
             self.write_later(index, f)?;
@@ -102,7 +104,8 @@ impl<'a> Names<'a> {
 
     // Writes the names, a comma between each two.
     pub(crate) fn write<W: fmt::Write>(&self, f: &mut fmt::Formatter<W>) -> fmt::Result
-        ensures { WritesOnOk W.write_str_gives f.old result (join_by (λ name. name) comma_space (names_in self.now)) f.new }
+        ensures { WritesOnOk W.write_str_gives f.old result (join_by (λ name. name) comma_space (names_in self.now))
+            f.new }
     {
         if self.len() == 0 {
             return Ok(());

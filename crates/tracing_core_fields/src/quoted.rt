@@ -17,7 +17,8 @@ fn is_control(c: char) -> bool
 // Writes the number of a control.
 #[tactic(auto, using(crate::proofs::StyledLemmas::put_three_styled))]
 fn write_code<W: fmt::Write>(code: u8, f: &mut fmt::Formatter<W>) -> fmt::Result
-    ensures { WritesStyledOnOk W.write_str_gives f.old result (codes "\\u{" ++ (digits 16 false code ++ codes "}")) f.new }
+    ensures { WritesStyledOnOk W.write_str_gives f.old result (codes "\\u{" ++ (digits 16 false code ++ codes "}"))
+        f.new }
 {
     f.write_str("\\u{")?;
     write_hex(code, f)?;

@@ -18,11 +18,13 @@ pub trait Visit {
     /// What a refusal says.
     type Error: Drop;
 
-    // What a call may do: the visitor that it meets, the field, the value, what it answers, and the visitor that it leaves.
+    // What a call may do: the visitor that it meets, the field, the value, what it answers, and the visitor
+    // that it leaves.
     ghost takes: { Self → PlainField → PlainValue → Result (Unit {0}) Self.Error → Self → Type 0 };
 
     // A value may be taken by its debug text.
-    ghost forwards: { (before : Self) (field : PlainField) (value : PlainValue) (answer : Result (Unit {0}) Self.Error) (after : Self) →
+    ghost forwards: { (before : Self) (field : PlainField) (value : PlainValue)
+        (answer : Result (Unit {0}) Self.Error) (after : Self) →
         takes before field (Debug (debug_of value)) answer after → takes before field value answer after };
 
     /// Takes a signed number of at most 64 bits.
@@ -76,7 +78,8 @@ pub trait Visit {
 
     /// Takes an error.
     fn record_error(&mut self, field: &Field<'_>, value: &ErrorText<'_>) -> Result<(), Self::Error>
-        ensures { takes self.old (plain_field field.now) (Error (error_text value.now) (source_texts value.now)) result self.new }
+        ensures { takes self.old (plain_field field.now) (Error (error_text value.now) (source_texts value.now))
+            result self.new }
     {
         self.record_debug(field, &DebugText::Error(*value))
     }

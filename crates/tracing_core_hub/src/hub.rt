@@ -50,7 +50,15 @@ impl<S, C> Model for Hub<S, C> {
 
     ghost Value = { Table S C };
 
-    ghost view = { λ h. record { entries = h.entries.items; next = h.next; rows = h.rows.items; lanes = h.lanes.items; entered = h.entered.items; global = h.global; greatest = h.greatest } };
+    ghost view = { λ h. record {
+      entries = h.entries.items;
+      next = h.next;
+      rows = h.rows.items;
+      lanes = h.lanes.items;
+      entered = h.entered.items;
+      global = h.global;
+      greatest = h.greatest;
+    } };
 }
 
 impl<S: Subscriber, C: Callsite> Hub<S, C> {
@@ -73,7 +81,10 @@ impl<S: Subscriber, C: Callsite> Hub<S, C> {
     /// The number of a new lane, which has no default of its own.
     pub fn thread(&mut self) -> Result<u64, AllocError>
         ensures number { IfOk result (λ lane. lane ≡ length self.old.lanes) }
-        ensures added { OnOk result (self.new ≡ record self.old { lanes = self.old.lanes ++ Running Unset ∷ []; entered = self.old.entered ++ false ∷ [] }) }
+        ensures added { OnOk result (self.new ≡ record self.old {
+          lanes = self.old.lanes ++ Running Unset ∷ [];
+          entered = self.old.entered ++ false ∷ [];
+        }) }
         ensures refused { OnErr result (self.new ≡ self.old) }
         ensures keeps { PreservesCaches ⟦<S as Subscriber>⟧ ⟦<C as Callsite>⟧ self.old self.new }
     {
@@ -85,7 +96,10 @@ impl<S, C> Hub<S, C> {
     // A lane more.
     fn add_lane(&mut self) -> Result<u64, AllocError>
         ensures number { IfOk result (λ lane. lane ≡ length self.old.lanes) }
-        ensures added { OnOk result (self.new ≡ record self.old { lanes = self.old.lanes ++ Running Unset ∷ []; entered = self.old.entered ++ false ∷ [] }) }
+        ensures added { OnOk result (self.new ≡ record self.old {
+          lanes = self.old.lanes ++ Running Unset ∷ [];
+          entered = self.old.entered ++ false ∷ [];
+        }) }
         ensures refused { OnErr result (self.new ≡ self.old) }
     {
         let lane = self.lanes.len() as u64;

@@ -44,11 +44,14 @@ pub trait Subscriber: Drop {
 
     ghost fair: { (x : Self) → steady x → Agrees (answers x) (says x) (hint x) };
 
-    ghost single: { (x : Self) (m : PlainMetadata) (at : At) (a b : Bool) → steady x → answers x m at a → answers x m at b → a ≡ b };
+    ghost single: { (x : Self) (m : PlainMetadata) (at : At) (a b : Bool) → steady x → answers x m at a →
+        answers x m at b → a ≡ b };
 
-    ghost stays: { (x : Self) (c : Call) (r : ReplyTo c) (y : Self) → moves x c r y → steady x → steady y × SameWord (says x) (says y) (hint x) (hint y) };
+    ghost stays: { (x : Self) (c : Call) (r : ReplyTo c) (y : Self) → moves x c r y → steady x → steady y ×
+        SameWord (says x) (says y) (hint x) (hint y) };
 
-    ghost quiet: { (x : Self) (m n : PlainMetadata) (at now : At) (r : Bool) (y : Self) (b : Bool) → moves x (Asked m at) r y → steady x → (answers x n now b ↔ answers y n now b) };
+    ghost quiet: { (x : Self) (m n : PlainMetadata) (at now : At) (r : Bool) (y : Self) (b : Bool) →
+        moves x (Asked m at) r y → steady x → (answers x n now b ↔ answers y n now b) };
 
     /// A hub took the subscriber, and gave out this handle.
     fn on_register_dispatch(&mut self, dispatch: &WeakDispatch)

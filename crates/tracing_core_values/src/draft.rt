@@ -55,7 +55,8 @@ pub(crate) fn display_text<T: fmt::Display>(
     alloc: Global,
     value: &T,
 ) -> Result<Option<String>, AllocError>
-    ensures { IfOk result (λ text. IfSome text (λ text. IfSome (T.output value.now) (λ bytes. string_bytes text ≡ bytes))) }
+    ensures { IfOk result (λ text. IfSome text (λ text.
+        IfSome (T.output value.now) (λ bytes. string_bytes text ≡ bytes))) }
 {
     let mut draft = Draft::new(alloc);
     let written = write!(draft, "{value}");
@@ -67,7 +68,8 @@ pub(crate) fn debug_text<T: fmt::Debug>(
     alloc: Global,
     value: &T,
 ) -> Result<Option<String>, AllocError>
-    ensures { IfOk result (λ text. IfSome text (λ text. IfSome (T.debug_output value.now) (λ bytes. string_bytes text ≡ bytes))) }
+    ensures { IfOk result (λ text. IfSome text (λ text.
+        IfSome (T.debug_output value.now) (λ bytes. string_bytes text ≡ bytes))) }
 {
     let mut draft = Draft::new(alloc);
     let written = write!(draft, "{value:?}");

@@ -32,7 +32,8 @@ struct Texts {
 
 /// The value by what its `Display` writes. Where its `fmt` fails, the field is given a text that fails.
 pub fn display<T: fmt::Display>(alloc: Global, value: &T) -> Result<DisplayValue, AllocError>
-    ensures { IfOk result (λ shown. IfSome (plain_text (plain_display shown)) (λ text. IfSome (T.output value.now) (λ bytes. text ≡ bytes))) }
+    ensures { IfOk result (λ shown. IfSome (plain_text (plain_display shown)) (λ text.
+        IfSome (T.output value.now) (λ bytes. text ≡ bytes))) }
 {
     let text = display_text(alloc, value)?;
     Ok(DisplayValue { text })
@@ -40,7 +41,8 @@ pub fn display<T: fmt::Display>(alloc: Global, value: &T) -> Result<DisplayValue
 
 /// The value by what its `Debug` writes. Where its `fmt` fails, the field is given a text that fails.
 pub fn debug<T: fmt::Debug>(alloc: Global, value: &T) -> Result<DebugValue, AllocError>
-    ensures { IfOk result (λ shown. IfSome (plain_text (plain_shown shown)) (λ text. IfSome (T.debug_output value.now) (λ bytes. text ≡ bytes))) }
+    ensures { IfOk result (λ shown. IfSome (plain_text (plain_shown shown)) (λ text.
+        IfSome (T.debug_output value.now) (λ bytes. text ≡ bytes))) }
 {
     let texts = match (debug_text(alloc, value)?, alternate_text(alloc, value)?) {
         (Some(plain), Some(alternate)) => Some(Texts { plain, alternate }),

@@ -26,7 +26,8 @@ pub fn under_box(
     stack_under(alloc, filter)
 }
 
-/// A stack under a closure that may look at the lane's spans too. The caller makes the filter, and shows that it is consistent.
+/// A stack under a closure that may look at the lane's spans too. The caller makes the filter, and shows that
+/// it is consistent.
 ///
 /// # Errors
 ///

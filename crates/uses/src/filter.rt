@@ -120,7 +120,8 @@ pub fn hand<F: Filter>(
     at: At,
 ) -> Result<(), RequestError>
     requires { CacheIsValid ⟦<F as Filter>⟧ stack.old }
-    ensures asked { EventAsked ⟦<F as Filter>⟧ ⟦<Identity as Layer>⟧ (plain_event event.now) at stack.old result stack.new }
+    ensures asked { EventAsked ⟦<F as Filter>⟧ ⟦<Identity as Layer>⟧ (plain_event event.now) at stack.old result
+        stack.new }
     ensures kept { CacheIsValid ⟦<F as Filter>⟧ stack.new }
 {
     stack.event(event, at)
@@ -154,7 +155,8 @@ pub fn under_verbosity(
     stack_under(alloc, Verbosity { most })
 }
 
-/// A stack under a closure whose answer is determined by the metadata, and which refuses what is more verbose than the hint.
+/// A stack under a closure whose answer is determined by the metadata, and which refuses what is more verbose
+/// than the hint.
 ///
 /// # Errors
 ///

@@ -60,9 +60,15 @@ impl Subscriber for Tally {
 
     ghost single = { λ x m at a b k p q. p ∙ sym q };
 
-    ghost stays = { λ x c r y moved k. (tt, subst (λ z. SameWord (λ m j. j ≡ level_interest x.most m.level) (λ m j. j ≡ level_interest z.most m.level) (Some x.most) (Some z.most)) (sym moved.1) (same_word (λ m j. j ≡ level_interest x.most m.level) (Some x.most))) };
+    ghost stays = { λ x c r y moved k. (
+      tt,
+      subst (λ z. SameWord (λ m j. j ≡ level_interest x.most m.level) (λ m j. j ≡ level_interest z.most m.level)
+          (Some x.most) (Some z.most)) (sym moved.1) (same_word (λ m j. j ≡ level_interest x.most m.level)
+          (Some x.most)),
+    ) };
 
-    ghost quiet = { λ x m n at now r y b moved k. subst (λ z. (b ≡ nat_le n.level x.most) ↔ (b ≡ nat_le n.level z.most)) (sym moved.1) (λ e. e, λ e. e) };
+    ghost quiet = { λ x m n at now r y b moved k. subst (λ z. (b ≡ nat_le n.level x.most) ↔
+        (b ≡ nat_le n.level z.most)) (sym moved.1) (λ e. e, λ e. e) };
 
     fn on_register_dispatch(&mut self, _dispatch: &WeakDispatch) {}
 
@@ -142,7 +148,9 @@ pub fn hub_of<S: Subscriber, C: Callsite>(
     alloc: Global,
     subscriber: S,
 ) -> Result<(Hub<S, C>, Dispatch), AddError<S>>
-    ensures right { IfOk result (λ made. S.steady subscriber → ((e : RegisteredSubscriber S) × (made.1 ≡ Some e.serial) × HasValidCache ⟦<S as Subscriber>⟧ ⟦<C as Callsite>⟧ made.0 e)) }
+    ensures right { IfOk result (λ made. S.steady subscriber →
+        ((e : RegisteredSubscriber S) × (made.1 ≡ Some e.serial) ×
+        HasValidCache ⟦<S as Subscriber>⟧ ⟦<C as Callsite>⟧ made.0 e)) }
     ensures sound { IfOk result (λ made. IsSound ⟦<C as Callsite>⟧ made.0) }
 {
     let mut hub = Hub::new(alloc);
@@ -161,7 +169,8 @@ pub fn reach_by_default<S: Subscriber, C: Callsite>(
     hub: &mut Hub<S, C>,
     dispatch: &Dispatch,
 ) -> Result<(), SetGlobalDefaultError>
-    ensures reached { OnOk result ((lane : ℕ) → own_setting (slice_get hub.old.lanes lane) ≡ Unset → reached hub.new lane ≡ dispatch.now) }
+    ensures reached { OnOk result ((lane : ℕ) → own_setting (slice_get hub.old.lanes lane) ≡ Unset →
+        reached hub.new lane ≡ dispatch.now) }
     ensures lanes { hub.new.lanes ≡ hub.old.lanes }
     ensures refused { OnErr result (hub.new ≡ hub.old) }
     ensures keeps { PreservesCaches ⟦<S as Subscriber>⟧ ⟦<C as Callsite>⟧ hub.old hub.new }
@@ -169,15 +178,20 @@ pub fn reach_by_default<S: Subscriber, C: Callsite>(
     hub.set_global_default(dispatch)
 }
 
-/// Hands an event to the tally that its lane reaches, where the hub lets its callsite through, and tells whether it did.
+/// Hands an event to the tally that its lane reaches, where the hub lets its callsite through, and tells
+/// whether it did.
 pub fn log_event<C: Callsite>(hub: &mut Hub<Tally, C>, event: &Event<'_, '_>, at: At) -> bool
     ensures nobody { reached hub.old at.lane ≡ None → (result ≡ false) × (hub.new ≡ hub.old) }
     // Where what is kept is right of the reached tally, its level decides.
-    ensures wanted { (row : RegisteredCallsite C) (e : RegisteredSubscriber Tally) → row_of (plain_event event.now).metadata.callsite hub.old.rows ≡ Some row → reached hub.old at.lane ≡ Some e.serial → HasValidCache ⟦<Tally as Subscriber>⟧ ⟦<C as Callsite>⟧ hub.old e →
+    ensures wanted { (row : RegisteredCallsite C) (e : RegisteredSubscriber Tally) →
+        row_of (plain_event event.now).metadata.callsite hub.old.rows ≡ Some row →
+        reached hub.old at.lane ≡ Some e.serial → HasValidCache ⟦<Tally as Subscriber>⟧ ⟦<C as Callsite>⟧ hub.old e →
         result ≡ nat_le (C.metadata_of row.callsite).level e.subscriber.most }
     // And it counts the event exactly where it was handed on.
-    ensures counted { (e : RegisteredSubscriber Tally) → reached hub.old at.lane ≡ Some e.serial → entry_of e.serial hub.old.entries ≡ Some e →
-        option_map (λ f. f.subscriber.events) (entry_of e.serial hub.new.entries) ≡ Some (if result then counted e.subscriber.events else e.subscriber.events) }
+    ensures counted { (e : RegisteredSubscriber Tally) → reached hub.old at.lane ≡ Some e.serial →
+        entry_of e.serial hub.old.entries ≡ Some e → option_map (λ f. f.subscriber.events)
+        (entry_of e.serial hub.new.entries) ≡ Some (if result then counted e.subscriber.events else
+        e.subscriber.events) }
     ensures keeps { PreservesCaches ⟦<Tally as Subscriber>⟧ ⟦<C as Callsite>⟧ hub.old hub.new }
 {
     match hub.gate(event.metadata().callsite(), at) {

@@ -46,7 +46,8 @@ impl Counts {
     }
 }
 
-/// It vetoes nothing, and writes nothing to the registry. Events and new spans are counted, and other notices change nothing.
+/// It vetoes nothing, and writes nothing to the registry. Events and new spans are counted, and other notices
+/// change nothing.
 impl Layer for Counts {
     ghost answers = { λ x m v b. b ≡ true };
 

@@ -24,7 +24,8 @@ pub fn daily_output(
     level: LevelFilter,
 ) -> Result<Vec<Output<MemoryFolder, LevelFilter>>, Refusal>
     ensures one { IfOk result (λ outputs. vec_len outputs ≡ 1) }
-    ensures level { IfOk result (λ outputs. (output : Output MemoryFolder LevelFilter) → outputs.items ≡ output ∷ [] → output.filter ≡ level) }
+    ensures level { IfOk result (λ outputs. (output : Output MemoryFolder LevelFilter) → outputs.items ≡ output ∷ [] →
+        output.filter ≡ level) }
 {
     let prefix = String::from_str(alloc, prefix).map_err(|_| Refusal::OutOfMemory)?;
     let suffix = String::from_str(alloc, "log").map_err(|_| Refusal::OutOfMemory)?;
@@ -72,7 +73,8 @@ pub fn open_trace(
     }
 }
 
-/// Logs a text as an event at a callsite whose first field is the message, on lane 0. A refusal leaves the trace as it was.
+/// Logs a text as an event at a callsite whose first field is the message, on lane 0. A refusal leaves the
+/// trace as it was.
 ///
 /// # Errors
 ///
@@ -84,7 +86,8 @@ pub fn log_text(
     callsite: Identifier,
     text: &str,
 ) -> Result<Reply, AllocError>
-    ensures refused { IfOk result (λ reply. (refusal : Refusal) → reply ≡ Reply.Refused refusal → value_of trace.new ≡ value_of trace.old) }
+    ensures refused { IfOk result (λ reply. (refusal : Refusal) → reply ≡ Reply.Refused refusal →
+        value_of trace.new ≡ value_of trace.old) }
 {
     let message = FieldValue {
         field: 0,

@@ -14,7 +14,8 @@ use tracing_appender_rolling::{
     BuildError, FileEntry, FolderError, MemoryFolder, Moment, RollingFileAppender, daily,
 };
 
-/// Opens the log of the moment's day in an empty folder in memory. Its files have this prefix and the day in their names.
+/// Opens the log of the moment's day in an empty folder in memory. Its files have this prefix and the day in
+/// their names.
 ///
 /// # Errors
 ///
@@ -43,7 +44,8 @@ pub fn write_line(
 ) -> Result<(), FolderError>
     requires { is_moment moment ≡ true }
     ensures { OnOk result ((s : PlainSink) → AgreesSink (λ folder. Some (memory_contents folder)) log.old s →
-        AgreesSink (λ folder. Some (memory_contents folder)) log.new (with_handed s (record { line = line.now; moment = moment }))) }
+        AgreesSink (λ folder. Some (memory_contents folder)) log.new
+        (with_handed s (record { line = line.now; moment = moment }))) }
 {
     log.write_all_at(line.as_bytes(), moment)
 }

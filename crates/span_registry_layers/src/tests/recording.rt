@@ -69,7 +69,8 @@ impl<O: Observer> Layer for Observing<O> {
 
     ghost hint = { λ x. None };
 
-    ghost told = { λ x n y. ((key : ℕ) → O.keys y.observer key ≡ O.keys x.observer key) × WritesUnder (O.keys x.observer) n };
+    ghost told = { λ x n y. ((key : ℕ) → O.keys y.observer key ≡ O.keys x.observer key) ×
+        WritesUnder (O.keys x.observer) n };
 
     ghost honest = { λ x. Unit {0} };
 

@@ -12,8 +12,8 @@ use crate::{
 };
 use tracing_core::LevelFilter;
 
-/// Counts, in a slot of each span that it sees, how often the span was entered and how many events stood in it, and keeps the
-/// count of the span that closed last.
+/// Counts, in a slot of each span that it sees, how often the span was entered and how many events stood in
+/// it, and keeps the count of the span that closed last.
 #[derive(Drop)]
 struct Entries {
     key: OutputKey,

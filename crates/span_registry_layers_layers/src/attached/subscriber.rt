@@ -6,7 +6,8 @@ use tracing_core_requests::{
     At, Attributes, CurrentSpan, Event, Interest, Record, RequestError, Subscriber, WeakDispatch,
 };
 
-/// Each layer is told what all filters on the way down to it pass, asked again; of a span what they said when it was made.
+/// Each layer is told what all filters on the way down to it pass, asked again; of a span what they said when
+/// it was made.
 ///
 /// It keeps nothing of its filters' answers: its interest in each callsite is sometimes, and it knows no most verbose
 /// level. Where its layers are consistent and veto nothing, it is steady.
@@ -33,7 +34,8 @@ impl<L: Layer> Subscriber for Layered<L, Registry> {
 
     ghost stays = { λ x c r y moved k. staying.tree_stays ⟦<L as Layer>⟧ x c r y moved k };
 
-    ghost quiet = { λ x m n at place r y b moved _. subst (λ z. trees.AnswersOf ⟦<L as Layer>⟧ x n place b ↔ trees.AnswersOf ⟦<L as Layer>⟧ z n place b) (sym moved.1) (λ p. p, λ p. p) };
+    ghost quiet = { λ x m n at place r y b moved _. subst (λ z. trees.AnswersOf ⟦<L as Layer>⟧ x n place b ↔
+        trees.AnswersOf ⟦<L as Layer>⟧ z n place b) (sym moved.1) (λ p. p, λ p. p) };
 
     fn on_register_dispatch(&mut self, dispatch: &WeakDispatch) {
         self.layer.on_register_dispatch(dispatch);

@@ -75,7 +75,10 @@ impl<A: Filter, B: Filter> Filter for And<A, B> {
 
     ghost fair = { λ f k. both_fair (A.fair f.a k.0) (B.fair f.b k.1) };
 
-    ghost stays = { λ f h k. ((((A.stays f.a h k.0).0, (B.stays f.b h k.1).0)), joined_word both_interests both_hints (A.stays f.a h k.0).1 (B.stays f.b h k.1).1) };
+    ghost stays = { λ f h k. (
+      (((A.stays f.a h k.0).0, (B.stays f.b h k.1).0)),
+      joined_word both_interests both_hints (A.stays f.a h k.0).1 (B.stays f.b h k.1).1,
+    ) };
 
     ghost single = { λ f k. both_single (A.single f.a k.0) (B.single f.b k.1) };
 
@@ -145,7 +148,10 @@ impl<A: Filter, B: Filter> Filter for Or<A, B> {
 
     ghost fair = { λ f k. either_fair (A.fair f.a k.0) (B.fair f.b k.1) };
 
-    ghost stays = { λ f h k. ((((A.stays f.a h k.0).0, (B.stays f.b h k.1).0)), joined_word either_interest either_hint (A.stays f.a h k.0).1 (B.stays f.b h k.1).1) };
+    ghost stays = { λ f h k. (
+      (((A.stays f.a h k.0).0, (B.stays f.b h k.1).0)),
+      joined_word either_interest either_hint (A.stays f.a h k.0).1 (B.stays f.b h k.1).1,
+    ) };
 
     ghost single = { λ f k. either_single (A.single f.a k.0) (B.single f.b k.1) };
 

@@ -39,8 +39,11 @@ impl DynFilterFn {
     pub fn new(enabled: ContextTest) -> DynFilterFn
         requires { ContextTest.IsAlwaysCallable enabled }
         ensures kept { (result.enabled ≡ enabled) × (result.callsite_enabled ≡ None) × (result.max_level_hint ≡ None) }
-        ensures honest { Fair (AnswersIn (ContextTest.post result.enabled)) (SaysIn (λ s. CallsiteTest.post s.closure) result.callsite_enabled result.max_level_hint) result.max_level_hint }
-        ensures firm { Firm (SaysIn (λ s. CallsiteTest.post s.closure) result.callsite_enabled result.max_level_hint) result.max_level_hint }
+        ensures honest { Fair (AnswersIn (ContextTest.post result.enabled))
+            (SaysIn (λ s. CallsiteTest.post s.closure) result.callsite_enabled result.max_level_hint)
+            result.max_level_hint }
+        ensures firm { Firm (SaysIn (λ s. CallsiteTest.post s.closure) result.callsite_enabled result.max_level_hint)
+            result.max_level_hint }
     {
         DynFilterFn {
             enabled,
@@ -53,9 +56,15 @@ impl DynFilterFn {
     /// answer is so determined, and what is said of callsites is one thing, fits it and agrees with the hint.
     pub fn with_max_level_hint(self, hint: LevelFilter) -> DynFilterFn
         requires { RefusesAboveIn hint (ContextTest.post self.enabled) }
-        ensures kept { (result.enabled ≡ self.enabled) × (result.callsite_enabled ≡ self.callsite_enabled) × (result.max_level_hint ≡ Some hint) }
-        ensures honest { CallsitesFit (ContextTest.post self.enabled) (λ s. CallsiteTest.post s.closure) self.callsite_enabled → Fair (AnswersIn (ContextTest.post result.enabled)) (SaysIn (λ s. CallsiteTest.post s.closure) result.callsite_enabled result.max_level_hint) result.max_level_hint }
-        ensures firm { CallsitesAreFirm (λ s. CallsiteTest.post s.closure) self.callsite_enabled (Some hint) → Firm (SaysIn (λ s. CallsiteTest.post s.closure) result.callsite_enabled result.max_level_hint) result.max_level_hint }
+        ensures kept { (result.enabled ≡ self.enabled) × (result.callsite_enabled ≡ self.callsite_enabled) ×
+            (result.max_level_hint ≡ Some hint) }
+        ensures honest { CallsitesFit (ContextTest.post self.enabled) (λ s. CallsiteTest.post s.closure)
+            self.callsite_enabled → Fair (AnswersIn (ContextTest.post result.enabled))
+            (SaysIn (λ s. CallsiteTest.post s.closure) result.callsite_enabled result.max_level_hint)
+            result.max_level_hint }
+        ensures firm { CallsitesAreFirm (λ s. CallsiteTest.post s.closure) self.callsite_enabled (Some hint) →
+            Firm (SaysIn (λ s. CallsiteTest.post s.closure) result.callsite_enabled result.max_level_hint)
+            result.max_level_hint }
     {
         let DynFilterFn {
             enabled,
@@ -73,9 +82,17 @@ impl DynFilterFn {
     /// is so determined, and what the closure says is one thing, fits it and agrees with the hint.
     pub fn with_callsite_filter(self, callsite_enabled: CallsiteTest) -> DynFilterFn
         requires { CallsiteTest.IsAlwaysCallable callsite_enabled }
-        ensures kept { (result.enabled ≡ self.enabled) × IfSome result.callsite_enabled (λ s. s.closure ≡ callsite_enabled) × IsSome result.callsite_enabled × (result.max_level_hint ≡ self.max_level_hint) }
-        ensures honest { RefusesAboveHintIn self.max_level_hint (ContextTest.post self.enabled) → CallsitesFit (ContextTest.post self.enabled) (λ s. CallsiteTest.post s.closure) result.callsite_enabled → Fair (AnswersIn (ContextTest.post result.enabled)) (SaysIn (λ s. CallsiteTest.post s.closure) result.callsite_enabled result.max_level_hint) result.max_level_hint }
-        ensures firm { CallsitesAreFirm (λ s. CallsiteTest.post s.closure) result.callsite_enabled self.max_level_hint → Firm (SaysIn (λ s. CallsiteTest.post s.closure) result.callsite_enabled result.max_level_hint) result.max_level_hint }
+        ensures kept { (result.enabled ≡ self.enabled) ×
+            IfSome result.callsite_enabled (λ s. s.closure ≡ callsite_enabled) × IsSome result.callsite_enabled ×
+            (result.max_level_hint ≡ self.max_level_hint) }
+        ensures honest { RefusesAboveHintIn self.max_level_hint (ContextTest.post self.enabled) →
+            CallsitesFit (ContextTest.post self.enabled) (λ s. CallsiteTest.post s.closure) result.callsite_enabled →
+            Fair (AnswersIn (ContextTest.post result.enabled))
+            (SaysIn (λ s. CallsiteTest.post s.closure) result.callsite_enabled result.max_level_hint)
+            result.max_level_hint }
+        ensures firm { CallsitesAreFirm (λ s. CallsiteTest.post s.closure) result.callsite_enabled self.max_level_hint
+            → Firm (SaysIn (λ s. CallsiteTest.post s.closure) result.callsite_enabled result.max_level_hint)
+            result.max_level_hint }
     {
         let DynFilterFn {
             enabled,
@@ -111,11 +128,18 @@ impl Filter for DynFilterFn {
 
     ghost after = { λ f h. f };
 
-    ghost honest = { λ f. Fair (AnswersIn (ContextTest.post f.enabled)) (SaysIn (λ s. CallsiteTest.post s.closure) f.callsite_enabled f.max_level_hint) f.max_level_hint × IsDeterminedIn (ContextTest.post f.enabled) × Firm (SaysIn (λ s. CallsiteTest.post s.closure) f.callsite_enabled f.max_level_hint) f.max_level_hint };
+    ghost honest = { λ f. Fair (AnswersIn (ContextTest.post f.enabled))
+        (SaysIn (λ s. CallsiteTest.post s.closure) f.callsite_enabled f.max_level_hint) f.max_level_hint ×
+        IsDeterminedIn (ContextTest.post f.enabled) × Firm
+        (SaysIn (λ s. CallsiteTest.post s.closure) f.callsite_enabled f.max_level_hint) f.max_level_hint };
 
     ghost fair = { λ f k. k.0 };
 
-    ghost stays = { λ f h k. (k, same_word (SaysIn (λ s. CallsiteTest.post s.closure) f.callsite_enabled f.max_level_hint) f.max_level_hint) };
+    ghost stays = { λ f h k. (
+      k,
+      same_word (SaysIn (λ s. CallsiteTest.post s.closure) f.callsite_enabled f.max_level_hint)
+          f.max_level_hint,
+    ) };
 
     ghost single = { λ f k. dynamic_single (ContextTest.post f.enabled) k.1 };
 

@@ -28,7 +28,8 @@ impl FilterFn {
     pub fn new(enabled: MetadataTest) -> FilterFn
         requires { MetadataTest.IsAlwaysCallable enabled }
         ensures kept { (result.enabled ≡ enabled) × (result.max_level_hint ≡ None) }
-        ensures honest { IsDetermined (MetadataTest.post enabled) → Fair (AnswersBy (MetadataTest.post enabled)) (SaysBy (MetadataTest.post enabled)) None }
+        ensures honest { IsDetermined (MetadataTest.post enabled) →
+            Fair (AnswersBy (MetadataTest.post enabled)) (SaysBy (MetadataTest.post enabled)) None }
     {
         FilterFn {
             enabled,
@@ -40,7 +41,8 @@ impl FilterFn {
     pub fn with_max_level_hint(self, hint: LevelFilter) -> FilterFn
         requires { RefusesAbove hint (MetadataTest.post self.enabled) }
         ensures kept { (result.enabled ≡ self.enabled) × (result.max_level_hint ≡ Some hint) }
-        ensures honest { IsDetermined (MetadataTest.post self.enabled) → Fair (AnswersBy (MetadataTest.post self.enabled)) (SaysBy (MetadataTest.post self.enabled)) (Some hint) }
+        ensures honest { IsDetermined (MetadataTest.post self.enabled) →
+            Fair (AnswersBy (MetadataTest.post self.enabled)) (SaysBy (MetadataTest.post self.enabled)) (Some hint) }
     {
         let FilterFn { enabled, .. } = self;
         FilterFn {
@@ -69,7 +71,8 @@ impl Filter for FilterFn {
 
     ghost after = { λ f h. f };
 
-    ghost honest = { λ f. Fair (AnswersBy (MetadataTest.post f.enabled)) (SaysBy (MetadataTest.post f.enabled)) f.max_level_hint × IsDetermined (MetadataTest.post f.enabled) };
+    ghost honest = { λ f. Fair (AnswersBy (MetadataTest.post f.enabled)) (SaysBy (MetadataTest.post f.enabled))
+        f.max_level_hint × IsDetermined (MetadataTest.post f.enabled) };
 
     ghost fair = { λ f k. k.0 };
 

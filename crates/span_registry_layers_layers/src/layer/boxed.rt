@@ -34,15 +34,19 @@ impl Layer for Box<dyn Layer> {
 
     ghost fair = { λ b k. (Layer-box b).fair b.value k };
 
-    ghost stays = { λ b n c t k. subst (λ z. (Layer-box z).honest z.value × SameWord ((Layer-box b).says b.value) ((Layer-box z).says z.value) ((Layer-box b).hint b.value) ((Layer-box z).hint z.value)) (sym t.2) ((Layer-box b).stays b.value n t.0 t.1 k) };
+    ghost stays = { λ b n c t k. subst (λ z. (Layer-box z).honest z.value ×
+        SameWord ((Layer-box b).says b.value) ((Layer-box z).says z.value) ((Layer-box b).hint b.value)
+        ((Layer-box z).hint z.value)) (sym t.2) ((Layer-box b).stays b.value n t.0 t.1 k) };
 
-    ghost numbered = { λ b n c t. subst (λ z. NumbersStay n ((Layer-box b).numbers b.value) ((Layer-box z).numbers z.value)) (sym t.2) ((Layer-box b).numbered b.value n t.0 t.1) };
+    ghost numbered = { λ b n c t. subst (λ z. NumbersStay n ((Layer-box b).numbers b.value) ((Layer-box z).numbers z.value))
+        (sym t.2) ((Layer-box b).numbered b.value n t.0 t.1) };
 
     ghost once = { λ b k. (Layer-box b).once b.value k };
 
     ghost aside = { λ b n c t. (Layer-box b).aside b.value n t.0 t.1 };
 
-    ghost keyed = { λ b n c t key. subst (λ z. (Layer-box z).keys z.value key ≡ (Layer-box b).keys b.value key) (sym t.2) ((Layer-box b).keyed b.value n t.0 t.1 key) };
+    ghost keyed = { λ b n c t key. subst (λ z. (Layer-box z).keys z.value key ≡ (Layer-box b).keys b.value key)
+        (sym t.2) ((Layer-box b).keyed b.value n t.0 t.1 key) };
 
     fn on_register_dispatch(&mut self, dispatch: &WeakDispatch) {
         (**self).on_register_dispatch(dispatch)

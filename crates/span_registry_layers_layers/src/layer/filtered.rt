@@ -166,7 +166,8 @@ impl<L: Layer, F: Filter> Filtered<L, F> {
     // Tells of a span or an event that the filter sees and passes, where the filter has a number.
     fn hear(&mut self, told: &Told<'_, '_, '_, '_>, context: &mut Context<'_>)
         ensures lent { SameLoan context.old context.new }
-        ensures notified { HearsAt ⟦<F as Filter>⟧ ⟦<L as Layer>⟧ self.old.id self.old (notice told.now) (view context.old) (left context.new) self.new }
+        ensures notified { HearsAt ⟦<F as Filter>⟧ ⟦<L as Layer>⟧ self.old.id self.old (notice told.now)
+            (view context.old) (left context.new) self.new }
     {
         if let Some(filter) = self.id {
             let outer = context.filter;
@@ -179,7 +180,8 @@ impl<L: Layer, F: Filter> Filtered<L, F> {
     // The same over a context under the filter.
     fn hear_under(&mut self, told: &Told<'_, '_, '_, '_>, context: &mut Context<'_>)
         ensures lent { SameLoan context.old context.new }
-        ensures notified { Hears ⟦<F as Filter>⟧ ⟦<L as Layer>⟧ self.old (notice told.now) (view context.old) (left context.new) self.new }
+        ensures notified { Hears ⟦<F as Filter>⟧ ⟦<L as Layer>⟧ self.old (notice told.now) (view context.old)
+            (left context.new) self.new }
     {
         if self.hears(told, context) {
             tell_filter(&mut self.filter, told, context);
@@ -189,7 +191,8 @@ impl<L: Layer, F: Filter> Filtered<L, F> {
 
     // Whether the filter passes an event, or sees the spans.
     fn hears(&self, told: &Told<'_, '_, '_, '_>, context: &Context<'_>) -> bool
-        ensures { (later : RegistryValue) → MayHear ⟦<F as Filter>⟧ self.now.filter (notice told.now (view context.now) later) result }
+        ensures { (later : RegistryValue) → MayHear ⟦<F as Filter>⟧ self.now.filter
+            (notice told.now (view context.now) later) result }
     {
         match told {
             Told::Event(event) => self.passes(event, context),
@@ -206,7 +209,8 @@ impl<L: Layer, F: Filter> Filtered<L, F> {
 
 // Tells a filter of a call on a span.
 fn tell_filter<F: Filter>(filter: &mut F, told: &Told<'_, '_, '_, '_>, context: &Context<'_>)
-    ensures { (later : RegistryValue) → filter.new ≡ heard ⟦<F as Filter>⟧ filter.old (notice told.now (view context.now) later) }
+    ensures { (later : RegistryValue) → filter.new ≡ heard ⟦<F as Filter>⟧ filter.old
+        (notice told.now (view context.now) later) }
 {
     match told {
         Told::NewSpan(span, attributes) => filter.on_new_span(attributes, span, context),

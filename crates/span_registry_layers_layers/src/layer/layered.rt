@@ -13,7 +13,8 @@ use tracing_core_requests::{Attributes, Event, Interest, Record, WeakDispatch};
 
 /// A layer over an inner one, or over a registry.
 ///
-/// Both layers are told, and the outer one sees what the inner one wrote; the outer one is asked first, and where one refuses, nobody is told.
+/// Both layers are told, and the outer one sees what the inner one wrote; the outer one is asked first, and
+/// where one refuses, nobody is told.
 #[derive(Clone, Copy, Debug, Drop)]
 pub struct Layered<L, I> {
     pub(crate) layer: L,
@@ -172,7 +173,8 @@ impl<L: Layer, I: Layer> Layered<L, I> {
     // Tells both, the inner one first, whose slots the outer one sees.
     fn tell(&mut self, told: &Told<'_, '_, '_, '_>, context: &mut Context<'_>)
         ensures lent { SameLoan context.old context.new }
-        ensures notified { BothInTurn ⟦<L as Layer>⟧ ⟦<I as Layer>⟧ (notice told.now) self.old (view context.old) (left context.new) self.new }
+        ensures notified { BothInTurn ⟦<L as Layer>⟧ ⟦<I as Layer>⟧ (notice told.now) self.old (view context.old)
+            (left context.new) self.new }
     {
         told.to(&mut self.inner, context);
         told.to(&mut self.layer, context);

@@ -17,8 +17,8 @@ use span_registry_layers_store::{FilterMap, Registry};
 use tracing_core_fields::{Id, LevelFilter, Metadata};
 use tracing_core_requests::{Attributes, Event, Interest, Record, WeakDispatch};
 
-/// Each layer is told in turn, and where one refuses, nobody is. They are consistent where there is one, and each of them
-/// keeps its own and always wants all.
+/// Each layer is told in turn, and where one refuses, nobody is. They are consistent where there is one, and
+/// each of them keeps its own and always wants all.
 impl<L: Layer> Layer for Vec<L> {
     ghost use Rattle.tracing_core_requests.specs.declared.interest.InterestInner.TheVariants.{Never};
     ghost use Rattle.std.specs.Prelude.{Some};
@@ -193,7 +193,9 @@ fn ask_each<L: Layer>(
     ensures same { left context.new ≡ left context.old }
     ensures room { length result.0.passed ≡ length verdicts.passed }
     ensures others { SameBut (numbers_of ⟦<L as Layer>⟧ layers.now) verdicts.passed result.0.passed }
-    ensures kept { (later : List Bool) → AreNumbers (length verdicts.passed) (numbers_of ⟦<L as Layer>⟧ layers.now) → SameOf (numbers_of ⟦<L as Layer>⟧ layers.now) result.0.passed later → KeptByEach ⟦<L as Layer>⟧ layers.now (plain_metadata metadata.now) (view context.old) passes later result.1 }
+    ensures kept { (later : List Bool) → AreNumbers (length verdicts.passed) (numbers_of ⟦<L as Layer>⟧ layers.now) →
+        SameOf (numbers_of ⟦<L as Layer>⟧ layers.now) result.0.passed later →
+        KeptByEach ⟦<L as Layer>⟧ layers.now (plain_metadata metadata.now) (view context.old) passes later result.1 }
 {
     match layers {
         [] => (verdicts, false),
@@ -242,7 +244,10 @@ fn tell_dispatch<L: Layer>(layers: &mut [L], dispatch: &WeakDispatch)
 fn attach<L: Layer>(layers: &mut [L], registry: &mut Registry)
     ensures each { NotifiedEach ⟦<L as Layer>⟧ layers.old (Attached registry.old) layers.new }
     ensures filters { AddsFilters registry.old registry.new }
-    ensures numbers { registry.old.filters + filters_of ⟦<L as Layer>⟧ layers.old ≤ 64 → (registry.new ≡ more_filters (filters_of ⟦<L as Layer>⟧ layers.old) registry.old) × (numbers_of ⟦<L as Layer>⟧ layers.new ≡ numbers_from registry.old.filters (filters_of ⟦<L as Layer>⟧ layers.old)) }
+    ensures numbers { registry.old.filters + filters_of ⟦<L as Layer>⟧ layers.old ≤ 64 →
+        (registry.new ≡ more_filters (filters_of ⟦<L as Layer>⟧ layers.old) registry.old) ×
+        (numbers_of ⟦<L as Layer>⟧ layers.new ≡ numbers_from registry.old.filters
+        (filters_of ⟦<L as Layer>⟧ layers.old)) }
 {
     for layer in layers.iter_mut() {
         layer.on_layer(registry);
@@ -251,7 +256,8 @@ fn attach<L: Layer>(layers: &mut [L], registry: &mut Registry)
 
 fn tell_each<L: Layer>(layers: &mut [L], told: &Told<'_, '_, '_, '_>, context: &mut Context<'_>)
     ensures lent { SameLoan context.old context.new }
-    ensures notified { TellsInTurn ⟦<L as Layer>⟧ (notice told.now) (view context.old) layers.old (left context.new) layers.new }
+    ensures notified { TellsInTurn ⟦<L as Layer>⟧ (notice told.now) (view context.old) layers.old (left context.new)
+        layers.new }
 {
     for layer in layers.iter_mut() {
         told.to(layer, context);

@@ -42,7 +42,8 @@ impl<L: Layer, F: Filter> StackParts<Filtered<L, F>> {
         values: &Record<'_>,
         at: At,
     ) -> Result<(), RequestError>
-        ensures { RecordGives ⟦<F as Filter>⟧ ⟦<L as Layer>⟧ span.now (plain_record values.now) at (plain_stack self.old) result (plain_stack self.new) }
+        ensures { RecordGives ⟦<F as Filter>⟧ ⟦<L as Layer>⟧ span.now (plain_record values.now) at
+            (plain_stack self.old) result (plain_stack self.new) }
     {
         self.registry.record(span)?;
         self.tell_record(span, values, at);
@@ -56,7 +57,8 @@ impl<L: Layer, F: Filter> StackParts<Filtered<L, F>> {
         follows: &Id,
         at: At,
     ) -> Result<(), RequestError>
-        ensures { FollowsGives ⟦<F as Filter>⟧ ⟦<L as Layer>⟧ span.now follows.now at (plain_stack self.old) result (plain_stack self.new) }
+        ensures { FollowsGives ⟦<F as Filter>⟧ ⟦<L as Layer>⟧ span.now follows.now at (plain_stack self.old) result
+            (plain_stack self.new) }
     {
         self.registry.record_follows_from(span, follows)?;
         self.tell_follows(span, follows, at);
@@ -65,7 +67,8 @@ impl<L: Layer, F: Filter> StackParts<Filtered<L, F>> {
 
     // A lane enters a span.
     pub(crate) fn enter(&mut self, span: &Id, at: At) -> Result<(), RequestError>
-        ensures { EnterGives ⟦<F as Filter>⟧ ⟦<L as Layer>⟧ span.now at (plain_stack self.old) result (plain_stack self.new) }
+        ensures { EnterGives ⟦<F as Filter>⟧ ⟦<L as Layer>⟧ span.now at (plain_stack self.old) result
+            (plain_stack self.new) }
     {
         self.registry.enter(span, at.lane)?;
         self.tell_step(SpanStep::Entered, span, at);
@@ -102,7 +105,8 @@ impl<L: Layer, F: Filter> StackParts<Filtered<L, F>> {
 
     // Gives up one handle of a span.
     pub(crate) fn try_close(&mut self, span: Id, at: At) -> bool
-        ensures { CloseGives ⟦<F as Filter>⟧ ⟦<L as Layer>⟧ span at (plain_stack self.old) result (plain_stack self.new) }
+        ensures { CloseGives ⟦<F as Filter>⟧ ⟦<L as Layer>⟧ span at (plain_stack self.old) result
+            (plain_stack self.new) }
     {
         if self.registry.give_up(&span).is_err() {
             return false;
@@ -113,7 +117,9 @@ impl<L: Layer, F: Filter> StackParts<Filtered<L, F>> {
 
     // Which filters pass a new span, and whether one does: nobody is asked where what is kept refuses it.
     fn ask_span(&mut self, metadata: &Metadata<'_>, at: At) -> (FilterMap, bool)
-        ensures asked { AsksUnless ⟦<F as Filter>⟧ ⟦<L as Layer>⟧ (is_refused (plain_stack self.old) (plain_metadata metadata.now)) (plain_metadata metadata.now) at (plain_stack self.old) result.0.passed result.1 }
+        ensures asked { AsksUnless ⟦<F as Filter>⟧ ⟦<L as Layer>⟧
+            (is_refused (plain_stack self.old) (plain_metadata metadata.now)) (plain_metadata metadata.now) at
+            (plain_stack self.old) result.0.passed result.1 }
         ensures same { plain_stack self.new ≡ plain_stack self.old }
     {
         if self.refuses(metadata) {
@@ -130,7 +136,8 @@ impl<L: Layer, F: Filter> StackParts<Filtered<L, F>> {
         at: At,
         verdicts: FilterMap,
     ) -> Result<Option<Id>, RequestError>
-        ensures { MakesSpan ⟦<F as Filter>⟧ ⟦<L as Layer>⟧ (plain_attributes attributes.now) at verdicts.passed (plain_stack self.old) result (plain_stack self.new) }
+        ensures { MakesSpan ⟦<F as Filter>⟧ ⟦<L as Layer>⟧ (plain_attributes attributes.now) at verdicts.passed
+            (plain_stack self.old) result (plain_stack self.new) }
     {
         let span = self.registry.new_span(attributes, at.lane, verdicts)?;
         self.tell_new_span(attributes, &span, at);
@@ -143,7 +150,8 @@ impl<L: Layer, F: Filter> StackParts<Filtered<L, F>> {
         attributes: &Attributes<'_, '_>,
         at: At,
     ) -> Result<Option<Id>, RequestError>
-        ensures { SpanCached ⟦<F as Filter>⟧ ⟦<L as Layer>⟧ (plain_attributes attributes.now) at (plain_stack self.old) result (plain_stack self.new) }
+        ensures { SpanCached ⟦<F as Filter>⟧ ⟦<L as Layer>⟧ (plain_attributes attributes.now) at
+            (plain_stack self.old) result (plain_stack self.new) }
     {
         if !self.knows(attributes.parent()) {
             return Err(RequestError::UnknownParent);

@@ -33,7 +33,8 @@ impl<L: Layer, F: Filter> StackParts<Filtered<L, F>> {
 
     // The two filters change places, and all is asked anew.
     pub(crate) fn swap_filter(&mut self, place: usize, filter: &mut F) -> Result<(), UnknownOutput>
-        ensures { SwapGives ⟦<F as Filter>⟧ place filter.old (plain_stack self.old) result filter.new (plain_stack self.new) }
+        ensures { SwapGives ⟦<F as Filter>⟧ place filter.old (plain_stack self.old) result filter.new
+            (plain_stack self.new) }
     {
         if place >= self.rows.len() {
             return Err(UnknownOutput(()));

@@ -18,44 +18,52 @@ use tracing_core_requests::{At, Attributes, Event, Record, WeakDispatch};
 impl<L: Layer, F: Filter> StackParts<Filtered<L, F>> {
     // Asks the outputs' own filters of the event, and marks what they answer.
     pub(super) fn ask_event(&mut self, event: &Event<'_, '_>, at: At)
-        ensures { RowsBecome (AsksEvent ⟦<F as Filter>⟧ (plain_event event.now) at (plain_stack self.old).registry) (plain_stack self.old) (plain_stack self.new) }
+        ensures { RowsBecome (AsksEvent ⟦<F as Filter>⟧ (plain_event event.now) at (plain_stack self.old).registry)
+            (plain_stack self.old) (plain_stack self.new) }
     {
         ask_event(&mut self.rows, event, &mut self.registry, at);
     }
 
     // Tells each output whose filter passes it.
     pub(super) fn tell_event(&mut self, event: &Event<'_, '_>, at: At)
-        ensures { RowsInTurn (TellsEvent ⟦<L as Layer>⟧ (plain_event event.now) at) (plain_stack self.old) (plain_stack self.new) }
+        ensures { RowsInTurn (TellsEvent ⟦<L as Layer>⟧ (plain_event event.now) at) (plain_stack self.old)
+            (plain_stack self.new) }
     {
         tell_event(&mut self.rows, event, &mut self.registry, at);
     }
 
     pub(super) fn tell_new_span(&mut self, attributes: &Attributes<'_, '_>, span: &Id, at: At)
-        ensures { RowsInTurn (TellsMade ⟦<F as Filter>⟧ ⟦<L as Layer>⟧ (SpanMade (plain_attributes attributes.now) span.now) span.now at) (plain_stack self.old) (plain_stack self.new) }
+        ensures { RowsInTurn (TellsMade ⟦<F as Filter>⟧ ⟦<L as Layer>⟧
+            (SpanMade (plain_attributes attributes.now) span.now) span.now at) (plain_stack self.old)
+            (plain_stack self.new) }
     {
         tell_new_span(&mut self.rows, attributes, span, &mut self.registry, at);
     }
 
     pub(super) fn tell_record(&mut self, span: &Id, values: &Record<'_>, at: At)
-        ensures { RowsInTurn (TellsSpan ⟦<F as Filter>⟧ ⟦<L as Layer>⟧ (Recorded span.now (plain_record values.now)) span.now at) (plain_stack self.old) (plain_stack self.new) }
+        ensures { RowsInTurn (TellsSpan ⟦<F as Filter>⟧ ⟦<L as Layer>⟧ (Recorded span.now (plain_record values.now))
+            span.now at) (plain_stack self.old) (plain_stack self.new) }
     {
         tell_record(&mut self.rows, span, values, &mut self.registry, at);
     }
 
     pub(super) fn tell_follows(&mut self, span: &Id, follows: &Id, at: At)
-        ensures { RowsInTurn (TellsFollows ⟦<F as Filter>⟧ ⟦<L as Layer>⟧ span.now follows.now at) (plain_stack self.old) (plain_stack self.new) }
+        ensures { RowsInTurn (TellsFollows ⟦<F as Filter>⟧ ⟦<L as Layer>⟧ span.now follows.now at)
+            (plain_stack self.old) (plain_stack self.new) }
     {
         tell_follows(&mut self.rows, span, follows, &mut self.registry, at);
     }
 
     pub(super) fn tell_step(&mut self, step: SpanStep, span: &Id, at: At)
-        ensures { RowsInTurn (TellsSpan ⟦<F as Filter>⟧ ⟦<L as Layer>⟧ (hook_of step span.now) span.now at) (plain_stack self.old) (plain_stack self.new) }
+        ensures { RowsInTurn (TellsSpan ⟦<F as Filter>⟧ ⟦<L as Layer>⟧ (hook_of step span.now) span.now at)
+            (plain_stack self.old) (plain_stack self.new) }
     {
         tell_step(&mut self.rows, step, span, &mut self.registry, at);
     }
 
     pub(crate) fn tell_dispatch(&mut self, dispatch: &WeakDispatch)
-        ensures { RowsBecome (TellsDispatch ⟦<F as Filter>⟧ ⟦<L as Layer>⟧ dispatch.now) (plain_stack self.old) (plain_stack self.new) }
+        ensures { RowsBecome (TellsDispatch ⟦<F as Filter>⟧ ⟦<L as Layer>⟧ dispatch.now) (plain_stack self.old)
+            (plain_stack self.new) }
     {
         tell_dispatch(&mut self.rows, dispatch);
     }

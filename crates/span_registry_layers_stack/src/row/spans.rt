@@ -45,7 +45,8 @@ impl<L: Layer, F: Filter> Row<Filtered<L, F>> {
         registry: &mut Registry,
         at: At,
     )
-        ensures { Hears ⟦<F as Filter>⟧ ⟦<L as Layer>⟧ span.now (SpanMade (plain_attributes attributes.now) span.now) (view_of at registry.old self.old) self.old registry.new self.new }
+        ensures { Hears ⟦<F as Filter>⟧ ⟦<L as Layer>⟧ span.now (SpanMade (plain_attributes attributes.now) span.now)
+            (view_of at registry.old self.old) self.old registry.new self.new }
     {
         let mut context = Context::new(registry, at, Some(self.id));
         self.output
@@ -64,7 +65,8 @@ impl<L: Layer, F: Filter> Row<Filtered<L, F>> {
         registry: &mut Registry,
         at: At,
     )
-        ensures { TellsMade ⟦<F as Filter>⟧ ⟦<L as Layer>⟧ (SpanMade (plain_attributes attributes.now) span.now) span.now at registry.old self.old registry.new self.new }
+        ensures { TellsMade ⟦<F as Filter>⟧ ⟦<L as Layer>⟧ (SpanMade (plain_attributes attributes.now) span.now)
+            span.now at registry.old self.old registry.new self.new }
     {
         let sees = self.sees(span, registry);
         self.passed = sees;
@@ -75,7 +77,8 @@ impl<L: Layer, F: Filter> Row<Filtered<L, F>> {
     }
 
     fn hear_record(&mut self, span: &Id, values: &Record<'_>, registry: &mut Registry, at: At)
-        ensures { Hears ⟦<F as Filter>⟧ ⟦<L as Layer>⟧ span.now (Recorded span.now (plain_record values.now)) (view_of at registry.old self.old) self.old registry.new self.new }
+        ensures { Hears ⟦<F as Filter>⟧ ⟦<L as Layer>⟧ span.now (Recorded span.now (plain_record values.now))
+            (view_of at registry.old self.old) self.old registry.new self.new }
     {
         let mut context = Context::new(registry, at, Some(self.id));
         self.output.filter_mut().on_record(span, values, &context);
@@ -86,7 +89,8 @@ impl<L: Layer, F: Filter> Row<Filtered<L, F>> {
 
     // Values were recorded on a span.
     pub(crate) fn record(&mut self, span: &Id, values: &Record<'_>, registry: &mut Registry, at: At)
-        ensures { TellsSpan ⟦<F as Filter>⟧ ⟦<L as Layer>⟧ (Recorded span.now (plain_record values.now)) span.now at registry.old self.old registry.new self.new }
+        ensures { TellsSpan ⟦<F as Filter>⟧ ⟦<L as Layer>⟧ (Recorded span.now (plain_record values.now)) span.now at
+            registry.old self.old registry.new self.new }
     {
         if self.sees(span, registry) {
             self.hear_record(span, values, registry, at);
@@ -94,7 +98,8 @@ impl<L: Layer, F: Filter> Row<Filtered<L, F>> {
     }
 
     fn hear_follows(&mut self, span: &Id, follows: &Id, registry: &mut Registry, at: At)
-        ensures notified { L.told self.old.output.layer (Followed span.now follows.now (view_of at registry.old self.old) registry.new) self.new.output.layer }
+        ensures notified { L.told self.old.output.layer
+            (Followed span.now follows.now (view_of at registry.old self.old) registry.new) self.new.output.layer }
         ensures rest { self.new ≡ with_layer self.new.output.layer self.old }
     {
         let mut context = Context::new(registry, at, Some(self.id));
@@ -111,7 +116,8 @@ impl<L: Layer, F: Filter> Row<Filtered<L, F>> {
 
     // A span was said to follow from another one: a filter isn't told of that.
     pub(crate) fn follows_from(&mut self, span: &Id, follows: &Id, registry: &mut Registry, at: At)
-        ensures { TellsFollows ⟦<F as Filter>⟧ ⟦<L as Layer>⟧ span.now follows.now at registry.old self.old registry.new self.new }
+        ensures { TellsFollows ⟦<F as Filter>⟧ ⟦<L as Layer>⟧ span.now follows.now at registry.old self.old
+            registry.new self.new }
     {
         if self.sees_both(span, follows, registry) {
             self.hear_follows(span, follows, registry, at);
@@ -120,7 +126,8 @@ impl<L: Layer, F: Filter> Row<Filtered<L, F>> {
 
     // Its filter hears of it, and then its layer.
     fn hear_step(&mut self, step: SpanStep, span: &Id, registry: &mut Registry, at: At)
-        ensures { Hears ⟦<F as Filter>⟧ ⟦<L as Layer>⟧ span.now (hook_of step span.now) (view_of at registry.old self.old) self.old registry.new self.new }
+        ensures { Hears ⟦<F as Filter>⟧ ⟦<L as Layer>⟧ span.now (hook_of step span.now)
+            (view_of at registry.old self.old) self.old registry.new self.new }
     {
         let mut context = Context::new(registry, at, Some(self.id));
         match step {
@@ -141,7 +148,8 @@ impl<L: Layer, F: Filter> Row<Filtered<L, F>> {
 
     // A span was entered or left, or closes.
     pub(crate) fn step(&mut self, step: SpanStep, span: &Id, registry: &mut Registry, at: At)
-        ensures { TellsSpan ⟦<F as Filter>⟧ ⟦<L as Layer>⟧ (hook_of step span.now) span.now at registry.old self.old registry.new self.new }
+        ensures { TellsSpan ⟦<F as Filter>⟧ ⟦<L as Layer>⟧ (hook_of step span.now) span.now at registry.old self.old
+            registry.new self.new }
     {
         if self.sees(span, registry) {
             self.hear_step(step, span, registry, at);

@@ -20,7 +20,9 @@ pub(crate) fn tell_new_span<L: Layer, F: Filter>(
     registry: &mut Registry,
     at: At,
 )
-    ensures { EachInTurn (TellsMade ⟦<F as Filter>⟧ ⟦<L as Layer>⟧ (SpanMade (plain_attributes attributes.now) span.now) span.now at) registry.old rows.old registry.new rows.new }
+    ensures { EachInTurn (TellsMade ⟦<F as Filter>⟧ ⟦<L as Layer>⟧
+        (SpanMade (plain_attributes attributes.now) span.now) span.now at) registry.old rows.old registry.new
+        rows.new }
 {
     for row in rows.iter_mut() {
         row.new_span(attributes, span, registry, at);
@@ -35,7 +37,8 @@ pub(crate) fn tell_record<L: Layer, F: Filter>(
     registry: &mut Registry,
     at: At,
 )
-    ensures { EachInTurn (TellsSpan ⟦<F as Filter>⟧ ⟦<L as Layer>⟧ (Recorded span.now (plain_record values.now)) span.now at) registry.old rows.old registry.new rows.new }
+    ensures { EachInTurn (TellsSpan ⟦<F as Filter>⟧ ⟦<L as Layer>⟧ (Recorded span.now (plain_record values.now))
+        span.now at) registry.old rows.old registry.new rows.new }
 {
     for row in rows.iter_mut() {
         row.record(span, values, registry, at);
@@ -50,7 +53,8 @@ pub(crate) fn tell_follows<L: Layer, F: Filter>(
     registry: &mut Registry,
     at: At,
 )
-    ensures { EachInTurn (TellsFollows ⟦<F as Filter>⟧ ⟦<L as Layer>⟧ span.now follows.now at) registry.old rows.old registry.new rows.new }
+    ensures { EachInTurn (TellsFollows ⟦<F as Filter>⟧ ⟦<L as Layer>⟧ span.now follows.now at) registry.old rows.old
+        registry.new rows.new }
 {
     for row in rows.iter_mut() {
         row.follows_from(span, follows, registry, at);
@@ -65,7 +69,8 @@ pub(crate) fn tell_step<L: Layer, F: Filter>(
     registry: &mut Registry,
     at: At,
 )
-    ensures { EachInTurn (TellsSpan ⟦<F as Filter>⟧ ⟦<L as Layer>⟧ (hook_of step span.now) span.now at) registry.old rows.old registry.new rows.new }
+    ensures { EachInTurn (TellsSpan ⟦<F as Filter>⟧ ⟦<L as Layer>⟧ (hook_of step span.now) span.now at) registry.old
+        rows.old registry.new rows.new }
 {
     for row in rows.iter_mut() {
         row.step(step, span, registry, at);

@@ -28,7 +28,8 @@ impl<O> Stack<O> {
 
     /// The output at this place, counted from 0.
     pub fn output(&self, output: usize) -> Option<&O>
-        ensures { option_map (λ read. read.now) result ≡ option_map (λ row. row.output) (slice_get self.now.rows output) }
+        ensures { option_map (λ read. read.now) result
+            ≡ option_map (λ row. row.output) (slice_get self.now.rows output) }
     {
         match self.parts.rows.get(output) {
             None => None,
@@ -36,7 +37,8 @@ impl<O> Stack<O> {
         }
     }
 
-    /// Whether the filter of the output at this place passed the callsite of the last event or new span that was handed over.
+    /// Whether the filter of the output at this place passed the callsite of the last event or new span that
+    /// was handed over.
     pub fn passed(&self, output: usize) -> Option<bool>
         ensures { result ≡ option_map (λ row. row.passed) (slice_get self.now.rows output) }
     {
@@ -46,8 +48,8 @@ impl<O> Stack<O> {
         }
     }
 
-    /// Whether the output at this place was told of the last event or new span that was handed over: its filter passed the
-    /// callsite and, of an event, the event itself.
+    /// Whether the output at this place was told of the last event or new span that was handed over: its
+    /// filter passed the callsite and, of an event, the event itself.
     pub fn told(&self, output: usize) -> Option<bool>
         ensures { result ≡ option_map (λ row. row.told) (slice_get self.now.rows output) }
     {

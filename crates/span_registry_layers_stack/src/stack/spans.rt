@@ -19,8 +19,9 @@ impl<O> Stack<O> {
 }
 
 impl<L: Layer, F: Filter> Stack<Filtered<L, F>> {
-    /// Makes a span where some output's filter passes it, tells each output that does, and answers the span's id, or `None`
-    /// where it is dropped. What each filter said is kept with the span, and decides what later calls on it tell.
+    /// Makes a span where some output's filter passes it, tells each output that does, and answers the span's
+    /// id, or `None` where it is dropped. What each filter said is kept with the span, and decides what later
+    /// calls on it tell.
     ///
     /// # Errors
     ///
@@ -31,9 +32,11 @@ impl<L: Layer, F: Filter> Stack<Filtered<L, F>> {
         attributes: &Attributes<'_, '_>,
         at: At,
     ) -> Result<Option<Id>, RequestError>
-        ensures exact { SpanCached ⟦<F as Filter>⟧ ⟦<L as Layer>⟧ (plain_attributes attributes.now) at self.old result self.new }
+        ensures exact { SpanCached ⟦<F as Filter>⟧ ⟦<L as Layer>⟧ (plain_attributes attributes.now) at self.old result
+            self.new }
         // While what is kept is right, this is asking every filter again, and what is kept stays right.
-        ensures asking { CacheIsValid ⟦<F as Filter>⟧ self.old → SpanAsked ⟦<F as Filter>⟧ ⟦<L as Layer>⟧ (plain_attributes attributes.now) at self.old result self.new }
+        ensures asking { CacheIsValid ⟦<F as Filter>⟧ self.old →
+            SpanAsked ⟦<F as Filter>⟧ ⟦<L as Layer>⟧ (plain_attributes attributes.now) at self.old result self.new }
         ensures kept { CacheIsValid ⟦<F as Filter>⟧ self.old → CacheIsValid ⟦<F as Filter>⟧ self.new }
     {
         self.parts.new_span(attributes, at)
@@ -45,7 +48,8 @@ impl<L: Layer, F: Filter> Stack<Filtered<L, F>> {
     ///
     /// `UnknownSpan` where the span is not open, which leaves the stack as it was.
     pub fn record(&mut self, span: &Id, values: &Record<'_>, at: At) -> Result<(), RequestError>
-        ensures gives { RecordGives ⟦<F as Filter>⟧ ⟦<L as Layer>⟧ span.now (plain_record values.now) at self.old result self.new }
+        ensures gives { RecordGives ⟦<F as Filter>⟧ ⟦<L as Layer>⟧ span.now (plain_record values.now) at self.old
+            result self.new }
         ensures kept { CacheIsValid ⟦<F as Filter>⟧ self.old → CacheIsValid ⟦<F as Filter>⟧ self.new }
     {
         self.parts.record(span, values, at)
@@ -80,8 +84,9 @@ impl<L: Layer, F: Filter> Stack<Filtered<L, F>> {
         self.parts.enter(span, at)
     }
 
-    /// A lane leaves a span: its last entry there goes, where there is one, and the exit is told. Then what nothing keeps open
-    /// closes, each span told once, a child before its parent, to the outputs that see it. It takes no memory.
+    /// A lane leaves a span: its last entry there goes, where there is one, and the exit is told. Then what
+    /// nothing keeps open closes, each span told once, a child before its parent, to the outputs that see it.
+    /// It takes no memory.
     pub fn exit(&mut self, span: &Id, at: At)
         ensures gives { ExitGives ⟦<F as Filter>⟧ ⟦<L as Layer>⟧ span.now at self.old self.new }
         ensures kept { CacheIsValid ⟦<F as Filter>⟧ self.old → CacheIsValid ⟦<F as Filter>⟧ self.new }
@@ -102,8 +107,9 @@ impl<L: Layer, F: Filter> Stack<Filtered<L, F>> {
         self.parts.clone_span(span)
     }
 
-    /// Gives up one handle of a span, where it has one, and answers whether the span closed. What nothing keeps open closes,
-    /// each span told once, a child before its parent, to the outputs that see it. It takes no memory.
+    /// Gives up one handle of a span, where it has one, and answers whether the span closed. What nothing
+    /// keeps open closes, each span told once, a child before its parent, to the outputs that see it. It
+    /// takes no memory.
     pub fn try_close(&mut self, span: Id, at: At) -> bool
         ensures gives { CloseGives ⟦<F as Filter>⟧ ⟦<L as Layer>⟧ span at self.old result self.new }
         ensures kept { CacheIsValid ⟦<F as Filter>⟧ self.old → CacheIsValid ⟦<F as Filter>⟧ self.new }

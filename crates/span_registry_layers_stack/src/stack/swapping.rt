@@ -23,7 +23,8 @@ impl<O> Stack<O> {
     }
 
     fn lend(&mut self, output: usize) -> Option<&mut O>
-        ensures lent { option_map (λ lent. lent.now) result ≡ option_map (λ row. row.output) (slice_get self.old.rows output) }
+        ensures lent { option_map (λ lent. lent.now) result
+            ≡ option_map (λ row. row.output) (slice_get self.old.rows output) }
         ensures* ends { sem 𝓛 (LendsOutput O.row self.entry output result) }
     {
         self.forget();
@@ -35,8 +36,9 @@ impl<O> Stack<O> {
 }
 
 impl<L: Layer, F: Filter> Stack<Filtered<L, F>> {
-    /// The filter of the output at this place, counted from 0, changes places with another one. Verdicts of spans, entries, ids,
-    /// slots and layers stand; the kept interests are forgotten, and the hint is asked anew. It takes no memory.
+    /// The filter of the output at this place, counted from 0, changes places with another one. Verdicts of
+    /// spans, entries, ids, slots and layers stand; the kept interests are forgotten, and the hint is asked
+    /// anew. It takes no memory.
     ///
     /// # Errors
     ///
@@ -46,19 +48,23 @@ impl<L: Layer, F: Filter> Stack<Filtered<L, F>> {
         // Each filter keeps its number.
         ensures numbers { numbers_of ⟦<L as Layer>⟧ self.new.rows ≡ numbers_of ⟦<L as Layer>⟧ self.old.rows }
         // What is kept is right of honest filters.
-        ensures kept { OnOk result (Every (λ f. F.honest f) (filters_of self.new.rows) → CacheIsValid ⟦<F as Filter>⟧ self.new) }
+        ensures kept { OnOk result (Every (λ f. F.honest f) (filters_of self.new.rows) →
+            CacheIsValid ⟦<F as Filter>⟧ self.new) }
     {
         self.hand_filter(output, filter)
     }
 
-    /// Lends the output at this place, counted from 0, for writing. What was kept of answers is forgotten first; interests are kept
-    /// again as callsites are registered, and the hint when it is asked for.
+    /// Lends the output at this place, counted from 0, for writing. What was kept of answers is forgotten
+    /// first; interests are kept again as callsites are registered, and the hint when it is asked for.
     pub fn stack_mut(&mut self, output: usize) -> Option<&mut Filtered<L, F>>
-        ensures lent { option_map (λ lent. lent.now) result ≡ option_map (λ row. row.output) (slice_get self.old.rows output) }
+        ensures lent { option_map (λ lent. lent.now) result
+            ≡ option_map (λ row. row.output) (slice_get self.old.rows output) }
         // What is kept is right of honest filters, whatever the output becomes.
-        ensures kept { (w : Filtered L F) → Every (λ f. F.honest f) (filters_of (put_output output w self.old.rows)) → CacheIsValid ⟦<F as Filter>⟧ (with_rows (put_output output w self.old.rows) (forgotten self.old)) }
+        ensures kept { (w : Filtered L F) → Every (λ f. F.honest f) (filters_of (put_output output w self.old.rows)) →
+            CacheIsValid ⟦<F as Filter>⟧ (with_rows (put_output output w self.old.rows) (forgotten self.old)) }
         // Each filter keeps its number, where those in the output's layer do.
-        ensures numbers { (w : Filtered L F) → IfSome result (λ lent. L.numbers w.layer ≡ L.numbers lent.now.layer) → numbers_of ⟦<L as Layer>⟧ (put_output output w self.old.rows) ≡ numbers_of ⟦<L as Layer>⟧ self.old.rows }
+        ensures numbers { (w : Filtered L F) → IfSome result (λ lent. L.numbers w.layer ≡ L.numbers lent.now.layer) →
+            numbers_of ⟦<L as Layer>⟧ (put_output output w self.old.rows) ≡ numbers_of ⟦<L as Layer>⟧ self.old.rows }
         ensures* ends { sem 𝓛 (LendsFiltered L.row F.row self.entry output result) }
     {
         self.lend(output)

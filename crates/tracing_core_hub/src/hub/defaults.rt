@@ -53,7 +53,8 @@ impl<S, C> Hub<S, C> {
     // Sets the global default, where none was set.
     fn set_global(&mut self, dispatch: &Dispatch) -> Result<(), SetGlobalDefaultError>
         ensures answer { result ≡ or_refused (global_refusal self.old dispatch.now) tt }
-        ensures state { self.new ≡ or_same (global_refusal self.old dispatch.now) self.old (globally self.old dispatch.now) }
+        ensures state { self.new ≡ or_same (global_refusal self.old dispatch.now) self.old
+            (globally self.old dispatch.now) }
     {
         if self.global.is_set() {
             return Err(SetGlobalDefaultError::AlreadySet);
@@ -97,7 +98,8 @@ impl<S, C> Hub<S, C> {
     // Sets the default of a lane that runs.
     fn set_own(&mut self, lane: u64, dispatch: &Dispatch) -> Result<DefaultGuard, SetDefaultError>
         ensures answer { result ≡ or_refused (default_refusal self.old lane dispatch.now) (guard_of self.old lane) }
-        ensures state { self.new ≡ or_same (default_refusal self.old lane dispatch.now) self.old (locally self.old lane dispatch.now) }
+        ensures state { self.new ≡ or_same (default_refusal self.old lane dispatch.now) self.old
+            (locally self.old lane dispatch.now) }
     {
         let Some(Lane::Running(before)) = lane_at(&self.lanes, lane) else {
             return Err(SetDefaultError::UnknownLane);
@@ -152,7 +154,8 @@ impl<S: Subscriber, C: Callsite> Hub<S, C> {
     /// takes no memory.
     pub fn set_global_default(&mut self, dispatch: &Dispatch) -> Result<(), SetGlobalDefaultError>
         ensures answer { result ≡ or_refused (global_refusal self.old dispatch.now) tt }
-        ensures state { self.new ≡ or_same (global_refusal self.old dispatch.now) self.old (globally self.old dispatch.now) }
+        ensures state { self.new ≡ or_same (global_refusal self.old dispatch.now) self.old
+            (globally self.old dispatch.now) }
         ensures keeps { PreservesCaches ⟦<S as Subscriber>⟧ ⟦<C as Callsite>⟧ self.old self.new }
     {
         self.set_global(dispatch)
@@ -166,7 +169,8 @@ impl<S: Subscriber, C: Callsite> Hub<S, C> {
         dispatch: &Dispatch,
     ) -> Result<DefaultGuard, SetDefaultError>
         ensures answer { result ≡ or_refused (default_refusal self.old lane dispatch.now) (guard_of self.old lane) }
-        ensures state { self.new ≡ or_same (default_refusal self.old lane dispatch.now) self.old (locally self.old lane dispatch.now) }
+        ensures state { self.new ≡ or_same (default_refusal self.old lane dispatch.now) self.old
+            (locally self.old lane dispatch.now) }
         ensures keeps { PreservesCaches ⟦<S as Subscriber>⟧ ⟦<C as Callsite>⟧ self.old self.new }
     {
         self.set_own(lane, dispatch)

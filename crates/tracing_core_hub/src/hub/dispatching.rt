@@ -18,7 +18,9 @@ impl<S: Subscriber, C: Callsite> Hub<S, C> {
         values: ValueSet<'_>,
         at: At,
     ) -> Result<(), RequestError>
-        ensures gives { HubGives ⟦<S as Subscriber>⟧ (EventDispatched (plain_request metadata.now values.entry Current) at) (reached self.old at.lane) self.old result self.new }
+        ensures gives { HubGives ⟦<S as Subscriber>⟧ (EventDispatched
+            (plain_request metadata.now values.entry Current) at) (reached self.old at.lane) self.old result
+            self.new }
         ensures keeps { PreservesCaches ⟦<S as Subscriber>⟧ ⟦<C as Callsite>⟧ self.old self.new }
     {
         self.event_here(&Event::new(metadata, values), at)
@@ -33,7 +35,9 @@ impl<S: Subscriber, C: Callsite> Hub<S, C> {
         values: ValueSet<'_>,
         at: At,
     ) -> Result<(), RequestError>
-        ensures gives { HubGives ⟦<S as Subscriber>⟧ (EventDispatched (plain_request metadata.now values.entry (child_or_root parent)) at) (reached self.old at.lane) self.old result self.new }
+        ensures gives { HubGives ⟦<S as Subscriber>⟧ (EventDispatched
+            (plain_request metadata.now values.entry (child_or_root parent)) at) (reached self.old at.lane) self.old
+            result self.new }
         ensures keeps { PreservesCaches ⟦<S as Subscriber>⟧ ⟦<C as Callsite>⟧ self.old self.new }
     {
         self.event_here(&Event::new_child_of(parent, metadata, values), at)

@@ -9,8 +9,9 @@ use crate::refusal::HandleError;
 
 // The place of the subscriber of the number.
 pub(crate) fn place_of<S>(entries: &[RegisteredSubscriber<S>], serial: u64) -> Option<usize>
-    ensures { MatchOption result (AllWithin (λ e. is_of serial e ≡ false) entries.now 0 (length entries.now))
-        (λ i. (i < length entries.now) × HoldsAt (λ e. is_of serial e ≡ true) entries.now i × AllWithin (λ e. is_of serial e ≡ false) entries.now 0 i) }
+    ensures { MatchOption result (AllWithin (λ e. is_of serial e ≡ false) entries.now 0 (length entries.now)) (λ i.
+        (i < length entries.now) × HoldsAt (λ e. is_of serial e ≡ true) entries.now i ×
+        AllWithin (λ e. is_of serial e ≡ false) entries.now 0 i) }
 {
     let mut place = 0;
     for entry in entries {

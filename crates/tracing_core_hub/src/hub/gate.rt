@@ -75,7 +75,10 @@ impl<S: Subscriber, C: Callsite> Hub<S, C> {
     pub fn gate(&mut self, identifier: Identifier, at: At) -> Option<bool>
         ensures answer { GateGives ⟦<S as Subscriber>⟧ ⟦<C as Callsite>⟧ self.old identifier.0 at result self.new }
         // Where what is kept is right of the reached subscriber, this is what asking it answers.
-        ensures asking { (row : RegisteredCallsite C) (e : RegisteredSubscriber S) (b : Bool) → row_of identifier.0 self.old.rows ≡ Some row → reached self.old at.lane ≡ Some e.serial → HasValidCache ⟦<S as Subscriber>⟧ ⟦<C as Callsite>⟧ self.old e → S.answers e.subscriber (C.metadata_of row.callsite) at b → result ≡ Some b }
+        ensures asking { (row : RegisteredCallsite C) (e : RegisteredSubscriber S) (b : Bool) →
+            row_of identifier.0 self.old.rows ≡ Some row → reached self.old at.lane ≡ Some e.serial →
+            HasValidCache ⟦<S as Subscriber>⟧ ⟦<C as Callsite>⟧ self.old e →
+            S.answers e.subscriber (C.metadata_of row.callsite) at b → result ≡ Some b }
         ensures keeps { PreservesCaches ⟦<S as Subscriber>⟧ ⟦<C as Callsite>⟧ self.old self.new }
     {
         self.look(identifier, at)

@@ -16,7 +16,8 @@ pub(crate) fn new_span_at<S: Subscriber>(
     attributes: &Attributes<'_, '_>,
     at: At,
 ) -> Result<Option<Id>, RequestError>
-    ensures { CallGives ⟦<S as Subscriber>⟧ (SpanMade (plain_attributes attributes.now) at) serial entries.old result entries.new }
+    ensures { CallGives ⟦<S as Subscriber>⟧ (SpanMade (plain_attributes attributes.now) at) serial entries.old result
+        entries.new }
 {
     let place = place_or_end(entries, serial);
     if place < entries.len() {
@@ -33,7 +34,8 @@ pub(crate) fn record_at<S: Subscriber>(
     values: &Record<'_>,
     at: At,
 ) -> Result<(), RequestError>
-    ensures { CallGives ⟦<S as Subscriber>⟧ (Recorded span.now (plain_record values.now) at) serial entries.old result entries.new }
+    ensures { CallGives ⟦<S as Subscriber>⟧ (Recorded span.now (plain_record values.now) at) serial entries.old result
+        entries.new }
 {
     let place = place_or_end(entries, serial);
     if place < entries.len() {
@@ -50,7 +52,8 @@ pub(crate) fn record_follows_from_at<S: Subscriber>(
     follows: &Id,
     at: At,
 ) -> Result<(), RequestError>
-    ensures { CallGives ⟦<S as Subscriber>⟧ (FollowsRecorded span.now follows.now at) serial entries.old result entries.new }
+    ensures { CallGives ⟦<S as Subscriber>⟧ (FollowsRecorded span.now follows.now at) serial entries.old result
+        entries.new }
 {
     let place = place_or_end(entries, serial);
     if place < entries.len() {
@@ -68,7 +71,8 @@ pub(crate) fn event_enabled_at<S: Subscriber>(
     event: &Event<'_, '_>,
     at: At,
 ) -> bool
-    ensures { CallGives ⟦<S as Subscriber>⟧ (EventAsked (plain_event event.now) at) serial entries.old result entries.new }
+    ensures { CallGives ⟦<S as Subscriber>⟧ (EventAsked (plain_event event.now) at) serial entries.old result
+        entries.new }
 {
     let place = place_or_end(entries, serial);
     if place < entries.len() {
@@ -84,7 +88,8 @@ pub(crate) fn event_at<S: Subscriber>(
     event: &Event<'_, '_>,
     at: At,
 ) -> Result<(), RequestError>
-    ensures { CallGives ⟦<S as Subscriber>⟧ (EventDispatched (plain_event event.now) at) serial entries.old result entries.new }
+    ensures { CallGives ⟦<S as Subscriber>⟧ (EventDispatched (plain_event event.now) at) serial entries.old result
+        entries.new }
 {
     let place = place_or_end(entries, serial);
     if place < entries.len() {

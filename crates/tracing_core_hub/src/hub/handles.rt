@@ -23,7 +23,8 @@ impl<S, C> Hub<S, C> {
     // One handle more.
     fn take_another(&mut self, dispatch: &Dispatch) -> Result<Dispatch, HandleError>
         ensures answer { result ≡ or_refused (hold_refusal dispatch.now self.old.entries) dispatch.now }
-        ensures state { self.new ≡ or_same (hold_refusal dispatch.now self.old.entries) self.old (holding self.old dispatch.now) }
+        ensures state { self.new ≡ or_same (hold_refusal dispatch.now self.old.entries) self.old
+            (holding self.old dispatch.now) }
     {
         take_handle(&mut self.entries, dispatch.serial())?;
         Ok(Dispatch::new(dispatch.serial()))
@@ -39,7 +40,8 @@ impl<S, C> Hub<S, C> {
     // One handle more, where the subscriber lives.
     fn revive(&mut self, dispatch: &WeakDispatch) -> Result<Option<Dispatch>, TooManyHandles>
         ensures answer { result ≡ upgrade_answer dispatch.now (hold_refusal dispatch.now self.old.entries) }
-        ensures state { self.new ≡ or_same (hold_refusal dispatch.now self.old.entries) self.old (holding self.old dispatch.now) }
+        ensures state { self.new ≡ or_same (hold_refusal dispatch.now self.old.entries) self.old
+            (holding self.old dispatch.now) }
     {
         match take_handle(&mut self.entries, serial_of(dispatch)) {
             Ok(()) => Ok(Some(Dispatch::new(serial_of(dispatch)))),
@@ -61,7 +63,8 @@ impl<S: Subscriber, C: Callsite> Hub<S, C> {
     /// Another handle to the same subscriber. It takes no memory.
     pub fn clone(&mut self, dispatch: &Dispatch) -> Result<Dispatch, HandleError>
         ensures answer { result ≡ or_refused (hold_refusal dispatch.now self.old.entries) dispatch.now }
-        ensures state { self.new ≡ or_same (hold_refusal dispatch.now self.old.entries) self.old (holding self.old dispatch.now) }
+        ensures state { self.new ≡ or_same (hold_refusal dispatch.now self.old.entries) self.old
+            (holding self.old dispatch.now) }
         ensures keeps { PreservesCaches ⟦<S as Subscriber>⟧ ⟦<C as Callsite>⟧ self.old self.new }
     {
         self.take_another(dispatch)
@@ -70,7 +73,8 @@ impl<S: Subscriber, C: Callsite> Hub<S, C> {
     /// A handle that keeps the subscriber, or `None` where it was released. It takes no memory.
     pub fn upgrade(&mut self, dispatch: &WeakDispatch) -> Result<Option<Dispatch>, TooManyHandles>
         ensures answer { result ≡ upgrade_answer dispatch.now (hold_refusal dispatch.now self.old.entries) }
-        ensures state { self.new ≡ or_same (hold_refusal dispatch.now self.old.entries) self.old (holding self.old dispatch.now) }
+        ensures state { self.new ≡ or_same (hold_refusal dispatch.now self.old.entries) self.old
+            (holding self.old dispatch.now) }
         ensures keeps { PreservesCaches ⟦<S as Subscriber>⟧ ⟦<C as Callsite>⟧ self.old self.new }
     {
         self.revive(dispatch)

@@ -17,7 +17,8 @@ use tracing_core_requests::{Callsite, Subscriber};
 impl<S, C> Hub<S, C> {
     /// The subscriber that the handle leads to.
     pub fn subscriber(&self, dispatch: &Dispatch) -> Option<&S>
-        ensures { option_map (λ subscriber. subscriber.now) result ≡ option_map (λ entry. entry.subscriber) (living_of dispatch.now self.now.entries) }
+        ensures { option_map (λ subscriber. subscriber.now) result
+            ≡ option_map (λ entry. entry.subscriber) (living_of dispatch.now self.now.entries) }
     {
         let place = place_or_end(&self.entries, dispatch.serial());
         match self.entries.get(place) {
@@ -28,7 +29,8 @@ impl<S, C> Hub<S, C> {
 
     // Lends the subscriber, and marks it.
     fn lend(&mut self, dispatch: &Dispatch) -> Option<&mut S>
-        ensures lent { option_map (λ subscriber. subscriber.now) result ≡ option_map (λ entry. entry.subscriber) (living_of dispatch.now self.old.entries) }
+        ensures lent { option_map (λ subscriber. subscriber.now) result
+            ≡ option_map (λ entry. entry.subscriber) (living_of dispatch.now self.old.entries) }
         ensures* ends { sem 𝓛 (LendsSubscriber S.row C.row self.entry dispatch.now result) }
     {
         let place = place_to_lend(&self.entries, dispatch.serial());
@@ -46,9 +48,11 @@ impl<S: Subscriber, C: Callsite> Hub<S, C> {
     /// Lends the subscriber that the handle leads to for writing, and marks it as lent: what is kept of it
     /// counts for nothing until the next rebuild.
     pub fn subscriber_mut(&mut self, dispatch: &Dispatch) -> Option<&mut S>
-        ensures lent { option_map (λ subscriber. subscriber.now) result ≡ option_map (λ entry. entry.subscriber) (living_of dispatch.now self.old.entries) }
+        ensures lent { option_map (λ subscriber. subscriber.now) result
+            ≡ option_map (λ entry. entry.subscriber) (living_of dispatch.now self.old.entries) }
         // What is kept stays right of the others, whatever the lent one becomes.
-        ensures others { (w : S) → PreservesUnlentCaches ⟦<S as Subscriber>⟧ ⟦<C as Callsite>⟧ self.old (record self.old { entries = lent_to dispatch.now w self.old.entries }) }
+        ensures others { (w : S) → PreservesUnlentCaches ⟦<S as Subscriber>⟧ ⟦<C as Callsite>⟧ self.old
+            (record self.old { entries = lent_to dispatch.now w self.old.entries }) }
         ensures* ends { sem 𝓛 (LendsSubscriber S.row C.row self.entry dispatch.now result) }
     {
         self.lend(dispatch)

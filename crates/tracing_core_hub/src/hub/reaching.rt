@@ -22,8 +22,10 @@ fn register_callsite_at<S: Subscriber>(
     serial: Option<u64>,
     metadata: &Metadata<'_>,
 ) -> Interest
-    ensures answer { (e : RegisteredSubscriber S) → living_of serial entries.old ≡ Some e → S.says e.subscriber (plain_metadata metadata.now) result }
-    ensures handed { CallGives ⟦<S as Subscriber>⟧ (CallsiteRegistered (plain_metadata metadata.now)) serial entries.old result entries.new }
+    ensures answer { (e : RegisteredSubscriber S) → living_of serial entries.old ≡ Some e →
+        S.says e.subscriber (plain_metadata metadata.now) result }
+    ensures handed { CallGives ⟦<S as Subscriber>⟧ (CallsiteRegistered (plain_metadata metadata.now)) serial
+        entries.old result entries.new }
 {
     let place = place_or_end(entries, serial);
     if place < entries.len() {
@@ -46,8 +48,10 @@ impl<S: Subscriber, C: Callsite> Hub<S, C> {
     /// Asks the subscriber of the handle for its interest in a callsite, which is never where there is
     /// none. What is kept of callsites stays.
     pub fn register_callsite(&mut self, dispatch: &Dispatch, metadata: &Metadata<'_>) -> Interest
-        ensures answer { (e : RegisteredSubscriber S) → living_of dispatch.now self.old.entries ≡ Some e → S.says e.subscriber (plain_metadata metadata.now) result }
-        ensures handed { HubGives ⟦<S as Subscriber>⟧ (CallsiteRegistered (plain_metadata metadata.now)) dispatch.now self.old result self.new }
+        ensures answer { (e : RegisteredSubscriber S) → living_of dispatch.now self.old.entries ≡ Some e →
+            S.says e.subscriber (plain_metadata metadata.now) result }
+        ensures handed { HubGives ⟦<S as Subscriber>⟧ (CallsiteRegistered (plain_metadata metadata.now)) dispatch.now
+            self.old result self.new }
         ensures keeps { PreservesCaches ⟦<S as Subscriber>⟧ ⟦<C as Callsite>⟧ self.old self.new }
     {
         register_callsite_at(&mut self.entries, dispatch.serial(), metadata)
@@ -56,7 +60,8 @@ impl<S: Subscriber, C: Callsite> Hub<S, C> {
     /// Whether the subscriber that the lane reaches wants a span or an event of the callsite. It is asked
     /// in any case; [`Hub::gate`] asks only where what is kept doesn't tell.
     pub fn enabled_here(&mut self, metadata: &Metadata<'_>, at: At) -> bool
-        ensures asked { AskGives ⟦<S as Subscriber>⟧ (plain_metadata metadata.now) at (reached self.old at.lane) self.old.entries result self.new.entries }
+        ensures asked { AskGives ⟦<S as Subscriber>⟧ (plain_metadata metadata.now) at (reached self.old at.lane)
+            self.old.entries result self.new.entries }
         ensures rest { self.new ≡ record self.old { entries = self.new.entries } }
         ensures keeps { PreservesCaches ⟦<S as Subscriber>⟧ ⟦<C as Callsite>⟧ self.old self.new }
     {
@@ -66,7 +71,8 @@ impl<S: Subscriber, C: Callsite> Hub<S, C> {
 
     /// Hands an event to the subscriber that the lane reaches.
     pub fn event_here(&mut self, event: &Event<'_, '_>, at: At) -> Result<(), RequestError>
-        ensures gives { HubGives ⟦<S as Subscriber>⟧ (EventDispatched (plain_event event.now) at) (reached self.old at.lane) self.old result self.new }
+        ensures gives { HubGives ⟦<S as Subscriber>⟧ (EventDispatched (plain_event event.now) at)
+            (reached self.old at.lane) self.old result self.new }
         ensures keeps { PreservesCaches ⟦<S as Subscriber>⟧ ⟦<C as Callsite>⟧ self.old self.new }
     {
         let dispatch = self.reached_handle(at.lane);
@@ -79,7 +85,8 @@ impl<S: Subscriber, C: Callsite> Hub<S, C> {
         attributes: &Attributes<'_, '_>,
         at: At,
     ) -> Result<Option<Id>, RequestError>
-        ensures gives { HubGives ⟦<S as Subscriber>⟧ (SpanMade (plain_attributes attributes.now) at) (reached self.old at.lane) self.old result self.new }
+        ensures gives { HubGives ⟦<S as Subscriber>⟧ (SpanMade (plain_attributes attributes.now) at)
+            (reached self.old at.lane) self.old result self.new }
         ensures keeps { PreservesCaches ⟦<S as Subscriber>⟧ ⟦<C as Callsite>⟧ self.old self.new }
     {
         let dispatch = self.reached_handle(at.lane);
@@ -88,7 +95,8 @@ impl<S: Subscriber, C: Callsite> Hub<S, C> {
 
     /// The span that the lane is in, for the subscriber that it reaches.
     pub fn current_span_here(&mut self, at: At) -> CurrentSpan
-        ensures gives { HubGives ⟦<S as Subscriber>⟧ (CurrentAsked at) (reached self.old at.lane) self.old result self.new }
+        ensures gives { HubGives ⟦<S as Subscriber>⟧ (CurrentAsked at) (reached self.old at.lane) self.old result
+            self.new }
         ensures keeps { PreservesCaches ⟦<S as Subscriber>⟧ ⟦<C as Callsite>⟧ self.old self.new }
     {
         let dispatch = self.reached_handle(at.lane);

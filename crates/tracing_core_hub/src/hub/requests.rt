@@ -22,7 +22,8 @@ use tracing_core_requests::{
 impl<S: Subscriber, C: Callsite> Hub<S, C> {
     /// Whether the subscriber of the handle wants a span or an event of the callsite.
     pub fn enabled(&mut self, dispatch: &Dispatch, metadata: &Metadata<'_>, at: At) -> bool
-        ensures asked { AskGives ⟦<S as Subscriber>⟧ (plain_metadata metadata.now) at dispatch.now self.old.entries result self.new.entries }
+        ensures asked { AskGives ⟦<S as Subscriber>⟧ (plain_metadata metadata.now) at dispatch.now self.old.entries
+            result self.new.entries }
         ensures rest { self.new ≡ record self.old { entries = self.new.entries } }
         ensures keeps { PreservesCaches ⟦<S as Subscriber>⟧ ⟦<C as Callsite>⟧ self.old self.new }
     {
@@ -36,7 +37,8 @@ impl<S: Subscriber, C: Callsite> Hub<S, C> {
         attributes: &Attributes<'_, '_>,
         at: At,
     ) -> Result<Option<Id>, RequestError>
-        ensures gives { HubGives ⟦<S as Subscriber>⟧ (SpanMade (plain_attributes attributes.now) at) dispatch.now self.old result self.new }
+        ensures gives { HubGives ⟦<S as Subscriber>⟧ (SpanMade (plain_attributes attributes.now) at) dispatch.now
+            self.old result self.new }
         ensures keeps { PreservesCaches ⟦<S as Subscriber>⟧ ⟦<C as Callsite>⟧ self.old self.new }
     {
         new_span_at(&mut self.entries, dispatch.serial(), attributes, at)
@@ -50,7 +52,8 @@ impl<S: Subscriber, C: Callsite> Hub<S, C> {
         values: &Record<'_>,
         at: At,
     ) -> Result<(), RequestError>
-        ensures gives { HubGives ⟦<S as Subscriber>⟧ (Recorded span.now (plain_record values.now) at) dispatch.now self.old result self.new }
+        ensures gives { HubGives ⟦<S as Subscriber>⟧ (Recorded span.now (plain_record values.now) at) dispatch.now
+            self.old result self.new }
         ensures keeps { PreservesCaches ⟦<S as Subscriber>⟧ ⟦<C as Callsite>⟧ self.old self.new }
     {
         record_at(&mut self.entries, dispatch.serial(), span, values, at)
@@ -64,7 +67,8 @@ impl<S: Subscriber, C: Callsite> Hub<S, C> {
         follows: &Id,
         at: At,
     ) -> Result<(), RequestError>
-        ensures gives { HubGives ⟦<S as Subscriber>⟧ (FollowsRecorded span.now follows.now at) dispatch.now self.old result self.new }
+        ensures gives { HubGives ⟦<S as Subscriber>⟧ (FollowsRecorded span.now follows.now at) dispatch.now self.old
+            result self.new }
         ensures keeps { PreservesCaches ⟦<S as Subscriber>⟧ ⟦<C as Callsite>⟧ self.old self.new }
     {
         record_follows_from_at(&mut self.entries, dispatch.serial(), span, follows, at)
@@ -72,7 +76,8 @@ impl<S: Subscriber, C: Callsite> Hub<S, C> {
 
     /// Whether the subscriber of the handle wants the event, whose callsite is enabled.
     pub fn event_enabled(&mut self, dispatch: &Dispatch, event: &Event<'_, '_>, at: At) -> bool
-        ensures gives { HubGives ⟦<S as Subscriber>⟧ (EventAsked (plain_event event.now) at) dispatch.now self.old result self.new }
+        ensures gives { HubGives ⟦<S as Subscriber>⟧ (EventAsked (plain_event event.now) at) dispatch.now self.old
+            result self.new }
         ensures keeps { PreservesCaches ⟦<S as Subscriber>⟧ ⟦<C as Callsite>⟧ self.old self.new }
     {
         event_enabled_at(&mut self.entries, dispatch.serial(), event, at)
@@ -85,7 +90,8 @@ impl<S: Subscriber, C: Callsite> Hub<S, C> {
         event: &Event<'_, '_>,
         at: At,
     ) -> Result<(), RequestError>
-        ensures gives { HubGives ⟦<S as Subscriber>⟧ (EventDispatched (plain_event event.now) at) dispatch.now self.old result self.new }
+        ensures gives { HubGives ⟦<S as Subscriber>⟧ (EventDispatched (plain_event event.now) at) dispatch.now
+            self.old result self.new }
         ensures keeps { PreservesCaches ⟦<S as Subscriber>⟧ ⟦<C as Callsite>⟧ self.old self.new }
     {
         event_at(&mut self.entries, dispatch.serial(), event, at)

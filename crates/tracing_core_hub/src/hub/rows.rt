@@ -77,7 +77,8 @@ impl<C: Callsite> RegisteredCallsite<C> {
 
     // The kept interest, where the metadata is this.
     pub(crate) fn interest_where(&self, metadata: &Metadata<'_>) -> Option<Interest>
-        ensures { result ≡ (if is_same_metadata (C.metadata_of self.now.callsite) (plain_metadata metadata.now) then Some self.now.interest else None) }
+        ensures { result ≡ (if is_same_metadata (C.metadata_of self.now.callsite) (plain_metadata metadata.now) then
+            Some self.now.interest else None) }
     {
         let own = self.callsite.metadata();
         if own == *metadata {
@@ -95,7 +96,8 @@ impl<C: Callsite> RegisteredCallsite<C> {
         greatest: LevelFilter,
         at: At,
     ) -> bool
-        ensures { AnswerGives ⟦<S as Subscriber>⟧ ⟦<C as Callsite>⟧ self.now at (known greatest self.now.level self.now.interest) serial entries.old result entries.new }
+        ensures { AnswerGives ⟦<S as Subscriber>⟧ ⟦<C as Callsite>⟧ self.now at
+            (known greatest self.now.level self.now.interest) serial entries.old result entries.new }
     {
         if serial.is_none() {
             return false;

@@ -85,8 +85,10 @@ impl<S: Subscriber, C: Callsite> Hub<S, C> {
         requires { F.IsAlwaysCallable f }
         ensures gives { DefaultGives F.FnOnce f self.old lane result self.new }
         // What each call of f leaves of what is kept, this does.
-        ensures keeps { CallsLeave F.FnOnce f (PreservesCaches ⟦<S as Subscriber>⟧ ⟦<C as Callsite>⟧) → PreservesCaches ⟦<S as Subscriber>⟧ ⟦<C as Callsite>⟧ self.old self.new }
-        ensures living { CallsLeave F.FnOnce f (PreservesLivingCaches ⟦<S as Subscriber>⟧ ⟦<C as Callsite>⟧) → PreservesLivingCaches ⟦<S as Subscriber>⟧ ⟦<C as Callsite>⟧ self.old self.new }
+        ensures keeps { CallsLeave F.FnOnce f (PreservesCaches ⟦<S as Subscriber>⟧ ⟦<C as Callsite>⟧) →
+            PreservesCaches ⟦<S as Subscriber>⟧ ⟦<C as Callsite>⟧ self.old self.new }
+        ensures living { CallsLeave F.FnOnce f (PreservesLivingCaches ⟦<S as Subscriber>⟧ ⟦<C as Callsite>⟧) →
+            PreservesLivingCaches ⟦<S as Subscriber>⟧ ⟦<C as Callsite>⟧ self.old self.new }
     {
         self.lend_default(lane, f)
     }
@@ -101,8 +103,10 @@ impl<S: Subscriber, C: Callsite> Hub<S, C> {
         requires { F.IsAlwaysCallable f }
         ensures gives { CurrentGives F.FnOnce f self.old lane result self.new }
         // What each call of f leaves of what is kept, this does.
-        ensures keeps { CallsLeave F.FnOnce f (PreservesCaches ⟦<S as Subscriber>⟧ ⟦<C as Callsite>⟧) → PreservesCaches ⟦<S as Subscriber>⟧ ⟦<C as Callsite>⟧ self.old self.new }
-        ensures living { CallsLeave F.FnOnce f (PreservesLivingCaches ⟦<S as Subscriber>⟧ ⟦<C as Callsite>⟧) → PreservesLivingCaches ⟦<S as Subscriber>⟧ ⟦<C as Callsite>⟧ self.old self.new }
+        ensures keeps { CallsLeave F.FnOnce f (PreservesCaches ⟦<S as Subscriber>⟧ ⟦<C as Callsite>⟧) →
+            PreservesCaches ⟦<S as Subscriber>⟧ ⟦<C as Callsite>⟧ self.old self.new }
+        ensures living { CallsLeave F.FnOnce f (PreservesLivingCaches ⟦<S as Subscriber>⟧ ⟦<C as Callsite>⟧) →
+            PreservesLivingCaches ⟦<S as Subscriber>⟧ ⟦<C as Callsite>⟧ self.old self.new }
     {
         self.lend_current(lane, f)
     }
@@ -139,7 +143,8 @@ impl<S: Subscriber, C: Callsite> Hub<S, C> {
         requires { F.IsAlwaysCallable body }
         ensures gives { WithDefaultGives F.FnOnce body self.old lane dispatch.now result self.new }
         // The reset may release a subscriber: then what is kept stays right of those who live on.
-        ensures living { BodyLeaves F.FnOnce body (PreservesLivingCaches ⟦<S as Subscriber>⟧ ⟦<C as Callsite>⟧) → PreservesLivingCaches ⟦<S as Subscriber>⟧ ⟦<C as Callsite>⟧ self.old self.new }
+        ensures living { BodyLeaves F.FnOnce body (PreservesLivingCaches ⟦<S as Subscriber>⟧ ⟦<C as Callsite>⟧) →
+            PreservesLivingCaches ⟦<S as Subscriber>⟧ ⟦<C as Callsite>⟧ self.old self.new }
     {
         self.give_default(lane, dispatch, body)
     }

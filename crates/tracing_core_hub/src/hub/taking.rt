@@ -21,7 +21,8 @@ impl<S: Subscriber, C: Callsite> Hub<S, C> {
     pub fn rebuild_interest_cache(&mut self)
         ensures asked { Rebuilt ⟦<S as Subscriber>⟧ ⟦<C as Callsite>⟧ self.old self.new }
         // Then what is kept is right of each subscriber that is consistent.
-        ensures right { (e : RegisteredSubscriber S) → entry_of e.serial self.old.entries ≡ Some e → S.steady e.subscriber → Every (IsTrueRow ⟦<C as Callsite>⟧) self.old.rows →
+        ensures right { (e : RegisteredSubscriber S) → entry_of e.serial self.old.entries ≡ Some e →
+            S.steady e.subscriber → Every (IsTrueRow ⟦<C as Callsite>⟧) self.old.rows →
             ((z : S) × HasValidCache ⟦<S as Subscriber>⟧ ⟦<C as Callsite>⟧ self.new (asked_anew z e)) }
         ensures keeps { PreservesCaches ⟦<S as Subscriber>⟧ ⟦<C as Callsite>⟧ self.old self.new }
         ensures nobody { self.old.entries ≡ [] → IsOff self.new }
@@ -42,7 +43,8 @@ impl<S: Subscriber, C: Callsite> Hub<S, C> {
     pub fn refresh(&mut self)
         ensures asked { Refreshed ⟦<S as Subscriber>⟧ ⟦<C as Callsite>⟧ self.old self.new }
         // Then what is kept is right of each that was lent and is consistent.
-        ensures right { (e : RegisteredSubscriber S) → entry_of e.serial self.old.entries ≡ Some e → e.lent ≡ true → S.steady e.subscriber → Every (IsTrueRow ⟦<C as Callsite>⟧) self.old.rows →
+        ensures right { (e : RegisteredSubscriber S) → entry_of e.serial self.old.entries ≡ Some e → e.lent ≡ true →
+            S.steady e.subscriber → Every (IsTrueRow ⟦<C as Callsite>⟧) self.old.rows →
             ((z : S) × HasValidCache ⟦<S as Subscriber>⟧ ⟦<C as Callsite>⟧ self.new (asked_anew z e)) }
         ensures keeps { PreservesCaches ⟦<S as Subscriber>⟧ ⟦<C as Callsite>⟧ self.old self.new }
         ensures nobody { self.old.entries ≡ [] → IsOff self.new }
@@ -106,7 +108,8 @@ impl<S: Subscriber, C: Callsite> Hub<S, C> {
 
     // What is kept of the identifier of the callsite: the interest where the metadata is the same.
     fn kept_alike(&self, callsite: &C) -> Option<Option<Interest>>
-        ensures { result ≡ kept_alike ⟦<C as Callsite>⟧ (C.metadata_of callsite.now) (row_of (C.metadata_of callsite.now).callsite self.now.rows) }
+        ensures { result ≡ kept_alike ⟦<C as Callsite>⟧ (C.metadata_of callsite.now)
+            (row_of (C.metadata_of callsite.now).callsite self.now.rows) }
     {
         let metadata = callsite.metadata();
         match self.row(metadata.callsite().0) {
@@ -132,9 +135,12 @@ impl<S: Subscriber, C: Callsite> Hub<S, C> {
         ensures gives { AddGives ⟦<S as Subscriber>⟧ ⟦<C as Callsite>⟧ self.old subscriber result self.new }
         // Then what is kept is right of the new one, if it is consistent.
         ensures right { IfOk result (λ dispatch. IsSound ⟦<C as Callsite>⟧ self.old → S.steady subscriber →
-            ((e : RegisteredSubscriber S) × (dispatch ≡ Some e.serial) × HasValidCache ⟦<S as Subscriber>⟧ ⟦<C as Callsite>⟧ self.new e)) }
+            ((e : RegisteredSubscriber S) × (dispatch ≡ Some e.serial) ×
+            HasValidCache ⟦<S as Subscriber>⟧ ⟦<C as Callsite>⟧ self.new e)) }
         // And of each that was lent and is consistent.
-        ensures others { IfOk result (λ _. (e : RegisteredSubscriber S) → entry_of e.serial self.old.entries ≡ Some e → e.lent ≡ true → S.steady e.subscriber → Every (IsTrueRow ⟦<C as Callsite>⟧) self.old.rows →
+        ensures others { IfOk result (λ _. (e : RegisteredSubscriber S) →
+            entry_of e.serial self.old.entries ≡ Some e → e.lent ≡ true → S.steady e.subscriber →
+            Every (IsTrueRow ⟦<C as Callsite>⟧) self.old.rows →
             ((z : S) × HasValidCache ⟦<S as Subscriber>⟧ ⟦<C as Callsite>⟧ self.new (asked_anew z e))) }
         ensures keeps { PreservesCaches ⟦<S as Subscriber>⟧ ⟦<C as Callsite>⟧ self.old self.new }
     {

@@ -23,7 +23,11 @@ impl Model for Book {
 
     ghost Value = { PlainBook };
 
-    ghost view = { λ book. record { handles = book.handles.items; weak = book.weak.items; guards = book.guards.items } };
+    ghost view = { λ book. record {
+      handles = book.handles.items;
+      weak = book.weak.items;
+      guards = book.guards.items;
+    } };
 }
 
 impl Book {

@@ -72,7 +72,8 @@ impl<S: Subscriber, C: Callsite> Hub<S, C> {
         lane: u64,
         number: Option<u64>,
     ) -> CommandReply<S, C>
-        ensures gives { SetDefaultRuns self.old guards.old.items lane (named handles.now number) result self.new guards.new.items }
+        ensures gives { SetDefaultRuns self.old guards.old.items lane (named handles.now number) result self.new
+            guards.new.items }
         ensures keeps { PreservesCaches ⟦<S as Subscriber>⟧ ⟦<C as Callsite>⟧ self.old self.new }
     {
         if !self.is_running(lane) {
@@ -118,7 +119,8 @@ impl<S: Subscriber, C: Callsite> Hub<S, C> {
         lane: u64,
         number: u64,
     ) -> CommandReply<S, C>
-        ensures gives { ((result, self.new), guards.new) ≡ reset_runs_by self.old guards.old lane number (item_of guards.old number) }
+        ensures gives { ((result, self.new), guards.new)
+            ≡ reset_runs_by self.old guards.old lane number (item_of guards.old number) }
         ensures keeps { PreservesLivingCaches ⟦<S as Subscriber>⟧ ⟦<C as Callsite>⟧ self.old self.new }
     {
         let Some(guard) = spend(guards, number) else {

@@ -27,7 +27,8 @@ impl<S: Subscriber, C: Callsite> Hub<S, C> {
         handles: &mut Vec<Option<Dispatch>>,
         subscriber: S,
     ) -> CommandReply<S, C>
-        ensures gives { AddRuns ⟦<S as Subscriber>⟧ ⟦<C as Callsite>⟧ self.old handles.old.items subscriber result self.new handles.new.items }
+        ensures gives { AddRuns ⟦<S as Subscriber>⟧ ⟦<C as Callsite>⟧ self.old handles.old.items subscriber result
+            self.new handles.new.items }
         ensures keeps { PreservesCaches ⟦<S as Subscriber>⟧ ⟦<C as Callsite>⟧ self.old self.new }
     {
         if self.numbers_are_spent() {

@@ -31,7 +31,8 @@ impl<S: Subscriber, C: Callsite> Hub<S, C> {
     /// Carries out one command, and replies to it.
     #[tactic(auto, using(crate::proofs::Words::itself_keeps))]
     pub fn carry_out(&mut self, book: &mut Book, command: Command<S, C>) -> CommandReply<S, C>
-        ensures gives { CommandGives ⟦<S as Subscriber>⟧ ⟦<C as Callsite>⟧ self.old book.old command result self.new book.new }
+        ensures gives { CommandGives ⟦<S as Subscriber>⟧ ⟦<C as Callsite>⟧ self.old book.old command result self.new
+            book.new }
         // What is kept stays right of everyone, or, where something may be given up, of those who live on.
         ensures keeps { CommandKeeps ⟦<S as Subscriber>⟧ ⟦<C as Callsite>⟧ command self.old self.new }
     {
@@ -76,13 +77,15 @@ impl<S: Subscriber, C: Callsite> Hub<S, C> {
         book: &mut Book,
         commands: Vec<Command<S, C>>,
     ) -> Result<Vec<CommandReply<S, C>>, NoRoom<S, C>>
-        ensures ran { IfOk result (λ replies. CommandsGive ⟦<S as Subscriber>⟧ ⟦<C as Callsite>⟧ self.old book.old commands.items replies.items self.new book.new) }
+        ensures ran { IfOk result (λ replies. CommandsGive ⟦<S as Subscriber>⟧ ⟦<C as Callsite>⟧ self.old book.old
+            commands.items replies.items self.new book.new) }
         ensures back { IfErr result (λ room. room.0.items ≡ commands.items) }
         ensures hub { OnErr result (self.new ≡ self.old) }
         ensures book { OnErr result (book.new ≡ book.old) }
         ensures keeps { PreservesLivingCaches ⟦<S as Subscriber>⟧ ⟦<C as Callsite>⟧ self.old self.new }
         // Where nothing is given up, what is kept stays right of everyone.
-        ensures all { Every GivesNothingUp commands.items → PreservesCaches ⟦<S as Subscriber>⟧ ⟦<C as Callsite>⟧ self.old self.new }
+        ensures all { Every GivesNothingUp commands.items →
+            PreservesCaches ⟦<S as Subscriber>⟧ ⟦<C as Callsite>⟧ self.old self.new }
     {
         let Ok(mut replies) = Vec::with_capacity(*commands.allocator(), commands.len()) else {
             return Err(NoRoom(commands));

@@ -43,13 +43,28 @@ impl Subscriber for Everything {
 
     ghost steady = { λ x. Unit {0} };
 
-    ghost fair = { λ x k. record { interest = λ m at b j real e n. subst (λ i. InterestFits i b) (sym n) (subst (InterestFits x.interest) (sym e) (elim x.interest as (λ i. InterestFits i (says_always i)) [ Never ↦ refl | Sometimes ↦ tt | Always ↦ refl ])); below = λ m at b real e. tt } };
+    ghost fair = { λ x k. record {
+      interest = λ m at b j real e n.
+          subst (λ i. InterestFits i b) (sym n) (subst (InterestFits x.interest) (sym e)
+          (elim x.interest as (λ i. InterestFits i (says_always i)) [ Never ↦ refl | Sometimes ↦ tt | Always ↦ refl ]));
+      below = λ m at b real e. tt;
+    } };
 
     ghost single = { λ x m at a b k one other. one ∙ sym other };
 
-    ghost stays = { λ x c r y moved k. (tt, record { onward = λ m j n. n ∙ sym moved; back = λ m j n. n ∙ moved; same_hint = refl }) };
+    ghost stays = { λ x c r y moved k. (
+      tt,
+      record {
+        onward = λ m j n. n ∙ sym moved;
+        back = λ m j n. n ∙ moved;
+        same_hint = refl;
+      },
+    ) };
 
-    ghost quiet = { λ x m n at now r y b moved k. (λ e. e ∙ ap says_always (sym moved), λ e. e ∙ ap says_always moved) };
+    ghost quiet = { λ x m n at now r y b moved k. (
+      λ e. e ∙ ap says_always (sym moved),
+      λ e. e ∙ ap says_always moved,
+    ) };
 
     fn on_register_dispatch(&mut self, _dispatch: &WeakDispatch) {}
 

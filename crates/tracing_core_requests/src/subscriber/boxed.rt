@@ -28,9 +28,13 @@ impl Subscriber for Box<dyn Subscriber> {
 
     ghost single = { λ b. (Subscriber-box b).single b.value };
 
-    ghost stays = { λ b c r e m k. subst (λ x. (Subscriber-box x).steady x.value × SameWord ((Subscriber-box b).says b.value) ((Subscriber-box x).says x.value) ((Subscriber-box b).hint b.value) ((Subscriber-box x).hint x.value)) (sym m.2) ((Subscriber-box b).stays b.value c r m.0 m.1 k) };
+    ghost stays = { λ b c r e m k. subst (λ x. (Subscriber-box x).steady x.value ×
+        SameWord ((Subscriber-box b).says b.value) ((Subscriber-box x).says x.value) ((Subscriber-box b).hint b.value)
+        ((Subscriber-box x).hint x.value)) (sym m.2) ((Subscriber-box b).stays b.value c r m.0 m.1 k) };
 
-    ghost quiet = { λ b m n at now r e a moved k. subst (λ x. (Subscriber-box b).answers b.value n now a ↔ (Subscriber-box x).answers x.value n now a) (sym moved.2) ((Subscriber-box b).quiet b.value m n at now r moved.0 a moved.1 k) };
+    ghost quiet = { λ b m n at now r e a moved k. subst (λ x. (Subscriber-box b).answers b.value n now a ↔
+        (Subscriber-box x).answers x.value n now a) (sym moved.2)
+        ((Subscriber-box b).quiet b.value m n at now r moved.0 a moved.1 k) };
 
     fn on_register_dispatch(&mut self, dispatch: &WeakDispatch) {
         (**self).on_register_dispatch(dispatch)

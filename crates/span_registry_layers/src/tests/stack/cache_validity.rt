@@ -35,7 +35,8 @@ fn hand<F: Filter>(
     event: &Event<'_, '_>,
 ) -> Result<(), RequestError>
     requires { CacheIsValid ⟦<F as Filter>⟧ stack.old }
-    ensures asking { EventAsked ⟦<F as Filter>⟧ ⟦<Observing<Tally> as Layer>⟧ (plain_event event.now) PLACE stack.old result stack.new }
+    ensures asking { EventAsked ⟦<F as Filter>⟧ ⟦<Observing<Tally> as Layer>⟧ (plain_event event.now) PLACE stack.old
+        result stack.new }
     ensures kept { CacheIsValid ⟦<F as Filter>⟧ stack.new }
 {
     stack.event(event, PLACE)

@@ -52,8 +52,8 @@ fn inner_outputs(alloc: Global, count: u32) -> Result<Vec<Output<Inner<Counter>>
     Ok(outputs)
 }
 
-/// Whether a stack is made of so many outputs, each with a filter in its layer. They are too many where it is not, and come
-/// back.
+/// Whether a stack is made of so many outputs, each with a filter in its layer. They are too many where it is
+/// not, and come back.
 fn is_taken(alloc: Global, count: u32) -> Result<bool, Fail> {
     match Stack::new(alloc, inner_outputs(alloc, count)?) {
         Ok(_) => Ok(true),

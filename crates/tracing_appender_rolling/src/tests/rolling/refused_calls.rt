@@ -31,8 +31,8 @@ const NOTHING: Reported = Reported {
     writes: 0,
 };
 
-/// Builds with retention and a link, writes twice at one hour's distance, and flushes; the call with the number is refused. Answers
-/// the folder's count, and what was told or counted.
+/// Builds with retention and a link, writes twice at one hour's distance, and flushes; the call with the
+/// number is refused. Answers the folder's count, and what was told or counted.
 fn script(alloc: Global, number: u64) -> Result<(u64, Reported), Fail> {
     let mut inner = MemoryFolder::new(alloc);
     inner.put("t.2020-01-01-00", b"old", None)?;
@@ -69,8 +69,8 @@ fn script(alloc: Global, number: u64) -> Result<(u64, Reported), Fail> {
     }
 }
 
-/// What is told or counted where the call with that number is refused. A first opening is tried again, and what a close answers is
-/// passed over.
+/// What is told or counted where the call with that number is refused. A first opening is tried again, and
+/// what a close answers is passed over.
 fn expected(number: u64) -> Reported {
     match number {
         1 | 2 | 6 | 7 => Reported {

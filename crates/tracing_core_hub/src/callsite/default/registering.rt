@@ -27,7 +27,8 @@ impl<'a> DefaultCallsite<'a> {
         &mut self,
         hub: &mut Hub<S, DefaultCallsite<'a>>,
     ) -> Result<Interest, RegisterError<DefaultCallsite<'a>>>
-        ensures registered { RegisterGives ⟦<S as Subscriber>⟧ ⟦<DefaultCallsite<'a> as Callsite>⟧ hub.old (untold self.old) result hub.new }
+        ensures registered { RegisterGives ⟦<S as Subscriber>⟧ ⟦<DefaultCallsite<'a> as Callsite>⟧ hub.old
+            (untold self.old) result hub.new }
         ensures metadata { site_metadata self.new ≡ site_metadata self.old }
         ensures kept { IfOk result (λ interest. site_interest self.new ≡ interest) }
         ensures refused { OnErr result (self.new ≡ self.old) }
