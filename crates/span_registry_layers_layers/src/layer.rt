@@ -31,10 +31,10 @@ use tracing_core_requests::{Attributes, Event, Interest, Record, WeakDispatch};
 /// What an output does with the spans and events that it is told.
 ///
 /// A notice answers nothing: a layer that finds no memory keeps that in its own state, so what a notice may
-/// make of it is a relation. What it may write is slots under its `keys`; all else of the registry stays, but that
-/// `on_layer` may number filters. Where nothing is said of `keys` there are none, so that the registry stays as it was; a
-/// layer that writes says in `told` what it writes, by the registry that the notice holds as it is left. An honest layer
-/// is consistent as an honest filter does, whatever it is told.
+/// make of it is a relation. What it may write is slots under its `keys`; all else of the registry stays, but
+/// that `on_layer` may number filters. Where nothing is said of `keys` there are none, so that the registry
+/// stays as it was; a layer that writes says in `told` what it writes, by the registry that the notice holds
+/// as it is left. An honest layer is consistent as an honest filter does, whatever it is told.
 pub trait Layer: Drop {
     // What it may answer of a callsite, by what it may look at.
     ghost answers: { Self → PlainMetadata → View → Bool → Type 0 };

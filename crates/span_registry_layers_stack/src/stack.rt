@@ -48,8 +48,8 @@ impl<L: Layer, F: Filter> Stack<Filtered<L, F>> {
     ///
     /// # Errors
     ///
-    /// `NoOutput` where there is none, else `TooManyFilters` where there are more than 64, else `EqualKeys` where two have
-    /// the same key, else `OutOfMemory`. The outputs come back.
+    /// `NoOutput` where there is none, else `TooManyFilters` where there are more than 64, else `EqualKeys`
+    /// where two have the same key, else `OutOfMemory`. The outputs come back.
     pub fn new(
         alloc: Global,
         outputs: Vec<Output<Filtered<L, F>>>,

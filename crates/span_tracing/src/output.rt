@@ -62,7 +62,8 @@ impl<D: Drop, F: Drop> Output<D, F> {
     ///
     /// # Errors
     ///
-    /// `BadRoute` where the route names a sink that isn't there, else `OutOfMemory`; filter, format and sinks come back.
+    /// `BadRoute` where the route names a sink that isn't there, else `OutOfMemory`; filter, format and sinks
+    /// come back.
     pub fn new(
         alloc: Global,
         filter: F,

@@ -159,8 +159,9 @@ impl<D: Folder, F: Filter> Trace<D, F> {
     ///
     /// # Errors
     ///
-    /// `BadMoment`, `NoOutput` and `BadName`, in this order, before a folder is asked; then `FolderRefused` or `OutOfMemory`
-    /// where the file could not be opened. The outputs come back, and the trace is as it was.
+    /// `BadMoment`, `NoOutput` and `BadName`, in this order, before a folder is asked; then `FolderRefused`
+    /// or `OutOfMemory` where the file could not be opened. The outputs come back, and the trace is as it
+    /// was.
     pub fn add_stack(
         &mut self,
         mut outputs: Vec<Output<D, F>>,

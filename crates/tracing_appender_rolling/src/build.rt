@@ -52,7 +52,8 @@ impl Builder {
     ///
     /// # Errors
     ///
-    /// `BadName`, then `BadLinkName`, before the folder is asked; then the folder's fault, or `OutOfMemory`. Builder and folder come back.
+    /// `BadName`, then `BadLinkName`, before the folder is asked; then the folder's fault, or `OutOfMemory`.
+    /// Builder and folder come back.
     pub fn build<D: Folder>(
         self,
         alloc: Global,

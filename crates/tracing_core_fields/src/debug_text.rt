@@ -13,8 +13,8 @@ use std::fmt;
 
 /// Stands for a value that has Rust's `Debug`: it writes a plain or an alternate text, or fails.
 ///
-/// `{:?}` writes the plain text, and `{:#?}` the alternate one. Anything else writes the same in both; a number or a bool
-/// takes the width, the fill and the sign that are asked for.
+/// `{:?}` writes the plain text, and `{:#?}` the alternate one. Anything else writes the same in both; a
+/// number or a bool takes the width, the fill and the sign that are asked for.
 #[derive(Clone, Copy, PartialEq, Eq)]
 pub enum DebugText<'a> {
     /// Texts that were written before.

@@ -81,7 +81,8 @@ impl<M: Layer> Layered<M, Registry> {
         self,
         layer: L,
     ) -> Result<Layered<Layered<L, M>, Registry>, AttachError<L, Layered<M, Registry>>>
-        ensures { IsAttached ⟦<M as Layer>⟧ self → JoinGives ⟦<L as Layer>⟧ ⟦<M as Layer>⟧ ⟦<Layered<L, M> as Layer>⟧ layer self result }
+        ensures { IsAttached ⟦<M as Layer>⟧ self →
+            JoinGives ⟦<L as Layer>⟧ ⟦<M as Layer>⟧ ⟦<Layered<L, M> as Layer>⟧ layer self result }
     {
         let Layered {
             layer: inner,

@@ -25,8 +25,8 @@ impl<L: Layer, F: Filter> Stack<Filtered<L, F>> {
     ///
     /// # Errors
     ///
-    /// `UnknownParent` where a parent is named that is not open, else, where the span isn't dropped, `IdsSpent` where all
-    /// ids were given, else `OutOfMemory`; each leaves the stack as it was.
+    /// `UnknownParent` where a parent is named that is not open, else, where the span isn't dropped,
+    /// `IdsSpent` where all ids were given, else `OutOfMemory`; each leaves the stack as it was.
     pub fn new_span(
         &mut self,
         attributes: &Attributes<'_, '_>,
@@ -98,8 +98,8 @@ impl<L: Layer, F: Filter> Stack<Filtered<L, F>> {
     ///
     /// # Errors
     ///
-    /// `UnknownSpan` where the span is not open, else `TooManyHandles` where it has `usize::MAX`; both leave the stack as it
-    /// was.
+    /// `UnknownSpan` where the span is not open, else `TooManyHandles` where it has `usize::MAX`; both leave
+    /// the stack as it was.
     pub fn clone_span(&mut self, span: &Id) -> Result<Id, RequestError>
         ensures gives { CloneGives span.now self.old result self.new }
         ensures kept { CacheIsValid ⟦<F as Filter>⟧ self.old → CacheIsValid ⟦<F as Filter>⟧ self.new }
