@@ -8,6 +8,7 @@ ghost use Rattle.tracing_core_requests.specs.PlainRequests.{plain_attributes, pl
 ghost use Rattle.tracing_core_requests.specs.Steady.{Agrees, SameWord};
 
 mod boxed;
+mod boxed_one;
 mod none;
 
 use crate::at::At;

@@ -119,9 +119,10 @@ fn surface_hub_lanes(rt: HostRuntime) -> Result<(), Fail> {
 #[test]
 fn surface_hub_scopes(rt: HostRuntime) -> Result<(), Fail> {
     let alloc = rt.alloc();
-    let mut hub: Hub<NoSubscriber, DefaultCallsite<'_>> = Hub::new(alloc);
+    let mut hub: Hub<Box<NoSubscriber>, DefaultCallsite<'_>> = Hub::new(alloc);
     let lane = hub.thread()?;
-    let first = hub.add(NoSubscriber::new()).ok().ok_or("memory")?;
+    let boxed = Box::new(alloc, NoSubscriber::new())?;
+    let first = hub.add(boxed).ok().ok_or("memory")?;
     let (found, reset) = hub.with_default(lane, &first, |hub| {
         hub.get_default(lane, |hub, dispatch| {
             let found = hub.subscriber(dispatch).is_some();

@@ -28,6 +28,8 @@ fn surface_of_any_subscriber(rt: HostRuntime) -> Result<(), Fail> {
     let alloc = rt.alloc();
     let stated = (Some(false), Id::from_u64(0xDEAD));
     assert!(rt; serve(alloc, NoSubscriber::new())? == stated);
+    let one = Box::new(alloc, NoSubscriber::new())?;
+    assert!(rt; serve(alloc, one)? == stated);
     let any: Box<dyn Subscriber> = Box::new(alloc, NoSubscriber::new())?;
     assert!(rt; serve(alloc, any)? == stated);
     Ok(())

@@ -1,9 +1,10 @@
-// Callsites that are lent their metadata.
+// Callsites that are lent their metadata, and boxes of one kind of subscriber.
 use crate::tests::everything::Everything;
 use crate::tests::metadata_of;
+use crate::tests::owned_callsite::OwnedCallsite;
 use crate::*;
 use std::test::Fail;
-use tracing_core_fields::{FieldSet, Identifier};
+use tracing_core_fields::{FieldSet, Identifier, Level};
 use tracing_core_requests::Interest;
 
 #[test]
@@ -21,5 +22,18 @@ fn a_callsite_is_registered_once(rt: HostRuntime) -> Result<(), Fail> {
             .is_ok_and(|interest| interest.is_always())
     );
     assert!(rt; site.interest().is_always());
+    Ok(())
+}
+
+#[test]
+fn a_box_of_one_kind_answers_what_is_in_it(rt: HostRuntime) -> Result<(), Fail> {
+    let alloc = rt.alloc();
+    let mut hub: Hub<Box<Everything>, OwnedCallsite> = Hub::new(alloc);
+    let boxed = Box::new(alloc, Everything::new(1, Interest::always()))?;
+    assert!(rt; hub.add(boxed).is_ok());
+    assert_eq!(rt;
+        hub.register(OwnedCallsite::new(3, Level::INFO)).ok(),
+        Some(Interest::always())
+    );
     Ok(())
 }
