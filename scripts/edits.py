@@ -221,7 +221,7 @@ def tried_alone(crate, edit, kept):
     if ran.returncode == 0:
         return False, "NOT REFUSED: the crate is still proved with it"
     if ran.returncode == 1 and lines[-1].startswith("logic=not-proved"):
-        first = next((it for it in lines if ": error: " in it and not re.match(r"(\./)?proofs/.*(was not admitted)", it)), "")
+        first = next((it for it in lines if ": error" in it and "was not admitted" not in it), "the crate is not proved")
         names = " (only by a proof that names what it takes away: weak evidence)" if NAMES.search(first) else ""
         return True, f"refused, tried alone{names}: {first[:160]}"
     unread = next((it for it in lines if re.search(r"\berror\[[\w-]+\]", it)), "")

@@ -113,6 +113,8 @@ class Gate:
         self.crates, self.how, self.top, self.by_name = crates, how, top, {it.name: it for it in crates}
         self.known, self.seed = ledger.read(LEDGER), seed(top)
         self.spent, self.sums, self.open, self.refused, self.failed, self.passed = {}, {}, {}, set(), [], 0
+        # the crates whose edits were looked at, so that the ledger's lines of all others stay
+        self.seen = set()
         for it in crates:
             it.kept = f"{room}/{it.name}"
 
@@ -153,6 +155,7 @@ class Gate:
         if part == "plan" and it.is_well:
             sums, groups = it.gave
             self.sums.update(sums)
+            self.seen.add(name)
             crate = self.by_name[name]
             for at, files in enumerate(groups, 1):
                 call = lambda jobs, files=files: edits.judge(crate, crate.kept, [edits.Edit(crate, it) for it in files])
@@ -175,8 +178,8 @@ class Gate:
         self.failed += [] if is_well else [label]
 
     def write_ledger(self):
-        """Writes the ledger: what was refused in this run, what rests on the ledger still, and what it had of crates that this run left out."""
-        left_out = {it: its for it, its in self.known.items() if it.partition("/")[0] not in self.by_name}
+        """Writes the ledger: what was refused in this run, what rests on the ledger still, and what it had of crates whose edits weren't looked at."""
+        left_out = {it: its for it, its in self.known.items() if it.partition("/")[0] not in self.seen}
         rests = {it: its for it, its in self.sums.items() if it not in self.failed and self.known.get(it) == its}
         ledger.write(f"{self.top}/{LEDGER}", {**left_out, **rests, **{it: self.sums[it] for it in self.refused}})
 
