@@ -117,23 +117,36 @@ def groups_of(crate, edits):
     return groups
 
 
-def kind_and_trait(owner):
-    """Returns the names of the type and of the trait that the head of an impl or a trait names, in small letters."""
-    head = re.sub(r"\bwhere\b.*", "", owner)
+def parts_of(owner):
+    """Returns what the head of an impl or a trait has of a trait (or of a type alone), whether it has both, its type, and its parameters."""
+    head, parameters = re.sub(r"\bwhere\b.*", "", owner), ""
     if head.startswith("impl<"):
         depth = at = 0
         for at, it in enumerate(head[4:], 4):
             depth += {"<": 1, ">": -1}.get(it, 0)
             if not depth:
                 break
-        head = head[at + 1 :]
+        head, parameters = head[at + 1 :], head[4:at]
     head = re.sub(r"^(unsafe )?impl\b|^(pub )?trait\b", "", head)
-    trait, is_impl, kind = head.partition(" for ")
+    return *head.partition(" for "), set(re.findall(r"[<,]\s*(\w+)", parameters))
+
+
+def whole_names(owner):
+    """Returns the names that Rattle gives an impl by all words of its type and of its trait, in small letters, with its parameters and without: for
+    `impl From<Level> for LevelFilter` it is `LevelFilterFromLevel`, and for `impl<L> Layered<L, Registry>` it is `Layered+L+Registry`."""
+    trait, _, kind, parameters = parts_of(owner)
+    words = [it for it in re.findall(r"'?\w+", re.sub(r"\w+::", "", f"{kind} {trait}")) if not it.startswith("'")]
+    return {"".join(words).lower(), "".join(it for it in words if it not in parameters).lower()}
+
+
+def kind_and_trait(owner):
+    """Returns the names of the type and of the trait that the head of an impl or a trait names, in small letters."""
+    trait, is_impl, kind, _ = parts_of(owner)
     last = lambda it: ([""] + re.findall(r"[A-Za-z_]\w*", re.sub(r"^[\s&]*('\w+ )?(mut )?", "", it).split("<")[0].split("::")[-1]))[-1].lower()
     bare = re.fullmatch(r"\s*(\w+)\s*\{?\s*", kind)
     if is_impl and bare and re.search(rf"[<,]\s*{bare[1]}\b", owner.partition(" for ")[0]):
         return "any", last(trait)  # the type is a parameter: Rattle names such an impl so
-    return (last(kind), last(trait)) if is_impl else (last(head), "")
+    return (last(kind), last(trait)) if is_impl else (last(trait), "")
 
 
 def names_of(crate, function, said):
@@ -146,8 +159,9 @@ def names_of(crate, function, said):
         return [it for it in alike if it == here + name] or [it for it in alike if it.startswith(here)]
     kind, trait = kind_and_trait(owner)
     middle = lambda it: it.rsplit("::", 2)[1].lower()
-    # by the type and the trait; or, of `Box<dyn Tr>` and the like, by a longer name that has both; or by the name that the source gives the impl
-    tests = [lambda it: middle(it) == kind + trait, lambda it: trait and kind in middle(it) and middle(it).endswith(trait)]
+    # by all words; by the type and the trait; or, of `Box<dyn Tr>` and the like, by a longer name that has both; or by the name that the source gives the impl
+    whole = whole_names(owner)
+    tests = [lambda it: middle(it).replace("+", "") in whole, lambda it: middle(it) == kind + trait, lambda it: trait and kind in middle(it) and middle(it).endswith(trait)]
     tests.append(lambda it: re.search(rf"\bas {re.escape(middle(it))}\b", owner.lower()))
     # a method stands under its type's module, which may be another file's
     for pool in ([it for it in alike if it.startswith(here)], alike):

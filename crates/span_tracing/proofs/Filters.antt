@@ -25,8 +25,8 @@ module _ {F : Type 0} (g : Ghosts F) where
     moves = λ x c r y. StackMoves g x c r y;
     steady = λ x. HonestBy g x.filter;
     fair = λ x k. is_fair g x k;
-    single = λ x m at a b real k p q. is_single g x m at a b k p q;
-    stays = λ x c r y real moved k. word_stays g x c r y moved k;
+    single = λ x m at a b k p q. is_single g x m at a b k p q;
+    stays = λ x c r y moved k. word_stays g x c r y moved k;
     quiet = λ x m n at place r y b moved k. probe_quiet g x m n at place r y b moved;
   }
 
