@@ -127,7 +127,9 @@ def parts_of(owner):
             if not depth:
                 break
         head, parameters = head[at + 1 :], head[4:at]
+    is_trait = re.match(r"(pub )?trait\b", head)
     head = re.sub(r"^(unsafe )?impl\b|^(pub )?trait\b", "", head)
+    head = re.split(r"[:<{]", head)[0] if is_trait else head  # what a trait stands on is no part of its name
     return *head.partition(" for "), set(re.findall(r"[<,]\s*(\w+)", parameters))
 
 
