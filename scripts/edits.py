@@ -237,7 +237,7 @@ def tried_alone(crate, edit, kept):
     if ran.returncode == 0:
         return False, "NOT REFUSED: the crate is still proved with it"
     if ran.returncode == 1 and lines[-1].startswith("logic=not-proved"):
-        told = [it for it in lines if re.match(r"(note: )?\S+:\d+:\d+: ", it) and ("note: " in it or ": error" in it)]
+        told = [it for it in lines if re.match(r"(note: )?\S+:\d+:\d+: ", it) and ("it is not proved" in it or ": error" in it)]
         plain = [it for it in told if not NAMES.search(it) and "was not admitted" not in it]
         weak = "" if plain or not told else " (only by a proof that names what it takes away: weak evidence)"
         return True, f"refused, tried alone{weak}: {[*plain, *told, 'the crate is not proved'][0][:160]}"
