@@ -1,5 +1,5 @@
 -- What a field is: a place in a set.
-use Rattle.std.specs.Prelude.{ℕ, ◌&&◌, ◌==◌, Bool, List, ◌++◌, slice_index_or, []}
+use Rattle.std.specs.Prelude.{ℕ, ◌&&◌, ◌==◌, nat_lt, Bool, List, ◌++◌, length, slice_index_or, []}
 use Rattle.std.specs.Hash as fed
 use Rattle.tracing_core_fields.specs.FieldSet.{field_names, set_callsite}
 use Rattle.tracing_core_fields.specs.PlainField.{PlainField}
@@ -23,6 +23,10 @@ field_name field = slice_index_or (field_names (set_of_field field)) (field_inde
 -- the field, with no borrowed parts
 abbrev pub plain_field : Field → PlainField
 plain_field field = record { index = field_index field; name = field_name field; callsite = field_callsite field }
+
+-- whether the set has the field: it has the callsite of the set, and an index below the set's length
+abbrev pub has_field : FieldSet → Field → Bool
+has_field set field = (field_callsite field == set_callsite set) && nat_lt (field_index field) (length (field_names set))
 
 -- the fields have the same callsite and the same place
 abbrev pub is_same_field : Field → Field → Bool

@@ -16,7 +16,7 @@ abbrev pub fields_of_values : ValueSet → FieldSet
 fields_of_values set = set.fields
 
 abbrev pub entries_in : FieldSet → Values → List (ℕ × PlainValue)
-entries_in fields (Explicit entries) = given_entries (set_callsite fields) entries.now
+entries_in fields (Explicit entries) = given_entries fields entries.now
 entries_in fields (All values) = placed_entries (take (length (field_names fields)) values.now)
 entries_in fields (Indexed values) = indexed_entries (length (field_names fields)) values.now
 
@@ -25,7 +25,7 @@ abbrev pub entries_of : ValueSet → List (ℕ × PlainValue)
 entries_of set = entries_in set.fields set.values
 
 abbrev pub count_in : FieldSet → Values → ℕ
-count_in fields (Explicit entries) = count_by (is_own (set_callsite fields)) entries.now
+count_in fields (Explicit entries) = count_by (is_own fields) entries.now
 count_in fields (All values) = min (length (field_names fields)) (length values.now)
 count_in fields (Indexed values) = count_by (is_indexed (length (field_names fields))) values.now
 

@@ -3,11 +3,12 @@ use Rattle.std.specs.Prelude.{◌≡◌, ℕ, ◌<◌, List, [], ◌∷◌, leng
 use Rattle.tracing_core_fields.specs.PlainField.{PlainField}
 use Rattle.tracing_core_fields.specs.PlainValue.{PlainValue}
 
--- the field has the callsite and the place, and the name that stands at that place
+-- the field is the one of the callsite at the place, under the name that stands there
 pub record IsFieldAt (callsite : ℕ) (names : List (List ℕ)) (place : ℕ) (field : PlainField) : Type 0 where
   pub at_place : field.index ≡ place
   pub at_callsite : field.callsite ≡ callsite
-  pub is_named : place < length names → field.name ≡ slice_index_or names place []
+  pub is_within : place < length names
+  pub is_named : field.name ≡ slice_index_or names place []
 
 -- the entry, where there is one, is taken by one call, and where there is none nothing is done
 abbrev pub TakesIfThere : {V E : Type 0} → (V → PlainField → PlainValue → Result (Unit {0}) E → V → Type 0) → ℕ → List (List ℕ) → Option (ℕ × PlainValue) → V → Result (Unit {0}) E → V → Type 0

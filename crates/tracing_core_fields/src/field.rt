@@ -17,7 +17,7 @@ pub struct FieldSet<'a> {
 }
 
 impl<'a> FieldSet<'a> {
-    ghost use Rattle.tracing_core_fields.specs.Field.{field_index, field_callsite, plain_field, set_of_field};
+    ghost use Rattle.tracing_core_fields.specs.Field.{field_index, has_field, plain_field, set_of_field};
     ghost use Rattle.tracing_core_fields.specs.Visits.{IsFieldAt};
     ghost use Rattle.tracing_core_fields.specs.FieldSet.{set_callsite, index_of_name, plain_fields};
     ghost use Rattle.tracing_core_fields.specs.Iter.{fields_left};
@@ -61,8 +61,7 @@ impl<'a> FieldSet<'a> {
 
     /// Whether the field is one of this set: it has the set's callsite, and an index below the set's length.
     pub fn contains(&self, field: &Field<'_>) -> bool
-        ensures { IsTrue result ↔ ((field_callsite field.now ≡ set_callsite self.now)
-            × (field_index field.now < length (field_names self.now))) }
+        ensures { result ≡ has_field self.now field.now }
     {
         field.callsite() == self.callsite && field.index < self.names.len()
     }
@@ -75,20 +74,6 @@ impl<'a> FieldSet<'a> {
         Field {
             index,
             fields: *self,
-        }
-    }
-
-    // The field of this set at the index of the field, which has the set's callsite. Where the set has no
-    // such index, the field itself.
-    pub(crate) fn own(&self, field: &Field<'a>) -> Field<'a>
-        requires { field_callsite field.now ≡ set_callsite self.now }
-        ensures { IsFieldAt (set_callsite self.now) (field_names self.now) (field_index field.now)
-            (plain_field result) }
-    {
-        if field.index < self.names.len() {
-            self.at(field.index)
-        } else {
-            *field
         }
     }
 

@@ -18,6 +18,7 @@ mod record;
 mod span;
 mod value_set;
 mod visit;
+mod visit_kinds;
 
 pub use callsite::Identifier;
 pub use debug_text::DebugText;
@@ -32,6 +33,7 @@ pub use parse::numbers_are_read_as_usize;
 pub use span::Id;
 pub use value_set::{AnyValue, ValueSet};
 pub use visit::Visit;
+pub use visit_kinds::VisitKinds;
 
 #[cfg(test)]
 mod tests;

@@ -11,10 +11,10 @@ ghost use Rattle.tracing_core_fields.specs.Visits.{TakesIfThere, Visits};
 use crate::field::{Field, FieldSet};
 use crate::owned_value::FieldValue;
 use crate::value_set::{AnyValue, ValueSet, Values};
-use crate::visit::Visit;
+use crate::visit_kinds::VisitKinds;
 
 // Hands the value to the visitor by the call of its kind. A value that isn't there is passed over.
-fn record_value<V: Visit>(
+fn record_value<V: VisitKinds>(
     visitor: &mut V,
     field: &Field<'_>,
     value: &Option<AnyValue<'_>>,
@@ -37,30 +37,30 @@ fn record_value<V: Visit>(
     }
 }
 
-// Hands on the value of the field, where the set has the field's callsite.
-fn record_entry<'a, V: Visit>(
+// Hands on the value of the field, where the set has it.
+fn record_entry<'a, V: VisitKinds>(
     fields: &FieldSet<'a>,
     entry: &(Field<'a>, Option<AnyValue<'a>>),
     visitor: &mut V,
 ) -> Result<(), V::Error>
     ensures { TakesIfThere V.takes (set_callsite fields.now) (field_names fields.now)
-        (given_entry (set_callsite fields.now) entry.now) visitor.old result visitor.new }
+        (given_entry fields.now entry.now) visitor.old result visitor.new }
 {
-    if entry.0.callsite() == fields.callsite() {
-        record_value(visitor, &fields.own(&entry.0), &entry.1)
+    if fields.contains(&entry.0) {
+        record_value(visitor, &fields.at(entry.0.index()), &entry.1)
     } else {
         Ok(())
     }
 }
 
 // Visits the fields of the set that are given with a value.
-fn record_given<'a, V: Visit>(
+fn record_given<'a, V: VisitKinds>(
     fields: &FieldSet<'a>,
     entries: &[(Field<'a>, Option<AnyValue<'a>>)],
     visitor: &mut V,
 ) -> Result<(), V::Error>
     ensures { Visits V.takes (set_callsite fields.now) (field_names fields.now)
-        (given_entries (set_callsite fields.now) entries.now) visitor.old result visitor.new }
+        (given_entries fields.now entries.now) visitor.old result visitor.new }
 {
     for entry in entries {
         record_entry(fields, entry, visitor)?;
@@ -69,7 +69,7 @@ fn record_given<'a, V: Visit>(
 }
 
 // Hands on the value of the field at the index.
-fn record_at<V: Visit>(
+fn record_at<V: VisitKinds>(
     fields: &FieldSet<'_>,
     index: usize,
     value: &Option<AnyValue<'_>>,
@@ -83,7 +83,7 @@ fn record_at<V: Visit>(
 }
 
 // Visits the fields of the set whose values are given in order.
-fn record_placed<V: Visit>(
+fn record_placed<V: VisitKinds>(
     fields: &FieldSet<'_>,
     values: &[Option<AnyValue<'_>>],
     visitor: &mut V,
@@ -99,7 +99,7 @@ fn record_placed<V: Visit>(
 }
 
 // Hands on the value of the field at the index, where the set has such a field.
-fn record_owned<V: Visit>(
+fn record_owned<V: VisitKinds>(
     fields: &FieldSet<'_>,
     given: &FieldValue,
     visitor: &mut V,
@@ -115,7 +115,7 @@ fn record_owned<V: Visit>(
 }
 
 // Visits the fields of the set whose values are given by their indices.
-fn record_indexed<V: Visit>(
+fn record_indexed<V: VisitKinds>(
     fields: &FieldSet<'_>,
     values: &[FieldValue],
     visitor: &mut V,
@@ -132,9 +132,9 @@ fn record_indexed<V: Visit>(
 impl ValueSet<'_> {
     /// Hands the values to the visitor, in order, up to its first refusal, which is the answer.
     ///
-    /// Absent values, [`AnyValue::Empty`] and the fields of other callsites are passed over. Each field
-    /// that the visitor meets is the set's own field at that index.
-    pub fn record<V: Visit>(&self, visitor: &mut V) -> Result<(), V::Error>
+    /// Each value goes by the call of its kind. Absent values, [`AnyValue::Empty`] and fields that the set
+    /// doesn't have are passed over.
+    pub fn record<V: VisitKinds>(&self, visitor: &mut V) -> Result<(), V::Error>
         ensures { Visits V.takes (set_callsite (fields_of_values self.now)) (field_names (fields_of_values self.now))
             (entries_of self.now) visitor.old result visitor.new }
     {

@@ -13,7 +13,7 @@ use crate::error_text::ErrorText;
 use crate::field::{Field, FieldSet};
 use crate::owned_value::{FieldValue, OwnedValue};
 
-/// The value of a field: a case for each call of [`Visit`](crate::Visit), and `Empty`.
+/// The value of a field: a case for each call of [`VisitKinds`](crate::VisitKinds), and `Empty`.
 #[derive(Clone, Copy, Debug, PartialEq, Eq)]
 pub enum AnyValue<'a> {
     /// A signed number of at most 64 bits.
@@ -47,7 +47,7 @@ pub(crate) enum Values<'a> {
 
 /// The values of fields at one callsite.
 ///
-/// Its entries are its own fields that have a value: fields of other callsites, absent values and
+/// Its entries are its own fields that have a value: fields that it doesn't have, absent values and
 /// [`AnyValue::Empty`] are passed over.
 #[derive(Clone, Copy, Debug)]
 pub struct ValueSet<'a> {
@@ -56,10 +56,11 @@ pub struct ValueSet<'a> {
 }
 
 impl<'a> FieldSet<'a> {
-    /// The set of these fields with their values. Fields of other callsites are passed over.
+    /// The set of these fields with their values. Fields of other callsites, and those whose index lies past
+    /// the end, are passed over.
     pub fn value_set(&self, values: &'a [(Field<'a>, Option<AnyValue<'a>>)]) -> ValueSet<'a>
-        ensures entries { entries_of result ≡ given_entries (set_callsite self.now) values.now }
-        ensures count { entry_count result ≡ count_by (is_own (set_callsite self.now)) values.now }
+        ensures entries { entries_of result ≡ given_entries self.now values.now }
+        ensures count { entry_count result ≡ count_by (is_own self.now) values.now }
         ensures fields { fields_of_values result ≡ self.now }
     {
         ValueSet {
@@ -102,25 +103,25 @@ fn is_present(value: &Option<AnyValue<'_>>) -> bool
     !matches!(value, None | Some(AnyValue::Empty))
 }
 
-// How many of the fields are of the callsite.
-fn count_own(callsite: Identifier, entries: &[(Field<'_>, Option<AnyValue<'_>>)]) -> usize
-    ensures { result ≡ count_by (is_own callsite.0) entries.now }
+// How many of the fields are the set's.
+fn count_own(fields: &FieldSet<'_>, entries: &[(Field<'_>, Option<AnyValue<'_>>)]) -> usize
+    ensures { result ≡ count_by (is_own fields.now) entries.now }
 {
     let mut count = 0;
     for entry in entries {
-        if entry.0.callsite() == callsite {
+        if fields.contains(&entry.0) {
             count += 1;
         }
     }
     count
 }
 
-// Whether no field of the callsite has a value.
-fn lacks_given(callsite: Identifier, entries: &[(Field<'_>, Option<AnyValue<'_>>)]) -> bool
-    ensures { result ≡ (length (given_entries callsite.0 entries.now) == 0) }
+// Whether no field of the set has a value.
+fn lacks_given(fields: &FieldSet<'_>, entries: &[(Field<'_>, Option<AnyValue<'_>>)]) -> bool
+    ensures { result ≡ (length (given_entries fields.now entries.now) == 0) }
 {
     for entry in entries {
-        if entry.0.callsite() == callsite && is_present(&entry.1) {
+        if fields.contains(&entry.0) && is_present(&entry.1) {
             return false;
         }
     }
@@ -164,16 +165,16 @@ fn lacks_indexed(count: usize, values: &[FieldValue]) -> bool
     true
 }
 
-// Whether the field of the callsite at the index has a value.
+// Whether the set's field at the index has a value.
 fn has_given(
-    callsite: Identifier,
+    fields: &FieldSet<'_>,
     index: usize,
     entries: &[(Field<'_>, Option<AnyValue<'_>>)],
 ) -> bool
-    ensures { result ≡ has_entry index (given_entries callsite.0 entries.now) }
+    ensures { result ≡ has_entry index (given_entries fields.now entries.now) }
 {
     for entry in entries {
-        if entry.0.callsite() == callsite && entry.0.index() == index && is_present(&entry.1) {
+        if fields.contains(&entry.0) && entry.0.index() == index && is_present(&entry.1) {
             return true;
         }
     }
@@ -223,7 +224,7 @@ impl<'a> ValueSet<'a> {
         ensures { result ≡ entry_count self.now }
     {
         match self.values {
-            Values::Explicit(entries) => count_own(self.callsite(), entries),
+            Values::Explicit(entries) => count_own(&self.fields, entries),
             Values::All(values) => self.fields.len().min(values.len()),
             Values::Indexed(values) => count_indexed(self.fields.len(), values),
         }
@@ -234,7 +235,7 @@ impl<'a> ValueSet<'a> {
         ensures { IsTrue result ↔ (entries_of self.now ≡ []) }
     {
         match self.values {
-            Values::Explicit(entries) => lacks_given(self.callsite(), entries),
+            Values::Explicit(entries) => lacks_given(&self.fields, entries),
             Values::All(values) => lacks_placed(&values[..self.fields.len().min(values.len())]),
             Values::Indexed(values) => lacks_indexed(self.fields.len(), values),
         }
@@ -252,7 +253,7 @@ impl<'a> ValueSet<'a> {
         ensures { result ≡ has_entry index (entries_of self.now) }
     {
         match self.values {
-            Values::Explicit(entries) => has_given(self.callsite(), index, entries),
+            Values::Explicit(entries) => has_given(&self.fields, index, entries),
             Values::All(values) => {
                 has_placed(index, &values[..self.fields.len().min(values.len())])
             }

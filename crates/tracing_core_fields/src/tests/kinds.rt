@@ -13,13 +13,11 @@ impl Letters {
     }
 }
 
-// Writes each call itself.
-impl Visit for Letters {
+// Tells each call by its own letter.
+impl VisitKinds for Letters {
     type Error = AllocError;
 
     ghost takes = { λ _ _ _ _ _. Unit {0} };
-
-    ghost forwards = { λ _ _ _ _ _ _. tt };
 
     fn record_i64(&mut self, _field: &Field<'_>, _value: i64) -> Result<(), AllocError> {
         self.add('i')

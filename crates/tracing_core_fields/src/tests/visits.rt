@@ -48,9 +48,7 @@ impl Lines {
 impl Visit for Lines {
     type Error = Stop;
 
-    ghost takes = { λ _ _ _ _ _. Unit {0} };
-
-    ghost forwards = { λ _ _ _ _ _ _. tt };
+    ghost shows = { λ _ _ _ _ _. Unit {0} };
 
     fn record_debug(&mut self, field: &Field<'_>, value: &DebugText<'_>) -> Result<(), Stop> {
         self.add(field, value)
@@ -67,9 +65,7 @@ struct Texts {
 impl Visit for Texts {
     type Error = Stop;
 
-    ghost takes = { λ _ _ _ _ _. Unit {0} };
-
-    ghost forwards = { λ _ _ _ _ _ _. tt };
+    ghost shows = { λ _ _ _ _ _. Unit {0} };
 
     fn record_str(&mut self, _field: &Field<'_>, value: &str) -> Result<(), Stop> {
         self.count = self.count.saturating_add(value.len() as u64);
@@ -183,17 +179,22 @@ fn each_value_is_visited(rt: HostRuntime) -> Result<(), Fail> {
 fn only_own_present_values_are_visited(rt: HostRuntime) -> Result<(), Fail> {
     let set = FieldSet::new(&NAMES, Identifier(7));
     let foreign = FieldSet::new(&NAMES, Identifier(8));
+    let longer_names = ["message", "count", "n", "past"];
+    let longer = FieldSet::new(&longer_names, Identifier(7));
     let own = set.field("message").ok_or("message")?;
     let count = set.field("count").ok_or("count")?;
     let other = foreign.field("message").ok_or("message")?;
+    let past = longer.field("past").ok_or("past")?;
     let values = [
         (other, Some(AnyValue::U64(1))),
+        (past, Some(AnyValue::U64(5))),
         (count, Some(AnyValue::U64(2))),
         (own, Some(AnyValue::Empty)),
         (own, None),
         (own, Some(AnyValue::U64(3))),
         (count, Some(AnyValue::U64(4))),
     ];
+    assert_eq!(rt; set.value_set(&values).len(), 5);
     let mut visitor = make_lines(rt.alloc(), 9);
     assert_eq!(rt; set.value_set(&values).record(&mut visitor), Ok(()));
     assert_eq!(rt; visitor.text.as_str(), "1 count=2;0 message=3;1 count=4;");

@@ -4,4 +4,4 @@ use Rattle.tracing_core_fields.proofs.value_set.count_own.Given as goal
 
 abbrev pub invariant-loop-entry : goal.invariant-loop-entry
 invariant-loop-entry l =
-    (l.count + count_by (is_own l.callsite.0) (drop l.entry-index l.entries) ≡ count_by (is_own l.callsite.0) l.entries) × (l.count ≤ l.entry-index)
+    (l.count + count_by (is_own l.fields) (drop l.entry-index l.entries) ≡ count_by (is_own l.fields) l.entries) × (l.count ≤ l.entry-index)
