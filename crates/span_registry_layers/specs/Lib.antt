@@ -1,7 +1,6 @@
 pub use Rattle.span_registry_layers_store.specs.Spans
 pub use Rattle.span_registry_layers_store.specs.Lanes
 pub use Rattle.span_registry_layers_store.specs.Verdicts
-pub use Rattle.span_registry_layers_store.specs.OwnedMetadatas
 pub use Rattle.span_registry_layers_store.specs.Places
 pub use Rattle.span_registry_layers_store.specs.Registries
 pub use Rattle.span_registry_layers_store.specs.Gives

@@ -14,9 +14,9 @@ pub use span_registry_layers_stack::{
 };
 pub use span_registry_layers_store::{
     Data, Extensions, ExtensionsMut, FilterId, FilterMap, InsertError, LookupSpan, OutputKey,
-    OwnedMetadata, Registry, RegistryTable, Scope, ScopeFromRoot, Slot, SpanData, SpanRecord,
-    SpanRef, SpanRow, Tag, Timings, TooManyFilters, closes_child_first, line_is_whole,
-    open_is_least, registry_stays_sound, slots_keep_to_their_key, slots_stand_aside,
+    Registry, RegistryTable, Scope, ScopeFromRoot, Slot, SpanData, SpanRecord, SpanRef, SpanRow,
+    Tag, Timings, TooManyFilters, closes_child_first, line_is_whole, open_is_least,
+    registry_stays_sound, slots_keep_to_their_key, slots_stand_aside,
 };
 
 #[cfg(test)]

@@ -3,7 +3,7 @@ use Rattle.std.specs.Prelude.{◌≡◌, ◌&&◌, ◌⊎◌, ◌++◌, Bool, tr
 use Rattle.std.specs.List.{list_any}
 use Rattle.tracing_core_requests.specs.Interests.{PlainInterest, says_never}
 use Rattle.tracing_core_fields.specs.PlainMetadata.{PlainMetadata, is_same_metadata}
-use Rattle.span_registry_layers_store.specs.OwnedMetadatas.{owned_plain}
+use Rattle.tracing_core_fields.specs.OwnedMetadatas.{owned_plain}
 use Rattle.span_registry_layers_stack.specs.declared.cached_interest.CachedInterest.{CachedInterest}
 
 -- a callsite and the interest that is kept of it

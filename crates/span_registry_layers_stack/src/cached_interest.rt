@@ -3,8 +3,7 @@ ghost use Rattle.std.specs.Prelude.{◌≡◌};
 ghost use Rattle.tracing_core_fields.specs.Metadata.{plain_metadata};
 ghost use Rattle.span_registry_layers_stack.specs.Sites.{is_of, is_refused_by, plain_cached_interest, renewed};
 
-use span_registry_layers_store::OwnedMetadata;
-use tracing_core_fields::Metadata;
+use tracing_core_fields::{Metadata, OwnedMetadata};
 use tracing_core_requests::Interest;
 
 /// A callsite, and what all filters had in common of it when they were asked.

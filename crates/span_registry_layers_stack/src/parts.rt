@@ -19,9 +19,9 @@ use crate::row::Row;
 use crate::rows::{any_passes, ask_hint, ask_interest, clear_marks};
 use crate::sites::{is_kept, refuse, renew};
 use span_registry_layers_layers::{Filter, Filtered, Layer};
-use span_registry_layers_store::{OwnedMetadata, Registry};
+use span_registry_layers_store::Registry;
 use std::alloc::Global;
-use tracing_core_fields::{Id, Level, LevelFilter, Metadata};
+use tracing_core_fields::{Id, Level, LevelFilter, Metadata, OwnedMetadata};
 use tracing_core_requests::{At, Event, Interest, RequestError};
 
 /// The outputs in order, the registry of their spans, and what is kept of their filters' answers.

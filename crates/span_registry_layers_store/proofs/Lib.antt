@@ -1,4 +1,3 @@
-pub mod FieldNames
 pub mod Lists
 pub mod Lines
 pub mod Entries

@@ -1,7 +1,6 @@
 pub mod Spans
 pub mod Lanes
 pub mod Verdicts
-pub mod OwnedMetadatas
 pub mod Places
 pub mod Registries
 pub mod Rising

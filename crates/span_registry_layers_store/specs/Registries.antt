@@ -5,7 +5,7 @@ use Rattle.tracing_core_fields.specs.PlainMetadata.{PlainMetadata}
 use Rattle.tracing_core_requests.specs.declared.requests.parent.Parent.{Parent}
 use Rattle.tracing_core_requests.specs.declared.requests.parent.Parent.TheVariants.{Root, Current, Explicit}
 use Rattle.span_registry_layers_store.specs.Lanes.{lane_at, plain_lanes, pushed, removed}
-use Rattle.span_registry_layers_store.specs.OwnedMetadatas.{owned_plain}
+use Rattle.tracing_core_fields.specs.OwnedMetadatas.{owned_plain}
 use Rattle.span_registry_layers_store.specs.Slots.{PlainPlace}
 use Rattle.span_registry_layers_store.specs.Spans.{changed, closed_of, current, is_open, open_of}
 use Rattle.span_registry_layers_store.specs.declared.parts.RegistryParts.{RegistryParts}

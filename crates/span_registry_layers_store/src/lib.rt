@@ -6,7 +6,6 @@ mod filter_map;
 mod lanes;
 mod laws;
 mod lookup;
-mod metadata;
 mod parts;
 mod plain;
 mod record;
@@ -24,7 +23,6 @@ pub use laws::{
     slots_keep_to_their_key, slots_stand_aside,
 };
 pub use lookup::{Data, LookupSpan, SpanData};
-pub use metadata::OwnedMetadata;
 pub use record::SpanRecord;
 pub use registry::Registry;
 pub use scope::{Scope, ScopeFromRoot};

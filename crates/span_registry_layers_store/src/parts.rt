@@ -10,7 +10,7 @@ ghost use Rattle.span_registry_layers_store.specs.Copies.{CopyOf};
 ghost use Rattle.span_registry_layers_store.specs.Gives.{EntryGives, FilterGives, ForgetGives, IsNext, IsSettled, SpanGives, clone_gives, close_gives, follow_refusal, give_up_gives, open_refusal};
 ghost use Rattle.span_registry_layers_store.specs.Lanes.{lane_at};
 ghost use Rattle.span_registry_layers_store.specs.SlotLoans.{IsSpanToLend};
-ghost use Rattle.span_registry_layers_store.specs.OwnedMetadatas.{owned_plain};
+ghost use Rattle.tracing_core_fields.specs.OwnedMetadatas.{owned_plain};
 ghost use Rattle.span_registry_layers_store.specs.Places.{kin_of};
 ghost use Rattle.span_registry_layers_store.specs.Rising.{IsRising, Rises};
 ghost use Rattle.span_registry_layers_store.specs.Registries.{current_on, kin_in, knows, next_number, plain_registry, plain_span, swept, under, with_span, without_entry};
@@ -20,14 +20,13 @@ ghost use Rattle.span_registry_layers_store.specs.Views.{IsFoundAt, current_unde
 use crate::extensions::Extensions;
 use crate::filter_map::{FilterId, FilterMap, TooManyFilters};
 use crate::lanes::{drop_entry, lane_at, push_entry};
-use crate::metadata::OwnedMetadata;
 use crate::plain::{closing, current, handles_of, is_member, is_open, parent_of, place_of};
 use crate::record::SpanRecord;
 use crate::span::Span;
 use crate::table::{RegistryTable, copy_lanes, copy_spans};
 use std::alloc::{AllocError, Global};
 use std::sync::Arc;
-use tracing_core_fields::{Id, Metadata};
+use tracing_core_fields::{Id, Metadata, OwnedMetadata};
 use tracing_core_requests::{Attributes, RequestError};
 
 /// Open spans, lane stacks, and the metadata of callsites that spans were made at.

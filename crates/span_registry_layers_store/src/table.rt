@@ -5,12 +5,11 @@ ghost use Rattle.span_registry_layers_store.specs.Lanes.{plain_lanes};
 ghost use Rattle.span_registry_layers_store.specs.Registries.{plain_span};
 
 use crate::filter_map::FilterMap;
-use crate::metadata::OwnedMetadata;
 use crate::record::SpanRecord;
 use crate::span::Span;
 use std::alloc::{AllocError, Global};
 use std::sync::Arc;
-use tracing_core_fields::Id;
+use tracing_core_fields::{Id, OwnedMetadata};
 
 /// An open span, without what outputs keep with it.
 #[derive(Debug, Drop)]

@@ -18,6 +18,7 @@ pub use Rattle.tracing_core_fields.specs.Options
 pub use Rattle.tracing_core_fields.specs.DebugText
 pub use Rattle.tracing_core_fields.specs.ErrorText
 pub use Rattle.tracing_core_fields.specs.PlainValue
+pub use Rattle.tracing_core_fields.specs.OwnedMetadatas
 pub use Rattle.tracing_core_fields.specs.OwnedValues
 pub use Rattle.tracing_core_fields.specs.Visits
 pub use Rattle.tracing_core_fields.specs.Values

@@ -1,6 +1,7 @@
 -- The fields that names give, one after another.
-use Rattle.std.proofs.Common.{◌≡◌, ℕ, ◌+◌, ◌<◌, List, [], ◌∷◌, length, drop, refl, ◌∙◌, ap, arith, zero, suc, slice_index_or}
-use Rattle.tracing_core_fields.specs.PlainField.{fields_named}
+use Rattle.std.proofs.Common.{◌≡◌, ℕ, ◌+◌, ◌<◌, List, [], ◌∷◌, ◌++◌, length, drop, map, refl, ◌∙◌, ap, arith, zero, suc, slice_index_or}
+use Rattle.std.proofs.lemmas.List.{map-append}
+use Rattle.tracing_core_fields.specs.PlainField.{PlainField, fields_named}
 
 pub length-fields_named : (callsite index : ℕ) (names : List (List ℕ)) → length (fields_named callsite index names) ≡ length names
 length-fields_named callsite index [] = refl
@@ -23,3 +24,11 @@ drop-fields_named callsite names k below =
     let place : k ≡ 0 + k = omega arith in
     drop-fields_after callsite 0 names k k below place
     ∙ ap (λ m. record { index = k; name = slice_index_or names k []; callsite = callsite } ∷ drop m (fields_named callsite 0 names)) next
+
+pub names_named : (callsite index : ℕ) (names : List (List ℕ)) → map (λ (f : PlainField). f.name) (fields_named callsite index names) ≡ names
+names_named callsite index [] = refl
+names_named callsite index (name ∷ names) = ap (λ ns. name ∷ ns) (names_named callsite (index + 1) names)
+
+-- one more at the end
+pub map_more : {A : Type 0} → {B : Type 0} (v : A → B) (xs : List A) (x : A) → map v (xs ++ x ∷ []) ≡ map v xs ++ v x ∷ []
+map_more v xs x = map-append v xs (x ∷ [])

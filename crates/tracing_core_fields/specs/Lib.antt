@@ -19,6 +19,7 @@ pub mod DebugText
 pub mod ErrorText
 pub mod PlainValue
 pub mod Visits
+pub mod OwnedMetadatas
 pub mod OwnedValues
 pub mod Values
 pub mod ValueSet

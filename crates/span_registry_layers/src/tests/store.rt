@@ -4,10 +4,10 @@ mod lookups;
 
 use super::*;
 use crate::{
-    Extensions, OutputKey, OwnedMetadata, Slot, Tag, closes_child_first, line_is_whole,
-    open_is_least, registry_stays_sound, slots_keep_to_their_key, slots_stand_aside,
+    Extensions, OutputKey, Slot, Tag, closes_child_first, line_is_whole, open_is_least,
+    registry_stays_sound, slots_keep_to_their_key, slots_stand_aside,
 };
-use tracing_core::RequestError;
+use tracing_core::{OwnedMetadata, RequestError};
 
 fn number_of(slot: Option<&Slot>) -> u64 {
     match slot {

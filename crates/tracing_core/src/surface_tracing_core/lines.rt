@@ -10,9 +10,7 @@ pub struct Counted {
 impl Visit for Counted {
     type Error = u64;
 
-    ghost takes = { λ _ _ _ _ _. Unit {0} };
-
-    ghost forwards = { λ _ _ _ _ _ _. tt };
+    ghost shows = { λ _ _ _ _ _. Unit {0} };
 
     fn record_debug(&mut self, _field: &Field<'_>, _value: &DebugText<'_>) -> Result<(), u64> {
         if self.seen >= self.limit {

@@ -8,7 +8,7 @@ ghost use Rattle.tracing_core_requests.specs.PlainRequests.{plain_attributes, pl
 ghost use Rattle.tracing_core_requests.specs.Attributes.{attributes_metadata, attributes_values};
 
 use crate::requests::parent::Parent;
-use tracing_core_fields::{Field, FieldSet, Id, Metadata, ValueSet, Visit};
+use tracing_core_fields::{Field, FieldSet, Id, Metadata, ValueSet, VisitKinds};
 
 /// What is known of a span that is to be made: its metadata, the values of its fields, and which span
 /// it stands under.
@@ -101,7 +101,7 @@ impl<'m, 'v> Attributes<'m, 'v> {
     }
 
     /// Hands the values to the visitor, in order, up to its first refusal, which is the answer.
-    pub fn record<V: Visit>(&self, visitor: &mut V) -> Result<(), V::Error>
+    pub fn record<V: VisitKinds>(&self, visitor: &mut V) -> Result<(), V::Error>
         ensures { let values = (plain_attributes self.now).values in
             Visits V.takes values.callsite values.names values.entries visitor.old result visitor.new }
     {

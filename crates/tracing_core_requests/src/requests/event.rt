@@ -10,7 +10,7 @@ ghost use Rattle.tracing_core_requests.specs.PlainRequests.{plain_event, plain_r
 ghost use Rattle.tracing_core_requests.specs.Events.{event_metadata, event_values};
 
 use crate::requests::parent::Parent;
-use tracing_core_fields::{Id, Iter, Metadata, ValueSet, Visit};
+use tracing_core_fields::{Id, Iter, Metadata, ValueSet, VisitKinds};
 
 /// What happened at a moment: its metadata, the values of its fields, and which span it stands under.
 #[derive(Clone, Copy, Debug)]
@@ -55,7 +55,7 @@ impl<'m, 'v> Event<'m, 'v> {
     }
 
     /// Hands the values to the visitor, in order, up to its first refusal, which is the answer.
-    pub fn record<V: Visit>(&self, visitor: &mut V) -> Result<(), V::Error>
+    pub fn record<V: VisitKinds>(&self, visitor: &mut V) -> Result<(), V::Error>
         ensures { let values = (plain_event self.now).values in
             Visits V.takes values.callsite values.names values.entries visitor.old result visitor.new }
     {

@@ -5,7 +5,7 @@ ghost use Rattle.tracing_core_fields.specs.Visits.{Visits};
 ghost use Rattle.tracing_core_requests.specs.PlainRequests.{plain_record, plain_values};
 ghost use Rattle.tracing_core_requests.specs.Records.{record_values};
 
-use tracing_core_fields::{Field, ValueSet, Visit};
+use tracing_core_fields::{Field, ValueSet, VisitKinds};
 
 /// Values that are given to a span after it was made.
 #[derive(Clone, Copy, Debug)]
@@ -23,7 +23,7 @@ impl<'v> Record<'v> {
     }
 
     /// Hands the values to the visitor, in order, up to its first refusal, which is the answer.
-    pub fn record<V: Visit>(&self, visitor: &mut V) -> Result<(), V::Error>
+    pub fn record<V: VisitKinds>(&self, visitor: &mut V) -> Result<(), V::Error>
         ensures { let values = plain_record self.now in
             Visits V.takes values.callsite values.names values.entries visitor.old result visitor.new }
     {

@@ -18,9 +18,7 @@ struct Lines {
 impl Visit for Lines {
     type Error = fmt::Error;
 
-    ghost takes = { λ _ _ _ _ _. Unit {0} };
-
-    ghost forwards = { λ _ _ _ _ _ _. tt };
+    ghost shows = { λ _ _ _ _ _. Unit {0} };
 
     fn record_debug(&mut self, field: &Field<'_>, value: &DebugText<'_>) -> fmt::Result {
         if self.room == 0 {

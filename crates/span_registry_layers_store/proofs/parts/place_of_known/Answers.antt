@@ -3,7 +3,7 @@ use Rattle.std.specs.Arc.{arc_value}
 use Rattle.tracing_core_fields.specs.Metadata.{plain_metadata}
 use Rattle.tracing_core_fields.specs.PlainMetadata.{is_same_metadata-decides}
 use Rattle.span_registry_layers_store.proofs.Lists.{holds_at}
-use Rattle.span_registry_layers_store.specs.OwnedMetadatas.{owned_plain}
+use Rattle.tracing_core_fields.specs.OwnedMetadatas.{owned_plain}
 use Rattle.span_registry_layers_store.proofs.parts.place_of_known.Goals as goal
 
 pub returns-then-is_same : goal.returns-then-is_same

@@ -2,8 +2,8 @@ use Rattle.std.proofs.Common.{map, ap, ◌∙◌}
 use Rattle.tracing_core_fields.specs.FieldSet.{field_names, set_callsite}
 use Rattle.tracing_core_fields.specs.Iter.{fields_left}
 use Rattle.tracing_core_fields.specs.PlainField.{PlainField}
-use Rattle.span_registry_layers_store.proofs.FieldNames.{names_named}
-use Rattle.span_registry_layers_store.proofs.metadata.owned_names.Goals as goal
+use Rattle.tracing_core_fields.proofs.FieldLemmas.{names_named}
+use Rattle.tracing_core_fields.proofs.owned_metadata.owned_names.Goals as goal
 
 pub loop-field-init : goal.loop-field-init
 loop-field-init c =

@@ -1,31 +1,32 @@
 //! Metadata that owns its texts.
-
 ghost use Rattle.std.specs.Prelude.{◌≡◌, IfOk, map, string_bytes};
-ghost use Rattle.std.specs.Option.{option_map, option_copied, option_eq};
-ghost use Rattle.std.specs.Str.{bytes_eq};
-ghost use Rattle.std.specs.Cmp.Lexicographic.{pointwise};
+ghost use Rattle.std.specs.Option.{option_map, option_copied};
 ghost use Rattle.tracing_core_fields.specs.FieldSet.{field_names, set_callsite};
 ghost use Rattle.tracing_core_fields.specs.Metadata.{plain_metadata};
-ghost use Rattle.tracing_core_fields.specs.PlainMetadata.{is_same_label, is_same_place, is_same_shape, is_same_metadata};
-ghost use Rattle.span_registry_layers_store.specs.OwnedMetadatas.{owned_plain};
+ghost use Rattle.tracing_core_fields.specs.OwnedMetadatas.{owned_plain};
+ghost use Rattle.tracing_core_fields.specs.PlainMetadata.{is_same_metadata};
 
+use crate::callsite::Identifier;
+use crate::field::FieldSet;
+use crate::kind::Kind;
+use crate::level::Level;
+use crate::metadata::Metadata;
 use std::alloc::{AllocError, Global};
-use tracing_core_fields::{FieldSet, Identifier, Kind, Level, Metadata};
 
-/// A copy of the metadata of a callsite.
+/// A copy of metadata, for whoever keeps it longer than its texts are lent. Share it by an `Arc`.
 ///
 /// A contract sees it by `owned_plain`.
 #[derive(Debug, Drop)]
 pub struct OwnedMetadata {
-    callsite: u64,
-    kind: Kind,
-    level: Level,
     name: String,
     target: String,
+    level: Level,
     module_path: Option<String>,
     file: Option<String>,
     line: Option<u32>,
     fields: Vec<String>,
+    callsite: Identifier,
+    kind: Kind,
 }
 
 fn owned(alloc: Global, text: Option<&str>) -> Result<Option<String>, AllocError>
@@ -37,7 +38,7 @@ fn owned(alloc: Global, text: Option<&str>) -> Result<Option<String>, AllocError
     }
 }
 
-#[tactic(auto, using(crate::proofs::FieldNames::names_named, crate::proofs::Lists::map_more))]
+#[tactic(auto, using(crate::proofs::FieldLemmas::names_named, crate::proofs::FieldLemmas::map_more))]
 fn owned_names(alloc: Global, fields: &FieldSet<'_>) -> Result<Vec<String>, AllocError>
     ensures { IfOk result (λ names. map string_bytes names.items ≡ field_names fields.now) }
 {
@@ -57,16 +58,6 @@ fn lent(text: &Option<String>) -> Option<&str>
     }
 }
 
-fn is_same_text(copy: &Option<String>, text: Option<&str>) -> bool
-    ensures { result ≡ option_eq bytes_eq (option_map string_bytes copy.now) (option_copied text.entry) }
-{
-    match (copy, text) {
-        (None, None) => true,
-        (Some(kept), Some(given)) => kept.as_str() == given,
-        _ => false,
-    }
-}
-
 impl OwnedMetadata {
     /// A copy of the metadata.
     ///
@@ -77,15 +68,15 @@ impl OwnedMetadata {
         ensures { IfOk result (λ copy. owned_plain copy ≡ plain_metadata metadata.now) }
     {
         Ok(OwnedMetadata {
-            callsite: metadata.callsite().0,
-            kind: metadata.kind(),
-            level: *metadata.level(),
             name: String::from_str(alloc, metadata.name())?,
             target: String::from_str(alloc, metadata.target())?,
+            level: *metadata.level(),
             module_path: owned(alloc, metadata.module_path())?,
             file: owned(alloc, metadata.file())?,
             line: metadata.line(),
             fields: owned_names(alloc, metadata.fields())?,
+            callsite: metadata.callsite(),
+            kind: metadata.kind(),
         })
     }
 
@@ -96,17 +87,31 @@ impl OwnedMetadata {
         self.name.as_str()
     }
 
+    /// What the callsite makes.
+    pub fn kind(&self) -> Kind
+        ensures { result ≡ (owned_plain self.now).kind }
+    {
+        self.kind
+    }
+
     /// The fields, which lend their names.
     pub fn fields(&self) -> FieldSet<'_>
         ensures names { field_names result ≡ (owned_plain self.now).field_names }
         ensures callsite { set_callsite result ≡ (owned_plain self.now).callsite }
     {
-        FieldSet::of_strings(self.fields.as_slice(), Identifier(self.callsite))
+        FieldSet::of_strings(self.fields.as_slice(), self.callsite)
     }
 
     /// The metadata, which lends the texts.
     pub fn metadata(&self) -> Metadata<'_>
         ensures { plain_metadata result ≡ owned_plain self.now }
+    {
+        self.metadata_at(self.callsite)
+    }
+
+    /// The same metadata with the fields of another callsite.
+    pub fn metadata_at(&self, callsite: Identifier) -> Metadata<'_>
+        ensures { plain_metadata result ≡ record (owned_plain self.now) { callsite = callsite.0 } }
     {
         Metadata::new(
             self.name.as_str(),
@@ -115,53 +120,16 @@ impl OwnedMetadata {
             lent(&self.file),
             self.line,
             lent(&self.module_path),
-            FieldSet::of_strings(self.fields.as_slice(), Identifier(self.callsite)),
+            FieldSet::of_strings(self.fields.as_slice(), callsite),
             self.kind,
         )
-    }
-
-    fn has_label_of(&self, metadata: &Metadata<'_>) -> bool
-        ensures { result ≡ is_same_label (owned_plain self.now) (plain_metadata metadata.now) }
-    {
-        self.name.as_str() == metadata.name()
-            && self.target.as_str() == metadata.target()
-            && self.level == *metadata.level()
-    }
-
-    fn has_place_of(&self, metadata: &Metadata<'_>) -> bool
-        ensures { result ≡ is_same_place (owned_plain self.now) (plain_metadata metadata.now) }
-    {
-        is_same_text(&self.module_path, metadata.module_path())
-            && is_same_text(&self.file, metadata.file())
-            && self.line == metadata.line()
-    }
-
-    #[tactic(auto, using(crate::proofs::FieldNames::names_named))]
-    fn has_names_of(&self, fields: &FieldSet<'_>) -> bool
-        ensures { result ≡ pointwise bytes_eq (owned_plain self.now).field_names (field_names fields.now) }
-    {
-        let mut rest = self.fields.as_slice();
-        for field in fields.iter() {
-            match rest {
-                [first, later @ ..] if first.as_str() == field.name() => rest = later,
-                _ => return false,
-            }
-        }
-        rest.is_empty()
-    }
-
-    fn has_shape_of(&self, metadata: &Metadata<'_>) -> bool
-        ensures { result ≡ is_same_shape (owned_plain self.now) (plain_metadata metadata.now) }
-    {
-        self.callsite == metadata.callsite().0
-            && self.has_names_of(metadata.fields())
-            && self.kind == metadata.kind()
     }
 
     /// Whether all parts of the metadata are those of the copy.
     pub fn is_same(&self, metadata: &Metadata<'_>) -> bool
         ensures { result ≡ is_same_metadata (owned_plain self.now) (plain_metadata metadata.now) }
     {
-        self.has_label_of(metadata) && self.has_place_of(metadata) && self.has_shape_of(metadata)
+        let own = self.metadata();
+        own == *metadata
     }
 }

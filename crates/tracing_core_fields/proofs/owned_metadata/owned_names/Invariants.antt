@@ -2,7 +2,7 @@ use Rattle.std.proofs.Common.{◌≡◌, ◌++◌, map, string_bytes}
 use Rattle.tracing_core_fields.specs.FieldSet.{field_names}
 use Rattle.tracing_core_fields.specs.Iter.{fields_left}
 use Rattle.tracing_core_fields.specs.PlainField.{PlainField}
-use Rattle.span_registry_layers_store.proofs.metadata.owned_names.Given as goal
+use Rattle.tracing_core_fields.proofs.owned_metadata.owned_names.Given as goal
 
 abbrev pub invariant-loop-field : goal.invariant-loop-field
 invariant-loop-field l =

@@ -2,7 +2,7 @@
 use Rattle.std.specs.Prelude.{map, string_bytes}
 use Rattle.std.specs.Option.{option_map}
 use Rattle.tracing_core_fields.specs.PlainMetadata.{PlainMetadata}
-use Rattle.span_registry_layers_store.specs.declared.metadata.OwnedMetadata.{OwnedMetadata}
+use Rattle.tracing_core_fields.specs.declared.owned_metadata.OwnedMetadata.{OwnedMetadata}
 
 abbrev pub owned_plain : OwnedMetadata → PlainMetadata
 owned_plain m = record {
@@ -13,6 +13,6 @@ owned_plain m = record {
   file = option_map string_bytes m.file;
   line = m.line;
   field_names = map string_bytes m.fields.items;
-  callsite = m.callsite;
+  callsite = m.callsite.0;
   kind = m.kind;
 }
