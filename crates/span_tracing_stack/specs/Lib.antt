@@ -8,5 +8,4 @@ pub mod Outputs
 pub mod New
 pub mod Moves
 pub mod Steadiness
-pub mod Counted
 pub mod Written

@@ -1,16 +1,13 @@
 //! Field texts: `name=value`, one space between two fields.
 
-ghost use Rattle.std.specs.Prelude.{◌≡◌, ◌++◌, OnOk, string_bytes, ℕ, List, [], is_some, length, nat_lt, not, unwrap_or, IfOk};
+ghost use Rattle.std.specs.Prelude.{◌≡◌, ◌++◌, OnOk, string_bytes, ℕ, List, [], is_some, unwrap_or, IfOk};
 ghost use Rattle.tracing_core.specs.DebugText.{plain_debug};
-ghost use Rattle.tracing_core.specs.Iter.{fields_left};
-ghost use Rattle.tracing_core.specs.PlainField.{fields_named};
 ghost use Rattle.tracing_core.specs.PlainRequests.{plain_attributes, plain_event, plain_record};
 ghost use Rattle.span_tracing_machine.specs.FieldTexts.{sanitized_char, sanitized, is_message, plain_name, label, text_value, debug_piece, fields_text, space_behind, with_fields};
-ghost use Rattle.span_tracing_stack.specs.Counted.{count_to, reaches};
 ghost use Rattle.span_tracing_stack.specs.Stacks.{AllNamed, fields_in};
 
 use std::alloc::{AllocError, Global};
-use tracing_core::{Attributes, DebugText, Event, Field, Iter, Record, Visit};
+use tracing_core::{Attributes, DebugText, Event, Field, Record, Visit};
 
 #[tactic(auto, unfolding(span_tracing_machine::specs::FieldTexts::sanitized_char))]
 fn push_sanitized_char(out: &mut String, c: char) -> Result<(), AllocError>
@@ -105,47 +102,22 @@ fn is_shown(value: &DebugText<'_>) -> bool
     )
 }
 
-/// Which fields are written.
-#[derive(Clone, Copy, Debug)]
-enum Reach {
-    /// Each one that comes.
-    All,
-    /// Those up to a place, and none where there is no place.
-    UpTo(Option<usize>),
-}
-
-// Whether the field of a place is passed over.
-fn is_past(place: usize, reach: Reach) -> bool
-    ensures { result ≡ not (reaches reach place) }
-{
-    match reach {
-        Reach::All => false,
-        Reach::UpTo(None) => true,
-        Reach::UpTo(Some(last)) => last < place,
-    }
-}
-
 /// Writes the values of fields after one another.
 #[derive(Drop)]
 pub(crate) struct FieldsWriter {
     out: String,
     is_first: bool,
-    // A field past the last one of the values' set is passed over.
-    reach: Reach,
 }
 
 impl Visit for FieldsWriter {
-    ghost use Rattle.span_tracing_stack.specs.Written.{Writes, by_debug};
+    ghost use Rattle.span_tracing_stack.specs.Written.{Shows};
 
     type Error = AllocError;
 
-    ghost takes = { λ before field value answer after. Writes before field value answer after };
+    ghost shows = { λ before field value answer after. Shows before field value answer after };
 
-    ghost forwards = { λ before field value answer after taken. by_debug before field value answer after taken };
-
-    #[tactic(auto, unfolding(span_tracing_machine::specs::FieldTexts::value_piece))]
     fn record_debug(&mut self, field: &Field<'_>, value: &DebugText<'_>) -> Result<(), AllocError> {
-        if is_past(field.index(), self.reach) || !is_shown(value) {
+        if !is_shown(value) {
             return Ok(());
         }
         if !self.is_first {
@@ -157,19 +129,7 @@ impl Visit for FieldsWriter {
     }
 }
 
-// The place of the last field of a set, where it has any.
-fn last_of(fields: Iter<'_>) -> Option<usize>
-    ensures { (callsite : ℕ) (names : List (List ℕ)) → fields_left fields.entry ≡ fields_named callsite 0 names →
-        count_to result ≡ length names }
-{
-    let mut last = None;
-    for field in fields {
-        last = Some(field.index());
-    }
-    last
-}
-
-/// Appends the text of the fields of an event. A value past the names of its set is passed over.
+/// Appends the text of the fields of an event.
 pub(crate) fn push_event(
     alloc: Global,
     out: &mut String,
@@ -181,14 +141,13 @@ pub(crate) fn push_event(
     let mut writer = FieldsWriter {
         out: std::mem::replace(out, String::new(alloc)),
         is_first: true,
-        reach: Reach::UpTo(last_of(event.fields())),
     };
     let written = event.record(&mut writer);
     *out = writer.out;
     written
 }
 
-/// The text of the fields of a new span. A value past the names of its set is passed over.
+/// The text of the fields of a new span.
 pub(crate) fn text_of(alloc: Global, attributes: &Attributes<'_, '_>) -> Result<String, AllocError>
     ensures { let values = (plain_attributes attributes.now).values in
         IfOk result (λ text. string_bytes text ≡ fields_text values.names values.entries) }
@@ -196,7 +155,6 @@ pub(crate) fn text_of(alloc: Global, attributes: &Attributes<'_, '_>) -> Result<
     let mut writer = FieldsWriter {
         out: String::new(alloc),
         is_first: true,
-        reach: Reach::UpTo(last_of(attributes.fields().iter())),
     };
     attributes.record(&mut writer)?;
     Ok(writer.out)
@@ -220,7 +178,6 @@ pub(crate) fn more_of(alloc: Global, text: &str, values: &Record<'_>) -> Result<
     let mut writer = FieldsWriter {
         out: space_behind(alloc, text)?,
         is_first: true,
-        reach: Reach::All,
     };
     values.record(&mut writer)?;
     Ok(writer.out)

@@ -1,5 +1,5 @@
 //! Texts that are written ahead of their use.
-ghost use Rattle.std.specs.Prelude.{◌≡◌, ◌++◌, [], IfOk, IfSome, string_bytes};
+ghost use Rattle.std.specs.Prelude.{◌≡◌, ◌++◌, [], Some, true, false, IfOk, IfSome, OnErr, OnOk, string_bytes};
 
 use std::alloc::{AllocError, Global};
 use std::fmt;
@@ -15,7 +15,10 @@ struct Draft {
 impl fmt::Write for Draft {
     ghost write_str_gives = { λ before bytes after. string_bytes after.text ≡ string_bytes before.text ++ bytes };
 
-    fn write_str(&mut self, s: &str) -> fmt::Result {
+    fn write_str(&mut self, s: &str) -> fmt::Result
+        ensures ok { OnOk result (string_bytes self.new.text ≡ string_bytes self.old.text ++ s.now) }
+        ensures short { OnErr result (self.new.is_short ≡ true) }
+    {
         match self.text.push_str(s) {
             Ok(()) => Ok(()),
             Err(_) => {
@@ -28,7 +31,8 @@ impl fmt::Write for Draft {
 
 impl Draft {
     fn new(alloc: Global) -> Draft
-        ensures { string_bytes result.text ≡ [] }
+        ensures empty { string_bytes result.text ≡ [] }
+        ensures short { result.is_short ≡ false }
     {
         Draft {
             text: String::new(alloc),
@@ -38,7 +42,9 @@ impl Draft {
 
     // The text that was written, or `None` where writing it failed for another reason than memory.
     fn finish(self, written: fmt::Result) -> Result<Option<String>, AllocError>
-        ensures { IfOk result (λ text. IfSome text (λ text. (written ≡ Ok tt) × (text ≡ self.text))) }
+        ensures whole { written ≡ Ok tt → IfOk result (λ text. text ≡ Some self.text) }
+        ensures failed { IfOk result (λ text. IfSome text (λ text. (written ≡ Ok tt) × (text ≡ self.text))) }
+        ensures memory { OnErr result (self.is_short ≡ true) × OnOk result (self.is_short ≡ false) }
     {
         if self.is_short {
             return Err(AllocError);

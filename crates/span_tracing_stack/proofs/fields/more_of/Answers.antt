@@ -1,7 +1,7 @@
 use Rattle.std.proofs.Common.{ap, sym, append_assoc, ◌∙◌, ◌++◌, Ok, refl}
 use Rattle.tracing_core.specs.PlainRequests.{plain_record}
 use Rattle.span_tracing_machine.specs.FieldTexts.{fields_text, space_behind, with_fields}
-use Rattle.span_tracing_stack.proofs.Writing.{reads_named, visited_from}
+use Rattle.span_tracing_stack.proofs.Writing.{visited_from}
 use Rattle.span_tracing_stack.proofs.fields.more_of.Goals as goal
 
 pub returns : goal.returns
@@ -11,6 +11,6 @@ returns c named =
     let names = (plain_record c.args.values.now).names in
     let space = c.in_ok-space_behind.field-0 in
     ap (λ more. c.args.text.now ++ more)
-    (visited_from (Ok tt) space refl refl (reads_named (plain_record c.args.values.now).callsite names values named) c.in_ok-record.ensures
+    (visited_from (Ok tt) space refl refl c.in_ok-record.ensures
     ∙ ap (λ more. more ++ fields_text names values) c.in_ok-space_behind.ensures)
     ∙ sym (append_assoc c.args.text.now (space_behind c.args.text.now) (fields_text names values))
