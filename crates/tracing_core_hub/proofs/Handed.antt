@@ -1,8 +1,11 @@
 -- A call of the subscriber at the place of a handle.
 use Rattle.std.proofs.Common.{◌≡◌, ℕ, ◌<◌, ◌≤◌, List, length, get_or, set, Option, Some, None, refl, sym, ◌∙◌, subst}
 use Rattle.std.specs.Prelude.{slice_get}
+use Rattle.std.specs.Borrow.{MutBor}
+use Rattle.std.specs.Fn.{Once, FnOnceReturnsAtMut}
 use Rattle.std.proofs.lemmas.Option.{slice_get_past, slice_get-get_or}
 use Rattle.tracing_core_requests.specs.Calls.{Call, ReplyTo}
+use Rattle.tracing_core_hub.specs.Changing.{ChangeGives, ChangeGivesAt}
 use Rattle.tracing_core_hub.specs.Commands.{becomes}
 use Rattle.tracing_core_hub.specs.Handing.{CallGives, CallGivesAt}
 use Rattle.tracing_core_hub.specs.Lent.{IsPlaceOrEnd, living_of}
@@ -25,3 +28,17 @@ module _ {S : Type 0} (g : Ghosts S) (c : Call) (dispatch : Option ℕ) (es : Li
       let e = get_or es i d in
       let there : slice_get es i ≡ Some e = slice_get-get_or es i d inside in
       subst (λ o. CallGivesAt g c dispatch es o reply (set es i (becomes z e))) (sym there ∙ found.0) (z, moved, sym (found.2 (becomes z) e there))
+
+-- a call of a closure at two loans is one at what they hold
+pub met_at : {F T S : Type 0} (call : Once F (MutBor S × Unit {0}) (T × (MutBor S × Unit {0}))) (f : F) {p q : MutBor S} {answer : T} → call.post f (p, tt) (answer, (q, tt)) → FnOnceReturnsAtMut call f p.now answer q.now
+met_at call f {p = p} {q = q} met = record { shown = p; shows = refl; left = q; met = met; leaves = refl }
+
+module _ {S F T : Type 0} (call : Once F (MutBor S × Unit {0}) (T × (MutBor S × Unit {0}))) (f : F) (dispatch : Option ℕ) (es : List (RegisteredSubscriber S)) (i : ℕ) (found : IsPlaceOrEnd dispatch es i) where
+  pub changes_nobody : length es ≤ i → ChangeGives call f dispatch es None es
+  changes_nobody past = subst (λ o. ChangeGivesAt call f dispatch es o None es) (sym (nobody_there dispatch es i found past)) (refl, refl)
+
+  pub changes_somebody : i < length es → (d : RegisteredSubscriber S) (answer : T) (z : S) → FnOnceReturnsAtMut call f (get_or es i d).subscriber answer z → ChangeGives call f dispatch es (Some answer) (set es i (becomes z (get_or es i d)))
+  changes_somebody inside d answer z met =
+      let e = get_or es i d in
+      let there : slice_get es i ≡ Some e = slice_get-get_or es i d inside in
+      subst (λ o. ChangeGivesAt call f dispatch es o (Some answer) (set es i (becomes z e))) (sym there ∙ found.0) (answer, z, refl, met, sym (found.2 (becomes z) e there))

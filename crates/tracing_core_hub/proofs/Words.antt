@@ -1,10 +1,13 @@
 -- Which subscribers' caches stay valid after a command.
 use Rattle.std.proofs.Common.{◌≡◌, ℕ, ◌+◌, ◌<◌, ◌≤◌, Bool, true, false, nat_le, List, [], ◌∷◌, ◌++◌, Option, Some, None, Result, Ok, Err, refl, ap, sym, ◌∙◌, subst, arith, ◌⊎◌, inl, inr}
 use Rattle.std.specs.Prelude.{if◌then◌else◌, ◌==◌, slice_get, OnOk, OnErr, IfOk}
+use Rattle.std.specs.Borrow.{MutBor}
 use Rattle.std.specs.Cmp.{unsigned_Decides}
+use Rattle.std.specs.Fn.{Once}
 use Rattle.tracing_core_fields.specs.PlainMetadata.{PlainMetadata}
 use Rattle.tracing_core_hub.specs.Asking.{level_of}
 use Rattle.tracing_core_requests.specs.Calls.{Call, ReplyTo, Asked, CallsiteRegistered, DispatchRegistered}
+use Rattle.tracing_core_hub.specs.Changing.{AnswersAlike, ChangeGives, ChangeGivesAt, ChangesBy}
 use Rattle.tracing_core_hub.specs.Commands.{AskGives, AskGivesAt, AnswerGives, GateGives, GateGivesAt, AddGives, Rebuilt, Registered, RegisterGives, RegisterGivesAt, TakeGives, becomes, kept_alike, known, living, new_row, reached, row_of}
 use Rattle.tracing_core_hub.specs.Defaults.{holding, letting_go, globally, global_refusal, locally, default_refusal, given_up, end_gives, end_gives_at, reset_gives, reset_gives_at, running}
 use Rattle.tracing_core_hub.specs.Handing.{CallGives, CallGivesAt, HubGives}
@@ -46,10 +49,10 @@ pub record Alike {S C : Type 0} (t u : Table S C) : Type 0 where
   pub rows : u.rows ≡ t.rows
   pub greatest : u.greatest ≡ t.greatest
 
--- the subscribers are as they were, but for one that a call was made of
+-- the subscribers are as they were, but for one that answers as it did
 pub data Moved {S : Type 0} (g : Ghosts S) (es fs : List (RegisteredSubscriber S)) : Type 0 where
   Still : fs ≡ es → Moved g es fs
-  By : (n : ℕ) (x : RegisteredSubscriber S) (c : Call) (r : ReplyTo c) (after : S) → entry_of n es ≡ Some x → g.moves x.subscriber c r after → fs ≡ changed n (becomes after) es → Moved g es fs
+  By : (n : ℕ) (x : RegisteredSubscriber S) (after : S) → entry_of n es ≡ Some x → AnswersAlike g x.subscriber after → fs ≡ changed n (becomes after) es → Moved g es fs
 
 module _ {S C : Type 0} (g : Ghosts S) (h : SiteGhosts C) where
   kept_moved : (t u : Table S C) (e f : RegisteredSubscriber S) → HasValidCache g h t e → entry_of f.serial u.entries ≡ Some f → f.lent ≡ false → g.steady f.subscriber → SameWord (g.says e.subscriber) (g.says f.subscriber) (g.hint e.subscriber) (g.hint f.subscriber) → Alike t u → HasValidCache g h u f
@@ -228,8 +231,8 @@ module _ {S C : Type 0} (g : Ghosts S) (h : SiteGhosts C) where
   lent_keeps t None w = others_from t t (itself_keeps t)
   lent_keeps t (Some n) w = lent_keeps_at n w t
 
-  moved_keeps_by : (n : ℕ) (x : RegisteredSubscriber S) (c : Call) (r : ReplyTo c) (after : S) (t u : Table S C) → entry_of n t.entries ≡ Some x → g.moves x.subscriber c r after → u.entries ≡ changed n (becomes after) t.entries → Alike t u → PreservesCaches g h t u
-  moved_keeps_by n x c r after t u there moved left alike =
+  moved_keeps_by : (n : ℕ) (x : RegisteredSubscriber S) (after : S) (t u : Table S C) → entry_of n t.entries ≡ Some x → AnswersAlike g x.subscriber after → u.entries ≡ changed n (becomes after) t.entries → Alike t u → PreservesCaches g h t u
+  moved_keeps_by n x after t u there moved left alike =
       record {
         sound = sound_alike h t u (ap (λ (es : List (RegisteredSubscriber S)). serials es) left ∙ serials_changed n (becomes after) (λ y. refl) t.entries) alike.next alike.rows;
         later = λ sound. later_alike t u (ap (λ (es : List (RegisteredSubscriber S)). serials es) left ∙ serials_changed n (becomes after) (λ y. refl) t.entries) alike.next;
@@ -240,7 +243,7 @@ module _ {S C : Type 0} (g : Ghosts S) (h : SiteGhosts C) where
             let found : entry_of n t.entries ≡ Some e = subst (λ k. entry_of k t.entries ≡ Some e) number kept.stands in
             let same : x ≡ e = same_entry t.entries n x e there found in
             let own : entry_of n u.entries ≡ Some (becomes after e) = subst (λ es. entry_of n es ≡ Some (becomes after e)) (sym left) (changed_own n (becomes after) (λ y. refl) t.entries e found) in
-            let word = g.stays e.subscriber c r after (subst (λ (d : RegisteredSubscriber S). g.moves d.subscriber c r after) same moved) kept.steady in (
+            let word = subst (λ (d : RegisteredSubscriber S). AnswersAlike g d.subscriber after) same moved kept.steady in (
               becomes after e,
               refl,
               kept_moved t u e (becomes after e) kept (subst (λ k. entry_of k u.entries ≡ Some (becomes after e)) (sym number) own) kept.unlent word.0 word.1 alike,
@@ -250,11 +253,11 @@ module _ {S C : Type 0} (g : Ghosts S) (h : SiteGhosts C) where
 
   moved_keeps : (t u : Table S C) → Moved g t.entries u.entries → Alike t u → PreservesCaches g h t u
   moved_keeps t u (Still same) alike = same_keeps t u same alike
-  moved_keeps t u (By n x c r after there moved left) alike = moved_keeps_by n x c r after t u there moved left alike
+  moved_keeps t u (By n x after there moved left) alike = moved_keeps_by n x after t u there moved left alike
 
   ask_moves_at : (m : PlainMetadata) (now : At) (n : ℕ) (es fs : List (RegisteredSubscriber S)) (o : Option (RegisteredSubscriber S)) (answer : Bool) → entry_of n es ≡ o → AskGivesAt g m now n es o answer fs → Moved g es fs
   ask_moves_at m now n es fs None answer there given = Still given.1
-  ask_moves_at m now n es fs (Some x) answer there given = By n x (Asked m now) answer given.0 there given.2 given.3
+  ask_moves_at m now n es fs (Some x) answer there given = By n x given.0 there (g.stays x.subscriber (Asked m now) answer given.0 given.2) given.3
 
   ask_moves : (m : PlainMetadata) (now : At) (serial : Option ℕ) (es fs : List (RegisteredSubscriber S)) (answer : Bool) → AskGives g m now serial es answer fs → Moved g es fs
   ask_moves m now None es fs answer given = Still given.1
@@ -267,7 +270,7 @@ module _ {S C : Type 0} (g : Ghosts S) (h : SiteGhosts C) where
 
   call_moves_at : (c : Call) (n : ℕ) (es fs : List (RegisteredSubscriber S)) (o : Option (RegisteredSubscriber S)) (reply : ReplyTo c) → entry_of n es ≡ o → CallGivesAt g c (Some n) es o reply fs → Moved g es fs
   call_moves_at c n es fs None reply there given = Still given.1
-  call_moves_at c n es fs (Some x) reply there given = By n x c reply given.0 there given.1 given.2
+  call_moves_at c n es fs (Some x) reply there given = By n x given.0 there (g.stays x.subscriber c reply given.0 given.1) given.2
 
   call_moves : (c : Call) (dispatch : Option ℕ) (es fs : List (RegisteredSubscriber S)) (reply : ReplyTo c) → CallGives g c dispatch es reply fs → Moved g es fs
   call_moves c None es fs reply given = Still given.1
@@ -285,6 +288,18 @@ module _ {S C : Type 0} (g : Ghosts S) (h : SiteGhosts C) where
   call_keeps : (c : Call) (dispatch : Option ℕ) (t u : Table S C) (reply : ReplyTo c) → HubGives g c dispatch t reply u → PreservesCaches g h t u
   call_keeps c dispatch t u reply given = moved_keeps t u (call_moves c dispatch t.entries u.entries reply given.0) (alike_but_entries t u given.1)
 
+  change_moves_at : {F T : Type 0} (call : Once F (MutBor S × Unit {0}) (T × (MutBor S × Unit {0}))) (f : F) (n : ℕ) (es fs : List (RegisteredSubscriber S)) (o : Option (RegisteredSubscriber S)) (result : Option T) → ChangesBy call f (AnswersAlike g) → entry_of n es ≡ o → ChangeGivesAt call f (Some n) es o result fs → Moved g es fs
+  change_moves_at call f n es fs None result alike there given = Still given.1
+  change_moves_at call f n es fs (Some x) result alike there given = By n x given.1 there (alike x.subscriber given.1 given.0 given.3) given.4
+
+  change_moves : {F T : Type 0} (call : Once F (MutBor S × Unit {0}) (T × (MutBor S × Unit {0}))) (f : F) (dispatch : Option ℕ) (es fs : List (RegisteredSubscriber S)) (result : Option T) → ChangesBy call f (AnswersAlike g) → ChangeGives call f dispatch es result fs → Moved g es fs
+  change_moves call f None es fs result alike given = Still given.1
+  change_moves call f (Some n) es fs result alike given = change_moves_at call f n es fs (entry_of n es) result alike refl given
+
+  -- a closure that leaves a subscriber's answers as they are
+  change_keeps : {F T : Type 0} (call : Once F (MutBor S × Unit {0}) (T × (MutBor S × Unit {0}))) (f : F) (dispatch : Option ℕ) (t u : Table S C) (result : Option T) → ChangesBy call f (AnswersAlike g) → ChangeGives call f dispatch t.entries result u.entries → u ≡ record t { entries = u.entries } → PreservesCaches g h t u
+  change_keeps call f dispatch t u result alike given left = moved_keeps t u (change_moves call f dispatch t.entries u.entries result alike given) (alike_but_entries t u left)
+
   -- a question through a handle
   ask_keeps : (m : PlainMetadata) (now : At) (dispatch : Option ℕ) (t u : Table S C) (answer : Bool) → AskGives g m now dispatch t.entries answer u.entries → u ≡ record t { entries = u.entries } → PreservesCaches g h t u
   ask_keeps m now dispatch t u answer given left = moved_keeps t u (ask_moves m now dispatch t.entries u.entries answer given) (alike_but_entries t u left)
@@ -300,6 +315,10 @@ module _ {S C : Type 0} (g : Ghosts S) (h : SiteGhosts C) where
   pub handed_keeps : (c : Call) (reply : ReplyTo c) {serial dispatch : Option ℕ} {t v : Table S C} {es fs left : List (RegisteredSubscriber S)} → serial ≡ dispatch → v ≡ t → es ≡ v.entries → left ≡ fs → CallGives g c serial es reply fs → PreservesCaches g h t (record v { entries = left })
   handed_keeps c reply {dispatch = dispatch} {t = t} {v = v} {left = left} led view shown same given =
       call_keeps c dispatch t (record v { entries = left }) reply (on_hub (λ d xs ys. CallGives g c d xs reply ys) led view shown same given, with_entries left view)
+
+  pub changed_keeps : {F T : Type 0} (call : Once F (MutBor S × Unit {0}) (T × (MutBor S × Unit {0}))) (f : F) (result : Option T) {serial dispatch : Option ℕ} {t v : Table S C} {es fs left : List (RegisteredSubscriber S)} → ChangesBy call f (AnswersAlike g) → serial ≡ dispatch → v ≡ t → es ≡ v.entries → left ≡ fs → ChangeGives call f serial es result fs → PreservesCaches g h t (record v { entries = left })
+  changed_keeps call f result {dispatch = dispatch} {t = t} {v = v} {left = left} alike led view shown same given =
+      change_keeps call f dispatch t (record v { entries = left }) result alike (on_hub (λ d xs ys. ChangeGives call f d xs result ys) led view shown same given) (with_entries left view)
 
   pub asked_keeps : (m : PlainMetadata) (now : At) (answer : Bool) {serial dispatch : Option ℕ} {t v : Table S C} {es fs left : List (RegisteredSubscriber S)} → serial ≡ dispatch → v ≡ t → es ≡ v.entries → left ≡ fs → AskGives g m now serial es answer fs → PreservesCaches g h t (record v { entries = left })
   asked_keeps m now answer {dispatch = dispatch} {t = t} {v = v} {left = left} led view shown same given =

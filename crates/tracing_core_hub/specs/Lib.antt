@@ -11,6 +11,7 @@ pub mod Sound
 pub mod Keeping
 pub mod Lending
 pub mod Handing
+pub mod Changing
 pub mod Copies
 pub mod Running
 pub mod Scopes

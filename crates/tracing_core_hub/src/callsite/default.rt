@@ -30,7 +30,9 @@ impl<'a> DefaultCallsite<'a> {
         }
     }
 
-    /// The interest that it was told last.
+    /// The interest that it was told last, by the registering of this very value. A hub keeps callsites by
+    /// value and tells its own: what a hub's subscribers want now is answered by
+    /// [`Hub::interest`](crate::Hub::interest) and [`Hub::gate`](crate::Hub::gate).
     pub fn interest(&self) -> Interest
         ensures { result ≡ site_interest self.now }
     {

@@ -2,8 +2,9 @@
 ghost use Rattle.std.specs.Borrow.{sem};
 ghost use Rattle.std.specs.Option.{option_map};
 ghost use Rattle.std.specs.Prelude.{◌≡◌};
+ghost use Rattle.tracing_core_hub.specs.Changing.{AnswersAlike, ChangeGives, ChangesBy};
 ghost use Rattle.tracing_core_hub.specs.Handles.{hold_refusal};
-ghost use Rattle.tracing_core_hub.specs.Keeping.{PreservesUnlentCaches};
+ghost use Rattle.tracing_core_hub.specs.Keeping.{PreservesCaches, PreservesUnlentCaches};
 ghost use Rattle.tracing_core_hub.specs.Lent.{living_of, lent_to, IsPlaceOrEnd, IsPlaceToLend};
 ghost use Rattle.tracing_core_hub.specs.Lending.{LendsSubscriber};
 
@@ -56,6 +57,41 @@ impl<S: Subscriber, C: Callsite> Hub<S, C> {
         ensures* ends { sem 𝓛 (LendsSubscriber S.row C.row self.entry dispatch.now result) }
     {
         self.lend(dispatch)
+    }
+
+    /// Hands the subscriber that the handle leads to, for writing, to `change`, and answers what that does, or
+    /// `None` where there is none. The subscriber doesn't count as lent: this is for a `change` that leaves as
+    /// they are what the subscriber says of its interests, its hint, and that it is consistent. Then what is
+    /// kept stays right. For any other change take [`Hub::subscriber_mut`].
+    pub fn with_subscriber_mut<T, F: FnOnce(&mut S) -> T>(
+        &mut self,
+        dispatch: &Dispatch,
+        change: F,
+    ) -> Option<T>
+        requires { F.IsAlwaysCallable change }
+        ensures gives { ChangeGives F.FnOnce change dispatch.now self.old.entries result self.new.entries }
+        ensures rest { self.new ≡ record self.old { entries = self.new.entries } }
+        ensures keeps { ChangesBy F.FnOnce change (AnswersAlike ⟦<S as Subscriber>⟧) →
+            PreservesCaches ⟦<S as Subscriber>⟧ ⟦<C as Callsite>⟧ self.old self.new }
+    {
+        change_at(&mut self.entries, dispatch.serial(), change)
+    }
+}
+
+// Calls the closure with the subscriber of the number, where it lives.
+fn change_at<S, T, F: FnOnce(&mut S) -> T>(
+    entries: &mut [RegisteredSubscriber<S>],
+    serial: Option<u64>,
+    change: F,
+) -> Option<T>
+    requires { F.IsAlwaysCallable change }
+    ensures { ChangeGives F.FnOnce change serial entries.old result entries.new }
+{
+    let place = place_or_end(entries, serial);
+    if place < entries.len() {
+        Some(change(&mut entries[place].subscriber))
+    } else {
+        None
     }
 }
 

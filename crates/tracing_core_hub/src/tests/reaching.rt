@@ -75,3 +75,24 @@ fn requests_of_a_lane_reach_its_default(rt: HostRuntime) -> Result<(), Fail> {
     );
     Ok(())
 }
+
+#[test]
+fn a_changed_subscriber_isnt_lent(rt: HostRuntime) -> Result<(), Fail> {
+    let (mut hub, _, first) = hub_of(rt.alloc())?;
+    let second = add(&mut hub, 2, Interest::always())?;
+    let before = hub.with_subscriber_mut(&second, |subscriber: &mut Everything| {
+        let name = subscriber.name();
+        subscriber.rename(7);
+        name
+    });
+    assert_eq!(rt; before, Some(2));
+    let name = hub.subscriber(&second).ok_or("the second")?.name();
+    assert_eq!(rt; name, 7);
+    let name = hub.subscriber(&first).ok_or("the first")?.name();
+    assert_eq!(rt; name, 1);
+    let nobody = hub.with_subscriber_mut(&Dispatch::none(), |subscriber: &mut Everything| {
+        subscriber.rename(8)
+    });
+    assert!(rt; nobody.is_none());
+    Ok(())
+}
