@@ -10,7 +10,7 @@ pub use tracing_core_fields::{
     numbers_are_read_as_usize,
 };
 pub use tracing_core_hub::{
-    AddError, Book, Command, CommandError, CommandReply, DefaultCallsite, DefaultGuard, Dispatch,
+    AddError, Book, CallsiteIndex, Command, CommandError, CommandReply, DefaultCallsite, DefaultGuard, Dispatch,
     HandleCount, HandleError, Hub, HubTable, KeptInterest, Lane, LaneDefault, NoRoom,
     RegisterError, SetDefaultError, SetGlobalDefaultError, TooManyHandles, UnknownLane, WrongLane,
 };

@@ -1,11 +1,12 @@
 -- What is known without asking is what asking gives.
-use Rattle.std.proofs.Common.{◌≡◌, ℕ, ◌≤◌, Bool, true, false, nat_le, List, Option, Some, None, refl, ap, sym, ◌∙◌, subst, arith}
-use Rattle.std.specs.Prelude.{if◌then◌else◌}
+use Rattle.std.proofs.Common.{◌≡◌, ℕ, zero, suc, ◌≤◌, Bool, true, false, nat_le, List, [], ◌∷◌, Option, Some, None, refl, ap, sym, ◌∙◌, subst, arith}
+use Rattle.std.specs.Prelude.{if◌then◌else◌, slice_get}
 use Rattle.tracing_core_fields.specs.PlainMetadata.{PlainMetadata}
 use Rattle.tracing_core_hub.specs.Asking.{level_of}
 use Rattle.tracing_core_hub.specs.Commands.{AskGives, AskGivesAt, AnswerGives, GateGives, GateGivesAt, known, known_by, reached, row_of}
 use Rattle.tracing_core_hub.specs.Handles.{entry_of}
 use Rattle.tracing_core_requests.specs.Interests.{PlainInterest, Covers}
+use Rattle.tracing_core_requests.specs.Lists.{Every}
 use Rattle.tracing_core_hub.specs.ValidCaches.{IsTrueRow, RowRight, HasValidCache}
 use Rattle.tracing_core_requests.specs.Steady.{InterestFits, HintFits}
 use Rattle.tracing_core_hub.specs.Table.{Table}
@@ -51,12 +52,26 @@ module _ {S C : Type 0} (g : Ghosts S) (h : SiteGhosts C) where
       let m = h.metadata_of row.callsite in
       g.single e.subscriber m place answer p kept.steady (asked_right t e m place answer fs kept.stands given) may
 
+  place_every : (P : RegisteredCallsite C → Type 0) (place : ℕ) (rows : List (RegisteredCallsite C)) (row : RegisteredCallsite C) → slice_get rows place ≡ Some row → Every P rows → P row
+  place_every P place [] row found all = absurd (cc)
+  place_every P zero (r ∷ rows) row found all = let same : r ≡ row = cc in subst P same all.0
+  place_every P (suc place) (r ∷ rows) row found all = place_every P place rows row found all.1
+
+  gate_right_at : (t u : Table S C) (e : RegisteredSubscriber S) (row : RegisteredCallsite C) (o : Option (RegisteredCallsite C)) (place : At) (result : Option Bool) (p : Bool) → GateGivesAt g h t o place result u → o ≡ Some row → reached t place.lane ≡ Some e.serial → HasValidCache g h t e → IsTrueRow h row → RowRight g h e.subscriber row → g.answers e.subscriber (h.metadata_of row.callsite) place p → result ≡ Some p
+  gate_right_at t u e row o place result p given found reaches kept true_row right may =
+      let at_row : GateGivesAt g h t (Some row) place result u = subst (λ x. GateGivesAt g h t x place result u) found given in
+      let k = known t.greatest row.level row.interest in
+      let answer = at_row.0.0 in
+      let one : AnswerGives g h row place k (Some e.serial) t.entries answer u.entries = subst (λ x. AnswerGives g h row place k x t.entries answer u.entries) reaches at_row.0.2 in
+      let same : answer ≡ p = answer_right t e row place k answer p u.entries refl kept true_row right may one in
+      at_row.0.1 ∙ ap Some same
+
   -- a gate answers what asking the reached subscriber does
   pub gate_right : (t u : Table S C) (e : RegisteredSubscriber S) (row : RegisteredCallsite C) (identifier : ℕ) (place : At) (result : Option Bool) (p : Bool) → GateGives g h t identifier place result u → row_of identifier t.rows ≡ Some row → reached t place.lane ≡ Some e.serial → HasValidCache g h t e → g.answers e.subscriber (h.metadata_of row.callsite) place p → result ≡ Some p
   gate_right t u e row identifier place result p given found reaches kept may =
-      let at_row : GateGivesAt g h t (Some row) place result u = subst (λ o. GateGivesAt g h t o place result u) found given in
-      let k = known t.greatest row.level row.interest in
-      let answer = at_row.0.0 in
-      let one : AnswerGives g h row place k (Some e.serial) t.entries answer u.entries = subst (λ o. AnswerGives g h row place k o t.entries answer u.entries) reaches at_row.0.2 in
-      let same : answer ≡ p = answer_right t e row place k answer p u.entries refl kept (row_every (IsTrueRow h) identifier t.rows row found kept.rows) (row_every (RowRight g h e.subscriber) identifier t.rows row found kept.right) may one in
-      at_row.0.1 ∙ ap Some same
+      gate_right_at t u e row (row_of identifier t.rows) place result p given found reaches kept (row_every (IsTrueRow h) identifier t.rows row found kept.rows) (row_every (RowRight g h e.subscriber) identifier t.rows row found kept.right) may
+
+  -- so does one at an index
+  pub index_right : (t u : Table S C) (e : RegisteredSubscriber S) (row : RegisteredCallsite C) (index : ℕ) (place : At) (result : Option Bool) (p : Bool) → GateGivesAt g h t (slice_get t.rows index) place result u → slice_get t.rows index ≡ Some row → reached t place.lane ≡ Some e.serial → HasValidCache g h t e → g.answers e.subscriber (h.metadata_of row.callsite) place p → result ≡ Some p
+  index_right t u e row index place result p given found reaches kept may =
+      gate_right_at t u e row (slice_get t.rows index) place result p given found reaches kept (place_every (IsTrueRow h) index t.rows row found kept.rows) (place_every (RowRight g h e.subscriber) index t.rows row found kept.right) may

@@ -13,3 +13,4 @@ pub mod Handed
 pub mod Books
 pub mod Runs
 pub mod Scoping
+pub mod Callsites

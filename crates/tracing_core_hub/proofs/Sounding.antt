@@ -24,7 +24,7 @@ distinct_append [] x apart new = (tt, tt)
 distinct_append (n ∷ ns) x apart new = (every_append (λ m. ¬ (m ≡ n)) ns x apart.0 (λ e. new.0 (sym e)), distinct_append ns x apart.1 new.1)
 
 module _ {C : Type 0} where
-  identifiers_append : (rows : List (RegisteredCallsite C)) (row : RegisteredCallsite C) → identifiers (rows ++ row ∷ []) ≡ identifiers rows ++ row.identifier ∷ []
+  pub identifiers_append : (rows : List (RegisteredCallsite C)) (row : RegisteredCallsite C) → identifiers (rows ++ row ∷ []) ≡ identifiers rows ++ row.identifier ∷ []
   identifiers_append [] row = refl
   identifiers_append (r ∷ rows) row = ap (λ ns. r.identifier ∷ ns) (identifiers_append rows row)
 

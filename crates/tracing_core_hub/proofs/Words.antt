@@ -37,7 +37,7 @@ use Rattle.tracing_core_hub.specs.declared.hub.parts.Lane.{Lane}
 use Rattle.tracing_core_hub.specs.declared.hub.parts.Lane.TheVariants.{Ended, Running}
 use Rattle.tracing_core_hub.specs.declared.hub.parts.LaneDefault.{LaneDefault}
 use Rattle.tracing_core_requests.specs.declared.subscriber.Subscriber.{Ghosts}
-use Rattle.tracing_core_hub.proofs.Keeping.{asked_one, right_onward, row_every, same_word}
+use Rattle.tracing_core_hub.proofs.Keeping.{asked_one, right_onward, same_word}
 use Rattle.tracing_core_hub.proofs.Living.{by_bool, if_either, changed_own, changed_other, without_own, without_other, serials_changed, ascends_without, absent_above, entry_appended, entry_last}
 use Rattle.tracing_core_hub.proofs.Later.{below_next, later_added, later_alike, later_then, later_without}
 use Rattle.tracing_core_hub.proofs.Refreshing.{rebuilt_refreshed, refreshed_serials, refreshed_sound, refreshed_right}
@@ -331,8 +331,11 @@ module _ {S C : Type 0} (g : Ghosts S) (h : SiteGhosts C) where
       (answer_moves row now (known t.greatest row.level row.interest) (reached t now.lane) t.entries u.entries given.0.0 given.0.2, alike_but_entries t u given.1)
 
   -- a gate
+  pub gate_keeps_at : (t u : Table S C) (now : At) (o : Option (RegisteredCallsite C)) (result : Option Bool) → GateGivesAt g h t o now result u → PreservesCaches g h t u
+  gate_keeps_at t u now o result given = let m = gate_moves_at t u now o result given in moved_keeps t u m.0 m.1
+
   pub gate_keeps : (t u : Table S C) (identifier : ℕ) (now : At) (result : Option Bool) → GateGives g h t identifier now result u → PreservesCaches g h t u
-  gate_keeps t u identifier now result given = let m = gate_moves_at t u now (row_of identifier t.rows) result given in moved_keeps t u m.0 m.1
+  gate_keeps t u identifier now result given = gate_keeps_at t u now (row_of identifier t.rows) result given
 
   -- asking again whoever was lent, and maybe others
   pub refresh_keeps : (t u : Table S C) → Refreshed g h t u → PreservesCaches g h t u

@@ -2,10 +2,9 @@
 use Rattle.std.specs.Prelude.{◌≡◌, ℕ, max, false, List, [], ◌∷◌, Option, Some, None}
 use Rattle.tracing_core_fields.specs.PlainMetadata.{PlainMetadata}
 use Rattle.tracing_core_requests.specs.Calls.{CallsiteRegistered, HintAsked}
-use Rattle.tracing_core_requests.specs.Interests.{PlainInterest, common, joined, settled}
+use Rattle.tracing_core_requests.specs.Interests.{PlainInterest, joined, settled}
 use Rattle.tracing_core_hub.specs.declared.hub.parts.RegisteredSubscriber.{RegisteredSubscriber}
 use Rattle.tracing_core_hub.specs.declared.hub.parts.RegisteredCallsite.{RegisteredCallsite}
-use Rattle.tracing_core_requests.specs.declared.interest.InterestInner.TheVariants.{Never}
 use Rattle.tracing_core_requests.specs.declared.subscriber.Subscriber.{Ghosts}
 use Rattle.tracing_core_requests.specs.declared.callsite.Callsite.{Ghosts as SiteGhosts}
 

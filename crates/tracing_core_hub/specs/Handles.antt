@@ -1,5 +1,5 @@
 -- Handles: how many lead to each subscriber, and what taking and giving back one does.
-use Rattle.std.specs.Prelude.{ℕ, ◌+◌, ◌-◌, ◌==◌, Bool, if◌then◌else◌, nat_le, List, [], ◌∷◌, Option, Some, None, Result, Ok, Err}
+use Rattle.std.specs.Prelude.{ℕ, ◌+◌, ◌-◌, ◌==◌, Bool, if◌then◌else◌, nat_le, List, [], ◌∷◌, Option, Some, None}
 use Rattle.tracing_core_hub.specs.declared.hub.parts.RegisteredSubscriber.{RegisteredSubscriber}
 use Rattle.tracing_core_hub.specs.declared.refusal.HandleError.{HandleError}
 use Rattle.tracing_core_hub.specs.declared.refusal.HandleError.TheVariants.{Unknown, TooMany}

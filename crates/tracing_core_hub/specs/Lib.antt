@@ -8,6 +8,7 @@ pub mod Lent
 pub mod ValidCaches
 pub mod Refreshing
 pub mod Sound
+pub mod Places
 pub mod Keeping
 pub mod Lending
 pub mod Handing

@@ -1,6 +1,6 @@
 -- What a hub still knows of a subscriber that is consistent.
 use Rattle.tracing_core_requests.specs.Lists.{Every}
-use Rattle.std.specs.Prelude.{◌≡◌, ◌≤◌, false, List, [], ◌∷◌, Some}
+use Rattle.std.specs.Prelude.{◌≡◌, ◌≤◌, false, Some}
 use Rattle.tracing_core_hub.specs.Asking.{level_of}
 use Rattle.tracing_core_hub.specs.Handles.{entry_of}
 use Rattle.tracing_core_requests.specs.Interests.{PlainInterest, Covers}
@@ -9,7 +9,6 @@ use Rattle.tracing_core_hub.specs.Table.{Table}
 use Rattle.tracing_core_requests.specs.declared.callsite.Callsite.{Ghosts as SiteGhosts}
 use Rattle.tracing_core_hub.specs.declared.hub.parts.RegisteredSubscriber.{RegisteredSubscriber}
 use Rattle.tracing_core_hub.specs.declared.hub.parts.RegisteredCallsite.{RegisteredCallsite}
-use Rattle.tracing_core_requests.specs.declared.interest.InterestInner.TheVariants.{Never, Sometimes, Always}
 use Rattle.tracing_core_requests.specs.declared.subscriber.Subscriber.{Ghosts}
 
 -- the level and the identifier that are kept are the callsite's, and the level is one of the five

@@ -7,12 +7,14 @@ ghost use Rattle.tracing_core_hub.specs.declared.hub.parts.Lane.TheVariants.{Run
 ghost use Rattle.tracing_core_hub.specs.declared.hub.parts.LaneDefault.TheVariants.{Unset};
 
 mod asking;
+mod callsites;
 mod defaults;
 mod dispatching;
 mod entries;
 mod gate;
 mod handing;
 mod handles;
+mod index;
 mod lending;
 mod parts;
 mod reaching;
@@ -22,7 +24,9 @@ mod scoped;
 mod table;
 mod taking;
 
-use parts::{RegisteredCallsite, RegisteredSubscriber};
+use callsites::Callsites;
+pub use index::CallsiteIndex;
+use parts::RegisteredSubscriber;
 pub use parts::{Lane, LaneDefault};
 use std::alloc::{AllocError, Global};
 use std::marker::Model;
@@ -37,7 +41,7 @@ use tracing_core_requests::{Callsite, Subscriber};
 pub struct Hub<S, C> {
     entries: Vec<RegisteredSubscriber<S>>,
     next: u64,
-    rows: Vec<RegisteredCallsite<C>>,
+    rows: Callsites<C>,
     lanes: Vec<Lane>,
     // by lane, whether it is within a `get_default` or `get_current`
     entered: Vec<bool>,
@@ -53,7 +57,7 @@ impl<S, C> Model for Hub<S, C> {
     ghost view = { λ h. record {
       entries = h.entries.items;
       next = h.next;
-      rows = h.rows.items;
+      rows = h.rows;
       lanes = h.lanes.items;
       entered = h.entered.items;
       global = h.global;
@@ -70,7 +74,7 @@ impl<S: Subscriber, C: Callsite> Hub<S, C> {
         Hub {
             entries: Vec::new(alloc),
             next: 0,
-            rows: Vec::new(alloc),
+            rows: Callsites::new(alloc),
             lanes: Vec::new(alloc),
             entered: Vec::new(alloc),
             global: LaneDefault::Unset,

@@ -8,7 +8,6 @@ ghost use Rattle.tracing_core_hub.specs.Table.{own_setting, effective, chosen};
 
 use crate::hub::Hub;
 use crate::hub::parts::{Lane, LaneDefault, RegisteredCallsite, RegisteredSubscriber, lane_at};
-use crate::hub::rows::find_row;
 use tracing_core_fields::Identifier;
 use tracing_core_requests::{At, Callsite, Interest, Subscriber, WeakDispatch, weak_of};
 
@@ -36,7 +35,7 @@ fn serial_of(own: LaneDefault, global: LaneDefault) -> Option<u64>
 
 impl<S, C> Hub<S, C> {
     // The number of the subscriber that the lane reaches.
-    fn reached_serial(&self, lane: u64) -> Option<u64>
+    pub(crate) fn reached_serial(&self, lane: u64) -> Option<u64>
         ensures { result ≡ reached self.now lane }
     {
         serial_of(setting_of(&self.lanes, lane), self.global)
@@ -54,14 +53,14 @@ impl<S, C> Hub<S, C> {
     pub(crate) fn row(&self, identifier: u64) -> Option<&RegisteredCallsite<C>>
         ensures { option_map (λ row. row.now) result ≡ row_of identifier self.now.rows }
     {
-        find_row(&self.rows, identifier)
+        self.rows.find(identifier)
     }
 
     /// The common interest that is kept of the callsite with the identifier.
     pub fn interest(&self, identifier: Identifier) -> Option<Interest>
         ensures { result ≡ option_map (λ row. row.interest) (row_of identifier.0 self.now.rows) }
     {
-        match find_row(&self.rows, identifier.0) {
+        match self.rows.find(identifier.0) {
             None => None,
             Some(row) => Some(row.interest),
         }
@@ -88,7 +87,7 @@ impl<S: Subscriber, C: Callsite> Hub<S, C> {
         ensures { GateGives ⟦<S as Subscriber>⟧ ⟦<C as Callsite>⟧ self.old identifier.0 at result self.new }
     {
         let serial = self.reached_serial(at.lane);
-        match find_row(&self.rows, identifier.0) {
+        match self.rows.find(identifier.0) {
             None => None,
             Some(row) => Some(row.answer(&mut self.entries, serial, self.greatest, at)),
         }

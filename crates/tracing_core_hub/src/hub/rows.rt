@@ -1,31 +1,15 @@
-//! Callsites by their identifiers, and what is known of them.
+//! What is known of a callsite.
 ghost use Rattle.std.specs.Prelude.{◌≡◌, if◌then◌else◌, Some, None};
 ghost use Rattle.tracing_core_fields.specs.PlainMetadata.{is_same_metadata};
-ghost use Rattle.std.specs.Option.{option_map};
 ghost use Rattle.tracing_core_fields.specs.Metadata.{plain_metadata};
 ghost use Rattle.tracing_core_requests.specs.Calls.{Asked};
 ghost use Rattle.tracing_core_requests.specs.Steady.{IsReal};
-ghost use Rattle.tracing_core_hub.specs.Commands.{row_of, known, AnswerGives, AskGives, new_row};
+ghost use Rattle.tracing_core_hub.specs.Commands.{known, AnswerGives, AskGives, new_row};
 
 use crate::hub::entries::place_of;
 use crate::hub::parts::{RegisteredCallsite, RegisteredSubscriber};
 use tracing_core_fields::{LevelFilter, Metadata};
 use tracing_core_requests::{At, Callsite, Interest, Subscriber};
-
-// The callsite with the identifier.
-pub(crate) fn find_row<C>(
-    rows: &[RegisteredCallsite<C>],
-    identifier: u64,
-) -> Option<&RegisteredCallsite<C>>
-    ensures { option_map (λ row. row.now) result ≡ row_of identifier rows.now }
-{
-    for row in rows {
-        if row.identifier == identifier {
-            return Some(row);
-        }
-    }
-    None
-}
 
 // What is known without asking.
 fn known_answer(greatest: LevelFilter, level: LevelFilter, interest: Interest) -> Option<bool>
@@ -73,6 +57,12 @@ impl<C: Callsite> RegisteredCallsite<C> {
             level,
             interest: Interest::never(),
         }
+    }
+
+    pub(crate) fn into_callsite(self) -> C
+        ensures { result ≡ self.callsite }
+    {
+        self.callsite
     }
 
     // The kept interest, where the metadata is this.

@@ -86,7 +86,7 @@ impl<S, C> Hub<S, C> {
             handles: count_handles(alloc, &self.entries)?,
             global: self.global,
             lanes: copy_lanes(alloc, &self.lanes)?,
-            callsites: copy_interests(alloc, &self.rows)?,
+            callsites: copy_interests(alloc, self.rows.as_slice())?,
             greatest: self.greatest,
         })
     }

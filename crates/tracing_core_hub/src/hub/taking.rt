@@ -10,8 +10,8 @@ ghost use Rattle.tracing_core_hub.specs.Sound.{IsSound};
 
 use crate::dispatch::Dispatch;
 use crate::hub::Hub;
-use crate::hub::asking::{ask_hints, ask_rows};
-use crate::hub::parts::{RegisteredCallsite, RegisteredSubscriber};
+use crate::hub::asking::ask_hints;
+use crate::hub::parts::RegisteredSubscriber;
 use crate::refusal::{AddError, RegisterError};
 use tracing_core_requests::{Callsite, Interest, Subscriber, weak_of};
 
@@ -34,7 +34,7 @@ impl<S: Subscriber, C: Callsite> Hub<S, C> {
     fn ask_all_again(&mut self)
         ensures { Rebuilt ⟦<S as Subscriber>⟧ ⟦<C as Callsite>⟧ self.old self.new }
     {
-        ask_rows(&mut self.entries, &mut self.rows);
+        self.rows.ask_all(&mut self.entries);
         self.greatest = ask_hints(&mut self.entries);
     }
 
@@ -95,15 +95,10 @@ impl<S: Subscriber, C: Callsite> Hub<S, C> {
         requires { row_of (C.metadata_of callsite).callsite self.old.rows ≡ None }
         ensures { TakeGives ⟦<S as Subscriber>⟧ ⟦<C as Callsite>⟧ self.old callsite result self.new }
     {
-        let mut row = RegisteredCallsite::new(callsite);
-        if self.rows.reserve(1).is_err() {
-            let RegisteredCallsite { callsite, .. } = row;
-            return Err(RegisterError::OutOfMemory(callsite));
+        match self.rows.take(callsite, &mut self.entries) {
+            Ok(interest) => return Ok(interest),
+            Err(callsite) => return Err(RegisterError::OutOfMemory(callsite)),
         }
-        row.ask(&mut self.entries);
-        let interest = row.interest;
-        self.rows.push_reserved(row);
-        Ok(interest)
     }
 
     // What is kept of the identifier of the callsite: the interest where the metadata is the same.

@@ -1,7 +1,7 @@
 // Callsites that are lent their metadata, and boxes of one kind of subscriber.
 use crate::tests::everything::Everything;
-use crate::tests::metadata_of;
 use crate::tests::owned_callsite::OwnedCallsite;
+use crate::tests::{at, hub_of, metadata_of};
 use crate::*;
 use std::test::Fail;
 use tracing_core_fields::{FieldSet, Identifier, Level};
@@ -35,5 +35,29 @@ fn a_box_of_one_kind_answers_what_is_in_it(rt: HostRuntime) -> Result<(), Fail> 
         hub.register(OwnedCallsite::new(3, Level::INFO)).ok(),
         Some(Interest::always())
     );
+    Ok(())
+}
+
+#[test]
+fn callsites_stand_at_an_index(rt: HostRuntime) -> Result<(), Fail> {
+    let (mut hub, lane, first) = hub_of(rt.alloc())?;
+    assert!(rt; hub.set_default(lane, &first).is_ok());
+    assert!(rt; hub.index_of(Identifier(3)).is_none());
+    assert!(rt; hub.register(OwnedCallsite::new(3, Level::INFO)).is_ok());
+    assert!(rt; hub.register(OwnedCallsite::new(9, Level::WARN)).is_ok());
+    let index = hub.index_of(Identifier(9)).ok_or("the second")?;
+    assert!(rt;
+        hub.index_of(Identifier(3))
+            .is_some_and(|other| other != index)
+    );
+    assert!(rt;
+        hub.interest_at(index)
+            .is_some_and(|interest| interest.is_always())
+    );
+    let level = *hub.metadata_at(index).ok_or("its metadata")?.level();
+    assert_eq!(rt; level, Level::WARN);
+    assert_eq!(rt; hub.gate_at(index, at(lane)), Some(true));
+    let empty: Hub<Everything, OwnedCallsite> = Hub::new(rt.alloc());
+    assert!(rt; empty.interest_at(index).is_none() && empty.metadata_at(index).is_none());
     Ok(())
 }

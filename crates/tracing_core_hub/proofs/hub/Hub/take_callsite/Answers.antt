@@ -1,22 +1,27 @@
-use Rattle.std.proofs.Common.{◌≡◌, None, ap, sym, ◌∙◌, refl, List, [], ◌∷◌, ◌++◌, arith, take, drop, length}
+use Rattle.std.proofs.Common.{◌≡◌, ◌++◌, ap, sym, ◌∙◌, refl, arith, take, drop, length}
 use Rattle.std.proofs.lemmas.List.{with_items_is}
-use Rattle.std.specs.Option.{is_some}
-use Rattle.tracing_core_hub.specs.Commands.{row_of}
+use Rattle.tracing_core_hub.specs.Commands.{new_row}
 use Rattle.tracing_core_hub.specs.Table.{Table}
-use Rattle.tracing_core_hub.specs.declared.hub.parts.RegisteredCallsite.{RegisteredCallsite}
-use Rattle.tracing_core_hub.proofs.Tables.{none_of, asked_alike, kept_at}
+use Rattle.tracing_core_hub.proofs.Tables.{asked_alike, kept_at, same_at}
 use Rattle.tracing_core_hub.proofs.hub.Hub.take_callsite.Goals as goal
 
-pub returns : goal.returns
-returns g c =
+pub returns-in-Ok : goal.returns-in-Ok
+returns-in-Ok g c =
     let i = c.self.inside in
-    let whole : take i.entries.len (c.ask.new.entries ++ drop (length c.ask.new.entries) i.entries.items) ≡ c.ask.new.entries = with_items_is i.entries c.ask.new.entries (omega arith) in
-    let rows : c.push_reserved.new.self.items ≡ i.rows.items ++ c.ask.new.self ∷ [] = c.push_reserved.ensures.items ∙ ap (λ (rs : List (RegisteredCallsite g.row.C.Denot)). rs ++ c.ask.new.self ∷ []) c.reserve.ensures.items in
+    let taken = c.in-Ok.ensures in
+    let whole : take i.entries.len (c.take.new.entries ++ drop (length c.take.new.entries) i.entries.items) ≡ c.take.new.entries = with_items_is i.entries c.take.new.entries (omega arith) in
     record {
-      real = c.new-row.ensures.real;
+      real = taken.0;
       unknown = c.requires;
-      row = c.ask.new.self;
-      asked = asked_alike g.S.Subscriber g.C.Callsite _ _ _ _ _ _ c.ask.new.self (c.deref_mut.ensures.value ∙ ap (λ (t : Table g.row.S.Denot g.row.C.Denot). t.entries) c.self.view_is) c.new-row.ensures.row (sym whole) c.ask.ensures;
-      told = refl;
-      kept = kept_at _ _ _ _ c.ask.new.self c.self.view_is rows;
+      row = taken.1;
+      asked = asked_alike g.S.Subscriber g.C.Callsite _ _ _ _ (new_row g.C.Callsite c.args.callsite) (new_row g.C.Callsite c.args.callsite) taken.1 (c.deref_mut.ensures.value ∙ ap (λ (t : Table g.row.S.Denot g.row.C.Denot). t.entries) c.self.view_is) refl (sym whole) taken.2;
+      told = taken.3;
+      kept = kept_at _ _ _ _ taken.1 c.self.view_is taken.4;
     }
+
+pub returns-in-Err : goal.returns-in-Err
+returns-in-Err g c =
+    let i = c.self.inside in
+    let left = c.in-Err.ensures in
+    let whole : take i.entries.len (c.take.new.entries ++ drop (length c.take.new.entries) i.entries.items) ≡ c.take.new.entries = with_items_is i.entries c.take.new.entries (omega arith) in
+    (left.0, same_at _ _ _ _ c.self.view_is (whole ∙ left.2 ∙ c.deref_mut.ensures.value) left.1)

@@ -15,6 +15,6 @@ returns g c =
       (
         z,
         subst (λ d. g.S.Subscriber.moves c.args.subscriber (DispatchRegistered d) tt z) c.weak_of.ensures c.on_register_dispatch.ensures,
-        subst (λ (es : List (RegisteredSubscriber g.row.S.Denot)). Refreshed g.S.Subscriber g.C.Callsite (record { entries = es; next = i.next + 1; rows = i.rows.items; lanes = i.lanes.items; entered = i.entered.items; global = i.global; greatest = i.greatest }) c.ask_again.new.self) pushed c.ask_again.ensures,
+        subst (λ (es : List (RegisteredSubscriber g.row.S.Denot)). Refreshed g.S.Subscriber g.C.Callsite (record { entries = es; next = i.next + 1; rows = i.rows; lanes = i.lanes.items; entered = i.entered.items; global = i.global; greatest = i.greatest }) c.ask_again.new.self) pushed c.ask_again.ensures,
       ),
     )
