@@ -1,11 +1,14 @@
 //! Folders in memory, with faults, and of the system.
 
+mod disk;
+mod system;
+mod torn;
+
 use crate::{
-    BadMoment, DiskFolder, Entry, FaultyFolder, FileNumber, Folder, FolderError, FolderFault,
-    MemoryFolder, Moment,
+    BadMoment, Entry, FaultyFolder, FileNumber, Folder, FolderError, FolderFault, MemoryFolder,
+    Moment,
 };
 use std::alloc::{AllocError, Global};
-use std::fs;
 use std::test::Fail;
 
 const REFUSED: FolderError = FolderError::Fault(FolderFault::Refused);
@@ -26,22 +29,17 @@ fn numbers(alloc: Global, list: &[u64]) -> Result<Vec<u64>, AllocError> {
     Vec::from_slice(alloc, list)
 }
 
-/// Each call once; tells how many were refused, and the number of the last one.
+/// Each call once, where the file was opened; tells how many were refused, and the number of the last one.
 fn refusals<D: Folder>(folder: &mut D) -> (usize, u64) {
     let mut refused = 0;
     let mut last = 0;
-    let mut file = FileNumber { index: 0 };
     if folder.create_dirs().is_err() {
         refused += 1;
         last = 1;
     }
-    match folder.open_append("a") {
-        Ok(number) => file = number,
-        Err(_) => {
-            refused += 1;
-            last = 2;
-        }
-    }
+    let Ok(file) = folder.open_append("a") else {
+        return (refused + 1, 2);
+    };
     if folder.write(file, b"one").is_err() {
         refused += 1;
         last = 3;
@@ -83,9 +81,41 @@ fn a_file_outlives_its_name(rt: HostRuntime) -> Result<(), Fail> {
     folder.remove("a")?;
     assert_eq!(rt; folder.write(file, b"two")?, 3);
     assert_eq!(rt; folder.files()?.len(), 0);
-    assert_eq!(rt; folder.open_append("a")?.index, 1);
+    assert_eq!(rt; folder.open_append("a")?, FileNumber::new(1));
     assert_eq!(rt; folder.remove("b"), Err(NOT_FOUND));
     assert_eq!(rt; folder.failures(), 1);
+    Ok(())
+}
+
+#[test]
+fn a_number_that_is_not_open_is_not_found(rt: HostRuntime) -> Result<(), Fail> {
+    let alloc = rt.alloc();
+    let mut folder = MemoryFolder::new(alloc);
+    let file = folder.open_append("a")?;
+    assert_eq!(rt; folder.open_append("a")?, file);
+    folder.close_file(file)?;
+    assert_eq!(rt; folder.write(file, b"one")?, 3);
+    folder.close_file(file)?;
+    assert_eq!(rt; folder.write(file, b"two"), Err(NOT_FOUND));
+    assert_eq!(rt; folder.flush(file), Err(NOT_FOUND));
+    assert_eq!(rt; folder.close_file(file), Err(NOT_FOUND));
+    assert_eq!(rt; folder.write(FileNumber::new(7), b"three"), Err(NOT_FOUND));
+    assert_eq!(rt; folder.failures(), 4);
+    let files = folder.files()?;
+    assert_eq!(rt; files.len(), 1);
+    assert_eq!(rt; files[0].bytes, b"one".as_slice());
+    Ok(())
+}
+
+#[test]
+fn a_refusal_comes_before_a_closed_number(rt: HostRuntime) -> Result<(), Fail> {
+    let alloc = rt.alloc();
+    let refused = numbers(alloc, &[2])?;
+    let mut folder = FaultyFolder::new(MemoryFolder::new(alloc), refused);
+    let file = FileNumber::new(0);
+    assert_eq!(rt; folder.write(file, b"one"), Err(NOT_FOUND));
+    assert_eq!(rt; folder.write(file, b"two"), Err(REFUSED));
+    assert_eq!(rt; folder.failures(), 2);
     Ok(())
 }
 
@@ -118,7 +148,7 @@ fn made_directories_and_the_last_flush_are_known(rt: HostRuntime) -> Result<(), 
     assert_eq!(rt; folder.last_flushed(), None);
     folder.flush(first)?;
     folder.flush(second)?;
-    assert_eq!(rt; folder.last_flushed(), Some(second.index));
+    assert_eq!(rt; folder.last_flushed(), Some(second.index()));
     assert!(rt; !folder.has_dirs());
     folder.create_dirs()?;
     assert!(rt; folder.has_dirs());
@@ -203,40 +233,5 @@ fn calls_are_refused_with_the_fault_that_was_set(rt: HostRuntime) -> Result<(), 
     let file = folder.open_append("a")?;
     assert_eq!(rt; folder.write(file, b"one"), Err(NOT_FOUND));
     assert_eq!(rt; folder.failures(), 2);
-    Ok(())
-}
-
-#[test]
-fn a_folder_of_the_system_keeps_files(rt: HostRuntime) -> Result<(), Fail> {
-    let alloc = rt.alloc();
-    let path = String::from_str(alloc, "logs/deep")?;
-    let mut folder = DiskFolder::new(rt, path);
-    assert_eq!(rt; folder.open_append("a"), Err(NOT_FOUND));
-    folder.create_dirs()?;
-    folder.create_dirs()?;
-    let first = folder.open_append("a")?;
-    assert_eq!(rt; folder.write(first, b"one\n")?, 4);
-    folder.flush(first)?;
-    folder.close_file(first)?;
-    assert_eq!(rt; folder.write(first, b"lost"), Err(NOT_FOUND));
-    let again = folder.open_append("a")?;
-    assert_eq!(rt; folder.write(again, b"two\n")?, 4);
-    let bytes = fs::read(&rt, "logs/deep/a")?;
-    assert_eq!(rt; bytes.as_slice(), b"one\ntwo\n".as_slice());
-    let entries = folder.list()?;
-    assert_eq!(rt; entries.len(), 1);
-    assert_eq!(rt; listed(entries.as_slice(), "a"), Some(true));
-    folder.remove("a")?;
-    assert_eq!(rt; folder.remove("a"), Err(NOT_FOUND));
-    assert_eq!(rt; folder.write(again, b"three\n")?, 6);
-    assert_eq!(rt; folder.list()?.len(), 0);
-    let link = Err(FolderError::Fault(FolderFault::Unsupported));
-    assert_eq!(rt; folder.link("latest", "a"), link);
-    assert_eq!(rt; folder.failures(), 4);
-    fs::remove_dir_all(&rt, "logs")?;
-    assert!(rt; folder.list().is_err());
-    folder.create_dirs()?;
-    assert_eq!(rt; folder.list()?.len(), 0);
-    fs::remove_dir_all(&rt, "logs")?;
     Ok(())
 }
