@@ -176,7 +176,7 @@ IsKnown after = (d : Contents) × (after ≡ Some d)
 hands_known : (names : FileNames) (m : Moment) (h : Held) (line : List ℕ) (r : Result (Unit {0}) FolderError) (b : Option ℤ) (f : FileNumber) (l : Faults) (after : Option Contents) → HandsTo names m h line r b f l after → IsKnown after
 hands_known names m h line (Ok done) b f l after over = (over.writes.left.contents, over.writes.left.is)
 hands_known names m h line (Err (Fault fault)) b f l after over = (over.writes.left.contents, over.writes.left.is)
-hands_known names m h line (Err OutOfMemory) b f l after (inl missed) = starved_known names m h.faults h.contents after missed.left
+hands_known names m h line (Err OutOfMemory) b f l after (inl missed) = starved_known names m h.faults l h.contents after missed.left
 hands_known names m h line (Err OutOfMemory) b f l after (inr over) = (over.writes.left.contents, over.writes.left.is)
 
 pub hands_one : {D : Type 0} (contents : D → Option Contents) (names : FileNames) (m : Moment) (h : Held) (line : List ℕ) (fate : Written) (a : RollingFileAppender D) → HandsLine contents names m h line (answer_of fate) a → HandsOne contents names m h line fate a

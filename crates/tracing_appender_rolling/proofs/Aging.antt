@@ -25,7 +25,7 @@ use Rattle.tracing_appender_folders.specs.Contents.{StoredFile, Contents, Listed
 use Rattle.tracing_appender_rolling.specs.Names.{FileNames, joined, file_name}
 use Rattle.tracing_appender_rolling.specs.Sinks.{Handed, Placed, PlainSink, placed, placed_lines, running_moment, with_handed, period_in, period_name, lies_in, was_opened, file_text}
 use Rattle.tracing_appender_rolling.specs.Retention.{PlainCandidate, Tells, counted_from, made_of, begins, ends, with_candidate, IsCandidates, goes}
-use Rattle.tracing_appender_rolling.specs.Pruning.{doomed, doomed_of}
+use Rattle.tracing_appender_rolling.specs.Pruning.{doomed, names_by}
 use Rattle.tracing_appender_rolling.specs.Remaining.{is_named, IsRemoved}
 use Rattle.tracing_appender_rolling.specs.Reading.{Undated, OldestStayGone, LinesKeepOldest}
 use Rattle.tracing_appender_rolling.proofs.PeriodFacts.{moment_second}
@@ -130,26 +130,26 @@ or_true : (b : Bool) → (b || true) ≡ true
 or_true true = refl
 or_true false = refl
 
-named_doomed : (limit : ℕ) (all cs : List PlainCandidate) (q : List ℕ) → is_named q (doomed_of limit all cs) ≡ true → (x : PlainCandidate) × In x cs × (goes limit all x ≡ true) × (x.name ≡ q)
+named_doomed : (limit : ℕ) (all cs : List PlainCandidate) (q : List ℕ) → is_named q (names_by (goes limit all) cs) ≡ true → (x : PlainCandidate) × In x cs × (goes limit all x ≡ true) × (x.name ≡ q)
 named_doomed limit all [] q e = absurd (false≢true e)
 named_doomed limit all (c ∷ cs) q e = by_case (goes limit all c) (bytes_eq c.name q) refl refl e (named_doomed limit all cs q)
   where
     by_rest : (x : PlainCandidate) × In x cs × (goes limit all x ≡ true) × (x.name ≡ q) → (x : PlainCandidate) × In x (c ∷ cs) × (goes limit all x ≡ true) × (x.name ≡ q)
     by_rest (x, there, gone, name) = (x, inr there, gone, name)
 
-    by_case : (b d : Bool) → goes limit all c ≡ b → bytes_eq c.name q ≡ d → is_named q (map (λ (x : PlainCandidate). x.name) (cond b (c ∷ filter (goes limit all) cs) (filter (goes limit all) cs))) ≡ true → (is_named q (doomed_of limit all cs) ≡ true → (x : PlainCandidate) × In x cs × (goes limit all x ≡ true) × (x.name ≡ q)) → (x : PlainCandidate) × In x (c ∷ cs) × (goes limit all x ≡ true) × (x.name ≡ q)
+    by_case : (b d : Bool) → goes limit all c ≡ b → bytes_eq c.name q ≡ d → is_named q (map (λ (x : PlainCandidate). x.name) (cond b (c ∷ filter (goes limit all) cs) (filter (goes limit all) cs))) ≡ true → (is_named q (names_by (goes limit all) cs) ≡ true → (x : PlainCandidate) × In x cs × (goes limit all x ≡ true) × (x.name ≡ q)) → (x : PlainCandidate) × In x (c ∷ cs) × (goes limit all x ≡ true) × (x.name ≡ q)
     by_case false d gone same named more = by_rest (more named)
     by_case true true gone same named more = (c, inl refl, gone, (bytes_eq-Decides c.name q).0 same)
-    by_case true false gone same named more = by_rest (more (sym (ap (λ b. b || is_named q (doomed_of limit all cs)) same) ∙ named))
+    by_case true false gone same named more = by_rest (more (sym (ap (λ b. b || is_named q (names_by (goes limit all) cs)) same) ∙ named))
 
-doomed_named : (limit : ℕ) (all cs : List PlainCandidate) (x : PlainCandidate) → In x cs → goes limit all x ≡ true → is_named x.name (doomed_of limit all cs) ≡ true
+doomed_named : (limit : ℕ) (all cs : List PlainCandidate) (x : PlainCandidate) → In x cs → goes limit all x ≡ true → is_named x.name (names_by (goes limit all) cs) ≡ true
 doomed_named limit all [] x there gone = absurd there
 doomed_named limit all (c ∷ cs) x (inl e) gone =
     ap (λ b. is_named x.name (map (λ (y : PlainCandidate). y.name) (cond b (c ∷ filter (goes limit all) cs) (filter (goes limit all) cs)))) (ap (goes limit all) e ∙ gone)
-    ∙ ap (λ b. b || is_named x.name (doomed_of limit all cs)) ((bytes_eq-Decides c.name x.name).1 (ap (λ (y : PlainCandidate). y.name) e))
+    ∙ ap (λ b. b || is_named x.name (names_by (goes limit all) cs)) ((bytes_eq-Decides c.name x.name).1 (ap (λ (y : PlainCandidate). y.name) e))
 doomed_named limit all (c ∷ cs) x (inr there) gone = by_case (goes limit all c) (doomed_named limit all cs x there gone)
   where
-    by_case : (b : Bool) → is_named x.name (doomed_of limit all cs) ≡ true → is_named x.name (map (λ (y : PlainCandidate). y.name) (cond b (c ∷ filter (goes limit all) cs) (filter (goes limit all) cs))) ≡ true
+    by_case : (b : Bool) → is_named x.name (names_by (goes limit all) cs) ≡ true → is_named x.name (map (λ (y : PlainCandidate). y.name) (cond b (c ∷ filter (goes limit all) cs) (filter (goes limit all) cs))) ≡ true
     by_case true more = ap (λ b. bytes_eq c.name x.name || b) more ∙ or_true (bytes_eq c.name x.name)
     by_case false more = more
 

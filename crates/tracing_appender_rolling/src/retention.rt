@@ -5,8 +5,8 @@ ghost use Rattle.std.specs.Option.{option_map};
 ghost use Rattle.tracing_appender_rolling.specs.Builders.{builder_names};
 ghost use Rattle.tracing_appender_folders.specs.Listings.{listed_of};
 ghost use Rattle.tracing_appender_rolling.specs.Retention.{Tells, made_of, begins, ends, is_before, before_count, goes, IsAdded, IsCandidates, candidate_of};
-ghost use Rattle.tracing_appender_rolling.specs.Pruning.{Removes, Prunes, doomed, doomed_of};
-ghost use Rattle.tracing_appender_rolling.specs.Telling.{CountsOk, CountsOnce};
+ghost use Rattle.tracing_appender_rolling.specs.Pruning.{Removes, Prunes, doomed, names_by};
+ghost use Rattle.tracing_appender_rolling.specs.Telling.{CountsRetention};
 
 use crate::builder::Builder;
 use crate::faults::Faults;
@@ -130,15 +130,18 @@ fn is_doomed(all: &[Candidate<'_>], candidate: &Candidate<'_>, limit: usize) -> 
 }
 
 /// Removes a file. A fault is counted.
-fn remove_file<D: Folder>(folder: &mut D, name: &str, faults: Faults) -> Result<Faults, AllocError>
-    ensures removes { Removes (name.now ∷ []) faults (D.contents folder.old) result (D.contents folder.new) }
-    ensures once { CountsOnce (D.failed folder.old) faults result (D.failed folder.new) }
-    ensures error { CountsOk (D.failed folder.old) faults result (D.failed folder.new) }
+fn remove_file<D: Folder>(folder: &mut D, name: &str, faults: &mut Faults) -> Result<(), AllocError>
+    ensures removes { Removes (name.now ∷ []) faults.old (D.contents folder.old) result faults.new
+        (D.contents folder.new) }
+    ensures counts { CountsRetention (D.failed folder.old) faults.old faults.new (D.failed folder.new) }
 {
     match folder.remove(name) {
-        Ok(()) => Ok(faults),
+        Ok(()) => Ok(()),
         Err(FolderError::OutOfMemory) => Err(AllocError),
-        Err(FolderError::Fault(fault)) => Ok(faults.after_retention(fault)),
+        Err(FolderError::Fault(fault)) => {
+            *faults = faults.after_retention(fault);
+            Ok(())
+        }
     }
 }
 
@@ -148,18 +151,17 @@ fn remove_if_doomed<D: Folder>(
     all: &[Candidate<'_>],
     candidate: &Candidate<'_>,
     limit: usize,
-    faults: Faults,
-) -> Result<Faults, AllocError>
-    ensures removes { Removes (doomed_of limit (map candidate_of all.now) (candidate_of candidate.now ∷ [])) faults
-        (D.contents folder.old) result (D.contents folder.new) }
-    ensures once { CountsOnce (D.failed folder.old) faults result (D.failed folder.new) }
-    ensures error { CountsOk (D.failed folder.old) faults result (D.failed folder.new) }
+    faults: &mut Faults,
+) -> Result<(), AllocError>
+    ensures removes { Removes (names_by (goes limit (map candidate_of all.now)) (candidate_of candidate.now ∷ []))
+        faults.old (D.contents folder.old) result faults.new (D.contents folder.new) }
+    ensures counts { CountsRetention (D.failed folder.old) faults.old faults.new (D.failed folder.new) }
 {
     if !is_doomed(all, candidate, limit) {
-        return Ok(faults);
+        return Ok(());
     }
-    let left = remove_file(folder, candidate.name, faults)?;
-    Ok(left)
+    remove_file(folder, candidate.name, faults)?;
+    Ok(())
 }
 
 /// Removes the candidates that go. A fault is counted, and the work goes on.
@@ -167,41 +169,45 @@ fn remove_doomed<D: Folder>(
     folder: &mut D,
     all: &[Candidate<'_>],
     limit: usize,
-    faults: Faults,
-) -> Result<Faults, AllocError>
-    ensures removes { Removes (doomed limit (map candidate_of all.now)) faults (D.contents folder.old) result
-        (D.contents folder.new) }
-    ensures error { CountsOk (D.failed folder.old) faults result (D.failed folder.new) }
+    faults: &mut Faults,
+) -> Result<(), AllocError>
+    ensures removes { Removes (doomed limit (map candidate_of all.now)) faults.old (D.contents folder.old) result
+        faults.new (D.contents folder.new) }
+    ensures counts { CountsRetention (D.failed folder.old) faults.old faults.new (D.failed folder.new) }
 {
-    let mut faults = faults;
     for candidate in all {
-        faults = remove_if_doomed(folder, all, candidate, limit, faults)?;
+        remove_if_doomed(folder, all, candidate, limit, faults)?;
     }
-    Ok(faults)
+    Ok(())
 }
 
 /// Removes the files that go where one more is to be opened, where there is a limit. A fault is counted, and
-/// the work goes on.
-pub(crate) fn prune<D: Folder>(
+/// the work goes on; want of memory ends it.
+pub(crate) fn prune_old_logs<D: Folder>(
     alloc: Global,
     builder: &Builder,
     folder: &mut D,
-    faults: Faults,
-) -> Result<Faults, AllocError>
-    ensures pruned { Prunes (builder_names builder.now) faults (D.contents folder.old) result (D.contents folder.new) }
-    ensures error { CountsOk (D.failed folder.old) faults result (D.failed folder.new) }
-    ensures unlimited { (builder_names builder.now).limit ≡ None → (result ≡ Ok faults) × (folder.new ≡ folder.old) }
+    faults: &mut Faults,
+) -> Result<(), AllocError>
+    ensures pruned { Prunes (builder_names builder.now) faults.old (D.contents folder.old) result faults.new
+        (D.contents folder.new) }
+    ensures counts { CountsRetention (D.failed folder.old) faults.old faults.new (D.failed folder.new) }
+    ensures unlimited { (builder_names builder.now).limit ≡ None →
+        (result ≡ Ok tt) × (faults.new ≡ faults.old) × (folder.new ≡ folder.old) }
 {
     let Some(limit) = builder.limit else {
-        return Ok(faults);
+        return Ok(());
     };
     match folder.list() {
         Ok(entries) => {
             let all = candidates(alloc, builder, entries.as_slice())?;
-            let left = remove_doomed(folder, all.as_slice(), limit, faults)?;
-            Ok(left)
+            remove_doomed(folder, all.as_slice(), limit, faults)?;
+            Ok(())
         }
         Err(FolderError::OutOfMemory) => Err(AllocError),
-        Err(FolderError::Fault(fault)) => Ok(faults.after_retention(fault)),
+        Err(FolderError::Fault(fault)) => {
+            *faults = faults.after_retention(fault);
+            Ok(())
+        }
     }
 }
