@@ -20,5 +20,6 @@ pub mod Beginning
 pub mod Handover
 pub mod Suffix
 pub mod Oldest
+pub mod Sorting
 pub mod Aging
 pub mod Unique

@@ -46,6 +46,12 @@ Removes names f None result left after = after ≡ None
 Removes names f (Some c) (Ok done) left after = LeftAt (removed_all names (f, c)) left after
 Removes names f (Some c) (Err e) left after = Stops names f c left after
 
+-- the same of those candidates that go, or there was no memory to find these
+abbrev pub RemovesDoomed : {E : Type 0} → ℕ → List PlainCandidate → Faults → Option Contents → Result (Unit {0}) E → Faults → Option Contents → Type 0
+RemovesDoomed limit cs f None result left after = after ≡ None
+RemovesDoomed limit cs f (Some c) (Ok done) left after = LeftAt (removed_all (doomed limit cs) (f, c)) left after
+RemovesDoomed limit cs f (Some c) (Err e) left after = LeftAt (f, c) left after ⊎ Stops (doomed limit cs) f c left after
+
 -- a listing that was refused is counted, and nothing goes; after one that wasn't go the candidates that retention says
 abbrev pub PrunedAfter : FileNames → ℕ → Faults → Answer (List Listed) → Faults → Contents → Type 0
 PrunedAfter names limit f (Ok listing, c) left d =

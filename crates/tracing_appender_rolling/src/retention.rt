@@ -2,15 +2,18 @@
 
 ghost use Rattle.std.specs.Prelude.{◌≡◌, ◌≤◌, [], ◌∷◌, None, Ok, IfOk, OnOk, map, length, string_bytes};
 ghost use Rattle.std.specs.Option.{option_map};
+ghost use Rattle.std.specs.Ordering.{is_lt};
+ghost use Rattle.std.specs.List.Sorted.{IsPermutation, IsSortedBy};
 ghost use Rattle.tracing_appender_rolling.specs.Builders.{builder_names};
 ghost use Rattle.tracing_appender_folders.specs.Listings.{listed_of};
-ghost use Rattle.tracing_appender_rolling.specs.Retention.{Tells, made_of, begins, ends, is_before, before_count, goes, IsAdded, IsCandidates, candidate_of};
-ghost use Rattle.tracing_appender_rolling.specs.Pruning.{Removes, Prunes, doomed, names_by};
+ghost use Rattle.tracing_appender_rolling.specs.Retention.{Tells, made_of, begins, ends, is_before, goes_by, GoesBy, IsAdded, IsCandidates, candidate_of};
+ghost use Rattle.tracing_appender_rolling.specs.Pruning.{Removes, RemovesDoomed, Prunes, names_by};
 ghost use Rattle.tracing_appender_rolling.specs.Telling.{CountsRetention};
 
 use crate::builder::Builder;
 use crate::faults::Faults;
 use std::alloc::{AllocError, Global};
+use std::cmp::Ordering;
 use tracing_appender_dates::read_name;
 use tracing_appender_folders::{Entry, Folder, FolderError, Moment};
 
@@ -108,25 +111,53 @@ fn is_before(one: &Candidate<'_>, other: &Candidate<'_>) -> bool
     one.made.is_earlier(other.made) || !other.made.is_earlier(one.made) && one.name < other.name
 }
 
-/// How many stand before a candidate.
-fn count_before(all: &[Candidate<'_>], candidate: &Candidate<'_>) -> usize
-    ensures count { result ≡ before_count (candidate_of candidate.now) (map candidate_of all.now) }
-    ensures bound { result ≤ length all.now }
+/// The order in which candidates go.
+fn order(one: &Candidate<'_>, other: &Candidate<'_>) -> Ordering
+    ensures { is_lt result ≡ is_before (candidate_of one.now) (candidate_of other.now) }
 {
-    let mut count = 0;
-    for other in all {
-        if is_before(other, candidate) {
-            count += 1;
-        }
+    if is_before(one, other) {
+        return Ordering::Less;
     }
-    count
+    if is_before(other, one) {
+        return Ordering::Greater;
+    }
+    Ordering::Equal
 }
 
-/// Whether a candidate goes: too many stand behind it for a new file beside them.
-fn is_doomed(all: &[Candidate<'_>], candidate: &Candidate<'_>, limit: usize) -> bool
-    ensures { result ≡ goes limit (map candidate_of all.now) (candidate_of candidate.now) }
+fn sort_candidates(all: &mut Vec<Candidate<'_>>)
+    ensures same { IsPermutation all.old.items all.new.items }
+    ensures sorted { IsSortedBy (λ a b. is_before (candidate_of a) (candidate_of b)) all.new.items }
 {
-    limit <= all.len() - count_before(all, candidate)
+    all.sort_unstable_by(|one, other| order(one, other));
+}
+
+/// The last candidate that goes, so that a new file has room beside those behind it; none where all go.
+fn last_doomed<'a>(
+    alloc: Global,
+    all: &[Candidate<'a>],
+    limit: usize,
+) -> Result<Option<Candidate<'a>>, AllocError>
+    requires { limit ≤ length all.now }
+    ensures { IfOk result (λ last. GoesBy limit (map candidate_of all.now) (option_map candidate_of last)) }
+{
+    let mut sorted = Vec::from_slice(alloc, all)?;
+    sort_candidates(&mut sorted);
+    let place = all.len() - limit;
+    if place < sorted.len() {
+        Ok(Some(sorted[place]))
+    } else {
+        Ok(None)
+    }
+}
+
+/// Whether a candidate stands no further behind than the last one that goes.
+fn is_doomed(last: &Option<Candidate<'_>>, candidate: &Candidate<'_>) -> bool
+    ensures { result ≡ goes_by (option_map candidate_of last.now) (candidate_of candidate.now) }
+{
+    match last {
+        None => true,
+        Some(last) => !is_before(last, candidate),
+    }
 }
 
 /// Removes a file. A fault is counted.
@@ -148,36 +179,55 @@ fn remove_file<D: Folder>(folder: &mut D, name: &str, faults: &mut Faults) -> Re
 /// Removes a candidate where it goes.
 fn remove_if_doomed<D: Folder>(
     folder: &mut D,
-    all: &[Candidate<'_>],
+    last: &Option<Candidate<'_>>,
     candidate: &Candidate<'_>,
-    limit: usize,
     faults: &mut Faults,
 ) -> Result<(), AllocError>
-    ensures removes { Removes (names_by (goes limit (map candidate_of all.now)) (candidate_of candidate.now ∷ []))
+    ensures removes { Removes (names_by (goes_by (option_map candidate_of last.now)) (candidate_of candidate.now ∷ []))
         faults.old (D.contents folder.old) result faults.new (D.contents folder.new) }
     ensures counts { CountsRetention (D.failed folder.old) faults.old faults.new (D.failed folder.new) }
 {
-    if !is_doomed(all, candidate, limit) {
+    if !is_doomed(last, candidate) {
         return Ok(());
     }
     remove_file(folder, candidate.name, faults)?;
     Ok(())
 }
 
-/// Removes the candidates that go. A fault is counted, and the work goes on.
+/// Removes the candidates that stand up to the last one. A fault is counted, and the work goes on.
+fn remove_up_to<D: Folder>(
+    folder: &mut D,
+    all: &[Candidate<'_>],
+    last: &Option<Candidate<'_>>,
+    faults: &mut Faults,
+) -> Result<(), AllocError>
+    ensures removes { Removes (names_by (goes_by (option_map candidate_of last.now)) (map candidate_of all.now))
+        faults.old (D.contents folder.old) result faults.new (D.contents folder.new) }
+    ensures counts { CountsRetention (D.failed folder.old) faults.old faults.new (D.failed folder.new) }
+{
+    for candidate in all {
+        remove_if_doomed(folder, last, candidate, faults)?;
+    }
+    Ok(())
+}
+
+/// Removes the candidates that go. They are sorted once.
 fn remove_doomed<D: Folder>(
+    alloc: Global,
     folder: &mut D,
     all: &[Candidate<'_>],
     limit: usize,
     faults: &mut Faults,
 ) -> Result<(), AllocError>
-    ensures removes { Removes (doomed limit (map candidate_of all.now)) faults.old (D.contents folder.old) result
+    ensures removes { RemovesDoomed limit (map candidate_of all.now) faults.old (D.contents folder.old) result
         faults.new (D.contents folder.new) }
     ensures counts { CountsRetention (D.failed folder.old) faults.old faults.new (D.failed folder.new) }
 {
-    for candidate in all {
-        remove_if_doomed(folder, all, candidate, limit, faults)?;
+    if all.len() < limit {
+        return Ok(());
     }
+    let last = last_doomed(alloc, all, limit)?;
+    remove_up_to(folder, all, &last, faults)?;
     Ok(())
 }
 
@@ -201,7 +251,7 @@ pub(crate) fn prune_old_logs<D: Folder>(
     match folder.list() {
         Ok(entries) => {
             let all = candidates(alloc, builder, entries.as_slice())?;
-            remove_doomed(folder, all.as_slice(), limit, faults)?;
+            remove_doomed(alloc, folder, all.as_slice(), limit, faults)?;
             Ok(())
         }
         Err(FolderError::OutOfMemory) => Err(AllocError),
