@@ -30,18 +30,34 @@ Looks false names m n boundary current faults until file left k = (until ≡ bou
 abbrev pub RollsAt : {D : Type 0} → (D → ℕ) → Moment → RollingFileAppender D → RollingFileAppender D → Type 0
 RollsAt failed m a b = Looks (is_due a.boundary m.seconds) (builder_names a.builder) m (failed a.folder) a.boundary a.current a.faults b.boundary b.current b.faults (failed b.folder)
 
+-- what is seen of an appender over any folder: the end of the period, the file, the counts, and the folder's count
+pub record Seen : Type 0 where
+  pub boundary : Option ℤ
+  pub current : FileNumber
+  pub faults : Faults
+  pub failures : ℕ
+
+abbrev pub seen_of : {D : Type 0} → (D → ℕ) → RollingFileAppender D → Seen
+seen_of failed a = record { boundary = a.boundary; current = a.current; faults = a.faults; failures = failed a.folder }
+
 -- a look, and then writes of so many bytes answered so; where the look found no memory there were none
-pub record LineAnywhere {D : Type 0} (failed : D → ℕ) (m : Moment) (len : ℕ) (result : Result (Unit {0}) FolderError) (a b : RollingFileAppender D) : Type 0 where
-  pub seen : Faults
-  pub asked : ℕ
-  pub looked : Looks (is_due a.boundary m.seconds) (builder_names a.builder) m (failed a.folder) a.boundary a.current a.faults b.boundary b.current seen asked
-  pub counted : b.faults ≡ after_write seen result
-  pub told : ReportsAll asked result len (failed b.folder)
+pub record LineAt (names : FileNames) (m : Moment) (len : ℕ) (result : Result (Unit {0}) FolderError) (s t : Seen) : Type 0 where
+  pub faults : Faults
+  pub failures : ℕ
+  pub looked : Looks (is_due s.boundary m.seconds) names m s.failures s.boundary s.current s.faults t.boundary t.current faults failures
+  pub counted : t.faults ≡ after_write faults result
+  pub told : ReportsAll failures result len t.failures
+
+abbrev pub LineAnywhere : {D : Type 0} → (D → ℕ) → Moment → ℕ → Result (Unit {0}) FolderError → RollingFileAppender D → RollingFileAppender D → Type 0
+LineAnywhere failed m len result a b = LineAt (builder_names a.builder) m len result (seen_of failed a) (seen_of failed b)
 
 -- the same with one write of the folder
-pub record WriteAnywhere {D : Type 0} (failed : D → ℕ) (m : Moment) (result : Result ℕ FolderError) (a b : RollingFileAppender D) : Type 0 where
-  pub seen : Faults
-  pub asked : ℕ
-  pub looked : Looks (is_due a.boundary m.seconds) (builder_names a.builder) m (failed a.folder) a.boundary a.current a.faults b.boundary b.current seen asked
-  pub counted : b.faults ≡ after_write seen (unit_of result)
-  pub told : failed b.folder ≡ failures_after asked result
+pub record WriteAt (names : FileNames) (m : Moment) (result : Result ℕ FolderError) (s t : Seen) : Type 0 where
+  pub faults : Faults
+  pub failures : ℕ
+  pub looked : Looks (is_due s.boundary m.seconds) names m s.failures s.boundary s.current s.faults t.boundary t.current faults failures
+  pub counted : t.faults ≡ after_write faults (unit_of result)
+  pub told : t.failures ≡ failures_after failures result
+
+abbrev pub WriteAnywhere : {D : Type 0} → (D → ℕ) → Moment → Result ℕ FolderError → RollingFileAppender D → RollingFileAppender D → Type 0
+WriteAnywhere failed m result a b = WriteAt (builder_names a.builder) m result (seen_of failed a) (seen_of failed b)
