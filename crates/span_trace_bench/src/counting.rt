@@ -29,7 +29,7 @@ impl Folder for CountingFolder {
     ghost failed = { λ _. 0 };
 
     fn open_append(&mut self, _name: &str) -> Result<FileNumber, FolderError> {
-        Ok(FileNumber { index: 0 })
+        Ok(FileNumber::new(0))
     }
 
     fn close_file(&mut self, _file: FileNumber) -> Result<(), FolderError> {

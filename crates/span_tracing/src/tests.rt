@@ -83,9 +83,7 @@ impl Folder for FailingFolder {
             return Err(FolderError::Fault(FolderFault::Refused));
         }
         self.openings -= 1;
-        Ok(FileNumber {
-            index: self.openings,
-        })
+        Ok(FileNumber::new(self.openings))
     }
 
     fn close_file(&mut self, _file: FileNumber) -> Result<(), FolderError> {

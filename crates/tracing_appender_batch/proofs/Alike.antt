@@ -1,16 +1,18 @@
 -- Two steps at one moment leave the folder of one.
-use Rattle.std.proofs.Common.{◌≡◌, Bool, true, false, ℕ, ℤ, zero, suc, ◌+◌, ◌-◌, ◌<◌, List, [], ◌∷◌, ◌++◌, length, refl, ap, subst, sym, ◌∙◌, Option, Some, Ok, Err}
+use Rattle.std.proofs.Common.{◌≡◌, ◌==◌, Bool, true, false, ℕ, ℤ, zero, suc, ◌+◌, ◌-◌, ◌<◌, List, [], ◌∷◌, ◌++◌, length, refl, ap, subst, sym, ◌∙◌, Option, Some, Ok, Err}
+use Rattle.std.specs.List.{list_any}
 use Rattle.tracing_appender_rolling.specs.Moment.{Moment}
 use Rattle.tracing_appender_rolling.specs.Moments.{is_due}
 use Rattle.tracing_appender_rolling.specs.FolderError.{FolderError}
 use Rattle.tracing_appender_rolling.specs.Names.{FileNames}
 use Rattle.tracing_appender_rolling.specs.FileNumber.{FileNumber}
-use Rattle.tracing_appender_rolling.specs.Contents.{Contents, StoredFile, Outcome, IsSound, appended, taken, called, if_refused, refusal, flush_plain}
+use Rattle.tracing_appender_rolling.specs.Contents.{Contents, StoredFile, Answer, Outcome, IsSound, is_open, on_file, unless_closed, appended, taken, called, flush_plain}
 use Rattle.tracing_appender_rolling.specs.Looks.{Held, IsHeld, LookedTo, tried, failed_by, end_at, try_at}
 use Rattle.tracing_appender_rolling.specs.Tries.{Tried}
 use Rattle.tracing_appender_rolling.specs.FolderError.TheVariants.{Fault, OutOfMemory}
-use Rattle.tracing_appender_rolling.specs.Writes.{taken_by, Takes, WroteAll}
+use Rattle.tracing_appender_rolling.specs.Writes.{for_file, taken_by, Takes, WroteAll}
 use Rattle.tracing_appender_rolling.proofs.PeriodFacts.{own_not_due}
+use Rattle.tracing_appender_rolling.proofs.Openings.{done_open, not_open, flush_still}
 use Rattle.tracing_appender_batch.specs.declared.step.Written.{Written}
 use Rattle.tracing_appender_batch.specs.declared.step.Written.TheVariants.{Whole, Failed, Missed}
 use Rattle.tracing_appender_batch.specs.Steps.{is_whole, last_whole, LineTo, LinesTo, with_flush, flushed_if, IsNear, IsAlike, AllWhole, FoldersMayBeCut}
@@ -22,15 +24,35 @@ alike_self h = record { near = record { until = refl; open_file = refl; counts =
 abbrev flush_done : Held → Held
 flush_done h = record h { contents = record (called h.contents) { last_flushed = Some h.current.index } }
 
-flush_sound : (h : Held) → IsSound h.contents → with_flush h ≡ flush_done h
-flush_sound h sound = ap (λ (o : Outcome). record h { contents = (if_refused o (λ f. refusal f h.contents) (flush_plain h.current h.contents)).1 }) (sound 0)
+abbrev flush_shut : Held → Held
+flush_shut h = record h { contents = called h.contents }
 
--- it makes alike what was flushed otherwise before
-near_flushed : (h k : Held) → IsNear h k → IsSound h.contents → IsSound k.contents → IsAlike (with_flush h) (with_flush k)
-near_flushed h k x sound_h sound_k =
-    let done : IsAlike (flush_done h) (flush_done k) =
-    record { near = record { until = x.until; open_file = x.open_file; counts = x.counts; files = x.files; links = x.links; open_files = x.open_files; dirs = x.dirs }; flushes = ap (λ (f : FileNumber). Some f.index) x.open_file } in
-    subst (λ (y : Held). IsAlike y (with_flush k)) (sym (flush_sound h sound_h)) (subst (IsAlike (flush_done h)) (sym (flush_sound k sound_k)) done)
+flush_sound : (h : Held) → IsSound h.contents → is_open h.current h.contents ≡ true → with_flush h ≡ flush_done h
+flush_sound h sound is = ap (λ (a : Answer (Unit {0})). record h { contents = a.1 }) (done_open h.contents h.current (flush_plain h.current h.contents) sound is)
+
+-- nor is there one of a file that isn't open
+shut_sound : (h : Held) → IsSound h.contents → is_open h.current h.contents ≡ false → with_flush h ≡ flush_shut h
+shut_sound h sound is = ap (λ (a : Answer (Unit {0})). record h { contents = a.1 }) (not_open h.contents h.current (flush_plain h.current h.contents) sound is)
+
+near_open : (h k : Held) → IsNear h k → is_open h.current h.contents ≡ is_open k.current k.contents
+near_open h k x = ap (λ (f : FileNumber). is_open f h.contents) x.open_file ∙ ap (λ (ns : List ℕ). list_any (λ m. m == k.current.index) ns) x.open_files
+
+-- where the file isn't open, these were flushed alike
+abbrev FlushedAlike : Held → Held → Type 0
+FlushedAlike h k = is_open h.current h.contents ≡ false → h.contents.last_flushed ≡ k.contents.last_flushed
+
+-- a flush makes alike what was flushed otherwise before
+near_flushed : (h k : Held) → IsNear h k → FlushedAlike h k → IsSound h.contents → IsSound k.contents → IsAlike (with_flush h) (with_flush k)
+near_flushed h k x flushes sound_h sound_k = by_case (is_open h.current h.contents) refl
+  where
+    done : IsAlike (flush_done h) (flush_done k)
+    done = record { near = record { until = x.until; open_file = x.open_file; counts = x.counts; files = x.files; links = x.links; open_files = x.open_files; dirs = x.dirs }; flushes = ap (λ (f : FileNumber). Some f.index) x.open_file }
+
+    by_case : (b : Bool) → is_open h.current h.contents ≡ b → IsAlike (with_flush h) (with_flush k)
+    by_case true is = subst (λ (y : Held). IsAlike y (with_flush k)) (sym (flush_sound h sound_h is)) (subst (IsAlike (flush_done h)) (sym (flush_sound k sound_k (sym (near_open h k x) ∙ is))) done)
+    by_case false is =
+        let shut : IsAlike (flush_shut h) (flush_shut k) = record { near = record { until = x.until; open_file = x.open_file; counts = x.counts; files = x.files; links = x.links; open_files = x.open_files; dirs = x.dirs }; flushes = flushes is } in
+        subst (λ (y : Held). IsAlike y (with_flush k)) (sym (shut_sound h sound_h is)) (subst (IsAlike (flush_shut h)) (sym (shut_sound k sound_k (sym (near_open h k x) ∙ is))) shut)
 
 lines_both : (names : FileNames) (m : Moment) (h middle last : Held) (xs ys : List (List ℕ)) (one two : List Written) → LinesTo names m h xs one middle → LinesTo names m middle ys two last → LinesTo names m h (xs ++ ys) (one ++ two) last
 lines_both names m h middle last [] ys [] two so more = subst (λ (x : Held). LinesTo names m x ys two last) so more
@@ -65,25 +87,32 @@ lines_not_due names m before h last (l ∷ ls) [] early whole so = absurd so
 lines_not_due names m before h last (l ∷ ls) (f ∷ fs) early whole (next, first, rest) =
     lines_not_due names m (is_whole f) next last ls fs (λ is. line_not_due names m h next l f is first) whole rest
 
--- writes that take all over another folder that refuses nothing
-taken_same : (c d : Contents) → IsSound c → IsSound d → (writes len : ℕ) → taken_by c writes len ≡ taken_by d writes len
-taken_same c d sound_c sound_d zero len = refl
-taken_same c d sound_c sound_d (suc n) len =
-    ap (λ k. k + taken (c.coming n) (len - k)) (taken_same c d sound_c sound_d n len)
-    ∙ ap (λ (o : Outcome). taken_by d n len + taken o (len - taken_by d n len)) (sound_c n ∙ sym (sound_d n))
+-- writes that take all where calls become the same
+taken_same : (c d : Contents) → ((n : ℕ) → c.coming n ≡ d.coming n) → (writes len : ℕ) → taken_by c writes len ≡ taken_by d writes len
+taken_same c d same zero len = refl
+taken_same c d same (suc n) len =
+    ap (λ k. k + taken (c.coming n) (len - k)) (taken_same c d same n len) ∙ ap (λ (o : Outcome). taken_by d n len + taken o (len - taken_by d n len)) (same n)
 
-takes_same : (c d : Contents) → IsSound c → IsSound d → (writes len all : ℕ) → Takes c writes len all → Takes d writes len all
-takes_same c d sound_c sound_d writes len all t = record {
+takes_same : (c d : Contents) → ((n : ℕ) → c.coming n ≡ d.coming n) → (writes len all : ℕ) → Takes c writes len all → Takes d writes len all
+takes_same c d same writes len all t = record {
   some = λ n lt.
-      subst (λ (o : Outcome). 0 < taken o (len - taken_by d n len)) (sound_c n ∙ sym (sound_d n)) (subst (λ k. 0 < taken (c.coming n) (len - k)) (taken_same c d sound_c sound_d n len) (t.some n lt));
-  sum = sym (taken_same c d sound_c sound_d writes len) ∙ t.sum;
+      subst (λ (o : Outcome). 0 < taken o (len - taken_by d n len)) (same n) (subst (λ k. 0 < taken (c.coming n) (len - k)) (taken_same c d same n len) (t.some n lt));
+  sum = sym (taken_same c d same writes len) ∙ t.sum;
 }
+
+-- calls on the files of two folders that refuse nothing
+on_same : (c d : Contents) (file other : FileNumber) → file ≡ other → c.open_files ≡ d.open_files → IsSound c → IsSound d → (n : ℕ) → on_file file c n ≡ on_file other d n
+on_same c d file other is opens sound_c sound_d n =
+    ap (λ (f : FileNumber). on_file f c n) is
+    ∙ ap (λ (ns : List ℕ). unless_closed (list_any (λ m. m == other.index) ns) (c.coming n)) opens
+    ∙ ap (unless_closed (is_open other d)) (sound_c n ∙ sym (sound_d n))
 
 -- what is handed to the one, handed to one that is alike
 record Also (names : FileNames) (m : Moment) (other last : Held) (lines : List (List ℕ)) (fates : List Written) : Type 0 where
   pub end : Held
   pub lines_to : LinesTo names m other lines fates end
   pub near : IsNear end last
+  pub flushes : FlushedAlike end last
   pub sound : IsSound end.contents
   pub last_sound : IsSound last.contents
 
@@ -92,13 +121,14 @@ module _ (names : FileNames) (m : Moment) where
     pub end : Held
     pub over : LineTo names m other line Whole end
     pub near : IsNear end next
+    pub flushes : FlushedAlike end next
     pub sound : IsSound end.contents
     pub next_sound : IsSound next.contents
     pub early : is_due end.boundary m.seconds ≡ false
     pub next_early : is_due next.boundary m.seconds ≡ false
 
-  also_one : (h other next : Held) (line : List ℕ) → IsNear other h → IsSound other.contents → IsSound h.contents → is_due other.boundary m.seconds ≡ false → is_due h.boundary m.seconds ≡ false → LineTo names m h line Whole next → AlsoOne other next line
-  also_one h other next line near sound_o sound_h early_o early_h over =
+  also_one : (h other next : Held) (line : List ℕ) → IsNear other h → FlushedAlike other h → IsSound other.contents → IsSound h.contents → is_due other.boundary m.seconds ≡ false → is_due h.boundary m.seconds ≡ false → LineTo names m h line Whole next → AlsoOne other next line
+  also_one h other next line near still sound_o sound_h early_o early_h over =
       let seen = over.seen in
       let held : IsHeld (Some seen.contents) seen.boundary seen.current seen.faults h = subst (λ due. LookedTo due names m h seen.boundary seen.current seen.faults (Some seen.contents)) early_h over.looked in
       let c = other.contents in
@@ -118,7 +148,7 @@ module _ (names : FileNames) (m : Moment) where
           writes = record {
             writes = w.writes;
             left = record { contents = left; is = refl; files_are = refl; links_stay = refl; open_stay = refl; dirs_are = refl; flush_stays = refl; comes = λ n. refl };
-            takes = takes_same h.contents c sound_h sound_o w.writes (length line) (length line) w.takes;
+            takes = takes_same (for_file seen.current h.contents) (for_file other.current c) (on_same h.contents c seen.current other.current file (sym near.open_files) sound_h sound_o) w.writes (length line) (length line) w.takes;
           };
         };
         near = record {
@@ -134,24 +164,26 @@ module _ (names : FileNames) (m : Moment) where
           open_files = near.open_files ∙ sym w.left.open_stay ∙ ap (λ (d : Contents). d.open_files) (sym kept);
           dirs = near.dirs ∙ sym w.left.dirs_are ∙ ap (λ (d : Contents). d.has_dirs) (sym kept);
         };
+        flushes = λ shut. still shut ∙ sym w.left.flush_stays ∙ ap (λ (d : Contents). d.last_flushed) (sym kept);
         sound = λ n. sound_o (w.writes + n);
         next_sound = λ n. ap (λ (d : Contents). d.coming n) kept ∙ w.left.comes n ∙ sound_h (w.writes + n);
         early = early_o;
         next_early = ap (λ (b : Option ℤ). is_due b m.seconds) (over.boundary_same ∙ held.until) ∙ early_h;
       }
 
-  also : (h other last : Held) (lines : List (List ℕ)) (fates : List Written) → IsNear other h → IsSound other.contents → IsSound h.contents → is_due other.boundary m.seconds ≡ false → is_due h.boundary m.seconds ≡ false → AllWhole fates → LinesTo names m h lines fates last → Also names m other last lines fates
-  also h other last [] [] near sound_o sound_h early_o early_h whole so =
-      record { end = other; lines_to = refl; near = subst (IsNear other) (sym so) near; sound = sound_o; last_sound = subst (λ (x : Held). IsSound x.contents) (sym so) sound_h }
-  also h other last [] (f ∷ fs) near sound_o sound_h early_o early_h whole so = absurd so
-  also h other last (l ∷ ls) [] near sound_o sound_h early_o early_h whole so = absurd so
-  also h other last (l ∷ ls) (f ∷ fs) near sound_o sound_h early_o early_h (is, whole) (next, first, rest) =
-      let one = also_one h other next l near sound_o sound_h early_o early_h (subst (λ (x : Written). LineTo names m h l x next) is first) in
-      let more = also next one.end last ls fs one.near one.sound one.next_sound one.early one.next_early whole rest in
+  also : (h other last : Held) (lines : List (List ℕ)) (fates : List Written) → IsNear other h → FlushedAlike other h → IsSound other.contents → IsSound h.contents → is_due other.boundary m.seconds ≡ false → is_due h.boundary m.seconds ≡ false → AllWhole fates → LinesTo names m h lines fates last → Also names m other last lines fates
+  also h other last [] [] near still sound_o sound_h early_o early_h whole so =
+      record { end = other; lines_to = refl; near = subst (IsNear other) (sym so) near; flushes = subst (FlushedAlike other) (sym so) still; sound = sound_o; last_sound = subst (λ (x : Held). IsSound x.contents) (sym so) sound_h }
+  also h other last [] (f ∷ fs) near still sound_o sound_h early_o early_h whole so = absurd so
+  also h other last (l ∷ ls) [] near still sound_o sound_h early_o early_h whole so = absurd so
+  also h other last (l ∷ ls) (f ∷ fs) near still sound_o sound_h early_o early_h (is, whole) (next, first, rest) =
+      let one = also_one h other next l near still sound_o sound_h early_o early_h (subst (λ (x : Written). LineTo names m h l x next) is first) in
+      let more = also next one.end last ls fs one.near one.flushes one.sound one.next_sound one.early one.next_early whole rest in
       record {
         end = more.end;
         lines_to = (one.end, subst (λ (x : Written). LineTo names m other l x one.end) (sym is) one.over, more.lines_to);
         near = more.near;
+        flushes = more.flushes;
         sound = more.sound;
         last_sound = more.last_sound;
       }
@@ -185,14 +217,15 @@ cut_flushed names m h middle last first [] one (f ∷ fs) is sound whole so more
 cut_flushed names m h middle last first (l ∷ ls) one [] is sound whole so more = absurd more
 cut_flushed names m h middle last first (l ∷ ls) one (f ∷ fs) is sound whole so more =
     let early = lines_not_due names m false h middle first one (λ no. cc) is so in
-    let flush = flush_sound middle sound in
-    let near = subst (IsNear middle) (sym flush) (record { until = refl; open_file = refl; counts = refl; files = refl; links = refl; open_files = refl; dirs = refl }) in
-    let still : IsSound (with_flush middle).contents = subst (λ (x : Held). IsSound x.contents) (sym flush) (λ n. sound (suc n)) in
-    let a = also names m (with_flush middle) middle last (l ∷ ls) (f ∷ fs) near sound still early early whole more in
+    let stays = flush_still middle.contents middle.current in
+    let near : IsNear middle (with_flush middle) = record { until = refl; open_file = refl; counts = refl; files = sym stays.files; links = sym stays.links; open_files = sym stays.opens; dirs = sym stays.dirs } in
+    let flushes : FlushedAlike middle (with_flush middle) = λ shut. ap (λ (x : Held). x.contents.last_flushed) (sym (shut_sound middle sound shut)) in
+    let still : IsSound (with_flush middle).contents = λ n. stays.next n ∙ sound (suc n) in
+    let a = also names m (with_flush middle) middle last (l ∷ ls) (f ∷ fs) near flushes sound still early early whole more in
     let all = all_whole (is_whole f) fs (ap is_whole whole.0) whole.1 in (
       a.end,
       lines_both names m h middle a.end first (l ∷ ls) one (f ∷ fs) so a.lines_to,
-      ends_by one (f ∷ fs) a.end last true true (whole_both false one (f ∷ fs) ∙ all) all (near_flushed a.end last a.near a.sound a.last_sound),
+      ends_by one (f ∷ fs) a.end last true true (whole_both false one (f ∷ fs) ∙ all) all (near_flushed a.end last a.near a.flushes a.sound a.last_sound),
     )
 
 cut_by : (names : FileNames) (m : Moment) (h middle last : Held) (first second : List (List ℕ)) (one two : List Written) (b : Bool) → last_whole false one ≡ b → IsSound middle.contents → AllWhole two → LinesTo names m h first one middle → LinesTo names m (flushed_if b middle) second two last → Cut names m h first second one two last

@@ -1,6 +1,7 @@
 -- A folder that keeps another's files and links and has a plan of its own.
 use Rattle.std.specs.Prelude.{is_some}
-use Rattle.std.proofs.Common.{◌≡◌, ℕ, suc, Bool, true, false, List, refl, ap, subst, ◌∙◌, sym, arith, cond, Some, None, Option, Result, Ok, Err, min, set}
+use Rattle.std.proofs.Common.{◌≡◌, ℕ, suc, Bool, true, false, List, refl, ap, subst, ◌∙◌, sym, arith, cond, Some, None, Option, Result, Ok, Err, min, set, length, take, ◌≤◌}
+use Rattle.std.proofs.lemmas.List.{take_all}
 use Rattle.std.proofs.Math.Path.{fun_ext}
 use Rattle.std.specs.Borrow.{MutBor}
 use Rattle.std.specs.Fn.{Once, FnOnceReturnsAtMut}
@@ -9,7 +10,7 @@ use Rattle.tracing_appender_folders.specs.declared.fault.FolderFault.TheVariants
 use Rattle.tracing_appender_folders.specs.declared.fault.FolderError.{FolderError}
 use Rattle.tracing_appender_folders.specs.declared.fault.FolderError.TheVariants.{Fault, OutOfMemory}
 use Rattle.tracing_appender_folders.specs.declared.fault.FileNumber.{FileNumber}
-use Rattle.tracing_appender_folders.specs.Contents.{Contents, Outcome, if_refused, Done, Refuses, Short, Answer, Gives, called, taken, unless_refused, refusal, open_plain, open_at, write_plain, remove_plain, remove_at, close_plain, make_plain, flush_plain, list_plain, link_plain, links_with, link_place, file_named, link_named}
+use Rattle.tracing_appender_folders.specs.Contents.{Contents, Outcome, if_refused, Done, Refuses, Short, Answer, Gives, called, taken, is_open, unless_closed, with_file, unless_refused, refusal, open_plain, open_at, write_plain, remove_plain, remove_at, close_plain, make_plain, flush_plain, list_plain, link_plain, links_with, link_place, file_named, link_named}
 use Rattle.tracing_appender_folders.specs.Faulty.{Plan, number_after, outcome_of, has_number, plan_of, faulty_contents, Made}
 use Rattle.tracing_appender_folders.specs.Memory.{memory_contents}
 use Rattle.tracing_appender_folders.specs.declared.faulty.FaultyFolder.{FaultyFolder}
@@ -75,6 +76,29 @@ whole_plan n = Done
 
 abbrev pub plain : {T : Type 0} → (Contents → Answer T) → Contents → Answer T
 plain call c = unless_refused c (call c)
+
+-- a call on a file that no plan refuses
+abbrev pub unplanned : {T : Type 0} → FileNumber → (Contents → Answer T) → Contents → Answer T
+unplanned file call c = if_refused (unless_closed (is_open file c) Done) (λ f. refusal f c) (call c)
+
+pub unplanned_ignores : {T : Type 0} (file : FileNumber) (call : Contents → Answer T) → IgnoresPlan call → IgnoresPlan (unplanned file call)
+unplanned_ignores {T} file call ignores = record { same = λ c g. by_case c g (is_open file c) }
+  where
+    at_open : Contents → Bool → Answer T
+    at_open c b = if_refused (unless_closed b Done) (λ f. refusal f c) (call c)
+
+    by_case : (c : Contents) (g : ℕ → Outcome) (b : Bool) → at_open (planned g c) b ≡ ((at_open c b).0, planned (later g) (at_open c b).1)
+    by_case c g true = ignores.same c g
+    by_case c g false = refl
+
+-- what the plan refuses it refuses whether the file is open or not
+plan_first : {X : Type 0} (o : Outcome) (b : Bool) (x : FolderFault → X) (y : X) → if_refused (unless_closed b o) x y ≡ if_refused o x (if_refused (unless_closed b Done) x y)
+plan_first Done true x y = refl
+plan_first Done false x y = refl
+plan_first (Refuses f) true x y = refl
+plan_first (Refuses f) false x y = refl
+plan_first (Short most) true x y = refl
+plan_first (Short most) false x y = refl
 
 module _ {T : Type 0} (call : Contents → Answer T) (ignores : IgnoresPlan call) (inner after : Contents) (g : ℕ → Outcome) where
   answer_planned : (call (planned g inner)).0 ≡ (call (planned whole_plan inner)).0
@@ -146,6 +170,14 @@ module _ {F T X : Type 0} {g : Once F (MutBor MemoryFolder × Unit {0}) (Result 
 pub made_gives : {F T : Type 0} {g : Once F (MutBor MemoryFolder × Unit {0}) (Result T FolderError × (MutBor MemoryFolder × Unit {0}))} {f : F} {old : FaultyFolder} {r : Result T FolderError} {new : FaultyFolder} {call : Contents → Answer T} → IgnoresPlan call → Made g f old r new → (has_number old.refused.items (number_after old.calls 0) ≡ false → FnOnceReturnsAtMut g f old.inner r new.inner → Gives (plain call) (Some (memory_contents old.inner)) r (Some (memory_contents new.inner))) → Gives (plain call) (Some (faulty_contents old)) r (Some (faulty_contents new))
 made_gives ignores made gives = viewed_gives (λ r. r) (λ e. refl) ignores made gives
 
+-- the same of a call on a file
+pub file_gives : {F T : Type 0} {g : Once F (MutBor MemoryFolder × Unit {0}) (Result T FolderError × (MutBor MemoryFolder × Unit {0}))} {f : F} {old : FaultyFolder} {r : Result T FolderError} {new : FaultyFolder} (file : FileNumber) (call : Contents → Answer T) → IgnoresPlan call → Made g f old r new → (has_number old.refused.items (number_after old.calls 0) ≡ false → FnOnceReturnsAtMut g f old.inner r new.inner → Gives (plain (unplanned file call)) (Some (memory_contents old.inner)) r (Some (memory_contents new.inner))) → Gives (λ c. with_file file c (call c)) (Some (faulty_contents old)) r (Some (faulty_contents new))
+file_gives {T = T} {old = old} {r = r} {new = new} file call ignores made gives =
+    let before = faulty_contents old in
+    subst (λ (a : Answer T). Gives (λ _. a) (Some before) r (Some (faulty_contents new)))
+    (sym (plan_first (before.coming 0) (is_open file before) (λ f. refusal f before) (call before)))
+    (made_gives (unplanned_ignores file call ignores) made gives)
+
 -- how much a write takes that isn't refused
 taken_at : (fault : FolderFault) (most len : ℕ) (short : Bool) → taken (cond false (Refuses fault) (cond short (Short most) Done)) len ≡ cond short (min most len) len
 taken_at fault most len true = refl
@@ -158,3 +190,10 @@ taken_free plan n len free = ap (λ b. taken (cond b (Refuses plan.fault) (cond 
 pub linked_over : (before : Contents) (after : List (List ℕ × List ℕ)) (name target : List ℕ) (place : ℕ) → is_some (file_named name before.files) ≡ false → Some place ≡ link_place name before.links → after ≡ set before.links place (name, target) → ((link_plain name target before).0 ≡ Ok tt) × (Some (record (called before) { links = after }) ≡ Some (link_plain name target before).1)
 linked_over before after name target place free found is =
     rw (free, ← found) (refl, ap (λ (ls : List (List ℕ × List ℕ)). Some (record (called before) { links = ls })) is)
+
+-- a part of so many bytes, where so many are taken if the file is open
+pub part_written : (c : Contents) (file : FileNumber) (bytes : List ℕ) (o : Outcome) (k : ℕ) (b : Bool) → taken o (length bytes) ≡ k → if_refused (unless_closed b Done) (λ f. refusal f c) (write_plain file (take (taken (unless_closed b Done) (length (take k bytes))) (take k bytes)) c) ≡ if_refused (unless_closed b Done) (λ f. refusal f c) (write_plain file (take (taken (unless_closed b o) (length bytes)) bytes) c)
+part_written c file bytes o k false is = refl
+part_written c file bytes o k true is =
+    let le : length (take k bytes) ≤ length (take k bytes) = omega arith in
+    ap (λ (p : List ℕ). write_plain file p c) (take_all (length (take k bytes)) (take k bytes) le ∙ ap (λ n. take n bytes) (sym is))

@@ -1,6 +1,7 @@
 -- What a folder has: names stand for files with bytes, and a file outlives its name.
 use Rattle.std.specs.Prelude.{◌≡◌, ℕ, zero, suc, ◌+◌, ◌-◌, ◌^◌, min, Bool, true, false, ◌&&◌, not, ◌==◌, if◌then◌else◌, List, [], ◌∷◌, ◌++◌, length, take, map, is_some, slice_set, Option, Some, None, Result, Ok, Err}
-use Rattle.std.specs.List.{position_from, filter}
+use Rattle.std.specs.List.{position_from, filter, list_any}
+use Rattle.std.specs.Set.{remove_key}
 use Rattle.std.specs.Str.{bytes_eq}
 use Rattle.tracing_appender_folders.specs.declared.moment.Moment.{Moment}
 use Rattle.tracing_appender_folders.specs.declared.fault.FolderFault.{FolderFault}
@@ -111,6 +112,25 @@ open_plain name c =
 abbrev pub opened : Contents → List ℕ → Answer FileNumber
 opened c name = unless_refused c (open_plain name c)
 
+-- whether the number is that of an open file
+abbrev pub is_open : FileNumber → Contents → Bool
+is_open file c = list_any (λ m. m == file.index) c.open_files
+
+-- a call that isn't refused finds no file under a number that isn't open
+abbrev pub unless_closed : Bool → Outcome → Outcome
+unless_closed true o = o
+unless_closed false (Refuses fault) = Refuses fault
+unless_closed false Done = Refuses NotFound
+unless_closed false (Short most) = Refuses NotFound
+
+-- what becomes of a coming call on a file
+abbrev pub on_file : FileNumber → Contents → ℕ → Outcome
+on_file file c n = unless_closed (is_open file c) (c.coming n)
+
+-- what a call on a file answers, and what it leaves
+abbrev pub with_file : {T : Type 0} → FileNumber → Contents → Answer T → Answer T
+with_file file c answer = if_refused (on_file file c 0) (λ fault. refusal fault c) answer
+
 -- how many of so many bytes a write takes, which may be none; then it is done all the same, and answers 0
 abbrev pub taken : Outcome → ℕ → ℕ
 taken Done n = n
@@ -121,7 +141,7 @@ abbrev pub write_plain : FileNumber → List ℕ → Contents → Answer ℕ
 write_plain file bytes c = (Ok (length bytes), record (called c) { files = appended c.files file.index bytes })
 
 abbrev pub written : Contents → FileNumber → List ℕ → Answer ℕ
-written c file bytes = unless_refused c (write_plain file (take (taken (c.coming 0) (length bytes)) bytes) c)
+written c file bytes = with_file file c (write_plain file (take (taken (on_file file c 0) (length bytes)) bytes) c)
 
 -- a name stands for its file no more; the file can still be written
 abbrev pub remove_at : Contents → Option ℕ → Answer (Unit {0})
@@ -169,16 +189,16 @@ link_plain name target c =
 abbrev pub linked : Contents → List ℕ → List ℕ → Answer (Unit {0})
 linked c name target = unless_refused c (link_plain name target c)
 
--- these numbers but the one
+-- these numbers but the first such one
 abbrev pub without_number : ℕ → List ℕ → List ℕ
-without_number n numbers = filter (λ m. not (m == n)) numbers
+without_number n numbers = remove_key (λ m. m == n) numbers
 
--- a file is open no more
+-- a file is open once less: one that was opened twice is open still
 abbrev pub close_plain : FileNumber → Contents → Answer (Unit {0})
 close_plain file c = (Ok tt, record (called c) { open_files = without_number file.index c.open_files })
 
 abbrev pub closed : Contents → FileNumber → Answer (Unit {0})
-closed c file = unless_refused c (close_plain file c)
+closed c file = with_file file c (close_plain file c)
 
 -- the directories are made, or stood already
 abbrev pub make_plain : Contents → Answer (Unit {0})
@@ -192,7 +212,7 @@ abbrev pub flush_plain : FileNumber → Contents → Answer (Unit {0})
 flush_plain file c = (Ok tt, record (called c) { last_flushed = Some file.index })
 
 abbrev pub flushed : Contents → FileNumber → Answer (Unit {0})
-flushed c file = unless_refused c (flush_plain file c)
+flushed c file = with_file file c (flush_plain file c)
 
 -- The call answered and left the contents as said, or it found no memory and left them as they were. Contents that aren't known stay so.
 abbrev pub Gives : {T : Type 0} → (Contents → Answer T) → Option Contents → Result T FolderError → Option Contents → Type 0

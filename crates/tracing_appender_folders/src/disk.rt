@@ -1,6 +1,6 @@
 //! A folder of the system.
 
-ghost use Rattle.std.specs.Prelude.{◌≡◌, ◌≤◌, ◌+◌, ◌-◌, ◌^◌, min, length, IfOk};
+ghost use Rattle.std.specs.Prelude.{◌≡◌, ◌≤◌, ◌+◌, ◌-◌, ◌^◌, ◌≢◌, min, length, IfOk, IfErr};
 ghost use Rattle.tracing_appender_folders.specs.Contents.{failures_after};
 
 use crate::fault::{Entry, FileNumber, FolderError, FolderFault, failures_after};
@@ -82,6 +82,24 @@ impl<R: Files + AllocGlobal + Clone + Drop> DiskFolder<R> {
             Some(Some(open)) => write_tries(open, bytes),
             _ => Err(FolderError::Fault(FolderFault::NotFound)),
         }
+    }
+
+    /// Closes the file, if the number is that of an open one.
+    fn shut(&mut self, file: FileNumber) -> Result<(), FolderError>
+        ensures fed { IfErr result (λ e. e ≢ FolderError.OutOfMemory) }
+        ensures same { self.new.failures ≡ self.old.failures }
+    {
+        match self.files.get_mut(file.index) {
+            Some(slot) if slot.is_some() => {
+                *slot = None;
+                Ok(())
+            }
+            _ => Err(FolderError::Fault(FolderFault::NotFound)),
+        }
+    }
+
+    fn is_open(&self, file: FileNumber) -> bool {
+        matches!(self.files.get(file.index), Some(Some(_)))
     }
 
     fn listed_path(&self) -> &str {
@@ -180,10 +198,8 @@ impl<R: Files + AllocGlobal + Clone + Drop> Folder for DiskFolder<R> {
     }
 
     fn close_file(&mut self, file: FileNumber) -> Result<(), FolderError> {
-        if let Some(slot) = self.files.get_mut(file.index) {
-            *slot = None;
-        }
-        Ok(())
+        let answer = self.shut(file);
+        self.told(answer)
     }
 
     fn write(&mut self, file: FileNumber, bytes: &[u8]) -> Result<usize, FolderError> {
@@ -196,9 +212,13 @@ impl<R: Files + AllocGlobal + Clone + Drop> Folder for DiskFolder<R> {
         self.told(answer)
     }
 
-    /// A file of the system keeps nothing back, so this does nothing.
-    fn flush(&mut self, _file: FileNumber) -> Result<(), FolderError> {
-        Ok(())
+    /// A file of the system keeps nothing back, so this does nothing to an open file.
+    fn flush(&mut self, file: FileNumber) -> Result<(), FolderError> {
+        if self.is_open(file) {
+            Ok(())
+        } else {
+            self.told(Err(FolderError::Fault(FolderFault::NotFound)))
+        }
     }
 
     fn list(&mut self) -> Result<Vec<Entry>, FolderError> {

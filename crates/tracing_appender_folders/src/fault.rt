@@ -56,10 +56,26 @@ pub(crate) fn failures_after<T>(failures: u64, answer: &Result<T, FolderError>) 
     }
 }
 
-/// An opened file of a folder.
+/// The number by which a folder knows a file that it opened. A number that isn't open is refused `NotFound`.
 #[derive(Clone, Copy, Debug, PartialEq, Eq)]
 pub struct FileNumber {
-    pub index: usize,
+    pub(crate) index: usize,
+}
+
+impl FileNumber {
+    /// The number with this index, for folders that are written elsewhere.
+    pub fn new(index: usize) -> FileNumber
+        ensures { result.index ≡ index }
+    {
+        FileNumber { index }
+    }
+
+    /// The index that the folder gave it.
+    pub fn index(self) -> usize
+        ensures { result ≡ self.index }
+    {
+        self.index
+    }
 }
 
 /// A name in a folder.

@@ -6,8 +6,8 @@ ghost use Rattle.tracing_appender_folders.specs.Listings.{listed_all};
 
 use crate::fault::{Entry, FileNumber, FolderError};
 
-/// Names that stand for files with bytes. An opened file can be written after its name was removed; a call
-/// that answers an error changed nothing.
+/// Names that stand for files with bytes. An opened file can be written after its name was removed, until it
+/// is closed; a number that isn't open is refused `NotFound`. A call that answers an error changed nothing.
 pub trait Folder: Drop {
     /// What the folder has, where that is known. Of a folder of the system nothing is.
     ghost contents: { Self → Option Contents };
@@ -20,7 +20,7 @@ pub trait Folder: Drop {
         ensures gives { Gives (λ c. opened c name.now) (contents self.old) result (contents self.new) }
         ensures failures { failed self.new ≡ failures_after (failed self.old) result };
 
-    /// Closes an opened file. This wants no memory.
+    /// Closes an opened file: it is open once less. This wants no memory.
     fn close_file(&mut self, file: FileNumber) -> Result<(), FolderError>
         ensures gives { Gives (λ c. closed c file) (contents self.old) result (contents self.new) }
         ensures fed { IfErr result (λ e. e ≢ FolderError.OutOfMemory) }

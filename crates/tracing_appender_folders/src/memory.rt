@@ -1,8 +1,9 @@
 //! A folder in memory.
 
-ghost use Rattle.std.specs.Prelude.{◌≡◌, ◌+◌, ◌-◌, ◌^◌, ℕ, List, Some, None, true, map, min, OnOk, OnErr, IfOk, IfSome, IfNone, ◌<◌, length, if◌then◌else◌};
+ghost use Rattle.std.specs.Prelude.{◌≡◌, ◌==◌, ◌+◌, ◌-◌, ◌^◌, ℕ, List, Some, None, true, map, min, OnOk, OnErr, IfOk, IfSome, IfNone, ◌<◌, length, if◌then◌else◌};
 ghost use Rattle.std.specs.Str.{bytes_eq};
-ghost use Rattle.tracing_appender_folders.specs.Contents.{file_named, bytes_at, link_place, listing};
+ghost use Rattle.std.specs.List.{position_from};
+ghost use Rattle.tracing_appender_folders.specs.Contents.{file_named, bytes_at, link_place, is_open, listing};
 
 use crate::entries::add_entry;
 use crate::fault::{Entry, FileNumber, FolderError, FolderFault};
@@ -33,14 +34,14 @@ pub struct MemoryLink {
     target: String,
 }
 
-/// A folder whose files lie in memory. It refuses to open a link, to remove what isn't there, and to put a
-/// link in a file's place.
+/// A folder whose files lie in memory. It refuses to open a link, to remove what isn't there, to put a link
+/// in a file's place, and what is asked of a file that isn't open.
 #[derive(Debug, Drop)]
 pub struct MemoryFolder {
     pub(crate) alloc: Global,
     files: Vec<MemoryFile>,
     links: Vec<MemoryLink>,
-    /// The numbers of the files that are open.
+    /// The numbers of the files that are open, one for each opening.
     open_files: Vec<usize>,
     /// Whether its directories were made.
     has_dirs: bool,
@@ -187,6 +188,22 @@ impl MemoryFolder {
         FolderError::Fault(fault)
     }
 
+    /// Where the number stands first among those of the open files.
+    fn open_place(&self, file: FileNumber) -> Option<usize>
+        ensures first { result ≡ position_from (λ n. n == file.index) 0 self.now.open_files.items }
+        ensures within { IfSome result (λ i. i < length self.now.open_files.items) }
+    {
+        self.open_files
+            .iter()
+            .position(|number| *number == file.index)
+    }
+
+    fn is_open(&self, file: FileNumber) -> bool
+        ensures { result ≡ is_open file (memory_contents self.now) }
+    {
+        self.open_files.iter().any(|number| *number == file.index)
+    }
+
     fn index_of_link(&self, name: &str) -> Option<usize>
         ensures first { result ≡ link_place name.now (memory_contents self.now).links }
         ensures within { IfSome result (λ i. i < length self.now.links.items) }
@@ -235,11 +252,19 @@ impl Folder for MemoryFolder {
     }
 
     fn close_file(&mut self, file: FileNumber) -> Result<(), FolderError> {
-        self.open_files.retain(|number| *number != file.index);
-        Ok(())
+        match self.open_place(file) {
+            Some(place) => {
+                self.open_files.remove(place);
+                Ok(())
+            }
+            None => Err(self.refuse(FolderFault::NotFound)),
+        }
     }
 
     fn write(&mut self, file: FileNumber, bytes: &[u8]) -> Result<usize, FolderError> {
+        if !self.is_open(file) {
+            return Err(self.refuse(FolderFault::NotFound));
+        }
         if file.index < self.files.len() {
             self.files[file.index].bytes.extend_from_slice(bytes)?;
         }
@@ -252,6 +277,9 @@ impl Folder for MemoryFolder {
     }
 
     fn flush(&mut self, file: FileNumber) -> Result<(), FolderError> {
+        if !self.is_open(file) {
+            return Err(self.refuse(FolderFault::NotFound));
+        }
         self.last_flushed = Some(file.index);
         Ok(())
     }

@@ -26,22 +26,17 @@ fn numbers(alloc: Global, list: &[u64]) -> Result<Vec<u64>, AllocError> {
     Vec::from_slice(alloc, list)
 }
 
-/// Each call once; tells how many were refused, and the number of the last one.
+/// Each call once, where the file was opened; tells how many were refused, and the number of the last one.
 fn refusals<D: Folder>(folder: &mut D) -> (usize, u64) {
     let mut refused = 0;
     let mut last = 0;
-    let mut file = FileNumber { index: 0 };
     if folder.create_dirs().is_err() {
         refused += 1;
         last = 1;
     }
-    match folder.open_append("a") {
-        Ok(number) => file = number,
-        Err(_) => {
-            refused += 1;
-            last = 2;
-        }
-    }
+    let Ok(file) = folder.open_append("a") else {
+        return (refused + 1, 2);
+    };
     if folder.write(file, b"one").is_err() {
         refused += 1;
         last = 3;
@@ -83,9 +78,41 @@ fn a_file_outlives_its_name(rt: HostRuntime) -> Result<(), Fail> {
     folder.remove("a")?;
     assert_eq!(rt; folder.write(file, b"two")?, 3);
     assert_eq!(rt; folder.files()?.len(), 0);
-    assert_eq!(rt; folder.open_append("a")?.index, 1);
+    assert_eq!(rt; folder.open_append("a")?, FileNumber::new(1));
     assert_eq!(rt; folder.remove("b"), Err(NOT_FOUND));
     assert_eq!(rt; folder.failures(), 1);
+    Ok(())
+}
+
+#[test]
+fn a_number_that_is_not_open_is_not_found(rt: HostRuntime) -> Result<(), Fail> {
+    let alloc = rt.alloc();
+    let mut folder = MemoryFolder::new(alloc);
+    let file = folder.open_append("a")?;
+    assert_eq!(rt; folder.open_append("a")?, file);
+    folder.close_file(file)?;
+    assert_eq!(rt; folder.write(file, b"one")?, 3);
+    folder.close_file(file)?;
+    assert_eq!(rt; folder.write(file, b"two"), Err(NOT_FOUND));
+    assert_eq!(rt; folder.flush(file), Err(NOT_FOUND));
+    assert_eq!(rt; folder.close_file(file), Err(NOT_FOUND));
+    assert_eq!(rt; folder.write(FileNumber::new(7), b"three"), Err(NOT_FOUND));
+    assert_eq!(rt; folder.failures(), 4);
+    let files = folder.files()?;
+    assert_eq!(rt; files.len(), 1);
+    assert_eq!(rt; files[0].bytes, b"one".as_slice());
+    Ok(())
+}
+
+#[test]
+fn a_refusal_comes_before_a_closed_number(rt: HostRuntime) -> Result<(), Fail> {
+    let alloc = rt.alloc();
+    let refused = numbers(alloc, &[2])?;
+    let mut folder = FaultyFolder::new(MemoryFolder::new(alloc), refused);
+    let file = FileNumber::new(0);
+    assert_eq!(rt; folder.write(file, b"one"), Err(NOT_FOUND));
+    assert_eq!(rt; folder.write(file, b"two"), Err(REFUSED));
+    assert_eq!(rt; folder.failures(), 2);
     Ok(())
 }
 
@@ -118,7 +145,7 @@ fn made_directories_and_the_last_flush_are_known(rt: HostRuntime) -> Result<(), 
     assert_eq!(rt; folder.last_flushed(), None);
     folder.flush(first)?;
     folder.flush(second)?;
-    assert_eq!(rt; folder.last_flushed(), Some(second.index));
+    assert_eq!(rt; folder.last_flushed(), Some(second.index()));
     assert!(rt; !folder.has_dirs());
     folder.create_dirs()?;
     assert!(rt; folder.has_dirs());

@@ -6,9 +6,9 @@ use Rattle.tracing_appender_folders.specs.declared.fault.FileNumber.{FileNumber}
 use Rattle.tracing_appender_folders.specs.declared.fault.FolderError.{FolderError}
 use Rattle.tracing_appender_folders.specs.declared.fault.FolderError.TheVariants.{Fault, OutOfMemory}
 use Rattle.tracing_appender_folders.specs.Moments.{is_moment, end_of, is_due}
-use Rattle.tracing_appender_folders.specs.Contents.{Contents, Gives, called, flushed, without_number, written, appended, listing}
+use Rattle.tracing_appender_folders.specs.Contents.{Contents, Gives, called, flushed, without_number, on_file, written, appended, listing}
 use Rattle.tracing_appender_folders.proofs.Content.{appended-nil}
-use Rattle.tracing_appender_folders.proofs.Openings.{fed_leaves, flush_still}
+use Rattle.tracing_appender_folders.proofs.Openings.{fed_leaves, flush_still, stays_open}
 use Rattle.tracing_appender_rolling.specs.declared.faults.Faults.{Faults}
 use Rattle.tracing_appender_rolling.specs.declared.appender.RollingFileAppender.{RollingFileAppender}
 use Rattle.tracing_appender_rolling.specs.Names.{FileNames}
@@ -55,16 +55,16 @@ pub push_hands : (known after : Option Contents) (names : FileNames) (boundary :
 push_hands known after names boundary current bytes (Err e) writes = tt
 push_hands known after names boundary current bytes (Ok done) writes = λ p m left.
     let w = subst (λ (o : Option Contents). WritesAll o current bytes (Ok done) after) left.1 writes in
-    (w.left.contents, w.left.is, push_left left.0 w.left.contents names boundary current p m bytes left.2 (still_sound w.left left.2.sound) w.left.links_stay w.left.files_are)
+    (w.left.contents, w.left.is, push_left left.0 w.left.contents names boundary current p m bytes left.2 (still_sound w.left left.2.sound) (stays_open left.0 w.left.contents current w.left.open_stay left.2.current_open) w.left.links_stay w.left.files_are)
 
 pub push_starves : (known after : Option Contents) (names : FileNames) (boundary : Option ℤ) (current : FileNumber) (bytes : List ℕ) (r : Result (Unit {0}) FolderError) → WritesAll known current bytes r after → IfErr r (λ e. (p : PrunedSink) → LeftIn known names boundary current p → (e ≡ OutOfMemory) × LeftIn after names boundary current p)
 push_starves known after names boundary current bytes (Ok done) writes = tt
 push_starves known after names boundary current bytes (Err e) writes = λ p left.
     let w = subst (λ (o : Option Contents). WritesAll o current bytes (Err e) after) left.1 writes in
     let l = w.left in
-    let none = sound_fails left.0 current bytes e after left.2.sound w in
+    let none = sound_fails left.0 current bytes e after left.2.sound left.2.current_open w in
     let same = l.files_are ∙ ap (λ n. appended left.0.files current.index (take n bytes)) none.1 ∙ appended-nil left.0.files current.index in
-    (none.0, (l.contents, l.is, same_left left.0 l.contents names boundary current p left.2 (still_sound l left.2.sound) l.links_stay same))
+    (none.0, (l.contents, l.is, same_left left.0 l.contents names boundary current p left.2 (still_sound l left.2.sound) (stays_open left.0 l.contents current l.open_stay left.2.current_open) l.links_stay same))
 
 pub push_opens : (known after : Option Contents) (current : FileNumber) (bytes : List ℕ) (r : Result (Unit {0}) FolderError) → WritesAll known current bytes r after → OnOk r ((files : List ℕ) → IsOpenIn known files → IsOpenIn after files)
 push_opens known after current bytes (Err e) writes = tt
@@ -80,23 +80,23 @@ once_hands known after names boundary current bytes (Err e) gives = tt
 once_hands known after names boundary current bytes (Ok n) gives = λ p m left.
     let c = left.0 in
     let w = subst (λ (o : Option Contents). Once o current bytes (Ok n) after) left.1 gives in
-    let t = took c current bytes n (c.coming 0) refl w.0 in
-    ((written c current bytes).1, w.1, push_left c (written c current bytes).1 names boundary current p m (take n bytes) left.2 (λ k. t.next k ∙ left.2.sound (suc k)) t.links t.files)
+    let t = took c current bytes n (on_file current c 0) refl w.0 in
+    ((written c current bytes).1, w.1, push_left c (written c current bytes).1 names boundary current p m (take n bytes) left.2 (λ k. t.next k ∙ left.2.sound (suc k)) (stays_open c (written c current bytes).1 current t.opens left.2.current_open) t.links t.files)
 
 pub once_opens : (known after : Option Contents) (current : FileNumber) (bytes : List ℕ) (r : Result ℕ FolderError) → Once known current bytes r after → IfOk r (λ n. (files : List ℕ) → IsOpenIn known files → IsOpenIn after files)
 once_opens known after current bytes (Err e) gives = tt
 once_opens None after current bytes (Ok n) gives = λ files opens. absurd opens
 once_opens (Some c) after current bytes (Ok n) gives = λ files opens.
-    let t = took c current bytes n (c.coming 0) refl gives.0 in subst (λ (o : Option Contents). IsOpenIn o files) (sym gives.1) (t.opens ∙ opens)
+    let t = took c current bytes n (on_file current c 0) refl gives.0 in subst (λ (o : Option Contents). IsOpenIn o files) (sym gives.1) (t.opens ∙ opens)
 
 pub once_starves : (known after : Option Contents) (names : FileNames) (boundary : Option ℤ) (current : FileNumber) (bytes : List ℕ) (r : Result ℕ FolderError) → Once known current bytes r after → IfErr r (λ e. (p : PrunedSink) → LeftIn known names boundary current p → (e ≡ OutOfMemory) × LeftIn after names boundary current p)
 once_starves known after names boundary current bytes (Ok n) gives = tt
 once_starves known after names boundary current bytes (Err OutOfMemory) gives = λ p left.
     let c = left.0 in
     let is = subst (λ (o : Option Contents). Once o current bytes (Err OutOfMemory) after) left.1 gives in
-    (refl, (called c, is, same_left c (called c) names boundary current p left.2 (λ n. left.2.sound (suc n)) refl refl))
+    (refl, (called c, is, same_left c (called c) names boundary current p left.2 (λ n. left.2.sound (suc n)) left.2.current_open refl refl))
 once_starves known after names boundary current bytes (Err (Fault f)) gives = λ p left.
-    absurd (no_fault left.0 current bytes f left.2.sound (subst (λ (o : Option Contents). Once o current bytes (Err (Fault f)) after) left.1 gives).0)
+    absurd (no_fault left.0 current bytes f left.2.sound left.2.current_open (subst (λ (o : Option Contents). Once o current bytes (Err (Fault f)) after) left.1 gives).0)
 
 -- a flush
 pub flush_left : (known after : Option Contents) (names : FileNames) (boundary : Option ℤ) (current : FileNumber) (p : PrunedSink) (r : Result (Unit {0}) FolderError) → IfErr r (λ e. e ≢ OutOfMemory) → Gives (λ x. flushed x current) known r after → LeftIn known names boundary current p → LeftIn after names boundary current p
@@ -105,7 +105,7 @@ flush_left known after names boundary current p r fed gives left =
     let k = left.2 in
     let still = flush_still c current in
     let is = fed_leaves (λ x. flushed x current) c r after fed (subst (λ (o : Option Contents). Gives (λ x. flushed x current) o r after) left.1 gives) in
-    ((flushed c current).1, is, same_left c (flushed c current).1 names boundary current p k (λ n. still.next n ∙ k.sound (suc n)) still.links still.files)
+    ((flushed c current).1, is, same_left c (flushed c current).1 names boundary current p k (λ n. still.next n ∙ k.sound (suc n)) (stays_open c (flushed c current).1 current still.opens k.current_open) still.links still.files)
 
 -- the open files behind a look stay so behind writes
 pub opens_stay : (due : Bool) (before seen new : FileNumber) (files : List ℕ) (middle after : Option Contents) → new ≡ seen → ((fs : List ℕ) → IsOpenIn middle fs → IsOpenIn after fs) → OpensAfter due before seen files middle → OpensAfter due before new files after

@@ -10,7 +10,7 @@ use Rattle.tracing_appender_folders.specs.declared.fault.FolderError.{FolderErro
 use Rattle.tracing_appender_folders.specs.declared.fault.FolderError.TheVariants.{Fault, OutOfMemory}
 use Rattle.tracing_appender_folders.specs.Moments.{is_moment, period_at, end_of, is_due, latest_of}
 use Rattle.tracing_appender_rolling.specs.Names.{FileNames, file_name}
-use Rattle.tracing_appender_folders.specs.Contents.{Contents, StoredFile, Answer, Gives, IsSound, called, closed, flushed, file_named, link_named, bytes_at, appended, fresh, open_at, written}
+use Rattle.tracing_appender_folders.specs.Contents.{Contents, StoredFile, Answer, Gives, IsSound, is_open, on_file, called, closed, flushed, file_named, link_named, bytes_at, appended, fresh, open_at, written}
 use Rattle.tracing_appender_rolling.specs.Sinks.{PlainSink, Handed, with_handed, running_moment, period_in, period_name}
 use Rattle.tracing_appender_rolling.specs.Pruning.{PrunedBy, UnprunedBy}
 use Rattle.tracing_appender_rolling.specs.Tries.{Tried, MissedFile, opened_twice, opened_linked, after_opening}
@@ -21,7 +21,7 @@ use Rattle.tracing_appender_rolling.proofs.PeriodFacts.{same_period, later_perio
 use Rattle.tracing_appender_folders.proofs.Content.{after_line, appended-nil, stands_from, stands_to, stands_still, fresh_stands, more_bytes, no_bytes, fresh_bytes}
 use Rattle.tracing_appender_rolling.proofs.Files.{running_more, file_more, file_fresh, file_two_steps}
 use Rattle.tracing_appender_rolling.proofs.Files as placing
-use Rattle.tracing_appender_folders.proofs.Openings.{opened_is, closed_files, closed_sound, fed_leaves, stays_unknown, flush_still}
+use Rattle.tracing_appender_folders.proofs.Openings.{opened_is, closed_files, closed_sound, fed_leaves, stays_unknown, flush_still, opened_open, stays_open, closed_leaves}
 use Rattle.tracing_appender_rolling.specs.Remaining.{StandOnce}
 use Rattle.tracing_appender_rolling.proofs.Retaining.{once_added}
 use Rattle.tracing_appender_rolling.proofs.Writing.{still_sound, sound_fails, took, no_fault}
@@ -89,6 +89,7 @@ build_known c names m file is_m may answer =
       sound = t.opens.sound;
       unlinked = λ x is_x. ap (link_named (file_name names m.seconds (period_at names.kind x))) t.opens.links ∙ may.1 m x is_m is_x;
       current_same = t.opens.stands ∙ ap (λ (f : FileNumber). Some f.index) same;
+      current_open = subst (λ (f : FileNumber). is_open f t.left ≡ true) same (opened_open c t.left t.file t.opens.open_files);
       files = λ name. t.opens.bytes name ∙ sym (file_fresh names m (found_in (Some c)) name);
     })
 
@@ -106,6 +107,7 @@ look_known c names boundary current s m early k =
       sound = k.sound;
       unlinked = k.unlinked;
       current_same = ap (λ d. file_named (period_name s d) c.files) period ∙ k.current_same;
+      current_open = k.current_open;
       files = λ name.
           no_bytes (period_name s (running_period s)) name c.files current.index stands
           ∙ ap (λ n. after_line (bytes_eq n name) (bytes_at c.files name) []) (sym same)
@@ -118,14 +120,15 @@ look_early None names boundary current s m early k = tt
 look_early (Some c) names boundary current s m early k = look_known c names boundary current s m early k
 
 -- a folder with the same files and links
-same_keeps : (c d : Contents) (names : FileNames) (boundary : Option ℤ) (current : FileNumber) (s : PlainSink) → MatchesSink c names boundary current s → IsSound d → d.links ≡ c.links → d.files ≡ c.files → MatchesSink d names boundary current s
-same_keeps c d names boundary current s k sound links files = record {
+same_keeps : (c d : Contents) (names : FileNames) (boundary : Option ℤ) (current : FileNumber) (s : PlainSink) → MatchesSink c names boundary current s → IsSound d → is_open current d ≡ true → d.links ≡ c.links → d.files ≡ c.files → MatchesSink d names boundary current s
+same_keeps c d names boundary current s k sound is links files = record {
   names_same = k.names_same;
   all = k.all;
   boundary_same = k.boundary_same;
   sound = sound;
   unlinked = λ x is_x. ap (link_named (period_name s (period_in s x))) links ∙ k.unlinked x is_x;
   current_same = ap (file_named (period_name s (running_period s))) files ∙ k.current_same;
+  current_open = is;
   files = λ name. ap (λ (fs : List StoredFile). bytes_at fs name) files ∙ k.files name;
 }
 
@@ -183,6 +186,7 @@ module _ (names : FileNames) (boundary : Option ℤ) (current : FileNumber) (fau
       sound = try.opens.sound;
       unlinked = λ x is_x. ap (link_named (period_name s (period_in s x))) try.opens.links ∙ k.unlinked x is_x;
       current_same = ap (λ e. file_named (period_name s e) try.left.files) period ∙ try.opens.stands;
+      current_open = opened_open c try.left try.file try.opens.open_files;
       files = λ name.
           try.opens.bytes name
           ∙ ap (λ n. after_line (bytes_eq n name) (bytes_at c.files name) []) (sym same)
@@ -203,7 +207,7 @@ module _ (names : FileNames) (boundary : Option ℤ) (current : FileNumber) (fau
     shut : MatchesSink (closed try.left current).1 names (end_at names m) try.file seen
     shut =
         let left = closed_files try.left current in
-        same_keeps try.left (closed try.left current).1 names (end_at names m) try.file seen switch_known (closed_sound try.left current try.opens.sound) left.1 left.0
+        same_keeps try.left (closed try.left current).1 names (end_at names m) try.file seen switch_known (closed_sound try.left current try.opens.sound) (closed_leaves c try.left current try.file try.opens.sound try.opens.open_files k.current_open) left.1 left.0
 
     pub switch_keeps : (after : Option Contents) (b : Option ℤ) (f : FileNumber) (l : Faults) → SwitchedTo names m (held c) b f l after → MatchesKnownSink after names b f seen
     switch_keeps after b f l is =
@@ -219,7 +223,7 @@ module _ (names : FileNames) (boundary : Option ℤ) (current : FileNumber) (fau
     switch_misses l after starved =
         let left = starved_unchanged names m faults l c after (ap (λ (n : FileNames). n.limit) k.names_same ∙ k.all.unlimited) (ap (λ (n : FileNames). n.latest) k.names_same ∙ k.all.linkless) starved in
         subst (λ (o : Option Contents). MatchesKnownSink o names boundary current s) (sym left.left.is)
-        (same_keeps c left.left.contents names boundary current s k (still_sound left.left k.sound) left.left.links_stay left.left.files_are)
+        (same_keeps c left.left.contents names boundary current s k (still_sound left.left k.sound) (stays_open c left.left.contents current left.left.open_stay k.current_open) left.left.links_stay left.left.files_are)
 
   pub look_switches : (E : Type 0) (known after : Option Contents) (done : Unit {0}) (b : Option ℤ) (f : FileNumber) (l : Faults) → Switches {E = E} names m boundary current faults known (Ok done) b f l after → MatchesKnownSink known names boundary current s → MatchesKnownSink after names b f seen
   look_switches E None after done b f l left k = subst (λ (o : Option Contents). MatchesKnownSink o names b f seen) (sym left) tt
@@ -241,11 +245,11 @@ flush_keeps (Some c) after names boundary current s r fed gives k =
     let d = (flushed c current).1 in
     let still = flush_still c current in
     subst (λ (o : Option Contents). MatchesKnownSink o names boundary current s) (sym (fed_leaves (λ x. flushed x current) c r after fed gives))
-    (same_keeps c d names boundary current s k (λ n. still.next n ∙ k.sound (suc n)) still.links still.files)
+    (same_keeps c d names boundary current s k (λ n. still.next n ∙ k.sound (suc n)) (stays_open c d current still.opens k.current_open) still.links still.files)
 
 -- bytes to the current file
-push_known : (c d : Contents) (names : FileNames) (boundary : Option ℤ) (current : FileNumber) (s : PlainSink) (m : Moment) (bytes : List ℕ) → MatchesSink c names boundary current (with_handed s (record { line = []; moment = m })) → IsSound d → d.links ≡ c.links → d.files ≡ appended c.files current.index bytes → MatchesSink d names boundary current (with_handed s (record { line = bytes; moment = m }))
-push_known c d names boundary current s m bytes k sound links files =
+push_known : (c d : Contents) (names : FileNames) (boundary : Option ℤ) (current : FileNumber) (s : PlainSink) (m : Moment) (bytes : List ℕ) → MatchesSink c names boundary current (with_handed s (record { line = []; moment = m })) → IsSound d → is_open current d ≡ true → d.links ≡ c.links → d.files ≡ appended c.files current.index bytes → MatchesSink d names boundary current (with_handed s (record { line = bytes; moment = m }))
+push_known c d names boundary current s m bytes k sound is links files =
     let before : Handed = record { line = []; moment = m } in
     let after : Handed = record { line = bytes; moment = m } in
     let period : running_period (with_handed s after) ≡ running_period (with_handed s before) = ap (period_in s) (running_more s.opened s.handed after ∙ sym (running_more s.opened s.handed before)) in
@@ -263,6 +267,7 @@ push_known c d names boundary current s m bytes k sound links files =
           ∙ ap (file_named mine) files
           ∙ stands_to mine (appended c.files current.index bytes) 0 current.index (stands_still mine bytes c.files current.index current.index stands)
           ∙ ap Some (omega arith);
+      current_open = is;
       files = λ name.
           ap (λ (fs : List StoredFile). bytes_at fs name) files
           ∙ more_bytes mine name bytes c.files current.index stands
@@ -275,16 +280,16 @@ pub push_keeps : (known after : Option Contents) (names : FileNames) (boundary :
 push_keeps None after names boundary current s m bytes done left k = subst (λ (o : Option Contents). MatchesKnownSink o names boundary current (with_handed s (record { line = bytes; moment = m }))) (sym left) tt
 push_keeps (Some c) after names boundary current s m bytes done writes k =
     subst (λ (o : Option Contents). MatchesKnownSink o names boundary current (with_handed s (record { line = bytes; moment = m }))) (sym writes.left.is)
-    (push_known c writes.left.contents names boundary current s m bytes k (still_sound writes.left k.sound) writes.left.links_stay writes.left.files_are)
+    (push_known c writes.left.contents names boundary current s m bytes k (still_sound writes.left k.sound) (stays_open c writes.left.contents current writes.left.open_stay k.current_open) writes.left.links_stay writes.left.files_are)
 
 pub push_misses : (known after : Option Contents) (names : FileNames) (boundary : Option ℤ) (current : FileNumber) (s : PlainSink) (bytes : List ℕ) (e : FolderError) → WritesAll known current bytes (Err e) after → MatchesKnownSink known names boundary current s → MatchesKnownSink after names boundary current s
 push_misses None after names boundary current s bytes e left k = subst (λ (o : Option Contents). MatchesKnownSink o names boundary current s) (sym left) tt
 push_misses (Some c) after names boundary current s bytes e writes k =
     let l = writes.left in
-    let none = sound_fails c current bytes e after k.sound writes in
+    let none = sound_fails c current bytes e after k.sound k.current_open writes in
     let same : l.contents.files ≡ c.files = l.files_are ∙ ap (λ n. appended c.files current.index (take n bytes)) none.1 ∙ appended-nil c.files current.index in
     subst (λ (o : Option Contents). MatchesKnownSink o names boundary current s) (sym l.is)
-    (same_keeps c l.contents names boundary current s k (still_sound l k.sound) l.links_stay same)
+    (same_keeps c l.contents names boundary current s k (still_sound l k.sound) (stays_open c l.contents current l.open_stay k.current_open) l.links_stay same)
 
 -- an answer of writes
 pub push_ok : (known after : Option Contents) (names : FileNames) (boundary : Option ℤ) (current : FileNumber) (bytes : List ℕ) (r : Result (Unit {0}) FolderError) → WritesAll known current bytes r after → OnOk r ((s : PlainSink) (m : Moment) → MatchesKnownSink known names boundary current (with_handed s (record { line = []; moment = m })) → MatchesKnownSink after names boundary current (with_handed s (record { line = bytes; moment = m })))
@@ -303,13 +308,13 @@ pub once_ok : (known after : Option Contents) (names : FileNames) (boundary : Op
 once_ok known after names boundary current bytes (Err e) gives = tt
 once_ok None after names boundary current bytes (Ok n) left = λ s m k. subst (λ (o : Option Contents). MatchesKnownSink o names boundary current (with_handed s (record { line = take n bytes; moment = m }))) (sym left) tt
 once_ok (Some c) after names boundary current bytes (Ok n) gives = λ s m k.
-    let t = took c current bytes n (c.coming 0) refl gives.0 in
+    let t = took c current bytes n (on_file current c 0) refl gives.0 in
     subst (λ (o : Option Contents). MatchesKnownSink o names boundary current (with_handed s (record { line = take n bytes; moment = m }))) (sym gives.1)
-    (push_known c (written c current bytes).1 names boundary current s m (take n bytes) k (λ j. t.next j ∙ k.sound (suc j)) t.links t.files)
+    (push_known c (written c current bytes).1 names boundary current s m (take n bytes) k (λ j. t.next j ∙ k.sound (suc j)) (stays_open c (written c current bytes).1 current t.opens k.current_open) t.links t.files)
 
 pub once_err : (known after : Option Contents) (names : FileNames) (boundary : Option ℤ) (current : FileNumber) (bytes : List ℕ) (r : Result ℕ FolderError) → Once known current bytes r after → OnErr r ((s : PlainSink) → MatchesKnownSink known names boundary current s → MatchesKnownSink after names boundary current s)
 once_err known after names boundary current bytes (Ok n) gives = tt
 once_err None after names boundary current bytes (Err e) left = λ s k. subst (λ (o : Option Contents). MatchesKnownSink o names boundary current s) (sym left) tt
 once_err (Some c) after names boundary current bytes (Err OutOfMemory) left = λ s k.
-    subst (λ (o : Option Contents). MatchesKnownSink o names boundary current s) (sym left) (same_keeps c (called c) names boundary current s k (λ n. k.sound (suc n)) refl refl)
-once_err (Some c) after names boundary current bytes (Err (Fault f)) gives = λ s k. absurd (no_fault c current bytes f k.sound gives.0)
+    subst (λ (o : Option Contents). MatchesKnownSink o names boundary current s) (sym left) (same_keeps c (called c) names boundary current s k (λ n. k.sound (suc n)) k.current_open refl refl)
+once_err (Some c) after names boundary current bytes (Err (Fault f)) gives = λ s k. absurd (no_fault c current bytes f k.sound k.current_open gives.0)

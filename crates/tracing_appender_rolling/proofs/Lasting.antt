@@ -1,5 +1,5 @@
 -- The steps of an appender with retention or a link over a folder that refuses nothing keep its sink.
-use Rattle.std.proofs.Common.{◌≡◌, ℕ, zero, suc, ℤ, Bool, true, false, not, ◌&&◌, ◌||◌, cond, List, [], ◌∷◌, ◌++◌, unwrap_or, refl, ap, subst, ◌∙◌, sym, arith, Option, Some, None, Ok}
+use Rattle.std.proofs.Common.{◌≡◌, ◌==◌, ℕ, zero, suc, ℤ, Bool, true, false, not, ◌&&◌, ◌||◌, cond, List, [], ◌∷◌, ◌++◌, unwrap_or, refl, ap, subst, ◌∙◌, sym, arith, Option, Some, None, Ok}
 use Rattle.std.specs.List.{filter, flat_map, list_any, AllByRecursion}
 use Rattle.std.proofs.lemmas.List.Folds.{list_any-append}
 use Rattle.std.specs.Str.{bytes_eq}
@@ -11,9 +11,9 @@ use Rattle.tracing_appender_folders.specs.declared.fault.FolderFault.{FolderFaul
 use Rattle.tracing_appender_rolling.specs.declared.init.InitContext.{InitContext}
 use Rattle.tracing_appender_folders.specs.declared.fault.FolderError.TheVariants.{Fault}
 use Rattle.tracing_appender_folders.specs.Moments.{is_moment, period_at, end_of, is_due, latest_of}
-use Rattle.tracing_appender_folders.specs.Contents.{Contents, StoredFile, Outcome, listing, IsSound, if_refused, refusal, close_plain, without_number, closed, has_name, file_named, link_named, bytes_at, appended}
+use Rattle.tracing_appender_folders.specs.Contents.{Contents, StoredFile, listing, IsSound, is_open, without_number, closed, has_name, file_named, link_named, bytes_at, appended}
 use Rattle.tracing_appender_folders.specs.Memory.{target_at}
-use Rattle.tracing_appender_folders.proofs.Openings.{closed_files, closed_sound}
+use Rattle.tracing_appender_folders.proofs.Openings.{closed_files, closed_sound, closed_open, closed_leaves, opened_open, open_more, stays_open}
 use Rattle.tracing_appender_folders.proofs.Content.{after_line, stands_from, stands_to, stands_still, more_bytes, no_bytes}
 use Rattle.tracing_appender_rolling.specs.declared.faults.Faults.{Faults}
 use Rattle.tracing_appender_rolling.specs.Names.{FileNames, file_name}
@@ -70,6 +70,7 @@ module _ (c : Contents) (names : FileNames) (m : Moment) (is_m : is_moment m ≡
             (ap (link_named (file_name names m.seconds (period_at names.kind x))) r.leaves.links ∙ may.unlinked m x is_m is_x);
         link = t.leads;
         current_same = t.stands;
+        current_open = opened_open d t.left t.file t.open_files;
         gone_opened = λ name e. absurd (false≢true e);
         files = λ name. t.bytes name ∙ ap (λ o. after_line (bytes_eq first_name name) o []) (r.leaves.bytes name) ∙ sym (file_fresh names m first.sink.found name);
       }
@@ -208,6 +209,7 @@ module _ (c : Contents) (names : FileNames) (boundary : Option ℤ) (current : F
         try.free (period_name s (period_in s x)) (link_differs s.names s.opened x k.opened_moment is_x k.good_link) (ap (link_named (period_name s (period_in s x))) r.leaves.links ∙ k.unlinked x is_x);
     link = subst (λ (e : ℤ). Leads s.names.latest (period_name s e) try.left) (sym period) try.leads;
     current_same = ap (λ e. file_named (period_name s e) try.left.files) period ∙ try.stands;
+    current_open = opened_open d try.left try.file try.open_files;
     gone_opened = λ name gone. opened_more q.sink (record { line = []; moment = m }) name (gone_opened_by (is_named name r.removed) (was_opened s name) (p.gone name) (k.gone_opened name) gone);
     files = λ name.
         try.bytes name
@@ -236,6 +238,7 @@ look_left c names boundary current p m is_m early k =
       unlinked = k.unlinked;
       link = subst (λ (e : ℤ). Leads s.names.latest (period_name s e) c) (sym period) k.link;
       current_same = ap (λ e. file_named (period_name s e) c.files) period ∙ k.current_same;
+      current_open = k.current_open;
       gone_opened = λ name gone. opened_more s h name (k.gone_opened name gone);
       files = λ name.
           no_bytes mine name c.files current.index (stands_from mine c.files current.index k.current_same)
@@ -257,8 +260,8 @@ once_appended [] i bytes once = tt
 once_appended (f ∷ fs) zero bytes once = once
 once_appended (f ∷ fs) (suc i) bytes once = (λ e. none_appended f.name fs i bytes (once.0 e), once_appended fs i bytes once.1)
 
-pub push_left : (c d : Contents) (names : FileNames) (boundary : Option ℤ) (current : FileNumber) (p : PrunedSink) (m : Moment) (bytes : List ℕ) → MatchesPrunedSink c names boundary current (with_line p [] m) → IsSound d → d.links ≡ c.links → d.files ≡ appended c.files current.index bytes → MatchesPrunedSink d names boundary current (with_line p bytes m)
-push_left c d names boundary current p m bytes k sound links files =
+pub push_left : (c d : Contents) (names : FileNames) (boundary : Option ℤ) (current : FileNumber) (p : PrunedSink) (m : Moment) (bytes : List ℕ) → MatchesPrunedSink c names boundary current (with_line p [] m) → IsSound d → is_open current d ≡ true → d.links ≡ c.links → d.files ≡ appended c.files current.index bytes → MatchesPrunedSink d names boundary current (with_line p bytes m)
+push_left c d names boundary current p m bytes k sound open_on links files =
     let s = p.sink in
     let before : Handed = record { line = []; moment = m } in
     let after : Handed = record { line = bytes; moment = m } in
@@ -283,6 +286,7 @@ push_left c d names boundary current p m bytes k sound links files =
           ∙ ap (file_named mine) files
           ∙ stands_to mine (appended c.files current.index bytes) 0 current.index (stands_still mine bytes c.files current.index current.index stands)
           ∙ ap Some (omega arith);
+      current_open = open_on;
       gone_opened = λ name gone. opened_alike s m bytes name (k.gone_opened name gone);
       files = λ name.
           ap (λ (fs : List StoredFile). bytes_at fs name) files
@@ -305,8 +309,8 @@ push_left c d names boundary current p m bytes k sound links files =
         ∙ is
 
 -- a folder with the same files and links
-pub same_left : (c d : Contents) (names : FileNames) (boundary : Option ℤ) (current : FileNumber) (p : PrunedSink) → MatchesPrunedSink c names boundary current p → IsSound d → d.links ≡ c.links → d.files ≡ c.files → MatchesPrunedSink d names boundary current p
-same_left c d names boundary current p k sound links files = record {
+pub same_left : (c d : Contents) (names : FileNames) (boundary : Option ℤ) (current : FileNumber) (p : PrunedSink) → MatchesPrunedSink c names boundary current p → IsSound d → is_open current d ≡ true → d.links ≡ c.links → d.files ≡ c.files → MatchesPrunedSink d names boundary current p
+same_left c d names boundary current p k sound open_on links files = record {
   names_same = k.names_same;
   good_link = k.good_link;
   opened_moment = k.opened_moment;
@@ -317,6 +321,7 @@ same_left c d names boundary current p k sound links files = record {
   unlinked = λ x is. ap (link_named (period_name p.sink (period_in p.sink x))) links ∙ k.unlinked x is;
   link = leads_still p.sink.names.latest (period_name p.sink (running_period p.sink)) c d links (λ q e. ap (λ (fs : List StoredFile). bytes_at fs q) files ∙ e) k.link;
   current_same = ap (file_named (period_name p.sink (running_period p.sink))) files ∙ k.current_same;
+  current_open = open_on;
   gone_opened = k.gone_opened;
   files = λ name. ap (λ (fs : List StoredFile). bytes_at fs name) files ∙ k.files name;
 }
@@ -339,10 +344,6 @@ fails_left c names m context fault after is_m may is =
     let t = first_try c names m is_m may is.counted is.pruned r in
     no_failure (try_at names m is.pruned) (failure context (Fault fault)) t.file t.left t.is is.answered
 
--- a close over a folder that refuses nothing
-closed_open : (c : Contents) (file : FileNumber) → IsSound c → (closed c file).1.open_files ≡ without_number file.index c.open_files
-closed_open c file sound = ap (λ (o : Outcome). (if_refused o (λ e. refusal e c) (close_plain file c)).1.open_files) (sound 0)
-
 -- a look at a moment over a folder whose contents are known
 pub switches_left : (c : Contents) (names : FileNames) (boundary end : Option ℤ) (current file : FileNumber) (faults l : Faults) (p : PrunedSink) (m : Moment) (after : Option Contents) → is_moment m ≡ true → is_due boundary m.seconds ≡ true → MatchesPrunedSink c names boundary current p → SwitchedTo names m (record { boundary = boundary; current = current; faults = faults; contents = c }) end file l after →
     (removed : List (List ℕ)) × IsRemoved names.limit names (listing c) removed × ((d : Contents) × (after ≡ Some d) × MatchesPrunedSink d names end file (with_line (without removed p) [] m)) × (l ≡ faults)
@@ -353,12 +354,13 @@ switches_left c names boundary end current file faults l p m after is_m due k is
     let end_left = (closed t.left current).1 in
     let shut = closed_files t.left current in
     let seen = with_line (without r.removed p) [] m in
+    let still = stays_open c is.pruned current r.leaves.open_stay k.current_open in
     let open_left = switch_left c names boundary current p m is_m due k faults is.counted is.pruned r in
-    let left = same_left t.left end_left names (end_at names m) t.file seen open_left (closed_sound t.left current t.sound) shut.1 shut.0 in
+    let left = same_left t.left end_left names (end_at names m) t.file seen open_left (closed_sound t.left current t.sound) (closed_leaves is.pruned t.left current t.file t.sound t.open_files still) shut.1 shut.0 in
     let start : Held = record { boundary = end_at names m; current = current; faults = is.counted; contents = is.pruned } in
     let h = subst (λ (x : Held). IsHeld after end file l x) (ap (tried start) (try_is c names boundary current p m is_m due k faults is.counted is.pruned r)) is.held in
     let opens =
-    closed_open t.left current t.sound
+    closed_open t.left current t.sound (ap (λ (ns : List ℕ). list_any (λ n. n == current.index) ns) t.open_files ∙ open_more current.index is.pruned.open_files (t.file.index ∷ []) still)
     ∙ ap (without_number current.index) (t.open_files ∙ ap (λ (fs : List ℕ). fs ++ t.file.index ∷ []) r.leaves.open_stay ∙ ap (λ (f : FileNumber). c.open_files ++ f.index ∷ []) (sym h.open_file)) in
     (r.removed, r.is_removed, (end_left, h.folder, subst (λ (b : Option ℤ). MatchesPrunedSink end_left names b file seen) (sym h.until) (subst (λ (n : FileNumber). MatchesPrunedSink end_left names (end_at names m) n seen) (sym h.open_file) left)), h.counts ∙ r.counts, subst (λ (o : Option Contents). IsOpenIn o (without_number current.index (c.open_files ++ file.index ∷ []))) (sym h.folder) opens)
 

@@ -1,3 +1,4 @@
+pub use Rattle.tracing_appender_folders.proofs.Openings
 pub mod PeriodFacts
 pub mod Apart
 pub mod Files

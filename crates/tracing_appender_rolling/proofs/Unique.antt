@@ -12,14 +12,14 @@ use Rattle.tracing_appender_folders.specs.declared.fault.FolderFault.{FolderFaul
 use Rattle.tracing_appender_folders.specs.declared.fault.FolderError.{FolderError}
 use Rattle.tracing_appender_folders.specs.declared.fault.FolderError.TheVariants.{Fault, OutOfMemory}
 use Rattle.tracing_appender_folders.specs.Moments.{is_due}
-use Rattle.tracing_appender_folders.specs.Contents.{Contents, StoredFile, Answer, Outcome, Done, Refuses, Short, Listed, appended, taken, names_listed}
+use Rattle.tracing_appender_folders.specs.Contents.{Contents, StoredFile, Answer, Outcome, Done, Refuses, Short, Listed, appended, on_file, taken, names_listed}
 use Rattle.tracing_appender_rolling.specs.declared.faults.Faults.{Faults}
 use Rattle.tracing_appender_rolling.specs.Names.{FileNames}
 use Rattle.tracing_appender_rolling.specs.Faults.{after_write}
 use Rattle.tracing_appender_rolling.specs.Retention.{PlainCandidate, Tells, IsCandidates, made_of, with_candidate}
 use Rattle.tracing_appender_rolling.specs.Pruning.{PrunedAfter, PrunedBy, doomed, removed_all}
 use Rattle.tracing_appender_rolling.specs.Looks.{Held, IsHeld, LookedTo, tried, try_at, end_at}
-use Rattle.tracing_appender_rolling.specs.Writes.{Left, taken_by, Takes, FailsWith, WroteAll, WroteSome, Wrote, WritesAll}
+use Rattle.tracing_appender_rolling.specs.Writes.{Left, for_file, taken_by, Takes, FailsWith, WroteAll, WroteSome, Wrote, WritesAll}
 use Rattle.tracing_appender_rolling.specs.Handing.{HandedOver, HandsTo, LinesHaveOneEnd, is_starved}
 
 -- a name tells one date, and a listing has one list of candidates
@@ -127,30 +127,30 @@ left_once c files others dirs n k p q same calls x y =
     (λ i. x.comes i ∙ ap (λ j. c.coming (j + i)) calls ∙ sym (y.comes i)))
     ∙ sym y.is
 
-some_stops : (c : Contents) (file : FileNumber) (bytes : List ℕ) (p : Option Contents) (fault : FolderFault) (w : WroteSome c file bytes (Fault fault) p) → Stops c (length bytes) w.writes
-some_stops c file bytes p fault w = fails_none (c.coming w.writes) fault (length bytes - taken_by c w.writes (length bytes)) w.fails
+some_stops : (c : Contents) (file : FileNumber) (bytes : List ℕ) (p : Option Contents) (fault : FolderFault) (w : WroteSome c file bytes (Fault fault) p) → Stops (for_file file c) (length bytes) w.writes
+some_stops c file bytes p fault w = fails_none (on_file file c w.writes) fault (length bytes - taken_by (for_file file c) w.writes (length bytes)) w.fails
 
 not_both : (c : Contents) (file : FileNumber) (bytes : List ℕ) (p q : Option Contents) (fault : FolderFault) → WroteAll c file bytes p → WroteSome c file bytes (Fault fault) q → ⊥
 not_both c file bytes p q fault x y =
     let len = length bytes in
-    let same = writes_once c len x.writes y.writes len y.count x.takes y.takes (all_stop c len x.writes x.takes) (some_stops c file bytes q fault y) in
-    let count : y.count ≡ len = sym y.takes.sum ∙ ap (λ n. taken_by c n len) (sym same) ∙ x.takes.sum in
+    let same = writes_once (for_file file c) len x.writes y.writes len y.count x.takes y.takes (all_stop (for_file file c) len x.writes x.takes) (some_stops c file bytes q fault y) in
+    let count : y.count ≡ len = sym y.takes.sum ∙ ap (λ n. taken_by (for_file file c) n len) (sym same) ∙ x.takes.sum in
     let less = y.less in
     omega (arith, count, less)
 
 wrote_once : (c : Contents) (file : FileNumber) (bytes : List ℕ) (r s : Result (Unit {0}) FolderError) (p q : Option Contents) → is_starved r ≡ false → is_starved s ≡ false → Wrote c file bytes r p → Wrote c file bytes s q → (r ≡ s) × (p ≡ q)
 wrote_once c file bytes (Ok done) (Ok also) p q fed too x y =
     let len = length bytes in
-    let same = writes_once c len x.writes y.writes len len x.takes y.takes (all_stop c len x.writes x.takes) (all_stop c len y.writes y.takes) in
+    let same = writes_once (for_file file c) len x.writes y.writes len len x.takes y.takes (all_stop (for_file file c) len x.writes x.takes) (all_stop (for_file file c) len y.writes y.takes) in
     (refl, left_once c (appended c.files file.index bytes) (appended c.files file.index bytes) c.has_dirs x.writes y.writes p q refl same x.left y.left)
 wrote_once c file bytes (Ok done) (Err (Fault g)) p q fed too x y = absurd (not_both c file bytes p q g x y)
 wrote_once c file bytes (Ok done) (Err OutOfMemory) p q fed too x y = cc
 wrote_once c file bytes (Err (Fault f)) (Ok done) p q fed too x y = absurd (not_both c file bytes q p f y x)
 wrote_once c file bytes (Err (Fault f)) (Err (Fault g)) p q fed too x y =
     let len = length bytes in
-    let same = writes_once c len x.writes y.writes x.count y.count x.takes y.takes (some_stops c file bytes p f x) (some_stops c file bytes q g y) in
-    let count : x.count ≡ y.count = sym x.takes.sum ∙ ap (λ n. taken_by c n len) same ∙ y.takes.sum in
-    let fault = fault_once (c.coming y.writes) f g (subst (λ n. FailsWith (c.coming n) (Fault f)) same x.fails) y.fails in (
+    let same = writes_once (for_file file c) len x.writes y.writes x.count y.count x.takes y.takes (some_stops c file bytes p f x) (some_stops c file bytes q g y) in
+    let count : x.count ≡ y.count = sym x.takes.sum ∙ ap (λ n. taken_by (for_file file c) n len) same ∙ y.takes.sum in
+    let fault = fault_once (on_file file c y.writes) f g (subst (λ n. FailsWith (on_file file c n) (Fault f)) same x.fails) y.fails in (
       ap (λ (e : FolderFault). Err (Fault e)) fault,
       left_once c (appended c.files file.index (take x.count bytes)) (appended c.files file.index (take y.count bytes)) c.has_dirs (suc x.writes) (suc y.writes) p q (ap (λ n. appended c.files file.index (take n bytes)) count) (ap suc same) x.left y.left,
     )

@@ -1,6 +1,7 @@
 -- The loop that writes until all bytes are taken.
-use Rattle.std.proofs.Common.{◌≡◌, Bool, ℕ, zero, suc, ◌+◌, ◌<◌, ◌≤◌, ◌-◌, List, [], ◌∷◌, ◌++◌, length, take, drop, min, inl, inr, refl, ap, subst, ◌∙◌, sym, arith, Option, Some, None, Result, Ok, Err}
+use Rattle.std.proofs.Common.{◌≡◌, ◌==◌, true, Bool, ℕ, zero, suc, ◌+◌, ◌<◌, ◌≤◌, ◌-◌, List, [], ◌∷◌, ◌++◌, length, take, drop, min, inl, inr, refl, ap, subst, ◌∙◌, sym, arith, Option, Some, None, Result, Ok, Err}
 use Rattle.std.specs.Prelude.{◌⊎◌}
+use Rattle.std.specs.List.{list_any}
 use Rattle.std.proofs.Math.Nat.{eq-or-lt_of_le}
 use Rattle.std.proofs.lemmas.List.{take_all, length-take, length-drop, append_assoc}
 use Rattle.std.proofs.Math.Seq.{take-add}
@@ -9,8 +10,9 @@ use Rattle.tracing_appender_folders.specs.declared.fault.FolderFault.{FolderFaul
 use Rattle.tracing_appender_folders.specs.declared.fault.FolderFault.TheVariants.{WriteZero}
 use Rattle.tracing_appender_folders.specs.declared.fault.FolderError.{FolderError}
 use Rattle.tracing_appender_folders.specs.declared.fault.FolderError.TheVariants.{Fault, OutOfMemory}
-use Rattle.tracing_appender_folders.specs.Contents.{Contents, StoredFile, Answer, Gives, IsSound, Outcome, Done, Refuses, Short, appended, written, write_plain, taken, refusal, if_refused, called}
-use Rattle.tracing_appender_rolling.specs.Writes.{Left, taken_by, Takes, FailsWith, WroteSome, Wrote, WritesAll}
+use Rattle.tracing_appender_folders.specs.Contents.{Contents, StoredFile, Answer, Gives, IsSound, Outcome, Done, Refuses, Short, appended, written, write_plain, taken, refusal, if_refused, called, is_open, on_file, unless_closed}
+use Rattle.tracing_appender_folders.proofs.Openings.{sound_on}
+use Rattle.tracing_appender_rolling.specs.Writes.{Left, for_file, taken_by, Takes, FailsWith, WroteSome, Wrote, WritesAll}
 use Rattle.tracing_appender_folders.proofs.Content.{appended-nil}
 
 -- a second part at the same place
@@ -31,18 +33,18 @@ pub record Took (d e : Contents) (file : FileNumber) (part : List ℕ) (n : ℕ)
   pub opens : e.open_files ≡ d.open_files
   pub dirs : e.has_dirs ≡ d.has_dirs
   pub flushes : e.last_flushed ≡ d.last_flushed
-  pub count : n ≡ taken (d.coming 0) (length part)
-  pub none : n ≡ 0 → 0 < length part → FailsWith (d.coming 0) (Fault WriteZero)
+  pub count : n ≡ taken (on_file file d 0) (length part)
+  pub none : n ≡ 0 → 0 < length part → FailsWith (on_file file d 0) (Fault WriteZero)
   pub next : (k : ℕ) → e.coming k ≡ d.coming (suc k)
 
 -- one that failed
-record Failed (d e : Contents) (f : FolderFault) : Type 0 where
+record Failed (d e : Contents) (file : FileNumber) (f : FolderFault) : Type 0 where
   pub files : e.files ≡ d.files
   pub links : e.links ≡ d.links
   pub opens : e.open_files ≡ d.open_files
   pub dirs : e.has_dirs ≡ d.has_dirs
   pub flushes : e.last_flushed ≡ d.last_flushed
-  pub fails : FailsWith (d.coming 0) (Fault f)
+  pub fails : FailsWith (on_file file d 0) (Fault f)
   pub next : (k : ℕ) → e.coming k ≡ d.coming (suc k)
 
 abbrev answer_of : Contents → FileNumber → List ℕ → Outcome → Answer ℕ
@@ -58,7 +60,7 @@ no_most : (most n len : ℕ) → n ≡ min most len → n ≡ 0 → 0 < len → 
 no_most zero n len count none some = refl
 no_most (suc m) n len count none some = absurd (omega (arith, count, none, some))
 
-pub took : (d : Contents) (file : FileNumber) (part : List ℕ) (n : ℕ) (o : Outcome) → d.coming 0 ≡ o → (answer_of d file part o).0 ≡ Ok n → Took d (answer_of d file part o).1 file part n
+pub took : (d : Contents) (file : FileNumber) (part : List ℕ) (n : ℕ) (o : Outcome) → on_file file d 0 ≡ o → (answer_of d file part o).0 ≡ Ok n → Took d (answer_of d file part o).1 file part n
 took d file part n (Refuses f) is told = cc
 took d file part n Done is told =
     let size : length (take (length part) part) ≡ n = cc in
@@ -88,7 +90,7 @@ took d file part n (Short most) is told =
       next = λ k. refl;
     }
 
-failed : (d : Contents) (file : FileNumber) (part : List ℕ) (f : FolderFault) (o : Outcome) → d.coming 0 ≡ o → (answer_of d file part o).0 ≡ Err (Fault f) → Failed d (answer_of d file part o).1 f
+failed : (d : Contents) (file : FileNumber) (part : List ℕ) (f : FolderFault) (o : Outcome) → on_file file d 0 ≡ o → (answer_of d file part o).0 ≡ Err (Fault f) → Failed d (answer_of d file part o).1 file f
 failed d file part f Done is told = cc
 failed d file part f (Short most) is told = cc
 failed d file part f (Refuses g) is told =
@@ -99,7 +101,7 @@ failed d file part f (Refuses g) is told =
 pub record Part (c : Contents) (file : FileNumber) (bytes : List ℕ) (from : ℕ) (now : Option Contents) : Type 0 where
   pub writes : ℕ
   pub left : Left c (appended c.files file.index (take from bytes)) c.has_dirs writes now
-  pub takes : Takes c writes (length bytes) from
+  pub takes : Takes (for_file file c) writes (length bytes) from
 
 pub record Going (start : Option Contents) (file : FileNumber) (bytes : List ℕ) (from : ℕ) (now : Option Contents) : Type 0 where
   pub unknown : start ≡ None → now ≡ None
@@ -145,8 +147,11 @@ module _ (start : Option Contents) (file : FileNumber) (bytes : List ℕ) (from 
   at_known c e r gives = subst (λ (o : Option Contents). Gives (λ x. written x file part) o r after) (going.known c e).left.is gives
 
   -- the next call
-  first_here : (c : Contents) (e : start ≡ Some c) → (going.known c e).left.contents.coming 0 ≡ c.coming (going.known c e).writes
-  first_here c e = (going.known c e).left.comes 0 ∙ ap c.coming (let same : (going.known c e).writes + 0 ≡ (going.known c e).writes = omega arith in same)
+  first_here : (c : Contents) (e : start ≡ Some c) → on_file file (going.known c e).left.contents 0 ≡ on_file file c (going.known c e).writes
+  first_here c e =
+      let l = (going.known c e).left in
+      ap (λ (ns : List ℕ). unless_closed (list_any (λ m. m == file.index) ns) (l.contents.coming 0)) l.open_stay
+      ∙ ap (unless_closed (is_open file c)) (l.comes 0 ∙ ap c.coming (let same : (going.known c e).writes + 0 ≡ (going.known c e).writes = omega arith in same))
 
   later_here : (c : Contents) (e : start ≡ Some c) (k : ℕ) → (going.known c e).left.contents.coming (suc k) ≡ c.coming (suc (going.known c e).writes + k)
   later_here c e k = (going.known c e).left.comes (suc k) ∙ ap c.coming (let same : (going.known c e).writes + suc k ≡ suc (going.known c e).writes + k = omega arith in same)
@@ -167,10 +172,10 @@ module _ (start : Option Contents) (file : FileNumber) (bytes : List ℕ) (from 
       }
 
   took_here : (c : Contents) (e : start ≡ Some c) (n : ℕ) (gives : Gives (λ x. written x file part) before (Ok n) after) → Took (going.known c e).left.contents (written (going.known c e).left.contents file part).1 file part n
-  took_here c e n gives = let d = (going.known c e).left.contents in took d file part n (d.coming 0) refl (at_known c e (Ok n) gives).0
+  took_here c e n gives = let d = (going.known c e).left.contents in took d file part n (on_file file d 0) refl (at_known c e (Ok n) gives).0
 
-  count_here : (c : Contents) (e : start ≡ Some c) (n : ℕ) → n ≡ taken ((going.known c e).left.contents.coming 0) (length part) → n ≡ taken (c.coming (going.known c e).writes) (length bytes - from)
-  count_here c e n count = count ∙ ap (λ (o : Outcome). taken o (length part)) (first_here c e) ∙ ap (taken (c.coming (going.known c e).writes)) rest
+  count_here : (c : Contents) (e : start ≡ Some c) (n : ℕ) → n ≡ taken (on_file file (going.known c e).left.contents 0) (length part) → n ≡ taken (on_file file c (going.known c e).writes) (length bytes - from)
+  count_here c e n count = count ∙ ap (λ (o : Outcome). taken o (length part)) (first_here c e) ∙ ap (taken (on_file file c (going.known c e).writes)) rest
 
   part_after : (c : Contents) (e : start ≡ Some c) (n : ℕ) → 0 < n → Gives (λ x. written x file part) before (Ok n) after → Part c file bytes (from + n) after
   part_after c e n some gives =
@@ -179,7 +184,7 @@ module _ (start : Option Contents) (file : FileNumber) (bytes : List ℕ) (from 
       record {
         writes = suc p.writes;
         left = left_after c e n (written p.left.contents file part).1 (at_known c e (Ok n) gives).1 t;
-        takes = takes_more c p.writes (length bytes) from n p.takes (count_here c e n t.count) some;
+        takes = takes_more (for_file file c) p.writes (length bytes) from n p.takes (count_here c e n t.count) some;
       }
 
   pub goes : (n : ℕ) → 0 < n → Gives (λ x. written x file part) before (Ok n) after → Going start file bytes (from + n) after
@@ -222,7 +227,7 @@ module _ (start : Option Contents) (file : FileNumber) (bytes : List ℕ) (from 
   err_known c e (Fault f) gave =
       let p = going.known c e in
       let d = p.left.contents in
-      let g = failed d file part f (d.coming 0) refl gave.0 in
+      let g = failed d file part f (on_file file d 0) refl gave.0 in
       record {
         writes = p.writes;
         count = from;
@@ -255,27 +260,28 @@ ends start file bytes from now done going all =
     record {
       writes = p.writes;
       left = subst (λ (b : List ℕ). Left c (appended c.files file.index b) c.has_dirs p.writes now) (take_all from bytes le) p.left;
-      takes = subst (Takes c p.writes (length bytes)) all p.takes;
+      takes = subst (Takes (for_file file c) p.writes (length bytes)) all p.takes;
     })
 
 -- a folder that refuses nothing goes on so
 pub still_sound : {c : Contents} {files : List StoredFile} {dirs : Bool} {calls : ℕ} {after : Option Contents} (l : Left c files dirs calls after) → IsSound c → IsSound l.contents
 still_sound {calls = calls} l sound n = l.comes n ∙ sound (calls + n)
 
-pub no_fault : (d : Contents) (file : FileNumber) (part : List ℕ) (f : FolderFault) → IsSound d → (written d file part).0 ≡ Err (Fault f) → ⊥
-no_fault d file part f sound told = subst (λ (o : Outcome). FailsWith o (Fault f)) (sound 0) (failed d file part f (d.coming 0) refl told).fails
+pub no_fault : (d : Contents) (file : FileNumber) (part : List ℕ) (f : FolderFault) → IsSound d → is_open file d ≡ true → (written d file part).0 ≡ Err (Fault f) → ⊥
+no_fault d file part f sound is told = subst (λ (o : Outcome). FailsWith o (Fault f)) (sound_on d file sound is 0) (failed d file part f (on_file file d 0) refl told).fails
 
 -- it fails for want of memory alone, at the first write
-pub sound_fails : (c : Contents) (file : FileNumber) (bytes : List ℕ) (e : FolderError) (after : Option Contents) → IsSound c → (w : WroteSome c file bytes e after) → (e ≡ OutOfMemory) × (w.count ≡ 0)
-sound_fails c file bytes e after sound w =
-    (starved e (subst (λ (o : Outcome). FailsWith o e) (sound w.writes) w.fails), none w.writes w.takes.sum)
+pub sound_fails : (c : Contents) (file : FileNumber) (bytes : List ℕ) (e : FolderError) (after : Option Contents) → IsSound c → is_open file c ≡ true → (w : WroteSome c file bytes e after) → (e ≡ OutOfMemory) × (w.count ≡ 0)
+sound_fails c file bytes e after sound is w =
+    (starved e (subst (λ (o : Outcome). FailsWith o e) (sound_on c file sound is w.writes) w.fails), none w.writes w.takes.sum)
   where
     starved : (e : FolderError) → FailsWith Done e → e ≡ OutOfMemory
     starved OutOfMemory fails = refl
     starved (Fault fault) fails = absurd fails
 
-    none : (writes : ℕ) → taken_by c writes (length bytes) ≡ w.count → w.count ≡ 0
+    none : (writes : ℕ) → taken_by (for_file file c) writes (length bytes) ≡ w.count → w.count ≡ 0
     none zero sum = sym sum
     none (suc n) sum =
-        let whole : taken_by c n (length bytes) + (length bytes - taken_by c n (length bytes)) ≡ w.count = sym (ap (λ (o : Outcome). taken_by c n (length bytes) + taken o (length bytes - taken_by c n (length bytes))) (sound n)) ∙ sum in
+        let all = taken_by (for_file file c) n (length bytes) in
+        let whole : all + (length bytes - all) ≡ w.count = sym (ap (λ (o : Outcome). all + taken o (length bytes - all)) (sound_on c file sound is n)) ∙ sum in
         absurd (omega (arith, whole, w.less))

@@ -13,7 +13,7 @@ use Rattle.tracing_appender_rolling.specs.declared.appender.RollingFileAppender.
 use Rattle.tracing_appender_folders.specs.Moments.{is_moment, period_at, end_of, is_due}
 use Rattle.tracing_appender_rolling.specs.Names.{FileNames, file_name}
 use Rattle.tracing_appender_rolling.specs.Builders.{builder_names}
-use Rattle.tracing_appender_folders.specs.Contents.{Contents, IsSound, file_named, link_named, bytes_at}
+use Rattle.tracing_appender_folders.specs.Contents.{Contents, IsSound, is_open, file_named, link_named, bytes_at}
 use Rattle.tracing_appender_rolling.specs.Faults.{no_faults}
 use Rattle.tracing_appender_rolling.specs.Pruning.{Pruned}
 use Rattle.tracing_appender_rolling.specs.Tries.{failure}
@@ -30,7 +30,7 @@ pub record KeepsEveryFile (names : FileNames) : Type 0 where
   pub linkless : names.latest ≡ None
 
 -- the folder refuses nothing, takes each write whole, and has no link under the name of a log file of the sink, which keeps all of them; the boundary is the
--- end of the running moment's period, the current file is that period's, and each file holds its text
+-- end of the running moment's period, the current file is that period's and open, and each file holds its text
 pub record MatchesSink (c : Contents) (names : FileNames) (boundary : Option ℤ) (current : FileNumber) (s : PlainSink) : Type 0 where
   pub names_same : names ≡ s.names
   pub all : KeepsEveryFile s.names
@@ -38,6 +38,7 @@ pub record MatchesSink (c : Contents) (names : FileNames) (boundary : Option ℤ
   pub sound : IsSound c
   pub unlinked : (m : Moment) → is_moment m ≡ true → link_named (period_name s (period_in s m)) c.links ≡ false
   pub current_same : file_named (period_name s (running_period s)) c.files ≡ Some current.index
+  pub current_open : is_open current c ≡ true
   pub files : (name : List ℕ) → bytes_at c.files name ≡ file_text s name
 
 -- nothing is said of a folder whose contents aren't known

@@ -5,7 +5,7 @@ use Rattle.std.specs.Str.{bytes_eq}
 use Rattle.tracing_appender_folders.specs.declared.moment.Moment.{Moment}
 use Rattle.tracing_appender_folders.specs.declared.fault.FileNumber.{FileNumber}
 use Rattle.tracing_appender_folders.specs.Moments.{is_moment, period_at, end_of, is_due}
-use Rattle.tracing_appender_folders.specs.Contents.{Contents, StoredFile, Listed, IsSound, file_named, link_named, bytes_at, listing, without_number}
+use Rattle.tracing_appender_folders.specs.Contents.{Contents, StoredFile, Listed, IsSound, file_named, link_named, bytes_at, listing, is_open, without_number}
 use Rattle.tracing_appender_folders.specs.Memory.{target_at}
 use Rattle.tracing_appender_rolling.specs.declared.appender.RollingFileAppender.{RollingFileAppender}
 use Rattle.tracing_appender_rolling.specs.Names.{FileNames, file_name, HasGoodLink}
@@ -60,7 +60,7 @@ Leads None name c = Unit {0}
 Leads (Some link) name c = (bytes_at c.files link ≡ None) × (target_at c.links link ≡ Some name)
 
 -- The folder refuses nothing and takes each write whole, each name in it stands for one file, and it has no link under the name of a log file of the sink. The
--- boundary is the end of the running moment's period, the current file is that period's, the link leads to it, and each name has its text.
+-- boundary is the end of the running moment's period, the current file is that period's and open, the link leads to it, and each name has its text.
 pub record MatchesPrunedSink (c : Contents) (names : FileNames) (boundary : Option ℤ) (current : FileNumber) (p : PrunedSink) : Type 0 where
   pub names_same : names ≡ p.sink.names
   pub good_link : HasGoodLink p.sink.names
@@ -72,6 +72,7 @@ pub record MatchesPrunedSink (c : Contents) (names : FileNames) (boundary : Opti
   pub unlinked : (m : Moment) → is_moment m ≡ true → link_named (period_name p.sink (period_in p.sink m)) c.links ≡ false
   pub link : Leads p.sink.names.latest (period_name p.sink (running_period p.sink)) c
   pub current_same : file_named (period_name p.sink (running_period p.sink)) c.files ≡ Some current.index
+  pub current_open : is_open current c ≡ true
   pub gone_opened : (name : List ℕ) → p.gone name ≡ true → was_opened p.sink name ≡ true
   pub files : (name : List ℕ) → bytes_at c.files name ≡ pruned_text p name
 

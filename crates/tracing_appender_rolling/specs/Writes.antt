@@ -4,7 +4,7 @@ use Rattle.tracing_appender_folders.specs.declared.fault.FolderError.{FolderErro
 use Rattle.tracing_appender_folders.specs.declared.fault.FolderError.TheVariants.{Fault, OutOfMemory}
 use Rattle.tracing_appender_folders.specs.declared.fault.FolderFault.TheVariants.{WriteZero}
 use Rattle.tracing_appender_folders.specs.declared.fault.FileNumber.{FileNumber}
-use Rattle.tracing_appender_folders.specs.Contents.{Contents, StoredFile, Outcome, Done, Refuses, Short, appended, taken}
+use Rattle.tracing_appender_folders.specs.Contents.{Contents, StoredFile, Outcome, Done, Refuses, Short, appended, taken, on_file}
 
 -- these files, these directories or none, and links, open files and the last flush as before, after so many calls
 pub record Left (c : Contents) (files : List StoredFile) (dirs : Bool) (calls : ℕ) (after : Option Contents) : Type 0 where
@@ -45,20 +45,24 @@ FailsWith (Refuses refusal) (Fault fault) = fault ≡ refusal
 FailsWith (Short most) (Fault fault) = (most ≡ 0) × (fault ≡ WriteZero)
 FailsWith Done (Fault fault) = ⊥
 
+-- the folder as the calls on a file meet it
+abbrev pub for_file : FileNumber → Contents → Contents
+for_file file c = record c { coming = on_file file c }
+
 -- the coming writes took all bytes, and these stand at the end of the file
 pub record WroteAll (c : Contents) (file : FileNumber) (bytes : List ℕ) (after : Option Contents) : Type 0 where
   pub writes : ℕ
   pub left : Left c (appended c.files file.index bytes) c.has_dirs writes after
-  pub takes : Takes c writes (length bytes) (length bytes)
+  pub takes : Takes (for_file file c) writes (length bytes) (length bytes)
 
 -- a write failed, and what those before it took, which isn't all, stands at the end of the file
 pub record WroteSome (c : Contents) (file : FileNumber) (bytes : List ℕ) (e : FolderError) (after : Option Contents) : Type 0 where
   pub writes : ℕ
   pub count : ℕ
   pub left : Left c (appended c.files file.index (take count bytes)) c.has_dirs (suc writes) after
-  pub takes : Takes c writes (length bytes) count
+  pub takes : Takes (for_file file c) writes (length bytes) count
   pub less : count < length bytes
-  pub fails : FailsWith (c.coming writes) e
+  pub fails : FailsWith (on_file file c writes) e
 
 abbrev pub Wrote : Contents → FileNumber → List ℕ → Result (Unit {0}) FolderError → Option Contents → Type 0
 Wrote c file bytes (Ok done) after = WroteAll c file bytes after

@@ -51,9 +51,7 @@ impl Folder for SlowFolder {
             return Err(FolderError::Fault(FolderFault::Refused));
         }
         self.openings -= 1;
-        Ok(FileNumber {
-            index: self.openings,
-        })
+        Ok(FileNumber::new(self.openings))
     }
 
     fn close_file(&mut self, _file: FileNumber) -> Result<(), FolderError> {
@@ -63,7 +61,7 @@ impl Folder for SlowFolder {
     fn write(&mut self, file: FileNumber, bytes: &[u8]) -> Result<usize, FolderError> {
         match bytes.first() {
             Some(byte) => {
-                self.written.push((file.index, *byte))?;
+                self.written.push((file.index(), *byte))?;
                 Ok(1)
             }
             None => Ok(0),

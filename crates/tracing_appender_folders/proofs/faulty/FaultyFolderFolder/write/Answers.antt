@@ -1,16 +1,21 @@
-use Rattle.std.proofs.Common.{◌≡◌, ◌∙◌, sym, length, take, arith, ◌≤◌, rules}
-use Rattle.std.proofs.lemmas.List.{take_all}
-use Rattle.tracing_appender_folders.specs.Contents.{taken}
+use Rattle.std.proofs.Common.{◌≡◌, ◌∙◌, sym, subst, length, take, ℕ, Some, rules}
+use Rattle.tracing_appender_folders.specs.Contents.{Answer, Gives, is_open, on_file, taken, write_plain, written}
 use Rattle.tracing_appender_folders.specs.Faulty.{faulty_contents, plan_of, number_after}
-use Rattle.tracing_appender_folders.proofs.Wrapped.{made_gives, write_ignores, taken_free}
+use Rattle.tracing_appender_folders.specs.Memory.{memory_contents}
+use Rattle.tracing_appender_folders.proofs.Wrapped.{file_gives, write_ignores, taken_free, part_written}
 use Rattle.tracing_appender_folders.proofs.faulty.FaultyFolderFolder.write.Goals as goal
 
 pub returns-clause-gives : goal.returns-clause-gives
-returns-clause-gives c = made_gives (write_ignores c.args.file _) c.make.ensures.made (λ free called.
+returns-clause-gives c =
     let folder = c.args.self.now in
+    let file = c.args.file in
     let bytes = c.args.bytes.now in
-    let is : taken ((faulty_contents folder).coming 0) (length bytes) ≡ c.taken_of.result =
+    let before = faulty_contents folder in
+    let inner = memory_contents folder.inner in
+    let left = memory_contents c.make.new.self.inner in
+    let part = take (taken (on_file file before 0) (length bytes)) bytes in
+    file_gives file (write_plain file part) (write_ignores file part) c.make.ensures.made (λ free called.
+    let is : taken (before.coming 0) (length bytes) ≡ c.taken_of.result =
     taken_free (plan_of folder) (number_after folder.calls 0) (length bytes) free ∙ sym c.taken_of.ensures in
-    let within : length (take c.taken_of.result bytes) ≤ length (take c.taken_of.result bytes) = omega arith in
-    let whole = take_all (length (take c.taken_of.result bytes)) (take c.taken_of.result bytes) within in
-    rw is (search rules))
+    let gives : Gives (λ x. written x file (take c.taken_of.result bytes)) (Some inner) c.make.result (Some left) = search rules in
+    subst (λ (a : Answer ℕ). Gives (λ _. a) (Some inner) c.make.result (Some left)) (part_written inner file bytes (before.coming 0) c.taken_of.result (is_open file inner) is) gives)

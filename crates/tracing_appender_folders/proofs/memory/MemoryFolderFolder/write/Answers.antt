@@ -1,8 +1,9 @@
-use Rattle.std.proofs.Common.{sym, arith, ap, ◌≤◌, length, Some, Ok, List}
-use Rattle.std.proofs.lemmas.List.{length-map, take_all}
+use Rattle.std.proofs.Common.{sym, ◌∙◌, arith, ap, refl, Some, List}
+use Rattle.std.proofs.lemmas.List.{length-map}
 use Rattle.tracing_appender_folders.specs.Contents.{StoredFile}
 use Rattle.tracing_appender_folders.specs.Memory.{memory_contents}
 use Rattle.std.proofs.lemmas.Result.{err_from_is_err_and}
+use Rattle.tracing_appender_folders.proofs.Openings.{written_open}
 use Rattle.tracing_appender_folders.proofs.Named.{appended-kept, appended_past, kept-set}
 use Rattle.tracing_appender_folders.proofs.memory.MemoryFolderFolder.write.Goals as goal
 
@@ -15,17 +16,15 @@ returns-in_err-extend_from_slice-clause-gives c =
 
 pub returns-in_ok-extend_from_slice-clause-gives : goal.returns-in_ok-extend_from_slice-clause-gives
 returns-in_ok-extend_from_slice-clause-gives c =
-    let le : length c.args.bytes.now ≤ length c.args.bytes.now = omega arith in
-    let whole = take_all (length c.args.bytes.now) c.args.bytes.now le in
-    let before = memory_contents c.args.self.now in (
-      ap Ok (ap length whole),
+    let before = memory_contents c.args.self.now in
+    rw (written_open before c.args.file c.args.bytes.now (λ n. refl) (sym c.is_open.ensures ∙ c.if-not-is_open.false)) (
+      refl,
       ap (λ (fs : List StoredFile). Some (record before { files = fs }))
-          (appended-kept c.args.self.now.files.items c.args.file.index c.index_mut.result.now _ _ (omega arith) c.index_mut.ensures.value (rw (c.in_ok-extend_from_slice.ensures.items, take_all))),
+          (appended-kept c.args.self.now.files.items c.args.file.index c.index_mut.result.now _ _ (omega arith) c.index_mut.ensures.value (rw c.in_ok-extend_from_slice.ensures.items refl)),
     )
 
 pub returns-else-file-len-clause-gives : goal.returns-else-file-len-clause-gives
 returns-else-file-len-clause-gives c =
-    let le : length c.args.bytes.now ≤ length c.args.bytes.now = omega arith in
-    let whole = take_all (length c.args.bytes.now) c.args.bytes.now le in
     let before = memory_contents c.args.self.now in
-    (ap Ok (ap length whole), ap (λ (fs : List StoredFile). Some (record before { files = fs })) (sym (appended_past _ _ _ (rw length-map (omega arith)))))
+    rw (written_open before c.args.file c.args.bytes.now (λ n. refl) (sym c.is_open.ensures ∙ c.if-not-is_open.false))
+    (refl, ap (λ (fs : List StoredFile). Some (record before { files = fs })) (sym (appended_past _ _ _ (rw length-map (omega arith)))))
