@@ -218,24 +218,9 @@ module _ (names : FileNames) (boundary : Option ℤ) (current : FileNumber) (fau
     pub switch_counts : (after : Option Contents) (b : Option ℤ) (f : FileNumber) (l : Faults) → SwitchedTo names m (held c) b f l after → l ≡ faults
     switch_counts after b f l is = (at_held after b f l is).counts
 
-    -- a look that found no memory
-    pub switch_misses : (l : Faults) (after : Option Contents) → Starved names m faults c l after → MatchesKnownSink after names boundary current s
-    switch_misses l after starved =
-        let left = starved_unchanged names m faults l c after (ap (λ (n : FileNames). n.limit) k.names_same ∙ k.all.unlimited) (ap (λ (n : FileNames). n.latest) k.names_same ∙ k.all.linkless) starved in
-        subst (λ (o : Option Contents). MatchesKnownSink o names boundary current s) (sym left.left.is)
-        (same_keeps c left.left.contents names boundary current s k (still_sound left.left k.sound) (stays_open c left.left.contents current left.left.open_stay k.current_open) left.left.links_stay left.left.files_are)
-
   pub look_switches : (E : Type 0) (known after : Option Contents) (done : Unit {0}) (b : Option ℤ) (f : FileNumber) (l : Faults) → Switches {E = E} names m boundary current faults known (Ok done) b f l after → MatchesKnownSink known names boundary current s → MatchesKnownSink after names b f seen
   look_switches E None after done b f l left k = subst (λ (o : Option Contents). MatchesKnownSink o names b f seen) (sym left) tt
   look_switches E (Some c) after done b f l is k = switch_keeps c k after b f l is
-
-  pub look_misses : {E : Type 0} (known after : Option Contents) (e : E) (b : Option ℤ) (f : FileNumber) (l : Faults) → Switches names m boundary current faults known (Err e) b f l after → MatchesKnownSink known names boundary current s → MatchesKnownSink after names boundary current s
-  look_misses None after e b f l left k = subst (λ (o : Option Contents). MatchesKnownSink o names boundary current s) (sym left) tt
-  look_misses (Some c) after e b f l starved k = switch_misses c k l after starved
-
-  pub look_counts : (E : Type 0) (c : Contents) (known after : Option Contents) (done : Unit {0}) (b : Option ℤ) (f : FileNumber) (l : Faults) → known ≡ Some c → Switches {E = E} names m boundary current faults known (Ok done) b f l after → MatchesKnownSink known names boundary current s → l ≡ faults
-  look_counts E c None after done b f l e is k = cc
-  look_counts E c (Some d) after done b f l e is k = switch_counts d k after b f l is
 
 -- a flush
 pub flush_keeps : (known after : Option Contents) (names : FileNames) (boundary : Option ℤ) (current : FileNumber) (s : PlainSink) (r : Result (Unit {0}) FolderError) → IfErr r (λ e. e ≢ OutOfMemory) → Gives (λ x. flushed x current) known r after → MatchesKnownSink known names boundary current s → MatchesKnownSink after names boundary current s

@@ -1,16 +1,15 @@
--- Older candidates go before newer ones.
-use Rattle.std.proofs.Common.{◌≡◌, ℕ, suc, ◌+◌, ◌-◌, ◌<◌, ◌≤◌, ◌<ℤ◌, List, [], ◌∷◌, length, Bool, true, false, not, ◌&&◌, ◌||◌, cond, refl, sym, ap, ◌∙◌, arith, inl, inr, Ordering}
+-- The order in which candidates go.
+use Rattle.std.proofs.Common.{◌≡◌, ◌<◌, ◌≤◌, ◌<ℤ◌, Bool, true, false, not, ◌&&◌, ◌||◌, cond, refl, sym, ap, ◌∙◌, arith, inl, inr, Ordering}
 use Rattle.std.specs.Prelude.{◌⊎◌, int_le, nat_lt}
 use Rattle.std.specs.Cmp.Lexicographic.{slice_cmp}
 use Rattle.std.specs.Ordering.{nat_cmp, is_lt}
 use Rattle.std.specs.declared.cmp.Ordering.TheVariants.{Less, Equal, Greater}
-use Rattle.std.proofs.lemmas.Bool.{ltb-true, ltb-false, lt-ltb}
+use Rattle.std.proofs.lemmas.Bool.{ltb-true, ltb-false}
 use Rattle.std.proofs.lemmas.Cmp.{nat_list_cmp_total}
 use Rattle.jiff_core.proofs.SignedLemmas.{signed_arith}
 use Rattle.tracing_appender_folders.specs.declared.moment.Moment.{Moment}
 use Rattle.tracing_appender_folders.specs.Moments.{is_earlier}
-use Rattle.tracing_appender_rolling.specs.Retention.{PlainCandidate, is_before, before_count}
-use Rattle.tracing_appender_rolling.specs.Reading.{OldestGoFirst}
+use Rattle.tracing_appender_rolling.specs.Retention.{PlainCandidate, is_before}
 
 -- an earlier moment, and the same one
 abbrev pub Earlier : Moment → Moment → Type 0
@@ -122,20 +121,3 @@ before_then a b c first second = from_before a c (by_case (to_before a b first) 
     by_case (inl x) (inr (late, less)) = inl (earlier_not a.made b.made c.made x late)
     by_case (inr (late, less)) (inl y) = inl (not_earlier a.made b.made c.made late y)
     by_case (inr (late, less)) (inr (later, more)) = inr (not_then a.made b.made c.made late later, nat_list_cmp_total.trans a.name b.name c.name less more)
-
--- fewer stand before the older one
-count_first : (t u : Bool) (n k : ℕ) → (t ≡ true → u ≡ true) → n ≤ k → cond t (suc n) n ≤ cond u (suc k) k
-count_first true true n k both le = omega (arith, le)
-count_first true false n k both le = let wrong : false ≡ true = both refl in cc
-count_first false true n k both le = omega (arith, le)
-count_first false false n k both le = le
-
-fewer_before : (a b : PlainCandidate) → is_before a b ≡ true → (cs : List PlainCandidate) → before_count a cs ≤ before_count b cs
-fewer_before a b first [] = omega arith
-fewer_before a b first (d ∷ ds) = count_first (is_before d a) (is_before d b) (before_count a ds) (before_count b ds) (λ e. before_then d a b e first) (fewer_before a b first ds)
-
-pub oldest_first : OldestGoFirst
-oldest_first limit cs older newer first gone =
-    let few = fewer_before older newer first cs in
-    let less = ltb-true (before_count newer cs) (length cs + 1 - limit) gone in
-    lt-ltb (before_count older cs) (length cs + 1 - limit) (omega (arith, few, less))

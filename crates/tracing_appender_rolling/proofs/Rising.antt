@@ -39,15 +39,6 @@ pub retention_then : (n m k : ℕ) (f g h : Faults) → CountsRetention n f g m 
 retention_then n m k f g h a b = (a.0 + b.0, faults_then 0 0 a.0 b.0 n m k f g h a.1 b.1)
 
 -- and the opening behind it
-pub faults_more : (s r n m k : ℕ) (f g : Faults) → CountsFaults s r n f g m → DoesNotFall m k → CountsFaults s r n f g k
-faults_more s r n m k f g a kept = record {
-  switches_rose = a.switches_rose;
-  retentions_rose = a.retentions_rose;
-  writes_stay = a.writes_stay;
-  none_changed = a.none_changed;
-  folder_rose = omega (arith, a.folder_rose, kept);
-}
-
 pub switch_failed : (r n m k : ℕ) (f g : Faults) (fault : FolderFault) → CountsFaults 0 r n f g m → Rises m k → CountsFaults 1 r n f (after_switch g fault) k
 switch_failed r n m k f g fault a rose = record {
   switches_rose = rose_then 0 1 f.switches g.switches (after_switch g fault).switches a.switches_rose (rose_one g.switches);

@@ -124,8 +124,8 @@ impl<D: Folder> RollingFileAppender<D> {
         }
     }
 
-    /// Looks at a moment as a line's write does, but where there is no memory the end of the period and the
-    /// counts are as they were, so that the next line looks again.
+    /// Looks at a moment as `write_all_at` does, for a caller that tells this from the write. Where there is no
+    /// memory the end of the period and the counts are as they were, so that the next line looks again.
     ///
     /// # Errors
     ///
@@ -138,7 +138,11 @@ impl<D: Folder> RollingFileAppender<D> {
             AgreesSink D.contents self.new s) }
         ensures looked { (h : Held) → Holds D.contents self.old h →
             OnOk result (LooksAt D.contents (builder_names self.old.builder) moment h self.new) }
+        ensures early { is_due self.old.boundary moment.seconds ≡ false → (result ≡ Ok tt) × (self.new ≡ self.old) }
         ensures still { OnErr result (record self.new { folder = self.old.folder } ≡ self.old) }
+        // over a folder that refuses nothing, with retention or a link too
+        ensures state { OnOk result ((c : Contents) (p : PrunedSink) → D.contents self.old.folder ≡ Some c →
+            AgreesLeft D.contents self.old p → HandsLeft D.contents p [] moment c self.old self.new) }
         ensures names { builder_names self.new.builder ≡ builder_names self.old.builder }
     {
         let boundary = self.boundary;
@@ -166,6 +170,7 @@ impl<D: Folder> RollingFileAppender<D> {
             OnOk result (LooksAt D.contents (builder_names self.old.builder) moment h self.new) }
         ensures missed { (h : Held) → Holds D.contents self.old h →
             OnErr result (MissesAt D.contents (builder_names self.old.builder) moment h self.new) }
+        ensures early { is_due self.old.boundary moment.seconds ≡ false → (result ≡ Ok tt) × (self.new ≡ self.old) }
         // over a folder that refuses nothing, with retention or a link too
         ensures state { OnOk result ((c : Contents) (p : PrunedSink) → D.contents self.old.folder ≡ Some c →
             AgreesLeft D.contents self.old p → HandsLeft D.contents p [] moment c self.old self.new) }

@@ -23,7 +23,8 @@ impl<D: Folder> RollingFileAppender<D> {
     ///
     /// # Errors
     ///
-    /// The fault of a write, or want of memory, which is no fault. A failed switch is only counted.
+    /// The fault of a write, or want of memory, which is no fault. A failed switch is only counted. Behind a look
+    /// that found no memory nothing is written; the next lines of the period go to the old file.
     pub fn write_all_at(&mut self, bytes: &[u8], moment: Moment) -> Result<(), FolderError>
         requires { is_moment moment ≡ true }
         ensures ok { is_starved result ≡ false → (s : PlainSink) → AgreesSink D.contents self.old s →
@@ -50,7 +51,7 @@ impl<D: Folder> RollingFileAppender<D> {
     ///
     /// # Errors
     ///
-    /// The fault of the write, or want of memory, which is no fault. A failed switch is only counted.
+    /// As `write_all_at`.
     pub fn write_at(&mut self, bytes: &[u8], moment: Moment) -> Result<usize, FolderError>
         requires { is_moment moment ≡ true }
         ensures bound { IfOk result (λ n. n ≤ length bytes.now) }
