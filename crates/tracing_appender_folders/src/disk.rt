@@ -1,25 +1,36 @@
 //! A folder of the system.
 
-ghost use Rattle.std.specs.Prelude.{◌≡◌, ◌≤◌, ◌+◌, ◌-◌, ◌^◌, ◌≢◌, min, length, IfOk, IfErr};
-ghost use Rattle.tracing_appender_folders.specs.Contents.{failures_after};
+ghost use Rattle.std.specs.Prelude.{◌≡◌, ◌≢◌, ◌≤◌, ◌+◌, ◌-◌, ◌^◌, ℕ, true, false, min, length, string_bytes, IfOk, IfErr, OnErr};
+ghost use Rattle.tracing_appender_folders.specs.Contents.{Gives, opened, closed, written, flushed, failures_after};
+ghost use Rattle.tracing_appender_folders.specs.Disks.{joined, is_open_at, SameOpen, HasRoom, OpensNumber, ClosesNumber};
 
 use crate::fault::{Entry, FileNumber, FolderError, FolderFault, failures_after};
 use crate::folder::Folder;
+use crate::system::{fault_of, first_free, write_slot};
 use std::fs::{self, OpenOptions};
-use std::io::{ErrorKind, Write};
+use std::io::{Error, ErrorKind};
 use std::rt::Files;
 
-/// How often an interrupted write is tried in all.
-const TRIES: u32 = 1_000;
+const NOT_FOUND: FolderError = FolderError::Fault(FolderFault::NotFound);
+
+const REFUSED: FolderError = FolderError::Fault(FolderFault::Refused);
 
 /// A folder of the system. Nothing is claimed of what it has; its faults are counted.
 ///
-/// Its listing passes over what can't be read and over names that are no UTF-8, and knows no creation
-/// moments. It makes no links.
+/// Its listing passes over entries that can't be read and over names that are no UTF-8, and knows no creation
+/// moments. A directory that can't be read to its end is refused. It makes no links.
+///
+/// What stands under a name and is no plain file, as a link, a pipe or a directory, is refused before it is
+/// opened, so no link is followed and no pipe is waited for. That holds where nobody else changes the folder
+/// between the look at the name and its opening.
+///
+/// Want of memory is answered where this process's allocator refused. Where the kernel has none, the call is
+/// refused.
 #[derive(Drop)]
 pub struct DiskFolder<R: Files + AllocGlobal + Clone + Drop> {
     rt: R,
     path: String,
+    /// The handle of an open file stands at its number.
     files: Vec<Option<R::File>>,
     failures: u64,
 }
@@ -27,7 +38,9 @@ pub struct DiskFolder<R: Files + AllocGlobal + Clone + Drop> {
 impl<R: Files + AllocGlobal + Clone + Drop> DiskFolder<R> {
     /// The folder at a path of the system. Nothing is opened or made yet.
     pub fn new(rt: R, path: String) -> DiskFolder<R>
-        ensures { result.failures ≡ 0 }
+        ensures failures { result.failures ≡ 0 }
+        ensures path { result.path ≡ path }
+        ensures open_files { (n : ℕ) → is_open_at result.files.items n ≡ false }
     {
         let files = Vec::new(rt.alloc());
         DiskFolder {
@@ -38,7 +51,10 @@ impl<R: Files + AllocGlobal + Clone + Drop> DiskFolder<R> {
         }
     }
 
-    fn path_of(&self, name: &str) -> Result<String, FolderError> {
+    /// The path of a name in the folder.
+    fn path_of(&self, name: &str) -> Result<String, FolderError>
+        ensures { IfOk result (λ path. string_bytes path ≡ joined (string_bytes self.now.path) name.now) }
+    {
         let mut path = String::from_str(self.rt.alloc(), self.path.as_str())?;
         // An empty path is the current folder, and no root.
         if !path.is_empty() {
@@ -52,41 +68,70 @@ impl<R: Files + AllocGlobal + Clone + Drop> DiskFolder<R> {
     fn told<T: Drop>(&mut self, answer: Result<T, FolderError>) -> Result<T, FolderError>
         ensures result { result ≡ answer }
         ensures count { self.new.failures ≡ failures_after self.old.failures answer }
+        ensures files { self.new.files ≡ self.old.files }
     {
         self.failures = failures_after(self.failures, &answer);
         answer
     }
 
+    /// Refuses what stands at the path and is no plain file.
+    fn check_plain(&self, path: &str) -> Result<(), FolderError> {
+        match fs::symlink_metadata(&self.rt, path) {
+            Ok(metadata) if metadata.is_file() => Ok(()),
+            Ok(_) => Err(REFUSED),
+            Err(error) if error.kind() == ErrorKind::NotFound => Ok(()),
+            Err(error) => Err(fault_of(&error)),
+        }
+    }
+
+    /// A number that isn't open, with room for its handle.
+    fn make_room(&mut self) -> Result<usize, FolderError>
+        ensures room { IfOk result (λ index. HasRoom self.old.files.items self.new.files.items index) }
+        ensures refused { OnErr result (SameOpen self.old.files.items self.new.files.items) }
+        ensures failures { self.new.failures ≡ self.old.failures }
+    {
+        let index = first_free(self.files.as_slice());
+        if index == self.files.len() {
+            self.files.push(None)?;
+        }
+        Ok(index)
+    }
+
     fn open_file(&mut self, name: &str) -> Result<FileNumber, FolderError>
-        ensures { self.new.failures ≡ self.old.failures }
+        ensures opened { IfOk result (λ file. OpensNumber self.old.files.items self.new.files.items file.index) }
+        ensures refused { OnErr result (SameOpen self.old.files.items self.new.files.items) }
+        ensures failures { self.new.failures ≡ self.old.failures }
     {
         let path = self.path_of(name)?;
+        self.check_plain(path.as_str())?;
+        let index = self.make_room()?;
         let mut options = OpenOptions::new();
         options.append(true).create(true);
         match options.open(&self.rt, path.as_str()) {
             Ok(file) => {
-                let index = self.files.len();
-                self.files.push(Some(file))?;
+                self.files[index] = Some(file);
                 Ok(FileNumber { index })
             }
-            Err(error) => Err(fault_of(error.kind())),
+            Err(error) => Err(fault_of(&error)),
         }
     }
 
-    /// Writes once, and again where it was interrupted.
     fn write_some(&mut self, file: FileNumber, bytes: &[u8]) -> Result<usize, FolderError>
         ensures bound { IfOk result (λ n. n ≤ length bytes.now) }
+        ensures found { is_open_at self.old.files.items file.index ≡ false →
+            result ≡ Err (FolderError.Fault FolderFault.NotFound) }
+        ensures open_files { SameOpen self.old.files.items self.new.files.items }
         ensures same { self.new.failures ≡ self.old.failures }
     {
         match self.files.get_mut(file.index) {
-            Some(Some(open)) => write_tries(open, bytes),
-            _ => Err(FolderError::Fault(FolderFault::NotFound)),
+            Some(slot) => write_slot(slot, bytes),
+            None => Err(NOT_FOUND),
         }
     }
 
     /// Closes the file, if the number is that of an open one.
     fn shut(&mut self, file: FileNumber) -> Result<(), FolderError>
-        ensures fed { IfErr result (λ e. e ≢ FolderError.OutOfMemory) }
+        ensures closes { ClosesNumber self.old.files.items self.new.files.items file.index result }
         ensures same { self.new.failures ≡ self.old.failures }
     {
         match self.files.get_mut(file.index) {
@@ -94,11 +139,13 @@ impl<R: Files + AllocGlobal + Clone + Drop> DiskFolder<R> {
                 *slot = None;
                 Ok(())
             }
-            _ => Err(FolderError::Fault(FolderFault::NotFound)),
+            _ => Err(NOT_FOUND),
         }
     }
 
-    fn is_open(&self, file: FileNumber) -> bool {
+    fn is_open(&self, file: FileNumber) -> bool
+        ensures { result ≡ is_open_at self.now.files.items file.index }
+    {
         matches!(self.files.get(file.index), Some(Some(_)))
     }
 
@@ -110,21 +157,20 @@ impl<R: Files + AllocGlobal + Clone + Drop> DiskFolder<R> {
         }
     }
 
-    // Entries that can't be read are passed over, but not for want of memory.
+    // An entry that can't be read is passed over. An error that ends the reading isn't, since the list would be
+    // short.
     fn entries(&self) -> Result<Vec<Entry>, FolderError> {
         let alloc = self.rt.alloc();
         let mut all = Vec::new(alloc);
         let entries = match fs::read_dir(&self.rt, self.listed_path()) {
             Ok(entries) => entries,
-            Err(error) => return Err(fault_of(error.kind())),
+            Err(error) => return Err(fault_of(&error)),
         };
         for entry in entries {
             let entry = match entry {
                 Ok(entry) => entry,
-                Err(error) if error.kind() == ErrorKind::OutOfMemory => {
-                    return Err(FolderError::OutOfMemory);
-                }
-                Err(_) => continue,
+                Err(error) if is_bad_name(&error) => continue,
+                Err(error) => return Err(fault_of(&error)),
             };
             let Ok(kind) = entry.file_type() else {
                 continue
@@ -138,51 +184,25 @@ impl<R: Files + AllocGlobal + Clone + Drop> DiskFolder<R> {
         Ok(all)
     }
 
-    fn remove_name(&mut self, name: &str) -> Result<(), FolderError>
-        ensures { self.new.failures ≡ self.old.failures }
-    {
+    fn remove_name(&self, name: &str) -> Result<(), FolderError> {
         let path = self.path_of(name)?;
         match fs::remove_file(&self.rt, path.as_str()) {
             Ok(()) => Ok(()),
-            Err(error) => Err(fault_of(error.kind())),
+            Err(error) => Err(fault_of(&error)),
         }
     }
 
-    fn make_dirs(&mut self) -> Result<(), FolderError>
-        ensures { self.new.failures ≡ self.old.failures }
-    {
+    fn make_dirs(&self) -> Result<(), FolderError> {
         match fs::create_dir_all(&self.rt, self.path.as_str()) {
             Ok(()) => Ok(()),
-            Err(error) => Err(fault_of(error.kind())),
+            Err(error) => Err(fault_of(&error)),
         }
     }
 }
 
-/// Writes until it isn't interrupted.
-fn write_tries<W: Write>(file: &mut W, bytes: &[u8]) -> Result<usize, FolderError>
-    ensures { IfOk result (λ n. n ≤ length bytes.now) }
-{
-    for _ in 0..TRIES {
-        match file.write(bytes) {
-            Ok(taken) => return Ok(taken),
-            Err(error) => {
-                if error.kind() != ErrorKind::Interrupted {
-                    return Err(fault_of(error.kind()));
-                }
-            }
-        }
-    }
-    Err(FolderError::Fault(FolderFault::Refused))
-}
-
-/// What the system's refusal is called here.
-fn fault_of(kind: ErrorKind) -> FolderError {
-    match kind {
-        ErrorKind::NotFound => FolderError::Fault(FolderFault::NotFound),
-        ErrorKind::Unsupported => FolderError::Fault(FolderFault::Unsupported),
-        ErrorKind::OutOfMemory => FolderError::OutOfMemory,
-        _ => FolderError::Fault(FolderFault::Refused),
-    }
+/// Whether an entry's name is no UTF-8: then its error comes from no call of the system.
+fn is_bad_name(error: &Error) -> bool {
+    error.kind() == ErrorKind::InvalidFilename && error.raw_os_error().is_none()
 }
 
 impl<R: Files + AllocGlobal + Clone + Drop> Folder for DiskFolder<R> {
@@ -192,17 +212,34 @@ impl<R: Files + AllocGlobal + Clone + Drop> Folder for DiskFolder<R> {
 
     ghost failed = { λ d. d.failures };
 
-    fn open_append(&mut self, name: &str) -> Result<FileNumber, FolderError> {
+    fn open_append(&mut self, name: &str) -> Result<FileNumber, FolderError>
+        ensures gives { Gives (λ c. opened c name.now) None result None }
+        ensures failures { self.new.failures ≡ failures_after self.old.failures result }
+        ensures opened { IfOk result (λ file. OpensNumber self.old.files.items self.new.files.items file.index) }
+        ensures refused { OnErr result (SameOpen self.old.files.items self.new.files.items) }
+    {
         let answer = self.open_file(name);
         self.told(answer)
     }
 
-    fn close_file(&mut self, file: FileNumber) -> Result<(), FolderError> {
+    fn close_file(&mut self, file: FileNumber) -> Result<(), FolderError>
+        ensures gives { Gives (λ c. closed c file) None result None }
+        ensures fed { IfErr result (λ e. e ≢ FolderError.OutOfMemory) }
+        ensures failures { self.new.failures ≡ failures_after self.old.failures result }
+        ensures closes { ClosesNumber self.old.files.items self.new.files.items file.index result }
+    {
         let answer = self.shut(file);
         self.told(answer)
     }
 
-    fn write(&mut self, file: FileNumber, bytes: &[u8]) -> Result<usize, FolderError> {
+    fn write(&mut self, file: FileNumber, bytes: &[u8]) -> Result<usize, FolderError>
+        ensures bound { IfOk result (λ n. n ≤ length bytes.now) }
+        ensures gives { Gives (λ c. written c file bytes.now) None result None }
+        ensures failures { self.new.failures ≡ failures_after self.old.failures result }
+        ensures found { is_open_at self.old.files.items file.index ≡ false →
+            result ≡ Err (FolderError.Fault FolderFault.NotFound) }
+        ensures open_files { SameOpen self.old.files.items self.new.files.items }
+    {
         let answer = self.write_some(file, bytes);
         self.told(answer)
     }
@@ -213,11 +250,18 @@ impl<R: Files + AllocGlobal + Clone + Drop> Folder for DiskFolder<R> {
     }
 
     /// A file of the system keeps nothing back, so this does nothing to an open file.
-    fn flush(&mut self, file: FileNumber) -> Result<(), FolderError> {
+    fn flush(&mut self, file: FileNumber) -> Result<(), FolderError>
+        ensures gives { Gives (λ c. flushed c file) None result None }
+        ensures fed { IfErr result (λ e. e ≢ FolderError.OutOfMemory) }
+        ensures failures { self.new.failures ≡ failures_after self.old.failures result }
+        ensures found { is_open_at self.old.files.items file.index ≡ false →
+            result ≡ Err (FolderError.Fault FolderFault.NotFound) }
+        ensures open_files { SameOpen self.old.files.items self.new.files.items }
+    {
         if self.is_open(file) {
             Ok(())
         } else {
-            self.told(Err(FolderError::Fault(FolderFault::NotFound)))
+            self.told(Err(NOT_FOUND))
         }
     }
 

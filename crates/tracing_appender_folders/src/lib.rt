@@ -8,6 +8,7 @@ mod faulty;
 mod folder;
 mod memory;
 mod moment;
+mod system;
 
 pub use disk::DiskFolder;
 pub use fault::{Entry, FileNumber, FolderError, FolderFault};

@@ -277,11 +277,12 @@ impl Folder for MemoryFolder {
     }
 
     fn flush(&mut self, file: FileNumber) -> Result<(), FolderError> {
-        if !self.is_open(file) {
-            return Err(self.refuse(FolderFault::NotFound));
+        if self.is_open(file) {
+            self.last_flushed = Some(file.index);
+            Ok(())
+        } else {
+            Err(self.refuse(FolderFault::NotFound))
         }
-        self.last_flushed = Some(file.index);
-        Ok(())
     }
 
     fn list(&mut self) -> Result<Vec<Entry>, FolderError> {

@@ -1,11 +1,14 @@
 //! Folders in memory, with faults, and of the system.
 
+mod disk;
+mod system;
+mod torn;
+
 use crate::{
-    BadMoment, DiskFolder, Entry, FaultyFolder, FileNumber, Folder, FolderError, FolderFault,
-    MemoryFolder, Moment,
+    BadMoment, Entry, FaultyFolder, FileNumber, Folder, FolderError, FolderFault, MemoryFolder,
+    Moment,
 };
 use std::alloc::{AllocError, Global};
-use std::fs;
 use std::test::Fail;
 
 const REFUSED: FolderError = FolderError::Fault(FolderFault::Refused);
@@ -230,40 +233,5 @@ fn calls_are_refused_with_the_fault_that_was_set(rt: HostRuntime) -> Result<(), 
     let file = folder.open_append("a")?;
     assert_eq!(rt; folder.write(file, b"one"), Err(NOT_FOUND));
     assert_eq!(rt; folder.failures(), 2);
-    Ok(())
-}
-
-#[test]
-fn a_folder_of_the_system_keeps_files(rt: HostRuntime) -> Result<(), Fail> {
-    let alloc = rt.alloc();
-    let path = String::from_str(alloc, "logs/deep")?;
-    let mut folder = DiskFolder::new(rt, path);
-    assert_eq!(rt; folder.open_append("a"), Err(NOT_FOUND));
-    folder.create_dirs()?;
-    folder.create_dirs()?;
-    let first = folder.open_append("a")?;
-    assert_eq!(rt; folder.write(first, b"one\n")?, 4);
-    folder.flush(first)?;
-    folder.close_file(first)?;
-    assert_eq!(rt; folder.write(first, b"lost"), Err(NOT_FOUND));
-    let again = folder.open_append("a")?;
-    assert_eq!(rt; folder.write(again, b"two\n")?, 4);
-    let bytes = fs::read(&rt, "logs/deep/a")?;
-    assert_eq!(rt; bytes.as_slice(), b"one\ntwo\n".as_slice());
-    let entries = folder.list()?;
-    assert_eq!(rt; entries.len(), 1);
-    assert_eq!(rt; listed(entries.as_slice(), "a"), Some(true));
-    folder.remove("a")?;
-    assert_eq!(rt; folder.remove("a"), Err(NOT_FOUND));
-    assert_eq!(rt; folder.write(again, b"three\n")?, 6);
-    assert_eq!(rt; folder.list()?.len(), 0);
-    let link = Err(FolderError::Fault(FolderFault::Unsupported));
-    assert_eq!(rt; folder.link("latest", "a"), link);
-    assert_eq!(rt; folder.failures(), 4);
-    fs::remove_dir_all(&rt, "logs")?;
-    assert!(rt; folder.list().is_err());
-    folder.create_dirs()?;
-    assert_eq!(rt; folder.list()?.len(), 0);
-    fs::remove_dir_all(&rt, "logs")?;
     Ok(())
 }
