@@ -14,6 +14,8 @@ use Rattle.tracing_appender_rolling.specs.Sinks.{PlainSink, running_moment, with
 use Rattle.tracing_appender_rolling.specs.Looks.{Held}
 use Rattle.tracing_appender_rolling.specs.Appenders.{AgreesSink, Holds, running_period}
 use Rattle.tracing_appender_rolling.specs.Handing.{HandsTo, HandsLine}
+use Rattle.tracing_appender_rolling.specs.Builders.{builder_names}
+use Rattle.tracing_appender_rolling.specs.Anywhere.{Seen, LineAt, seen_of}
 use Rattle.tracing_appender_rolling.specs.Remaining.{PrunedSink, AgreesLeft, HandsLeft, IsRemovedAt, IsOpenIn, OpensAfter, without, with_line}
 use Rattle.tracing_appender_rolling.proofs.Files.{running_more}
 use Rattle.tracing_appender_rolling.proofs.Handover.{opens_stay}
@@ -22,7 +24,7 @@ use Rattle.tracing_appender_rolling.proofs.Starving.{starved_known}
 use Rattle.tracing_appender_queue.specs.Queue.{Queue, after_take}
 use Rattle.tracing_appender_batch.specs.declared.step.Written.{Written}
 use Rattle.tracing_appender_batch.specs.Batches.{line_next, lines_in, queue_in}
-use Rattle.tracing_appender_batch.specs.Steps.{is_missed, is_whole, answer_of, missed_in, last_whole, with_lines, with_left, LineTo, LinesTo, HandsOne, HandsAll, HoldsFlushed, LinesLeft}
+use Rattle.tracing_appender_batch.specs.Steps.{is_missed, is_whole, answer_of, missed_in, last_whole, with_lines, with_left, LineTo, LinesTo, LinesAt, LinesAnywhere, FlushedAt, HandsOne, HandsAll, HoldsFlushed, LinesLeft}
 use Rattle.tracing_appender_batch.proofs.Cutting.{lines_step, queue_step}
 
 less : (k t : ℕ) → t < k → k - t ≡ suc (k - (t + 1))
@@ -65,6 +67,12 @@ fates_added names m h [] [] middle next line fate so one = (next, subst (λ (x :
 fates_added names m h [] (f ∷ fs) middle next line fate so one = absurd so
 fates_added names m h (l ∷ ls) [] middle next line fate so one = absurd so
 fates_added names m h (l ∷ ls) (f ∷ fs) middle next line fate (further, first, rest) one = (further, first, fates_added names m further ls fs middle next line fate rest one)
+
+pub lines_at_added : (names : FileNames) (m : Moment) (s : Seen) (done : List (List ℕ)) (fates : List Written) (middle next : Seen) (line : List ℕ) (fate : Written) → LinesAt names m s done fates middle → LineAt names m (length line) (answer_of fate) middle next → LinesAt names m s (done ++ line ∷ []) (fates ++ fate ∷ []) next
+lines_at_added names m s [] [] middle next line fate so one = (next, subst (λ (x : Seen). LineAt names m (length line) (answer_of fate) x next) so one, refl)
+lines_at_added names m s [] (f ∷ fs) middle next line fate so one = absurd so
+lines_at_added names m s (l ∷ ls) [] middle next line fate so one = absurd so
+lines_at_added names m s (l ∷ ls) (f ∷ fs) middle next line fate (further, first, rest) one = (further, first, lines_at_added names m further ls fs middle next line fate rest one)
 
 missed_first : (b : Bool) → cond b (suc 0) 0 ≡ 0 + cond b 1 0
 missed_first true = refl
@@ -169,6 +177,18 @@ module _ {D : Type 0} (contents : D → Option Contents) (names : FileNames) (m 
   handed_ends h done all missed whole b next is (fates, middle, lines, missed_is, whole_is, held) flush =
       (fates, middle, subst (λ (xs : List (List ℕ)). LinesTo names m h xs fates middle) (sym is) lines, missed_is, subst (λ w. HoldsFlushed contents w middle next) whole_is (flush middle held))
 
+-- the same over any folder
+abbrev pub SeenSoFar : FileNames → Moment → Seen → List (List ℕ) → ℕ → Seen → Type 0
+SeenSoFar names m s done missed t = (fates : List Written) × LinesAt names m s done fates t × (missed ≡ missed_in fates)
+
+pub seen_turn : (names : FileNames) (m : Moment) (s t next : Seen) (missed more : ℕ) (done : List (List ℕ)) (line : List ℕ) (fate : Written) → SeenSoFar names m s done missed t → more ≡ missed + cond (is_missed fate) 1 0 → LineAt names m (length line) (answer_of fate) t next → SeenSoFar names m s (done ++ line ∷ []) more next
+seen_turn names m s t next missed more done line fate (fates, lines, is) count one =
+    (fates ++ fate ∷ [], lines_at_added names m s done fates t next line fate lines one, count ∙ ap (λ n. n + cond (is_missed fate) 1 0) is ∙ sym (missed_added fates fate))
+
+pub seen_ends : {D : Type 0} (failed : D → ℕ) (m : Moment) (done all : List (List ℕ)) (missed : ℕ) (a b next : RollingFileAppender D) → all ≡ done → SeenSoFar (builder_names a.builder) m (seen_of failed a) done missed (seen_of failed b) → FlushedAt (seen_of failed b) (seen_of failed next) → LinesAnywhere failed m all missed a next
+seen_ends failed m done all missed a b next is (fates, lines, count) flush =
+    (fates, seen_of failed b, subst (λ (xs : List (List ℕ)). LinesAt (builder_names a.builder) m (seen_of failed a) xs fates (seen_of failed b)) (sym is) lines, count, flush)
+
 -- a line that was handed over leaves known contents
 abbrev IsKnown : Option Contents → Type 0
 IsKnown after = (d : Contents) × (after ≡ Some d)
@@ -176,7 +196,7 @@ IsKnown after = (d : Contents) × (after ≡ Some d)
 hands_known : (names : FileNames) (m : Moment) (h : Held) (line : List ℕ) (r : Result (Unit {0}) FolderError) (b : Option ℤ) (f : FileNumber) (l : Faults) (after : Option Contents) → HandsTo names m h line r b f l after → IsKnown after
 hands_known names m h line (Ok done) b f l after over = (over.writes.left.contents, over.writes.left.is)
 hands_known names m h line (Err (Fault fault)) b f l after over = (over.writes.left.contents, over.writes.left.is)
-hands_known names m h line (Err OutOfMemory) b f l after (inl missed) = starved_known names m h.faults h.contents after missed.left
+hands_known names m h line (Err OutOfMemory) b f l after (inl missed) = starved_known names m h.faults l h.contents after missed.left
 hands_known names m h line (Err OutOfMemory) b f l after (inr over) = (over.writes.left.contents, over.writes.left.is)
 
 pub hands_one : {D : Type 0} (contents : D → Option Contents) (names : FileNames) (m : Moment) (h : Held) (line : List ℕ) (fate : Written) (a : RollingFileAppender D) → HandsLine contents names m h line (answer_of fate) a → HandsOne contents names m h line fate a

@@ -1,5 +1,5 @@
 -- What lines that are handed over one after another leave.
-use Rattle.std.specs.Prelude.{◌≡◌, ℕ, suc, Bool, true, false, if◌then◌else◌, List, [], ◌∷◌, ◌++◌, Option, Some, Result, Ok, Err}
+use Rattle.std.specs.Prelude.{◌≡◌, ℕ, suc, Bool, true, false, if◌then◌else◌, List, [], ◌∷◌, ◌++◌, length, Option, Some, Result, Ok, Err}
 use Rattle.tracing_appender_rolling.specs.Moment.{Moment}
 use Rattle.tracing_appender_rolling.specs.FolderError.{FolderError}
 use Rattle.tracing_appender_rolling.specs.FolderError.TheVariants.{Fault, OutOfMemory}
@@ -11,6 +11,9 @@ use Rattle.tracing_appender_rolling.specs.Sinks.{PlainSink, with_handed}
 use Rattle.tracing_appender_rolling.specs.Looks.{Held}
 use Rattle.tracing_appender_rolling.specs.Appenders.{Holds, running_period}
 use Rattle.tracing_appender_rolling.specs.Handing.{HandsTo}
+use Rattle.tracing_appender_rolling.specs.Telling.{DoesNotFall}
+use Rattle.tracing_appender_rolling.specs.Anywhere.{Seen, LineAt, seen_of}
+use Rattle.tracing_appender_rolling.specs.Builders.{builder_names}
 use Rattle.tracing_appender_rolling.specs.Remaining.{PrunedSink, AgreesLeft, IsRemovedAt, OpensAfter, without}
 use Rattle.tracing_appender_batch.specs.declared.step.Written.{Written}
 use Rattle.tracing_appender_batch.specs.declared.step.Written.TheVariants.{Whole, Failed, Missed}
@@ -75,6 +78,22 @@ HoldsFlushed contents false h a = Holds contents a h
 abbrev pub HandsAll : {D : Type 0} → (D → Option Contents) → FileNames → Moment → Held → List (List ℕ) → ℕ → RollingFileAppender D → Type 0
 HandsAll contents names m h lines missed a =
     (fates : List Written) × (last : Held) × LinesTo names m h lines fates last × (missed ≡ missed_in fates) × HoldsFlushed contents (last_whole false fates) last a
+
+-- lines one after another over any folder, and what became of each
+abbrev pub LinesAt : FileNames → Moment → Seen → List (List ℕ) → List Written → Seen → Type 0
+LinesAt names m s [] [] t = t ≡ s
+LinesAt names m s [] (fate ∷ fates) t = ⊥
+LinesAt names m s (line ∷ lines) [] t = ⊥
+LinesAt names m s (line ∷ lines) (fate ∷ fates) t = (middle : Seen) × LineAt names m (length line) (answer_of fate) s middle × LinesAt names m middle lines fates t
+
+-- a flush, or none: end of the period, file and counts stay
+abbrev pub FlushedAt : Seen → Seen → Type 0
+FlushedAt s t = (t.boundary ≡ s.boundary) × (t.current ≡ s.current) × (t.faults ≡ s.faults) × DoesNotFall s.failures t.failures
+
+-- All lines were handed over, one after another, and so many of them found no memory.
+abbrev pub LinesAnywhere : {D : Type 0} → (D → ℕ) → Moment → List (List ℕ) → ℕ → RollingFileAppender D → RollingFileAppender D → Type 0
+LinesAnywhere failed m lines missed a b =
+    (fates : List Written) × (last : Seen) × LinesAt (builder_names a.builder) m (seen_of failed a) lines fates last × (missed ≡ missed_in fates) × FlushedAt last (seen_of failed b)
 
 -- a sink whose retention may remove files, with these lines more
 abbrev pub with_left : PrunedSink → List (List ℕ) → Moment → PrunedSink

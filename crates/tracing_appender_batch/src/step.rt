@@ -8,8 +8,9 @@ ghost use Rattle.tracing_appender_rolling.specs.Looks.{Held};
 ghost use Rattle.tracing_appender_rolling.specs.Sinks.{PlainSink, with_handed};
 ghost use Rattle.tracing_appender_rolling.specs.Appenders.{AgreesSink, Holds};
 ghost use Rattle.tracing_appender_rolling.specs.Remaining.{PrunedSink, AgreesLeft, HandsLeft, IsOpenIn};
+ghost use Rattle.tracing_appender_rolling.specs.Anywhere.{LineAnywhere, seen_of};
 ghost use Rattle.tracing_appender_batch.specs.Batches.{lines_in, queue_in, close_if, Next};
-ghost use Rattle.tracing_appender_batch.specs.Steps.{with_lines, is_missed, is_whole, HandsOne, HandsAll, HoldsFlushed, LinesLeft};
+ghost use Rattle.tracing_appender_batch.specs.Steps.{with_lines, answer_of, is_missed, is_whole, FlushedAt, HandsOne, HandsAll, HoldsFlushed, LinesLeft, LinesAnywhere};
 
 use tracing_appender_queue::{QueueState, Taken};
 use tracing_appender_rolling::{Folder, FolderError, FolderFault, Moment, RollingFileAppender};
@@ -84,6 +85,7 @@ fn write_line<D: Folder>(
     ensures state { is_missed result ≡ false → (c : Contents) (p : PrunedSink) →
         D.contents appender.old.folder ≡ Some c → AgreesLeft D.contents appender.old p →
         HandsLeft D.contents p line.now moment c appender.old appender.new }
+    ensures anywhere { LineAnywhere D.failed moment (length line.now) (answer_of result) appender.old appender.new }
     ensures names { builder_names appender.new.builder ≡ builder_names appender.old.builder }
 {
     match appender.write_all_at(line, moment) {
@@ -98,6 +100,7 @@ fn flush_if<D: Folder>(appender: &mut RollingFileAppender<D>, whole: bool)
     ensures state { (p : PrunedSink) → AgreesLeft D.contents appender.old p → AgreesLeft D.contents appender.new p }
     ensures faults { appender.new.faults ≡ appender.old.faults }
     ensures current { appender.new.current ≡ appender.old.current }
+    ensures anywhere { FlushedAt (seen_of D.failed appender.old) (seen_of D.failed appender.new) }
     ensures opens { (files : List ℕ) → IsOpenIn (D.contents appender.old.folder) files →
         IsOpenIn (D.contents appender.new.folder) files }
     ensures names { builder_names appender.new.builder ≡ builder_names appender.old.builder }
@@ -131,6 +134,8 @@ pub fn batch<D: Folder>(
     ensures state { result.missed ≡ 0 → (c : Contents) (p : PrunedSink) → D.contents appender.old.folder ≡ Some c →
         AgreesLeft D.contents appender.old p → LinesLeft D.contents p (lines_in k queue.old) moment c appender.old
         appender.new }
+    // over any folder
+    ensures anywhere { LinesAnywhere D.failed moment (lines_in k queue.old) result.missed appender.old appender.new }
 {
     let mut taken = 0;
     let mut missed = 0;

@@ -1,18 +1,19 @@
 -- The building, from what its retention and its try left.
-use Rattle.std.proofs.Common.{◌≡◌, ℕ, ℤ, List, [], ◌∷◌, ◌++◌, true, refl, ap, subst, sym, ◌∙◌, Option, Some, None, Ok, Err}
+use Rattle.std.proofs.Common.{◌≡◌, ℕ, ℤ, List, [], ◌∷◌, ◌++◌, true, refl, ap, subst, sym, ◌∙◌, inl, inr, Option, Some, None, Ok, Err}
 use Rattle.tracing_appender_folders.specs.declared.moment.Moment.{Moment}
 use Rattle.tracing_appender_folders.specs.Moments.{is_moment, period_at}
 use Rattle.tracing_appender_folders.specs.declared.fault.FolderError.{FolderError}
 use Rattle.tracing_appender_folders.specs.declared.fault.FolderError.TheVariants.{Fault, OutOfMemory}
 use Rattle.tracing_appender_folders.specs.Contents.{Contents, StoredFile, link_named, bytes_at, listing}
 use Rattle.tracing_appender_rolling.specs.declared.init.InitContext.{InitContext}
+use Rattle.tracing_appender_rolling.specs.declared.init.InitContext.TheVariants.{File}
 use Rattle.tracing_appender_rolling.specs.declared.init.InitFailure.{InitFailure}
 use Rattle.tracing_appender_rolling.specs.declared.appender.Opened.{Opened}
 use Rattle.tracing_appender_rolling.specs.declared.faults.Faults.{Faults}
 use Rattle.tracing_appender_rolling.specs.Names.{FileNames, file_name}
-use Rattle.tracing_appender_rolling.specs.Pruning.{Pruned, PrunedBy}
+use Rattle.tracing_appender_rolling.specs.Pruning.{Pruned, PrunedBy, Prunes}
 use Rattle.tracing_appender_rolling.specs.Faults.{no_faults}
-use Rattle.tracing_appender_rolling.specs.Tries.{Tried, failure, opened_twice, opened_linked}
+use Rattle.tracing_appender_rolling.specs.Tries.{Tried, TriesFile, MissedFile, Gave, failure, opened_twice, opened_linked}
 use Rattle.tracing_appender_rolling.specs.Writes.{Unchanged}
 use Rattle.tracing_appender_rolling.specs.Looks.{name_at, end_at, try_at}
 use Rattle.tracing_appender_rolling.specs.Appenders.{MatchesSink, MatchesKnownSink, MayOpen, HandsBack, IsOpenedAt, FailedAt, Begins, fresh_sink}
@@ -46,7 +47,7 @@ module _ (c : Contents) (names : FileNames) (m : Moment) (is_m : is_moment m ≡
       )
 
   back : (context : InitContext) (e : FolderError) (after : Option Contents) → FailedAt names m c context e after → (e ≡ OutOfMemory) × HandsBack c names after
-  back context OutOfMemory after starved = (refl, back_left after (starved_unchanged names m no_faults c after may.2.unlimited may.2.linkless starved))
+  back context OutOfMemory after starved = (refl, back_left after (starved_unchanged names m no_faults starved.0 c after may.2.unlimited may.2.linkless starved.1))
   back context (Fault fault) after is =
       absurd (no_failure (opened_twice (name_at names m) c) (failure context (Fault fault)) try.file try.left try.is (sym (ap (λ (t : Tried). t.0) (try_plain is.counted is.pruned is.retention)) ∙ is.answered))
 
@@ -71,3 +72,17 @@ starved_left c names m context (Fault fault) after is_m may fails = absurd (fail
 
 pub begins_starved : (known after : Option Contents) (names : FileNames) (m : Moment) (f : InitFailure) (c : Contents) → known ≡ Some c → is_moment m ≡ true → MayOpenSink c names → Begins names m known (Err f) after → f.error ≡ OutOfMemory
 begins_starved known after names m f c is is_m may begins = starved_left c names m f.context f.error after is_m may (subst (λ (x : Option Contents). Begins names m x (Err f) after) is begins)
+
+-- a try that failed
+pub starved_first : (names : FileNames) (m : Moment) (known : Option Contents) → Begins names m known (Err (failure File OutOfMemory)) known
+starved_first names m None = refl
+starved_first names m (Some c) = (no_faults, inl (refl, refl))
+
+fails_by : (names : FileNames) (m : Moment) (c d : Contents) (l : Faults) (after : Option Contents) (context : InitContext) (e : FolderError) → Pruned names no_faults c l d → Gave (MissedFile names.latest (name_at names m) d) (try_at names m d) (Err (failure context e)) after → FailedAt names m c context e after
+fails_by names m c d l after context OutOfMemory pruned missed = (l, inr (inr (record { pruned = d; retention = pruned; missed = missed })))
+fails_by names m c d l after context (Fault fault) pruned gave = record { counted = l; pruned = d; retention = pruned; answered = gave.0; left = gave.1 }
+
+pub fails_first : (E : Type 0) (names : FileNames) (m : Moment) (name : List ℕ) (known middle after : Option Contents) (l : Faults) (f : InitFailure) → name ≡ name_at names m → Prunes {E = E} names no_faults known (Ok tt) l middle → TriesFile names.latest name middle (Err f) after → Begins names m known (Err f) after
+fails_first E names m name None middle after l f is pruned tries = subst (λ (o : Option Contents). TriesFile names.latest name o (Err f) after) pruned tries
+fails_first E names m name (Some c) middle after l f is (d, pruned, there) tries =
+    fails_by names m c d l after f.context f.error pruned (subst (λ (n : List ℕ). TriesFile names.latest n (Some d) (Err f) after) is (subst (λ (o : Option Contents). TriesFile names.latest name o (Err f) after) there tries))

@@ -17,7 +17,7 @@ use Rattle.tracing_appender_rolling.specs.Names.{FileNames, file_name, is_bad_na
 use Rattle.tracing_appender_folders.specs.Contents.{Contents, Gives, written}
 use Rattle.tracing_appender_rolling.specs.Appenders.{AgreesSink, MatchesKnownSink, FailedAt, LooksAt, MayOpen, HandsBack}
 use Rattle.tracing_appender_rolling.specs.Builds.{Explains, ReportsBuild, build_error}
-use Rattle.tracing_appender_rolling.specs.Looks.{Held, IsHeld, LookedTo, LookMissed, Starved, Switches}
+use Rattle.tracing_appender_rolling.specs.Looks.{Held, LookedTo}
 use Rattle.tracing_appender_rolling.specs.Faults.{after_write, unit_of}
 use Rattle.tracing_appender_rolling.specs.Builders.{builder_names}
 use Rattle.tracing_appender_rolling.specs.Sinks.{PlainSink, with_handed}
@@ -113,15 +113,3 @@ line_agrees contents bytes m s (Ok done) a b fed agrees ok unfaulted writes = ok
 line_agrees contents bytes m s (Err OutOfMemory) a b fed agrees ok unfaulted writes = cc
 line_agrees contents bytes m s (Err (Fault fault)) a b fed agrees ok unfaulted writes =
     unfaulted_known contents bytes fault b (with_handed s (record { line = bytes; moment = m })) a.current (contents a.folder) writes (λ c is. (unfaulted c (with_handed s (record { line = []; moment = m })) is agrees).1)
-
--- a look that found no memory
-pub look_missed : (E : Type 0) (names : FileNames) (m : Moment) (h : Held) (known after : Option Contents) (boundary b : Option ℤ) (current f : FileNumber) (faults l : Faults) (e : E) → IsHeld known boundary current faults h → is_due boundary m.seconds ≡ true → Switches {E = E} names m boundary current faults known (Err e) b f l after → b ≡ boundary → f ≡ current → l ≡ faults → LookMissed names m h b f l after
-look_missed E names m h known after boundary b current f faults l e held due switched same_b same_f same_l =
-    let starved = subst (λ (o : Option Contents). Switches {E = E} names m boundary current faults o (Err e) b f l after) held.folder switched in
-    record {
-      due = ap (λ (x : Option ℤ). is_due x m.seconds) (sym held.until) ∙ due;
-      until = same_b ∙ held.until;
-      open_file = same_f ∙ held.open_file;
-      counts = same_l ∙ held.counts;
-      left = subst (λ (x : Faults). Starved names m x h.contents after) held.counts starved;
-    }

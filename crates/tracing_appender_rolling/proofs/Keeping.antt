@@ -4,7 +4,6 @@ use Rattle.std.specs.Prelude.{OnOk, OnErr, IfOk, IfErr, ◌≢◌}
 use Rattle.std.specs.Str.{bytes_eq}
 use Rattle.tracing_appender_folders.specs.declared.moment.Moment.{Moment}
 use Rattle.tracing_appender_rolling.specs.declared.faults.Faults.{Faults}
-use Rattle.tracing_appender_rolling.specs.declared.appender.RollingFileAppender.{RollingFileAppender}
 use Rattle.tracing_appender_folders.specs.declared.fault.FileNumber.{FileNumber}
 use Rattle.tracing_appender_rolling.specs.declared.init.InitFailure.{InitFailure}
 use Rattle.tracing_appender_folders.specs.declared.fault.FolderError.{FolderError}
@@ -134,17 +133,17 @@ same_keeps c d names boundary current s k sound is links files = record {
 }
 
 -- want of memory without a limit and a link
-pub starved_unchanged : (names : FileNames) (m : Moment) (f : Faults) (c : Contents) (after : Option Contents) → names.limit ≡ None → names.latest ≡ None → Starved names m f c after → Unchanged c after
-starved_unchanged names m f c after unlimited linkless (inl same) = record {
+pub starved_unchanged : (names : FileNames) (m : Moment) (f l : Faults) (c : Contents) (after : Option Contents) → names.limit ≡ None → names.latest ≡ None → Starved names m f c l after → Unchanged c after
+starved_unchanged names m f l c after unlimited linkless (inl same) = record {
   calls = 0;
   dirs = c.has_dirs;
   dirs_stay = λ e. e;
-  left = record { contents = c; is = same; files_are = refl; links_stay = refl; open_stay = refl; dirs_are = refl; flush_stays = refl; comes = λ n. ap c.coming (let e : n ≡ 0 + n = omega arith in e) };
+  left = record { contents = c; is = same.1; files_are = refl; links_stay = refl; open_stay = refl; dirs_are = refl; flush_stays = refl; comes = λ n. ap c.coming (let e : n ≡ 0 + n = omega arith in e) };
 }
-starved_unchanged names m f c after unlimited linkless (inr (inl unpruned)) = absurd (subst (λ (n : Option ℕ). UnprunedBy n names f c after) unlimited unpruned)
-starved_unchanged names m f c after unlimited linkless (inr (inr t)) =
-    let none = subst (λ (n : Option ℕ). PrunedBy n names f c t.counted t.pruned) unlimited t.retention in
-    subst (λ (d : Contents). Unchanged d after) none.1 (subst (λ (l : Option (List ℕ)). MissedFile l (name_at names m) t.pruned after) linkless t.missed)
+starved_unchanged names m f l c after unlimited linkless (inr (inl unpruned)) = absurd (subst (λ (n : Option ℕ). UnprunedBy n names f c l after) unlimited unpruned)
+starved_unchanged names m f l c after unlimited linkless (inr (inr t)) =
+    let none = subst (λ (n : Option ℕ). PrunedBy n names f c l t.pruned) unlimited t.retention in
+    subst (λ (d : Contents). Unchanged d after) none.1 (subst (λ (o : Option (List ℕ)). MissedFile o (name_at names m) t.pruned after) linkless t.missed).0
 
 -- a look from the boundary on, which opens a file
 module _ (names : FileNames) (boundary : Option ℤ) (current : FileNumber) (faults : Faults) (s : PlainSink) (m : Moment) (is_m : is_moment m ≡ true) (due : is_due boundary m.seconds ≡ true) where
@@ -219,24 +218,9 @@ module _ (names : FileNames) (boundary : Option ℤ) (current : FileNumber) (fau
     pub switch_counts : (after : Option Contents) (b : Option ℤ) (f : FileNumber) (l : Faults) → SwitchedTo names m (held c) b f l after → l ≡ faults
     switch_counts after b f l is = (at_held after b f l is).counts
 
-    -- a look that found no memory
-    pub switch_misses : (after : Option Contents) → Starved names m faults c after → MatchesKnownSink after names boundary current s
-    switch_misses after starved =
-        let left = starved_unchanged names m faults c after (ap (λ (n : FileNames). n.limit) k.names_same ∙ k.all.unlimited) (ap (λ (n : FileNames). n.latest) k.names_same ∙ k.all.linkless) starved in
-        subst (λ (o : Option Contents). MatchesKnownSink o names boundary current s) (sym left.left.is)
-        (same_keeps c left.left.contents names boundary current s k (still_sound left.left k.sound) (stays_open c left.left.contents current left.left.open_stay k.current_open) left.left.links_stay left.left.files_are)
-
   pub look_switches : (E : Type 0) (known after : Option Contents) (done : Unit {0}) (b : Option ℤ) (f : FileNumber) (l : Faults) → Switches {E = E} names m boundary current faults known (Ok done) b f l after → MatchesKnownSink known names boundary current s → MatchesKnownSink after names b f seen
   look_switches E None after done b f l left k = subst (λ (o : Option Contents). MatchesKnownSink o names b f seen) (sym left) tt
   look_switches E (Some c) after done b f l is k = switch_keeps c k after b f l is
-
-  pub look_misses : {E : Type 0} (known after : Option Contents) (e : E) (b : Option ℤ) (f : FileNumber) (l : Faults) → Switches names m boundary current faults known (Err e) b f l after → MatchesKnownSink known names boundary current s → MatchesKnownSink after names boundary current s
-  look_misses None after e b f l left k = subst (λ (o : Option Contents). MatchesKnownSink o names boundary current s) (sym left) tt
-  look_misses (Some c) after e b f l starved k = switch_misses c k after starved
-
-  pub look_counts : (E : Type 0) (c : Contents) (known after : Option Contents) (done : Unit {0}) (b : Option ℤ) (f : FileNumber) (l : Faults) → known ≡ Some c → Switches {E = E} names m boundary current faults known (Ok done) b f l after → MatchesKnownSink known names boundary current s → l ≡ faults
-  look_counts E c None after done b f l e is k = cc
-  look_counts E c (Some d) after done b f l e is k = switch_counts d k after b f l is
 
 -- a flush
 pub flush_keeps : (known after : Option Contents) (names : FileNames) (boundary : Option ℤ) (current : FileNumber) (s : PlainSink) (r : Result (Unit {0}) FolderError) → IfErr r (λ e. e ≢ OutOfMemory) → Gives (λ x. flushed x current) known r after → MatchesKnownSink known names boundary current s → MatchesKnownSink after names boundary current s
@@ -247,13 +231,6 @@ flush_keeps (Some c) after names boundary current s r fed gives k =
     let still = flush_still c current in
     subst (λ (o : Option Contents). MatchesKnownSink o names boundary current s) (sym (fed_leaves (λ x. flushed x current) c r after fed gives))
     (same_keeps c d names boundary current s k (λ n. still.next n ∙ k.sound (suc n)) (stays_open c d current still.opens k.current_open) still.links still.files)
-
--- an appender that differs in its folder alone
-pub still_boundary : {D : Type 0} (a b : RollingFileAppender D) (f : D) → record a { folder = f } ≡ b → a.boundary ≡ b.boundary
-still_boundary a b f e = ap (λ (x : RollingFileAppender _). x.boundary) e
-
-pub still_current : {D : Type 0} (a b : RollingFileAppender D) (f : D) → record a { folder = f } ≡ b → a.current ≡ b.current
-still_current a b f e = ap (λ (x : RollingFileAppender _). x.current) e
 
 -- bytes to the current file
 push_known : (c d : Contents) (names : FileNames) (boundary : Option ℤ) (current : FileNumber) (s : PlainSink) (m : Moment) (bytes : List ℕ) → MatchesSink c names boundary current (with_handed s (record { line = []; moment = m })) → IsSound d → is_open current d ≡ true → d.links ≡ c.links → d.files ≡ appended c.files current.index bytes → MatchesSink d names boundary current (with_handed s (record { line = bytes; moment = m }))

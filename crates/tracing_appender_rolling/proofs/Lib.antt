@@ -19,7 +19,6 @@ pub mod Newest
 pub mod Lasting
 pub mod Beginning
 pub mod Handover
-pub mod Suffix
 pub mod Oldest
-pub mod Aging
+pub mod Sorting
 pub mod Unique

@@ -1,16 +1,15 @@
--- Older candidates go before newer ones.
-use Rattle.std.proofs.Common.{◌≡◌, ℕ, suc, ◌+◌, ◌-◌, ◌<◌, ◌≤◌, ◌<ℤ◌, List, [], ◌∷◌, length, Bool, true, false, not, ◌&&◌, ◌||◌, cond, refl, sym, ap, ◌∙◌, arith, inl, inr, Ordering}
+-- The order in which candidates go.
+use Rattle.std.proofs.Common.{◌≡◌, ◌<◌, ◌≤◌, ◌<ℤ◌, Bool, true, false, not, ◌&&◌, ◌||◌, cond, refl, sym, ap, ◌∙◌, arith, inl, inr, Ordering}
 use Rattle.std.specs.Prelude.{◌⊎◌, int_le, nat_lt}
 use Rattle.std.specs.Cmp.Lexicographic.{slice_cmp}
 use Rattle.std.specs.Ordering.{nat_cmp, is_lt}
 use Rattle.std.specs.declared.cmp.Ordering.TheVariants.{Less, Equal, Greater}
-use Rattle.std.proofs.lemmas.Bool.{ltb-true, ltb-false, lt-ltb}
+use Rattle.std.proofs.lemmas.Bool.{ltb-true, ltb-false}
 use Rattle.std.proofs.lemmas.Cmp.{nat_list_cmp_total}
 use Rattle.jiff_core.proofs.SignedLemmas.{signed_arith}
 use Rattle.tracing_appender_folders.specs.declared.moment.Moment.{Moment}
 use Rattle.tracing_appender_folders.specs.Moments.{is_earlier}
-use Rattle.tracing_appender_rolling.specs.Retention.{PlainCandidate, is_before, before_count}
-use Rattle.tracing_appender_rolling.specs.Reading.{OldestGoFirst}
+use Rattle.tracing_appender_rolling.specs.Retention.{PlainCandidate, is_before}
 
 -- an earlier moment, and the same one
 abbrev pub Earlier : Moment → Moment → Type 0
@@ -23,7 +22,7 @@ first_true : (a b : Bool) → (a && b) ≡ true → (a ≡ true) × (b ≡ true)
 first_true true b e = (refl, e)
 first_true false b e = cc
 
-to_earlier : (a b : Moment) → is_earlier a b ≡ true → Earlier a b
+pub to_earlier : (a b : Moment) → is_earlier a b ≡ true → Earlier a b
 to_earlier a b e = by_case (int_le b.seconds a.seconds) refl e
   where
     by_case : (t : Bool) → int_le b.seconds a.seconds ≡ t → cond t (int_le a.seconds b.seconds && nat_lt a.nanoseconds b.nanoseconds) true ≡ true → Earlier a b
@@ -32,7 +31,7 @@ to_earlier a b e = by_case (int_le b.seconds a.seconds) refl e
         inr (omega (arith, signed_arith, h, both.0), ltb-true a.nanoseconds b.nanoseconds both.1)
     by_case false h f = inl (omega (arith, signed_arith, h))
 
-to_no_earlier : (a b : Moment) → is_earlier a b ≡ false → NoEarlier a b
+pub to_no_earlier : (a b : Moment) → is_earlier a b ≡ false → NoEarlier a b
 to_no_earlier a b e = by_case (int_le b.seconds a.seconds) (int_le a.seconds b.seconds) (nat_lt a.nanoseconds b.nanoseconds) refl refl refl e
   where
     by_case : (t u v : Bool) → int_le b.seconds a.seconds ≡ t → int_le a.seconds b.seconds ≡ u → nat_lt a.nanoseconds b.nanoseconds ≡ v → cond t (u && v) true ≡ false → NoEarlier a b
@@ -70,7 +69,7 @@ less_is Less e = refl
 less_is Equal e = cc
 less_is Greater e = cc
 
-to_before : (a b : PlainCandidate) → is_before a b ≡ true → Earlier a.made b.made ⊎ NameBefore a b
+pub to_before : (a b : PlainCandidate) → is_before a b ≡ true → Earlier a.made b.made ⊎ NameBefore a b
 to_before a b e = by_case (is_earlier a.made b.made) (is_earlier b.made a.made) refl refl e
   where
     by_case : (t u : Bool) → is_earlier a.made b.made ≡ t → is_earlier b.made a.made ≡ u → (t || (not u && is_lt (slice_cmp nat_cmp a.name b.name))) ≡ true → Earlier a.made b.made ⊎ NameBefore a b
@@ -102,19 +101,19 @@ earlier_not a b c (inl x) (inr (same, le)) = inl (omega (arith, signed_arith, x,
 earlier_not a b c (inr (same, less)) (inl y) = inl (omega (arith, signed_arith, y, same))
 earlier_not a b c (inr (same, less)) (inr (again, le)) = inr (same ∙ sym again, omega (arith, less, le))
 
-not_earlier : (a b c : Moment) → NoEarlier b a → Earlier b c → Earlier a c
+pub not_earlier : (a b c : Moment) → NoEarlier b a → Earlier b c → Earlier a c
 not_earlier a b c (inl x) (inl y) = inl (omega (arith, signed_arith, x, y))
 not_earlier a b c (inl x) (inr (same, less)) = inl (omega (arith, signed_arith, x, same))
 not_earlier a b c (inr (same, le)) (inl y) = inl (omega (arith, signed_arith, y, same))
 not_earlier a b c (inr (same, le)) (inr (again, less)) = inr (sym same ∙ again, omega (arith, less, le))
 
-not_then : (a b c : Moment) → NoEarlier b a → NoEarlier c b → NoEarlier c a
+pub not_then : (a b c : Moment) → NoEarlier b a → NoEarlier c b → NoEarlier c a
 not_then a b c (inl x) (inl y) = inl (omega (arith, signed_arith, x, y))
 not_then a b c (inl x) (inr (same, le)) = inl (omega (arith, signed_arith, x, same))
 not_then a b c (inr (same, le)) (inl y) = inl (omega (arith, signed_arith, y, same))
 not_then a b c (inr (same, le)) (inr (again, more)) = inr (again ∙ same, omega (arith, le, more))
 
-before_then : (a b c : PlainCandidate) → is_before a b ≡ true → is_before b c ≡ true → is_before a c ≡ true
+pub before_then : (a b c : PlainCandidate) → is_before a b ≡ true → is_before b c ≡ true → is_before a c ≡ true
 before_then a b c first second = from_before a c (by_case (to_before a b first) (to_before b c second))
   where
     by_case : Earlier a.made b.made ⊎ NameBefore a b → Earlier b.made c.made ⊎ NameBefore b c → Earlier a.made c.made ⊎ NameBefore a c
@@ -122,20 +121,3 @@ before_then a b c first second = from_before a c (by_case (to_before a b first) 
     by_case (inl x) (inr (late, less)) = inl (earlier_not a.made b.made c.made x late)
     by_case (inr (late, less)) (inl y) = inl (not_earlier a.made b.made c.made late y)
     by_case (inr (late, less)) (inr (later, more)) = inr (not_then a.made b.made c.made late later, nat_list_cmp_total.trans a.name b.name c.name less more)
-
--- fewer stand before the older one
-count_first : (t u : Bool) (n k : ℕ) → (t ≡ true → u ≡ true) → n ≤ k → cond t (suc n) n ≤ cond u (suc k) k
-count_first true true n k both le = omega (arith, le)
-count_first true false n k both le = let wrong : false ≡ true = both refl in cc
-count_first false true n k both le = omega (arith, le)
-count_first false false n k both le = le
-
-fewer_before : (a b : PlainCandidate) → is_before a b ≡ true → (cs : List PlainCandidate) → before_count a cs ≤ before_count b cs
-fewer_before a b first [] = omega arith
-fewer_before a b first (d ∷ ds) = count_first (is_before d a) (is_before d b) (before_count a ds) (before_count b ds) (λ e. before_then d a b e first) (fewer_before a b first ds)
-
-pub oldest_first : OldestGoFirst
-oldest_first limit cs older newer first gone =
-    let few = fewer_before older newer first cs in
-    let less = ltb-true (before_count newer cs) (length cs + 1 - limit) gone in
-    lt-ltb (before_count older cs) (length cs + 1 - limit) (omega (arith, few, less))

@@ -1,21 +1,49 @@
--- A folder's count of faults over calls in turn.
-use Rattle.std.proofs.Common.{◌≡◌, ℕ, ◌∙◌, arith, inl, inr}
+-- Counts of faults over calls in turn.
+use Rattle.std.proofs.Common.{ℕ, ◌+◌, ◌-◌, ◌^◌, refl, ◌∙◌, arith}
+use Rattle.std.specs.Prelude.{min}
+use Rattle.tracing_appender_folders.specs.declared.fault.FolderFault.{FolderFault}
 use Rattle.tracing_appender_rolling.specs.declared.faults.Faults.{Faults}
-use Rattle.tracing_appender_rolling.specs.Telling.{DoesNotFall, Rises, Counts}
+use Rattle.tracing_appender_rolling.specs.Faults.{after_retention, after_switch}
+use Rattle.tracing_appender_rolling.specs.Telling.{DoesNotFall, Rises, RoseBy, CountsFaults, CountsRetention}
 
-pub keeps_same : (n m k : ℕ) → DoesNotFall n m → k ≡ m → DoesNotFall n k
-keeps_same n m k keeps e = omega (arith, keeps, e)
+rose_none : (x : ℕ) → RoseBy 0 x x
+rose_none x = (omega arith, omega arith)
 
-pub keeps_then : (n m k : ℕ) → DoesNotFall n m → DoesNotFall m k → DoesNotFall n k
-keeps_then n m k a b = omega (arith, a, b)
+rose_one : (x : ℕ) → RoseBy 1 x (min (x + 1) (2 ^ 64 - 1))
+rose_one x = (omega arith, omega arith)
 
-rises_then : (n m k : ℕ) → Rises n m → DoesNotFall m k → Rises n k
-rises_then n m k a b = omega (arith, a, b)
+rose_then : (s t x y z : ℕ) → RoseBy s x y → RoseBy t y z → RoseBy (s + t) x z
+rose_then s t x y z a b = (omega (arith, a.0, b.0), omega (arith, a.1, b.1))
 
-keeps_rises : (n m k : ℕ) → DoesNotFall n m → Rises m k → Rises n k
-keeps_rises n m k a b = omega (arith, a, b)
+pub faults_kept : (n m : ℕ) (f : Faults) → DoesNotFall n m → CountsFaults 0 0 n f f m
+faults_kept n m f kept = record { switches_rose = rose_none f.switches; retentions_rose = rose_none f.retentions; writes_stay = refl; none_changed = λ e. refl; folder_rose = omega (arith, kept) }
 
-pub counts_then : (n m k : ℕ) (f g h : Faults) → Counts n f g m → Counts m g h k → Counts n f h k
-counts_then n m k f g h (kept, inl same) (more, inl again) = (keeps_then n m k kept more, inl (again ∙ same))
-counts_then n m k f g h (kept, inr rose) (more, inl again) = (keeps_then n m k kept more, inr (rises_then n m k rose more))
-counts_then n m k f g h (kept, same) (more, inr rose) = (keeps_then n m k kept more, inr (keeps_rises n m k kept rose))
+pub faults_then : (s t r q n m k : ℕ) (f g h : Faults) → CountsFaults s r n f g m → CountsFaults t q m g h k → CountsFaults (s + t) (r + q) n f h k
+faults_then s t r q n m k f g h a b = record {
+  switches_rose = rose_then s t f.switches g.switches h.switches a.switches_rose b.switches_rose;
+  retentions_rose = rose_then r q f.retentions g.retentions h.retentions a.retentions_rose b.retentions_rose;
+  writes_stay = b.writes_stay ∙ a.writes_stay;
+  none_changed = λ e. b.none_changed (omega (arith, e)) ∙ a.none_changed (omega (arith, e));
+  folder_rose = omega (arith, a.folder_rose, b.folder_rose);
+}
+
+-- retention
+pub retention_kept : (n m : ℕ) (f : Faults) → DoesNotFall n m → CountsRetention n f f m
+retention_kept n m f kept = (0, faults_kept n m f kept)
+
+pub retention_one : (n m : ℕ) (f : Faults) (fault : FolderFault) → Rises n m → CountsRetention n f (after_retention f fault) m
+retention_one n m f fault rose =
+    (1, record { switches_rose = rose_none f.switches; retentions_rose = rose_one f.retentions; writes_stay = refl; none_changed = λ e. absurd (omega (arith, e)); folder_rose = omega (arith, rose) })
+
+pub retention_then : (n m k : ℕ) (f g h : Faults) → CountsRetention n f g m → CountsRetention m g h k → CountsRetention n f h k
+retention_then n m k f g h a b = (a.0 + b.0, faults_then 0 0 a.0 b.0 n m k f g h a.1 b.1)
+
+-- and the opening behind it
+pub switch_failed : (r n m k : ℕ) (f g : Faults) (fault : FolderFault) → CountsFaults 0 r n f g m → Rises m k → CountsFaults 1 r n f (after_switch g fault) k
+switch_failed r n m k f g fault a rose = record {
+  switches_rose = rose_then 0 1 f.switches g.switches (after_switch g fault).switches a.switches_rose (rose_one g.switches);
+  retentions_rose = a.retentions_rose;
+  writes_stay = a.writes_stay;
+  none_changed = λ e. absurd (omega (arith, e));
+  folder_rose = omega (arith, a.folder_rose, rose);
+}

@@ -25,7 +25,7 @@ module _ (E : Type 0) (names : FileNames) (m : Moment) (boundary : Option ℤ) (
       subst (λ (h : Held). IsHeld left end file l h) (sym (tried_ok (record { boundary = end_at names m; current = current; faults = l; contents = d }) (try_at names m d) file at.0))
       (record { folder = gone; until = ends; open_file = refl; counts = refl })
 
-  pub switch_opens : (known middle after left : Option Contents) (r : Result (Unit {0}) FolderError) → Prunes {E = E} names f known (Ok l) middle → TriesFile names.latest name middle (Ok file) after → IfErr r (λ e. e ≢ OutOfMemory) → Gives (λ x. closed x current) after r left → Switches {E = E} names m boundary current f known (Ok tt) end file l left
+  pub switch_opens : (known middle after left : Option Contents) (r : Result (Unit {0}) FolderError) → Prunes {E = E} names f known (Ok tt) l middle → TriesFile names.latest name middle (Ok file) after → IfErr r (λ e. e ≢ OutOfMemory) → Gives (λ x. closed x current) after r left → Switches {E = E} names m boundary current f known (Ok tt) end file l left
   switch_opens None middle after left r pruned tries fed closes =
       let none = (subst (λ (o : Option Contents). TriesFile names.latest name o (Ok file) after) pruned tries) in
       stays_unknown (λ x. closed x current) r left (subst (λ (o : Option Contents). Gives (λ x. closed x current) o r left) none closes)

@@ -61,6 +61,10 @@ LooksAt contents names m h a = LookedTo (is_due h.boundary m.seconds) names m h 
 abbrev pub MissesAt : {D : Type 0} → (D → Option Contents) → FileNames → Moment → Held → RollingFileAppender D → Type 0
 MissesAt contents names m h a = LookMissed names m h a.boundary a.current a.faults (contents a.folder)
 
+-- but for the end of its period, which was this and is that of the moment's, the appender agrees with the sink
+abbrev pub MissedAt : {D : Type 0} → (D → Option Contents) → Option ℤ → PlainSink → Moment → RollingFileAppender D → Type 0
+MissedAt contents boundary s m a = (a.boundary ≡ end_at (builder_names a.builder) m) × AgreesSink contents (record a { boundary = boundary }) s
+
 -- the appender stands where retention and the try at that moment left the folder
 pub record IsOpenedAt (names : FileNames) (m : Moment) (c : Contents) (current : FileNumber) (boundary : Option ℤ) (faults : Faults) (after : Option Contents) : Type 0 where
   pub pruned : Contents
@@ -82,7 +86,7 @@ pub record FailedTry (names : FileNames) (m : Moment) (c : Contents) (context : 
 
 -- or there was no memory
 abbrev pub FailedAt : FileNames → Moment → Contents → InitContext → FolderError → Option Contents → Type 0
-FailedAt names m c context OutOfMemory after = Starved names m no_faults c after
+FailedAt names m c context OutOfMemory after = (counted : Faults) × Starved names m no_faults c counted after
 FailedAt names m c context (Fault fault) after = FailedTry names m c context fault after
 
 abbrev pub BeginsKnown : FileNames → Moment → Contents → Result Opened InitFailure → Option Contents → Type 0

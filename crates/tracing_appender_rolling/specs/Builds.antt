@@ -13,8 +13,9 @@ use Rattle.tracing_appender_rolling.specs.Names.{FileNames, is_bad_name, HasBadL
 use Rattle.tracing_appender_rolling.specs.Builders.{builder_names}
 use Rattle.tracing_appender_folders.specs.Contents.{Contents}
 use Rattle.tracing_appender_rolling.specs.Remaining.{MayOpenSink, OpensLeft}
+use Rattle.tracing_appender_rolling.specs.declared.faults.Faults.{Faults}
 use Rattle.tracing_appender_rolling.specs.Faults.{no_faults}
-use Rattle.tracing_appender_rolling.specs.Telling.{DoesNotFall, Rises, Counts}
+use Rattle.tracing_appender_rolling.specs.Telling.{DoesNotFall, Rises, CountsRetention}
 use Rattle.tracing_appender_rolling.specs.Looks.{Starved}
 use Rattle.tracing_appender_rolling.specs.Appenders.{AgreesSink, IsOpened, FailedAt, MayOpen, HandsBack, fresh_sink}
 
@@ -31,11 +32,11 @@ pub record IsBuilt {D : Type 0} (contents : D → Option Contents) (failed : D �
   pub agrees : MayOpen (contents folder) names → AgreesSink contents a (fresh_sink names m (contents folder))
   pub opened : (c : Contents) → contents folder ≡ Some c → IsOpened contents names m c a
   pub left : (c : Contents) → contents folder ≡ Some c → MayOpenSink c names → OpensLeft contents names m c a
-  pub counted : Counts (failed folder) no_faults a.faults (failed a.folder)
+  pub counted : CountsRetention (failed folder) no_faults a.faults (failed a.folder)
 
 -- there was no memory: what the folder has then, which is the same bytes under each name where it refuses nothing and the sink keeps all files
 pub record IsStarved {D : Type 0} (contents : D → Option Contents) (names : FileNames) (folder : D) (m : Moment) (back : D) : Type 0 where
-  pub left : (c : Contents) → contents folder ≡ Some c → Starved names m no_faults c (contents back)
+  pub left : (c : Contents) → contents folder ≡ Some c → (counted : Faults) × Starved names m no_faults c counted (contents back)
   pub handed_back : (c : Contents) → contents folder ≡ Some c → MayOpen (Some c) names → HandsBack c names (contents back)
 
 -- bad names are told before the folder is asked; a fault is that of the try

@@ -13,7 +13,7 @@ use Rattle.tracing_appender_rolling.specs.Faults.{after_write, unit_of}
 use Rattle.tracing_appender_rolling.specs.Looks.{Held, LookedTo, LookMissed}
 use Rattle.tracing_appender_rolling.specs.Writes.{WritesAll}
 use Rattle.tracing_appender_rolling.specs.Sinks.{PlainSink, with_handed}
-use Rattle.tracing_appender_rolling.specs.Appenders.{AgreesSink}
+use Rattle.tracing_appender_rolling.specs.Appenders.{AgreesSink, MissedAt}
 
 -- a look led there, and then writes answered so and left that
 pub record HandedOver (names : FileNames) (m : Moment) (h : Held) (bytes : List ℕ) (result : Result (Unit {0}) FolderError) (boundary : Option ℤ) (current : FileNumber) (faults : Faults) (after : Option Contents) : Type 0 where
@@ -46,9 +46,9 @@ LinesHaveOneEnd = (names : FileNames) (m : Moment) (h one two : Held) (bytes : L
     HandsTo names m h bytes r one.boundary one.current one.faults (Some one.contents) → HandsTo names m h bytes s two.boundary two.current two.faults (Some two.contents) →
     (r ≡ s) × (one ≡ two)
 
--- the sink is as it was, or has a line without bytes more
-abbrev pub Misses : {D : Type 0} → (D → Option Contents) → PlainSink → Moment → RollingFileAppender D → Type 0
-Misses contents s m a = AgreesSink contents a s ⊎ AgreesSink contents a (with_handed s (record { line = []; moment = m }))
+-- but for the end of the period, which was this, the sink is as it was; or it has a line without bytes more
+abbrev pub Misses : {D : Type 0} → (D → Option Contents) → Option ℤ → PlainSink → Moment → RollingFileAppender D → Type 0
+Misses contents boundary s m a = MissedAt contents boundary s m a ⊎ AgreesSink contents a (with_handed s (record { line = []; moment = m }))
 
 -- a look led there, and then one write of the folder answered so and left that
 pub record WrittenOnce (names : FileNames) (m : Moment) (h : Held) (bytes : List ℕ) (result : Result ℕ FolderError) (boundary : Option ℤ) (current : FileNumber) (faults : Faults) (after : Option Contents) : Type 0 where

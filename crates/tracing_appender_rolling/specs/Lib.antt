@@ -20,6 +20,7 @@ pub mod Looks
 pub mod Appenders
 pub mod Remaining
 pub mod Builds
+pub mod Anywhere
 pub mod Handing
 pub mod Reading
 pub use Rattle.tracing_appender_folders.specs.declared.moment.Moment

@@ -68,21 +68,20 @@ abbrev pub LookedTo : Bool → FileNames → Moment → Held → Option ℤ → 
 LookedTo true names m h boundary current faults after = SwitchedTo names m h boundary current faults after
 LookedTo false names m h boundary current faults after = IsHeld after boundary current faults h
 
--- retention came to its end, and then the try found no memory
-pub record StarvedTry (names : FileNames) (m : Moment) (f : Faults) (c : Contents) (after : Option Contents) : Type 0 where
-  pub counted : Faults
+-- retention came to its end, with its faults counted, and then the try found no memory
+pub record StarvedTry (names : FileNames) (m : Moment) (f : Faults) (c : Contents) (left : Faults) (after : Option Contents) : Type 0 where
   pub pruned : Contents
-  pub retention : Pruned names f c counted pruned
+  pub retention : Pruned names f c left pruned
   pub missed : MissedFile names.latest (name_at names m) pruned after
 
 -- what is left where there was no memory: the name found none, and the folder wasn't asked; or retention, or the try
-abbrev pub Starved : FileNames → Moment → Faults → Contents → Option Contents → Type 0
-Starved names m f c after = (after ≡ Some c) ⊎ (Unpruned names f c after ⊎ StarvedTry names m f c after)
+abbrev pub Starved : FileNames → Moment → Faults → Contents → Faults → Option Contents → Type 0
+Starved names m f c left after = ((left ≡ f) × (after ≡ Some c)) ⊎ (Unpruned names f c left after ⊎ StarvedTry names m f c left after)
 
 -- the switch left the one or the other
 abbrev pub SwitchedKnown : {E : Type 0} → FileNames → Moment → Held → Result (Unit {0}) E → Option ℤ → FileNumber → Faults → Option Contents → Type 0
 SwitchedKnown names m h (Ok done) boundary current faults after = SwitchedTo names m h boundary current faults after
-SwitchedKnown names m h (Err e) boundary current faults after = Starved names m h.faults h.contents after
+SwitchedKnown names m h (Err e) boundary current faults after = Starved names m h.faults h.contents faults after
 
 -- contents that aren't known stay so
 abbrev pub Switches : {E : Type 0} → FileNames → Moment → Option ℤ → FileNumber → Faults → Option Contents → Result (Unit {0}) E → Option ℤ → FileNumber → Faults → Option Contents → Type 0
@@ -90,10 +89,9 @@ Switches names m boundary current faults None result b f l after = after ≡ Non
 Switches names m boundary current faults (Some c) result b f l after =
     SwitchedKnown names m (record { boundary = boundary; current = current; faults = faults; contents = c }) result b f l after
 
--- a look that found no memory: it was due, and boundary, file and counts are as they were
+-- a look that found no memory: it was due, the end of the period has moved all the same, the file is the one before, and what was lost until then is counted
 pub record LookMissed (names : FileNames) (m : Moment) (h : Held) (boundary : Option ℤ) (current : FileNumber) (faults : Faults) (after : Option Contents) : Type 0 where
   pub due : is_due h.boundary m.seconds ≡ true
-  pub until : boundary ≡ h.boundary
+  pub until : boundary ≡ end_at names m
   pub open_file : current ≡ h.current
-  pub counts : faults ≡ h.faults
-  pub left : Starved names m h.faults h.contents after
+  pub left : Starved names m h.faults h.contents faults after

@@ -1,5 +1,5 @@
 -- What retention removes, whatever the folder refuses.
-use Rattle.std.specs.Prelude.{◌≡◌, ◌⊎◌, ℕ, List, [], ◌∷◌, ◌++◌, map, Option, Some, None, Result, Ok, Err}
+use Rattle.std.specs.Prelude.{◌≡◌, ◌⊎◌, ℕ, Bool, List, [], ◌∷◌, ◌++◌, map, Option, Some, None, Result, Ok, Err}
 use Rattle.std.specs.List.{filter}
 use Rattle.tracing_appender_rolling.specs.declared.faults.Faults.{Faults}
 use Rattle.tracing_appender_folders.specs.declared.fault.FolderError.TheVariants.{Fault, OutOfMemory}
@@ -8,12 +8,13 @@ use Rattle.tracing_appender_folders.specs.Contents.{Contents, Answer, Listed, ca
 use Rattle.tracing_appender_rolling.specs.Faults.{after_retention}
 use Rattle.tracing_appender_rolling.specs.Retention.{PlainCandidate, IsCandidates, goes}
 
--- the names of those of some candidates that go
-abbrev pub doomed_of : ℕ → List PlainCandidate → List PlainCandidate → List (List ℕ)
-doomed_of limit cs some = map (λ (c : PlainCandidate). c.name) (filter (goes limit cs) some)
+-- the names of those candidates that pass a test
+abbrev pub names_by : (PlainCandidate → Bool) → List PlainCandidate → List (List ℕ)
+names_by test cs = map (λ (c : PlainCandidate). c.name) (filter test cs)
 
+-- the names of those that go
 abbrev pub doomed : ℕ → List PlainCandidate → List (List ℕ)
-doomed limit cs = doomed_of limit cs cs
+doomed limit cs = names_by (goes limit cs) cs
 
 -- a removal that failed is counted
 abbrev pub after_removal : Faults → Answer (Unit {0}) → Faults × Contents
@@ -30,19 +31,26 @@ removed_all (name ∷ names) at = removed_all names (after_removal at.0 (removed
 abbrev pub LeftAt : Faults × Contents → Faults → Option Contents → Type 0
 LeftAt at f after = (f ≡ at.0) × (after ≡ Some at.1)
 
--- the names before one were removed in turn, and the removal of that one found no memory
-pub record Stops (names : List (List ℕ)) (f : Faults) (c : Contents) (after : Option Contents) : Type 0 where
+-- the names before one were removed in turn, with their faults counted, and the removal of that one found no memory
+pub record Stops (names : List (List ℕ)) (f : Faults) (c : Contents) (left : Faults) (after : Option Contents) : Type 0 where
   pub before : List (List ℕ)
   pub name : List ℕ
   pub behind : List (List ℕ)
   pub are : names ≡ before ++ name ∷ behind
-  pub left : after ≡ Some (called (removed_all before (f, c)).1)
+  pub counted : left ≡ (removed_all before (f, c)).0
+  pub folder : after ≡ Some (called (removed_all before (f, c)).1)
 
 -- the names were removed in turn, or some removal found no memory. Contents that aren't known stay so.
-abbrev pub Removes : {E : Type 0} → List (List ℕ) → Faults → Option Contents → Result Faults E → Option Contents → Type 0
-Removes names f None result after = after ≡ None
-Removes names f (Some c) (Ok left) after = LeftAt (removed_all names (f, c)) left after
-Removes names f (Some c) (Err e) after = Stops names f c after
+abbrev pub Removes : {E : Type 0} → List (List ℕ) → Faults → Option Contents → Result (Unit {0}) E → Faults → Option Contents → Type 0
+Removes names f None result left after = after ≡ None
+Removes names f (Some c) (Ok done) left after = LeftAt (removed_all names (f, c)) left after
+Removes names f (Some c) (Err e) left after = Stops names f c left after
+
+-- the same of those candidates that go, or there was no memory to find these
+abbrev pub RemovesDoomed : {E : Type 0} → ℕ → List PlainCandidate → Faults → Option Contents → Result (Unit {0}) E → Faults → Option Contents → Type 0
+RemovesDoomed limit cs f None result left after = after ≡ None
+RemovesDoomed limit cs f (Some c) (Ok done) left after = LeftAt (removed_all (doomed limit cs) (f, c)) left after
+RemovesDoomed limit cs f (Some c) (Err e) left after = LeftAt (f, c) left after ⊎ Stops (doomed limit cs) f c left after
 
 -- a listing that was refused is counted, and nothing goes; after one that wasn't go the candidates that retention says
 abbrev pub PrunedAfter : FileNames → ℕ → Faults → Answer (List Listed) → Faults → Contents → Type 0
@@ -60,18 +68,18 @@ abbrev pub Pruned : FileNames → Faults → Contents → Faults → Contents �
 Pruned names f c left d = PrunedBy names.limit names f c left d
 
 -- what is left where there was no memory: without a limit nothing wants any; with one the listing found none, or what it is read with, or one of the removals
-abbrev pub UnprunedAfter : FileNames → ℕ → Faults → Answer (List Listed) → Option Contents → Type 0
-UnprunedAfter names limit f (Ok listing, c) after = (cs : List PlainCandidate) × IsCandidates names listing cs × Stops (doomed limit cs) f c after
-UnprunedAfter names limit f (Err e, c) after = ⊥
+abbrev pub UnprunedAfter : FileNames → ℕ → Faults → Answer (List Listed) → Faults → Option Contents → Type 0
+UnprunedAfter names limit f (Ok listing, c) left after = (cs : List PlainCandidate) × IsCandidates names listing cs × Stops (doomed limit cs) f c left after
+UnprunedAfter names limit f (Err e, c) left after = ⊥
 
-abbrev pub UnprunedBy : Option ℕ → FileNames → Faults → Contents → Option Contents → Type 0
-UnprunedBy None names f c after = ⊥
-UnprunedBy (Some limit) names f c after = (after ≡ Some (called c)) ⊎ UnprunedAfter names limit f (names_listed c) after
+abbrev pub UnprunedBy : Option ℕ → FileNames → Faults → Contents → Faults → Option Contents → Type 0
+UnprunedBy None names f c left after = ⊥
+UnprunedBy (Some limit) names f c left after = ((left ≡ f) × (after ≡ Some (called c))) ⊎ UnprunedAfter names limit f (names_listed c) left after
 
-abbrev pub Unpruned : FileNames → Faults → Contents → Option Contents → Type 0
-Unpruned names f c after = UnprunedBy names.limit names f c after
+abbrev pub Unpruned : FileNames → Faults → Contents → Faults → Option Contents → Type 0
+Unpruned names f c left after = UnprunedBy names.limit names f c left after
 
-abbrev pub Prunes : {E : Type 0} → FileNames → Faults → Option Contents → Result Faults E → Option Contents → Type 0
-Prunes names f None result after = after ≡ None
-Prunes names f (Some c) (Ok left) after = (d : Contents) × Pruned names f c left d × (after ≡ Some d)
-Prunes names f (Some c) (Err e) after = Unpruned names f c after
+abbrev pub Prunes : {E : Type 0} → FileNames → Faults → Option Contents → Result (Unit {0}) E → Faults → Option Contents → Type 0
+Prunes names f None result left after = after ≡ None
+Prunes names f (Some c) (Ok done) left after = (d : Contents) × Pruned names f c left d × (after ≡ Some d)
+Prunes names f (Some c) (Err e) left after = Unpruned names f c left after

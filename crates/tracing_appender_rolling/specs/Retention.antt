@@ -72,3 +72,11 @@ before_count c (d ∷ ds) = if is_before d c then suc (before_count c ds) else b
 -- fewer stand before it than the candidates and the new file are more than the limit
 abbrev pub goes : ℕ → List PlainCandidate → PlainCandidate → Bool
 goes limit cs c = nat_lt (before_count c cs) (length cs + 1 - limit)
+
+-- those that stand up to the last one, or all where there is none
+abbrev pub goes_by : Option PlainCandidate → PlainCandidate → Bool
+goes_by None c = true
+goes_by (Some last) c = not (is_before last c)
+
+abbrev pub GoesBy : ℕ → List PlainCandidate → Option PlainCandidate → Type 0
+GoesBy limit cs last = (c : PlainCandidate) → goes limit cs c ≡ goes_by last c

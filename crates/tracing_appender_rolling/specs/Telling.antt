@@ -6,7 +6,6 @@ use Rattle.tracing_appender_folders.specs.declared.fault.FolderError.TheVariants
 use Rattle.tracing_appender_folders.specs.declared.fault.FolderFault.{FolderFault}
 use Rattle.tracing_appender_folders.specs.declared.fault.FolderFault.TheVariants.{WriteZero}
 use Rattle.tracing_appender_rolling.specs.declared.init.InitFailure.{InitFailure}
-use Rattle.tracing_appender_rolling.specs.Faults.{after_retention}
 
 -- a folder's count doesn't fall, unless it stands at the greatest number
 abbrev pub DoesNotFall : ℕ → ℕ → Type 0
@@ -25,18 +24,21 @@ abbrev pub ReportsTry : {T : Type 0} → ℕ → Result T InitFailure → ℕ �
 ReportsTry n (Ok value) m = DoesNotFall n m
 ReportsTry n (Err f) m = ReportsError n f.error m
 
--- a count of faults that was kept or that grew
-abbrev pub Counts : ℕ → Faults → Faults → ℕ → Type 0
-Counts n old new m = DoesNotFall n m × ((new ≡ old) ⊎ Rises n m)
+-- a count rose by so many, or stands at the greatest number
+abbrev pub RoseBy : ℕ → ℕ → ℕ → Type 0
+RoseBy more old new = (new ≤ old + more) × (min (old + more) (2 ^ 64 - 1) ≤ new)
 
-abbrev pub CountsOk : {E : Type 0} → ℕ → Faults → Result Faults E → ℕ → Type 0
-CountsOk n old (Ok new) m = Counts n old new m
-CountsOk n old (Err e) m = DoesNotFall n m
+-- So many openings failed, and so many listings and removals: the sink's counts rose by these, and the folder's by at least as many in all.
+pub record CountsFaults (switches retentions n : ℕ) (old new : Faults) (m : ℕ) : Type 0 where
+  pub switches_rose : RoseBy switches old.switches new.switches
+  pub retentions_rose : RoseBy retentions old.retentions new.retentions
+  pub writes_stay : new.writes ≡ old.writes
+  pub none_changed : switches + retentions ≡ 0 → new ≡ old
+  pub folder_rose : min (n + (switches + retentions)) (2 ^ 64 - 1) ≤ m
 
--- a removal, or none: a fault raises both counts by one, and without one both are as they were; want of memory is no fault
-abbrev pub CountsOnce : {E : Type 0} → ℕ → Faults → Result Faults E → ℕ → Type 0
-CountsOnce n old (Ok new) m = ((new ≡ old) × (m ≡ n)) ⊎ ((fault : FolderFault) × (new ≡ after_retention old fault) × (m ≡ min (n + 1) (2 ^ 64 - 1)))
-CountsOnce n old (Err e) m = m ≡ n
+-- some listings and removals failed
+abbrev pub CountsRetention : ℕ → Faults → Faults → ℕ → Type 0
+CountsRetention n old new m = (retentions : ℕ) × CountsFaults 0 retentions n old new m
 
 -- an answer of one write of the folder
 abbrev pub ReportsCall : {T : Type 0} → ℕ → Result T FolderError → ℕ → Type 0
@@ -61,7 +63,3 @@ abbrev pub ReportsAll : {T : Type 0} → ℕ → Result T FolderError → ℕ �
 ReportsAll n (Ok value) len m = m ≡ n
 ReportsAll n (Err OutOfMemory) len m = m ≡ n
 ReportsAll n (Err (Fault fault)) len m = ReportsLast n fault len m
-
--- a count of faults that was kept, or grew where the folder's count rose or a write of some bytes took none
-abbrev pub CountsLine : ℕ → Faults → Faults → Result (Unit {0}) FolderError → ℕ → ℕ → Type 0
-CountsLine n old new result len m = (new ≡ old) ⊎ (Rises n m ⊎ ((result ≡ Err (Fault WriteZero)) × (0 < len)))

@@ -7,7 +7,7 @@ use Rattle.tracing_appender_rolling.specs.declared.init.InitContext.TheVariants.
 use Rattle.tracing_appender_rolling.specs.declared.init.InitFailure.{InitFailure}
 use Rattle.tracing_appender_folders.specs.declared.fault.FileNumber.{FileNumber}
 use Rattle.tracing_appender_folders.specs.Contents.{Contents, Answer, called, opened, dirs_made, linked, closed}
-use Rattle.tracing_appender_rolling.specs.Writes.{Unchanged}
+use Rattle.tracing_appender_rolling.specs.Writes.{Fruitless}
 
 -- what a try answers, and what it leaves
 abbrev pub Tried : Type 0
@@ -78,10 +78,10 @@ pub record OpenedUnlinked (name : List ℕ) (c : Contents) (after : Option Conte
   pub opened : opened_twice name c ≡ (Ok file, middle)
   pub left : Unlinked file middle after
 
--- what a try leaves that found no memory: all as it was, or, where there is a link, the file that was opened closed again
+-- what a try leaves that found no memory in one of its calls: all as it was, or, where there is a link, the file that was opened closed again
 abbrev pub MissedFile : Option (List ℕ) → List ℕ → Contents → Option Contents → Type 0
-MissedFile None name c after = Unchanged c after
-MissedFile (Some link) name c after = Unchanged c after ⊎ OpenedUnlinked name c after
+MissedFile None name c after = Fruitless c after
+MissedFile (Some link) name c after = Fruitless c after ⊎ OpenedUnlinked name c after
 
 abbrev pub TriesFile : Option (List ℕ) → List ℕ → Option Contents → Result FileNumber InitFailure → Option Contents → Type 0
 TriesFile latest name before result after = Tries (MissedFile latest name) (opened_linked latest name) before result after

@@ -24,6 +24,10 @@ pub record Unchanged (c : Contents) (after : Option Contents) : Type 0 where
   pub dirs_stay : c.has_dirs ≡ true → dirs ≡ true
   pub left : Left c c.files dirs calls after
 
+-- the same after one call or more
+abbrev pub Fruitless : Contents → Option Contents → Type 0
+Fruitless c after = (u : Unchanged c after) × (0 < u.calls)
+
 -- how many of so many bytes the first coming writes take, so many of them, where each is handed what those before it left
 abbrev pub taken_by : Contents → ℕ → ℕ → ℕ
 taken_by c zero len = 0

@@ -9,16 +9,17 @@ ghost use Rattle.tracing_appender_rolling.specs.Builders.{builder_names};
 ghost use Rattle.tracing_appender_rolling.specs.Sinks.{PlainSink, with_handed};
 ghost use Rattle.tracing_appender_rolling.specs.Tries.{TriesFile};
 ghost use Rattle.tracing_appender_rolling.specs.Writes.{WritesAll};
-ghost use Rattle.tracing_appender_rolling.specs.Telling.{Counts, ReportsAll, ReportsError, ReportsTry};
+ghost use Rattle.tracing_appender_rolling.specs.Telling.{CountsRetention, ReportsAll, ReportsError, ReportsTry};
 ghost use Rattle.tracing_appender_rolling.specs.Faults.{no_faults};
+ghost use Rattle.tracing_appender_rolling.specs.Anywhere.{Rolls};
 ghost use Rattle.tracing_appender_rolling.specs.Appenders.{Begins};
 ghost use Rattle.tracing_appender_rolling.specs.Remaining.{MayOpenSink, OpensLeft};
 
 use crate::builder::Builder;
 use crate::faults::Faults;
 use crate::init::{InitContext, InitFailure};
-use crate::opening::open_linked;
-use crate::retention::prune;
+use crate::opening::create_writer;
+use crate::retention::prune_old_logs;
 use std::alloc::{AllocError, Global};
 use tracing_appender_folders::{FileNumber, Folder, FolderError, FolderFault, Moment};
 
@@ -51,8 +52,9 @@ pub struct RollingFileAppender<D> {
 }
 
 impl<D: Folder> RollingFileAppender<D> {
-    ghost use Rattle.tracing_appender_rolling.specs.Appenders.{AgreesSink, Holds, LooksAt, MissesAt, IsOpened, FailedAt, MayOpen, HandsBack, fresh_sink};
-    ghost use Rattle.tracing_appender_rolling.specs.Looks.{Held, Switches};
+    ghost use Rattle.tracing_appender_rolling.specs.Appenders.{AgreesSink, Holds, LooksAt, MissesAt, MissedAt, IsOpened, FailedAt, MayOpen, HandsBack, fresh_sink};
+    ghost use Rattle.tracing_appender_rolling.specs.Looks.{Held, Switches, end_at};
+    ghost use Rattle.tracing_appender_rolling.specs.Anywhere.{RollsAt};
     ghost use Rattle.tracing_appender_rolling.specs.Faults.{after_write};
     ghost use Rattle.tracing_appender_rolling.specs.Remaining.{PrunedSink, AgreesLeft, HandsLeft, with_line};
 
@@ -89,7 +91,7 @@ impl<D: Folder> RollingFileAppender<D> {
         ensures starved { (c : Contents) → D.contents folder ≡ Some c → MayOpenSink c (builder_names builder) →
             IfErr result (λ refusal. refusal.error ≡ FolderError.OutOfMemory) }
         ensures back { IfErr result (λ refusal. builder_names refusal.builder ≡ builder_names builder) }
-        ensures counted { IfOk result (λ appender. Counts (D.failed folder) no_faults appender.faults
+        ensures counted { IfOk result (λ appender. CountsRetention (D.failed folder) no_faults appender.faults
             (D.failed appender.folder)) }
         ensures error { IfErr result (λ refusal. ReportsError (D.failed folder) refusal.error
             (D.failed refusal.folder)) }
@@ -113,7 +115,7 @@ impl<D: Folder> RollingFileAppender<D> {
     }
 
     /// Whether the file's period is over.
-    fn is_due(&self, moment: Moment) -> bool
+    fn should_rollover(&self, moment: Moment) -> bool
         ensures { result ≡ is_due self.now.boundary moment.seconds }
     {
         match self.boundary {
@@ -122,13 +124,12 @@ impl<D: Folder> RollingFileAppender<D> {
         }
     }
 
-    /// Looks at a moment before a line is written: from the end of the file's period on, retention runs and
-    /// the file of the moment's period is opened. A folder's fault keeps the old file until the moment's
-    /// period ends, and is counted.
+    /// Looks at a moment as `write_all_at` does, for a caller that tells this from the write. Where there is no
+    /// memory the end of the period and the counts are as they were, so that the next line looks again.
     ///
     /// # Errors
     ///
-    /// Want of memory; boundary, file and counts are unchanged.
+    /// Want of memory; what retention removed until then is gone.
     pub fn look(&mut self, moment: Moment) -> Result<(), AllocError>
         requires { is_moment moment ≡ true }
         ensures ok { OnOk result ((s : PlainSink) → AgreesSink D.contents self.old s →
@@ -137,43 +138,74 @@ impl<D: Folder> RollingFileAppender<D> {
             AgreesSink D.contents self.new s) }
         ensures looked { (h : Held) → Holds D.contents self.old h →
             OnOk result (LooksAt D.contents (builder_names self.old.builder) moment h self.new) }
-        ensures missed { (h : Held) → Holds D.contents self.old h →
-            OnErr result (MissesAt D.contents (builder_names self.old.builder) moment h self.new) }
         ensures early { is_due self.old.boundary moment.seconds ≡ false → (result ≡ Ok tt) × (self.new ≡ self.old) }
         ensures still { OnErr result (record self.new { folder = self.old.folder } ≡ self.old) }
-        ensures unfaulted { (c : Contents) (s : PlainSink) → D.contents self.old.folder ≡ Some c →
-            AgreesSink D.contents self.old s → self.new.faults ≡ self.old.faults }
         // over a folder that refuses nothing, with retention or a link too
         ensures state { OnOk result ((c : Contents) (p : PrunedSink) → D.contents self.old.folder ≡ Some c →
             AgreesLeft D.contents self.old p → HandsLeft D.contents p [] moment c self.old self.new) }
         ensures names { builder_names self.new.builder ≡ builder_names self.old.builder }
-        ensures counted { Counts (D.failed self.old.folder) self.old.faults self.new.faults (D.failed self.new.folder) }
     {
-        if !self.is_due(moment) {
+        let boundary = self.boundary;
+        let faults = self.faults;
+        match self.roll(moment) {
+            Ok(()) => Ok(()),
+            Err(error) => {
+                self.boundary = boundary;
+                self.faults = faults;
+                Err(error)
+            }
+        }
+    }
+
+    /// Looks at a moment before a line is written: from the end of the file's period on that end moves, retention
+    /// runs, and the file of the moment's period is opened. A folder's fault keeps the old file until the moment's
+    /// period ends, and is counted. Want of memory keeps it too, and is not counted.
+    pub(crate) fn roll(&mut self, moment: Moment) -> Result<(), AllocError>
+        requires { is_moment moment ≡ true }
+        ensures ok { OnOk result ((s : PlainSink) → AgreesSink D.contents self.old s →
+            AgreesSink D.contents self.new (with_handed s (record { line = []; moment = moment }))) }
+        ensures err { OnErr result ((s : PlainSink) → AgreesSink D.contents self.old s →
+            MissedAt D.contents self.old.boundary s moment self.new) }
+        ensures looked { (h : Held) → Holds D.contents self.old h →
+            OnOk result (LooksAt D.contents (builder_names self.old.builder) moment h self.new) }
+        ensures missed { (h : Held) → Holds D.contents self.old h →
+            OnErr result (MissesAt D.contents (builder_names self.old.builder) moment h self.new) }
+        ensures early { is_due self.old.boundary moment.seconds ≡ false → (result ≡ Ok tt) × (self.new ≡ self.old) }
+        // over a folder that refuses nothing, with retention or a link too
+        ensures state { OnOk result ((c : Contents) (p : PrunedSink) → D.contents self.old.folder ≡ Some c →
+            AgreesLeft D.contents self.old p → HandsLeft D.contents p [] moment c self.old self.new) }
+        // over any folder
+        ensures anywhere { RollsAt D.failed moment self.old self.new }
+        ensures stays { OnErr result (self.new.current ≡ self.old.current) }
+        ensures builder { self.new.builder ≡ self.old.builder }
+    {
+        if !self.should_rollover(moment) {
             return Ok(());
         }
-        self.switch(moment)?;
+        self.refresh_writer(moment)?;
         Ok(())
     }
 
-    /// Runs retention and opens the file of the moment's period.
-    fn switch(&mut self, moment: Moment) -> Result<(), AllocError>
+    /// Moves the end of the period, runs retention and opens the file of the moment's period.
+    fn refresh_writer(&mut self, moment: Moment) -> Result<(), AllocError>
         requires { is_moment moment ≡ true }
         ensures switched { Switches (builder_names self.old.builder) moment self.old.boundary self.old.current
             self.old.faults (D.contents self.old.folder) result self.new.boundary self.new.current self.new.faults
             (D.contents self.new.folder) }
-        ensures still { OnErr result (record self.new { folder = self.old.folder } ≡ self.old) }
+        ensures anywhere { Rolls (builder_names self.old.builder) moment (D.failed self.old.folder) self.old.current
+            self.old.faults self.new.boundary self.new.current self.new.faults (D.failed self.new.folder) }
+        ensures stays { OnErr result (self.new.current ≡ self.old.current) }
         ensures builder { self.new.builder ≡ self.old.builder }
-        ensures counted { Counts (D.failed self.old.folder) self.old.faults self.new.faults (D.failed self.new.folder) }
     {
-        let name = self.builder.name_at(self.alloc, moment)?;
-        let faults = prune(self.alloc, &self.builder, &mut self.folder, self.faults)?;
-        match open_linked(&mut self.folder, name.as_str(), &self.builder.latest) {
+        // first of all, so that a look that finds no memory isn't made again by each line of the period
+        self.boundary = self.builder.rotation.next_date(moment);
+        let name = self.builder.join_date(self.alloc, moment)?;
+        let folder = &mut self.folder;
+        prune_old_logs(self.alloc, &self.builder, folder, &mut self.faults)?;
+        match create_writer(folder, name.as_str(), &self.builder.latest) {
             Ok(file) => {
                 let old = self.current;
-                self.faults = faults;
                 self.current = file;
-                self.boundary = self.builder.rotation.next_date(moment);
                 // the old file is written no more, so what its close answers is passed over
                 let _ = self.folder.close_file(old);
                 Ok(())
@@ -181,8 +213,7 @@ impl<D: Folder> RollingFileAppender<D> {
             Err(failure) => match failure.error {
                 FolderError::OutOfMemory => Err(AllocError),
                 FolderError::Fault(fault) => {
-                    self.boundary = self.builder.rotation.next_date(moment);
-                    self.faults = faults.after_switch(fault);
+                    self.faults = self.faults.after_switch(fault);
                     Ok(())
                 }
             },
@@ -252,7 +283,7 @@ fn open_first<D: Folder>(
     requires { is_moment moment ≡ true }
     ensures begins { Begins (builder_names builder.now) moment (D.contents folder.old) result (D.contents folder.new) }
     ensures faults { (builder_names builder.now).limit ≡ None → IfOk result (λ opened. opened.faults ≡ no_faults) }
-    ensures counted { IfOk result (λ opened. Counts (D.failed folder.old) no_faults opened.faults
+    ensures counted { IfOk result (λ opened. CountsRetention (D.failed folder.old) no_faults opened.faults
         (D.failed folder.new)) }
     ensures error { ReportsTry (D.failed folder.old) result (D.failed folder.new) }
 {
@@ -260,13 +291,14 @@ fn open_first<D: Folder>(
         context: InitContext::File,
         error: FolderError::OutOfMemory,
     };
-    let Ok(name) = builder.name_at(alloc, moment) else {
+    let Ok(name) = builder.join_date(alloc, moment) else {
         return Err(starved);
     };
-    let Ok(faults) = prune(alloc, builder, folder, Faults::none()) else {
+    let mut faults = Faults::none();
+    let Ok(()) = prune_old_logs(alloc, builder, folder, &mut faults) else {
         return Err(starved);
     };
-    match open_linked(folder, name.as_str(), &builder.latest) {
+    match create_writer(folder, name.as_str(), &builder.latest) {
         Ok(file) => Ok(Opened { file, faults }),
         Err(failure) => Err(failure),
     }

@@ -122,7 +122,7 @@ impl Builder {
     }
 
     /// The name of the file of a moment's period, where it is the first that is opened.
-    pub(crate) fn name_at(&self, alloc: Global, moment: Moment) -> Result<String, AllocError>
+    pub(crate) fn join_date(&self, alloc: Global, moment: Moment) -> Result<String, AllocError>
         requires { is_moment moment ≡ true }
         ensures { IfOk result (λ name. string_bytes name
             ≡ file_name (builder_names self.now) moment.seconds (period_at (kind_of self.now.rotation) moment)) }

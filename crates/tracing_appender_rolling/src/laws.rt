@@ -4,7 +4,7 @@ ghost use Rattle.tracing_appender_rolling.specs.Handing.{LinesHaveOneEnd};
 ghost use Rattle.tracing_appender_rolling.specs.Looks.{LaterPeriodsAreDue};
 ghost use Rattle.tracing_appender_rolling.specs.Names.{NamesDiffer};
 ghost use Rattle.tracing_appender_rolling.specs.Sinks.{FilesByPeriod};
-ghost use Rattle.tracing_appender_rolling.specs.Reading.{LinesStandWhole, FilesReadInOrder, OwnFilesReadInOrder, LeftFilesReadInOrder, LinesKeepOldest, OldestGoFirst, OldestStayGone, RetentionSpares};
+ghost use Rattle.tracing_appender_rolling.specs.Reading.{LinesStandWhole, FilesReadInOrder, OwnFilesReadInOrder, RetentionSpares};
 ghost use Rattle.tracing_appender_rolling.specs.Remaining.{LeftByPeriod};
 
 /// Different periods have different file names.
@@ -37,15 +37,6 @@ pub fn lines_have_one_end()
 pub fn files_read_in_order()
     ensures all { FilesReadInOrder }
     ensures own { OwnFilesReadInOrder }
-{}
-
-/// Retention takes older files before newer ones. Where it did so, and files were empty at their opening,
-/// those that it left, read in byte order of their names, are the last handed lines in order.
-pub fn left_files_read_in_order()
-    ensures oldest { OldestGoFirst }
-    ensures stays { OldestStayGone }
-    ensures lines { LinesKeepOldest }
-    ensures reads { LeftFilesReadInOrder }
 {}
 
 /// Whatever a folder refuses, retention leaves the bytes of every file that it doesn't remove.

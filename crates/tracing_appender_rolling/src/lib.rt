@@ -19,8 +19,7 @@ pub use faults::Faults;
 pub use init::{InitContext, InitError};
 pub use laws::{
     files_by_period, files_read_in_order, later_periods_are_due, left_files_by_period,
-    left_files_read_in_order, lines_have_one_end, lines_stand_whole, names_differ,
-    retention_spares_others,
+    lines_have_one_end, lines_stand_whole, names_differ, retention_spares_others,
 };
 pub use rotation::Rotation;
 pub use tracing_appender_dates::{date_text, dates_count_days, names_rise, worked_dates};

@@ -5,7 +5,7 @@ ghost use Rattle.tracing_appender_folders.specs.Moments.{is_moment, is_due};
 ghost use Rattle.tracing_appender_rolling.specs.Builders.{builder_names};
 ghost use Rattle.tracing_appender_folders.specs.Contents.{Contents, Gives, failures_after, flushed, written};
 ghost use Rattle.tracing_appender_rolling.specs.Faults.{after_write, unit_of};
-ghost use Rattle.tracing_appender_rolling.specs.Telling.{Counts, CountsLine, ReportsAll, ReportsCall, ReportsWrites};
+ghost use Rattle.tracing_appender_rolling.specs.Telling.{ReportsCall, ReportsWrites};
 ghost use Rattle.tracing_appender_rolling.specs.Sinks.{PlainSink, with_handed};
 
 use crate::appender::RollingFileAppender;
@@ -14,6 +14,7 @@ use tracing_appender_folders::{Folder, FolderError, Moment};
 impl<D: Folder> RollingFileAppender<D> {
     ghost use Rattle.tracing_appender_rolling.specs.Appenders.{AgreesSink, Holds};
     ghost use Rattle.tracing_appender_rolling.specs.Looks.{Held};
+    ghost use Rattle.tracing_appender_rolling.specs.Anywhere.{LineAnywhere, WriteAnywhere};
     ghost use Rattle.tracing_appender_rolling.specs.Remaining.{PrunedSink, AgreesLeft, HandsLeft, with_line};
     ghost use Rattle.tracing_appender_rolling.specs.Handing.{HandsLine, WritesOnce, Misses, is_starved};
 
@@ -22,13 +23,14 @@ impl<D: Folder> RollingFileAppender<D> {
     ///
     /// # Errors
     ///
-    /// The fault of a write, or want of memory, which is no fault. A failed switch is only counted.
+    /// The fault of a write, or want of memory, which is no fault. A failed switch is only counted. Behind a look
+    /// that found no memory nothing is written; the next lines of the period go to the old file.
     pub fn write_all_at(&mut self, bytes: &[u8], moment: Moment) -> Result<(), FolderError>
         requires { is_moment moment ≡ true }
         ensures ok { is_starved result ≡ false → (s : PlainSink) → AgreesSink D.contents self.old s →
             AgreesSink D.contents self.new (with_handed s (record { line = bytes.now; moment = moment })) }
         ensures err { OnErr result ((s : PlainSink) → AgreesSink D.contents self.old s →
-            Misses D.contents s moment self.new) }
+            Misses D.contents self.old.boundary s moment self.new) }
         ensures handed { (h : Held) → Holds D.contents self.old h →
             HandsLine D.contents (builder_names self.old.builder) moment h bytes.now result self.new }
         // over a folder that refuses nothing, with retention or a link too
@@ -38,13 +40,10 @@ impl<D: Folder> RollingFileAppender<D> {
             e ≡ FolderError.OutOfMemory) }
         ensures names { builder_names self.new.builder ≡ builder_names self.old.builder }
         ensures error { ReportsWrites (D.failed self.old.folder) result (length bytes.now) (D.failed self.new.folder) }
-        // within the period of the last try the folder is asked for writes alone
-        ensures early { is_due self.old.boundary moment.seconds ≡ false →
-            ReportsAll (D.failed self.old.folder) result (length bytes.now) (D.failed self.new.folder) }
-        ensures counted { CountsLine (D.failed self.old.folder) self.old.faults self.new.faults result
-            (length bytes.now) (D.failed self.new.folder) }
+        // over any folder
+        ensures anywhere { LineAnywhere D.failed moment (length bytes.now) result self.old self.new }
     {
-        self.look(moment)?;
+        self.roll(moment)?;
         self.push(bytes)
     }
 
@@ -52,7 +51,7 @@ impl<D: Folder> RollingFileAppender<D> {
     ///
     /// # Errors
     ///
-    /// The fault of the write, or want of memory, which is no fault. A failed switch is only counted.
+    /// As `write_all_at`.
     pub fn write_at(&mut self, bytes: &[u8], moment: Moment) -> Result<usize, FolderError>
         requires { is_moment moment ≡ true }
         ensures bound { IfOk result (λ n. n ≤ length bytes.now) }
@@ -61,7 +60,7 @@ impl<D: Folder> RollingFileAppender<D> {
         ensures agrees { IfOk result (λ n. (s : PlainSink) → AgreesSink D.contents self.old s →
             AgreesSink D.contents self.new (with_handed s (record { line = take n bytes.now; moment = moment }))) }
         ensures missed { OnErr result ((s : PlainSink) → AgreesSink D.contents self.old s →
-            Misses D.contents s moment self.new) }
+            Misses D.contents self.old.boundary s moment self.new) }
         // over a folder that refuses nothing, with retention or a link too
         ensures state { IfOk result (λ n. (c : Contents) (p : PrunedSink) → D.contents self.old.folder ≡ Some c →
             AgreesLeft D.contents self.old p → HandsLeft D.contents p (take n bytes.now) moment c self.old self.new) }
@@ -69,12 +68,10 @@ impl<D: Folder> RollingFileAppender<D> {
             e ≡ FolderError.OutOfMemory) }
         ensures names { builder_names self.new.builder ≡ builder_names self.old.builder }
         ensures error { ReportsCall (D.failed self.old.folder) result (D.failed self.new.folder) }
-        // within the period of the last try the folder is asked for the write alone
-        ensures early { is_due self.old.boundary moment.seconds ≡ false →
-            D.failed self.new.folder ≡ failures_after (D.failed self.old.folder) result }
-        ensures counted { Counts (D.failed self.old.folder) self.old.faults self.new.faults (D.failed self.new.folder) }
+        // over any folder
+        ensures anywhere { WriteAnywhere D.failed moment result self.old self.new }
     {
-        self.look(moment)?;
+        self.roll(moment)?;
         self.write_once(bytes)
     }
 
@@ -97,7 +94,6 @@ impl<D: Folder> RollingFileAppender<D> {
             (e ≡ FolderError.OutOfMemory) × AgreesLeft D.contents self.new p) }
         ensures still { self.new ≡ record self.old { folder = self.new.folder; faults = self.new.faults } }
         ensures error { ReportsCall (D.failed self.old.folder) result (D.failed self.new.folder) }
-        ensures counted { Counts (D.failed self.old.folder) self.old.faults self.new.faults (D.failed self.new.folder) }
     {
         match self.folder.write(self.current, bytes) {
             Ok(taken) => Ok(taken),

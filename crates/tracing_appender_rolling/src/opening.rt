@@ -4,14 +4,14 @@ ghost use Rattle.std.specs.Prelude.{◌≡◌, string_bytes};
 ghost use Rattle.std.specs.Option.{option_map};
 ghost use Rattle.tracing_appender_rolling.specs.Tries.{Tries, TriesFile, Unlinked, made_again, opened_twice, linked_to};
 ghost use Rattle.tracing_appender_rolling.specs.Telling.{ReportsTry};
-ghost use Rattle.tracing_appender_rolling.specs.Writes.{Unchanged};
+ghost use Rattle.tracing_appender_rolling.specs.Writes.{Fruitless};
 
 use crate::init::{InitContext, InitFailure};
 use tracing_appender_folders::{FileNumber, Folder, FolderError};
 
 /// Opens a file. Where that is refused, the directories are made and it is tried once more.
 fn open_twice<D: Folder>(folder: &mut D, name: &str) -> Result<FileNumber, InitFailure>
-    ensures tries { Tries Unchanged (opened_twice name.now) (D.contents folder.old) result (D.contents folder.new) }
+    ensures tries { Tries Fruitless (opened_twice name.now) (D.contents folder.old) result (D.contents folder.new) }
     ensures error { ReportsTry (D.failed folder.old) result (D.failed folder.new) }
 {
     match folder.open_append(name) {
@@ -26,7 +26,7 @@ fn open_twice<D: Folder>(folder: &mut D, name: &str) -> Result<FileNumber, InitF
 
 /// Makes the directories and opens a file.
 fn open_made<D: Folder>(folder: &mut D, name: &str) -> Result<FileNumber, InitFailure>
-    ensures tries { Tries Unchanged (made_again name.now) (D.contents folder.old) result (D.contents folder.new) }
+    ensures tries { Tries Fruitless (made_again name.now) (D.contents folder.old) result (D.contents folder.new) }
     ensures error { ReportsTry (D.failed folder.old) result (D.failed folder.new) }
 {
     if let Err(error) = folder.create_dirs() {
@@ -68,7 +68,7 @@ fn link_file<D: Folder>(
 }
 
 /// Opens a file, and links the name of the latest one to it where there is such a name.
-pub(crate) fn open_linked<D: Folder>(
+pub(crate) fn create_writer<D: Folder>(
     folder: &mut D,
     name: &str,
     latest: &Option<String>,

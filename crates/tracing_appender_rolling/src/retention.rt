@@ -2,15 +2,18 @@
 
 ghost use Rattle.std.specs.Prelude.{◌≡◌, ◌≤◌, [], ◌∷◌, None, Ok, IfOk, OnOk, map, length, string_bytes};
 ghost use Rattle.std.specs.Option.{option_map};
+ghost use Rattle.std.specs.Ordering.{is_lt};
+ghost use Rattle.std.specs.List.Sorted.{IsPermutation, IsSortedBy};
 ghost use Rattle.tracing_appender_rolling.specs.Builders.{builder_names};
 ghost use Rattle.tracing_appender_folders.specs.Listings.{listed_of};
-ghost use Rattle.tracing_appender_rolling.specs.Retention.{Tells, made_of, begins, ends, is_before, before_count, goes, IsAdded, IsCandidates, candidate_of};
-ghost use Rattle.tracing_appender_rolling.specs.Pruning.{Removes, Prunes, doomed, doomed_of};
-ghost use Rattle.tracing_appender_rolling.specs.Telling.{CountsOk, CountsOnce};
+ghost use Rattle.tracing_appender_rolling.specs.Retention.{Tells, made_of, begins, ends, is_before, goes_by, GoesBy, IsAdded, IsCandidates, candidate_of};
+ghost use Rattle.tracing_appender_rolling.specs.Pruning.{Removes, RemovesDoomed, Prunes, names_by};
+ghost use Rattle.tracing_appender_rolling.specs.Telling.{CountsRetention};
 
 use crate::builder::Builder;
 use crate::faults::Faults;
 use std::alloc::{AllocError, Global};
+use std::cmp::Ordering;
 use tracing_appender_dates::read_name;
 use tracing_appender_folders::{Entry, Folder, FolderError, Moment};
 
@@ -108,100 +111,153 @@ fn is_before(one: &Candidate<'_>, other: &Candidate<'_>) -> bool
     one.made.is_earlier(other.made) || !other.made.is_earlier(one.made) && one.name < other.name
 }
 
-/// How many stand before a candidate.
-fn count_before(all: &[Candidate<'_>], candidate: &Candidate<'_>) -> usize
-    ensures count { result ≡ before_count (candidate_of candidate.now) (map candidate_of all.now) }
-    ensures bound { result ≤ length all.now }
+/// The order in which candidates go.
+fn order(one: &Candidate<'_>, other: &Candidate<'_>) -> Ordering
+    ensures { is_lt result ≡ is_before (candidate_of one.now) (candidate_of other.now) }
 {
-    let mut count = 0;
-    for other in all {
-        if is_before(other, candidate) {
-            count += 1;
-        }
+    if is_before(one, other) {
+        return Ordering::Less;
     }
-    count
+    if is_before(other, one) {
+        return Ordering::Greater;
+    }
+    Ordering::Equal
 }
 
-/// Whether a candidate goes: too many stand behind it for a new file beside them.
-fn is_doomed(all: &[Candidate<'_>], candidate: &Candidate<'_>, limit: usize) -> bool
-    ensures { result ≡ goes limit (map candidate_of all.now) (candidate_of candidate.now) }
+fn sort_candidates(all: &mut Vec<Candidate<'_>>)
+    ensures same { IsPermutation all.old.items all.new.items }
+    ensures sorted { IsSortedBy (λ a b. is_before (candidate_of a) (candidate_of b)) all.new.items }
 {
-    limit <= all.len() - count_before(all, candidate)
+    all.sort_unstable_by(|one, other| order(one, other));
+}
+
+/// The last candidate that goes, so that a new file has room beside those behind it; none where all go.
+fn last_doomed<'a>(
+    alloc: Global,
+    all: &[Candidate<'a>],
+    limit: usize,
+) -> Result<Option<Candidate<'a>>, AllocError>
+    requires { limit ≤ length all.now }
+    ensures { IfOk result (λ last. GoesBy limit (map candidate_of all.now) (option_map candidate_of last)) }
+{
+    let mut sorted = Vec::from_slice(alloc, all)?;
+    sort_candidates(&mut sorted);
+    let place = all.len() - limit;
+    if place < sorted.len() {
+        Ok(Some(sorted[place]))
+    } else {
+        Ok(None)
+    }
+}
+
+/// Whether a candidate stands no further behind than the last one that goes.
+fn is_doomed(last: &Option<Candidate<'_>>, candidate: &Candidate<'_>) -> bool
+    ensures { result ≡ goes_by (option_map candidate_of last.now) (candidate_of candidate.now) }
+{
+    match last {
+        None => true,
+        Some(last) => !is_before(last, candidate),
+    }
 }
 
 /// Removes a file. A fault is counted.
-fn remove_file<D: Folder>(folder: &mut D, name: &str, faults: Faults) -> Result<Faults, AllocError>
-    ensures removes { Removes (name.now ∷ []) faults (D.contents folder.old) result (D.contents folder.new) }
-    ensures once { CountsOnce (D.failed folder.old) faults result (D.failed folder.new) }
-    ensures error { CountsOk (D.failed folder.old) faults result (D.failed folder.new) }
+fn remove_file<D: Folder>(folder: &mut D, name: &str, faults: &mut Faults) -> Result<(), AllocError>
+    ensures removes { Removes (name.now ∷ []) faults.old (D.contents folder.old) result faults.new
+        (D.contents folder.new) }
+    ensures counts { CountsRetention (D.failed folder.old) faults.old faults.new (D.failed folder.new) }
 {
     match folder.remove(name) {
-        Ok(()) => Ok(faults),
+        Ok(()) => Ok(()),
         Err(FolderError::OutOfMemory) => Err(AllocError),
-        Err(FolderError::Fault(fault)) => Ok(faults.after_retention(fault)),
+        Err(FolderError::Fault(fault)) => {
+            *faults = faults.after_retention(fault);
+            Ok(())
+        }
     }
 }
 
 /// Removes a candidate where it goes.
 fn remove_if_doomed<D: Folder>(
     folder: &mut D,
-    all: &[Candidate<'_>],
+    last: &Option<Candidate<'_>>,
     candidate: &Candidate<'_>,
-    limit: usize,
-    faults: Faults,
-) -> Result<Faults, AllocError>
-    ensures removes { Removes (doomed_of limit (map candidate_of all.now) (candidate_of candidate.now ∷ [])) faults
-        (D.contents folder.old) result (D.contents folder.new) }
-    ensures once { CountsOnce (D.failed folder.old) faults result (D.failed folder.new) }
-    ensures error { CountsOk (D.failed folder.old) faults result (D.failed folder.new) }
+    faults: &mut Faults,
+) -> Result<(), AllocError>
+    ensures removes { Removes (names_by (goes_by (option_map candidate_of last.now)) (candidate_of candidate.now ∷ []))
+        faults.old (D.contents folder.old) result faults.new (D.contents folder.new) }
+    ensures counts { CountsRetention (D.failed folder.old) faults.old faults.new (D.failed folder.new) }
 {
-    if !is_doomed(all, candidate, limit) {
-        return Ok(faults);
+    if !is_doomed(last, candidate) {
+        return Ok(());
     }
-    let left = remove_file(folder, candidate.name, faults)?;
-    Ok(left)
+    remove_file(folder, candidate.name, faults)?;
+    Ok(())
 }
 
-/// Removes the candidates that go. A fault is counted, and the work goes on.
+/// Removes the candidates that stand up to the last one. A fault is counted, and the work goes on.
+fn remove_up_to<D: Folder>(
+    folder: &mut D,
+    all: &[Candidate<'_>],
+    last: &Option<Candidate<'_>>,
+    faults: &mut Faults,
+) -> Result<(), AllocError>
+    ensures removes { Removes (names_by (goes_by (option_map candidate_of last.now)) (map candidate_of all.now))
+        faults.old (D.contents folder.old) result faults.new (D.contents folder.new) }
+    ensures counts { CountsRetention (D.failed folder.old) faults.old faults.new (D.failed folder.new) }
+{
+    for candidate in all {
+        remove_if_doomed(folder, last, candidate, faults)?;
+    }
+    Ok(())
+}
+
+/// Removes the candidates that go. They are sorted once.
 fn remove_doomed<D: Folder>(
+    alloc: Global,
     folder: &mut D,
     all: &[Candidate<'_>],
     limit: usize,
-    faults: Faults,
-) -> Result<Faults, AllocError>
-    ensures removes { Removes (doomed limit (map candidate_of all.now)) faults (D.contents folder.old) result
-        (D.contents folder.new) }
-    ensures error { CountsOk (D.failed folder.old) faults result (D.failed folder.new) }
+    faults: &mut Faults,
+) -> Result<(), AllocError>
+    ensures removes { RemovesDoomed limit (map candidate_of all.now) faults.old (D.contents folder.old) result
+        faults.new (D.contents folder.new) }
+    ensures counts { CountsRetention (D.failed folder.old) faults.old faults.new (D.failed folder.new) }
 {
-    let mut faults = faults;
-    for candidate in all {
-        faults = remove_if_doomed(folder, all, candidate, limit, faults)?;
+    if all.len() < limit {
+        return Ok(());
     }
-    Ok(faults)
+    let last = last_doomed(alloc, all, limit)?;
+    remove_up_to(folder, all, &last, faults)?;
+    Ok(())
 }
 
 /// Removes the files that go where one more is to be opened, where there is a limit. A fault is counted, and
-/// the work goes on.
-pub(crate) fn prune<D: Folder>(
+/// the work goes on; want of memory ends it.
+pub(crate) fn prune_old_logs<D: Folder>(
     alloc: Global,
     builder: &Builder,
     folder: &mut D,
-    faults: Faults,
-) -> Result<Faults, AllocError>
-    ensures pruned { Prunes (builder_names builder.now) faults (D.contents folder.old) result (D.contents folder.new) }
-    ensures error { CountsOk (D.failed folder.old) faults result (D.failed folder.new) }
-    ensures unlimited { (builder_names builder.now).limit ≡ None → (result ≡ Ok faults) × (folder.new ≡ folder.old) }
+    faults: &mut Faults,
+) -> Result<(), AllocError>
+    ensures pruned { Prunes (builder_names builder.now) faults.old (D.contents folder.old) result faults.new
+        (D.contents folder.new) }
+    ensures counts { CountsRetention (D.failed folder.old) faults.old faults.new (D.failed folder.new) }
+    ensures unlimited { (builder_names builder.now).limit ≡ None →
+        (result ≡ Ok tt) × (faults.new ≡ faults.old) × (folder.new ≡ folder.old) }
 {
     let Some(limit) = builder.limit else {
-        return Ok(faults);
+        return Ok(());
     };
     match folder.list() {
         Ok(entries) => {
             let all = candidates(alloc, builder, entries.as_slice())?;
-            let left = remove_doomed(folder, all.as_slice(), limit, faults)?;
-            Ok(left)
+            remove_doomed(alloc, folder, all.as_slice(), limit, faults)?;
+            Ok(())
         }
         Err(FolderError::OutOfMemory) => Err(AllocError),
-        Err(FolderError::Fault(fault)) => Ok(faults.after_retention(fault)),
+        Err(FolderError::Fault(fault)) => {
+            *faults = faults.after_retention(fault);
+            Ok(())
+        }
     }
 }

@@ -8,17 +8,20 @@ mod rolling;
 mod system;
 
 use crate::{
-    Builder, Entry, FileNumber, Folder, FolderError, FolderFault, InitContext, InitError,
-    MemoryFolder, Moment, RollingFileAppender, Rotation, date_text,
+    BuildError, Builder, Entry, FileNumber, Folder, FolderError, FolderFault, InitContext,
+    InitError, MemoryFolder, Moment, Rotation, date_text,
 };
 use moments::{MONDAY_MIDNIGHT, TUESDAY_MIDNIGHT};
 use std::alloc::{AllocError, Global};
 use std::test::Fail;
 
-/// A folder that opens so many files, and takes one byte at a write.
+/// A folder that opens so many files and lists so many times, with no memory after that, and takes one byte at a
+/// write.
 #[derive(Drop)]
 struct SlowFolder {
+    alloc: Global,
     openings: usize,
+    listings: usize,
     written: Vec<(usize, u8)>,
     failures: u64,
 }
@@ -26,7 +29,9 @@ struct SlowFolder {
 impl SlowFolder {
     fn new(alloc: Global, openings: usize) -> SlowFolder {
         SlowFolder {
+            alloc,
             openings,
+            listings: 1,
             written: Vec::new(alloc),
             failures: 0,
         }
@@ -72,7 +77,11 @@ impl Folder for SlowFolder {
     }
 
     fn list(&mut self) -> Result<Vec<Entry>, FolderError> {
-        Err(FolderError::OutOfMemory)
+        if self.listings == 0 {
+            return Err(FolderError::OutOfMemory);
+        }
+        self.listings -= 1;
+        Ok(Vec::new(self.alloc))
     }
 
     fn remove(&mut self, _name: &str) -> Result<(), FolderError> {
@@ -102,13 +111,9 @@ fn builder(alloc: Global, prefix: &str, suffix: &str) -> Result<Builder, AllocEr
 /// The name of the only file of a fresh appender.
 fn first_name(alloc: Global, prefix: &str, suffix: &str) -> Result<String, Fail> {
     let folder = MemoryFolder::new(alloc);
-    let appender = RollingFileAppender::open(
-        alloc,
-        builder(alloc, prefix, suffix)?,
-        folder,
-        MONDAY_MIDNIGHT,
-    )
-    .map_err(|refusal| refusal.error)?;
+    let appender = builder(alloc, prefix, suffix)?
+        .build(alloc, folder, MONDAY_MIDNIGHT)
+        .map_err(|refusal| refusal.error)?;
     let entries = appender.folder().files()?;
     let entry = entries.first().ok_or("no file")?;
     Ok(String::from_str(alloc, entry.name)?)
@@ -174,18 +179,12 @@ fn a_late_line_stays_with_the_later_day(rt: HostRuntime) -> Result<(), Fail> {
     folder.put("app.2025-02-17", b"old\n", Some(MONDAY_MIDNIGHT))?;
     folder.put("app.2025-02-18", b"gone\n", None)?;
     folder.put("app.2025-02-18", b"found\n", None)?;
-    let mut appender = RollingFileAppender::open(
-        alloc,
-        builder(alloc, "app", "")?,
-        folder,
-        MONDAY_MIDNIGHT,
-    ).map_err(|refusal| refusal.error)?;
-    appender.look(MONDAY_MIDNIGHT)?;
-    appender.push(b"one\n")?;
-    appender.look(TUESDAY_MIDNIGHT)?;
-    appender.push(b"two\n")?;
-    appender.look(MONDAY_MIDNIGHT)?;
-    appender.push(b"late\n")?;
+    let mut appender = builder(alloc, "app", "")?
+        .build(alloc, folder, MONDAY_MIDNIGHT)
+        .map_err(|refusal| refusal.error)?;
+    appender.write_all_at(b"one\n", MONDAY_MIDNIGHT)?;
+    appender.write_all_at(b"two\n", TUESDAY_MIDNIGHT)?;
+    appender.write_all_at(b"late\n", MONDAY_MIDNIGHT)?;
     assert_eq!(rt; appender.faults().switches, 0);
     let folder = appender.into_folder();
     assert_eq!(rt; folder.failures(), 0);
@@ -218,16 +217,12 @@ fn files_are_in_order(rt: HostRuntime) -> Result<(), Fail> {
 fn a_failed_switch_keeps_the_old_file(rt: HostRuntime) -> Result<(), Fail> {
     let alloc = rt.alloc();
     let folder = SlowFolder::new(alloc, 1);
-    let mut appender = RollingFileAppender::open(
-        alloc,
-        builder(alloc, "app", "")?,
-        folder,
-        MONDAY_MIDNIGHT,
-    ).map_err(|refusal| refusal.error)?;
-    appender.push(b"ab")?;
-    appender.look(TUESDAY_MIDNIGHT)?;
-    appender.look(TUESDAY_MIDNIGHT)?;
-    appender.push(b"c")?;
+    let mut appender = builder(alloc, "app", "")?
+        .build(alloc, folder, MONDAY_MIDNIGHT)
+        .map_err(|refusal| refusal.error)?;
+    appender.write_all_at(b"ab", MONDAY_MIDNIGHT)?;
+    appender.write_all_at(b"", TUESDAY_MIDNIGHT)?;
+    appender.write_all_at(b"c", TUESDAY_MIDNIGHT)?;
     let faults = appender.faults();
     assert_eq!(rt; faults.switches, 1);
     assert_eq!(rt; faults.writes, 0);
@@ -237,20 +232,82 @@ fn a_failed_switch_keeps_the_old_file(rt: HostRuntime) -> Result<(), Fail> {
     Ok(())
 }
 
+/// The look of the first line of a period finds no memory for its listing. The next lines go to the old file and
+/// list no more.
+#[test]
+fn a_look_without_memory_is_made_once(rt: HostRuntime) -> Result<(), Fail> {
+    let alloc = rt.alloc();
+    let mut appender = builder(alloc, "app", "")?
+        .max_log_files(2)
+        .build(alloc, SlowFolder::new(alloc, 2), MONDAY_MIDNIGHT)
+        .map_err(|refusal| refusal.error)?;
+    assert_eq!(rt;
+        appender.write_all_at(b"a", TUESDAY_MIDNIGHT),
+        Err(FolderError::OutOfMemory)
+    );
+    appender.write_all_at(b"b", TUESDAY_MIDNIGHT)?;
+    assert_eq!(rt; appender.write_at(b"c", TUESDAY_MIDNIGHT)?, 1);
+    assert_eq!(rt; appender.faults().switches, 0);
+    assert_eq!(rt; appender.faults().retentions, 0);
+    let written = appender.folder().written.as_slice();
+    assert_eq!(rt; written, [(1, b'b'), (1, b'c')].as_slice());
+    Ok(())
+}
+
 #[test]
 fn a_refused_folder_comes_back(rt: HostRuntime) -> Result<(), Fail> {
     let alloc = rt.alloc();
     let folder = SlowFolder::new(alloc, 0);
-    match RollingFileAppender::open(alloc, builder(alloc, "a/b", "")?, folder, MONDAY_MIDNIGHT) {
-        Ok(_) => Err("opened".into()),
+    match builder(alloc, "app", "")?.build(alloc, folder, MONDAY_MIDNIGHT) {
+        Ok(_) => Err("built".into()),
         Err(refusal) => {
-            assert_eq!(rt; refusal.error, FolderError::Fault(FolderFault::Refused));
-            assert!(rt; refusal.builder.has_bad_name());
-            assert_eq!(rt; refusal.context, InitContext::File);
+            let error = InitError {
+                context: InitContext::File,
+                source: FolderFault::Refused,
+            };
+            assert_eq!(rt; refusal.error, BuildError::Init(error));
+            let link = String::from_str(alloc, "app.2025-02-17")?;
+            assert!(rt; refusal.builder.latest_symlink(link).has_bad_link());
             assert_eq!(rt; refusal.folder.failures(), 2);
             Ok(())
         }
     }
+}
+
+/// What a try that failed so prints.
+fn init_text(
+    alloc: Global,
+    context: InitContext,
+    source: FolderFault,
+) -> Result<String, AllocError> {
+    let error = InitError { context, source };
+    format!(in alloc; "{error}")
+}
+
+#[test]
+fn refused_openings_have_texts(rt: HostRuntime) -> Result<(), Fail> {
+    let alloc = rt.alloc();
+    assert_eq!(rt;
+        init_text(alloc, InitContext::Directory, FolderFault::NotFound)?.as_str(),
+        "failed to create log directory: not found"
+    );
+    assert_eq!(rt;
+        init_text(alloc, InitContext::File, FolderFault::Refused)?.as_str(),
+        "failed to create log file: refused"
+    );
+    assert_eq!(rt;
+        init_text(alloc, InitContext::Link, FolderFault::Unsupported)?.as_str(),
+        "failed to create symlink to latest log file: unsupported"
+    );
+    let error = BuildError::Init(InitError {
+        context: InitContext::File,
+        source: FolderFault::WriteZero,
+    });
+    assert_eq!(rt;
+        format!(in alloc; "{error}")?.as_str(),
+        "failed to create log file: write took no bytes"
+    );
+    Ok(())
 }
 
 #[test]
@@ -260,14 +317,6 @@ fn faults_have_texts(rt: HostRuntime) -> Result<(), Fail> {
     assert_eq!(rt;
         format!(in alloc; "{fault}")?.as_str(),
         "write took no bytes"
-    );
-    let init = InitError {
-        context: InitContext::Directory,
-        source: FolderFault::NotFound,
-    };
-    assert_eq!(rt;
-        format!(in alloc; "{init}")?.as_str(),
-        "failed to create log directory: not found"
     );
     let memory = FolderError::from(AllocError);
     assert_eq!(rt; format!(in alloc; "{memory}")?.as_str(), "out of memory");

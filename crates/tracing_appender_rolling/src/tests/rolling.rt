@@ -5,7 +5,7 @@ ghost use Rattle.tracing_appender_folders.specs.Moments.{is_moment};
 
 mod refused_calls;
 
-use crate::tests::moments::{FEBRUARY, FIRST, LAST, MONDAY};
+use crate::tests::moments::{ELEVEN, FEBRUARY, FIRST, LAST, MONDAY};
 use crate::{
     BuildError, Builder, MemoryFolder, Moment, RollingFileAppender, Rotation, daily, hourly,
     minutely, never, weekly,
@@ -114,6 +114,64 @@ fn a_prefix_or_a_suffix_stands_alone(rt: HostRuntime) -> Result<(), Fail> {
     assert_eq!(rt; suffix.as_str(), "2025-02-17.log");
     let minute = first_name(alloc, named(alloc, Rotation::MINUTELY, "", "log")?, MONDAY)?;
     assert_eq!(rt; minute.as_str(), "2025-02-17-10-01.log");
+    Ok(())
+}
+
+/// The names of a fresh file of each rotation but the weekly one, on 2020-02-01 at 10:01.
+fn has_names(alloc: Global, prefix: &str, suffix: &str, names: [&str; 4]) -> Result<bool, Fail> {
+    let [minute, hour, day, whole] = names;
+    let by_minute = first_name(
+        alloc,
+        named(alloc, Rotation::MINUTELY, prefix, suffix)?,
+        FEBRUARY,
+    )?;
+    let by_hour = first_name(
+        alloc,
+        named(alloc, Rotation::HOURLY, prefix, suffix)?,
+        FEBRUARY,
+    )?;
+    let by_day = first_name(
+        alloc,
+        named(alloc, Rotation::DAILY, prefix, suffix)?,
+        FEBRUARY,
+    )?;
+    let lasting = first_name(
+        alloc,
+        named(alloc, Rotation::NEVER, prefix, suffix)?,
+        FEBRUARY,
+    )?;
+    Ok(
+        by_minute.as_str() == minute
+            && by_hour.as_str() == hour
+            && by_day.as_str() == day
+            && lasting.as_str() == whole,
+    )
+}
+
+#[test]
+fn each_rotation_names_its_file(rt: HostRuntime) -> Result<(), Fail> {
+    let alloc = rt.alloc();
+    let prefixed = [
+        "app.log.2020-02-01-10-01",
+        "app.log.2020-02-01-10",
+        "app.log.2020-02-01",
+        "app.log",
+    ];
+    assert!(rt; has_names(alloc, "app.log", "", prefixed)?);
+    let suffixed = [
+        "2020-02-01-10-01.log",
+        "2020-02-01-10.log",
+        "2020-02-01.log",
+        "log",
+    ];
+    assert!(rt; has_names(alloc, "", "log", suffixed)?);
+    let both = [
+        "app.2020-02-01-10-01.log",
+        "app.2020-02-01-10.log",
+        "app.2020-02-01.log",
+        "app.log",
+    ];
+    assert!(rt; has_names(alloc, "app", "log", both)?);
     Ok(())
 }
 
@@ -263,6 +321,31 @@ fn a_link_leads_to_the_latest_file(rt: HostRuntime) -> Result<(), Fail> {
         Some("t.2020-02-01-11")
     );
     assert!(rt; holds(appender.folder(), "t.2020-02-01-11", b"test\n")?);
+    // no other file is opened at 11:01:00
+    appender.write_all_at(b"again\n", ELEVEN)?;
+    assert_eq!(rt;
+        appender.folder().link_target("latest.log"),
+        Some("t.2020-02-01-11")
+    );
+    assert!(rt; holds(appender.folder(), "t.2020-02-01-11", b"test\nagain\n")?);
+    Ok(())
+}
+
+#[test]
+fn a_link_moves_in_the_next_hour(rt: HostRuntime) -> Result<(), Fail> {
+    let alloc = rt.alloc();
+    let link = String::from_str(alloc, "latest.log")?;
+    let mut appender = named(alloc, Rotation::HOURLY, "t", "")?
+        .latest_symlink(link)
+        .build(alloc, MemoryFolder::new(alloc), FEBRUARY)
+        .map_err(|refusal| refusal.error)?;
+    appender.write_all_at(b"late\n", ELEVEN)?;
+    assert_eq!(rt;
+        appender.folder().link_target("latest.log"),
+        Some("t.2020-02-01-11")
+    );
+    assert!(rt; holds(appender.folder(), "t.2020-02-01-10", b"")?);
+    assert!(rt; holds(appender.folder(), "t.2020-02-01-11", b"late\n")?);
     Ok(())
 }
 

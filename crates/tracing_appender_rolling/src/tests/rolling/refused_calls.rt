@@ -1,10 +1,10 @@
 //! Folders that refuse a call, or take few bytes.
 
 use super::{holds, later, named};
-use crate::tests::moments::FEBRUARY;
+use crate::tests::moments::{FEBRUARY, MONDAY};
 use crate::{
     BuildError, FaultyFolder, Folder, FolderError, FolderFault, InitContext, InitError,
-    MemoryFolder, RollingFileAppender, Rotation, daily, hourly,
+    MemoryFolder, Moment, RollingFileAppender, Rotation, daily, hourly,
 };
 use std::alloc::Global;
 use std::test::Fail;
@@ -138,6 +138,28 @@ fn an_opening_is_tried_twice_in_a_period(rt: HostRuntime) -> Result<(), Fail> {
     assert_eq!(rt; files.files()?.len(), 2);
     assert!(rt; holds(files, "t.2020-02-01-10", b"ab")?);
     assert!(rt; holds(files, "t.2020-02-01-12", b"c")?);
+    Ok(())
+}
+
+/// The day whose file was refused leaves its lines in the file of the day before.
+#[test]
+fn a_refused_day_stays_in_the_file_before(rt: HostRuntime) -> Result<(), Fail> {
+    let alloc = rt.alloc();
+    // opened at call 1; call 2 is the next day's first opening, call 3 makes the directories, call 4 opens again
+    let refused = Vec::from_slice(alloc, &[2, 4])?;
+    let folder = FaultyFolder::new(MemoryFolder::new(alloc), refused);
+    let prefix = String::from_str(alloc, "t")?;
+    let mut appender = daily(alloc, folder, prefix, MONDAY).map_err(|refusal| refusal.error)?;
+    appender.write_all_at(b"a", Moment::new(1_739_836_800, 0)?)?;
+    appender.write_all_at(b"b", Moment::new(1_739_880_000, 0)?)?;
+    appender.write_all_at(b"c", Moment::new(1_739_923_200, 0)?)?;
+    assert_eq!(rt; appender.faults().switches, 1);
+    assert_eq!(rt; appender.faults().retentions, 0);
+    assert_eq!(rt; appender.faults().writes, 0);
+    let files = appender.folder().inner();
+    assert_eq!(rt; files.files()?.len(), 2);
+    assert!(rt; holds(files, "t.2025-02-17", b"ab")?);
+    assert!(rt; holds(files, "t.2025-02-19", b"c")?);
     Ok(())
 }
 

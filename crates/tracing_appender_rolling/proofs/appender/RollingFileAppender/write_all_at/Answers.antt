@@ -7,15 +7,15 @@ use Rattle.tracing_appender_rolling.proofs.appender.RollingFileAppender.write_al
 
 pub returns-clause-handed : goal.returns-clause-handed
 returns-clause-handed g c = λ h holds.
-    hands g.D.Folder.contents (builder_names c.args.self.now.builder) c.args.moment h c.args.bytes.now c.push.result c.look.new.self c.push.new.self (c.in_ok-look.ensures.looked h holds) c.push.ensures.still c.push.ensures.faults c.push.ensures.written
+    hands g.D.Folder.contents (builder_names c.args.self.now.builder) c.args.moment h c.args.bytes.now c.push.result c.roll.new.self c.push.new.self (c.in_ok-roll.ensures.looked h holds) c.push.ensures.still c.push.ensures.faults c.push.ensures.written
 
 pub returns-clause-ok : goal.returns-clause-ok
 returns-clause-ok g c = λ fed s agrees.
-    line_agrees g.D.Folder.contents c.args.bytes.now c.args.moment s c.push.result c.look.new.self c.push.new.self fed (c.in_ok-look.ensures.ok s agrees) c.push.ensures.ok c.push.ensures.unfaulted c.push.ensures.written
+    line_agrees g.D.Folder.contents c.args.bytes.now c.args.moment s c.push.result c.roll.new.self c.push.new.self fed (c.in_ok-roll.ensures.ok s agrees) c.push.ensures.ok c.push.ensures.unfaulted c.push.ensures.written
 
 pub returns-clause-state : goal.returns-clause-state
-returns-clause-state g c = line_hands g.D.Folder.contents c.args.moment c.args.bytes.now c.args.self.now c.look.new.self c.push.new.self c.in_ok-look.ensures.state (ap (λ (x : RollingFileAppender _). x.current) c.push.ensures.still) c.push.result c.push.ensures.faults c.push.ensures.state
-    (push_opens (g.D.Folder.contents c.look.new.self.folder) (g.D.Folder.contents c.push.new.self.folder) c.look.new.self.current c.args.bytes.now c.push.result c.push.ensures.written)
+returns-clause-state g c = line_hands g.D.Folder.contents c.args.moment c.args.bytes.now c.args.self.now c.roll.new.self c.push.new.self c.in_ok-roll.ensures.state (ap (λ (x : RollingFileAppender _). x.current) c.push.ensures.still) c.push.result c.push.ensures.faults c.push.ensures.state
+    (push_opens (g.D.Folder.contents c.roll.new.self.folder) (g.D.Folder.contents c.push.new.self.folder) c.roll.new.self.current c.args.bytes.now c.push.result c.push.ensures.written)
 
 pub returns-clause-starved : goal.returns-clause-starved
-returns-clause-starved g c = line_starves g.D.Folder.contents c.args.moment c.args.bytes.now c.args.self.now c.look.new.self c.push.new.self c.in_ok-look.ensures.state (ap (λ (x : RollingFileAppender _). x.current) c.push.ensures.still) c.push.result c.push.ensures.starved
+returns-clause-starved g c = line_starves g.D.Folder.contents c.args.moment c.args.bytes.now c.args.self.now c.roll.new.self c.push.new.self c.in_ok-roll.ensures.state (ap (λ (x : RollingFileAppender _). x.current) c.push.ensures.still) c.push.result c.push.ensures.starved

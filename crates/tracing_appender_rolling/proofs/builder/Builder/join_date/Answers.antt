@@ -2,7 +2,7 @@ use Rattle.std.proofs.Common.{◌∙◌, ap}
 use Rattle.tracing_appender_dates.specs.Names.{name_at}
 use Rattle.tracing_appender_rolling.specs.Builders.{builder_names}
 use Rattle.tracing_appender_rolling.proofs.PeriodFacts.{name_is, taken_second}
-use Rattle.tracing_appender_rolling.proofs.builder.Builder.name_at.Goals as goal
+use Rattle.tracing_appender_rolling.proofs.builder.Builder.join_date.Goals as goal
 
 pub returns : goal.returns
 returns c =
