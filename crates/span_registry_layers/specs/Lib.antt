@@ -79,6 +79,7 @@ pub use Rattle.span_registry_layers_stack.specs.declared.output.Output
 pub use Rattle.span_registry_layers_stack.specs.declared.output.StackError
 pub use Rattle.span_registry_layers_stack.specs.declared.output.StackRefusal
 pub use Rattle.span_registry_layers_stack.specs.declared.output.UnknownOutput
+pub use Rattle.span_registry_layers_stack.specs.declared.stack.taking.IntoOutputs
 pub use Rattle.span_registry_layers_layers.specs.declared.layer.identity.Identity
 pub use Rattle.span_registry_layers_stack.specs.declared.row.Row
 pub use Rattle.span_registry_layers_stack.specs.Alone

@@ -8,9 +8,9 @@ pub use span_registry_layers_layers::{
     trees_stay_attached,
 };
 pub use span_registry_layers_stack::{
-    Output, Stack, StackError, StackRefusal, UnknownOutput, dropped_events_tell_nobody,
-    dropped_spans_tell_nobody, layers_keep_to_keys, numbers_stay, one_output_decides,
-    registry_stands_alone, stack_registry_stays_sound, verdicts_are_own,
+    IntoOutputs, Output, Stack, StackError, StackRefusal, UnknownOutput,
+    dropped_events_tell_nobody, dropped_spans_tell_nobody, layers_keep_to_keys, numbers_stay,
+    one_output_decides, registry_stands_alone, stack_registry_stays_sound, verdicts_are_own,
 };
 pub use span_registry_layers_store::{
     Data, Extensions, ExtensionsMut, FilterId, FilterMap, InsertError, LookupSpan, OutputKey,

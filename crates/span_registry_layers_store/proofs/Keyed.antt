@@ -4,7 +4,7 @@ use Rattle.std.proofs.lemmas.Bool.Decides.{nat_tests}
 use Rattle.span_registry_layers_store.specs.Aside.{SameButKeys, SlotsKeepToTheirKey, keys_equal, own_slots, under_key}
 use Rattle.span_registry_layers_store.specs.Keeping.{InsertsSlot, ChangesSlots, RemovesSlot, ReplacesSlot, with_places, with_slots}
 use Rattle.span_registry_layers_store.specs.Registries.{PlainSpan, RegistryValue, kin_in}
-use Rattle.span_registry_layers_store.specs.Slots.{InsertGives, PlainPlace, PlainSlot, RemoveGives, ReplaceGives, is_at, is_same_tag, with_slot, without_slot}
+use Rattle.span_registry_layers_store.specs.Slots.{InsertGives, PlainPlace, PlainSlot, RemoveGives, ReplaceGives, inserted, is_at, is_before, is_same_tag, put_by, slot_at, with_slot, without_slot}
 use Rattle.span_registry_layers_store.specs.Spans.{changed, found}
 use Rattle.span_registry_layers_store.specs.declared.slot.InsertError.{InsertError}
 use Rattle.span_registry_layers_store.specs.declared.slot.InsertError.TheVariants.{Present, OutOfMemory, UnknownSpan}
@@ -39,8 +39,20 @@ put_if true p ps later key other t slot is not same =
 put_if false p ps later key other t slot is not same = ap (λ (rest : List PlainPlace). if p.key == other then p ∷ rest else rest) same
 
 put_other : (ps : List PlainPlace) (key other : ℕ) (t : Tag) (slot : PlainSlot) → (other == key) ≡ false → own other (with_slot ps key t slot) ≡ own other ps
-put_other [] key other t slot not = passed_over (key == other) (record { key = key; tag = t; slot = slot }) [] (no_other key other not)
+put_other [] key other t slot not = refl
 put_other (p ∷ ps) key other t slot not = put_if (is_at key t p) p ps (with_slot ps key t slot) key other t slot refl not (put_other ps key other t slot not)
+
+new_if : (b : Bool) (n p : PlainPlace) (ps later : List PlainPlace) (other : ℕ) → (n.key == other) ≡ false → own other later ≡ own other ps → own other (if b then n ∷ p ∷ ps else p ∷ later) ≡ own other (p ∷ ps)
+new_if true n p ps later other away same = passed_over (n.key == other) n (own other (p ∷ ps)) away
+new_if false n p ps later other away same = ap (λ (rest : List PlainPlace). if p.key == other then p ∷ rest else rest) same
+
+new_other : (n : PlainPlace) (ps : List PlainPlace) (other : ℕ) → (n.key == other) ≡ false → own other (inserted n ps) ≡ own other ps
+new_other n [] other away = passed_over (n.key == other) n [] away
+new_other n (p ∷ ps) other away = new_if (is_before n.key n.tag p) n p ps (inserted n ps) other away (new_other n ps other away)
+
+either_other : (o : Option PlainSlot) (ps : List PlainPlace) (key other : ℕ) (t : Tag) (slot : PlainSlot) → (other == key) ≡ false → own other (put_by o ps key t slot) ≡ own other ps
+either_other None ps key other t slot not = new_other (record { key = key; tag = t; slot = slot }) ps other (no_other key other not)
+either_other (Some before) ps key other t slot not = put_other ps key other t slot not
 
 taken_if : (b : Bool) (p : PlainPlace) (ps later : List PlainPlace) (key other : ℕ) (t : Tag) → is_at key t p ≡ b → (other == key) ≡ false → own other later ≡ own other ps → own other (if b then ps else p ∷ later) ≡ own other (p ∷ ps)
 taken_if true p ps later key other t is not same = sym (passed_over (p.key == other) p (own other ps) (other_key p.key key other (both_true (p.key == key) (is_same_tag p.tag t) is) not))
@@ -69,13 +81,13 @@ written_under x id keys s places is same =
     (written_aside x id places, λ key none. ap (λ (ss : List PlainSpan). record x { spans = ss }) (written_spans key places x.spans id s is (same key none)))
 
 pub insert_keeps : (ps qs : List PlainPlace) (key other : ℕ) (t : Tag) (slot : PlainSlot) (r : Result (Unit {0}) InsertError) → (other == key) ≡ false → InsertGives ps key t slot r qs → own other qs ≡ own other ps
-insert_keeps ps qs key other t slot (Ok done) not w = ap (own other) w.1 ∙ put_other ps key other t slot not
+insert_keeps ps qs key other t slot (Ok done) not w = ap (own other) w.1 ∙ new_other (record { key = key; tag = t; slot = slot }) ps other (no_other key other not)
 insert_keeps ps qs key other t slot (Err (Present back)) not w = ap (own other) w.2
 insert_keeps ps qs key other t slot (Err (OutOfMemory back)) not w = ap (own other) w.2
 insert_keeps ps qs key other t slot (Err (UnknownSpan back)) not w = absurd w
 
 pub replace_keeps : (ps qs : List PlainPlace) (key other : ℕ) (t : Tag) (slot : PlainSlot) (r : Result (Option Slot) Slot) → (other == key) ≡ false → ReplaceGives ps key t slot r qs → own other qs ≡ own other ps
-replace_keeps ps qs key other t slot (Ok before) not w = ap (own other) w.1 ∙ put_other ps key other t slot not
+replace_keeps ps qs key other t slot (Ok before) not w = ap (own other) w.1 ∙ either_other (slot_at ps key t) ps key other t slot not
 replace_keeps ps qs key other t slot (Err back) not w = ap (own other) w.2
 
 pub remove_keeps : (ps qs : List PlainPlace) (key other : ℕ) (t : Tag) (r : Option Slot) → (other == key) ≡ false → RemoveGives ps key t r qs → own other qs ≡ own other ps

@@ -18,6 +18,7 @@ ghost use Rattle.span_registry_layers_store.specs.Spans.{found, handles_of, is_o
 ghost use Rattle.span_registry_layers_store.specs.Views.{IsFoundAt, current_under, entry_seen, latest_seen, mask_of, seen, sees};
 
 use crate::extensions::Extensions;
+use crate::filter_count::FilterCount;
 use crate::filter_map::{FilterId, FilterMap, TooManyFilters};
 use crate::lanes::{drop_entry, lane_at, push_entry};
 use crate::metadata::OwnedMetadata;
@@ -39,7 +40,7 @@ pub(crate) struct RegistryParts {
     /// The next span's id; none where all are given.
     pub(crate) next_id: Option<Id>,
     pub(crate) callsites: Vec<Arc<OwnedMetadata>>,
-    pub(crate) filters: u8,
+    pub(crate) filters: FilterCount,
 }
 
 /// The place of the copy of the metadata, where it is known.
@@ -327,13 +328,7 @@ impl RegistryParts {
     pub(crate) fn register_filter(&mut self) -> Result<FilterId, TooManyFilters>
         ensures { FilterGives (plain_registry self.old) result (plain_registry self.new) }
     {
-        if self.filters >= 64 {
-            return Err(TooManyFilters(()));
-        }
-        let filter = FilterId {
-            index: self.filters,
-        };
-        self.filters += 1;
+        let filter = self.filters.next()?;
         Ok(filter)
     }
 
