@@ -6,7 +6,7 @@ ghost use Rattle.tracing_core_requests.specs.PlainRequests.{plain_event};
 ghost use Rattle.span_registry_layers_store.specs.Registries.{knows};
 ghost use Rattle.span_registry_layers_stack.specs.Asked.{CommonInterest, common_hint};
 ghost use Rattle.span_registry_layers_stack.specs.Rows.{filters_of};
-ghost use Rattle.span_registry_layers_stack.specs.Sites.{CachesInterest, plain_cached_interest};
+ghost use Rattle.span_registry_layers_stack.specs.Sites.{KeepsInterest, plain_cached_interest};
 ghost use Rattle.span_registry_layers_stack.specs.Stacks.{EventCached, EventUnless, PassesCached, PassesUnless, Registers, TellsAll, cleared, is_above, is_refused, plain_stack, with_hint};
 
 mod new;
@@ -61,9 +61,9 @@ impl<O> StackParts<O> {
         is_above(self.hint, *metadata.level()) || refuse(&self.sites, metadata)
     }
 
-    // Keeps the interest, where there is room.
-    fn keep(&mut self, metadata: &Metadata<'_>, interest: Interest)
-        ensures sites { CachesInterest (plain_metadata metadata.now) interest
+    // Keeps the interest, where there is room, and answers whether it is kept.
+    fn keep(&mut self, metadata: &Metadata<'_>, interest: Interest) -> bool
+        ensures sites { KeepsInterest result (plain_metadata metadata.now) interest
             (map plain_cached_interest self.old.sites.items) (map plain_cached_interest self.new.sites.items) }
         ensures rest { plain_stack self.new ≡ record (plain_stack self.old) {
           sites = map plain_cached_interest self.new.sites.items;
@@ -71,8 +71,14 @@ impl<O> StackParts<O> {
     {
         if is_kept(&self.sites, metadata) {
             renew(&mut self.sites, metadata, interest);
-        } else if let Ok(metadata) = OwnedMetadata::new(self.alloc, metadata) {
-            let _room = self.sites.push(CachedInterest { metadata, interest });
+            return true;
+        }
+        let Ok(metadata) = OwnedMetadata::new(self.alloc, metadata) else {
+            return false;
+        };
+        match self.sites.push(CachedInterest { metadata, interest }) {
+            Ok(()) => true,
+            Err(_) => false,
         }
     }
 
@@ -92,7 +98,7 @@ impl<L: Layer, F: Filter> StackParts<Filtered<L, F>> {
         ensures state { Registers (plain_metadata metadata.now) result (plain_stack self.old) (plain_stack self.new) }
     {
         let interest = ask_interest(&self.rows, metadata);
-        self.keep(metadata, interest);
+        let _kept = self.keep(metadata, interest);
         interest
     }
 

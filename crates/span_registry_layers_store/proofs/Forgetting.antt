@@ -4,7 +4,7 @@ use Rattle.std.proofs.lemmas.Bool.Decides.{nat_tests}
 use Rattle.span_registry_layers_store.specs.Gives.{ClosesNext, IsNext, IsSettled, dropped}
 use Rattle.span_registry_layers_store.specs.Places.{kin_of}
 use Rattle.span_registry_layers_store.specs.Registries.{PlainSpan, RegistryValue, kin_in, plain_span}
-use Rattle.span_registry_layers_store.specs.Rising.{IsRising, Rises}
+use Rattle.span_registry_layers_store.specs.Rising.{Rises}
 use Rattle.span_registry_layers_store.specs.Spans as spans
 use Rattle.span_registry_layers_store.specs.Spans.{closed_of, open_of, without}
 use Rattle.span_registry_layers_store.specs.declared.span.Span.{Span}

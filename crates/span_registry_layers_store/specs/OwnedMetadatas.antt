@@ -1,7 +1,8 @@
 -- Metadata that owns its texts, without where they lie in memory.
-use Rattle.std.specs.Prelude.{map, string_bytes}
+use Rattle.std.specs.Prelude.{Bool, List, ◌∷◌, [], ◌++◌, if◌then◌else◌, map, string_bytes}
+use Rattle.std.specs.List.{list_any}
 use Rattle.std.specs.Option.{option_map}
-use Rattle.tracing_core_fields.specs.PlainMetadata.{PlainMetadata}
+use Rattle.tracing_core_fields.specs.PlainMetadata.{PlainMetadata, is_same_metadata}
 use Rattle.span_registry_layers_store.specs.declared.metadata.OwnedMetadata.{OwnedMetadata}
 
 abbrev pub owned_plain : OwnedMetadata → PlainMetadata
@@ -16,3 +17,11 @@ owned_plain m = record {
   callsite = m.callsite;
   kind = m.kind;
 }
+
+-- one of these is alike
+abbrev pub is_known : PlainMetadata → List PlainMetadata → Bool
+is_known m known = list_any (λ k. is_same_metadata k m) known
+
+-- with one more, unless one is alike
+abbrev pub with_copy : PlainMetadata → List PlainMetadata → List PlainMetadata
+with_copy m known = if is_known m known then known else known ++ m ∷ []

@@ -1,6 +1,6 @@
 //! What a registry keeps.
 
-ghost use Rattle.std.specs.Prelude.{◌≡◌, ◌<◌, ◌≤◌, ◌+◌, IfOk, IfSome, MatchOption, None, OnErr, OnOk, Some, get_or, length, reverse, slice_get, take};
+ghost use Rattle.std.specs.Prelude.{◌≡◌, ◌<◌, ◌≤◌, ◌+◌, IfOk, IfSome, MatchOption, None, OnErr, OnOk, Some, false, get_or, length, map, reverse, take, true};
 ghost use Rattle.std.specs.Arc.{arc_value};
 ghost use Rattle.std.specs.Option.{option_map};
 ghost use Rattle.tracing_core_requests.specs.Refusals.{or_refused};
@@ -10,7 +10,7 @@ ghost use Rattle.span_registry_layers_store.specs.Copies.{CopyOf};
 ghost use Rattle.span_registry_layers_store.specs.Gives.{EntryGives, FilterGives, ForgetGives, IsNext, IsSettled, SpanGives, clone_gives, close_gives, follow_refusal, give_up_gives, open_refusal};
 ghost use Rattle.span_registry_layers_store.specs.Lanes.{lane_at};
 ghost use Rattle.span_registry_layers_store.specs.SlotLoans.{IsSpanToLend};
-ghost use Rattle.span_registry_layers_store.specs.OwnedMetadatas.{owned_plain};
+ghost use Rattle.span_registry_layers_store.specs.OwnedMetadatas.{is_known, owned_plain, with_copy};
 ghost use Rattle.span_registry_layers_store.specs.Places.{kin_of};
 ghost use Rattle.span_registry_layers_store.specs.Rising.{IsRising, Rises};
 ghost use Rattle.span_registry_layers_store.specs.Registries.{current_on, kin_in, knows, next_number, plain_registry, plain_span, swept, under, with_span, without_entry};
@@ -43,15 +43,22 @@ pub(crate) struct RegistryParts {
     pub(crate) filters: FilterCount,
 }
 
-/// The place of the copy of the metadata, where it is known.
-fn place_of_known(callsites: &[Arc<OwnedMetadata>], metadata: &Metadata<'_>) -> Option<usize>
-    ensures { IfSome result (λ place. IfSome (slice_get callsites.now place) (λ copy.
-        owned_plain (arc_value copy) ≡ plain_metadata metadata.now)) }
+/// The first copy of the metadata, where it is known.
+fn known<'a>(
+    callsites: &'a [Arc<OwnedMetadata>],
+    metadata: &Metadata<'_>,
+) -> Option<&'a Arc<OwnedMetadata>>
+    ensures found { MatchOption result (is_known (plain_metadata metadata.now)
+        (map (λ kept. owned_plain (arc_value kept)) callsites.now) ≡ false) (λ _. is_known (plain_metadata metadata.now)
+        (map (λ kept. owned_plain (arc_value kept)) callsites.now) ≡ true) }
+    ensures copy { IfSome result (λ copy. owned_plain (arc_value copy.now) ≡ plain_metadata metadata.now) }
 {
-    for place in 0..callsites.len() {
-        if callsites[place].is_same(metadata) {
-            return Some(place);
+    let mut rest = callsites;
+    while let [copy, later @ ..] = rest {
+        if copy.is_same(metadata) {
+            return Some(copy);
         }
+        rest = later;
     }
     None
 }
@@ -89,14 +96,15 @@ pub(crate) fn place_to_lend(spans: &[Span], id: Id) -> usize
 }
 
 impl RegistryParts {
-    /// The copy of the metadata that spans share.
+    /// The copy of the metadata that spans share. There is one of all that are alike.
     fn owned(&mut self, metadata: &Metadata<'_>) -> Result<Arc<OwnedMetadata>, AllocError>
         ensures copy { IfOk result (λ copy. owned_plain (arc_value copy) ≡ plain_metadata metadata.now) }
+        ensures kept { OnOk result (map (λ kept. owned_plain (arc_value kept)) self.new.callsites.items ≡
+            with_copy (plain_metadata metadata.now) (map (λ kept. owned_plain (arc_value kept))
+            self.old.callsites.items)) }
         ensures rest { self.new ≡ record self.old { callsites = self.new.callsites } }
     {
-        if let Some(place) = place_of_known(self.callsites.as_slice(), metadata)
-            && let Some(copy) = self.callsites.get(place)
-        {
+        if let Some(copy) = known(&self.callsites, metadata) {
             return Arc::clone(copy);
         }
         let copy = Arc::new(self.alloc, OwnedMetadata::new(self.alloc, metadata)?)?;
