@@ -15,6 +15,8 @@ pub use Rattle.span_registry_layers_store.specs.Copies
 pub use Rattle.span_registry_layers_store.specs.SlotLoans
 pub use Rattle.span_registry_layers_store.specs.Lookups
 pub use Rattle.span_registry_layers_layers.specs.Looks
+pub use Rattle.span_registry_layers_layers.specs.SpanCalls
+pub use Rattle.span_registry_layers_layers.specs.Told as ToldNotices
 pub use Rattle.span_registry_layers_layers.specs.Honesty
 pub use Rattle.span_registry_layers_layers.specs.Combined
 pub use Rattle.span_registry_layers_layers.specs.Optional

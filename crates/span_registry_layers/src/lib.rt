@@ -3,8 +3,8 @@
 
 pub use span_registry_layers_layers::{
     And, AttachError, CallsiteTest, Context, ContextTest, DynFilterFn, Filter, FilterExt, FilterFn,
-    Filtered, Identity, Layer, LayerExt, Layered, MetadataTest, Not, Or, SubscriberExt,
-    dynamic_filter_fn, filter_fn, joined_registry_stays_sound, tree_registry_stays_sound,
+    Filtered, Identity, Layer, LayerExt, Layered, MetadataTest, Not, Or, SpanCall, SubscriberExt,
+    Told, dynamic_filter_fn, filter_fn, joined_registry_stays_sound, tree_registry_stays_sound,
     trees_stay_attached,
 };
 pub use span_registry_layers_stack::{

@@ -10,10 +10,10 @@ mod refusals;
 use super::recording::{Counter, Journaling, Notification, new_counter, new_journal};
 use super::*;
 use crate::{
-    Filtered, Layer, LayerExt, MetadataTest, Output, OutputKey, Stack, StackError, StackRefusal,
-    dropped_events_tell_nobody, dropped_spans_tell_nobody, filter_fn, layers_keep_to_keys,
-    numbers_stay, one_output_decides, registry_stands_alone, stack_registry_stays_sound,
-    verdicts_are_own,
+    Filtered, Layer, LayerExt, MetadataTest, Output, OutputKey, SpanCall, Stack, StackError,
+    StackRefusal, dropped_events_tell_nobody, dropped_spans_tell_nobody, filter_fn,
+    layers_keep_to_keys, numbers_stay, one_output_decides, registry_stands_alone,
+    stack_registry_stays_sound, verdicts_are_own,
 };
 use tracing_core::{CurrentSpan, DefaultCallsite, Hub, LevelFilter, Record};
 
