@@ -14,6 +14,8 @@ pub use Rattle.span_registry_layers_store.specs.Copies
 pub use Rattle.span_registry_layers_store.specs.SlotLoans
 pub use Rattle.span_registry_layers_store.specs.Lookups
 pub use Rattle.span_registry_layers_layers.specs.Looks
+pub use Rattle.span_registry_layers_layers.specs.SpanCalls
+pub use Rattle.span_registry_layers_layers.specs.Told as ToldNotices
 pub use Rattle.span_registry_layers_layers.specs.Honesty
 pub use Rattle.span_registry_layers_layers.specs.Combined
 pub use Rattle.span_registry_layers_layers.specs.Optional
@@ -78,6 +80,7 @@ pub use Rattle.span_registry_layers_stack.specs.declared.output.Output
 pub use Rattle.span_registry_layers_stack.specs.declared.output.StackError
 pub use Rattle.span_registry_layers_stack.specs.declared.output.StackRefusal
 pub use Rattle.span_registry_layers_stack.specs.declared.output.UnknownOutput
+pub use Rattle.span_registry_layers_stack.specs.declared.stack.taking.IntoOutputs
 pub use Rattle.span_registry_layers_layers.specs.declared.layer.identity.Identity
 pub use Rattle.span_registry_layers_stack.specs.declared.row.Row
 pub use Rattle.span_registry_layers_stack.specs.Alone

@@ -3,14 +3,14 @@
 
 pub use span_registry_layers_layers::{
     And, AttachError, CallsiteTest, Context, ContextTest, DynFilterFn, Filter, FilterExt, FilterFn,
-    Filtered, Identity, Layer, LayerExt, Layered, MetadataTest, Not, Or, SubscriberExt,
-    dynamic_filter_fn, filter_fn, joined_registry_stays_sound, tree_registry_stays_sound,
+    Filtered, Identity, Layer, LayerExt, Layered, MetadataTest, Not, Or, SpanCall, SubscriberExt,
+    Told, dynamic_filter_fn, filter_fn, joined_registry_stays_sound, tree_registry_stays_sound,
     trees_stay_attached,
 };
 pub use span_registry_layers_stack::{
-    Output, Stack, StackError, StackRefusal, UnknownOutput, dropped_events_tell_nobody,
-    dropped_spans_tell_nobody, layers_keep_to_keys, numbers_stay, one_output_decides,
-    registry_stands_alone, stack_registry_stays_sound, verdicts_are_own,
+    IntoOutputs, Output, Stack, StackError, StackRefusal, UnknownOutput,
+    dropped_events_tell_nobody, dropped_spans_tell_nobody, layers_keep_to_keys, numbers_stay,
+    one_output_decides, registry_stands_alone, stack_registry_stays_sound, verdicts_are_own,
 };
 pub use span_registry_layers_store::{
     Data, Extensions, ExtensionsMut, FilterId, FilterMap, InsertError, LookupSpan, OutputKey,

@@ -22,7 +22,7 @@ forgotten : (x y : RegistryValue) (id : ℕ) (r : Option ℕ) → IsNext x id �
 forgotten x y id None next given = absurd (none_some next.0 next.1 (sym next.3 ∙ given.0.0))
 forgotten x y id (Some gone) next given =
     let same : next.0 ≡ given.0 = heads next.0 given.0 next.1 (closing_in y) (sym next.3 ∙ given.2) in
-    (given.0, sym (ap (λ (s : PlainSpan). s.kin.id) same) ∙ next.2, given.2, given.3, given.4)
+    (given.0, sym (ap (λ (s : PlainSpan). s.kin.id) same) ∙ next.2, given.2, given.3, given.4, given.5)
 
 pub closed_next : (x z y : RegistryValue) (id : ℕ) (r : Option ℕ) → IsNext x id → SameButSlots x z → ForgetGives z r y →
     ClosesNext z id y × (ids_of (closing_in x) ≡ id ∷ ids_of (closing_in y)) × SameButSlots (swept x) (swept y)

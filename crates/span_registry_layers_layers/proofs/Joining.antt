@@ -9,10 +9,10 @@ use Rattle.span_registry_layers_layers.specs.declared.layer.layered.Layered.{Lay
 use Rattle.span_registry_layers_layers.proofs.Numbers.{numbers_before}
 
 pub joins : {L M : Type 0} (g : Ghosts L) (h : Ghosts M) (layer : L) (s : Layered M RegistryValue) (given : Layered L RegistryValue) (pair : Layered L M) (t : Layered (Layered L M) RegistryValue) →
-    IsAttached h s → AttachGives g layer s.inner (Ok given) → pair.layer ≡ given.layer → pair.inner ≡ s.layer → t.layer ≡ pair → t.inner ≡ given.inner →
+    AttachGives g layer s.inner (Ok given) → pair.layer ≡ given.layer → pair.inner ≡ s.layer → t.layer ≡ pair → t.inner ≡ given.inner →
     (s.inner.filters + g.filters layer ≤ 64) × g.told layer (Attached s.inner) t.layer.layer × (t.layer.inner ≡ s.layer) × (t.inner ≡ more_filters (g.filters layer) s.inner)
-    × (AreNumbers t.inner.filters (g.numbers t.layer.layer ++ h.numbers t.layer.inner) × (t.inner.filters ≤ 64))
-joins {L = L} {M = M} g h layer s given pair t attached a same_layer same_inner joined same_registry =
+    × (IsAttached h s → AreNumbers t.inner.filters (g.numbers t.layer.layer ++ h.numbers t.layer.inner) × (t.inner.filters ≤ 64))
+joins {L = L} {M = M} g h layer s given pair t a same_layer same_inner joined same_registry =
     let x = s.inner.filters in
     let count = g.filters layer in
     let own : t.layer.layer ≡ given.layer = ap (λ (l : Layered L M). l.layer) joined ∙ same_layer in
@@ -25,5 +25,5 @@ joins {L = L} {M = M} g h layer s given pair t attached a same_layer same_inner 
       subst (λ (l : L). g.told layer (Attached s.inner) l) (sym own) a.1,
       others,
       registry,
-      (subst (AreNumbers t.inner.filters) (sym numbers) (subst (λ (n : ℕ). AreNumbers n (numbers_from x count ++ h.numbers s.layer)) (sym filters) (numbers_before x count (h.numbers s.layer) attached.0)), subst (λ (n : ℕ). n ≤ 64) (sym filters) a.0),
+      λ attached. (subst (AreNumbers t.inner.filters) (sym numbers) (subst (λ (n : ℕ). AreNumbers n (numbers_from x count ++ h.numbers s.layer)) (sym filters) (numbers_before x count (h.numbers s.layer) attached.0)), subst (λ (n : ℕ). n ≤ 64) (sym filters) a.0),
     )

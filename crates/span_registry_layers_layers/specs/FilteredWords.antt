@@ -9,7 +9,7 @@ use Rattle.span_registry_layers_layers.specs.Combined.{same_word}
 use Rattle.span_registry_layers_layers.specs.Filtereds.{BothKeep, FilteredKept, FilteredTold, HearsAt, HearsIf, KeptAt, KeptUnder, heard, numbers_in, own_number, under}
 use Rattle.span_registry_layers_layers.specs.Honesty.{OneAnswer}
 use Rattle.span_registry_layers_layers.specs.Looks.{View}
-use Rattle.span_registry_layers_layers.specs.Notices.{Attached, Dispatched, Followed, Happened, Notice, Renamed, Spanned, Untouched, WritesUnder, untouched_writes}
+use Rattle.span_registry_layers_layers.specs.Notices.{Attached, Called, Dispatched, Notice, OnEvent, OnFollows, OnIdChange, OnSpan, Untouched, WritesUnder, untouched_writes}
 use Rattle.span_registry_layers_layers.specs.Numbering.{NumbersStay, equal_numbers, numbers_still}
 use Rattle.span_registry_layers_layers.specs.Singles.{then_one}
 use Rattle.span_registry_layers_layers.specs.declared.filter.Filter.{Ghosts}
@@ -37,10 +37,10 @@ module _ {L F : Type 0} (g : Ghosts F) (h : LayerGhosts L) where
   )
 
   heard_honest : (filter : F) (n : Notice) → g.honest filter → g.honest (heard g filter n)
-  heard_honest filter (Spanned id call v left) k = (g.stays filter (call v) k).0
-  heard_honest filter (Followed span follows v left) k = k
-  heard_honest filter (Happened e v left) k = k
-  heard_honest filter (Renamed old new v left) k = k
+  heard_honest filter (Called (OnSpan id call) v left) k = (g.stays filter (call v) k).0
+  heard_honest filter (Called (OnFollows span follows) v left) k = k
+  heard_honest filter (Called (OnEvent e) v left) k = k
+  heard_honest filter (Called (OnIdChange old new) v left) k = k
   heard_honest filter (Dispatched handle) k = k
   heard_honest filter (Attached r) k = k
 
@@ -54,10 +54,7 @@ module _ {L F : Type 0} (g : Ghosts F) (h : LayerGhosts L) where
   heard_left (Some j) x n v left y u same w = same j (if_left w.0 x n (under j.index v) left y (u (under j.index v)) w.2)
 
   filtered_left : (x : Filtered L F) (n : Notice) (y : Filtered L F) → FilteredTold g h x n y → Leaves x n y
-  filtered_left x (Spanned id call v left) y w = heard_left x.id x (Spanned id call) v left y (λ u e. e) (λ j k. k) w.0
-  filtered_left x (Followed span follows v left) y w = heard_left x.id x (Followed span follows) v left y (λ u e. e) (λ j k. k) w.0
-  filtered_left x (Happened e v left) y w = heard_left x.id x (Happened e) v left y (λ u same. same) (λ j k. k) w.0
-  filtered_left x (Renamed old new v left) y w = heard_left x.id x (Renamed old new) v left y (λ u e. e) (λ j k. k) w.0
+  filtered_left x (Called said v left) y w = heard_left x.id x (Called said) v left y (λ u e. e) (λ j k. k) w.0
   filtered_left x (Dispatched handle) y w = told_left x (Dispatched handle) y w.0.0 (subst g.honest (sym (ap (λ (z : Filtered L F). z.filter) w.0.1))) (ap (λ (z : Filtered L F). z.id) w.0.1)
   filtered_left x (Attached r) y w = (
     λ both. (subst g.honest (sym (ap (λ (z : Filtered L F). z.filter) w.1.4)) both.0, (h.stays x.layer (Attached w.1.1) y.layer w.1.3 both.1).0),

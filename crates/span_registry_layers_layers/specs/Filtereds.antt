@@ -11,7 +11,7 @@ use Rattle.span_registry_layers_store.specs.declared.filter_map.TooManyFilters.{
 use Rattle.span_registry_layers_layers.specs.Combined.{Both, Then}
 use Rattle.span_registry_layers_layers.specs.Contexts.{span_in}
 use Rattle.span_registry_layers_layers.specs.Looks.{View}
-use Rattle.span_registry_layers_layers.specs.Notices.{Attached, Dispatched, Followed, Happened, Notice, Renamed, Spanned}
+use Rattle.span_registry_layers_layers.specs.Notices.{Attached, Called, Dispatched, Notice, OnEvent, OnFollows, OnIdChange, OnSpan}
 use Rattle.span_registry_layers_layers.specs.declared.filter.Filter.{Ghosts}
 use Rattle.span_registry_layers_layers.specs.declared.filtered.Filtered.{Filtered}
 use Rattle.span_registry_layers_layers.specs.declared.layer.Layer.{Ghosts as LayerGhosts}
@@ -35,19 +35,19 @@ module _ {F : Type 0} (g : Ghosts F) where
 
   -- whether the layer may be told: of a span that it sees, of both that one follows from the other, of an event that the filter, asked again, passes, and of a new id where it sees the old one
   abbrev pub MayHear : F → Notice → Bool → Type 0
-  MayHear filter (Spanned id call v left) b = b ≡ is_seen v id
-  MayHear filter (Followed span follows v left) b = b ≡ (is_seen v span && is_seen v follows)
-  MayHear filter (Happened e v left) b = MayPass filter e v b
-  MayHear filter (Renamed old new v left) b = b ≡ is_seen v old
+  MayHear filter (Called (OnSpan id call) v left) b = b ≡ is_seen v id
+  MayHear filter (Called (OnFollows span follows) v left) b = b ≡ (is_seen v span && is_seen v follows)
+  MayHear filter (Called (OnEvent e) v left) b = MayPass filter e v b
+  MayHear filter (Called (OnIdChange old new) v left) b = b ≡ is_seen v old
   MayHear filter (Dispatched handle) b = b ≡ true
   MayHear filter (Attached r) b = b ≡ true
 
   -- the filter hears of calls on spans alone
   abbrev pub heard : F → Notice → F
-  heard filter (Spanned id call v left) = g.after filter (call v)
-  heard filter (Followed span follows v left) = filter
-  heard filter (Happened e v left) = filter
-  heard filter (Renamed old new v left) = filter
+  heard filter (Called (OnSpan id call) v left) = g.after filter (call v)
+  heard filter (Called (OnFollows span follows) v left) = filter
+  heard filter (Called (OnEvent e) v left) = filter
+  heard filter (Called (OnIdChange old new) v left) = filter
   heard filter (Dispatched handle) = filter
   heard filter (Attached r) = filter
 
@@ -67,10 +67,7 @@ module _ {L F : Type 0} (g : Ghosts F) (h : LayerGhosts L) where
 
   -- calls on a span are told by what was said of it when it was made, and of a hub the layer is told in any case
   abbrev pub NotifiedAt : Option FilterId → Filtered L F → Notice → Filtered L F → Type 0
-  NotifiedAt i x (Spanned id call v left) y = HearsAt i x (Spanned id call) v left y
-  NotifiedAt i x (Followed span follows v left) y = HearsAt i x (Followed span follows) v left y
-  NotifiedAt i x (Happened e v left) y = HearsAt i x (Happened e) v left y
-  NotifiedAt i x (Renamed old new v left) y = HearsAt i x (Renamed old new) v left y
+  NotifiedAt i x (Called said v left) y = HearsAt i x (Called said) v left y
   NotifiedAt i x (Dispatched handle) y = h.told x.layer (Dispatched handle) y.layer × (y ≡ record x { layer = y.layer })
   NotifiedAt i x (Attached r) y = Unit {0}
 

@@ -10,7 +10,7 @@ use Rattle.span_registry_layers_store.specs.Registries.{RegistryValue}
 use Rattle.span_registry_layers_layers.specs.Combined.{Both, SaysOf, joined_fair, joined_word}
 use Rattle.span_registry_layers_layers.specs.Honesty.{Fair}
 use Rattle.span_registry_layers_layers.specs.Looks.{View, seeing}
-use Rattle.span_registry_layers_layers.specs.Notices.{AddsFilters, Attached, Dispatched, Followed, Happened, Notice, Renamed, Spanned, WritesUnder}
+use Rattle.span_registry_layers_layers.specs.Notices.{AddsFilters, Attached, Called, Dispatched, Notice, WritesUnder}
 use Rattle.span_registry_layers_layers.specs.Numbering.{NumbersStay}
 use Rattle.span_registry_layers_layers.specs.declared.layer.Layer.{Ghosts}
 use Rattle.span_registry_layers_layers.specs.declared.layer.layered.Layered.{Layered}
@@ -57,10 +57,7 @@ module _ {A B : Type 0} (g : Ghosts A) (h : Ghosts B) where
 
   -- both are told the same: of spans and events in turn, and of a hub the outer one first; and they are attached to the registry in turn, the outer one first
   abbrev pub NotifiedBoth : Layered A B → Notice → Layered A B → Type 0
-  NotifiedBoth l (Spanned id call v y) m = BothInTurn (Spanned id call) l v y m
-  NotifiedBoth l (Followed span follows v y) m = BothInTurn (Followed span follows) l v y m
-  NotifiedBoth l (Happened e v y) m = BothInTurn (Happened e) l v y m
-  NotifiedBoth l (Renamed old new v y) m = BothInTurn (Renamed old new) l v y m
+  NotifiedBoth l (Called said v y) m = BothInTurn (Called said) l v y m
   NotifiedBoth l (Dispatched handle) m = g.told l.layer (Dispatched handle) m.layer × h.told l.inner (Dispatched handle) m.inner
   NotifiedBoth l (Attached x) m = (y : RegistryValue) × AddsFilters x y × g.told l.layer (Attached x) m.layer × h.told l.inner (Attached y) m.inner
 
@@ -79,10 +76,7 @@ module _ {A B : Type 0} (g : Ghosts A) (h : Ghosts B) where
       ((outer.0, inner.0), joined_word picked_interest picked_hint outer.1 inner.1)
 
   pub both_stay : (l : Layered A B) (n : Notice) (m : Layered A B) → NotifiedBoth l n m → BothHonest l → BothHonest m × SameWords l m
-  both_stay l (Spanned id call v y) m t = stays_each l m (Spanned id call (seeing t.0 v) y) (Spanned id call v t.0) t.2 t.1
-  both_stay l (Followed span follows v y) m t = stays_each l m (Followed span follows (seeing t.0 v) y) (Followed span follows v t.0) t.2 t.1
-  both_stay l (Happened e v y) m t = stays_each l m (Happened e (seeing t.0 v) y) (Happened e v t.0) t.2 t.1
-  both_stay l (Renamed old new v y) m t = stays_each l m (Renamed old new (seeing t.0 v) y) (Renamed old new v t.0) t.2 t.1
+  both_stay l (Called said v y) m t = stays_each l m (Called said (seeing t.0 v) y) (Called said v t.0) t.2 t.1
   both_stay l (Dispatched handle) m t = stays_each l m (Dispatched handle) (Dispatched handle) t.0 t.1
   both_stay l (Attached x) m t = stays_each l m (Attached x) (Attached t.0) t.2 t.3
 
@@ -93,11 +87,7 @@ module _ {A B : Type 0} (g : Ghosts A) (h : Ghosts B) where
   joined_numbers l m a b = ap (λ (ns : List ℕ). ns ++ h.numbers m.inner) a ∙ ap (λ (ns : List ℕ). g.numbers l.layer ++ ns) b
 
   pub both_numbered : (l : Layered A B) (n : Notice) (m : Layered A B) → NotifiedBoth l n m → NumbersStay n (BothNumbers l) (BothNumbers m)
-  both_numbered l (Spanned id call v y) m t = joined_numbers l m (g.numbered l.layer (Spanned id call (seeing t.0 v) y) m.layer t.2) (h.numbered l.inner (Spanned id call v t.0) m.inner t.1)
-  both_numbered l (Followed span follows v y) m t =
-      joined_numbers l m (g.numbered l.layer (Followed span follows (seeing t.0 v) y) m.layer t.2) (h.numbered l.inner (Followed span follows v t.0) m.inner t.1)
-  both_numbered l (Happened e v y) m t = joined_numbers l m (g.numbered l.layer (Happened e (seeing t.0 v) y) m.layer t.2) (h.numbered l.inner (Happened e v t.0) m.inner t.1)
-  both_numbered l (Renamed old new v y) m t = joined_numbers l m (g.numbered l.layer (Renamed old new (seeing t.0 v) y) m.layer t.2) (h.numbered l.inner (Renamed old new v t.0) m.inner t.1)
+  both_numbered l (Called said v y) m t = joined_numbers l m (g.numbered l.layer (Called said (seeing t.0 v) y) m.layer t.2) (h.numbered l.inner (Called said v t.0) m.inner t.1)
   both_numbered l (Dispatched handle) m t = joined_numbers l m (g.numbered l.layer (Dispatched handle) m.layer t.0) (h.numbered l.inner (Dispatched handle) m.inner t.1)
   both_numbered l (Attached x) m t = tt
 
@@ -108,10 +98,7 @@ module _ {A B : Type 0} (g : Ghosts A) (h : Ghosts B) where
   aside_each l x z y a b = keys_then (h.keys l.inner) (g.keys l.layer) x z y a b
 
   pub both_aside : (l : Layered A B) (n : Notice) (m : Layered A B) → NotifiedBoth l n m → WritesUnder (keys_of l) n
-  both_aside l (Spanned id call v y) m t = aside_each l v.registry t.0 y (h.aside l.inner (Spanned id call v t.0) m.inner t.1) (g.aside l.layer (Spanned id call (seeing t.0 v) y) m.layer t.2)
-  both_aside l (Followed span follows v y) m t = aside_each l v.registry t.0 y (h.aside l.inner (Followed span follows v t.0) m.inner t.1) (g.aside l.layer (Followed span follows (seeing t.0 v) y) m.layer t.2)
-  both_aside l (Happened e v y) m t = aside_each l v.registry t.0 y (h.aside l.inner (Happened e v t.0) m.inner t.1) (g.aside l.layer (Happened e (seeing t.0 v) y) m.layer t.2)
-  both_aside l (Renamed old new v y) m t = aside_each l v.registry t.0 y (h.aside l.inner (Renamed old new v t.0) m.inner t.1) (g.aside l.layer (Renamed old new (seeing t.0 v) y) m.layer t.2)
+  both_aside l (Called said v y) m t = aside_each l v.registry t.0 y (h.aside l.inner (Called said v t.0) m.inner t.1) (g.aside l.layer (Called said (seeing t.0 v) y) m.layer t.2)
   both_aside l (Dispatched handle) m t = tt
   both_aside l (Attached x) m t = tt
 
@@ -119,9 +106,6 @@ module _ {A B : Type 0} (g : Ghosts A) (h : Ghosts B) where
   keyed_each l m n k a b key = ap (λ p. p || h.keys m.inner key) (g.keyed l.layer n m.layer a key) ∙ ap (λ q. g.keys l.layer key || q) (h.keyed l.inner k m.inner b key)
 
   pub both_keyed : (l : Layered A B) (n : Notice) (m : Layered A B) → NotifiedBoth l n m → (key : ℕ) → keys_of m key ≡ keys_of l key
-  both_keyed l (Spanned id call v y) m t key = keyed_each l m (Spanned id call (seeing t.0 v) y) (Spanned id call v t.0) t.2 t.1 key
-  both_keyed l (Followed span follows v y) m t key = keyed_each l m (Followed span follows (seeing t.0 v) y) (Followed span follows v t.0) t.2 t.1 key
-  both_keyed l (Happened e v y) m t key = keyed_each l m (Happened e (seeing t.0 v) y) (Happened e v t.0) t.2 t.1 key
-  both_keyed l (Renamed old new v y) m t key = keyed_each l m (Renamed old new (seeing t.0 v) y) (Renamed old new v t.0) t.2 t.1 key
+  both_keyed l (Called said v y) m t key = keyed_each l m (Called said (seeing t.0 v) y) (Called said v t.0) t.2 t.1 key
   both_keyed l (Dispatched handle) m t key = keyed_each l m (Dispatched handle) (Dispatched handle) t.0 t.1 key
   both_keyed l (Attached x) m t key = keyed_each l m (Attached x) (Attached t.0) t.2 t.3 key

@@ -1,4 +1,5 @@
 pub mod Looks
+pub mod SpanCalls
 pub mod Honesty
 pub mod Combined
 pub mod Optional

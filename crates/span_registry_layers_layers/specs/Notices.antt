@@ -5,21 +5,34 @@ use Rattle.span_registry_layers_store.specs.Aside.{SameButKeys, SameButSlots, ke
 use Rattle.span_registry_layers_store.specs.Registries.{RegistryValue}
 use Rattle.span_registry_layers_layers.specs.Looks.{Hook, View}
 
--- a call on a span that its filter is told too, a span that follows another one, an event and a span's new id, each with what is seen and with the registry as it is left; the hub's handle, and the registry that it is attached to
+-- what is said of spans and events: a call on a span that its filter is told too, a span that follows another one, an event, and a span's new id
+pub data Said : Type 0 where
+  OnSpan : ℕ → (View → Hook) → Said
+  OnFollows : ℕ → ℕ → Said
+  OnEvent : PlainEvent → Said
+  OnIdChange : ℕ → ℕ → Said
+
+-- what was said, with what is seen and with the registry as it is left; the hub's handle, and the registry that it is attached to
 pub data Notice : Type 0 where
-  Spanned : ℕ → (View → Hook) → View → RegistryValue → Notice
-  Followed : ℕ → ℕ → View → RegistryValue → Notice
-  Happened : PlainEvent → View → RegistryValue → Notice
-  Renamed : ℕ → ℕ → View → RegistryValue → Notice
+  Called : Said → View → RegistryValue → Notice
   Dispatched : Option ℕ → Notice
   Attached : RegistryValue → Notice
 
+abbrev pub Spanned : ℕ → (View → Hook) → View → RegistryValue → Notice
+Spanned id call v y = Called (OnSpan id call) v y
+
+abbrev pub Followed : ℕ → ℕ → View → RegistryValue → Notice
+Followed span follows v y = Called (OnFollows span follows) v y
+
+abbrev pub Happened : PlainEvent → View → RegistryValue → Notice
+Happened e v y = Called (OnEvent e) v y
+
+abbrev pub Renamed : ℕ → ℕ → View → RegistryValue → Notice
+Renamed old new v y = Called (OnIdChange old new) v y
+
 -- the registry as it was and as it is left are so related
 abbrev pub Leaves : (RegistryValue → RegistryValue → Type 0) → Notice → Type 0
-Leaves R (Spanned id call v y) = R v.registry y
-Leaves R (Followed span follows v y) = R v.registry y
-Leaves R (Happened e v y) = R v.registry y
-Leaves R (Renamed old new v y) = R v.registry y
+Leaves R (Called said v y) = R v.registry y
 Leaves R (Dispatched handle) = Unit {0}
 Leaves R (Attached x) = Unit {0}
 
@@ -37,10 +50,7 @@ WritesUnder keys n = Leaves (SameButKeys keys) n
 
 -- what is so related by the one is by the other
 pub leaves_by : (R S : RegistryValue → RegistryValue → Type 0) → ((x y : RegistryValue) → R x y → S x y) → (n : Notice) → Leaves R n → Leaves S n
-leaves_by R S f (Spanned id call v y) w = f v.registry y w
-leaves_by R S f (Followed span follows v y) w = f v.registry y w
-leaves_by R S f (Happened e v y) w = f v.registry y w
-leaves_by R S f (Renamed old new v y) w = f v.registry y w
+leaves_by R S f (Called said v y) w = f v.registry y w
 leaves_by R S f (Dispatched handle) w = tt
 leaves_by R S f (Attached x) w = tt
 

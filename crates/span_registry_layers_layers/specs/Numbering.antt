@@ -4,7 +4,7 @@ use Rattle.std.proofs.Common.{ap, ◌∙◌}
 use Rattle.span_registry_layers_store.specs.Registries.{RegistryValue}
 use Rattle.span_registry_layers_store.specs.Spans.{is_member}
 use Rattle.span_registry_layers_store.specs.Verdicts.{passes_at}
-use Rattle.span_registry_layers_layers.specs.Notices.{Attached, Dispatched, Followed, Happened, Notice, Renamed, Spanned}
+use Rattle.span_registry_layers_layers.specs.Notices.{Attached, Called, Dispatched, Notice}
 
 -- what is left of a room for filters, where there is enough
 abbrev pub room_after : ℕ → ℕ → Option ℕ
@@ -35,10 +35,7 @@ more_filters count x = record x { filters = x.filters + count }
 
 -- filters keep their numbers, whatever they are told but that they are attached
 abbrev pub NumbersStay : Notice → List ℕ → List ℕ → Type 0
-NumbersStay (Spanned id call v y) before after = after ≡ before
-NumbersStay (Followed span follows v y) before after = after ≡ before
-NumbersStay (Happened e v y) before after = after ≡ before
-NumbersStay (Renamed old new v y) before after = after ≡ before
+NumbersStay (Called said v y) before after = after ≡ before
 NumbersStay (Dispatched handle) before after = after ≡ before
 NumbersStay (Attached x) before after = Unit {0}
 
@@ -46,19 +43,13 @@ both_equal : (ns ms : List ℕ) (f h : List ℕ → List ℕ) → h ≡ f → ms
 both_equal ns ms f h same e = ap (λ (k : List ℕ → List ℕ). k ms) same ∙ ap f e
 
 pub equal_numbers : (n : Notice) (ns ms : List ℕ) → ms ≡ ns → NumbersStay n ns ms
-equal_numbers (Spanned id call v y) ns ms e = e
-equal_numbers (Followed span follows v y) ns ms e = e
-equal_numbers (Happened e v y) ns ms same = same
-equal_numbers (Renamed old new v y) ns ms e = e
+equal_numbers (Called said v y) ns ms e = e
 equal_numbers (Dispatched handle) ns ms e = e
 equal_numbers (Attached x) ns ms e = tt
 
 -- with a number of its own before them
 pub numbers_still : (n : Notice) (ns ms : List ℕ) (f h : List ℕ → List ℕ) → h ≡ f → NumbersStay n ns ms → NumbersStay n (f ns) (h ms)
-numbers_still (Spanned id call v y) ns ms f h same e = both_equal ns ms f h same e
-numbers_still (Followed span follows v y) ns ms f h same e = both_equal ns ms f h same e
-numbers_still (Happened call v y) ns ms f h same e = both_equal ns ms f h same e
-numbers_still (Renamed old new v y) ns ms f h same e = both_equal ns ms f h same e
+numbers_still (Called said v y) ns ms f h same e = both_equal ns ms f h same e
 numbers_still (Dispatched handle) ns ms f h same e = both_equal ns ms f h same e
 numbers_still (Attached x) ns ms f h same e = tt
 

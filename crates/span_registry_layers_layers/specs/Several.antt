@@ -11,7 +11,7 @@ use Rattle.span_registry_layers_store.specs.Registries.{RegistryValue}
 use Rattle.span_registry_layers_layers.specs.Combined.{Both, either_hint, either_interest, then_passed}
 use Rattle.span_registry_layers_layers.specs.Honesty.{Fair, OneAnswer}
 use Rattle.span_registry_layers_layers.specs.Looks.{View, seeing}
-use Rattle.span_registry_layers_layers.specs.Notices.{AddsFilters, Attached, Dispatched, Followed, Happened, Notice, Renamed, Spanned, WritesUnder}
+use Rattle.span_registry_layers_layers.specs.Notices.{AddsFilters, Attached, Called, Dispatched, Notice, WritesUnder}
 use Rattle.span_registry_layers_layers.specs.Layereds.{KeptByBoth}
 use Rattle.span_registry_layers_layers.specs.Numbering.{NumbersStay}
 use Rattle.span_registry_layers_layers.specs.Singles.{both_once}
@@ -88,10 +88,7 @@ module _ {L : Type 0} (g : Ghosts L) where
 
   -- each is told the same in turn, and they are attached to the registry in turn
   abbrev pub NotifiedEach : List L → Notice → List L → Type 0
-  NotifiedEach xs (Spanned id call v y) ys = TellsInTurn (Spanned id call) v xs y ys
-  NotifiedEach xs (Followed span follows v y) ys = TellsInTurn (Followed span follows) v xs y ys
-  NotifiedEach xs (Happened e v y) ys = TellsInTurn (Happened e) v xs y ys
-  NotifiedEach xs (Renamed old new v y) ys = TellsInTurn (Renamed old new) v xs y ys
+  NotifiedEach xs (Called said v y) ys = TellsInTurn (Called said) v xs y ys
   NotifiedEach xs (Dispatched handle) ys = EachTold (Dispatched handle) xs ys
   NotifiedEach xs (Attached x) ys = (z : RegistryValue) × EachInTurn AttachesOne x xs z ys
 
@@ -160,10 +157,7 @@ module _ {L : Type 0} (g : Ghosts L) where
   hears R f x (l ∷ ls) y (m ∷ ms) t = (tt, f x t.0 l m t.1, hears R f t.0 ls y ms t.2)
 
   each_hears : (xs : List L) (n : Notice) (ys : List L) → NotifiedEach xs n ys → EachHears xs ys
-  each_hears xs (Spanned id call v y) ys t = hears (TellsOne (Spanned id call) v) (λ x z l m told. (Spanned id call (seeing x v) z, told)) v.registry xs y ys t
-  each_hears xs (Followed span follows v y) ys t = hears (TellsOne (Followed span follows) v) (λ x z l m told. (Followed span follows (seeing x v) z, told)) v.registry xs y ys t
-  each_hears xs (Happened e v y) ys t = hears (TellsOne (Happened e) v) (λ x z l m told. (Happened e (seeing x v) z, told)) v.registry xs y ys t
-  each_hears xs (Renamed old new v y) ys t = hears (TellsOne (Renamed old new) v) (λ x z l m told. (Renamed old new (seeing x v) z, told)) v.registry xs y ys t
+  each_hears xs (Called said v y) ys t = hears (TellsOne (Called said) v) (λ x z l m told. (Called said (seeing x v) z, told)) v.registry xs y ys t
   each_hears xs (Dispatched handle) ys t = hears {S = Unit {0}} (λ _ l _ m. g.told l (Dispatched handle) m) (λ x z l m told. (Dispatched handle, told)) tt xs tt ys t
   each_hears xs (Attached x) ys t = hears AttachesOne (λ y z l m told. (Attached y, told.1)) x xs t.0 ys t.1
 
@@ -207,10 +201,7 @@ module _ {L : Type 0} (g : Ghosts L) where
   turn_numbers R f x (l ∷ ls) y (m ∷ ms) t = joined_numbers l m ls ms (f x t.0 l m t.1) (turn_numbers R f t.0 ls y ms t.2)
 
   pub each_numbered : (n : Notice) (xs ys : List L) → NotifiedEach xs n ys → NumbersStay n (numbers_of xs) (numbers_of ys)
-  each_numbered (Spanned id call v y) xs ys t = turn_numbers (TellsOne (Spanned id call) v) (λ x z l m told. g.numbered l (Spanned id call (seeing x v) z) m told) v.registry xs y ys t
-  each_numbered (Followed span follows v y) xs ys t = turn_numbers (TellsOne (Followed span follows) v) (λ x z l m told. g.numbered l (Followed span follows (seeing x v) z) m told) v.registry xs y ys t
-  each_numbered (Happened e v y) xs ys t = turn_numbers (TellsOne (Happened e) v) (λ x z l m told. g.numbered l (Happened e (seeing x v) z) m told) v.registry xs y ys t
-  each_numbered (Renamed old new v y) xs ys t = turn_numbers (TellsOne (Renamed old new) v) (λ x z l m told. g.numbered l (Renamed old new (seeing x v) z) m told) v.registry xs y ys t
+  each_numbered (Called said v y) xs ys t = turn_numbers (TellsOne (Called said) v) (λ x z l m told. g.numbered l (Called said (seeing x v) z) m told) v.registry xs y ys t
   each_numbered (Dispatched handle) xs ys t = turn_numbers {S = Unit {0}} (λ _ l _ m. g.told l (Dispatched handle) m) (λ x z l m told. g.numbered l (Dispatched handle) m told) tt xs tt ys t
   each_numbered (Attached r) xs ys t = tt
 
@@ -234,10 +225,7 @@ module _ {L : Type 0} (g : Ghosts L) where
 
   -- they write under the keys of all of them
   pub each_aside : (n : Notice) (xs ys : List L) → NotifiedEach xs n ys → WritesUnder (keys_of xs) n
-  each_aside (Spanned id call v y) xs ys t = turn_aside (Spanned id call) v (λ x z l m told. g.aside l (Spanned id call (seeing x v) z) m told) v.registry xs y ys t
-  each_aside (Followed span follows v y) xs ys t = turn_aside (Followed span follows) v (λ x z l m told. g.aside l (Followed span follows (seeing x v) z) m told) v.registry xs y ys t
-  each_aside (Happened e v y) xs ys t = turn_aside (Happened e) v (λ x z l m told. g.aside l (Happened e (seeing x v) z) m told) v.registry xs y ys t
-  each_aside (Renamed old new v y) xs ys t = turn_aside (Renamed old new) v (λ x z l m told. g.aside l (Renamed old new (seeing x v) z) m told) v.registry xs y ys t
+  each_aside (Called said v y) xs ys t = turn_aside (Called said) v (λ x z l m told. g.aside l (Called said (seeing x v) z) m told) v.registry xs y ys t
   each_aside (Dispatched handle) xs ys t = tt
   each_aside (Attached x) xs ys t = tt
 

@@ -177,9 +177,9 @@ module _ {L : Type 0} (g : Ghosts L) where
   AttachGives layer x (Err back) = (64 < x.filters + g.filters layer) × (back.layer ≡ layer) × (back.subscriber ≡ x)
 
 module _ {L M : Type 0} (g : Ghosts L) (h : Ghosts M) (k : Ghosts (Layered L M)) where
-  -- the filters of a further layer are numbered, where the registry takes them; else both come back
+  -- the filters of a further layer are numbered after those that are there, where the registry takes them; else both come back
   abbrev pub JoinGives : L → Layered M RegistryValue → Result (Layered (Layered L M) RegistryValue) (AttachError L (Layered M RegistryValue)) → Type 0
   JoinGives layer s (Ok t) =
       (s.inner.filters + g.filters layer ≤ 64) × g.told layer (Attached s.inner) t.layer.layer × (t.layer.inner ≡ s.layer)
-      × (t.inner ≡ more_filters (g.filters layer) s.inner) × IsAttached k t
+      × (t.inner ≡ more_filters (g.filters layer) s.inner) × (IsAttached h s → IsAttached k t)
   JoinGives layer s (Err back) = (64 < s.inner.filters + g.filters layer) × (back.layer ≡ layer) × (back.subscriber ≡ s)

@@ -31,7 +31,7 @@ pub struct AttachError<L, S> {
 
 // Whether a registry takes the filters of a layer.
 fn has_room<L: Layer>(layer: &L, registry: &Registry) -> bool
-    ensures { registry.now.filters ≤ 64 → result ≡ nat_le (registry.now.filters + L.filters layer.now) 64 }
+    ensures { result ≡ nat_le (registry.now.filters + L.filters layer.now) 64 }
 {
     layer.room_left(registry.filter_room()).is_some()
 }
@@ -54,7 +54,7 @@ pub(crate) fn attach<L: Layer>(
     layer: L,
     registry: Registry,
 ) -> Result<Layered<L, Registry>, AttachError<L, Registry>>
-    ensures { registry.filters ≤ 64 → AttachGives ⟦<L as Layer>⟧ layer registry result }
+    ensures { AttachGives ⟦<L as Layer>⟧ layer registry result }
 {
     if has_room(&layer, &registry) {
         Ok(number(layer, registry))

@@ -38,6 +38,13 @@ impl<'a> Context<'a> {
         }
     }
 
+    /// The lane and the moment of what is asked or told.
+    pub fn at(&self) -> At
+        ensures { result ≡ (view self.now).at }
+    {
+        self.at
+    }
+
     /// The span that the lane is in: its last entry that is no duplicate and that the filter passed.
     pub fn lookup_current(&self) -> Option<SpanRef<'_>>
         ensures { let v = view self.now in option_map plain_ref result ≡ option_map (ref_in v) (lane_span v) }

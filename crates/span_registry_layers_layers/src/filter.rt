@@ -1,5 +1,5 @@
 //! What decides which spans and events an output is told.
-ghost use Rattle.std.specs.Prelude.{◌≡◌, ℕ, Bool, Option};
+ghost use Rattle.std.specs.Prelude.{◌≡◌, ℕ, Bool, true, Option};
 ghost use Rattle.tracing_core_requests.specs.Interests.{PlainInterest};
 ghost use Rattle.tracing_core_fields.specs.Metadata.{plain_metadata};
 ghost use Rattle.tracing_core_fields.specs.PlainMetadata.{PlainMetadata};
@@ -7,6 +7,7 @@ ghost use Rattle.tracing_core_requests.specs.PlainRequests.{PlainEvent, plain_at
 ghost use Rattle.tracing_core_requests.specs.Steady.{SameWord};
 ghost use Rattle.span_registry_layers_layers.specs.Honesty.{Fair, Firm, Single};
 ghost use Rattle.span_registry_layers_layers.specs.Looks.{Closed, Entered, Exited, Hook, Recorded, SpanMade, View, view};
+ghost use Rattle.span_registry_layers_layers.specs.SpanCalls.{hook};
 
 mod boxed;
 mod combined;
@@ -15,6 +16,7 @@ mod ext;
 mod function;
 mod level;
 mod optional;
+mod span_call;
 
 use crate::context::Context;
 pub(crate) use combined::either_interest;
@@ -22,6 +24,7 @@ pub use combined::{And, Not, Or, either_hint};
 pub use dynamic::{CallsiteTest, ContextTest, DynFilterFn, dynamic_filter_fn};
 pub use ext::FilterExt;
 pub use function::{FilterFn, MetadataTest, filter_fn};
+pub use span_call::SpanCall;
 use tracing_core_fields::{Id, LevelFilter, Metadata};
 use tracing_core_requests::{Attributes, Event, Interest, Record};
 
@@ -36,7 +39,7 @@ pub trait Filter: Drop {
     ghost answers: { Self → PlainMetadata → View → Bool → Type 0 };
 
     // What it may answer of an event that it passed so far.
-    ghost event_answers: { Self → PlainEvent → View → Bool → Type 0 };
+    ghost event_answers: { Self → PlainEvent → View → Bool → Type 0 } = { λ x e v b. b ≡ true };
 
     // What it may say of its interest in a callsite.
     ghost says: { Self → PlainMetadata → PlainInterest → Type 0 };
@@ -45,10 +48,10 @@ pub trait Filter: Drop {
     ghost hint: { Self → Option ℕ };
 
     // What a call makes of it.
-    ghost after: { Self → Hook → Self };
+    ghost after: { Self → Hook → Self } = { λ x h. x };
 
     // Which values are consistent.
-    ghost honest: { Self → Type 0 };
+    ghost honest: { Self → Type 0 } = { λ x. Unit {0} };
 
     ghost fair: { (x : Self) → honest x → Fair (answers x) (says x) (hint x) };
 
@@ -75,23 +78,43 @@ pub trait Filter: Drop {
     fn max_level_hint(&self) -> Option<LevelFilter>
         ensures { result ≡ hint self.now };
 
+    /// Does what the filter does with what it is told of spans that it passed. Each of the hooks below hands its call to
+    /// this one, where the filter doesn't write the hook itself.
+    fn hear(&mut self, call: &SpanCall<'_, '_, '_, '_>, context: &Context<'_>)
+        ensures { self.new ≡ after self.old (hook call.now (view context.now)) };
+
     /// A span that passed was made.
     fn on_new_span(&mut self, attributes: &Attributes<'_, '_>, span: &Id, context: &Context<'_>)
-        ensures { self.new ≡ after self.old (SpanMade (plain_attributes attributes.now) span.now (view context.now)) };
+        ensures { self.new ≡ after self.old (SpanMade (plain_attributes attributes.now) span.now (view context.now)) }
+    {
+        self.hear(&SpanCall::NewSpan(span, attributes), context);
+    }
 
     /// Values were recorded on a span that passed.
     fn on_record(&mut self, span: &Id, values: &Record<'_>, context: &Context<'_>)
-        ensures { self.new ≡ after self.old (Recorded span.now (plain_record values.now) (view context.now)) };
+        ensures { self.new ≡ after self.old (Recorded span.now (plain_record values.now) (view context.now)) }
+    {
+        self.hear(&SpanCall::Record(span, values), context);
+    }
 
     /// A span that passed was entered.
     fn on_enter(&mut self, span: &Id, context: &Context<'_>)
-        ensures { self.new ≡ after self.old (Entered span.now (view context.now)) };
+        ensures { self.new ≡ after self.old (Entered span.now (view context.now)) }
+    {
+        self.hear(&SpanCall::Enter(span), context);
+    }
 
     /// A span that passed was left.
     fn on_exit(&mut self, span: &Id, context: &Context<'_>)
-        ensures { self.new ≡ after self.old (Exited span.now (view context.now)) };
+        ensures { self.new ≡ after self.old (Exited span.now (view context.now)) }
+    {
+        self.hear(&SpanCall::Exit(span), context);
+    }
 
     /// A span that passed closed.
     fn on_close(&mut self, span: &Id, context: &Context<'_>)
-        ensures { self.new ≡ after self.old (Closed span.now (view context.now)) };
+        ensures { self.new ≡ after self.old (Closed span.now (view context.now)) }
+    {
+        self.hear(&SpanCall::Close(span), context);
+    }
 }

@@ -1,5 +1,6 @@
 //! What an output does with what it is told.
-ghost use Rattle.std.specs.Prelude.{◌≡◌, ◌≤◌, ◌+◌, ℕ, Bool, false, List, [], Option, length};
+ghost use Rattle.std.specs.Prelude.{◌≡◌, ◌≤◌, ◌+◌, ℕ, Bool, true, false, List, [], Option, None, length};
+ghost use Rattle.tracing_core_requests.specs.declared.interest.InterestInner.TheVariants.{Always};
 ghost use Rattle.tracing_core_requests.specs.Interests.{PlainInterest};
 ghost use Rattle.tracing_core_fields.specs.Metadata.{plain_metadata};
 ghost use Rattle.tracing_core_fields.specs.PlainMetadata.{PlainMetadata};
@@ -7,7 +8,8 @@ ghost use Rattle.tracing_core_requests.specs.PlainRequests.{PlainEvent, plain_at
 ghost use Rattle.tracing_core_requests.specs.Steady.{SameWord};
 ghost use Rattle.span_registry_layers_layers.specs.Honesty.{Fair, OneAnswer};
 ghost use Rattle.span_registry_layers_layers.specs.Looks.{Closed, Entered, Exited, Recorded, SameLoan, SpanMade, View, left, view};
-ghost use Rattle.span_registry_layers_layers.specs.Notices.{AddsFilters, Attached, Dispatched, Followed, Happened, Notice, Renamed, Spanned, WritesUnder};
+ghost use Rattle.span_registry_layers_layers.specs.Notices.{AddsFilters, Attached, Dispatched, Followed, Happened, Notice, Renamed, Spanned, Untouched, WritesUnder};
+ghost use Rattle.span_registry_layers_layers.specs.Told.{notice};
 ghost use Rattle.span_registry_layers_layers.specs.Numbering.{AreNumbers, NumbersStay, SameBut, SameOf, more_filters, numbers_from, room_after};
 
 mod boxed;
@@ -25,6 +27,7 @@ pub use ext::{LayerExt, SubscriberExt};
 pub use identity::Identity;
 pub use layered::Layered;
 use span_registry_layers_store::{FilterMap, Registry};
+pub use told::Told;
 use tracing_core_fields::{Id, LevelFilter, Metadata};
 use tracing_core_requests::{Attributes, Event, Interest, Record, WeakDispatch};
 
@@ -35,24 +38,29 @@ use tracing_core_requests::{Attributes, Event, Interest, Record, WeakDispatch};
 /// that `on_layer` may number filters. Where nothing is said of `keys` there are none, so that the registry
 /// stays as it was; a layer that writes says in `told` what it writes, by the registry that the notice holds
 /// as it is left. An honest layer is consistent as an honest filter does, whatever it is told.
+///
+/// What a layer doesn't say is what one does that passes all, says so, knows no hint, and changes nothing by what it is
+/// told. The least that a layer writes is six laws (`fair`, `stays`, `numbered`, `once`, `aside`, `keyed`) and nine
+/// methods: `hear`, the four that answer whether something passes, and `on_register_dispatch`, `on_layer`, `room_left`
+/// and `ask_span`. A hook that does nothing is a case of `hear` that does nothing.
 pub trait Layer: Drop {
     // What it may answer of a callsite, by what it may look at.
-    ghost answers: { Self → PlainMetadata → View → Bool → Type 0 };
+    ghost answers: { Self → PlainMetadata → View → Bool → Type 0 } = { λ x m v b. b ≡ true };
 
     // What it may answer of an event that it passed so far.
-    ghost event_answers: { Self → PlainEvent → View → Bool → Type 0 };
+    ghost event_answers: { Self → PlainEvent → View → Bool → Type 0 } = { λ x e v b. b ≡ true };
 
     // What it may say of its interest in a callsite.
-    ghost says: { Self → PlainMetadata → PlainInterest → Type 0 };
+    ghost says: { Self → PlainMetadata → PlainInterest → Type 0 } = { λ x m k. k ≡ Always };
 
     // The rank of the most verbose level that it passes.
-    ghost hint: { Self → Option ℕ };
+    ghost hint: { Self → Option ℕ } = { λ x. None };
 
     // What a notice may make of it.
-    ghost told: { Self → Notice → Self → Type 0 };
+    ghost told: { Self → Notice → Self → Type 0 } = { λ x n y. (y ≡ x) × Untouched n };
 
     // Which values are consistent.
-    ghost honest: { Self → Type 0 };
+    ghost honest: { Self → Type 0 } = { λ x. Unit {0} };
 
     // How many filters it has.
     ghost filters: { Self → ℕ } = { λ x. 0 };
@@ -123,11 +131,20 @@ pub trait Layer: Drop {
     fn enabled(&self, metadata: &Metadata<'_>, context: &Context<'_>) -> bool
         ensures { answers self.now (plain_metadata metadata.now) (view context.now) result };
 
+    /// Does what the layer does with what it is told of spans and events. Each of the hooks below hands its call to this
+    /// one, where the layer doesn't write the hook itself.
+    fn hear(&mut self, call: &Told<'_, '_, '_, '_>, context: &mut Context<'_>)
+        ensures lent { SameLoan context.old context.new }
+        ensures notified { told self.old (notice call.now (view context.old) (left context.new)) self.new };
+
     /// A span was made.
     fn on_new_span(&mut self, attributes: &Attributes<'_, '_>, span: &Id, context: &mut Context<'_>)
         ensures lent { SameLoan context.old context.new }
         ensures notified { told self.old (Spanned span.now (SpanMade (plain_attributes attributes.now) span.now)
-            (view context.old) (left context.new)) self.new };
+            (view context.old) (left context.new)) self.new }
+    {
+        self.hear(&Told::NewSpan(span, attributes), context);
+    }
 
     /// The most verbose level that passes, where it knows one.
     fn max_level_hint(&self) -> Option<LevelFilter>
@@ -137,13 +154,19 @@ pub trait Layer: Drop {
     fn on_record(&mut self, span: &Id, values: &Record<'_>, context: &mut Context<'_>)
         ensures lent { SameLoan context.old context.new }
         ensures notified { told self.old (Spanned span.now (Recorded span.now (plain_record values.now))
-            (view context.old) (left context.new)) self.new };
+            (view context.old) (left context.new)) self.new }
+    {
+        self.hear(&Told::Record(span, values), context);
+    }
 
     /// A span was said to follow from another one.
     fn on_follows_from(&mut self, span: &Id, follows: &Id, context: &mut Context<'_>)
         ensures lent { SameLoan context.old context.new }
         ensures notified { told self.old (Followed span.now follows.now (view context.old) (left context.new))
-            self.new };
+            self.new }
+    {
+        self.hear(&Told::FollowsFrom(span, follows), context);
+    }
 
     /// Whether an event passes, whose callsite does. Where it refuses, nobody is told.
     fn event_enabled(&self, event: &Event<'_, '_>, context: &Context<'_>) -> bool
@@ -153,28 +176,43 @@ pub trait Layer: Drop {
     fn on_event(&mut self, event: &Event<'_, '_>, context: &mut Context<'_>)
         ensures lent { SameLoan context.old context.new }
         ensures notified { told self.old (Happened (plain_event event.now) (view context.old) (left context.new))
-            self.new };
+            self.new }
+    {
+        self.hear(&Told::Event(event), context);
+    }
 
     /// A span was entered.
     fn on_enter(&mut self, span: &Id, context: &mut Context<'_>)
         ensures lent { SameLoan context.old context.new }
         ensures notified { told self.old (Spanned span.now (Entered span.now) (view context.old) (left context.new))
-            self.new };
+            self.new }
+    {
+        self.hear(&Told::Enter(span), context);
+    }
 
     /// A span was left.
     fn on_exit(&mut self, span: &Id, context: &mut Context<'_>)
         ensures lent { SameLoan context.old context.new }
         ensures notified { told self.old (Spanned span.now (Exited span.now) (view context.old) (left context.new))
-            self.new };
+            self.new }
+    {
+        self.hear(&Told::Exit(span), context);
+    }
 
     /// A span closes: it can still be looked at.
     fn on_close(&mut self, span: &Id, context: &mut Context<'_>)
         ensures lent { SameLoan context.old context.new }
         ensures notified { told self.old (Spanned span.now (Closed span.now) (view context.old) (left context.new))
-            self.new };
+            self.new }
+    {
+        self.hear(&Told::Close(span), context);
+    }
 
     /// A span has another id. No stack of this crate calls it.
     fn on_id_change(&mut self, old: &Id, new: &Id, context: &mut Context<'_>)
         ensures lent { SameLoan context.old context.new }
-        ensures notified { told self.old (Renamed old.now new.now (view context.old) (left context.new)) self.new };
+        ensures notified { told self.old (Renamed old.now new.now (view context.old) (left context.new)) self.new }
+    {
+        self.hear(&Told::IdChange(old, new), context);
+    }
 }

@@ -12,8 +12,8 @@ pub use attached::AttachError;
 pub use context::Context;
 pub use filter::{
     And, CallsiteTest, ContextTest, DynFilterFn, Filter, FilterExt, FilterFn, MetadataTest, Not,
-    Or, dynamic_filter_fn, either_hint, filter_fn,
+    Or, SpanCall, dynamic_filter_fn, either_hint, filter_fn,
 };
 pub use filtered::Filtered;
 pub use laws::{joined_registry_stays_sound, tree_registry_stays_sound, trees_stay_attached};
-pub use layer::{Identity, Layer, LayerExt, Layered, SubscriberExt};
+pub use layer::{Identity, Layer, LayerExt, Layered, SubscriberExt, Told};

@@ -7,7 +7,7 @@ use Rattle.tracing_core_requests.specs.PlainRequests.{PlainAttributes, PlainEven
 use Rattle.tracing_core_requests.specs.declared.refusal.RequestError.{RequestError}
 use Rattle.tracing_core_requests.specs.declared.refusal.RequestError.TheVariants.{UnknownParent}
 use Rattle.span_registry_layers_store.specs.Aside.{SameButSlots}
-use Rattle.span_registry_layers_store.specs.Gives.{EntryGives, GivesUnless, SpanGives, close_refusal, first, is_closed, open_refusal, when}
+use Rattle.span_registry_layers_store.specs.Gives.{EntryGives, GivesUnless, close_refusal, first, is_closed, open_refusal, when}
 use Rattle.span_registry_layers_store.specs.Registries.{RegistryValue, knows, swept, without_entry, without_handle}
 use Rattle.span_registry_layers_store.specs.Verdicts.{all_pass}
 use Rattle.span_registry_layers_store.proofs.Aside.{aside_open}

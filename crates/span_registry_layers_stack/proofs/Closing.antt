@@ -1,5 +1,5 @@
 -- Spans that close, one after the other.
-use Rattle.std.proofs.Common.{◌≡◌, ℕ, true, List, ◌∷◌, Option, refl, sym, subst}
+use Rattle.std.proofs.Common.{◌≡◌, ℕ, true, List, ◌∷◌, Option, sym, subst}
 use Rattle.tracing_core_requests.specs.declared.at.At.{At}
 use Rattle.span_registry_layers_store.specs.Gives.{ClosesNext, ForgetGives, IsNext}
 use Rattle.span_registry_layers_store.specs.Aside.{SameButSlots, ids_of}

@@ -4,7 +4,7 @@ use Rattle.std.specs.List.{list_any}
 use Rattle.tracing_core_requests.specs.Interests.{PlainInterest}
 use Rattle.tracing_core_fields.specs.PlainMetadata.{PlainMetadata}
 use Rattle.span_registry_layers_stack.specs.Rows.{EachBecomes}
-use Rattle.span_registry_layers_stack.specs.Sites.{CachesInterest, CachesInterestIf, Renews, is_of, plain_cached_interest, renewed}
+use Rattle.span_registry_layers_stack.specs.Sites.{KeepsInterest, KeptIf, Renews, is_of, plain_cached_interest, renewed}
 use Rattle.span_registry_layers_stack.specs.declared.cached_interest.CachedInterest.{CachedInterest}
 
 renewed_all : (m : PlainMetadata) (k : PlainInterest) (sites later : List CachedInterest) → EachBecomes (Renews m k) sites later → map plain_cached_interest later ≡ map (renewed m k) (map plain_cached_interest sites)
@@ -13,5 +13,5 @@ renewed_all m k [] (t ∷ ts) w = absurd w
 renewed_all m k (s ∷ ss) [] w = absurd w
 renewed_all m k (s ∷ ss) (t ∷ ts) w = ap (λ c. c ∷ map plain_cached_interest ts) w.0 ∙ ap (λ cs. renewed m k (plain_cached_interest s) ∷ cs) (renewed_all m k ss ts w.1)
 
-pub keeps_renewed : (m : PlainMetadata) (k : PlainInterest) (sites later : List CachedInterest) → list_any (is_of m) (map plain_cached_interest sites) ≡ true → EachBecomes (Renews m k) sites later → CachesInterest m k (map plain_cached_interest sites) (map plain_cached_interest later)
-keeps_renewed m k sites later e w = subst (λ b. CachesInterestIf b m k (map plain_cached_interest sites) (map plain_cached_interest later)) (sym e) (renewed_all m k sites later w)
+pub keeps_renewed : (m : PlainMetadata) (k : PlainInterest) (sites later : List CachedInterest) → list_any (is_of m) (map plain_cached_interest sites) ≡ true → EachBecomes (Renews m k) sites later → KeepsInterest true m k (map plain_cached_interest sites) (map plain_cached_interest later)
+keeps_renewed m k sites later e w = subst (λ b. KeptIf b true m k (map plain_cached_interest sites) (map plain_cached_interest later)) (sym e) (refl, renewed_all m k sites later w)

@@ -13,7 +13,6 @@ use Rattle.span_registry_layers_store.specs.Spans.{is_member}
 use Rattle.span_registry_layers_store.specs.Verdicts.{all_pass, or_passes, passes_at}
 use Rattle.span_registry_layers_layers.specs.Combined.{Else, Then}
 use Rattle.span_registry_layers_layers.specs.Honesty.{One}
-use Rattle.span_registry_layers_layers.specs.Notices.{Happened}
 use Rattle.span_registry_layers_layers.specs.Numbering.{AreNumbers, SameBut, SameOf}
 use Rattle.span_registry_layers_layers.proofs.Numbers.{numbers_first, numbers_second, same_first, same_self}
 use Rattle.span_registry_layers_layers.specs.Several.{EachInTurn}

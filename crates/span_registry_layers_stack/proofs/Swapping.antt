@@ -6,12 +6,12 @@ use Rattle.span_registry_layers_layers.specs.declared.filter.Filter.{Ghosts}
 use Rattle.span_registry_layers_layers.specs.declared.filtered.Filtered.{Filtered}
 use Rattle.span_registry_layers_layers.specs.declared.layer.Layer.{Ghosts as LayerGhosts}
 use Rattle.span_registry_layers_store.specs.declared.filter_map.FilterId.{FilterId}
-use Rattle.span_registry_layers_stack.specs.Loans.{forgotten, put_at, put_output}
-use Rattle.span_registry_layers_stack.specs.Rows.{filters_of, numbers_of}
+use Rattle.span_registry_layers_stack.specs.Loans.{forgotten, layer_of, layer_put, put_at, put_layer, put_output}
+use Rattle.span_registry_layers_stack.specs.Rows.{filters_of, numbers_of, with_layer}
 use Rattle.span_registry_layers_stack.specs.Stacks.{StackValue}
 use Rattle.span_registry_layers_stack.specs.Steadiness.{hints_over}
 use Rattle.span_registry_layers_stack.specs.Swaps.{SwapAt, asked_anew, with_filter, with_rows}
-use Rattle.span_registry_layers_stack.specs.CacheValidity.{HintOver, CacheIsValid}
+use Rattle.span_registry_layers_stack.specs.CacheValidity.{HintOver, CacheIsValid, CacheIsValidFor}
 use Rattle.span_registry_layers_stack.specs.declared.output.UnknownOutput.{UnknownOutput}
 use Rattle.span_registry_layers_stack.specs.declared.row.Row.{Row}
 
@@ -36,6 +36,20 @@ module _ {L F : Type 0} (g : Ghosts F) where
 same_of : {A : Type 0} (x y : A) → Some x ≡ Some y → x ≡ y
 same_of x y e = cc
 
+-- another row with the same filter
+filters_put : {L F : Type 0} (rows : List (Row (Filtered L F))) (place : ℕ) (row later : Row (Filtered L F)) → slice_get rows place ≡ Some row → later.output.filter ≡ row.output.filter → filters_of (slice_set rows place later) ≡ filters_of rows
+filters_put [] place row later found e = refl
+filters_put (x ∷ xs) zero row later found e = ap (λ f. f ∷ filters_of xs) (e ∙ ap (λ (r : Row (Filtered _ _)). r.output.filter) (sym (same_of x row found)))
+filters_put (x ∷ xs) (suc place) row later found e = ap (λ fs. x.output.filter ∷ fs) (filters_put xs place row later found e)
+
+filters_stay : {L F : Type 0} (rows : List (Row (Filtered L F))) (place : ℕ) (at : Option (Row (Filtered L F))) (layer : L) → slice_get rows place ≡ at → filters_of (layer_put at place layer rows) ≡ filters_of rows
+filters_stay rows place None layer found = refl
+filters_stay rows place (Some row) layer found = filters_put rows place row (with_layer layer row) found refl
+
+-- whatever the lent layer becomes, what is kept stays right
+pub layer_word : {L F : Type 0} (g : Ghosts F) (place : ℕ) (layer : L) (s : StackValue (Filtered L F)) → CacheIsValid g s → CacheIsValid g (put_layer place layer s)
+layer_word g place layer s w = subst (λ fs. CacheIsValidFor g fs s.sites s.hint) (sym (filters_stay s.rows place (slice_get s.rows place) layer refl)) w
+
 module _ {L F : Type 0} (h : LayerGhosts L) where
   -- another row with the same numbers
   numbers_put : (rows : List (Row (Filtered L F))) (place : ℕ) (row later : Row (Filtered L F)) → slice_get rows place ≡ Some row → later.id ≡ row.id → h.numbers later.output.layer ≡ h.numbers row.output.layer →
@@ -59,3 +73,11 @@ module _ {L F : Type 0} (h : LayerGhosts L) where
   lent_numbers now place output rows (Some row) None found lent same = absurd (cc)
   lent_numbers now place output rows (Some row) (Some l) found lent same =
       numbers_put rows place row (record row { output = output }) found refl (same ∙ ap (λ (o : Filtered L F). h.numbers o.layer) (same_of (now l) row.output lent))
+
+  -- of a lent layer
+  pub layer_numbers : {R : Type 0} (now : R → L) (place : ℕ) (layer : L) (rows : List (Row (Filtered L F))) (at : Option (Row (Filtered L F))) (r : Option R) → slice_get rows place ≡ at →
+      option_map now r ≡ option_map layer_of at → IfSome r (λ lent. h.numbers layer ≡ h.numbers (now lent)) → numbers_of h (layer_put at place layer rows) ≡ numbers_of h rows
+  layer_numbers now place layer rows None r found lent same = refl
+  layer_numbers now place layer rows (Some row) None found lent same = absurd (cc)
+  layer_numbers now place layer rows (Some row) (Some l) found lent same =
+      numbers_put rows place row (with_layer layer row) found refl (same ∙ ap h.numbers (same_of (now l) row.output.layer lent))

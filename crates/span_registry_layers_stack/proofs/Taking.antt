@@ -1,17 +1,12 @@
--- What the last output's leaving leaves.
-use Rattle.std.proofs.Common.{◌≡◌, ◌++◌, List, [], ◌∷◌, length, refl, sym, ap, ◌∙◌, arith, append-nil}
-use Rattle.std.specs.Prelude.{Some, None}
-use Rattle.span_registry_layers_stack.specs.Stacks.{StackValue}
-use Rattle.span_registry_layers_stack.specs.Swaps.{with_rows}
-use Rattle.span_registry_layers_stack.specs.Taking.{PopsOutput, output_of}
+-- The first output comes out.
+use Rattle.std.proofs.Common.{◌≡◌, ◌<◌, ◌∷◌, List, [], length, map, get_or, remove, refl, ap, arith, ◌∙◌, sym}
+use Rattle.span_registry_layers_stack.specs.Taking.{output_of}
 use Rattle.span_registry_layers_stack.specs.declared.row.Row.{Row}
 
-empty_of : {A : Type 0} (xs : List A) → length xs ≡ 0 → xs ≡ []
-empty_of [] e = refl
-empty_of (x ∷ xs) e = absurd (omega arith)
+pub none_out : {O : Type 0} (rows : List (Row O)) → length rows ≡ 0 → map output_of rows ≡ []
+none_out [] e = refl
+none_out (row ∷ rows) e = absurd (omega (arith, e))
 
-pub pops_none : {O : Type 0} (s : StackValue O) (later : List (Row O)) → length s.rows ≡ 0 → s.rows ≡ later ++ [] → PopsOutput s None (with_rows later s)
-pops_none s later none e = (empty_of s.rows none, ap (λ rows. with_rows rows s) (sym (e ∙ append-nil later)))
-
-pub pops_some : {O : Type 0} (s : StackValue O) (later : List (Row O)) (row : Row O) → s.rows ≡ later ++ row ∷ [] → PopsOutput s (Some (output_of row)) (with_rows later s)
-pops_some s later row e = (row, e, refl, refl)
+pub first_out : {O : Type 0} (rows later : List (Row O)) (row : Row O) → 0 < length rows → row ≡ get_or rows 0 row → later ≡ remove rows 0 → map output_of rows ≡ output_of row ∷ map output_of later
+first_out [] later row some first rest = absurd (omega (arith, some))
+first_out (x ∷ xs) later row some first rest = ap (λ (y : Row _). output_of y ∷ map output_of xs) (sym first) ∙ ap (λ (ys : List (Row _)). output_of row ∷ map output_of ys) (sym rest)

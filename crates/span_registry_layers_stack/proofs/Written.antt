@@ -1,10 +1,8 @@
 -- What telling outputs leaves of a stack's registry.
-use Rattle.std.proofs.Common.{◌≡◌, ◌&&◌, ℕ, Bool, true, false, List, [], ◌∷◌, refl, sym, ap, ◌∙◌, subst}
+use Rattle.std.proofs.Common.{◌≡◌, ◌&&◌, ℕ, Bool, true, false, List, [], ◌∷◌, sym, ap, ◌∙◌}
 use Rattle.tracing_core_requests.specs.declared.at.At.{At}
-use Rattle.tracing_core_fields.specs.PlainMetadata.{PlainMetadata}
 use Rattle.tracing_core_requests.specs.PlainRequests.{PlainEvent}
 use Rattle.span_registry_layers_store.specs.Aside.{SameButSlots, bare, ids_of}
-use Rattle.span_registry_layers_store.specs.Gives.{IsSettled}
 use Rattle.span_registry_layers_store.specs.Registries.{RegistryValue, closing_in, swept}
 use Rattle.span_registry_layers_store.proofs.Aside.{aside_swept, aside_then}
 use Rattle.span_registry_layers_layers.specs.Looks.{Closed, Hook, View}

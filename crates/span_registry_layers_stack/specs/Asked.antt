@@ -1,5 +1,5 @@
 -- What is asked of all filters again.
-use Rattle.std.specs.Prelude.{◌≡◌, ◌||◌, ℕ, Bool, false, List, [], ◌∷◌, length, Option, Some, None, slice_set}
+use Rattle.std.specs.Prelude.{◌≡◌, ◌||◌, ℕ, Bool, false, List, [], ◌∷◌, length, Option, None, slice_set}
 use Rattle.tracing_core_requests.specs.Interests.{joined, settled, PlainInterest}
 use Rattle.tracing_core_requests.specs.declared.at.At.{At}
 use Rattle.tracing_core_fields.specs.PlainMetadata.{PlainMetadata}

@@ -1,7 +1,7 @@
 -- What is kept refuses only what asking refuses.
 use Rattle.std.specs.Prelude.{◌≡◌, ◌||◌, ◌&&◌, ◌⊎◌, ℕ, Bool, true, false, List, [], ◌∷◌, map, Option, Some, None, Result, refl}
 use Rattle.std.specs.List.{list_any}
-use Rattle.std.proofs.Common.{inl, inr, ap, sym, ◌∙◌, subst, arith}
+use Rattle.std.proofs.Common.{inl, inr, sym, subst, arith}
 use Rattle.tracing_core_requests.specs.declared.at.At.{At}
 use Rattle.tracing_core_requests.specs.Interests.{PlainInterest, says_never, Covers}
 use Rattle.tracing_core_requests.specs.declared.interest.InterestInner.TheVariants.{Never, Sometimes, Always}
@@ -19,10 +19,10 @@ use Rattle.span_registry_layers_layers.specs.declared.filter.Filter.{Ghosts}
 use Rattle.span_registry_layers_layers.specs.declared.filtered.Filtered.{Filtered}
 use Rattle.span_registry_layers_layers.specs.declared.layer.Layer.{Ghosts as LayerGhosts}
 use Rattle.span_registry_layers_stack.specs.Asked.{AsksFrom, SomePasses, SomePassesBy}
-use Rattle.span_registry_layers_stack.specs.Calls.{SpanAfresh, SpanAsked, SpanCached, SpanKnown, SpanUnless, SpanWhere}
+use Rattle.span_registry_layers_stack.specs.Calls.{SpanAfresh, SpanAsked, SpanByAnswers, SpanCached, SpanKnown, SpanUnless, SpanWhere}
 use Rattle.span_registry_layers_stack.specs.Rows.{Afresh, AsksEventBy, EachBecomes, TellsEvent, filters_of, marked, view_of}
 use Rattle.span_registry_layers_stack.specs.Sites.{PlainCachedInterest, is_of, is_refused_by}
-use Rattle.span_registry_layers_stack.specs.Stacks.{EventAsked, EventCached, PassesAsked, PassesCached, PassesUnless, StackValue, TellsAfresh, TellsUnless, WhereKnown, cleared, is_above, is_refused}
+use Rattle.span_registry_layers_stack.specs.Stacks.{EventAsked, EventByAnswers, EventCached, PassesAsked, PassesCached, PassesUnless, StackValue, TellsAfresh, TellsAll, TellsUnless, WhereKnown, cleared, is_above, is_refused}
 use Rattle.span_registry_layers_stack.specs.CacheValidity.{HintOver, Knows, CacheIsValid, CacheIsValidFor}
 use Rattle.span_registry_layers_stack.specs.declared.row.Row.{Row}
 
@@ -97,7 +97,7 @@ module _ {F : Type 0} (g : Ghosts F) where
     nobody_passes m at x [] w = refl
     nobody_passes m at x (row ∷ rows) w = (false, inr (refl, w.0 (view_of at x row)), nobody_passes m at x rows w.1)
 
-    afresh_passes : (m : PlainMetadata) (at : At) (x : RegistryValue) (rows : List (Row (Filtered L F))) (b : Bool) → SomePasses g m at x rows b → SomePassesBy (Afresh g) m at x rows b
+    pub afresh_passes : (m : PlainMetadata) (at : At) (x : RegistryValue) (rows : List (Row (Filtered L F))) (b : Bool) → SomePasses g m at x rows b → SomePassesBy (Afresh g) m at x rows b
     afresh_passes m at x [] b w = w
     afresh_passes m at x (row ∷ rows) b w =
         (w.0, inl w.1, else_known (SomePasses g m at x rows) (SomePassesBy (Afresh g) m at x rows) w.0 b (afresh_passes m at x rows b) w.2)
@@ -132,11 +132,18 @@ module _ {L F : Type 0} (g : Ghosts F) (h : LayerGhosts L) where
   afresh_asked e at x (r ∷ rs) [] w = absurd w
   afresh_asked e at x (r ∷ rs) (l ∷ ls) w = ((inl w.0.0, w.0.1, w.0.2), afresh_asked e at x rs ls w.1)
 
+  all_told : (e : PlainEvent) (at : At) (s t : StackValue (Filtered L F)) → TellsAll g h e at s t → TellsAfresh g h e at s t
+  all_told e at s t told = (told.0, (afresh_asked e at s.registry s.rows told.0.rows told.1.0, told.1.1), told.2)
+
   unless_told : (e : PlainEvent) (at : At) (s t : StackValue (Filtered L F)) → CacheIsValid g s → (b : Bool) → is_refused s e.metadata ≡ b → TellsUnless g h b e at s t → TellsAfresh g h e at s t
   unless_told e at s t w true refused same =
       let refuse = all_refuse g e.metadata s.hint (filters_of s.rows) s.sites w refused in
       subst (TellsAfresh g h e at s) (sym same) (cleared s, (cleared_asked e at s.registry s.rows refuse, refl), (cleared_told e at s.registry s.rows, refl))
-  unless_told e at s t w false refused told = (told.0, (afresh_asked e at s.registry s.rows told.0.rows told.1.0, told.1.1), told.2)
+  unless_told e at s t w false refused told = all_told e at s t told
+
+  -- so is what each filter answers now
+  pub event_by_answers : (e : PlainEvent) (at : At) (s : StackValue (Filtered L F)) (r : Result (Unit {0}) RequestError) (t : StackValue (Filtered L F)) → EventByAnswers g h e at s r t → EventAsked g h e at s r t
+  event_by_answers e at s r t told = where_known s (TellsAll g h e at s) (TellsAfresh g h e at s) (knows s.registry (explicit_parent e.parent)) r t (all_told e at s t) told
 
   -- what is answered by what is kept is what asking every filter again gives
   pub event_is_asked : (e : PlainEvent) (at : At) (s : StackValue (Filtered L F)) (r : Result (Unit {0}) RequestError) (t : StackValue (Filtered L F)) → CacheIsValid g s → EventCached g h e at s r t → EventAsked g h e at s r t
@@ -167,4 +174,11 @@ module _ {L F : Type 0} (g : Ghosts F) (h : LayerGhosts L) where
     where
       known : (k : Bool) → SpanKnown g h k s (SpanUnless g h (is_refused s a.metadata) a at s) r t → SpanKnown g h k s (SpanAfresh g h a at s) r t
       known true given = span_afresh a at s r t w (is_refused s a.metadata) refl given
+      known false given = given
+
+  pub span_by_answers : (a : PlainAttributes) (at : At) (s : StackValue (Filtered L F)) (r : Result (Option ℕ) RequestError) (t : StackValue (Filtered L F)) → SpanByAnswers g h a at s r t → SpanAsked g h a at s r t
+  span_by_answers a at s r t given = known (knows s.registry (explicit_parent a.parent)) given
+    where
+      known : (k : Bool) → SpanKnown g h k s (SpanUnless g h false a at s) r t → SpanKnown g h k s (SpanAfresh g h a at s) r t
+      known true given = span_where_afresh given.1 given.0 a at s r t given.2 given.3
       known false given = given

@@ -129,11 +129,19 @@ module _ {L F : Type 0} (g : Ghosts F) (h : LayerGhosts L) where
   abbrev pub SpanAsked : PlainAttributes → At → StackValue (Filtered L F) → Result (Option ℕ) RequestError → StackValue (Filtered L F) → Type 0
   SpanAsked a at s r t = SpanKnown (knows s.registry (explicit_parent a.parent)) s (SpanAfresh a at s) r t
 
+  -- the same, nobody asked where it is refused
+  abbrev pub NewSpanUnless : Bool → PlainAttributes → At → StackValue (Filtered L F) → Result (Option ℕ) RequestError → StackValue (Filtered L F) → Type 0
+  NewSpanUnless refused a at s r t = SpanKnown (knows s.registry (explicit_parent a.parent)) s (SpanUnless refused a at s) r t
+
   -- the same, nobody asked where what is kept refuses it
   abbrev pub SpanCached : PlainAttributes → At → StackValue (Filtered L F) → Result (Option ℕ) RequestError → StackValue (Filtered L F) → Type 0
-  SpanCached a at s r t = SpanKnown (knows s.registry (explicit_parent a.parent)) s (SpanUnless (is_refused s a.metadata) a at s) r t
+  SpanCached a at s r t = NewSpanUnless (is_refused s a.metadata) a at s r t
 
-  -- what the filters answer of a new span, and whether one passes it: nobody is asked where what is kept refuses it
+  -- the same, by what each filter answers now
+  abbrev pub SpanByAnswers : PlainAttributes → At → StackValue (Filtered L F) → Result (Option ℕ) RequestError → StackValue (Filtered L F) → Type 0
+  SpanByAnswers a at s r t = NewSpanUnless false a at s r t
+
+  -- what the filters answer of a new span, and whether one passes it: nobody is asked where it is refused
   abbrev pub AsksUnless : Bool → PlainMetadata → At → StackValue (Filtered L F) → List Bool → Bool → Type 0
   AsksUnless true m at s verdicts some = some ≡ false
   AsksUnless false m at s verdicts some = AsksFrom g h m at s.registry all_pass false s.rows verdicts some

@@ -1,9 +1,10 @@
--- An output that is lent for writing.
+-- An output, and the layer of one, that are lent for writing.
 use Rattle.std.specs.Prelude.{ℕ, List, [], Option, Some, None, slice_get, slice_set}
 use Rattle.std.specs.Borrow.{LendsIf, MutBor, Fml}
 use denote.RattleType.{RattleType}
 use Rattle.span_registry_layers_layers.specs.contracts.filtered.Filtered.{the_row as filtered_row}
 use Rattle.span_registry_layers_layers.specs.declared.filtered.Filtered.{Filtered}
+use Rattle.span_registry_layers_stack.specs.Rows.{with_layer}
 use Rattle.span_registry_layers_stack.specs.Stacks.{StackValue}
 use Rattle.span_registry_layers_stack.specs.contracts.stack.Stack.{the_row}
 use Rattle.span_registry_layers_stack.specs.declared.row.Row.{Row}
@@ -27,3 +28,18 @@ LendsOutput O h place r = LendsIf (the_row O) O h r (λ w. record (forgotten h.n
 -- the same where the outputs are layers with filters
 abbrev pub LendsFiltered : (L F : RattleType) → MutBor (StackValue (Filtered L.Denot F.Denot)) → ℕ → Option (MutBor (Filtered L.Denot F.Denot)) → Fml
 LendsFiltered L F h place r = LendsOutput (filtered_row L F) h place r
+
+abbrev pub layer_of : {L F : Type 0} → Row (Filtered L F) → L
+layer_of row = row.output.layer
+
+abbrev pub layer_put : {L F : Type 0} → Option (Row (Filtered L F)) → ℕ → L → List (Row (Filtered L F)) → List (Row (Filtered L F))
+layer_put None place layer rows = rows
+layer_put (Some row) place layer rows = slice_set rows place (with_layer layer row)
+
+-- with another layer there, and all that is kept
+abbrev pub put_layer : {L F : Type 0} → ℕ → L → StackValue (Filtered L F) → StackValue (Filtered L F)
+put_layer place layer s = record s { rows = layer_put (slice_get s.rows place) place layer s.rows }
+
+-- the stack ends with the layer there as the last value behind r
+abbrev pub LendsLayerAt : (L F : RattleType) → MutBor (StackValue (Filtered L.Denot F.Denot)) → ℕ → Option (MutBor L.Denot) → Fml
+LendsLayerAt L F h place r = LendsIf (the_row (filtered_row L F)) L h r (λ w. put_layer place w h.now) h.now

@@ -35,3 +35,12 @@ CachesInterestIf false m k sites later = (later ≡ sites) ⊎ (later ≡ sites 
 -- the interest is kept of the callsite; one that was not kept before may find no memory
 abbrev pub CachesInterest : PlainMetadata → PlainInterest → List PlainCachedInterest → List PlainCachedInterest → Type 0
 CachesInterest m k sites later = CachesInterestIf (list_any (is_of m) sites) m k sites later
+
+abbrev pub KeptIf : Bool → Bool → PlainMetadata → PlainInterest → List PlainCachedInterest → List PlainCachedInterest → Type 0
+KeptIf true kept m k sites later = (kept ≡ true) × (later ≡ map (renewed m k) sites)
+KeptIf false true m k sites later = later ≡ sites ++ record { metadata = m; interest = k } ∷ []
+KeptIf false false m k sites later = later ≡ sites
+
+-- the same, with whether it is kept
+abbrev pub KeepsInterest : Bool → PlainMetadata → PlainInterest → List PlainCachedInterest → List PlainCachedInterest → Type 0
+KeepsInterest kept m k sites later = KeptIf (list_any (is_of m) sites) kept m k sites later

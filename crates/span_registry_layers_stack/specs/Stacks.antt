@@ -68,6 +68,10 @@ module _ {L F : Type 0} (g : Ghosts F) where
   abbrev pub PassesCached : StackValue (Filtered L F) → PlainMetadata → At → Bool → Type 0
   PassesCached s m at b = PassesUnless (is_refused s m) s m at b
 
+  -- the same, by what the filters answer now
+  abbrev pub PassesByAnswers : StackValue (Filtered L F) → PlainMetadata → At → Bool → Type 0
+  PassesByAnswers s m at b = PassesUnless false s m at b
+
   -- the same, each filter asked again
   abbrev pub PassesAsked : StackValue (Filtered L F) → PlainMetadata → At → Bool → Type 0
   PassesAsked s m at b = SomePassesBy (Afresh g) m at s.registry s.rows b
@@ -94,9 +98,17 @@ module _ {L F : Type 0} (g : Ghosts F) (h : LayerGhosts L) where
   abbrev pub EventAsked : PlainEvent → At → StackValue (Filtered L F) → Result (Unit {0}) RequestError → StackValue (Filtered L F) → Type 0
   EventAsked e at s r t = WhereKnown (knows s.registry (explicit_parent e.parent)) s (TellsAfresh e at s) r t
 
+  -- an event, nobody asked where it is refused
+  abbrev pub EventUnless : Bool → PlainEvent → At → StackValue (Filtered L F) → Result (Unit {0}) RequestError → StackValue (Filtered L F) → Type 0
+  EventUnless refused e at s r t = WhereKnown (knows s.registry (explicit_parent e.parent)) s (TellsUnless refused e at s) r t
+
   -- an event, nobody asked where what is kept refuses it
   abbrev pub EventCached : PlainEvent → At → StackValue (Filtered L F) → Result (Unit {0}) RequestError → StackValue (Filtered L F) → Type 0
-  EventCached e at s r t = WhereKnown (knows s.registry (explicit_parent e.parent)) s (TellsUnless (is_refused s e.metadata) e at s) r t
+  EventCached e at s r t = EventUnless (is_refused s e.metadata) e at s r t
+
+  -- an event, by what each filter answers now
+  abbrev pub EventByAnswers : PlainEvent → At → StackValue (Filtered L F) → Result (Unit {0}) RequestError → StackValue (Filtered L F) → Type 0
+  EventByAnswers e at s r t = EventUnless false e at s r t
 
 -- an interest is kept of a callsite, where there is room
 abbrev pub Registers : {O : Type 0} → PlainMetadata → PlainInterest → StackValue O → StackValue O → Type 0

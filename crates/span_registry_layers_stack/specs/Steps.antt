@@ -18,11 +18,11 @@ use Rattle.span_registry_layers_layers.specs.Several.{EachInTurn}
 use Rattle.span_registry_layers_layers.specs.declared.filter.Filter.{Ghosts}
 use Rattle.span_registry_layers_layers.specs.declared.filtered.Filtered.{Filtered}
 use Rattle.span_registry_layers_layers.specs.declared.layer.Layer.{Ghosts as LayerGhosts}
-use Rattle.span_registry_layers_stack.specs.Calls.{CloneGives, CloseGives, CloseUnless, Closes, EnterGives, ExitGives, FollowsGives, MakesSpan, RecordGives, SpanCached, SpanKnown, SpanUnless, SpanWhere, WhereTaken, over}
+use Rattle.span_registry_layers_stack.specs.Calls.{CloneGives, CloseGives, CloseUnless, Closes, EnterGives, ExitGives, FollowsGives, MakesSpan, NewSpanUnless, RecordGives, SpanCached, SpanKnown, SpanUnless, SpanWhere, WhereTaken, over}
 use Rattle.span_registry_layers_stack.specs.Rows.{AsksEventBy, EachBecomes, TellsEvent, TellsIf, filters_of, marked, numbers_of, view_of}
 use Rattle.span_registry_layers_stack.specs.Sites.{PlainCachedInterest}
 use Rattle.span_registry_layers_stack.specs.Hearing.{ClosesEach, HearsIf, TellsDispatch, TellsFollows, TellsMade, TellsSpan, sees}
-use Rattle.span_registry_layers_stack.specs.Stacks.{EventCached, RowsBecome, RowsInTurn, StackValue, TellsUnless, WhereKnown, cleared, is_refused}
+use Rattle.span_registry_layers_stack.specs.Stacks.{EventCached, EventUnless, RowsBecome, RowsInTurn, StackValue, TellsUnless, WhereKnown, cleared, is_refused}
 use Rattle.span_registry_layers_stack.specs.CacheValidity.{HintOver, Knows, CacheIsValid, CacheIsValidFor}
 use Rattle.span_registry_layers_stack.specs.declared.row.Row.{Row}
 
@@ -302,8 +302,8 @@ module _ {L F : Type 0} (g : Ghosts F) (h : LayerGhosts L) where
       stepped_put row asked (ap (λ (r : Row (Filtered L F)). r.output.filter) w.2) (ap (λ (r : Row (Filtered L F)). r.id) w.2) (ap (λ (r : Row (Filtered L F)). h.numbers r.output.layer) w.2)
       (ap (λ (r : Row (Filtered L F)). r.key) w.2, λ key. ap (λ (r : Row (Filtered L F)). h.keys r.output.layer key) w.2)
 
-  pub event_keeps : (e : PlainEvent) (at : At) (s t : StackValue (Filtered L F)) (r : Result (Unit {0}) RequestError) → EventCached g h e at s r t → PreservesFilters s t
-  event_keeps e at s t r w = known (knows s.registry (explicit_parent e.parent)) (is_refused s e.metadata) w
+  pub event_unless_keeps : (b : Bool) (e : PlainEvent) (at : At) (s t : StackValue (Filtered L F)) (r : Result (Unit {0}) RequestError) → EventUnless g h b e at s r t → PreservesFilters s t
+  event_unless_keeps b e at s t r w = known (knows s.registry (explicit_parent e.parent)) b w
     where
       known : (k b : Bool) → WhereKnown k s (TellsUnless g h b e at s) r t → PreservesFilters s t
       known true true w = cleared_keeps s t w.1
@@ -311,14 +311,20 @@ module _ {L F : Type 0} (g : Ghosts F) (h : LayerGhosts L) where
           keeps_then s asked t (dispatched_keep (AsksEventBy g g.answers e at s.registry) (asked_steps e at s.registry) s asked marks) (rows_keep asked.registry (TellsEvent h e at) (event_steps e at) asked t told)
       known false b w = keeps_same s t w.1
 
+  pub event_keeps : (e : PlainEvent) (at : At) (s t : StackValue (Filtered L F)) (r : Result (Unit {0}) RequestError) → EventCached g h e at s r t → PreservesFilters s t
+  event_keeps e at s t r w = event_unless_keeps (is_refused s e.metadata) e at s t r w
+
   span_where : (b : Bool) (a : PlainAttributes) (at : At) (verdicts : List Bool) (s t : StackValue (Filtered L F)) (r : Result (Option ℕ) RequestError) → SpanWhere g h b a at verdicts s r t → PreservesFilters s t
   span_where true a at verdicts s t r w = makes_keeps a at verdicts s t r w
   span_where false a at verdicts s t r w = cleared_keeps s t w.1
 
-  pub span_keeps : (a : PlainAttributes) (at : At) (s t : StackValue (Filtered L F)) (r : Result (Option ℕ) RequestError) → SpanCached g h a at s r t → PreservesFilters s t
-  span_keeps a at s t r w = known (knows s.registry (explicit_parent a.parent)) (is_refused s a.metadata) w
+  pub span_unless_keeps : (b : Bool) (a : PlainAttributes) (at : At) (s t : StackValue (Filtered L F)) (r : Result (Option ℕ) RequestError) → NewSpanUnless g h b a at s r t → PreservesFilters s t
+  span_unless_keeps b a at s t r w = known (knows s.registry (explicit_parent a.parent)) b w
     where
       known : (k b : Bool) → SpanKnown g h k s (SpanUnless g h b a at s) r t → PreservesFilters s t
       known true true w = cleared_keeps s t w.1
       known true false w = span_where w.1 a at w.0 s t r w.3
       known false b w = keeps_same s t w.1
+
+  pub span_keeps : (a : PlainAttributes) (at : At) (s t : StackValue (Filtered L F)) (r : Result (Option ℕ) RequestError) → SpanCached g h a at s r t → PreservesFilters s t
+  span_keeps a at s t r w = span_unless_keeps (is_refused s a.metadata) a at s t r w

@@ -16,4 +16,4 @@ pub use laws::{
     one_output_decides, registry_stands_alone, stack_registry_stays_sound, verdicts_are_own,
 };
 pub use output::{Output, StackError, StackRefusal, UnknownOutput};
-pub use stack::Stack;
+pub use stack::{IntoOutputs, Stack};

@@ -6,8 +6,8 @@ ghost use Rattle.tracing_core_requests.specs.PlainRequests.{plain_event};
 ghost use Rattle.span_registry_layers_store.specs.Registries.{knows};
 ghost use Rattle.span_registry_layers_stack.specs.Asked.{CommonInterest, common_hint};
 ghost use Rattle.span_registry_layers_stack.specs.Rows.{filters_of};
-ghost use Rattle.span_registry_layers_stack.specs.Sites.{CachesInterest, plain_cached_interest};
-ghost use Rattle.span_registry_layers_stack.specs.Stacks.{EventCached, PassesCached, Registers, TellsAll, cleared, is_above, is_refused, plain_stack, with_hint};
+ghost use Rattle.span_registry_layers_stack.specs.Sites.{KeepsInterest, plain_cached_interest};
+ghost use Rattle.span_registry_layers_stack.specs.Stacks.{EventCached, EventUnless, PassesCached, PassesUnless, Registers, TellsAll, cleared, is_above, is_refused, plain_stack, with_hint};
 
 mod new;
 mod spans;
@@ -61,9 +61,9 @@ impl<O> StackParts<O> {
         is_above(self.hint, *metadata.level()) || refuse(&self.sites, metadata)
     }
 
-    // Keeps the interest, where there is room.
-    fn keep(&mut self, metadata: &Metadata<'_>, interest: Interest)
-        ensures sites { CachesInterest (plain_metadata metadata.now) interest
+    // Keeps the interest, where there is room, and answers whether it is kept.
+    fn keep(&mut self, metadata: &Metadata<'_>, interest: Interest) -> bool
+        ensures sites { KeepsInterest result (plain_metadata metadata.now) interest
             (map plain_cached_interest self.old.sites.items) (map plain_cached_interest self.new.sites.items) }
         ensures rest { plain_stack self.new ≡ record (plain_stack self.old) {
           sites = map plain_cached_interest self.new.sites.items;
@@ -71,8 +71,14 @@ impl<O> StackParts<O> {
     {
         if is_kept(&self.sites, metadata) {
             renew(&mut self.sites, metadata, interest);
-        } else if let Ok(metadata) = OwnedMetadata::new(self.alloc, metadata) {
-            let _room = self.sites.push(CachedInterest { metadata, interest });
+            return true;
+        }
+        let Ok(metadata) = OwnedMetadata::new(self.alloc, metadata) else {
+            return false;
+        };
+        match self.sites.push(CachedInterest { metadata, interest }) {
+            Ok(()) => true,
+            Err(_) => false,
         }
     }
 
@@ -92,7 +98,7 @@ impl<L: Layer, F: Filter> StackParts<Filtered<L, F>> {
         ensures state { Registers (plain_metadata metadata.now) result (plain_stack self.old) (plain_stack self.new) }
     {
         let interest = ask_interest(&self.rows, metadata);
-        self.keep(metadata, interest);
+        let _kept = self.keep(metadata, interest);
         interest
     }
 
@@ -105,12 +111,22 @@ impl<L: Layer, F: Filter> StackParts<Filtered<L, F>> {
         self.hint
     }
 
+    // Whether some filter passes it, and false where it is refused.
+    pub(crate) fn passes_unless(&mut self, refused: bool, metadata: &Metadata<'_>, at: At) -> bool
+        ensures answer { PassesUnless ⟦<F as Filter>⟧ refused (plain_stack self.old) (plain_metadata metadata.now) at
+            result }
+        ensures same { plain_stack self.new ≡ plain_stack self.old }
+    {
+        !refused && any_passes(&self.rows, metadata, &mut self.registry, at)
+    }
+
     // Whether some filter passes it, and false where what is kept refuses it.
     pub(crate) fn enabled(&mut self, metadata: &Metadata<'_>, at: At) -> bool
         ensures answer { PassesCached ⟦<F as Filter>⟧ (plain_stack self.old) (plain_metadata metadata.now) at result }
         ensures same { plain_stack self.new ≡ plain_stack self.old }
     {
-        !self.refuses(metadata) && any_passes(&self.rows, metadata, &mut self.registry, at)
+        let refused = self.refuses(metadata);
+        self.passes_unless(refused, metadata, at)
     }
 
     fn tell(&mut self, event: &Event<'_, '_>, at: At)
@@ -121,19 +137,33 @@ impl<L: Layer, F: Filter> StackParts<Filtered<L, F>> {
         self.tell_event(event, at);
     }
 
-    // Tells each output that passes the event, and asks nobody where what is kept refuses it.
-    pub(crate) fn event(&mut self, event: &Event<'_, '_>, at: At) -> Result<(), RequestError>
-        ensures { EventCached ⟦<F as Filter>⟧ ⟦<L as Layer>⟧ (plain_event event.now) at (plain_stack self.old) result
-            (plain_stack self.new) }
+    // Tells each output that passes the event, and asks nobody where it is refused.
+    pub(crate) fn event_unless(
+        &mut self,
+        refused: bool,
+        event: &Event<'_, '_>,
+        at: At,
+    ) -> Result<(), RequestError>
+        ensures { EventUnless ⟦<F as Filter>⟧ ⟦<L as Layer>⟧ refused (plain_event event.now) at (plain_stack self.old)
+            result (plain_stack self.new) }
     {
         if !self.knows(event.parent()) {
             return Err(RequestError::UnknownParent);
         }
-        if self.refuses(event.metadata()) {
+        if refused {
             self.clear();
         } else {
             self.tell(event, at);
         }
         Ok(())
+    }
+
+    // Tells each output that passes the event, and asks nobody where what is kept refuses it.
+    pub(crate) fn event(&mut self, event: &Event<'_, '_>, at: At) -> Result<(), RequestError>
+        ensures { EventCached ⟦<F as Filter>⟧ ⟦<L as Layer>⟧ (plain_event event.now) at (plain_stack self.old) result
+            (plain_stack self.new) }
+    {
+        let refused = self.refuses(event.metadata());
+        self.event_unless(refused, event, at)
     }
 }

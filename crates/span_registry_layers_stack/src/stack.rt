@@ -11,6 +11,7 @@ ghost use Rattle.span_registry_layers_stack.specs.Stacks.{EventAsked, EventCache
 ghost use Rattle.span_registry_layers_stack.specs.CacheValidity.{CacheIsValid};
 ghost use Rattle.span_registry_layers_stack.specs.declared.output.Output.{Output};
 
+mod asking;
 mod reading;
 mod spans;
 mod swapping;
@@ -21,6 +22,7 @@ use crate::parts::StackParts;
 use span_registry_layers_layers::{Filter, Filtered, Layer};
 use std::alloc::Global;
 use std::marker::Model;
+pub use taking::IntoOutputs;
 use tracing_core_fields::Metadata;
 use tracing_core_requests::{At, Event, RequestError};
 

@@ -7,7 +7,7 @@ use Rattle.span_registry_layers_store.specs.Keeping.{with_places}
 use Rattle.span_registry_layers_store.specs.SlotLoans.{IsSlotToLend, IsSpanToLend, slots_of}
 use Rattle.span_registry_layers_store.specs.Places.{IsPlace, kin_of}
 use Rattle.span_registry_layers_store.specs.Registries.{kin_in, plain_registry, plain_span}
-use Rattle.span_registry_layers_store.specs.Slots.{IsSlotPlace, PlainPlace, plain_place, plain_slot, slot_at}
+use Rattle.span_registry_layers_store.specs.Slots.{IsSlotPlace, PlainPlace, plain_place, plain_slot}
 use Rattle.span_registry_layers_store.specs.Spans.{changed, found, is_open}
 use Rattle.span_registry_layers_store.specs.declared.parts.RegistryParts.{RegistryParts}
 use Rattle.span_registry_layers_store.specs.declared.slot.Place.{Place}

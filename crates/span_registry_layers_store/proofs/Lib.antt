@@ -11,6 +11,7 @@ pub mod Handles
 pub mod Forgetting
 pub mod Making
 pub mod Slotting
+pub mod Ordered
 pub mod Seeing
 pub mod Walking
 pub mod Opening

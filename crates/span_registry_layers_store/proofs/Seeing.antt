@@ -2,9 +2,9 @@
 use Rattle.std.proofs.Common.{◌≡◌, ℕ, List, [], ◌∷◌, Bool, true, false, ◌||◌, ◌==◌, if◌then◌else◌, map, Option, Some, None, refl, ap, sym, ◌∙◌, subst, true≢false, MatchOption}
 use Rattle.std.specs.Option.{option_map}
 use Rattle.span_registry_layers_store.specs.Places.{IsPlace, kin_of}
-use Rattle.span_registry_layers_store.specs.Registries.{PlainSpan, RegistryValue, kin_in, plain_span}
+use Rattle.span_registry_layers_store.specs.Registries.{kin_in, plain_span}
 use Rattle.span_registry_layers_store.specs.Spans.{found, is_open}
-use Rattle.span_registry_layers_store.specs.Views.{IsFoundAt, seen, sees}
+use Rattle.span_registry_layers_store.specs.Views.{IsFoundAt}
 use Rattle.span_registry_layers_store.specs.declared.span.Span.{Span}
 use Rattle.span_registry_layers_store.proofs.Mapped.{found_mapped}
 

@@ -1,5 +1,5 @@
 -- What the calls of a registry answer and leave.
-use Rattle.std.specs.Prelude.{◌≡◌, ◌<◌, ◌≤◌, ◌+◌, ℕ, ◌==◌, nat_lt, List, [], ◌∷◌, Bool, true, false, not, Option, Some, None, Result, Ok, Err}
+use Rattle.std.specs.Prelude.{◌≡◌, ◌<◌, ◌≤◌, ◌+◌, ℕ, ◌==◌, nat_lt, List, [], ◌∷◌, Bool, true, false, not, if◌then◌else◌, Option, Some, None, Result, Ok, Err}
 use Rattle.tracing_core_requests.specs.Refusals.{or_refused, or_same}
 use Rattle.tracing_core_requests.specs.declared.requests.parent.Parent.{Parent}
 use Rattle.tracing_core_fields.specs.PlainMetadata.{PlainMetadata}
@@ -9,6 +9,7 @@ use Rattle.tracing_core_requests.specs.declared.refusal.RequestError.TheVariants
 use Rattle.span_registry_layers_store.specs.declared.filter_map.FilterId.{FilterId}
 use Rattle.span_registry_layers_store.specs.declared.filter_map.TooManyFilters.{TooManyFilters}
 use Rattle.span_registry_layers_store.specs.Registries.{PlainSpan, RegistryValue, closing_in, kin_in, knows, swept, under, with_entry, with_handle, with_span, without_handle}
+use Rattle.span_registry_layers_store.specs.Rising.{IsRising}
 use Rattle.span_registry_layers_store.specs.Spans.{handles_of, is_open}
 
 -- the greatest id, and the greatest number of handles
@@ -49,6 +50,11 @@ EntryGives x lane id r y = GivesUnless (open_refusal x id) x tt (with_entry x la
 abbrev pub follow_refusal : RegistryValue → ℕ → ℕ → Option RequestError
 follow_refusal x id follows = first (open_refusal x id) (open_refusal x follows)
 
+-- one more is counted, up to 64
+abbrev pub CountGives : ℕ → Result FilterId TooManyFilters → ℕ → Type 0
+CountGives count (Ok filter) later = (filter.index ≡ count) × (count < 64) × (later ≡ count + 1)
+CountGives count (Err refusal) later = (64 ≤ count) × (later ≡ count)
+
 -- filters are numbered in order, and there are at most 64
 abbrev pub FilterGives : RegistryValue → Result FilterId TooManyFilters → RegistryValue → Type 0
 FilterGives x (Ok filter) y = (filter.index ≡ x.filters) × (x.filters < 64) × (y ≡ record x { filters = x.filters + 1 })
@@ -83,9 +89,16 @@ IsSettled x = (closing_in x ≡ []) × (swept x ≡ x)
 abbrev pub IsNext : RegistryValue → ℕ → Type 0
 IsNext x id = (s : PlainSpan) × (later : List PlainSpan) × (s.kin.id ≡ id) × (closing_in x ≡ s ∷ later)
 
--- the span of the id closed, and then the others close that did before
+-- without the first span of an id
+abbrev pub dropped : List PlainSpan → ℕ → List PlainSpan
+dropped [] id = []
+dropped (s ∷ ss) id = if s.kin.id == id then ss else s ∷ dropped ss id
+
+-- the span of the id closed, and then the others close that did before; where ids rise, it alone is gone
 abbrev pub ClosesNext : RegistryValue → ℕ → RegistryValue → Type 0
-ClosesNext x id y = (s : PlainSpan) × (s.kin.id ≡ id) × (closing_in x ≡ s ∷ closing_in y) × (swept y ≡ swept x) × (y ≡ record x { spans = y.spans })
+ClosesNext x id y =
+    (s : PlainSpan) × (s.kin.id ≡ id) × (closing_in x ≡ s ∷ closing_in y) × (swept y ≡ swept x) × (y ≡ record x { spans = y.spans })
+    × (IsRising x → y.spans ≡ dropped x.spans s.kin.id)
 
 abbrev pub ForgetGives : RegistryValue → Option ℕ → RegistryValue → Type 0
 ForgetGives x None y = IsSettled x × (y ≡ x)

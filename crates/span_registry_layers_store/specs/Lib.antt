@@ -2,6 +2,7 @@ pub mod Spans
 pub mod Lanes
 pub mod Verdicts
 pub mod Places
+pub mod KnownMetadatas
 pub mod Registries
 pub mod Rising
 pub mod Gives

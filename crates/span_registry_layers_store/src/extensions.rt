@@ -4,13 +4,13 @@ ghost use Rattle.std.specs.Prelude.{◌≡◌, [], MatchOption, None, map};
 ghost use Rattle.std.specs.Borrow.{sem};
 ghost use Rattle.std.specs.Option.{option_map};
 ghost use Rattle.span_registry_layers_store.specs.SlotLoans.{IsSlotToLend, LendsSlot};
-ghost use Rattle.span_registry_layers_store.specs.Slots.{InsertGives, IsSlotPlace, RemoveGives, ReplaceGives, is_at, is_same_tag, plain_place, plain_slot, slot_at, with_slot, without_slot};
+ghost use Rattle.span_registry_layers_store.specs.Slots.{AreInOrder, InsertGives, IsPlaceFor, IsSlotPlace, PutGives, RemoveGives, ReplaceGives, is_at, is_before, plain_place, plain_slot, rank, slot_at};
 
 use crate::slot::{InsertError, OutputKey, Place, Slot, Tag};
 use std::alloc::Global;
 use std::marker::Model;
 
-/// What outputs keep with a span: slots, by the output's key and a tag.
+/// What outputs keep with a span: slots, by the output's key and a tag, in order of key, and of tag under one key.
 ///
 /// A contract sees it as the list of them.
 #[derive(Debug, Drop)]
@@ -18,22 +18,29 @@ pub struct Extensions {
     places: Vec<Place>,
 }
 
-fn is_same_tag(a: Tag, b: Tag) -> bool
-    ensures { result ≡ is_same_tag a b }
+// Where a tag stands among the tags.
+fn rank(tag: Tag) -> u8
+    ensures { result ≡ rank tag }
 {
-    match (a, b) {
-        (Tag::Text, Tag::Text) => true,
-        (Tag::Timings, Tag::Timings) => true,
-        (Tag::Number, Tag::Number) => true,
-        (Tag::Words, Tag::Words) => true,
-        (_, _) => false,
+    match tag {
+        Tag::Text => 0,
+        Tag::Timings => 1,
+        Tag::Number => 2,
+        Tag::Words => 3,
     }
 }
 
 fn is_at(place: &Place, key: OutputKey, tag: Tag) -> bool
     ensures { result ≡ is_at key.0 tag (plain_place place.now) }
 {
-    place.key.0 == key.0 && is_same_tag(place.tag, tag)
+    place.key.0 == key.0 && rank(place.tag) == rank(tag)
+}
+
+// Whether the slot of an output under a tag stands before this one.
+fn is_before(key: OutputKey, tag: Tag, place: &Place) -> bool
+    ensures { result ≡ is_before key.0 tag (plain_place place.now) }
+{
+    key.0 < place.key.0 || (key.0 == place.key.0 && rank(tag) < rank(place.tag))
 }
 
 fn place_of(places: &[Place], key: OutputKey, tag: Tag) -> Option<usize>
@@ -48,16 +55,45 @@ fn place_of(places: &[Place], key: OutputKey, tag: Tag) -> Option<usize>
     None
 }
 
+// The place for the slot of an output under a tag that has none yet.
+fn place_for(places: &[Place], key: OutputKey, tag: Tag) -> usize
+    ensures { IsPlaceFor places.now key tag result }
+{
+    for place in 0..places.len() {
+        if is_before(key, tag, &places[place]) {
+            return place;
+        }
+    }
+    places.len()
+}
+
 /// What outputs keep with a span, lent to be changed.
 pub type ExtensionsMut<'a> = &'a mut Extensions;
 
 impl Model for Extensions {
     ghost use Rattle.std.specs.Prelude.{List, map};
-    ghost use Rattle.span_registry_layers_store.specs.Slots.{PlainPlace, plain_place};
+    ghost use Rattle.span_registry_layers_store.specs.Slots.{AreInOrder, PlainPlace, plain_place};
 
     ghost Value = { List PlainPlace };
 
     ghost view = { λ s. map plain_place s.places.items };
+
+    ghost invariant = { λ s. AreInOrder (map plain_place s.places.items) };
+}
+
+// Puts a slot there, where there is none, in order.
+fn put_place(places: &mut Vec<Place>, key: OutputKey, tag: Tag, slot: Slot) -> Result<(), Slot>
+    ensures { PutGives (record { key = key.0; tag = tag; slot = plain_slot slot }) (map plain_place places.old.items)
+        result (map plain_place places.new.items) }
+{
+    let place = place_for(places.as_slice(), key, tag);
+    match places.insert(place, Place { key, tag, slot }) {
+        Ok(()) => Ok(()),
+        Err(refused) => {
+            let Place { slot, .. } = refused.value;
+            Err(slot)
+        }
+    }
 }
 
 /// Puts a slot there, unless there is one.
@@ -72,12 +108,9 @@ fn insert_place(
 {
     match place_of(places.as_slice(), key, tag) {
         Some(_) => Err(InsertError::Present(slot)),
-        None => match places.reserve(1) {
-            Ok(()) => {
-                places.push_reserved(Place { key, tag, slot });
-                Ok(())
-            }
-            Err(_) => Err(InsertError::OutOfMemory(slot)),
+        None => match put_place(places, key, tag, slot) {
+            Ok(()) => Ok(()),
+            Err(slot) => Err(InsertError::OutOfMemory(slot)),
         },
     }
 }
@@ -97,12 +130,9 @@ fn replace_place(
             let before = std::mem::replace(&mut places[place].slot, slot);
             Ok(Some(before))
         }
-        None => match places.reserve(1) {
-            Ok(()) => {
-                places.push_reserved(Place { key, tag, slot });
-                Ok(None)
-            }
-            Err(_) => Err(slot),
+        None => match put_place(places, key, tag, slot) {
+            Ok(()) => Ok(None),
+            Err(slot) => Err(slot),
         },
     }
 }
@@ -152,7 +182,8 @@ impl Extensions {
 
     /// The slot of an output under a tag.
     pub fn get(&self, key: OutputKey, tag: Tag) -> Option<&Slot>
-        ensures { option_map (λ s. plain_slot s.now) result ≡ slot_at self.now key.0 tag }
+        ensures slot { option_map (λ s. plain_slot s.now) result ≡ slot_at self.now key.0 tag }
+        ensures order { AreInOrder self.now }
     {
         slot_in(self.places.as_slice(), key, tag)
     }
@@ -175,7 +206,8 @@ impl Extensions {
     ///
     /// The slot comes back with `Present` where there is one, and with `OutOfMemory`; both change nothing.
     pub fn insert(&mut self, key: OutputKey, tag: Tag, slot: Slot) -> Result<(), InsertError>
-        ensures { InsertGives self.old key.0 tag (plain_slot slot) result self.new }
+        ensures state { InsertGives self.old key.0 tag (plain_slot slot) result self.new }
+        ensures order { AreInOrder self.new }
     {
         insert_place(&mut self.places, key, tag, slot)
     }
@@ -186,14 +218,16 @@ impl Extensions {
     ///
     /// The slot comes back for want of memory, which changes nothing.
     pub fn replace(&mut self, key: OutputKey, tag: Tag, slot: Slot) -> Result<Option<Slot>, Slot>
-        ensures { ReplaceGives self.old key.0 tag (plain_slot slot) result self.new }
+        ensures state { ReplaceGives self.old key.0 tag (plain_slot slot) result self.new }
+        ensures order { AreInOrder self.new }
     {
         replace_place(&mut self.places, key, tag, slot)
     }
 
     /// Takes the slot out, where there is one. All others stay as they were.
     pub fn remove(&mut self, key: OutputKey, tag: Tag) -> Option<Slot>
-        ensures { RemoveGives self.old key.0 tag result self.new }
+        ensures state { RemoveGives self.old key.0 tag result self.new }
+        ensures order { AreInOrder self.new }
     {
         remove_place(&mut self.places, key, tag)
     }

@@ -2,6 +2,7 @@
 #![tactic(auto)]
 
 mod extensions;
+mod filter_count;
 mod filter_map;
 mod lanes;
 mod laws;

@@ -1,6 +1,6 @@
 //! What a registry keeps.
 
-ghost use Rattle.std.specs.Prelude.{◌≡◌, ◌<◌, ◌≤◌, ◌+◌, IfOk, IfSome, MatchOption, None, OnErr, OnOk, Some, get_or, length, reverse, slice_get, take};
+ghost use Rattle.std.specs.Prelude.{◌≡◌, ◌<◌, ◌≤◌, ◌+◌, IfOk, IfSome, MatchOption, None, OnErr, OnOk, Some, false, get_or, length, map, reverse, take, true};
 ghost use Rattle.std.specs.Arc.{arc_value};
 ghost use Rattle.std.specs.Option.{option_map};
 ghost use Rattle.tracing_core_requests.specs.Refusals.{or_refused};
@@ -11,6 +11,7 @@ ghost use Rattle.span_registry_layers_store.specs.Gives.{EntryGives, FilterGives
 ghost use Rattle.span_registry_layers_store.specs.Lanes.{lane_at};
 ghost use Rattle.span_registry_layers_store.specs.SlotLoans.{IsSpanToLend};
 ghost use Rattle.tracing_core_fields.specs.OwnedMetadatas.{owned_plain};
+ghost use Rattle.span_registry_layers_store.specs.KnownMetadatas.{is_known, with_copy};
 ghost use Rattle.span_registry_layers_store.specs.Places.{kin_of};
 ghost use Rattle.span_registry_layers_store.specs.Rising.{IsRising, Rises};
 ghost use Rattle.span_registry_layers_store.specs.Registries.{current_on, kin_in, knows, next_number, plain_registry, plain_span, swept, under, with_span, without_entry};
@@ -18,6 +19,7 @@ ghost use Rattle.span_registry_layers_store.specs.Spans.{found, handles_of, is_o
 ghost use Rattle.span_registry_layers_store.specs.Views.{IsFoundAt, current_under, entry_seen, latest_seen, mask_of, seen, sees};
 
 use crate::extensions::Extensions;
+use crate::filter_count::FilterCount;
 use crate::filter_map::{FilterId, FilterMap, TooManyFilters};
 use crate::lanes::{drop_entry, lane_at, push_entry};
 use crate::plain::{closing, current, handles_of, is_member, is_open, parent_of, place_of};
@@ -38,18 +40,25 @@ pub(crate) struct RegistryParts {
     /// The next span's id; none where all are given.
     pub(crate) next_id: Option<Id>,
     pub(crate) callsites: Vec<Arc<OwnedMetadata>>,
-    pub(crate) filters: u8,
+    pub(crate) filters: FilterCount,
 }
 
-/// The place of the copy of the metadata, where it is known.
-fn place_of_known(callsites: &[Arc<OwnedMetadata>], metadata: &Metadata<'_>) -> Option<usize>
-    ensures { IfSome result (λ place. IfSome (slice_get callsites.now place) (λ copy.
-        owned_plain (arc_value copy) ≡ plain_metadata metadata.now)) }
+/// The first copy of the metadata, where it is known.
+fn known<'a>(
+    callsites: &'a [Arc<OwnedMetadata>],
+    metadata: &Metadata<'_>,
+) -> Option<&'a Arc<OwnedMetadata>>
+    ensures found { MatchOption result (is_known (plain_metadata metadata.now)
+        (map (λ kept. owned_plain (arc_value kept)) callsites.now) ≡ false) (λ _. is_known (plain_metadata metadata.now)
+        (map (λ kept. owned_plain (arc_value kept)) callsites.now) ≡ true) }
+    ensures copy { IfSome result (λ copy. owned_plain (arc_value copy.now) ≡ plain_metadata metadata.now) }
 {
-    for place in 0..callsites.len() {
-        if callsites[place].is_same(metadata) {
-            return Some(place);
+    let mut rest = callsites;
+    while let [copy, later @ ..] = rest {
+        if copy.is_same(metadata) {
+            return Some(copy);
         }
+        rest = later;
     }
     None
 }
@@ -87,14 +96,15 @@ pub(crate) fn place_to_lend(spans: &[Span], id: Id) -> usize
 }
 
 impl RegistryParts {
-    /// The copy of the metadata that spans share.
+    /// The copy of the metadata that spans share. There is one of all that are alike.
     fn owned(&mut self, metadata: &Metadata<'_>) -> Result<Arc<OwnedMetadata>, AllocError>
         ensures copy { IfOk result (λ copy. owned_plain (arc_value copy) ≡ plain_metadata metadata.now) }
+        ensures kept { OnOk result (map (λ kept. owned_plain (arc_value kept)) self.new.callsites.items ≡
+            with_copy (plain_metadata metadata.now) (map (λ kept. owned_plain (arc_value kept))
+            self.old.callsites.items)) }
         ensures rest { self.new ≡ record self.old { callsites = self.new.callsites } }
     {
-        if let Some(place) = place_of_known(self.callsites.as_slice(), metadata)
-            && let Some(copy) = self.callsites.get(place)
-        {
+        if let Some(copy) = known(&self.callsites, metadata) {
             return Arc::clone(copy);
         }
         let copy = Arc::new(self.alloc, OwnedMetadata::new(self.alloc, metadata)?)?;
@@ -326,13 +336,7 @@ impl RegistryParts {
     pub(crate) fn register_filter(&mut self) -> Result<FilterId, TooManyFilters>
         ensures { FilterGives (plain_registry self.old) result (plain_registry self.new) }
     {
-        if self.filters >= 64 {
-            return Err(TooManyFilters(()));
-        }
-        let filter = FilterId {
-            index: self.filters,
-        };
-        self.filters += 1;
+        let filter = self.filters.next()?;
         Ok(filter)
     }
 

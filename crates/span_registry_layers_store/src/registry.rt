@@ -18,6 +18,7 @@ ghost use Rattle.span_registry_layers_store.specs.Spans.{found, handles_of, is_o
 ghost use Rattle.span_registry_layers_store.specs.Views.{current_under, mask_of, seen};
 
 use crate::extensions::ExtensionsMut;
+use crate::filter_count::FilterCount;
 use crate::filter_map::{FilterId, FilterMap, TooManyFilters};
 use crate::lookup::Data;
 use crate::parts::{RegistryParts, place_to_lend};
@@ -48,7 +49,8 @@ impl Model for Registry {
 
     ghost view = { λ r. plain_registry r.parts };
 
-    // Ids are given in order, and the spans that close leave the others where they are.
+    // Ids are given in order, and the spans that close leave the others where they are. That there are at most 64
+    // filters is true of the count of filters.
     ghost invariant = { λ r. IsRising (plain_registry r.parts) };
 }
 
@@ -64,7 +66,7 @@ impl Registry {
                 spans: Vec::new(alloc),
                 next_id: Id::from_u64(1),
                 callsites: Vec::new(alloc),
-                filters: 0,
+                filters: FilterCount::new(),
             },
         }
     }
@@ -87,11 +89,12 @@ impl Registry {
         self.parts.register_filter()
     }
 
-    /// How many more filters it takes.
+    /// How many more filters it takes. It has at most 64.
     pub fn filter_room(&self) -> u8
-        ensures { result ≡ 64 - self.now.filters }
+        ensures room { result ≡ 64 - self.now.filters }
+        ensures within { self.now.filters ≤ 64 }
     {
-        64u8.saturating_sub(self.parts.filters)
+        self.parts.filters.room()
     }
 
     /// Makes a span with one handle, and answers its id. Its parent is the one that is named, else none, else

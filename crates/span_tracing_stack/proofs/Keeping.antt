@@ -1,5 +1,5 @@
 -- Why ids rise in the texts of a stack after each call, and what its one output comes to.
-use Rattle.std.proofs.Common.{◌≡◌, ℕ, ◌+◌, suc, Bool, ◌++◌, List, [], ◌∷◌, Option, Some, None, Result, Ok, Err, refl, sym, ap, ◌∙◌, subst}
+use Rattle.std.proofs.Common.{◌≡◌, ℕ, ◌+◌, suc, Bool, ◌++◌, List, [], ◌∷◌, map, Option, Some, None, Result, Ok, Err, refl, sym, ap, ◌∙◌, subst}
 use Rattle.tracing_core.specs.At.{At}
 use Rattle.tracing_core.specs.Calls.{DispatchRegistered, CallsiteRegistered, HintAsked, SpanMade, Recorded, FollowsRecorded, EventDispatched, Entered, Exited, Cloned, CloseTried}
 use Rattle.tracing_core.specs.Interests.{PlainInterest}
@@ -27,7 +27,7 @@ use Rattle.span_registry_layers.specs.Moves as outputs
 use Rattle.span_registry_layers.specs.Stacks.{EventCached, StackValue as OutputsValue, with_hint}
 use Rattle.span_registry_layers.specs.Steadiness.{word_hinted, word_registered}
 use Rattle.span_registry_layers.specs.Steps.{dispatch_keeps, keeps_word}
-use Rattle.span_registry_layers.specs.Taking.{PopsOutput}
+use Rattle.span_registry_layers.specs.Taking.{output_of}
 use Rattle.span_registry_layers.specs.CacheValidity.{CacheIsValid}
 use Rattle.span_tracing_machine.specs.State.{PlainText}
 use Rattle.span_tracing_machine.specs.declared.fate.Fate.{Fate}
@@ -107,18 +107,19 @@ module _ {F : Type 0} (g : Ghosts F) (h : LayerGhosts Identity) (idle : WritesNo
 pub one_listed : {A : Type 0} (new reserved later : List A) (x : A) → new ≡ [] → reserved ≡ new → later ≡ reserved ++ x ∷ [] → later ≡ x ∷ []
 one_listed new reserved later x none same is = is ∙ ap (λ xs. xs ++ x ∷ []) (same ∙ none)
 
+heads : {A : Type 0} (x y : A) (xs ys : List A) → x ∷ xs ≡ y ∷ ys → x ≡ y
+heads x y xs ys e = cc
+
 module _ {F : Type 0} (h : LayerGhosts Identity) where
-  -- the last output of a stack whose one filter has the first number has that filter
-  pub only_filter : (s t : OutputsValue (Filtered Identity F)) (output : Output (Filtered Identity F)) → numbers_of h s.rows ≡ 0 ∷ [] → PopsOutput s (Some output) t → first_filter s.rows ≡ Some output.output.filter
-  only_filter s t output numbers w =
-      let one = one_row h s.rows numbers in
-      let last = last_same t.rows w.0 one.row (sym w.1 ∙ one.one) in
-      first_of h s.rows one ∙ ap (λ (row : Row (Filtered Identity F)). Some row.output.filter) (sym last) ∙ ap (λ (o : Output (Filtered Identity F)). Some o.output.filter) (sym w.2)
-    where
-      last_same : (rows : List (Row (Filtered Identity F))) (row own : Row (Filtered Identity F)) → rows ++ row ∷ [] ≡ own ∷ [] → row ≡ own
-      last_same [] row own e = cc
-      last_same (first ∷ []) row own e = absurd (cc)
-      last_same (first ∷ (next ∷ rows)) row own e = absurd (cc)
+  -- the first output has the first filter
+  pub only_filter : (rows : List (Row (Filtered Identity F))) (output : Output (Filtered Identity F)) (later : List (Output (Filtered Identity F))) → map output_of rows ≡ output ∷ later → first_filter rows ≡ Some output.output.filter
+  only_filter [] output later e = absurd (cc)
+  only_filter (row ∷ rows) output later e = ap (λ (o : Output (Filtered Identity F)). Some o.output.filter) (heads (output_of row) output (map output_of rows) later e)
+
+  -- where a filter has a number, an output comes out
+  pub some_filter : (rows : List (Row (Filtered Identity F))) → numbers_of h rows ≡ 0 ∷ [] → map output_of rows ≡ [] → ⊥
+  some_filter [] numbers e = cc
+  some_filter (row ∷ rows) numbers e = cc
 
   module _ (g : Ghosts F) where
     is_new : (o : Option StackError) (outputs : List (Output (Filtered Identity F))) (s : OutputsValue (Filtered Identity F)) → NewUnless h g o outputs (Ok s) → IsNew h g outputs s

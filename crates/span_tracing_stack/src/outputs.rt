@@ -49,11 +49,12 @@ pub(crate) fn outputs_of<F: Filter>(
 }
 
 /// The filter of the one output of a stack that is given up.
-pub(crate) fn filter_of<F: Filter>(mut outputs: Outputs<F>) -> F
+pub(crate) fn filter_of<F: Filter>(outputs: Outputs<F>) -> F
     requires { numbers_of ⟦<Identity as Layer>⟧ outputs.rows ≡ 0 ∷ [] }
     ensures { first_filter outputs.rows ≡ Some result }
 {
-    match outputs.pop_output() {
+    let mut left = outputs.into_outputs();
+    match left.next() {
         Some(output) => output.output.into_parts().1,
         None => unreachable!(),
     }

@@ -10,9 +10,10 @@ pub use tracing_core_fields::{
     numbers_are_read_as_usize,
 };
 pub use tracing_core_hub::{
-    AddError, Book, CallsiteIndex, Command, CommandError, CommandReply, DefaultCallsite, DefaultGuard, Dispatch,
-    HandleCount, HandleError, Hub, HubTable, KeptInterest, Lane, LaneDefault, NoRoom,
-    RegisterError, SetDefaultError, SetGlobalDefaultError, TooManyHandles, UnknownLane, WrongLane,
+    AddError, Book, CallsiteIndex, Command, CommandError, CommandReply, DefaultCallsite,
+    DefaultGuard, Dispatch, HandleCount, HandleError, Hub, HubTable, KeptInterest, Lane,
+    LaneDefault, NoRoom, RegisterError, SetDefaultError, SetGlobalDefaultError, TooManyHandles,
+    UnknownLane, WrongLane,
 };
 pub use tracing_core_requests::{
     At, Attributes, Callsite, Current, CurrentSpan, Event, Interest, NoSubscriber, Record,

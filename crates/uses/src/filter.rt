@@ -10,13 +10,11 @@ ghost use Rattle.span_registry_layers.specs.Stacks.{EventAsked};
 ghost use Rattle.span_registry_layers.specs.CacheValidity.{CacheIsValid};
 
 use span_registry_layers::{
-    Context, Filter, FilterFn, Filtered, Identity, Layer, MetadataTest, Output, OutputKey, Stack,
-    StackError,
+    Context, Filter, FilterFn, Filtered, Identity, Layer, MetadataTest, Output, OutputKey,
+    SpanCall, Stack, StackError,
 };
 use std::alloc::Global;
-use tracing_core::{
-    At, Attributes, Event, Id, Interest, LevelFilter, Metadata, Record, RequestError,
-};
+use tracing_core::{At, Event, Interest, LevelFilter, Metadata, RequestError};
 
 /// A filter of the program's own: warnings and errors, or all where the program is being debugged.
 #[derive(Clone, Copy, Debug, Drop)]
@@ -29,15 +27,9 @@ pub struct Verbosity {
 impl Filter for Verbosity {
     ghost answers = { λ f m v b. b ≡ nat_le m.level f.most };
 
-    ghost event_answers = { λ f e v b. b ≡ true };
-
     ghost says = { λ f m k. k ≡ level_interest f.most m.level };
 
     ghost hint = { λ f. Some f.most };
-
-    ghost after = { λ f h. f };
-
-    ghost honest = { λ f. Unit {0} };
 
     ghost fair = { λ f _. level_fair f.most };
 
@@ -67,20 +59,7 @@ impl Filter for Verbosity {
         Some(self.most)
     }
 
-    fn on_new_span(
-        &mut self,
-        _attributes: &Attributes<'_, '_>,
-        _span: &Id,
-        _context: &Context<'_>,
-    ) {}
-
-    fn on_record(&mut self, _span: &Id, _values: &Record<'_>, _context: &Context<'_>) {}
-
-    fn on_enter(&mut self, _span: &Id, _context: &Context<'_>) {}
-
-    fn on_exit(&mut self, _span: &Id, _context: &Context<'_>) {}
-
-    fn on_close(&mut self, _span: &Id, _context: &Context<'_>) {}
+    fn hear(&mut self, _call: &SpanCall<'_, '_, '_, '_>, _context: &Context<'_>) {}
 }
 
 /// A stack of one output under a filter that is consistent. What the stack then keeps of the filter's answers is right.

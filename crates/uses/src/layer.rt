@@ -10,8 +10,8 @@ ghost use Rattle.span_registry_layers.specs.Singles.{leaf_once};
 ghost use Rattle.uses.specs.CountsKept.{counts_after};
 ghost use Rattle.uses.specs.Tallies.{counted};
 
-use span_registry_layers::{Context, FilterMap, Layer, Registry};
-use tracing_core::{Attributes, Event, Id, Interest, LevelFilter, Metadata, Record, WeakDispatch};
+use span_registry_layers::{Context, FilterMap, Layer, Registry, Told};
+use tracing_core::{Event, Interest, LevelFilter, Metadata, WeakDispatch};
 
 /// How many events happened, and how many spans were made. The counts stop at the greatest number.
 #[derive(Clone, Copy, Debug, PartialEq, Eq, Drop)]
@@ -49,17 +49,7 @@ impl Counts {
 /// It vetoes nothing, and writes nothing to the registry. Events and new spans are counted, and other notices
 /// change nothing.
 impl Layer for Counts {
-    ghost answers = { λ x m v b. b ≡ true };
-
-    ghost event_answers = { λ x e v b. b ≡ true };
-
-    ghost says = { λ x m k. k ≡ Always };
-
-    ghost hint = { λ x. None };
-
     ghost told = { λ x n y. (y ≡ counts_after n x) × Untouched n };
-
-    ghost honest = { λ x. Unit {0} };
 
     ghost fair = { λ x _. idle_fair };
 
@@ -99,36 +89,19 @@ impl Layer for Counts {
         true
     }
 
-    fn on_new_span(
-        &mut self,
-        _attributes: &Attributes<'_, '_>,
-        _span: &Id,
-        _context: &mut Context<'_>,
-    ) {
-        self.count_span();
-    }
-
     fn max_level_hint(&self) -> Option<LevelFilter> {
         None
     }
-
-    fn on_record(&mut self, _span: &Id, _values: &Record<'_>, _context: &mut Context<'_>) {}
-
-    fn on_follows_from(&mut self, _span: &Id, _follows: &Id, _context: &mut Context<'_>) {}
 
     fn event_enabled(&self, _event: &Event<'_, '_>, _context: &Context<'_>) -> bool {
         true
     }
 
-    fn on_event(&mut self, _event: &Event<'_, '_>, _context: &mut Context<'_>) {
-        self.count_event();
+    fn hear(&mut self, call: &Told<'_, '_, '_, '_>, _context: &mut Context<'_>) {
+        match call {
+            Told::Event(_) => self.count_event(),
+            Told::NewSpan(..) => self.count_span(),
+            _ => {}
+        }
     }
-
-    fn on_enter(&mut self, _span: &Id, _context: &mut Context<'_>) {}
-
-    fn on_exit(&mut self, _span: &Id, _context: &mut Context<'_>) {}
-
-    fn on_close(&mut self, _span: &Id, _context: &mut Context<'_>) {}
-
-    fn on_id_change(&mut self, _old: &Id, _new: &Id, _context: &mut Context<'_>) {}
 }

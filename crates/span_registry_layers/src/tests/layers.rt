@@ -126,6 +126,7 @@ fn surface_contexts(rt: HostRuntime) -> Result<(), Fail> {
     assert!(rt; number_of(whole.current_span()) == inner.into_u64());
     assert!(rt; whole.exists(&inner) && is_named(&whole, &inner, "inner"));
     assert!(rt; whole.span_scope(&inner).is_some() && depth(&whole) == 2);
+    assert!(rt; whole.at().lane == PLACE.lane && whole.at().seconds == PLACE.seconds);
     let masked = Context::new(&mut registry, PLACE, Some(filter));
     assert!(rt; number_of(masked.current_span()) == outer.into_u64());
     assert!(rt; !masked.exists(&inner) && masked.span(&outer).is_some());

@@ -3,9 +3,9 @@ ghost use Rattle.std.specs.Prelude.{◌≡◌, ℕ, Bool, false};
 ghost use Rattle.span_registry_layers.specs.Aside.{SameButKeys};
 ghost use Rattle.span_registry_layers.specs.Looks.{SameLoan, left};
 
-use crate::{Context, FilterMap, Layer, Registry};
+use crate::{Context, FilterMap, Layer, Registry, Told};
 use std::alloc::Global;
-use tracing_core::{Attributes, Event, Id, Interest, LevelFilter, Metadata, Record, WeakDispatch};
+use tracing_core::{Event, Id, Interest, LevelFilter, Metadata, WeakDispatch};
 
 /// What a layer can be told.
 #[derive(Clone, Copy, Debug, PartialEq, Eq)]
@@ -61,18 +61,8 @@ impl<O: Observer> Layer for Observing<O> {
     ghost use Rattle.span_registry_layers.specs.Numbering.{no_numbers};
     ghost use Rattle.span_registry_layers.specs.Singles.{leaf_once};
 
-    ghost answers = { λ x m v b. b ≡ true };
-
-    ghost event_answers = { λ x e v b. b ≡ true };
-
-    ghost says = { λ x m k. k ≡ Always };
-
-    ghost hint = { λ x. None };
-
     ghost told = { λ x n y. ((key : ℕ) → O.keys y.observer key ≡ O.keys x.observer key) ×
         WritesUnder (O.keys x.observer) n };
-
-    ghost honest = { λ x. Unit {0} };
 
     ghost fair = { λ x _. idle_fair };
 
@@ -118,58 +108,45 @@ impl<O: Observer> Layer for Observing<O> {
         true
     }
 
-    fn on_new_span(
-        &mut self,
-        _attributes: &Attributes<'_, '_>,
-        span: &Id,
-        context: &mut Context<'_>,
-    ) {
-        self.observer
-            .observe(Notification::Made, Some(span), context);
-    }
-
     fn max_level_hint(&self) -> Option<LevelFilter> {
         None
-    }
-
-    fn on_record(&mut self, span: &Id, _values: &Record<'_>, context: &mut Context<'_>) {
-        self.observer
-            .observe(Notification::Recorded, Some(span), context);
-    }
-
-    fn on_follows_from(&mut self, span: &Id, _follows: &Id, context: &mut Context<'_>) {
-        self.observer
-            .observe(Notification::Followed, Some(span), context);
     }
 
     fn event_enabled(&self, _event: &Event<'_, '_>, _context: &Context<'_>) -> bool {
         true
     }
 
-    fn on_event(&mut self, event: &Event<'_, '_>, context: &mut Context<'_>) {
-        let span = span_of(event, context);
-        self.observer
-            .observe(Notification::Happened, span.as_ref(), context);
-    }
-
-    fn on_enter(&mut self, span: &Id, context: &mut Context<'_>) {
-        self.observer
-            .observe(Notification::Entered, Some(span), context);
-    }
-
-    fn on_exit(&mut self, span: &Id, context: &mut Context<'_>) {
-        self.observer
-            .observe(Notification::Left, Some(span), context);
-    }
-
-    fn on_close(&mut self, span: &Id, context: &mut Context<'_>) {
-        self.observer
-            .observe(Notification::Closed, Some(span), context);
-    }
-
-    fn on_id_change(&mut self, _old: &Id, new: &Id, context: &mut Context<'_>) {
-        self.observer
-            .observe(Notification::Renamed, Some(new), context);
+    fn hear(&mut self, call: &Told<'_, '_, '_, '_>, context: &mut Context<'_>) {
+        match call {
+            Told::Event(event) => {
+                let span = span_of(event, context);
+                self.observer
+                    .observe(Notification::Happened, span.as_ref(), context);
+            }
+            Told::NewSpan(span, _) => self
+                .observer
+                .observe(Notification::Made, Some(span), context),
+            Told::Record(span, _) => {
+                self.observer
+                    .observe(Notification::Recorded, Some(span), context)
+            }
+            Told::FollowsFrom(span, _) => {
+                self.observer
+                    .observe(Notification::Followed, Some(span), context)
+            }
+            Told::Enter(span) => self
+                .observer
+                .observe(Notification::Entered, Some(span), context),
+            Told::Exit(span) => self
+                .observer
+                .observe(Notification::Left, Some(span), context),
+            Told::Close(span) => self
+                .observer
+                .observe(Notification::Closed, Some(span), context),
+            Told::IdChange(_, new) => self
+                .observer
+                .observe(Notification::Renamed, Some(new), context),
+        }
     }
 }
 

@@ -10,10 +10,10 @@ mod refusals;
 use super::recording::{Counter, Journaling, Notification, new_counter, new_journal};
 use super::*;
 use crate::{
-    Filtered, Layer, LayerExt, MetadataTest, Output, OutputKey, Stack, StackError, StackRefusal,
-    dropped_events_tell_nobody, dropped_spans_tell_nobody, filter_fn, layers_keep_to_keys,
-    numbers_stay, one_output_decides, registry_stands_alone, stack_registry_stays_sound,
-    verdicts_are_own,
+    Filtered, Layer, LayerExt, MetadataTest, Output, OutputKey, SpanCall, Stack, StackError,
+    StackRefusal, dropped_events_tell_nobody, dropped_spans_tell_nobody, filter_fn,
+    layers_keep_to_keys, numbers_stay, one_output_decides, registry_stands_alone,
+    stack_registry_stays_sound, verdicts_are_own,
 };
 use tracing_core::{CurrentSpan, DefaultCallsite, Hub, LevelFilter, Record};
 
@@ -143,10 +143,14 @@ fn surface_swaps(rt: HostRuntime) -> Result<(), Fail> {
     let output = stack.stack_mut(0).ok_or("an output")?;
     *output.filter_mut() = LevelFilter::TRACE;
     assert!(rt; tell_info(&mut stack) && told(&stack) == 2);
-    let last = stack.pop_output().ok_or("an output")?;
-    let (layer, filter) = last.output.into_parts();
-    assert!(rt; layer.observer.told == 2 && filter == LevelFilter::TRACE);
-    assert!(rt; stack.pop_output().is_none());
+    let layer = stack.layer_mut(0).ok_or("a layer")?;
+    layer.observer.told += 3;
+    assert!(rt; stack.layer_mut(1).is_none());
+    let mut outputs = stack.into_outputs();
+    let only = outputs.next().ok_or("an output")?;
+    let (layer, filter) = only.output.into_parts();
+    assert!(rt; layer.observer.told == 5 && filter == LevelFilter::TRACE);
+    assert!(rt; outputs.next().is_none());
     Ok(())
 }
 

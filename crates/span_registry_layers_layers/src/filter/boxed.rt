@@ -1,8 +1,8 @@
 //! A boxed filter is one.
 use crate::context::Context;
-use crate::filter::Filter;
-use tracing_core_fields::{Id, LevelFilter, Metadata};
-use tracing_core_requests::{Attributes, Event, Interest, Record};
+use crate::filter::{Filter, SpanCall};
+use tracing_core_fields::{LevelFilter, Metadata};
+use tracing_core_requests::{Event, Interest};
 
 /// The box answers what the filter in it does.
 impl Filter for Box<dyn Filter> {
@@ -42,23 +42,7 @@ impl Filter for Box<dyn Filter> {
         (**self).max_level_hint()
     }
 
-    fn on_new_span(&mut self, attributes: &Attributes<'_, '_>, span: &Id, context: &Context<'_>) {
-        (**self).on_new_span(attributes, span, context)
-    }
-
-    fn on_record(&mut self, span: &Id, values: &Record<'_>, context: &Context<'_>) {
-        (**self).on_record(span, values, context)
-    }
-
-    fn on_enter(&mut self, span: &Id, context: &Context<'_>) {
-        (**self).on_enter(span, context)
-    }
-
-    fn on_exit(&mut self, span: &Id, context: &Context<'_>) {
-        (**self).on_exit(span, context)
-    }
-
-    fn on_close(&mut self, span: &Id, context: &Context<'_>) {
-        (**self).on_close(span, context)
+    fn hear(&mut self, call: &SpanCall<'_, '_, '_, '_>, context: &Context<'_>) {
+        (**self).hear(call, context)
     }
 }

@@ -5,9 +5,9 @@ ghost use Rattle.span_registry_layers_layers.specs.Firms.{both_firm, either_firm
 ghost use Rattle.span_registry_layers_layers.specs.Singles.{both_single, either_single, turned_single};
 
 use crate::context::Context;
-use crate::filter::Filter;
-use tracing_core_fields::{Id, LevelFilter, Metadata};
-use tracing_core_requests::{Attributes, Event, Interest, Record};
+use crate::filter::{Filter, SpanCall};
+use tracing_core_fields::{LevelFilter, Metadata};
+use tracing_core_requests::{Event, Interest};
 
 /// Passes what both filters pass.
 #[derive(Clone, Copy, Debug, Drop)]
@@ -57,8 +57,6 @@ impl<A> Not<A> {
 }
 
 impl<A: Filter, B: Filter> Filter for And<A, B> {
-    ghost use Rattle.tracing_core_requests.specs.Interests.{PlainInterest};
-    ghost use Rattle.tracing_core_fields.specs.PlainMetadata.{PlainMetadata};
     ghost use Rattle.span_registry_layers_layers.specs.Combined.{Both, SaysOf, both_fair, both_hints, both_interests, joined_word};
 
     ghost answers = { λ f m v r. Both (A.answers f.a m v) (B.answers f.b m v) r };
@@ -103,35 +101,13 @@ impl<A: Filter, B: Filter> Filter for And<A, B> {
         both_hints(self.a.max_level_hint(), self.b.max_level_hint())
     }
 
-    fn on_new_span(&mut self, attributes: &Attributes<'_, '_>, span: &Id, context: &Context<'_>) {
-        self.a.on_new_span(attributes, span, context);
-        self.b.on_new_span(attributes, span, context);
-    }
-
-    fn on_record(&mut self, span: &Id, values: &Record<'_>, context: &Context<'_>) {
-        self.a.on_record(span, values, context);
-        self.b.on_record(span, values, context);
-    }
-
-    fn on_enter(&mut self, span: &Id, context: &Context<'_>) {
-        self.a.on_enter(span, context);
-        self.b.on_enter(span, context);
-    }
-
-    fn on_exit(&mut self, span: &Id, context: &Context<'_>) {
-        self.a.on_exit(span, context);
-        self.b.on_exit(span, context);
-    }
-
-    fn on_close(&mut self, span: &Id, context: &Context<'_>) {
-        self.a.on_close(span, context);
-        self.b.on_close(span, context);
+    fn hear(&mut self, call: &SpanCall<'_, '_, '_, '_>, context: &Context<'_>) {
+        self.a.hear(call, context);
+        self.b.hear(call, context);
     }
 }
 
 impl<A: Filter, B: Filter> Filter for Or<A, B> {
-    ghost use Rattle.tracing_core_requests.specs.Interests.{PlainInterest};
-    ghost use Rattle.tracing_core_fields.specs.PlainMetadata.{PlainMetadata};
     ghost use Rattle.span_registry_layers_layers.specs.Combined.{Either, SaysOf, either_fair, either_hint, either_interest, joined_word};
 
     ghost answers = { λ f m v r. Either (A.answers f.a m v) (B.answers f.b m v) r };
@@ -176,35 +152,13 @@ impl<A: Filter, B: Filter> Filter for Or<A, B> {
         either_hint(self.a.max_level_hint(), self.b.max_level_hint())
     }
 
-    fn on_new_span(&mut self, attributes: &Attributes<'_, '_>, span: &Id, context: &Context<'_>) {
-        self.a.on_new_span(attributes, span, context);
-        self.b.on_new_span(attributes, span, context);
-    }
-
-    fn on_record(&mut self, span: &Id, values: &Record<'_>, context: &Context<'_>) {
-        self.a.on_record(span, values, context);
-        self.b.on_record(span, values, context);
-    }
-
-    fn on_enter(&mut self, span: &Id, context: &Context<'_>) {
-        self.a.on_enter(span, context);
-        self.b.on_enter(span, context);
-    }
-
-    fn on_exit(&mut self, span: &Id, context: &Context<'_>) {
-        self.a.on_exit(span, context);
-        self.b.on_exit(span, context);
-    }
-
-    fn on_close(&mut self, span: &Id, context: &Context<'_>) {
-        self.a.on_close(span, context);
-        self.b.on_close(span, context);
+    fn hear(&mut self, call: &SpanCall<'_, '_, '_, '_>, context: &Context<'_>) {
+        self.a.hear(call, context);
+        self.b.hear(call, context);
     }
 }
 
 impl<A: Filter> Filter for Not<A> {
-    ghost use Rattle.tracing_core_requests.specs.Interests.{PlainInterest};
-    ghost use Rattle.tracing_core_fields.specs.PlainMetadata.{PlainMetadata};
     ghost use Rattle.span_registry_layers_layers.specs.Combined.{SaysTurned, Turned, turned_fair, turned_word};
 
     ghost answers = { λ f m v r. Turned (A.answers f.a m v) r };
@@ -244,24 +198,8 @@ impl<A: Filter> Filter for Not<A> {
         None
     }
 
-    fn on_new_span(&mut self, attributes: &Attributes<'_, '_>, span: &Id, context: &Context<'_>) {
-        self.a.on_new_span(attributes, span, context);
-    }
-
-    fn on_record(&mut self, span: &Id, values: &Record<'_>, context: &Context<'_>) {
-        self.a.on_record(span, values, context);
-    }
-
-    fn on_enter(&mut self, span: &Id, context: &Context<'_>) {
-        self.a.on_enter(span, context);
-    }
-
-    fn on_exit(&mut self, span: &Id, context: &Context<'_>) {
-        self.a.on_exit(span, context);
-    }
-
-    fn on_close(&mut self, span: &Id, context: &Context<'_>) {
-        self.a.on_close(span, context);
+    fn hear(&mut self, call: &SpanCall<'_, '_, '_, '_>, context: &Context<'_>) {
+        self.a.hear(call, context);
     }
 }
 

@@ -1,15 +1,15 @@
 //! A stored closure that looks at the context, as a filter.
 ghost use Rattle.std.specs.Prelude.{◌≡◌, IfSome, IsSome, None, Some, true};
 ghost use Rattle.span_registry_layers_layers.specs.Combined.{same_word};
-ghost use Rattle.span_registry_layers_layers.specs.Dynamic.{AnswersIn, CallsitesFit, IsDeterminedIn, RefusesAboveHintIn, RefusesAboveIn, SaysIn, dynamic_fair};
-ghost use Rattle.span_registry_layers_layers.specs.Firms.{CallsitesAreFirm, dynamic_firm};
+ghost use Rattle.span_registry_layers_layers.specs.Dynamic.{AnswersIn, CallsitesFit, IsDeterminedIn, RefusesAboveHintIn, RefusesAboveIn, SaysIn};
+ghost use Rattle.span_registry_layers_layers.specs.Firms.{CallsitesAreFirm};
 ghost use Rattle.span_registry_layers_layers.specs.Honesty.{Fair, Firm};
 ghost use Rattle.span_registry_layers_layers.specs.Singles.{dynamic_single};
 
 use crate::context::Context;
-use crate::filter::Filter;
-use tracing_core_fields::{Id, LevelFilter, Metadata};
-use tracing_core_requests::{Attributes, Event, Interest, Record};
+use crate::filter::{Filter, SpanCall};
+use tracing_core_fields::{LevelFilter, Metadata};
+use tracing_core_requests::{Event, Interest};
 
 /// Decides by metadata and by what the context shows.
 pub type ContextTest = Box<dyn Fn(&Metadata<'_>, &Context<'_>) -> bool>;
@@ -168,18 +168,5 @@ impl Filter for DynFilterFn {
         self.max_level_hint
     }
 
-    fn on_new_span(
-        &mut self,
-        _attributes: &Attributes<'_, '_>,
-        _span: &Id,
-        _context: &Context<'_>,
-    ) {}
-
-    fn on_record(&mut self, _span: &Id, _values: &Record<'_>, _context: &Context<'_>) {}
-
-    fn on_enter(&mut self, _span: &Id, _context: &Context<'_>) {}
-
-    fn on_exit(&mut self, _span: &Id, _context: &Context<'_>) {}
-
-    fn on_close(&mut self, _span: &Id, _context: &Context<'_>) {}
+    fn hear(&mut self, _call: &SpanCall<'_, '_, '_, '_>, _context: &Context<'_>) {}
 }

@@ -2,14 +2,14 @@
 ghost use Rattle.std.specs.Prelude.{◌≡◌, None, Some, true};
 ghost use Rattle.span_registry_layers_layers.specs.Combined.{same_word};
 ghost use Rattle.span_registry_layers_layers.specs.Firms.{closure_firm};
-ghost use Rattle.span_registry_layers_layers.specs.Functions.{AnswersBy, IsDetermined, RefusesAbove, SaysBy, function_fair};
+ghost use Rattle.span_registry_layers_layers.specs.Functions.{AnswersBy, IsDetermined, RefusesAbove, SaysBy};
 ghost use Rattle.span_registry_layers_layers.specs.Honesty.{Fair};
 ghost use Rattle.span_registry_layers_layers.specs.Singles.{closure_single};
 
 use crate::context::Context;
-use crate::filter::Filter;
-use tracing_core_fields::{Id, LevelFilter, Metadata};
-use tracing_core_requests::{Attributes, Event, Interest, Record};
+use crate::filter::{Filter, SpanCall};
+use tracing_core_fields::{LevelFilter, Metadata};
+use tracing_core_requests::{Event, Interest};
 
 /// Decides by metadata alone.
 pub type MetadataTest = Box<dyn Fn(&Metadata<'_>) -> bool>;
@@ -103,18 +103,5 @@ impl Filter for FilterFn {
         self.max_level_hint
     }
 
-    fn on_new_span(
-        &mut self,
-        _attributes: &Attributes<'_, '_>,
-        _span: &Id,
-        _context: &Context<'_>,
-    ) {}
-
-    fn on_record(&mut self, _span: &Id, _values: &Record<'_>, _context: &Context<'_>) {}
-
-    fn on_enter(&mut self, _span: &Id, _context: &Context<'_>) {}
-
-    fn on_exit(&mut self, _span: &Id, _context: &Context<'_>) {}
-
-    fn on_close(&mut self, _span: &Id, _context: &Context<'_>) {}
+    fn hear(&mut self, _call: &SpanCall<'_, '_, '_, '_>, _context: &Context<'_>) {}
 }

@@ -1,13 +1,13 @@
 //! A level filter as a filter.
-ghost use Rattle.std.specs.Prelude.{◌≡◌, Some, nat_le, refl, true};
+ghost use Rattle.std.specs.Prelude.{◌≡◌, Some, nat_le, true};
 ghost use Rattle.span_registry_layers_layers.specs.Combined.{level_fair, level_interest, same_word};
 ghost use Rattle.span_registry_layers_layers.specs.Firms.{level_firm};
 ghost use Rattle.span_registry_layers_layers.specs.Singles.{function_single};
 
 use crate::context::Context;
-use crate::filter::Filter;
-use tracing_core_fields::{Id, LevelFilter, Metadata};
-use tracing_core_requests::{Attributes, Event, Interest, Record};
+use crate::filter::{Filter, SpanCall};
+use tracing_core_fields::{LevelFilter, Metadata};
+use tracing_core_requests::{Event, Interest};
 
 /// Passes what is at most as verbose as the filter's level.
 impl Filter for LevelFilter {
@@ -51,18 +51,5 @@ impl Filter for LevelFilter {
         Some(*self)
     }
 
-    fn on_new_span(
-        &mut self,
-        _attributes: &Attributes<'_, '_>,
-        _span: &Id,
-        _context: &Context<'_>,
-    ) {}
-
-    fn on_record(&mut self, _span: &Id, _values: &Record<'_>, _context: &Context<'_>) {}
-
-    fn on_enter(&mut self, _span: &Id, _context: &Context<'_>) {}
-
-    fn on_exit(&mut self, _span: &Id, _context: &Context<'_>) {}
-
-    fn on_close(&mut self, _span: &Id, _context: &Context<'_>) {}
+    fn hear(&mut self, _call: &SpanCall<'_, '_, '_, '_>, _context: &Context<'_>) {}
 }

@@ -1,8 +1,8 @@
 //! A filter that may be absent.
 use crate::context::Context;
-use crate::filter::Filter;
-use tracing_core_fields::{Id, LevelFilter, Metadata};
-use tracing_core_requests::{Attributes, Event, Interest, Record};
+use crate::filter::{Filter, SpanCall};
+use tracing_core_fields::{LevelFilter, Metadata};
+use tracing_core_requests::{Event, Interest};
 
 /// Passes all where it is absent.
 impl<F: Filter> Filter for Option<F> {
@@ -57,38 +57,10 @@ impl<F: Filter> Filter for Option<F> {
         }
     }
 
-    fn on_new_span(&mut self, attributes: &Attributes<'_, '_>, span: &Id, context: &Context<'_>) {
+    fn hear(&mut self, call: &SpanCall<'_, '_, '_, '_>, context: &Context<'_>) {
         match self {
             None => {}
-            Some(filter) => filter.on_new_span(attributes, span, context),
-        }
-    }
-
-    fn on_record(&mut self, span: &Id, values: &Record<'_>, context: &Context<'_>) {
-        match self {
-            None => {}
-            Some(filter) => filter.on_record(span, values, context),
-        }
-    }
-
-    fn on_enter(&mut self, span: &Id, context: &Context<'_>) {
-        match self {
-            None => {}
-            Some(filter) => filter.on_enter(span, context),
-        }
-    }
-
-    fn on_exit(&mut self, span: &Id, context: &Context<'_>) {
-        match self {
-            None => {}
-            Some(filter) => filter.on_exit(span, context),
-        }
-    }
-
-    fn on_close(&mut self, span: &Id, context: &Context<'_>) {
-        match self {
-            None => {}
-            Some(filter) => filter.on_close(span, context),
+            Some(filter) => filter.hear(call, context),
         }
     }
 }

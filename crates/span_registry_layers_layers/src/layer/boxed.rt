@@ -5,10 +5,10 @@ ghost use Rattle.tracing_core_requests.specs.Steady.{SameWord};
 ghost use Rattle.span_registry_layers_layers.specs.Numbering.{NumbersStay};
 
 use crate::context::Context;
-use crate::layer::Layer;
+use crate::layer::{Layer, Told};
 use span_registry_layers_store::{FilterMap, Registry};
-use tracing_core_fields::{Id, LevelFilter, Metadata};
-use tracing_core_requests::{Attributes, Event, Interest, Record, WeakDispatch};
+use tracing_core_fields::{LevelFilter, Metadata};
+use tracing_core_requests::{Event, Interest, WeakDispatch};
 
 /// The box does and answers what the layer in it does.
 impl Layer for Box<dyn Layer> {
@@ -78,48 +78,15 @@ impl Layer for Box<dyn Layer> {
         (**self).enabled(metadata, context)
     }
 
-    fn on_new_span(
-        &mut self,
-        attributes: &Attributes<'_, '_>,
-        span: &Id,
-        context: &mut Context<'_>,
-    ) {
-        (**self).on_new_span(attributes, span, context)
+    fn hear(&mut self, call: &Told<'_, '_, '_, '_>, context: &mut Context<'_>) {
+        (**self).hear(call, context)
     }
 
     fn max_level_hint(&self) -> Option<LevelFilter> {
         (**self).max_level_hint()
     }
 
-    fn on_record(&mut self, span: &Id, values: &Record<'_>, context: &mut Context<'_>) {
-        (**self).on_record(span, values, context)
-    }
-
-    fn on_follows_from(&mut self, span: &Id, follows: &Id, context: &mut Context<'_>) {
-        (**self).on_follows_from(span, follows, context)
-    }
-
     fn event_enabled(&self, event: &Event<'_, '_>, context: &Context<'_>) -> bool {
         (**self).event_enabled(event, context)
-    }
-
-    fn on_event(&mut self, event: &Event<'_, '_>, context: &mut Context<'_>) {
-        (**self).on_event(event, context)
-    }
-
-    fn on_enter(&mut self, span: &Id, context: &mut Context<'_>) {
-        (**self).on_enter(span, context)
-    }
-
-    fn on_exit(&mut self, span: &Id, context: &mut Context<'_>) {
-        (**self).on_exit(span, context)
-    }
-
-    fn on_close(&mut self, span: &Id, context: &mut Context<'_>) {
-        (**self).on_close(span, context)
-    }
-
-    fn on_id_change(&mut self, old: &Id, new: &Id, context: &mut Context<'_>) {
-        (**self).on_id_change(old, new, context)
     }
 }

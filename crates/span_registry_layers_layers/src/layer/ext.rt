@@ -1,7 +1,7 @@
 //! Layers made of a layer.
-ghost use Rattle.std.specs.Prelude.{◌≡◌, ◌≤◌};
+ghost use Rattle.std.specs.Prelude.{◌≡◌};
 ghost use Rattle.span_registry_layers_store.specs.Registries.{RegistryValue};
-ghost use Rattle.span_registry_layers_layers.specs.Trees.{AttachGives, IsAttached, JoinGives};
+ghost use Rattle.span_registry_layers_layers.specs.Trees.{AttachGives, JoinGives};
 
 use crate::attached::{AttachError, attach};
 use crate::filtered::Filtered;
@@ -30,7 +30,7 @@ pub trait LayerExt: Layer {
     ) -> Result<Layered<Self, Registry>, AttachError<Self, Registry>>
     where
         Self: Sized,
-        ensures { registry.filters ≤ 64 → AttachGives ⟦<Self as Layer>⟧ self registry result }
+        ensures { AttachGives ⟦<Self as Layer>⟧ self registry result }
     {
         attach(self, registry)
     }
@@ -60,7 +60,7 @@ pub trait SubscriberExt {
     fn with<L: Layer>(self, layer: L) -> Result<Layered<L, Registry>, AttachError<L, Registry>>
     where
         Self: Sized,
-        ensures { (registry self).filters ≤ 64 → AttachGives ⟦<L as Layer>⟧ layer (registry self) result };
+        ensures { AttachGives ⟦<L as Layer>⟧ layer (registry self) result };
 }
 
 impl SubscriberExt for Registry {
@@ -81,8 +81,7 @@ impl<M: Layer> Layered<M, Registry> {
         self,
         layer: L,
     ) -> Result<Layered<Layered<L, M>, Registry>, AttachError<L, Layered<M, Registry>>>
-        ensures { IsAttached ⟦<M as Layer>⟧ self →
-            JoinGives ⟦<L as Layer>⟧ ⟦<M as Layer>⟧ ⟦<Layered<L, M> as Layer>⟧ layer self result }
+        ensures { JoinGives ⟦<L as Layer>⟧ ⟦<M as Layer>⟧ ⟦<Layered<L, M> as Layer>⟧ layer self result }
     {
         let Layered {
             layer: inner,

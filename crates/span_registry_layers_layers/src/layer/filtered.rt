@@ -3,7 +3,6 @@ ghost use Rattle.std.specs.Prelude.{◌≡◌, ◌&&◌, None, true};
 ghost use Rattle.tracing_core_requests.specs.declared.interest.InterestInner.TheVariants.{Always};
 ghost use Rattle.tracing_core_requests.specs.PlainRequests.{plain_event};
 ghost use Rattle.span_registry_layers_store.specs.Registries.{RegistryValue};
-ghost use Rattle.span_registry_layers_layers.specs.Combined.{same_word};
 ghost use Rattle.span_registry_layers_layers.specs.Filtereds.{Hears, HearsAt, MayHear, MayPass, heard, is_seen};
 ghost use Rattle.span_registry_layers_layers.specs.Identities.{idle_fair};
 ghost use Rattle.span_registry_layers_layers.specs.Looks.{SameLoan, left, view};
@@ -12,11 +11,10 @@ ghost use Rattle.span_registry_layers_layers.specs.Told.{notice};
 use crate::context::Context;
 use crate::filter::Filter;
 use crate::filtered::Filtered;
-use crate::layer::Layer;
-use crate::layer::told::Told;
+use crate::layer::{Layer, Told};
 use span_registry_layers_store::{FilterMap, Registry};
 use tracing_core_fields::{Id, LevelFilter, Metadata};
-use tracing_core_requests::{Attributes, Event, Interest, Record, WeakDispatch};
+use tracing_core_requests::{Event, Interest, Record, WeakDispatch};
 
 /// The layer is told of the events that its filter, asked again, passes, and of calls on the spans that the filter and
 /// all filters above it passed when they were made. It vetoes nothing, whatever the layer says.
@@ -102,49 +100,16 @@ impl<L: Layer, F: Filter> Layer for Filtered<L, F> {
         true
     }
 
-    fn on_new_span(
-        &mut self,
-        attributes: &Attributes<'_, '_>,
-        span: &Id,
-        context: &mut Context<'_>,
-    ) {
-        self.hear(&Told::NewSpan(span, attributes), context);
+    fn hear(&mut self, call: &Told<'_, '_, '_, '_>, context: &mut Context<'_>) {
+        self.hear_at(call, context);
     }
 
     fn max_level_hint(&self) -> Option<LevelFilter> {
         None
     }
 
-    fn on_record(&mut self, span: &Id, values: &Record<'_>, context: &mut Context<'_>) {
-        self.hear(&Told::Record(span, values), context);
-    }
-
-    fn on_follows_from(&mut self, span: &Id, follows: &Id, context: &mut Context<'_>) {
-        self.hear(&Told::FollowsFrom(span, follows), context);
-    }
-
     fn event_enabled(&self, _event: &Event<'_, '_>, _context: &Context<'_>) -> bool {
         true
-    }
-
-    fn on_event(&mut self, event: &Event<'_, '_>, context: &mut Context<'_>) {
-        self.hear(&Told::Event(event), context);
-    }
-
-    fn on_enter(&mut self, span: &Id, context: &mut Context<'_>) {
-        self.hear(&Told::Enter(span), context);
-    }
-
-    fn on_exit(&mut self, span: &Id, context: &mut Context<'_>) {
-        self.hear(&Told::Exit(span), context);
-    }
-
-    fn on_close(&mut self, span: &Id, context: &mut Context<'_>) {
-        self.hear(&Told::Close(span), context);
-    }
-
-    fn on_id_change(&mut self, old: &Id, new: &Id, context: &mut Context<'_>) {
-        self.hear(&Told::IdChange(old, new), context);
     }
 }
 
@@ -164,7 +129,7 @@ impl<L: Layer, F: Filter> Filtered<L, F> {
     }
 
     // Tells of a span or an event that the filter sees and passes, where the filter has a number.
-    fn hear(&mut self, told: &Told<'_, '_, '_, '_>, context: &mut Context<'_>)
+    fn hear_at(&mut self, told: &Told<'_, '_, '_, '_>, context: &mut Context<'_>)
         ensures lent { SameLoan context.old context.new }
         ensures notified { HearsAt ⟦<F as Filter>⟧ ⟦<L as Layer>⟧ self.old.id self.old (notice told.now)
             (view context.old) (left context.new) self.new }
@@ -185,7 +150,7 @@ impl<L: Layer, F: Filter> Filtered<L, F> {
     {
         if self.hears(told, context) {
             tell_filter(&mut self.filter, told, context);
-            told.to(&mut self.layer, context);
+            self.layer.hear(told, context);
         }
     }
 

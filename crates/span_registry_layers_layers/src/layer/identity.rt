@@ -3,15 +3,15 @@ ghost use Rattle.std.specs.Prelude.{◌≡◌, None, true, false, refl};
 ghost use Rattle.tracing_core_requests.specs.declared.interest.InterestInner.TheVariants.{Always};
 ghost use Rattle.span_registry_layers_layers.specs.Combined.{same_word};
 ghost use Rattle.span_registry_layers_layers.specs.Identities.{idle_fair};
-ghost use Rattle.span_registry_layers_layers.specs.Notices.{Untouched, untouched_writes};
+ghost use Rattle.span_registry_layers_layers.specs.Notices.{untouched_writes};
 ghost use Rattle.span_registry_layers_layers.specs.Numbering.{no_numbers};
 ghost use Rattle.span_registry_layers_layers.specs.Singles.{leaf_once};
 
 use crate::context::Context;
-use crate::layer::Layer;
+use crate::layer::{Layer, Told};
 use span_registry_layers_store::{FilterMap, Registry};
-use tracing_core_fields::{Id, LevelFilter, Metadata};
-use tracing_core_requests::{Attributes, Event, Interest, Record, WeakDispatch};
+use tracing_core_fields::{LevelFilter, Metadata};
+use tracing_core_requests::{Event, Interest, WeakDispatch};
 
 /// A layer that does nothing with what it is told, and vetoes nothing.
 #[derive(Clone, Copy, Debug, Drop)]
@@ -25,18 +25,6 @@ impl Identity {
 }
 
 impl Layer for Identity {
-    ghost answers = { λ x m v b. b ≡ true };
-
-    ghost event_answers = { λ x e v b. b ≡ true };
-
-    ghost says = { λ x m k. k ≡ Always };
-
-    ghost hint = { λ x. None };
-
-    ghost told = { λ x n y. (y ≡ x) × Untouched n };
-
-    ghost honest = { λ x. Unit {0} };
-
     ghost fair = { λ x _. idle_fair };
 
     ghost stays = { λ x n y t _. (tt, same_word (λ m k. k ≡ Always) None) };
@@ -75,32 +63,13 @@ impl Layer for Identity {
         true
     }
 
-    fn on_new_span(
-        &mut self,
-        _attributes: &Attributes<'_, '_>,
-        _span: &Id,
-        _context: &mut Context<'_>,
-    ) {}
+    fn hear(&mut self, _call: &Told<'_, '_, '_, '_>, _context: &mut Context<'_>) {}
 
     fn max_level_hint(&self) -> Option<LevelFilter> {
         None
     }
 
-    fn on_record(&mut self, _span: &Id, _values: &Record<'_>, _context: &mut Context<'_>) {}
-
-    fn on_follows_from(&mut self, _span: &Id, _follows: &Id, _context: &mut Context<'_>) {}
-
     fn event_enabled(&self, _event: &Event<'_, '_>, _context: &Context<'_>) -> bool {
         true
     }
-
-    fn on_event(&mut self, _event: &Event<'_, '_>, _context: &mut Context<'_>) {}
-
-    fn on_enter(&mut self, _span: &Id, _context: &mut Context<'_>) {}
-
-    fn on_exit(&mut self, _span: &Id, _context: &mut Context<'_>) {}
-
-    fn on_close(&mut self, _span: &Id, _context: &mut Context<'_>) {}
-
-    fn on_id_change(&mut self, _old: &Id, _new: &Id, _context: &mut Context<'_>) {}
 }

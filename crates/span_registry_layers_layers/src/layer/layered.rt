@@ -1,20 +1,17 @@
 //! Two layers as one.
 ghost use Rattle.std.specs.Prelude.{◌≡◌};
-ghost use Rattle.span_registry_layers_layers.specs.Layereds.{BothInTurn, picked_hint, picked_interest};
-ghost use Rattle.span_registry_layers_layers.specs.Looks.{SameLoan, left, view};
-ghost use Rattle.span_registry_layers_layers.specs.Told.{notice};
+ghost use Rattle.span_registry_layers_layers.specs.Layereds.{picked_hint, picked_interest};
 
 use crate::context::Context;
-use crate::layer::Layer;
-use crate::layer::told::Told;
+use crate::layer::{Layer, Told};
 use span_registry_layers_store::{FilterMap, Registry};
-use tracing_core_fields::{Id, LevelFilter, Metadata};
-use tracing_core_requests::{Attributes, Event, Interest, Record, WeakDispatch};
+use tracing_core_fields::{LevelFilter, Metadata};
+use tracing_core_requests::{Event, Interest, WeakDispatch};
 
 /// A layer over an inner one, or over a registry.
 ///
-/// Both layers are told, and the outer one sees what the inner one wrote; the outer one is asked first, and
-/// where one refuses, nobody is told.
+/// Both layers are told, the inner one first, and the outer one sees what the inner one wrote; the outer one is asked
+/// first, and where one refuses, nobody is told.
 #[derive(Clone, Copy, Debug, Drop)]
 pub struct Layered<L, I> {
     pub(crate) layer: L,
@@ -123,61 +120,17 @@ impl<L: Layer, I: Layer> Layer for Layered<L, I> {
         self.layer.enabled(metadata, context) && self.inner.enabled(metadata, context)
     }
 
-    fn on_new_span(
-        &mut self,
-        attributes: &Attributes<'_, '_>,
-        span: &Id,
-        context: &mut Context<'_>,
-    ) {
-        self.tell(&Told::NewSpan(span, attributes), context);
+    fn hear(&mut self, call: &Told<'_, '_, '_, '_>, context: &mut Context<'_>) {
+        self.inner.hear(call, context);
+        self.layer.hear(call, context);
     }
 
     fn max_level_hint(&self) -> Option<LevelFilter> {
         picked_hint(self.layer.max_level_hint(), self.inner.max_level_hint())
     }
 
-    fn on_record(&mut self, span: &Id, values: &Record<'_>, context: &mut Context<'_>) {
-        self.tell(&Told::Record(span, values), context);
-    }
-
-    fn on_follows_from(&mut self, span: &Id, follows: &Id, context: &mut Context<'_>) {
-        self.tell(&Told::FollowsFrom(span, follows), context);
-    }
-
     fn event_enabled(&self, event: &Event<'_, '_>, context: &Context<'_>) -> bool {
         self.layer.event_enabled(event, context) && self.inner.event_enabled(event, context)
-    }
-
-    fn on_event(&mut self, event: &Event<'_, '_>, context: &mut Context<'_>) {
-        self.tell(&Told::Event(event), context);
-    }
-
-    fn on_enter(&mut self, span: &Id, context: &mut Context<'_>) {
-        self.tell(&Told::Enter(span), context);
-    }
-
-    fn on_exit(&mut self, span: &Id, context: &mut Context<'_>) {
-        self.tell(&Told::Exit(span), context);
-    }
-
-    fn on_close(&mut self, span: &Id, context: &mut Context<'_>) {
-        self.tell(&Told::Close(span), context);
-    }
-
-    fn on_id_change(&mut self, old: &Id, new: &Id, context: &mut Context<'_>) {
-        self.tell(&Told::IdChange(old, new), context);
-    }
-}
-
-impl<L: Layer, I: Layer> Layered<L, I> {
-    // Tells both, the inner one first, whose slots the outer one sees.
-    fn tell(&mut self, told: &Told<'_, '_, '_, '_>, context: &mut Context<'_>)
-        ensures lent { SameLoan context.old context.new }
-        ensures notified { BothInTurn ⟦<L as Layer>⟧ ⟦<I as Layer>⟧ (notice told.now) self.old (view context.old)
-            (left context.new) self.new }
-    {
-        told.to(&mut self.inner, context);
-        told.to(&mut self.layer, context);
     }
 }
 

@@ -1,9 +1,9 @@
 //! A layer that may be absent.
 use crate::context::Context;
-use crate::layer::Layer;
+use crate::layer::{Layer, Told};
 use span_registry_layers_store::{FilterMap, Registry};
-use tracing_core_fields::{Id, LevelFilter, Metadata};
-use tracing_core_requests::{Attributes, Event, Interest, Record, WeakDispatch};
+use tracing_core_fields::{LevelFilter, Metadata};
+use tracing_core_requests::{Event, Interest, WeakDispatch};
 
 /// Where it is absent it vetoes nothing, but its hint is that it passes nothing: an absent layer doesn't keep its
 /// word.
@@ -91,15 +91,10 @@ impl<L: Layer> Layer for Option<L> {
         }
     }
 
-    fn on_new_span(
-        &mut self,
-        attributes: &Attributes<'_, '_>,
-        span: &Id,
-        context: &mut Context<'_>,
-    ) {
+    fn hear(&mut self, call: &Told<'_, '_, '_, '_>, context: &mut Context<'_>) {
         match self {
             None => {}
-            Some(layer) => layer.on_new_span(attributes, span, context),
+            Some(layer) => layer.hear(call, context),
         }
     }
 
@@ -110,59 +105,10 @@ impl<L: Layer> Layer for Option<L> {
         }
     }
 
-    fn on_record(&mut self, span: &Id, values: &Record<'_>, context: &mut Context<'_>) {
-        match self {
-            None => {}
-            Some(layer) => layer.on_record(span, values, context),
-        }
-    }
-
-    fn on_follows_from(&mut self, span: &Id, follows: &Id, context: &mut Context<'_>) {
-        match self {
-            None => {}
-            Some(layer) => layer.on_follows_from(span, follows, context),
-        }
-    }
-
     fn event_enabled(&self, event: &Event<'_, '_>, context: &Context<'_>) -> bool {
         match self {
             None => true,
             Some(layer) => layer.event_enabled(event, context),
-        }
-    }
-
-    fn on_event(&mut self, event: &Event<'_, '_>, context: &mut Context<'_>) {
-        match self {
-            None => {}
-            Some(layer) => layer.on_event(event, context),
-        }
-    }
-
-    fn on_enter(&mut self, span: &Id, context: &mut Context<'_>) {
-        match self {
-            None => {}
-            Some(layer) => layer.on_enter(span, context),
-        }
-    }
-
-    fn on_exit(&mut self, span: &Id, context: &mut Context<'_>) {
-        match self {
-            None => {}
-            Some(layer) => layer.on_exit(span, context),
-        }
-    }
-
-    fn on_close(&mut self, span: &Id, context: &mut Context<'_>) {
-        match self {
-            None => {}
-            Some(layer) => layer.on_close(span, context),
-        }
-    }
-
-    fn on_id_change(&mut self, old: &Id, new: &Id, context: &mut Context<'_>) {
-        match self {
-            None => {}
-            Some(layer) => layer.on_id_change(old, new, context),
         }
     }
 }

@@ -11,11 +11,10 @@ ghost use Rattle.span_registry_layers_layers.specs.Numbering.{AreNumbers, SameBu
 
 use crate::context::Context;
 use crate::filter::{either_hint, either_interest};
-use crate::layer::Layer;
-use crate::layer::told::Told;
+use crate::layer::{Layer, Told};
 use span_registry_layers_store::{FilterMap, Registry};
-use tracing_core_fields::{Id, LevelFilter, Metadata};
-use tracing_core_requests::{Attributes, Event, Interest, Record, WeakDispatch};
+use tracing_core_fields::{LevelFilter, Metadata};
+use tracing_core_requests::{Event, Interest, WeakDispatch};
 
 /// Each layer is told in turn, and where one refuses, nobody is. They are consistent where there is one, and
 /// each of them keeps its own and always wants all.
@@ -86,57 +85,16 @@ impl<L: Layer> Layer for Vec<L> {
         all_enabled(self.as_slice(), metadata, context)
     }
 
-    fn on_new_span(
-        &mut self,
-        attributes: &Attributes<'_, '_>,
-        span: &Id,
-        context: &mut Context<'_>,
-    ) {
-        tell_each(
-            self.as_mut_slice(),
-            &Told::NewSpan(span, attributes),
-            context,
-        );
+    fn hear(&mut self, call: &Told<'_, '_, '_, '_>, context: &mut Context<'_>) {
+        tell_each(self.as_mut_slice(), call, context);
     }
 
     fn max_level_hint(&self) -> Option<LevelFilter> {
         joined_hint(self.as_slice())
     }
 
-    fn on_record(&mut self, span: &Id, values: &Record<'_>, context: &mut Context<'_>) {
-        tell_each(self.as_mut_slice(), &Told::Record(span, values), context);
-    }
-
-    fn on_follows_from(&mut self, span: &Id, follows: &Id, context: &mut Context<'_>) {
-        tell_each(
-            self.as_mut_slice(),
-            &Told::FollowsFrom(span, follows),
-            context,
-        );
-    }
-
     fn event_enabled(&self, event: &Event<'_, '_>, context: &Context<'_>) -> bool {
         all_event_enabled(self.as_slice(), event, context)
-    }
-
-    fn on_event(&mut self, event: &Event<'_, '_>, context: &mut Context<'_>) {
-        tell_each(self.as_mut_slice(), &Told::Event(event), context);
-    }
-
-    fn on_enter(&mut self, span: &Id, context: &mut Context<'_>) {
-        tell_each(self.as_mut_slice(), &Told::Enter(span), context);
-    }
-
-    fn on_exit(&mut self, span: &Id, context: &mut Context<'_>) {
-        tell_each(self.as_mut_slice(), &Told::Exit(span), context);
-    }
-
-    fn on_close(&mut self, span: &Id, context: &mut Context<'_>) {
-        tell_each(self.as_mut_slice(), &Told::Close(span), context);
-    }
-
-    fn on_id_change(&mut self, old: &Id, new: &Id, context: &mut Context<'_>) {
-        tell_each(self.as_mut_slice(), &Told::IdChange(old, new), context);
     }
 }
 
@@ -260,6 +218,6 @@ fn tell_each<L: Layer>(layers: &mut [L], told: &Told<'_, '_, '_, '_>, context: &
         layers.new }
 {
     for layer in layers.iter_mut() {
-        told.to(layer, context);
+        layer.hear(told, context);
     }
 }

@@ -7,10 +7,10 @@ ghost use Rattle.span_registry_layers_layers.specs.Singles.{leaf_once};
 
 use crate::context::Context;
 use crate::filter::{DynFilterFn, Filter, FilterFn};
-use crate::layer::Layer;
+use crate::layer::{Layer, Told};
 use span_registry_layers_store::{FilterMap, Registry};
-use tracing_core_fields::{Id, LevelFilter, Metadata};
-use tracing_core_requests::{Attributes, Event, Interest, Record, WeakDispatch};
+use tracing_core_fields::{LevelFilter, Metadata};
+use tracing_core_requests::{Event, Interest, WeakDispatch};
 
 /// A filter of this crate that is a layer as well: nobody is told of what it refuses, and no notice changes it.
 pub trait Veto: Filter {}
@@ -74,32 +74,13 @@ impl<F: Veto> Layer for F {
         Filter::enabled(self, metadata, context)
     }
 
-    fn on_new_span(
-        &mut self,
-        _attributes: &Attributes<'_, '_>,
-        _span: &Id,
-        _context: &mut Context<'_>,
-    ) {}
+    fn hear(&mut self, _call: &Told<'_, '_, '_, '_>, _context: &mut Context<'_>) {}
 
     fn max_level_hint(&self) -> Option<LevelFilter> {
         Filter::max_level_hint(self)
     }
 
-    fn on_record(&mut self, _span: &Id, _values: &Record<'_>, _context: &mut Context<'_>) {}
-
-    fn on_follows_from(&mut self, _span: &Id, _follows: &Id, _context: &mut Context<'_>) {}
-
     fn event_enabled(&self, event: &Event<'_, '_>, context: &Context<'_>) -> bool {
         Filter::event_enabled(self, event, context)
     }
-
-    fn on_event(&mut self, _event: &Event<'_, '_>, _context: &mut Context<'_>) {}
-
-    fn on_enter(&mut self, _span: &Id, _context: &mut Context<'_>) {}
-
-    fn on_exit(&mut self, _span: &Id, _context: &mut Context<'_>) {}
-
-    fn on_close(&mut self, _span: &Id, _context: &mut Context<'_>) {}
-
-    fn on_id_change(&mut self, _old: &Id, _new: &Id, _context: &mut Context<'_>) {}
 }

@@ -4,8 +4,8 @@ ghost use Rattle.tracing_core_fields.specs.Metadata.{plain_metadata};
 ghost use Rattle.tracing_core_requests.specs.PlainRequests.{plain_attributes, plain_record};
 ghost use Rattle.span_registry_layers_store.specs.Registries.{kin_in};
 ghost use Rattle.span_registry_layers_store.specs.Spans.{is_open};
-ghost use Rattle.span_registry_layers_stack.specs.Calls.{AsksUnless, CloneGives, CloseGives, Closes, ClosesOne, EnterGives, ExitGives, FollowsGives, MakesSpan, RecordGives, SpanCached, current_in};
-ghost use Rattle.span_registry_layers_stack.specs.Stacks.{is_refused, plain_stack};
+ghost use Rattle.span_registry_layers_stack.specs.Calls.{AsksUnless, CloneGives, CloseGives, Closes, ClosesOne, EnterGives, ExitGives, FollowsGives, MakesSpan, NewSpanUnless, RecordGives, SpanCached, current_in};
+ghost use Rattle.span_registry_layers_stack.specs.Stacks.{plain_stack};
 
 use crate::parts::StackParts;
 use crate::row::SpanStep;
@@ -115,14 +115,13 @@ impl<L: Layer, F: Filter> StackParts<Filtered<L, F>> {
         !self.registry.is_open(&span)
     }
 
-    // Which filters pass a new span, and whether one does: nobody is asked where what is kept refuses it.
-    fn ask_span(&mut self, metadata: &Metadata<'_>, at: At) -> (FilterMap, bool)
-        ensures asked { AsksUnless ⟦<F as Filter>⟧ ⟦<L as Layer>⟧
-            (is_refused (plain_stack self.old) (plain_metadata metadata.now)) (plain_metadata metadata.now) at
+    // Which filters pass a new span, and whether one does: nobody is asked where it is refused.
+    fn ask_span(&mut self, refused: bool, metadata: &Metadata<'_>, at: At) -> (FilterMap, bool)
+        ensures asked { AsksUnless ⟦<F as Filter>⟧ ⟦<L as Layer>⟧ refused (plain_metadata metadata.now) at
             (plain_stack self.old) result.0.passed result.1 }
         ensures same { plain_stack self.new ≡ plain_stack self.old }
     {
-        if self.refuses(metadata) {
+        if refused {
             (FilterMap::all(), false)
         } else {
             ask_span(&self.rows, metadata, &mut self.registry, at)
@@ -144,7 +143,7 @@ impl<L: Layer, F: Filter> StackParts<Filtered<L, F>> {
         Ok(Some(span))
     }
 
-    // Makes a span where some filter passes it.
+    // Makes a span where some filter passes it, and asks nobody where what is kept refuses it.
     pub(crate) fn new_span(
         &mut self,
         attributes: &Attributes<'_, '_>,
@@ -153,10 +152,24 @@ impl<L: Layer, F: Filter> StackParts<Filtered<L, F>> {
         ensures { SpanCached ⟦<F as Filter>⟧ ⟦<L as Layer>⟧ (plain_attributes attributes.now) at
             (plain_stack self.old) result (plain_stack self.new) }
     {
+        let refused = self.refuses(attributes.metadata());
+        self.new_span_unless(refused, attributes, at)
+    }
+
+    // Makes a span where some filter passes it, and asks nobody where it is refused.
+    pub(crate) fn new_span_unless(
+        &mut self,
+        refused: bool,
+        attributes: &Attributes<'_, '_>,
+        at: At,
+    ) -> Result<Option<Id>, RequestError>
+        ensures { NewSpanUnless ⟦<F as Filter>⟧ ⟦<L as Layer>⟧ refused (plain_attributes attributes.now) at
+            (plain_stack self.old) result (plain_stack self.new) }
+    {
         if !self.knows(attributes.parent()) {
             return Err(RequestError::UnknownParent);
         }
-        let (verdicts, passes) = self.ask_span(attributes.metadata(), at);
+        let (verdicts, passes) = self.ask_span(refused, attributes.metadata(), at);
         if !passes {
             self.clear();
             return Ok(None);

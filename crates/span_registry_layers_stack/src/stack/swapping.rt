@@ -4,7 +4,7 @@ ghost use Rattle.std.specs.Option.{option_map};
 ghost use Rattle.std.specs.Prelude.{◌≡◌, IfSome, OnOk, slice_get};
 ghost use Rattle.tracing_core_requests.specs.Lists.{Every};
 ghost use Rattle.span_registry_layers_layers.specs.declared.filtered.Filtered.{Filtered};
-ghost use Rattle.span_registry_layers_stack.specs.Loans.{LendsFiltered, LendsOutput, forgotten, put_output};
+ghost use Rattle.span_registry_layers_stack.specs.Loans.{LendsFiltered, LendsLayerAt, LendsOutput, forgotten, layer_of, put_layer, put_output};
 ghost use Rattle.span_registry_layers_stack.specs.Rows.{filters_of, numbers_of};
 ghost use Rattle.span_registry_layers_stack.specs.Swaps.{SwapGives, with_rows};
 ghost use Rattle.span_registry_layers_stack.specs.CacheValidity.{CacheIsValid};
@@ -68,6 +68,31 @@ impl<L: Layer, F: Filter> Stack<Filtered<L, F>> {
         ensures* ends { sem 𝓛 (LendsFiltered L.row F.row self.entry output result) }
     {
         self.lend(output)
+    }
+
+    /// Lends the layer of the output at this place, counted from 0, for writing. What was kept of answers stays, since
+    /// no filter changes that it speaks of.
+    pub fn layer_mut(&mut self, output: usize) -> Option<&mut L>
+        ensures lent { option_map (λ lent. lent.now) result ≡ option_map layer_of (slice_get self.old.rows output) }
+        // Whatever the layer becomes, what is kept stays right.
+        ensures kept { (w : L) → CacheIsValid ⟦<F as Filter>⟧ self.old →
+            CacheIsValid ⟦<F as Filter>⟧ (put_layer output w self.old) }
+        // Each filter keeps its number, where those in the layer do.
+        ensures numbers { (w : L) → IfSome result (λ lent. L.numbers w ≡ L.numbers lent.now) →
+            numbers_of ⟦<L as Layer>⟧ (put_layer output w self.old).rows ≡ numbers_of ⟦<L as Layer>⟧ self.old.rows }
+        ensures* ends { sem 𝓛 (LendsLayerAt L.row F.row self.entry output result) }
+    {
+        self.lend_layer(output)
+    }
+
+    fn lend_layer(&mut self, output: usize) -> Option<&mut L>
+        ensures lent { option_map (λ lent. lent.now) result ≡ option_map layer_of (slice_get self.old.rows output) }
+        ensures* ends { sem 𝓛 (LendsLayerAt L.row F.row self.entry output result) }
+    {
+        match self.parts.rows.get_mut(output) {
+            None => None,
+            Some(row) => Some(row.output.inner_mut()),
+        }
     }
 
     fn hand_filter(&mut self, output: usize, filter: &mut F) -> Result<(), UnknownOutput>

@@ -38,10 +38,6 @@ impl Filter for Counting {
 
     ghost hint = { λ f. Some f.level };
 
-    ghost after = { λ f h. f };
-
-    ghost honest = { λ f. Unit {0} };
-
     ghost fair = { λ f _. level_fair f.level };
 
     ghost stays = { λ f h _. (tt, same_word (λ m k. k ≡ level_interest f.level m.level) (Some f.level)) };
@@ -71,20 +67,7 @@ impl Filter for Counting {
         Some(self.level)
     }
 
-    fn on_new_span(
-        &mut self,
-        _attributes: &Attributes<'_, '_>,
-        _span: &Id,
-        _context: &Context<'_>,
-    ) {}
-
-    fn on_record(&mut self, _span: &Id, _values: &Record<'_>, _context: &Context<'_>) {}
-
-    fn on_enter(&mut self, _span: &Id, _context: &Context<'_>) {}
-
-    fn on_exit(&mut self, _span: &Id, _context: &Context<'_>) {}
-
-    fn on_close(&mut self, _span: &Id, _context: &Context<'_>) {}
+    fn hear(&mut self, _call: &SpanCall<'_, '_, '_, '_>, _context: &Context<'_>) {}
 }
 
 /// A stack of one output with a filter that counts.
@@ -150,5 +133,33 @@ fn an_event_that_its_filter_refuses_is_passed_and_not_told(rt: HostRuntime) -> R
     assert!(rt; stack.passed(0) == Some(true) && stack.told(0) == Some(false));
     assert!(rt; was_told(&stack, 0, &[(Notification::Happened, 0)]));
     assert!(rt; make(&mut stack, "app", Level::INFO)?.is_some() && stack.told(0) == Some(true));
+    Ok(())
+}
+
+#[test]
+fn an_asking_event_is_asked_of_filters_whatever_is_kept(rt: HostRuntime) -> Result<(), Fail> {
+    let mut stack = counting_stack(rt.alloc(), LevelFilter::INFO)?;
+    let metadata = event_metadata("app", Level::DEBUG);
+    let event = Event::new(&metadata, no_values(&metadata));
+    stack.event(&event, PLACE)?;
+    assert!(rt; asked(&stack) == 0);
+    stack.event_asking(&event, PLACE)?;
+    assert!(rt; asked(&stack) == 1 && was_told(&stack, 0, &[]));
+    let metadata = event_metadata("app", Level::INFO);
+    stack.event_asking(&Event::new(&metadata, no_values(&metadata)), PLACE)?;
+    assert!(rt; asked(&stack) == 2 && was_told(&stack, 0, &[(Notification::Happened, 0)]));
+    Ok(())
+}
+
+#[test]
+fn an_asking_span_and_probe_are_asked_of_filters(rt: HostRuntime) -> Result<(), Fail> {
+    let mut stack = counting_stack(rt.alloc(), LevelFilter::INFO)?;
+    let debug = metadata_at(8, "s", "app", Level::DEBUG, Kind::SPAN);
+    assert!(rt; !stack.enabled_asking(&debug, PLACE) && asked(&stack) == 1);
+    let dropped = stack.new_span_asking(&Attributes::new(&debug, no_values(&debug)), PLACE)?;
+    assert!(rt; dropped.is_none() && asked(&stack) == 2);
+    let info = metadata_at(8, "s", "app", Level::INFO, Kind::SPAN);
+    let made = stack.new_span_asking(&Attributes::new(&info, no_values(&info)), PLACE)?;
+    assert!(rt; made.is_some() && was_told(&stack, 0, &[(Notification::Made, 1)]));
     Ok(())
 }

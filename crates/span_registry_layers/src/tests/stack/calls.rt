@@ -119,11 +119,14 @@ fn a_lent_output_is_changed(rt: HostRuntime) -> Result<(), Fail> {
 }
 
 #[test]
-fn outputs_come_out_last_first(rt: HostRuntime) -> Result<(), Fail> {
-    let mut stack = stack_of(rt.alloc(), LevelFilter::INFO, LevelFilter::OFF)?;
-    let last = stack.pop_output().ok_or("an output")?;
+fn outputs_come_out_in_order(rt: HostRuntime) -> Result<(), Fail> {
+    let stack = stack_of(rt.alloc(), LevelFilter::INFO, LevelFilter::OFF)?;
+    let mut outputs = stack.into_outputs();
+    let first = outputs.next().ok_or("an output")?;
+    let (_journal, filter) = first.output.into_parts();
+    assert!(rt; filter == LevelFilter::INFO);
+    let last = outputs.next().ok_or("an output")?;
     let (_journal, filter) = last.output.into_parts();
-    assert!(rt; filter == LevelFilter::OFF && stack.output(1).is_none());
-    assert!(rt; stack.pop_output().is_some() && stack.pop_output().is_none());
+    assert!(rt; filter == LevelFilter::OFF && outputs.next().is_none());
     Ok(())
 }

@@ -6,10 +6,9 @@ use Rattle.span_registry_layers_layers.proofs.attached.attach.Goals as goal
 
 pub returns-then-has_room : goal.returns-then-has_room
 returns-then-has_room g c =
-    λ within.
     let x = c.args.registry.filters in
     let count = g.L.Layer.filters c.args.layer in
-    let fits = fits_within x count (sym (c.has_room.ensures within) ∙ c.if-has_room.true) in
+    let fits = fits_within x count (sym c.has_room.ensures ∙ c.if-has_room.true) in
     let attached = c.number.ensures.numbers fits in
     let filters : c.number.result.inner.filters ≡ x + count = ap (λ (r : RegistryValue). r.filters) attached.0 in (
       fits,

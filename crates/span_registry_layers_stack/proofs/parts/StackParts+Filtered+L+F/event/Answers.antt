@@ -1,14 +1,10 @@
-use Rattle.std.proofs.Common.{sym, ap, ◌∙◌}
+use Rattle.std.proofs.Common.{ap, ◌∙◌, subst}
 use Rattle.tracing_core_requests.specs.PlainRequests.{plain_event}
-use Rattle.span_registry_layers_store.specs.Registries.{knows}
-use Rattle.span_registry_layers_stack.specs.Stacks.{is_refused, plain_stack}
-use Rattle.span_registry_layers_stack.proofs.Telling.{event_told}
+use Rattle.span_registry_layers_stack.specs.Stacks.{EventUnless, is_refused, plain_stack}
 use Rattle.span_registry_layers_stack.proofs.parts.StackParts+Filtered+L+F.event.Goals as goal
 
-pub returns-else-refuses : goal.returns-else-refuses
-returns-else-refuses g c =
-    let s = c.args.self.now in
-    event_told g.F.Filter g.L.Layer (plain_event c.args.event.now) c.args.at (plain_stack s) (plain_stack c.tell.new.self)
-    (ap (knows s.registry) (sym c.parent.ensures) ∙ sym c.knows.ensures ∙ c.if-not-knows.false)
-    (ap (is_refused (plain_stack s)) (sym c.metadata.ensures.plain) ∙ sym c.refuses.ensures ∙ c.if-refuses.false)
-    c.tell.ensures
+pub returns : goal.returns
+returns g c =
+    let s = plain_stack c.args.self.now in
+    subst (λ b. EventUnless g.F.Filter g.L.Layer b (plain_event c.args.event.now) c.args.at s c.event_unless.result (plain_stack c.event_unless.new.self))
+    (c.refuses-refused.ensures ∙ ap (is_refused s) c.metadata.ensures.plain) c.event_unless.ensures

@@ -1,4 +1,3 @@
-use Rattle.std.proofs.Common.{refl}
 use Rattle.span_registry_layers_stack.specs.Stacks.{plain_stack}
 use Rattle.span_registry_layers_stack.proofs.parts.StackParts+Filtered+L+F.tell.Goals as goal
 

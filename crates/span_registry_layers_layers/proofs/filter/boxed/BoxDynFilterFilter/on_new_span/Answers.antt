@@ -1,9 +1,0 @@
-use Rattle.std.proofs.Common.{ap, ◌∙◌}
-use Rattle.tracing_core_requests.specs.PlainRequests.{plain_attributes}
-use Rattle.span_registry_layers_layers.specs.Looks.{SpanMade, view}
-use Rattle.span_registry_layers_layers.proofs.filter.boxed.BoxDynFilterFilter.on_new_span.Goals as goal
-
-pub returns : goal.returns
-returns g c =
-    ap (λ w. record { ptr = c.args.self.now.ptr; vtable = c.deref_box_mut-1.result.now.0; alloc = c.args.self.now.alloc; value = w }) c.on_new_span.ensures
-    ∙ ap (λ p. record { ptr = c.args.self.now.ptr; vtable = p.0; alloc = c.args.self.now.alloc; value = (g.dyn-1.0.entry p.0).1.after p.1 (SpanMade (plain_attributes c.args.attributes.now) c.args.span.now (view c.args.context.now)) }) c.deref_box_mut-1.ensures.value.1
