@@ -10,3 +10,4 @@ pub mod queue;
 pub mod rolling;
 #[cfg(test)]
 mod tests;
+pub mod visitor;
