@@ -1,6 +1,7 @@
 -- Two steps at one moment leave the folder of one.
 use Rattle.std.proofs.Common.{◌≡◌, ◌==◌, Bool, true, false, ℕ, ℤ, zero, suc, ◌+◌, ◌-◌, ◌<◌, List, [], ◌∷◌, ◌++◌, length, refl, ap, subst, sym, ◌∙◌, Option, Some, Ok, Err}
 use Rattle.std.specs.List.{list_any}
+use mathlib.Core.Path.{fun_ext}
 use Rattle.tracing_appender_rolling.specs.Moment.{Moment}
 use Rattle.tracing_appender_rolling.specs.Moments.{is_due}
 use Rattle.tracing_appender_rolling.specs.FolderError.{FolderError}
@@ -15,10 +16,38 @@ use Rattle.tracing_appender_rolling.proofs.PeriodFacts.{own_not_due}
 use Rattle.tracing_appender_rolling.proofs.Openings.{done_open, not_open, flush_still}
 use Rattle.tracing_appender_batch.specs.declared.step.Written.{Written}
 use Rattle.tracing_appender_batch.specs.declared.step.Written.TheVariants.{Whole, Failed, Missed}
-use Rattle.tracing_appender_batch.specs.Steps.{is_whole, last_whole, LineTo, LinesTo, with_flush, flushed_if, IsNear, IsAlike, AllWhole, FoldersMayBeCut}
+use Rattle.tracing_appender_batch.specs.Steps.{is_whole, last_whole, LineTo, LinesTo, with_flush, flushed_if, AllWhole, FoldersMayBeCut}
 
-alike_self : (h : Held) → IsAlike h h
-alike_self h = record { near = record { until = refl; open_file = refl; counts = refl; files = refl; links = refl; open_files = refl; dirs = refl }; flushes = refl }
+-- these stand for the same, whatever was flushed last: file, end of the period, count of faults, and the folder but for its coming calls
+record IsNear (h k : Held) : Type 0 where
+  pub until : h.boundary ≡ k.boundary
+  pub open_file : h.current ≡ k.current
+  pub counts : h.faults ≡ k.faults
+  pub files : h.contents.files ≡ k.contents.files
+  pub links : h.contents.links ≡ k.contents.links
+  pub open_files : h.contents.open_files ≡ k.contents.open_files
+  pub dirs : h.contents.has_dirs ≡ k.contents.has_dirs
+
+-- these stand for the same
+record IsAlike (h k : Held) : Type 0 where
+  pub near : IsNear h k
+  pub flushes : h.contents.last_flushed ≡ k.contents.last_flushed
+
+-- where folders refuse nothing, what stands for the same is the same
+alike_same : (h k : Held) → IsAlike h k → IsSound h.contents → IsSound k.contents → h ≡ k
+alike_same h k a sound_h sound_k = λ i. record {
+  boundary = a.near.until i;
+  current = a.near.open_file i;
+  faults = a.near.counts i;
+  contents = record {
+    files = a.near.files i;
+    links = a.near.links i;
+    open_files = a.near.open_files i;
+    has_dirs = a.near.dirs i;
+    last_flushed = a.flushes i;
+    coming = fun_ext (λ n. sound_h n ∙ sym (sound_k n)) i;
+  };
+}
 
 -- a flush that isn't refused
 abbrev flush_done : Held → Held
@@ -42,17 +71,18 @@ abbrev FlushedAlike : Held → Held → Type 0
 FlushedAlike h k = is_open h.current h.contents ≡ false → h.contents.last_flushed ≡ k.contents.last_flushed
 
 -- a flush makes alike what was flushed otherwise before
-near_flushed : (h k : Held) → IsNear h k → FlushedAlike h k → IsSound h.contents → IsSound k.contents → IsAlike (with_flush h) (with_flush k)
+near_flushed : (h k : Held) → IsNear h k → FlushedAlike h k → IsSound h.contents → IsSound k.contents → with_flush h ≡ with_flush k
 near_flushed h k x flushes sound_h sound_k = by_case (is_open h.current h.contents) refl
   where
     done : IsAlike (flush_done h) (flush_done k)
     done = record { near = record { until = x.until; open_file = x.open_file; counts = x.counts; files = x.files; links = x.links; open_files = x.open_files; dirs = x.dirs }; flushes = ap (λ (f : FileNumber). Some f.index) x.open_file }
 
-    by_case : (b : Bool) → is_open h.current h.contents ≡ b → IsAlike (with_flush h) (with_flush k)
-    by_case true is = subst (λ (y : Held). IsAlike y (with_flush k)) (sym (flush_sound h sound_h is)) (subst (IsAlike (flush_done h)) (sym (flush_sound k sound_k (sym (near_open h k x) ∙ is))) done)
+    by_case : (b : Bool) → is_open h.current h.contents ≡ b → with_flush h ≡ with_flush k
+    by_case true is =
+        flush_sound h sound_h is ∙ alike_same (flush_done h) (flush_done k) done (λ n. sound_h (suc n)) (λ n. sound_k (suc n)) ∙ sym (flush_sound k sound_k (sym (near_open h k x) ∙ is))
     by_case false is =
         let shut : IsAlike (flush_shut h) (flush_shut k) = record { near = record { until = x.until; open_file = x.open_file; counts = x.counts; files = x.files; links = x.links; open_files = x.open_files; dirs = x.dirs }; flushes = flushes is } in
-        subst (λ (y : Held). IsAlike y (with_flush k)) (sym (shut_sound h sound_h is)) (subst (IsAlike (flush_shut h)) (sym (shut_sound k sound_k (sym (near_open h k x) ∙ is))) shut)
+        shut_sound h sound_h is ∙ alike_same (flush_shut h) (flush_shut k) shut (λ n. sound_h (suc n)) (λ n. sound_k (suc n)) ∙ sym (shut_sound k sound_k (sym (near_open h k x) ∙ is))
 
 lines_both : (names : FileNames) (m : Moment) (h middle last : Held) (xs ys : List (List ℕ)) (one two : List Written) → LinesTo names m h xs one middle → LinesTo names m middle ys two last → LinesTo names m h (xs ++ ys) (one ++ two) last
 lines_both names m h middle last [] ys [] two so more = subst (λ (x : Held). LinesTo names m x ys two last) so more
@@ -200,18 +230,18 @@ all_whole before (f ∷ fs) is (first, whole) = all_whole (is_whole f) fs (ap is
 -- both ways end alike where one more flush is made or left out in both
 abbrev Cut : FileNames → Moment → Held → List (List ℕ) → List (List ℕ) → List Written → List Written → Held → Type 0
 Cut names m h first second one two last =
-    (end : Held) × LinesTo names m h (first ++ second) (one ++ two) end × IsAlike (flushed_if (last_whole false (one ++ two)) end) (flushed_if (last_whole false two) last)
+    (end : Held) × LinesTo names m h (first ++ second) (one ++ two) end × flushed_if (last_whole false (one ++ two)) end ≡ flushed_if (last_whole false two) last
 
-ends_by : (one two : List Written) (end last : Held) (a b : Bool) → last_whole false (one ++ two) ≡ a → last_whole false two ≡ b → IsAlike (flushed_if a end) (flushed_if b last) → IsAlike (flushed_if (last_whole false (one ++ two)) end) (flushed_if (last_whole false two) last)
+ends_by : (one two : List Written) (end last : Held) (a b : Bool) → last_whole false (one ++ two) ≡ a → last_whole false two ≡ b → flushed_if a end ≡ flushed_if b last → flushed_if (last_whole false (one ++ two)) end ≡ flushed_if (last_whole false two) last
 ends_by one two end last a b is_a is_b alike =
-    subst (λ x. IsAlike (flushed_if x end) (flushed_if (last_whole false two) last)) (sym is_a) (subst (λ x. IsAlike (flushed_if a end) (flushed_if x last)) (sym is_b) alike)
+    ap (λ x. flushed_if x end) is_a ∙ alike ∙ sym (ap (λ x. flushed_if x last) is_b)
 
 -- behind a first part whose last line was written whole
 cut_flushed : (names : FileNames) (m : Moment) (h middle last : Held) (first second : List (List ℕ)) (one two : List Written) → last_whole false one ≡ true → IsSound middle.contents → AllWhole two → LinesTo names m h first one middle → LinesTo names m (with_flush middle) second two last → Cut names m h first second one two last
 cut_flushed names m h middle last first [] one [] is sound whole so more = (
   middle,
   lines_both names m h middle middle first [] one [] so refl,
-  ends_by one [] middle last true false (whole_both false one [] ∙ is) refl (subst (IsAlike (with_flush middle)) (sym more) (alike_self (with_flush middle))),
+  ends_by one [] middle last true false (whole_both false one [] ∙ is) refl (sym more),
 )
 cut_flushed names m h middle last first [] one (f ∷ fs) is sound whole so more = absurd more
 cut_flushed names m h middle last first (l ∷ ls) one [] is sound whole so more = absurd more
@@ -232,7 +262,7 @@ cut_by : (names : FileNames) (m : Moment) (h middle last : Held) (first second :
 cut_by names m h middle last first second one two false is sound whole so more = (
   last,
   lines_both names m h middle last first second one two so more,
-  ends_by one two last last (last_whole false two) (last_whole false two) (whole_both false one two ∙ ap (λ b. last_whole b two) is) refl (alike_self (flushed_if (last_whole false two) last)),
+  ends_by one two last last (last_whole false two) (last_whole false two) (whole_both false one two ∙ ap (λ b. last_whole b two) is) refl refl,
 )
 cut_by names m h middle last first second one two true is sound whole so more = cut_flushed names m h middle last first second one two is sound whole so more
 

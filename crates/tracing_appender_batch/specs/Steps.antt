@@ -116,29 +116,14 @@ abbrev pub StepsHaveOneEnd : Type 0
 StepsHaveOneEnd = (names : FileNames) (m : Moment) (h last other : Held) (lines : List (List ℕ)) (one two : List Written) → missed_in one ≡ 0 → missed_in two ≡ 0 →
     LinesTo names m h lines one last → LinesTo names m h lines two other → (one ≡ two) × (last ≡ other)
 
--- these stand for the same, whatever was flushed last: file, end of the period, count of faults, and the folder but for its coming calls
-pub record IsNear (h k : Held) : Type 0 where
-  pub until : h.boundary ≡ k.boundary
-  pub open_file : h.current ≡ k.current
-  pub counts : h.faults ≡ k.faults
-  pub files : h.contents.files ≡ k.contents.files
-  pub links : h.contents.links ≡ k.contents.links
-  pub open_files : h.contents.open_files ≡ k.contents.open_files
-  pub dirs : h.contents.has_dirs ≡ k.contents.has_dirs
-
--- these stand for the same
-pub record IsAlike (h k : Held) : Type 0 where
-  pub near : IsNear h k
-  pub flushes : h.contents.last_flushed ≡ k.contents.last_flushed
-
 -- all were written whole
 abbrev pub AllWhole : List Written → Type 0
 AllWhole [] = Unit {0}
 AllWhole (fate ∷ fates) = (fate ≡ Whole) × AllWhole fates
 
--- where the second of two steps at one moment finds a folder that refuses nothing and takes each write whole, and no memory is refused to it, both leave the same folder
--- and counts as one step
+-- where the second of two steps at one moment finds a folder that refuses nothing and takes each write whole, and no memory is refused to it, both leave exactly what one
+-- step leaves
 abbrev pub FoldersMayBeCut : Type 0
 FoldersMayBeCut = (names : FileNames) (m : Moment) (h middle last : Held) (first second : List (List ℕ)) (one two : List Written) → IsSound middle.contents → AllWhole two →
     LinesTo names m h first one middle → LinesTo names m (flushed_if (last_whole false one) middle) second two last →
-    (end : Held) × LinesTo names m h (first ++ second) (one ++ two) end × IsAlike (flushed_if (last_whole false (one ++ two)) end) (flushed_if (last_whole false two) last)
+    (end : Held) × LinesTo names m h (first ++ second) (one ++ two) end × (flushed_if (last_whole false (one ++ two)) end ≡ flushed_if (last_whole false two) last)
