@@ -118,8 +118,8 @@ module _ {F : Type 0} (h : LayerGhosts Identity) where
 
   -- where a filter has a number, an output comes out
   pub some_filter : (rows : List (Row (Filtered Identity F))) → numbers_of h rows ≡ 0 ∷ [] → map output_of rows ≡ [] → ⊥
-  some_filter [] numbers e = cc
-  some_filter (row ∷ rows) numbers e = cc
+  some_filter [] numbers e = absurd (cc)
+  some_filter (row ∷ rows) numbers e = absurd (cc)
 
   module _ (g : Ghosts F) where
     is_new : (o : Option StackError) (outputs : List (Output (Filtered Identity F))) (s : OutputsValue (Filtered Identity F)) → NewUnless h g o outputs (Ok s) → IsNew h g outputs s
