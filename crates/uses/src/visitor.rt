@@ -1,6 +1,6 @@
 //! Two visitors of your own: one that is told each value by the call of its kind, and one that writes a single call.
 
-ghost use Rattle.std.specs.Prelude.{◌≡◌, ◌++◌, ◌∷◌, [], IfOk, OnOk, map, string_bytes};
+ghost use Rattle.std.specs.Prelude.{◌≡◌, ◌<◌, ◌++◌, ◌∷◌, [], IfOk, OnOk, map, string_bytes};
 ghost use Rattle.tracing_core.specs.PlainValue.{debug_of};
 ghost use Rattle.tracing_core.specs.ValueSet.{entries_of};
 ghost use Rattle.uses.specs.Letters.{AddsLetter, kind_letter, text_letter};
