@@ -11,6 +11,7 @@ use crate::layer::Counts;
 use crate::program::{daily_output, log_text, open_trace};
 use crate::queue::{close_behind, dropping_queue, next_line, offer_text, two_in_order};
 use crate::rolling::{files_of, open_daily, write_line};
+use crate::visitor::{kinds_of, texts_of};
 use span_registry_layers::{
     Context, ContextTest, DynFilterFn, Filter, Filtered, Identity, MetadataTest, Output, OutputKey,
     Stack,
@@ -19,8 +20,8 @@ use span_tracing::Reply;
 use std::test::Fail;
 use tracing_appender_rolling::Moment;
 use tracing_core::{
-    At, Attributes, DefaultCallsite, Event, FieldSet, Identifier, Kind, Level, LevelFilter,
-    Metadata,
+    AnyValue, At, Attributes, DebugText, DefaultCallsite, Event, FieldSet, Identifier, Kind, Level,
+    LevelFilter, Metadata,
 };
 
 /// 2025-02-17T10:01:00Z.
@@ -244,5 +245,21 @@ fn a_line_stands_in_its_day(rt: HostRuntime) -> Result<(), Fail> {
     let file = files.first().ok_or("no file")?;
     assert_eq!(rt; file.name, "app.2025-02-17");
     assert_eq!(rt; file.bytes, b"hello\n".as_slice());
+    Ok(())
+}
+
+#[test]
+fn visitors_tell_kinds_apart(rt: HostRuntime) -> Result<(), Fail> {
+    let names = ["a", "b", "c", "d"];
+    let fields = FieldSet::new(&names, Identifier(1));
+    let values = [
+        Some(AnyValue::I64(-1)),
+        None,
+        Some(AnyValue::Str("text")),
+        Some(AnyValue::Debug(DebugText::I64(2))),
+    ];
+    let set = fields.value_set_all(&values);
+    assert_eq!(rt; kinds_of(rt.alloc(), &set)?.as_str(), "isd");
+    assert_eq!(rt; texts_of(rt.alloc(), &set)?.as_str(), "-t-");
     Ok(())
 }
