@@ -1,0 +1,6 @@
+pub mod Escapes
+pub mod Styles
+pub mod FieldTexts
+pub mod Lists
+pub mod Writers
+pub mod Visitors

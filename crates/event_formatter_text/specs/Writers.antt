@@ -1,0 +1,16 @@
+-- Writers.
+use Rattle.std.specs.Prelude.{◌≡◌, ℕ, List, string_bytes}
+use Rattle.event_formatter_text.specs.declared.settings.Settings.{Settings}
+use Rattle.event_formatter_text.specs.declared.writer.Writer.{Writer}
+
+-- what was written
+abbrev pub written : Writer → List ℕ
+written writer = string_bytes writer.out.now
+
+-- how it writes
+abbrev pub settings_of : Writer → Settings
+settings_of writer = writer.settings
+
+-- the same text is lent to both, and they write in the same way
+abbrev pub IsSameWriter : Writer → Writer → Type 0
+IsSameWriter a b = (b.out.ghost_name ≡ a.out.ghost_name) × (b.settings ≡ a.settings)

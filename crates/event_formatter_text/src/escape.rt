@@ -1,0 +1,176 @@
+//! Texts with some of their characters written out.
+//!
+//! Most texts have no such character. So their bytes are looked at first, in a loop without branches, and a text that
+//! has none is appended as it is.
+ghost use Rattle.std.specs.Prelude.{◌≡◌, ◌++◌, OnOk, string_bytes};
+ghost use Rattle.std.specs.List.{list_any};
+ghost use Rattle.tracing_core_fields.specs.Quoted.{quoted, quoted_char};
+ghost use Rattle.event_formatter_text.specs.Escapes.{escaped, is_special, json_char, json_string, sanitized, sanitized_char, written_char};
+
+use std::alloc::AllocError;
+
+/// Which characters of a text are written out.
+#[derive(Clone, Copy, PartialEq, Eq)]
+pub(crate) enum Escape {
+    /// Those that steer a terminal.
+    Sanitized,
+    /// Those that a JSON string doesn't hold as they are.
+    Json,
+    /// Those that debug text doesn't hold as they are.
+    Quoted,
+}
+
+// Whether a byte may be part of a character that is written out.
+#[inline(always)]
+fn is_special(escape: Escape, byte: u8) -> bool
+    ensures { result ≡ is_special escape byte }
+{
+    match escape {
+        Escape::Sanitized => {
+            byte == 0x1b
+                || byte == 0x07
+                || byte == 0x08
+                || byte == 0x0c
+                || byte == 0x7f
+                || byte == 0xc2
+        }
+        Escape::Json => byte < 0x20 || byte == b'"' || byte == b'\\',
+        Escape::Quoted => {
+            byte < 0x20 || byte == b'"' || byte == b'\\' || byte == 0x7f || byte == 0xc2
+        }
+    }
+}
+
+// Whether some byte may be part of a character that is written out.
+#[inline(always)]
+fn has_special(escape: Escape, bytes: &[u8]) -> bool
+    ensures { result ≡ list_any (is_special escape) bytes.now }
+{
+    let mut found = false;
+    for byte in bytes {
+        found |= is_special(escape, *byte);
+    }
+    found
+}
+
+#[tactic(auto, unfolding(crate::specs::Escapes::sanitized_char))]
+fn push_sanitized_char(out: &mut String, c: char) -> Result<(), AllocError>
+    ensures { OnOk result (string_bytes out.new ≡ string_bytes out.old ++ sanitized_char c) }
+{
+    match c {
+        '\u{1b}' => out.push_str("\\x1b"),
+        '\u{7}' => out.push_str("\\x07"),
+        '\u{8}' => out.push_str("\\x08"),
+        '\u{c}' => out.push_str("\\x0c"),
+        '\u{7f}' => out.push_str("\\x7f"),
+        '\u{80}'..='\u{9f}' => {
+            let code = c as u32;
+            write!(out, "\\u{{{code:x}}}")
+        }
+        other => out.push(other),
+    }
+}
+
+#[tactic(auto, unfolding(crate::specs::Escapes::json_char))]
+fn push_json_char(out: &mut String, c: char) -> Result<(), AllocError>
+    ensures { OnOk result (string_bytes out.new ≡ string_bytes out.old ++ json_char c) }
+{
+    match c {
+        '"' => out.push_str("\\\""),
+        '\\' => out.push_str("\\\\"),
+        '\u{8}' => out.push_str("\\b"),
+        '\u{c}' => out.push_str("\\f"),
+        '\n' => out.push_str("\\n"),
+        '\r' => out.push_str("\\r"),
+        '\t' => out.push_str("\\t"),
+        '\0'..='\u{1f}' => {
+            let code = c as u32;
+            let (high, low) = (code / 16, code % 16);
+            write!(out, "\\u00{high:x}{low:x}")
+        }
+        other => out.push(other),
+    }
+}
+
+#[tactic(auto, unfolding(tracing_core_fields::specs::Quoted::quoted_char))]
+fn push_quoted_char(out: &mut String, c: char) -> Result<(), AllocError>
+    ensures { OnOk result (string_bytes out.new ≡ string_bytes out.old ++ quoted_char c) }
+{
+    match c {
+        '"' => out.push_str("\\\""),
+        '\\' => out.push_str("\\\\"),
+        '\n' => out.push_str("\\n"),
+        '\r' => out.push_str("\\r"),
+        '\t' => out.push_str("\\t"),
+        '\0' => out.push_str("\\0"),
+        '\u{1}'..='\u{1f}' | '\u{7f}'..='\u{9f}' => {
+            let code = c as u32;
+            write!(out, "\\u{{{code:x}}}")
+        }
+        other => out.push(other),
+    }
+}
+
+fn push_char(out: &mut String, escape: Escape, c: char) -> Result<(), AllocError>
+    ensures { OnOk result (string_bytes out.new ≡ string_bytes out.old ++ written_char escape c) }
+{
+    match escape {
+        Escape::Sanitized => push_sanitized_char(out, c),
+        Escape::Json => push_json_char(out, c),
+        Escape::Quoted => push_quoted_char(out, c),
+    }
+}
+
+// Appends the text character by character.
+#[inline(never)]
+fn push_each(out: &mut String, escape: Escape, text: &str) -> Result<(), AllocError>
+    ensures { OnOk result (string_bytes out.new ≡ string_bytes out.old ++ escaped (written_char escape) text.now) }
+{
+    for c in text.chars() {
+        push_char(out, escape, c)?;
+    }
+    Ok(())
+}
+
+/// Appends the text with the characters of the escape written out.
+pub(crate) fn push_escaped(
+    out: &mut String,
+    escape: Escape,
+    text: &str,
+) -> Result<(), AllocError>
+    ensures { OnOk result (string_bytes out.new ≡ string_bytes out.old ++ escaped (written_char escape) text.now) }
+{
+    if has_special(escape, text.as_bytes()) {
+        push_each(out, escape, text)
+    } else {
+        out.push_str(text)
+    }
+}
+
+/// Appends the text with the characters that steer a terminal written out.
+#[tactic(auto, unfolding(crate::specs::Escapes::sanitized))]
+pub(crate) fn push_sanitized(out: &mut String, text: &str) -> Result<(), AllocError>
+    ensures { OnOk result (string_bytes out.new ≡ string_bytes out.old ++ sanitized text.now) }
+{
+    push_escaped(out, Escape::Sanitized, text)
+}
+
+/// Appends the text as a JSON string.
+#[tactic(auto, unfolding(crate::specs::Escapes::json_string))]
+pub(crate) fn push_json_string(out: &mut String, text: &str) -> Result<(), AllocError>
+    ensures { OnOk result (string_bytes out.new ≡ string_bytes out.old ++ json_string text.now) }
+{
+    out.push('"')?;
+    push_escaped(out, Escape::Json, text)?;
+    out.push('"')
+}
+
+/// Appends the text between quotes, as debug text shows it.
+#[tactic(auto, unfolding(tracing_core_fields::specs::Quoted::quoted, crate::specs::Escapes::escaped))]
+pub(crate) fn push_quoted(out: &mut String, text: &str) -> Result<(), AllocError>
+    ensures { OnOk result (string_bytes out.new ≡ string_bytes out.old ++ quoted text.now) }
+{
+    out.push('"')?;
+    push_escaped(out, Escape::Quoted, text)?;
+    out.push('"')
+}

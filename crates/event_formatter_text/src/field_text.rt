@@ -1,0 +1,268 @@
+//! The texts of single fields.
+ghost use Rattle.std.specs.Prelude.{◌≡◌, ◌++◌, [], OnOk, codes, if◌then◌else◌, map, string_bytes, unwrap_or};
+ghost use Rattle.tracing_core_fields.specs.DebugText.{plain_debug};
+ghost use Rattle.tracing_core_fields.specs.ErrorText.{error_text, source_texts};
+ghost use Rattle.tracing_core_fields.specs.PlainDebug.{bytes_text};
+ghost use Rattle.tracing_core_fields.specs.Quoted.{quoted};
+ghost use Rattle.std.specs.Option.{option_map};
+ghost use Rattle.event_formatter_text.specs.FieldTexts.{field_piece, is_message, label, mark, own_text, plain_name, separator, shown, shown_later, shown_list, sources_label, sources_text, truth_text, value_text};
+ghost use Rattle.event_formatter_text.specs.Lists.{Formats, further};
+
+use crate::error::FormatError;
+use crate::escape::{push_quoted, push_sanitized};
+use crate::settings::Settings;
+use crate::style::{push_dimmed, push_italic};
+use itoa::{Buffer, Integer};
+use std::alloc::AllocError;
+use tracing_core_fields::{DebugText, ErrorText};
+
+/// How fields are told apart in a text.
+#[derive(Clone, Copy, Debug, PartialEq, Eq)]
+pub(crate) enum Punctuation {
+    /// `name=value`, a space between two fields.
+    Default,
+    /// `name: value`, a comma and a space between two fields.
+    Pretty,
+}
+
+impl Punctuation {
+    /// What stands between two fields.
+    pub(crate) fn separator(self) -> &'static str
+        ensures { result.now ≡ separator self }
+    {
+        match self {
+            Punctuation::Default => " ",
+            Punctuation::Pretty => ", ",
+        }
+    }
+
+    // What stands between a field's name and its value.
+    fn mark(self) -> &'static str
+        ensures { result.now ≡ mark self }
+    {
+        match self {
+            Punctuation::Default => "=",
+            Punctuation::Pretty => ": ",
+        }
+    }
+}
+
+/// Whether it is the name of a message.
+pub(crate) fn is_message(name: &str) -> bool
+    ensures { result ≡ is_message name.now }
+{
+    name == "message"
+}
+
+/// The name without a leading `r#`.
+#[tactic(auto, unfolding(crate::specs::FieldTexts::plain_name))]
+pub(crate) fn plain_name(name: &str) -> &str
+    ensures { result.now ≡ plain_name name.now }
+{
+    match name.strip_prefix("r#") {
+        Some(rest) => rest,
+        None => name,
+    }
+}
+
+/// Appends a number in decimal digits.
+pub(crate) fn push_number<I: Integer>(out: &mut String, number: I) -> Result<(), AllocError>
+    ensures { OnOk result (string_bytes out.new ≡ string_bytes out.old ++ I.text number) }
+{
+    let mut buffer = Buffer::new();
+    out.push_str(buffer.format(number))
+}
+
+/// Appends `true` or `false`.
+pub(crate) fn push_bool(out: &mut String, truth: bool) -> Result<(), AllocError>
+    ensures { OnOk result (string_bytes out.new ≡ string_bytes out.old ++ truth_text truth) }
+{
+    out.push_str(if truth { "true" } else { "false" })
+}
+
+/// Appends a text as a message or an error shows it.
+#[tactic(auto, unfolding(crate::specs::FieldTexts::shown))]
+pub(crate) fn push_shown(out: &mut String, settings: Settings, text: &str) -> Result<(), AllocError>
+    ensures { OnOk result (string_bytes out.new ≡ string_bytes out.old ++ shown settings text.now) }
+{
+    if settings.sanitizes {
+        push_sanitized(out, text)
+    } else {
+        out.push_str(text)
+    }
+}
+
+// Appends the texts, `, ` before each.
+fn push_shown_later(out: &mut String, settings: Settings, texts: &[&str]) -> Result<(), AllocError>
+    ensures { OnOk result (string_bytes out.new ≡ string_bytes out.old
+        ++ shown_later settings (map (λ text. text.now) texts.now)) }
+{
+    for text in texts {
+        out.push_str(", ")?;
+        push_shown(out, settings, text)?;
+    }
+    Ok(())
+}
+
+// Appends the texts, `, ` between each two.
+fn push_shown_list(out: &mut String, settings: Settings, texts: &[&str]) -> Result<(), AllocError>
+    ensures { OnOk result (string_bytes out.new ≡ string_bytes out.old
+        ++ shown_list settings (map (λ text. text.now) texts.now)) }
+{
+    let [first, later @ ..] = texts else {
+        return Ok(());
+    };
+    push_shown(out, settings, first)?;
+    push_shown_later(out, settings, later)
+}
+
+/// Appends what stands before a field's value.
+pub(crate) fn push_label(
+    out: &mut String,
+    settings: Settings,
+    punctuation: Punctuation,
+    name: &str,
+) -> Result<(), AllocError>
+    ensures { OnOk result (string_bytes out.new ≡ string_bytes out.old ++ label settings punctuation name.now) }
+{
+    if is_message(name) {
+        return Ok(());
+    }
+    push_italic(out, settings, plain_name(name))?;
+    push_dimmed(out, settings, punctuation.mark())
+}
+
+// Appends a text that was written before.
+fn push_own(out: &mut String, settings: Settings, name: &str, text: &str) -> Result<(), AllocError>
+    ensures { OnOk result (string_bytes out.new ≡ string_bytes out.old ++ own_text settings name.now text.now) }
+{
+    if is_message(name) {
+        push_shown(out, settings, text)
+    } else {
+        out.push_str(text)
+    }
+}
+
+/// Appends a text: itself in a message, else between quotes.
+pub(crate) fn push_text(
+    out: &mut String,
+    settings: Settings,
+    name: &str,
+    text: &str,
+) -> Result<(), AllocError>
+    ensures { OnOk result (string_bytes out.new ≡ string_bytes out.old
+        ++ (if is_message name.now then shown settings text.now else quoted text.now)) }
+{
+    if is_message(name) {
+        push_shown(out, settings, text)
+    } else {
+        push_quoted(out, text)
+    }
+}
+
+// Appends what stands before the texts of an error's sources.
+fn push_sources_label(
+    out: &mut String,
+    settings: Settings,
+    punctuation: Punctuation,
+    name: &str,
+) -> Result<(), AllocError>
+    ensures { OnOk result (string_bytes out.new ≡ string_bytes out.old
+        ++ sources_label settings punctuation name.now) }
+{
+    push_italic(out, settings, plain_name(name))?;
+    push_italic(out, settings, ".sources")?;
+    push_dimmed(out, settings, punctuation.mark())
+}
+
+// Appends what stands behind an error's text.
+fn push_sources(
+    out: &mut String,
+    settings: Settings,
+    punctuation: Punctuation,
+    name: &str,
+    sources: &[&str],
+) -> Result<(), AllocError>
+    ensures { OnOk result (string_bytes out.new ≡ string_bytes out.old
+        ++ sources_text settings punctuation name.now (map (λ source. source.now) sources.now)) }
+{
+    let [_, ..] = sources else {
+        return Ok(());
+    };
+    out.push_str(punctuation.separator())?;
+    push_sources_label(out, settings, punctuation, name)?;
+    out.push('[')?;
+    push_shown_list(out, settings, sources)?;
+    out.push(']')
+}
+
+// Appends an error's text, and those of its sources.
+fn push_error(
+    out: &mut String,
+    settings: Settings,
+    punctuation: Punctuation,
+    name: &str,
+    error: &ErrorText<'_>,
+) -> Result<(), AllocError>
+    ensures { OnOk result (string_bytes out.new ≡ string_bytes out.old ++ (shown settings (error_text error.now)
+        ++ sources_text settings punctuation name.now (source_texts error.now))) }
+{
+    push_shown(out, settings, error.text())?;
+    push_sources(out, settings, punctuation, name, error.sources())
+}
+
+// Appends bytes in brackets.
+fn push_bytes(out: &mut String, bytes: &[u8]) -> Result<(), AllocError>
+    ensures { OnOk result (string_bytes out.new ≡ string_bytes out.old ++ bytes_text bytes.now) }
+{
+    write!(out, "{:?}", DebugText::Bytes(bytes))
+}
+
+/// Appends what stands for a value; nothing for one that can't be formatted.
+pub(crate) fn push_value(
+    out: &mut String,
+    settings: Settings,
+    punctuation: Punctuation,
+    name: &str,
+    value: &DebugText<'_>,
+) -> Result<(), AllocError>
+    ensures { OnOk result (string_bytes out.new ≡ string_bytes out.old
+        ++ unwrap_or (value_text settings punctuation name.now (plain_debug value.now)) []) }
+{
+    match value {
+        DebugText::Texts { plain, .. } => push_own(out, settings, name, plain),
+        DebugText::Failing => Ok(()),
+        DebugText::I64(number) => push_number(out, *number),
+        DebugText::U64(number) => push_number(out, *number),
+        DebugText::I128(number) => push_number(out, *number),
+        DebugText::U128(number) => push_number(out, *number),
+        DebugText::Bool(truth) => push_bool(out, *truth),
+        DebugText::Str(text) => push_text(out, settings, name, text),
+        DebugText::Bytes(bytes) => push_bytes(out, bytes),
+        DebugText::Error(error) => push_error(out, settings, punctuation, name, error),
+    }
+}
+
+/// Appends a field, behind the separator unless it is the first; nothing of one that can't be formatted.
+pub(crate) fn push_field(
+    out: &mut String,
+    settings: Settings,
+    punctuation: Punctuation,
+    is_first: bool,
+    name: &str,
+    value: &DebugText<'_>,
+) -> Result<(), FormatError>
+    ensures { Formats (option_map (further (separator punctuation) is_first)
+        (field_piece settings punctuation name.now (plain_debug value.now)))
+        (string_bytes out.old) result (string_bytes out.new) }
+{
+    if matches!(value, DebugText::Failing) {
+        return Err(FormatError::Failed);
+    }
+    if !is_first {
+        out.push_str(punctuation.separator())?;
+    }
+    push_label(out, settings, punctuation, name)?;
+    push_value(out, settings, punctuation, name, value)?;
+    Ok(())
+}

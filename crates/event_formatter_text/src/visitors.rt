@@ -1,0 +1,3 @@
+//! Visitors that write the values of fields.
+
+pub(crate) mod default;

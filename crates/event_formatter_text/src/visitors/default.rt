@@ -1,0 +1,41 @@
+//! Fields as `name=value`.
+ghost use Rattle.std.specs.Prelude.{◌≡◌};
+
+use crate::error::FormatError;
+use crate::field_text::Punctuation;
+use crate::writer::Writer;
+use tracing_core_fields::{DebugText, Field, Visit};
+
+/// Writes the values of fields as `name=value`, a space between two. A message stands without its name. A value that
+/// can't be formatted ends the visit.
+#[derive(Drop)]
+pub struct DefaultVisitor<'a, 'w> {
+    writer: &'a mut Writer<'w>,
+    is_empty: bool,
+}
+
+impl<'a, 'w> DefaultVisitor<'a, 'w> {
+    /// Writes to the writer. Where nothing stands before the first field, `is_empty` is true.
+    pub fn new(writer: &'a mut Writer<'w>, is_empty: bool) -> DefaultVisitor<'a, 'w>
+        ensures same { result.writer.ghost_name ≡ writer.entry.ghost_name }
+        ensures writer { result.writer.now ≡ writer.old }
+        ensures empty { result.is_empty ≡ is_empty }
+    {
+        DefaultVisitor { writer, is_empty }
+    }
+}
+
+impl Visit for DefaultVisitor<'_, '_> {
+    ghost use Rattle.event_formatter_text.specs.Visitors.{ShowsByDefault};
+
+    type Error = FormatError;
+
+    ghost shows = { ShowsByDefault };
+
+    fn record_debug(&mut self, field: &Field<'_>, value: &DebugText<'_>) -> Result<(), FormatError> {
+        let is_first = self.is_empty;
+        self.is_empty = false;
+        self.writer
+            .write_field(Punctuation::Default, is_first, field.name(), value)
+    }
+}

@@ -1,0 +1,107 @@
+//! What texts are written to.
+ghost use Rattle.std.specs.Prelude.{◌≡◌, ◌++◌, OnOk, encode_utf8, false, string_bytes, true};
+ghost use Rattle.std.specs.Option.{option_map};
+ghost use Rattle.tracing_core_fields.specs.DebugText.{plain_debug};
+ghost use Rattle.event_formatter_text.specs.FieldTexts.{field_piece, separator};
+ghost use Rattle.event_formatter_text.specs.Lists.{Formats, further};
+ghost use Rattle.event_formatter_text.specs.Writers.{IsSameWriter, settings_of, written};
+
+use crate::error::FormatError;
+use crate::field_text::{Punctuation, push_field};
+use crate::settings::Settings;
+use std::alloc::AllocError;
+use tracing_core_fields::DebugText;
+
+/// Appends to a text that is lent to it.
+#[derive(Drop)]
+pub struct Writer<'w> {
+    pub(crate) out: &'w mut String,
+    pub(crate) settings: Settings,
+}
+
+impl<'w> Writer<'w> {
+    /// Writes behind the text, without styles, and with characters that steer a terminal written out.
+    pub fn new(out: &'w mut String) -> Writer<'w>
+        ensures same { result.out.ghost_name ≡ out.entry.ghost_name }
+        ensures text { written result ≡ string_bytes out.old }
+        ensures settings { settings_of result ≡ record { styles = false; sanitizes = true } }
+    {
+        Writer {
+            out,
+            settings: Settings {
+                styles: false,
+                sanitizes: true,
+            },
+        }
+    }
+
+    /// Writes behind the text with these settings.
+    pub fn with_settings(out: &'w mut String, settings: Settings) -> Writer<'w>
+        ensures same { result.out.ghost_name ≡ out.entry.ghost_name }
+        ensures text { written result ≡ string_bytes out.old }
+        ensures settings { settings_of result ≡ settings }
+    {
+        Writer { out, settings }
+    }
+
+    /// How it writes.
+    pub fn settings(&self) -> Settings
+        ensures { result ≡ settings_of self.now }
+    {
+        self.settings
+    }
+
+    /// Whether pieces stand between the ANSI codes of their styles.
+    pub fn has_ansi_escapes(&self) -> bool
+        ensures { result ≡ (settings_of self.now).styles }
+    {
+        self.settings.styles
+    }
+
+    /// Whether characters that steer a terminal are written out in messages and in the texts of errors.
+    pub fn sanitizes_ansi_escapes(&self) -> bool
+        ensures { result ≡ (settings_of self.now).sanitizes }
+    {
+        self.settings.sanitizes
+    }
+
+    /// Appends the text as it is.
+    ///
+    /// # Errors
+    ///
+    /// Want of memory.
+    pub fn write_str(&mut self, text: &str) -> Result<(), AllocError>
+        ensures same { IsSameWriter self.old self.new }
+        ensures text { OnOk result (written self.new ≡ written self.old ++ text.now) }
+    {
+        self.out.push_str(text)
+    }
+
+    /// Appends the character as it is.
+    ///
+    /// # Errors
+    ///
+    /// Want of memory.
+    pub fn write_char(&mut self, c: char) -> Result<(), AllocError>
+        ensures same { IsSameWriter self.old self.new }
+        ensures text { OnOk result (written self.new ≡ written self.old ++ encode_utf8 c) }
+    {
+        self.out.push(c)
+    }
+
+    // Appends a field, behind the separator unless it is the first.
+    pub(crate) fn write_field(
+        &mut self,
+        punctuation: Punctuation,
+        is_first: bool,
+        name: &str,
+        value: &DebugText<'_>,
+    ) -> Result<(), FormatError>
+        ensures same { IsSameWriter self.old self.new }
+        ensures text { Formats (option_map (further (separator punctuation) is_first)
+            (field_piece (settings_of self.old) punctuation name.now (plain_debug value.now)))
+            (written self.old) result (written self.new) }
+    {
+        push_field(self.out, self.settings, punctuation, is_first, name, value)
+    }
+}
