@@ -1,2 +1,3 @@
 mod Plain
 mod Visiting
+mod Lending

@@ -1,15 +1,21 @@
 //! The texts of fields: visitors that write them, and field formatters.
 #![tactic(auto)]
 
+mod default_fields;
 mod error;
 mod escape;
 mod field_text;
+mod format_fields;
+mod record_fields;
 mod settings;
 mod style;
 mod visitors;
 mod writer;
 
+pub use default_fields::DefaultFields;
 pub use error::FormatError;
+pub use format_fields::FormatFields;
+pub use record_fields::RecordFields;
 pub use settings::Settings;
 pub use visitors::default::DefaultVisitor;
 pub use writer::Writer;

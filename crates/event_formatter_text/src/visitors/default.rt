@@ -9,23 +9,22 @@ use tracing_core_fields::{DebugText, Field, Visit};
 /// Writes the values of fields as `name=value`, a space between two. A message stands without its name. A value that
 /// can't be formatted ends the visit.
 #[derive(Drop)]
-pub struct DefaultVisitor<'a, 'w> {
-    writer: &'a mut Writer<'w>,
+pub struct DefaultVisitor<'w> {
+    writer: Writer<'w>,
     is_empty: bool,
 }
 
-impl<'a, 'w> DefaultVisitor<'a, 'w> {
+impl<'w> DefaultVisitor<'w> {
     /// Writes to the writer. Where nothing stands before the first field, `is_empty` is true.
-    pub fn new(writer: &'a mut Writer<'w>, is_empty: bool) -> DefaultVisitor<'a, 'w>
-        ensures same { result.writer.ghost_name ≡ writer.entry.ghost_name }
-        ensures writer { result.writer.now ≡ writer.old }
+    pub fn new(writer: Writer<'w>, is_empty: bool) -> DefaultVisitor<'w>
+        ensures writer { result.writer ≡ writer.entry }
         ensures empty { result.is_empty ≡ is_empty }
     {
         DefaultVisitor { writer, is_empty }
     }
 }
 
-impl Visit for DefaultVisitor<'_, '_> {
+impl Visit for DefaultVisitor<'_> {
     ghost use Rattle.event_formatter_text.specs.Visitors.{ShowsByDefault};
 
     type Error = FormatError;
