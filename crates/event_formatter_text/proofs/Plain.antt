@@ -75,8 +75,8 @@ second true b some none = absurd (cc)
 written_plain : (escape : Escape) (c : ℕ) → list_any (is_special escape) (encode c) ≡ false → written_char escape c ≡ encode c
 written_plain escape c none =
     elim (cases_lt c 160) [
-    | inl low ↦ (bytes_decides (written_char escape c) (encode c)).0 (second (list_any (is_special escape) (encode c)) (bytes_eq (written_char escape c) (encode c)) (low_plain escape 160 (checked escape) c low) none)
-    | inr high ↦ high_plain escape c high
+      | inl low ↦ (bytes_decides (written_char escape c) (encode c)).0 (second (list_any (is_special escape) (encode c)) (bytes_eq (written_char escape c) (encode c)) (low_plain escape 160 (checked escape) c low) none)
+      | inr high ↦ high_plain escape c high
     ]
 
 pub stands : (escape : Escape) (text : List ℕ) → IsUtf8 text → list_any (is_special escape) text ≡ false → escaped (written_char escape) text ≡ text

@@ -52,13 +52,17 @@ module _ {V S : Type 0} (text : V → List ℕ) (is_first : V → Bool) (frame :
     pub visited : {entries : List (ℕ × PlainValue)} {before after : V} {answer : Result (Unit {0}) FormatError} → Visits TakesPieces callsite names entries before answer after →
         (frame after ≡ frame before) × Formats (pieces_text separator (piece (frame before)) (is_first before) names entries) (text before) answer (text after)
     visited {before = before} all_taken = (refl, nothing separator (text before) (is_first before))
-    visited {before = before} {after = after} (refused {place = place} {value = value} {entries = es} {error = error} field is t) =
-        (t.0, refused_at separator (piece (frame before) (slice_index_or names place []) value) (list_any (λ e. is_none (entry_piece (piece (frame before)) names e)) es) (is_first before) (filter_map (entry_piece (piece (frame before)) names) es) (text before) (text after) error
-        (subst (λ (n : List ℕ). Formats (option_map (further separator (is_first before)) (piece (frame before) n value)) (text before) (Err error) (text after)) is.is_named t.2))
+    visited {before = before} {after = after} (refused {place = place} {value = value} {entries = es} {error = error} field is t) = (
+      t.0,
+      refused_at separator (piece (frame before) (slice_index_or names place []) value) (list_any (λ e. is_none (entry_piece (piece (frame before)) names e)) es) (is_first before) (filter_map (entry_piece (piece (frame before)) names) es) (text before) (text after) error
+          (subst (λ (n : List ℕ). Formats (option_map (further separator (is_first before)) (piece (frame before) n value)) (text before) (Err error) (text after)) is.is_named t.2),
+    )
     visited {before = before} {after = after} {answer = answer} (taken {place = place} {value = value} {entries = es} {next = next} field is t more) =
         let rest = visited more in
         let later : Formats (pieces_text separator (piece (frame before)) false names es) (text next) answer (text after) =
-            subst (λ (s : S). Formats (pieces_text separator (piece s) false names es) (text next) answer (text after)) t.0
-            (subst (λ (b : Bool). Formats (pieces_text separator (piece (frame next)) b names es) (text next) answer (text after)) t.1 rest.1) in
-        (rest.0 ∙ t.0, taken_then separator (piece (frame before) (slice_index_or names place []) value) (list_any (λ e. is_none (entry_piece (piece (frame before)) names e)) es) (is_first before) (filter_map (entry_piece (piece (frame before)) names) es) (text before) (text next) (text after) answer
-        (subst (λ (n : List ℕ). Formats (option_map (further separator (is_first before)) (piece (frame before) n value)) (text before) (Ok tt) (text next)) is.is_named t.2) later)
+        subst (λ (s : S). Formats (pieces_text separator (piece s) false names es) (text next) answer (text after)) t.0
+        (subst (λ (b : Bool). Formats (pieces_text separator (piece (frame next)) b names es) (text next) answer (text after)) t.1 rest.1) in (
+          rest.0 ∙ t.0,
+          taken_then separator (piece (frame before) (slice_index_or names place []) value) (list_any (λ e. is_none (entry_piece (piece (frame before)) names e)) es) (is_first before) (filter_map (entry_piece (piece (frame before)) names) es) (text before) (text next) (text after) answer
+              (subst (λ (n : List ℕ). Formats (option_map (further separator (is_first before)) (piece (frame before) n value)) (text before) (Ok tt) (text next)) is.is_named t.2) later,
+        )

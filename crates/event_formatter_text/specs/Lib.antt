@@ -1,6 +1,7 @@
 pub mod Escapes
 pub mod Styles
 pub mod FieldTexts
+pub mod JsonTexts
 pub mod Lists
 pub mod Writers
 pub mod Visitors

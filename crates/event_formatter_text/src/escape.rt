@@ -133,11 +133,7 @@ fn push_each(out: &mut String, escape: Escape, text: &str) -> Result<(), AllocEr
 }
 
 /// Appends the text with the characters of the escape written out.
-pub(crate) fn push_escaped(
-    out: &mut String,
-    escape: Escape,
-    text: &str,
-) -> Result<(), AllocError>
+pub(crate) fn push_escaped(out: &mut String, escape: Escape, text: &str) -> Result<(), AllocError>
     ensures { OnOk result (string_bytes out.new ≡ string_bytes out.old ++ escaped (written_char escape) text.now) }
 {
     if has_special(escape, text.as_bytes()) {

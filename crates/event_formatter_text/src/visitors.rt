@@ -1,3 +1,5 @@
 //! Visitors that write the values of fields.
 
 pub(crate) mod default;
+pub(crate) mod json;
+pub(crate) mod pretty;

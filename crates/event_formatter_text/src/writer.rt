@@ -1,13 +1,15 @@
 //! What texts are written to.
-ghost use Rattle.std.specs.Prelude.{◌≡◌, ◌++◌, OnOk, encode_utf8, false, string_bytes, true};
+ghost use Rattle.std.specs.Prelude.{◌≡◌, ◌++◌, OnOk, codes, encode_utf8, false, string_bytes, true};
 ghost use Rattle.std.specs.Option.{option_map};
 ghost use Rattle.tracing_core_fields.specs.DebugText.{plain_debug};
 ghost use Rattle.event_formatter_text.specs.FieldTexts.{field_piece, separator};
+ghost use Rattle.event_formatter_text.specs.JsonTexts.{json_piece};
 ghost use Rattle.event_formatter_text.specs.Lists.{Formats, further};
 ghost use Rattle.event_formatter_text.specs.Writers.{IsSameWriter, settings_of, written};
 
 use crate::error::FormatError;
 use crate::field_text::{Punctuation, push_field};
+use crate::json_text::push_member;
 use crate::settings::Settings;
 use std::alloc::AllocError;
 use tracing_core_fields::DebugText;
@@ -103,5 +105,19 @@ impl<'w> Writer<'w> {
             (written self.old) result (written self.new) }
     {
         push_field(self.out, self.settings, punctuation, is_first, name, value)
+    }
+
+    // Appends a field as a member of a JSON object, behind a comma unless it is the first.
+    pub(crate) fn write_member(
+        &mut self,
+        is_first: bool,
+        name: &str,
+        value: &DebugText<'_>,
+    ) -> Result<(), FormatError>
+        ensures same { IsSameWriter self.old self.new }
+        ensures text { Formats (option_map (further (codes ",") is_first) (json_piece name.now (plain_debug value.now)))
+            (written self.old) result (written self.new) }
+    {
+        push_member(self.out, is_first, name, value)
     }
 }

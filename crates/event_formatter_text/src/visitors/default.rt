@@ -31,7 +31,11 @@ impl Visit for DefaultVisitor<'_> {
 
     ghost shows = { ShowsByDefault };
 
-    fn record_debug(&mut self, field: &Field<'_>, value: &DebugText<'_>) -> Result<(), FormatError> {
+    fn record_debug(
+        &mut self,
+        field: &Field<'_>,
+        value: &DebugText<'_>,
+    ) -> Result<(), FormatError> {
         let is_first = self.is_empty;
         self.is_empty = false;
         self.writer

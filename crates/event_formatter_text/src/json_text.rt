@@ -1,0 +1,96 @@
+//! Values as JSON.
+ghost use Rattle.std.specs.Prelude.{◌≡◌, ◌++◌, [], OnOk, codes, string_bytes, unwrap_or};
+ghost use Rattle.std.specs.Option.{option_map};
+ghost use Rattle.tracing_core_fields.specs.DebugText.{plain_debug};
+ghost use Rattle.event_formatter_text.specs.JsonTexts.{json_piece, json_value, later_numbers, numbers_inside};
+ghost use Rattle.event_formatter_text.specs.Lists.{Formats, further};
+
+use crate::error::FormatError;
+use crate::escape::push_json_string;
+use crate::field_text::{plain_name, push_bool, push_number};
+use itoa::Integer;
+use std::alloc::AllocError;
+use tracing_core_fields::DebugText;
+
+// Appends numbers, a comma before each.
+fn push_later_numbers(out: &mut String, numbers: &[u8]) -> Result<(), AllocError>
+    ensures { OnOk result (string_bytes out.new ≡ string_bytes out.old ++ later_numbers numbers.now) }
+{
+    for number in numbers {
+        out.push(',')?;
+        push_number(out, *number)?;
+    }
+    Ok(())
+}
+
+// Appends numbers, a comma between each two.
+fn push_numbers(out: &mut String, numbers: &[u8]) -> Result<(), AllocError>
+    ensures { OnOk result (string_bytes out.new ≡ string_bytes out.old ++ numbers_inside numbers.now) }
+{
+    let [first, later @ ..] = numbers else {
+        return Ok(());
+    };
+    push_number(out, *first)?;
+    push_later_numbers(out, later)
+}
+
+// Appends an array of numbers.
+fn push_array(out: &mut String, numbers: &[u8]) -> Result<(), AllocError>
+    ensures { OnOk result (string_bytes out.new ≡ string_bytes out.old
+        ++ (codes "[" ++ numbers_inside numbers.now ++ codes "]")) }
+{
+    out.push('[')?;
+    push_numbers(out, numbers)?;
+    out.push(']')
+}
+
+// Appends a number between quotes.
+fn push_quoted_number<I: Integer>(out: &mut String, number: I) -> Result<(), AllocError>
+    ensures { OnOk result (string_bytes out.new ≡ string_bytes out.old
+        ++ (codes "\"" ++ I.text number ++ codes "\"")) }
+{
+    out.push('"')?;
+    push_number(out, number)?;
+    out.push('"')
+}
+
+/// Appends what stands for a value; nothing for one that can't be formatted.
+pub(crate) fn push_json_value(out: &mut String, value: &DebugText<'_>) -> Result<(), AllocError>
+    ensures { OnOk result (string_bytes out.new ≡ string_bytes out.old
+        ++ unwrap_or (json_value (plain_debug value.now)) []) }
+{
+    match value {
+        DebugText::Texts { plain, .. } => push_json_string(out, plain),
+        DebugText::Failing => Ok(()),
+        DebugText::I64(number) => push_number(out, *number),
+        DebugText::U64(number) => push_number(out, *number),
+        DebugText::I128(number) => push_quoted_number(out, *number),
+        DebugText::U128(number) => push_quoted_number(out, *number),
+        DebugText::Bool(truth) => push_bool(out, *truth),
+        DebugText::Str(text) => push_json_string(out, text),
+        DebugText::Bytes(bytes) => push_array(out, bytes),
+        DebugText::Error(error) => push_json_string(out, error.text()),
+    }
+}
+
+/// Appends a field as a member, behind a comma unless it is the first; nothing of one that can't be formatted.
+pub(crate) fn push_member(
+    out: &mut String,
+    is_first: bool,
+    name: &str,
+    value: &DebugText<'_>,
+) -> Result<(), FormatError>
+    ensures { Formats (option_map (further (codes ",") is_first) (json_piece name.now (plain_debug value.now)))
+        (string_bytes out.old) result (string_bytes out.new) }
+{
+    if matches!(value, DebugText::Failing) {
+        return Err(FormatError::Failed);
+    }
+    if !is_first {
+        out.push(',')?;
+    }
+    push_json_string(out, plain_name(name))?;
+    out.push(':')?;
+    push_json_value(out, value)?;
+    Ok(())
+}

@@ -1,0 +1,56 @@
+//! Fields as `name: value`.
+ghost use Rattle.std.specs.Prelude.{◌≡◌, false};
+ghost use Rattle.event_formatter_text.specs.Writers.{plainly};
+
+use crate::error::FormatError;
+use crate::field_text::Punctuation;
+use crate::settings::Settings;
+use crate::writer::Writer;
+use tracing_core_fields::{DebugText, Field, Visit};
+
+/// Writes the values of fields as `name: value`, a comma and a space between two, without styles. A message stands
+/// without its name. A value that can't be formatted ends the visit.
+#[derive(Drop)]
+pub struct PrettyVisitor<'w> {
+    writer: Writer<'w>,
+    is_empty: bool,
+}
+
+impl<'w> PrettyVisitor<'w> {
+    /// Writes to the writer. Where nothing stands before the first field, `is_empty` is true.
+    pub fn new(writer: Writer<'w>, is_empty: bool) -> PrettyVisitor<'w>
+        ensures writer { result.writer ≡ plainly writer.entry }
+        ensures empty { result.is_empty ≡ is_empty }
+    {
+        let Writer { out, settings } = writer;
+        PrettyVisitor {
+            writer: Writer {
+                out,
+                settings: Settings {
+                    styles: false,
+                    sanitizes: settings.sanitizes,
+                },
+            },
+            is_empty,
+        }
+    }
+}
+
+impl Visit for PrettyVisitor<'_> {
+    ghost use Rattle.event_formatter_text.specs.Visitors.{ShowsPrettily};
+
+    type Error = FormatError;
+
+    ghost shows = { ShowsPrettily };
+
+    fn record_debug(
+        &mut self,
+        field: &Field<'_>,
+        value: &DebugText<'_>,
+    ) -> Result<(), FormatError> {
+        let is_first = self.is_empty;
+        self.is_empty = false;
+        self.writer
+            .write_field(Punctuation::Pretty, is_first, field.name(), value)
+    }
+}
