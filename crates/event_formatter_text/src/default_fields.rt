@@ -1,12 +1,16 @@
 //! The formatter of fields as `name=value`.
-ghost use Rattle.tracing_core_fields.specs.PlainValue.{debug_of};
+ghost use Rattle.std.specs.Prelude.{[]};
+ghost use Rattle.event_formatter_text.specs.Kept.{behind_space};
 ghost use Rattle.event_formatter_text.specs.Visitors.{default_text};
 
 use crate::error::FormatError;
 use crate::format_fields::FormatFields;
+use crate::formatted_fields::FormattedFields;
 use crate::record_fields::RecordFields;
+use crate::settings::Settings;
 use crate::visitors::default::DefaultVisitor;
 use crate::writer::Writer;
+use std::alloc::{AllocError, Global};
 
 /// Writes fields as `name=value`, a space between two.
 #[derive(Clone, Copy, Debug, Default, PartialEq, Eq)]
@@ -22,8 +26,13 @@ impl DefaultFields {
 impl FormatFields for DefaultFields {
     ghost text_of = { λ _ settings values. default_text settings values };
 
+    ghost started = { λ _ settings. record { text = []; words = []; settings = settings } };
+
+    ghost added = { λ _ fields values. behind_space (default_text fields.settings values) fields };
+
     fn format_fields<R: RecordFields>(
         &self,
+        _alloc: Global,
         writer: &mut Writer<'_>,
         fields: &R,
     ) -> Result<(), FormatError> {
@@ -33,5 +42,22 @@ impl FormatFields for DefaultFields {
         };
         let mut visitor = DefaultVisitor::new(lent, true);
         fields.record(&mut visitor)
+    }
+
+    fn start(&self, alloc: Global, settings: Settings) -> Result<FormattedFields, AllocError> {
+        Ok(FormattedFields::new(alloc, settings))
+    }
+
+    fn add_fields<R: RecordFields>(
+        &self,
+        alloc: Global,
+        current: &mut FormattedFields,
+        fields: &R,
+    ) -> Result<(), FormatError> {
+        let mut more = current.begin_more(alloc)?;
+        let mut writer = Writer::with_settings(&mut more, current.settings());
+        self.format_fields(alloc, &mut writer, fields)?;
+        current.push_more(more.as_str())?;
+        Ok(())
     }
 }

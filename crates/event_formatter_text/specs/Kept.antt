@@ -1,0 +1,49 @@
+-- What is kept of the fields of a span.
+use Rattle.std.specs.Prelude.{◌≡◌, ℕ, List, [], ◌∷◌, ◌++◌, Bool, true, false, Option, Some, None, Result, Ok, Err, codes, map, string_bytes}
+use Rattle.std.specs.Option.{option_map}
+use Rattle.tracing_core_requests.specs.PlainRequests.{PlainValues}
+use Rattle.event_formatter_text.specs.Lists.{pieces_text}
+use Rattle.event_formatter_text.specs.Visitors.{pretty_piece}
+use Rattle.event_formatter_text.specs.Writers.{without_styles}
+use Rattle.event_formatter_text.specs.declared.error.FormatError.{FormatError}
+use Rattle.event_formatter_text.specs.declared.error.FormatError.TheVariants.{Failed, OutOfMemory}
+use Rattle.event_formatter_text.specs.declared.formatted_fields.FormattedFields.{FormattedFields}
+use Rattle.event_formatter_text.specs.declared.settings.Settings.{Settings}
+
+-- the text, the words that a formatter needs to add to it, and how it is written
+pub record PlainFields : Type 0 where
+  pub text : List ℕ
+  pub words : List (List ℕ)
+  pub settings : Settings
+
+abbrev pub plain_fields : FormattedFields → PlainFields
+plain_fields fields =
+    record { text = string_bytes fields.text; words = map string_bytes fields.words.items; settings = fields.settings }
+
+-- more of the fields was added; a list that can't be formatted, and want of memory, leave what was kept
+abbrev pub Adds : Option PlainFields → PlainFields → Result (Unit {0}) FormatError → PlainFields → Type 0
+Adds (Some fields) old (Ok done) new = new ≡ fields
+Adds None old (Ok done) new = ⊥
+Adds (Some fields) old (Err Failed) new = ⊥
+Adds None old (Err Failed) new = new ≡ old
+Adds fields old (Err OutOfMemory) new = new ≡ old
+
+-- the space behind a text that isn't empty
+abbrev pub space_behind : List ℕ → List ℕ
+space_behind [] = []
+space_behind (b ∷ bs) = codes " "
+
+-- the text of one more list, behind a space where there is a text before it
+abbrev pub behind_space : Option (List ℕ) → PlainFields → Option PlainFields
+behind_space more fields =
+    option_map (λ text. record fields { text = fields.text ++ (space_behind fields.text ++ text) }) more
+
+abbrev pub is_nil : List ℕ → Bool
+is_nil [] = true
+is_nil (b ∷ bs) = false
+
+-- the text of one more list in the pretty format, behind a comma and a space where there is a text before it
+abbrev pub behind_comma : PlainValues → PlainFields → Option PlainFields
+behind_comma values fields =
+    option_map (λ text. record fields { text = fields.text ++ text })
+    (pieces_text (codes ", ") (pretty_piece (without_styles fields.settings)) (is_nil fields.text) values.names values.entries)
