@@ -1,3 +1,4 @@
 mod Plain
 mod Visiting
 mod Lending
+mod Putting

@@ -2,6 +2,7 @@ pub mod Escapes
 pub mod Styles
 pub mod FieldTexts
 pub mod JsonTexts
+pub mod JsonObjects
 pub mod Kept
 pub mod Lists
 pub mod Writers

@@ -7,6 +7,7 @@ mod escape;
 mod field_text;
 mod format_fields;
 mod formatted_fields;
+mod json_object;
 mod json_text;
 mod pretty_fields;
 mod record_fields;
