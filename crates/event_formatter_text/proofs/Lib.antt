@@ -2,3 +2,5 @@ mod Plain
 mod Visiting
 mod Lending
 mod Putting
+mod Keeping
+mod Objects

@@ -7,3 +7,5 @@ pub mod Kept
 pub mod Lists
 pub mod Writers
 pub mod Visitors
+pub mod Members
+pub mod GivenMembers
