@@ -30,3 +30,6 @@ pub use visitors::default::DefaultVisitor;
 pub use visitors::json::JsonVisitor;
 pub use visitors::pretty::PrettyVisitor;
 pub use writer::Writer;
+
+#[cfg(test)]
+mod tests;
