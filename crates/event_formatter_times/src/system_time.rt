@@ -1,0 +1,119 @@
+//! Moments as `YYYY-MM-DDTHH:MM:SS.ffffffZ`.
+ghost use Rattle.std.specs.Prelude.{◌≡◌, ◌<◌, ◌++◌, IfOk, OnOk, codes, string_bytes, true};
+ghost use Rattle.tracing_appender_dates.specs.Days.{day_at, is_date};
+ghost use Rattle.tracing_appender_dates.specs.Stamps.{clock_at};
+ghost use Rattle.event_formatter_times.specs.Times.{clock_text, fraction_text, moment_text, second_text};
+
+use crate::digits::{push_six, push_two};
+use crate::timer::FormatTime;
+use event_formatter_text::FormatError;
+use std::alloc::{AllocError, Global};
+use tracing_appender_dates::date_text;
+
+// The days of the years 0 to 9999, from 1970-01-01 on.
+const FIRST_DAY: i64 = -719_528;
+
+const LAST_DAY: i64 = 2_932_896;
+
+// A second with its text, kept since the next line is mostly of the same second.
+#[derive(Drop)]
+struct LastSecond {
+    second: i64,
+    text: String,
+    ghost right: { string_bytes text ≡ second_text second },
+}
+
+/// Writes moments as `YYYY-MM-DDTHH:MM:SS.ffffffZ`, in UTC; parts of a microsecond are cut off. A moment outside the
+/// years 0 to 9999, or one with a second or more of nanoseconds, has no text.
+#[derive(Drop)]
+pub struct SystemTime {
+    last: Option<LastSecond>,
+}
+
+// Whether the day is of the years 0 to 9999.
+fn is_date_day(day: i64) -> bool
+    ensures { result ≡ is_date day }
+{
+    FIRST_DAY <= day && day <= LAST_DAY
+}
+
+// Appends HH:MM:SS of a second of the day.
+fn push_clock(out: &mut String, clock: u32) -> Result<(), AllocError>
+    requires { clock < 86400 }
+    ensures { OnOk result (string_bytes out.new ≡ string_bytes out.old ++ clock_text clock) }
+{
+    push_two(out, clock / 3600)?;
+    out.push(':')?;
+    push_two(out, clock % 3600 / 60)?;
+    out.push(':')?;
+    push_two(out, clock % 60)
+}
+
+// The second of the day.
+fn clock_of(second: i64) -> u32
+    ensures value { result ≡ clock_at second }
+    ensures bound { result < 86400 }
+{
+    second.rem_euclid(86_400) as u32
+}
+
+// The second with its text.
+#[tactic(auto, unfolding(crate::specs::Times::second_text))]
+fn second_with_text(alloc: Global, second: i64) -> Result<LastSecond, AllocError>
+    requires { is_date (day_at second) ≡ true }
+    ensures { IfOk result (λ last. last.second ≡ second) }
+{
+    let mut text = date_text(alloc, second.div_euclid(86_400))?;
+    text.push('T')?;
+    push_clock(&mut text, clock_of(second))?;
+    Ok(LastSecond { second, text })
+}
+
+// Appends the microseconds and the sign of UTC.
+fn push_fraction(out: &mut String, nanoseconds: u32) -> Result<(), AllocError>
+    requires { nanoseconds < 1000000000 }
+    ensures { OnOk result (string_bytes out.new ≡ string_bytes out.old ++ fraction_text nanoseconds) }
+{
+    out.push('.')?;
+    push_six(out, nanoseconds / 1000)?;
+    out.push('Z')
+}
+
+impl SystemTime {
+    /// A timer that has written nothing yet.
+    pub fn new() -> SystemTime {
+        SystemTime { last: None }
+    }
+
+    // The second with its text, the last one where it is the same.
+    fn take(&mut self, alloc: Global, second: i64) -> Result<LastSecond, AllocError>
+        requires { is_date (day_at second) ≡ true }
+        ensures { IfOk result (λ last. last.second ≡ second) }
+    {
+        match self.last.take() {
+            Some(last) if last.second == second => Ok(last),
+            _ => second_with_text(alloc, second),
+        }
+    }
+}
+
+impl FormatTime for SystemTime {
+    ghost text_at = { λ timer s n. moment_text s n };
+
+    fn format_time(
+        &mut self,
+        alloc: Global,
+        out: &mut String,
+        seconds: i64,
+        nanoseconds: u32,
+    ) -> Result<(), FormatError> {
+        if nanoseconds >= 1_000_000_000 || !is_date_day(seconds.div_euclid(86_400)) {
+            return Err(FormatError::Failed);
+        }
+        let last = self.take(alloc, seconds)?;
+        out.push_str(last.text.as_str())?;
+        self.last = Some(last);
+        push_fraction(out, nanoseconds)?;
+        Ok(())
+    }
+}
