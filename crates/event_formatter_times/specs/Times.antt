@@ -1,9 +1,12 @@
 -- The texts of moments.
-use Rattle.std.specs.Prelude.{ℕ, ◌*◌, ◌/◌, ◌%◌, ℤ, pos, ◌+ℤ◌, ◌*ℤ◌, ◌-ℤ◌, Bool, nat_lt, if◌then◌else◌, List, ◌++◌, Option, Some, None, codes, unsigned_abs, int_lt}
+use Rattle.std.specs.Prelude.{◌≡◌, ℕ, [], ◌*◌, ◌/◌, ◌%◌, ℤ, pos, ◌+ℤ◌, ◌*ℤ◌, ◌-ℤ◌, Bool, nat_lt, if◌then◌else◌, List, ◌++◌, Option, Some, None, Result, Ok, Err, String, codes, string_bytes, unsigned_abs, int_lt}
 use Rattle.std.specs.Fmt.{decimal}
+use Rattle.std.specs.declared.alloc.Global.{Global}
 use Rattle.tracing_appender_dates.specs.Calendar.{two_digits, date_text}
 use Rattle.tracing_appender_dates.specs.Days.{day_at, is_date}
 use Rattle.tracing_appender_dates.specs.Stamps.{clock_at}
+use Rattle.event_formatter_text.specs.declared.error.FormatError.{FormatError}
+use Rattle.event_formatter_text.specs.declared.error.FormatError.TheVariants.{Failed, OutOfMemory}
 use Rattle.event_formatter_times.specs.Digits.{nine_digits, six_digits}
 
 -- HH:MM:SS of a second of the day
@@ -45,3 +48,11 @@ in_four_places n = spaces_before n ++ decimal n
 abbrev pub uptime_text : ℕ → List ℕ
 uptime_text ns =
     in_four_places (ns / 1000000000) ++ (codes "." ++ (nine_digits (ns % 1000000000) ++ codes "s"))
+
+-- the text is given, or there is none
+abbrev pub IsText : Option (List ℕ) → Result (String Global) FormatError → Type 0
+IsText (Some text) (Ok out) = string_bytes out ≡ text
+IsText None (Ok out) = ⊥
+IsText (Some text) (Err Failed) = ⊥
+IsText None (Err Failed) = Unit {0}
+IsText text (Err OutOfMemory) = Unit {0}
