@@ -1,0 +1,8 @@
+//! Who takes the lines: makers of writers, their combinations, and routes to sinks.
+#![tactic(auto)]
+
+mod combined;
+mod make_writer;
+
+pub use combined::{OrElse, Tee, WithMaxLevel, WithMinLevel};
+pub use make_writer::{MakeWriter, MakeWriterExt};
