@@ -3,6 +3,8 @@
 
 mod combined;
 mod make_writer;
+mod route;
 
 pub use combined::{OrElse, Tee, WithMaxLevel, WithMinLevel};
 pub use make_writer::{MakeWriter, MakeWriterExt};
+pub use route::{BadRoute, Route};
