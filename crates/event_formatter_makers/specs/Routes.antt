@@ -50,6 +50,14 @@ abbrev pub is_distinct : List ℕ → Bool
 is_distinct [] = true
 is_distinct (sink ∷ sinks) = not (list_any (λ other. other == sink) sinks) && is_distinct sinks
 
+-- whether the sink is one of them
+abbrev pub has_sink : ℕ → List ℕ → Bool
+has_sink sink sinks = list_any (λ other. other == sink) sinks
+
+-- whether no sink of the first stands in the second
+abbrev pub are_apart : List ℕ → List ℕ → Bool
+are_apart first second = list_all (λ sink. not (has_sink sink second)) first
+
 -- whether every sink is there, none stands twice, and each `OrElse` has a bound to ask
 abbrev pub is_good_route : ℕ → Route → Bool
 is_good_route count route =

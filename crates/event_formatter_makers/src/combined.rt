@@ -1,7 +1,7 @@
 //! Makers over other makers.
 ghost use Rattle.std.specs.Prelude.{◌≡◌, true};
 
-use crate::make_writer::MakeWriter;
+use crate::make_writer::{MakeWriter, MetadataTest};
 use std::io;
 use tracing_core_fields::{Level, Metadata};
 
@@ -153,6 +153,48 @@ impl<A: MakeWriter, B: MakeWriter> MakeWriter for OrElse<A, B> {
             self.first.write_for(metadata, line)
         } else {
             self.second.write_for(metadata, line)
+        }
+    }
+}
+
+/// Takes only lines of metadata that a closure passes.
+#[derive(Drop)]
+pub struct WithFilter<M> {
+    pub(crate) maker: M,
+    pub(crate) filter: MetadataTest,
+    ghost callable: { MetadataTest.IsAlwaysCallable filter },
+}
+
+impl<M> WithFilter<M> {
+    /// Hands lines of metadata that the closure passes to the maker.
+    pub fn new(maker: M, filter: MetadataTest) -> WithFilter<M>
+        requires { MetadataTest.IsAlwaysCallable filter }
+        ensures { (result.maker ≡ maker) × (result.filter ≡ filter) }
+    {
+        WithFilter { maker, filter }
+    }
+}
+
+impl<M: MakeWriter + Drop> MakeWriter for WithFilter<M> {
+    ghost use Rattle.std.specs.Prelude.{Bool};
+    ghost use Rattle.tracing_core_fields.specs.Metadata.{plain_metadata};
+    ghost use Rattle.event_formatter_makers.specs.Makers.{WritesIf};
+    ghost use Rattle.event_formatter_makers.specs.Filters.{AnswersOf};
+
+    ghost takes = { λ maker m b. AnswersOf (MetadataTest.post maker.filter) m b };
+
+    ghost writes = { λ maker m line answer after. (after.filter ≡ maker.filter) ×
+        ((b : Bool) × AnswersOf (MetadataTest.post maker.filter) m b × WritesIf b (M.writes maker.maker m line) maker.maker answer after.maker) };
+
+    fn writes_for(&self, metadata: &Metadata<'_>) -> bool {
+        (self.filter)(metadata)
+    }
+
+    fn write_for(&mut self, metadata: &Metadata<'_>, line: &[u8]) -> io::Result<()> {
+        if (self.filter)(metadata) {
+            self.maker.write_for(metadata, line)
+        } else {
+            Ok(())
         }
     }
 }

@@ -5,6 +5,9 @@ mod combined;
 mod make_writer;
 mod route;
 
-pub use combined::{OrElse, Tee, WithMaxLevel, WithMinLevel};
-pub use make_writer::{MakeWriter, MakeWriterExt};
+pub use combined::{OrElse, Tee, WithFilter, WithMaxLevel, WithMinLevel};
+pub use make_writer::{MakeWriter, MakeWriterExt, MetadataTest};
 pub use route::{BadRoute, Route};
+
+#[cfg(test)]
+mod tests;

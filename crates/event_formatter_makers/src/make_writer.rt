@@ -8,6 +8,9 @@ use crate::combined::{OrElse, Tee, WithMaxLevel, WithMinLevel};
 use std::io;
 use tracing_core_fields::{Level, Metadata};
 
+/// Decides by metadata alone.
+pub type MetadataTest = Box<dyn Fn(&Metadata<'_>) -> bool>;
+
 /// Takes lines, each by one write.
 ///
 /// In Rust a maker makes a writer for an event's metadata, and the formatter writes the line to it. Here the maker does

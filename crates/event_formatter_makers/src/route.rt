@@ -1,7 +1,7 @@
 //! Which sinks of an output take a line.
-ghost use Rattle.std.specs.Prelude.{◌≡◌, ◌++◌, OnOk, nat_lt};
+ghost use Rattle.std.specs.Prelude.{◌≡◌, ◌↔◌, ◌++◌, IsOk, OnOk, nat_lt, true};
 ghost use Rattle.std.specs.List.{list_all};
-ghost use Rattle.event_formatter_makers.specs.Routes.{are_bounded, is_bounded, sinks_of, taken_sinks, takes};
+ghost use Rattle.event_formatter_makers.specs.Routes.{are_apart, are_bounded, has_sink, is_bounded, is_distinct, is_good_route, sinks_of, taken_sinks, takes};
 
 use std::alloc::AllocError;
 use thiserror::Error;
@@ -39,26 +39,6 @@ impl Route {
             Route::Tee(first, second) => first.is_within(count) && second.is_within(count),
             Route::OrElse(first, second) => first.is_within(count) && second.is_within(count),
         }
-    }
-
-    // Appends the numbers of its sinks, in order.
-    fn push_sinks(&self, sinks: &mut Vec<usize>) -> Result<(), AllocError>
-        ensures { OnOk result (sinks.new.items ≡ sinks.old.items ++ sinks_of self.now) }
-    {
-        match self {
-            Route::Sink(sink) => sinks.push(*sink)?,
-            Route::MaxLevel(_, route) => route.push_sinks(sinks)?,
-            Route::MinLevel(_, route) => route.push_sinks(sinks)?,
-            Route::Tee(first, second) => {
-                first.push_sinks(sinks)?;
-                second.push_sinks(sinks)?;
-            }
-            Route::OrElse(first, second) => {
-                first.push_sinks(sinks)?;
-                second.push_sinks(sinks)?;
-            }
-        }
-        Ok(())
     }
 
     /// Whether a line of the level passes the route's own bound, the outermost one.
@@ -126,6 +106,66 @@ impl Route {
             Route::OrElse(first, second) => {
                 first.is_bounded() && first.are_bounded() && second.are_bounded()
             }
+        }
+    }
+
+    // Whether it names the sink.
+    fn has_sink(&self, sink: usize) -> bool
+        ensures { result ≡ has_sink sink (sinks_of self.now) }
+    {
+        match self {
+            Route::Sink(other) => *other == sink,
+            Route::MaxLevel(_, route) => route.has_sink(sink),
+            Route::MinLevel(_, route) => route.has_sink(sink),
+            Route::Tee(first, second) => first.has_sink(sink) || second.has_sink(sink),
+            Route::OrElse(first, second) => first.has_sink(sink) || second.has_sink(sink),
+        }
+    }
+
+    // Whether it names no sink that another route names.
+    fn is_apart(&self, other: &Route) -> bool
+        ensures { result ≡ are_apart (sinks_of self.now) (sinks_of other.now) }
+    {
+        match self {
+            Route::Sink(sink) => !other.has_sink(*sink),
+            Route::MaxLevel(_, route) => route.is_apart(other),
+            Route::MinLevel(_, route) => route.is_apart(other),
+            Route::Tee(first, second) => first.is_apart(other) && second.is_apart(other),
+            Route::OrElse(first, second) => first.is_apart(other) && second.is_apart(other),
+        }
+    }
+
+    // Whether it names no sink twice.
+    #[tactic(auto, using(crate::proofs::Distinct::distinct_append))]
+    fn is_distinct(&self) -> bool
+        ensures { result ≡ is_distinct (sinks_of self.now) }
+    {
+        match self {
+            Route::Sink(_) => true,
+            Route::MaxLevel(_, route) => route.is_distinct(),
+            Route::MinLevel(_, route) => route.is_distinct(),
+            Route::Tee(first, second) => {
+                first.is_distinct() && second.is_distinct() && first.is_apart(second)
+            }
+            Route::OrElse(first, second) => {
+                first.is_distinct() && second.is_distinct() && first.is_apart(second)
+            }
+        }
+    }
+
+    /// Whether the route is one for so many sinks.
+    ///
+    /// # Errors
+    ///
+    /// `BadRoute` where it names a sink that isn't there, or one twice, or where the first part of an `OrElse` is neither
+    /// a `MaxLevel` nor a `MinLevel`.
+    pub fn check(&self, count: usize) -> Result<(), BadRoute>
+        ensures { IsOk result ↔ (is_good_route count self.now ≡ true) }
+    {
+        if self.is_within(count) && self.is_distinct() && self.are_bounded() {
+            Ok(())
+        } else {
+            Err(BadRoute)
         }
     }
 }
