@@ -29,7 +29,7 @@ impl MakeWriter for Kept {
     }
 }
 
-fn kept(alloc: Global, refuses: bool) -> Kept {
+fn make_kept(alloc: Global, refuses: bool) -> Kept {
     Kept {
         text: Vec::new(alloc),
         refuses,
@@ -57,7 +57,7 @@ fn hand_over<M: MakeWriter>(maker: &mut M) -> usize {
 
 #[test]
 fn bounds(rt: HostRuntime) {
-    let mut maker = kept(rt.alloc(), false)
+    let mut maker = make_kept(rt.alloc(), false)
         .with_max_level(Level::INFO)
         .with_min_level(Level::WARN);
     assert_eq!(rt; hand_over(&mut maker), 0);
@@ -66,17 +66,17 @@ fn bounds(rt: HostRuntime) {
 
 #[test]
 fn both_are_asked(rt: HostRuntime) {
-    let mut maker = kept(rt.alloc(), true).and(kept(rt.alloc(), false));
+    let mut maker = make_kept(rt.alloc(), true).and(make_kept(rt.alloc(), false));
     assert_eq!(rt; hand_over(&mut maker), 5);
     assert!(rt; maker.first.text.is_empty() && maker.second.text.as_slice() == b"ewidt".as_slice());
 }
 
 #[test]
 fn the_outermost_bound_decides(rt: HostRuntime) {
-    let deep = kept(rt.alloc(), false)
+    let deep = make_kept(rt.alloc(), false)
         .with_max_level(Level::ERROR)
         .with_max_level(Level::INFO);
-    let mut maker = deep.or_else(kept(rt.alloc(), false));
+    let mut maker = deep.or_else(make_kept(rt.alloc(), false));
     assert_eq!(rt; hand_over(&mut maker), 0);
     assert!(rt; maker.first.maker.maker.text.as_slice() == b"e".as_slice());
     assert!(rt; maker.second.text.as_slice() == b"dt".as_slice());
@@ -88,7 +88,7 @@ fn closures_filter(rt: HostRuntime) -> Result<(), Fail> {
         rt.alloc(),
         |metadata: &Metadata<'_>| *metadata.level() == Level::DEBUG,
     )?;
-    let mut maker = WithFilter::new(kept(rt.alloc(), false), test);
+    let mut maker = WithFilter::new(make_kept(rt.alloc(), false), test);
     assert_eq!(rt; hand_over(&mut maker), 0);
     assert!(rt; maker.maker.text.as_slice() == b"d".as_slice());
     Ok(())
