@@ -9,3 +9,4 @@ pub mod Writers
 pub mod Visitors
 pub mod Members
 pub mod GivenMembers
+pub mod Handing

@@ -92,3 +92,23 @@ fn writers(rt: HostRuntime) -> Result<(), Fail> {
     assert_eq!(rt; out.as_str(), "a\u{1b}é");
     Ok(())
 }
+
+#[test]
+fn visitors_over_others(rt: HostRuntime) -> Result<(), Fail> {
+    let mut out = String::new(rt.alloc());
+    let values = [
+        Some(AnyValue::Str("m")),
+        Some(AnyValue::Str("t")),
+        Some(AnyValue::Debug(TEXT)),
+    ];
+    let set = FieldSet::new(&NAMES, Identifier(1));
+    let inner = JsonVisitor::new(Writer::new(&mut out), true);
+    let mut visitor = Messages::new(Alt::new(inner));
+    set.value_set_all(&values).record(&mut visitor)?;
+    let _ = visitor.into_inner().into_inner();
+    assert_eq!(rt;
+        out.as_str(),
+        "\"message\":\"m\",\"n\":\"t\",\"d\":\"three\""
+    );
+    Ok(())
+}
