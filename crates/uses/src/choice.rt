@@ -1,7 +1,7 @@
 //! A filter that is chosen while the program runs, as an enum of the program's own. One of its cases may keep a
 //! closure, which no `Box<dyn Filter>` can hold.
 
-ghost use Rattle.std.specs.Prelude.{◌≡◌, IfOk, IfSome};
+ghost use Rattle.std.specs.Prelude.{◌≡◌, IfOk};
 ghost use Rattle.span_registry_layers.specs.CacheValidity.{CacheIsValid};
 ghost use Rattle.span_registry_layers.specs.Functions.{IsDetermined};
 
@@ -81,22 +81,33 @@ impl<A: Filter, B: Filter> Filter for Choice<A, B> {
     }
 }
 
-/// A stack under a level, or where one is given under a closure instead, whose answer is determined by the metadata.
+/// A level, as a choice.
+pub fn by_level(level: LevelFilter) -> Choice<LevelFilter, FilterFn>
+    ensures { ⟦<Choice<LevelFilter, FilterFn> as Filter>⟧.honest result }
+{
+    Choice::First(level)
+}
+
+/// A closure whose answer is determined by the metadata, as a choice.
+pub fn by_closure(test: MetadataTest) -> Choice<LevelFilter, FilterFn>
+    requires callable { MetadataTest.IsAlwaysCallable test }
+    requires determined { IsDetermined (MetadataTest.post test) }
+    ensures { ⟦<Choice<LevelFilter, FilterFn> as Filter>⟧.honest result }
+{
+    Choice::Second(FilterFn::new(test))
+}
+
+/// A stack under what was chosen.
 ///
 /// # Errors
 ///
 /// Want of memory.
 pub fn under_choice(
     alloc: Global,
-    level: LevelFilter,
-    test: Option<MetadataTest>,
+    choice: Choice<LevelFilter, FilterFn>,
 ) -> Result<Stack<Filtered<Identity, Choice<LevelFilter, FilterFn>>>, StackError>
-    requires callable { IfSome test (λ t. MetadataTest.IsAlwaysCallable t) }
-    requires determined { IfSome test (λ t. IsDetermined (MetadataTest.post t)) }
+    requires { ⟦<Choice<LevelFilter, FilterFn> as Filter>⟧.honest choice }
     ensures { IfOk result (λ stack. CacheIsValid ⟦<Choice<LevelFilter, FilterFn> as Filter>⟧ stack) }
 {
-    match test {
-        None => stack_under(alloc, Choice::First(level)),
-        Some(test) => stack_under(alloc, Choice::Second(FilterFn::new(test))),
-    }
+    stack_under(alloc, choice)
 }

@@ -5,7 +5,7 @@ ghost use Rattle.span_registry_layers.specs.CacheValidity.{CacheIsValid};
 ghost use Rattle.tracing_core.specs.Metadata.{plain_metadata};
 
 use crate::boxed::{under_both, under_box, under_context_closure};
-use crate::choice::under_choice;
+use crate::choice::{by_closure, by_level, under_choice};
 use crate::filter::{hand, under_closure, under_level, under_verbosity};
 use crate::hub::{Tally, events_of, hub_of, log_event, reach_by_default};
 use crate::layer::Counts;
@@ -122,14 +122,13 @@ fn a_level_and_a_closure_pass_warnings(rt: HostRuntime) -> Result<(), Fail> {
 #[test]
 fn a_choice_passes_warnings(rt: HostRuntime) -> Result<(), Fail> {
     let quiet: MetadataTest = Box::new(rt.alloc(), is_quiet)?;
-    let mut by_closure = under_choice(rt.alloc(), LevelFilter::TRACE, Some(quiet))
+    let mut chosen = under_choice(rt.alloc(), by_closure(quiet))
         .ok()
         .ok_or("room")?;
-    let mut by_level = under_choice(rt.alloc(), LevelFilter::WARN, None)
+    let mut other = under_choice(rt.alloc(), by_level(LevelFilter::WARN))
         .ok()
         .ok_or("room")?;
-    assert!(rt; passes_warnings(&mut by_closure)?);
-    assert!(rt; passes_warnings(&mut by_level)?);
+    assert!(rt; passes_warnings(&mut chosen)? && passes_warnings(&mut other)?);
     Ok(())
 }
 
