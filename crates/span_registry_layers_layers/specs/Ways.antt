@@ -9,6 +9,7 @@ use Rattle.span_registry_layers_store.specs.Registries.{RegistryValue}
 use Rattle.span_registry_layers_store.specs.Rising.{IsRising}
 use Rattle.span_registry_layers_store.specs.Verdicts.{passes_at}
 use Rattle.span_registry_layers_store.specs.declared.filter_map.FilterId.{FilterId}
+use Rattle.span_registry_layers_layers.specs.Absent.{KeptOf, NotifiedOf}
 use Rattle.span_registry_layers_layers.specs.Combined.{Both, Then}
 use Rattle.span_registry_layers_layers.specs.Filtereds.{FilteredKept, FilteredTold, HearsAt, HearsIf, KeptAt, MayHear, is_seen, under}
 use Rattle.span_registry_layers_layers.specs.Layereds.{KeptByBoth, NotifiedBoth}
@@ -211,3 +212,31 @@ module _ {A V : Type 0} (g : Ghosts A) (items : V → List A) (passes : A → Sa
   each_keeps f place x m v verdicts some id call u b kept stands p =
       let one = kept_in place (items x) p.0 m v verdicts some kept p.1 in
       (p.0, p.1, f p.0 m v verdicts one.0 id call (seeing p.2.0 u) b one.1 (λ z same filter. stands z (same ∙ p.2.1) filter) p.2.2)
+
+module _ {A : Type 0} where
+  -- the layer that may be absent, where it is there
+  abbrev pub LeadsIf : {L : Type 0} → (A → L → Type 0) → Option A → L → Type 0
+  LeadsIf leads None l = ⊥
+  LeadsIf leads (Some x) l = leads x l
+
+  abbrev pub PassesIf : (A → Said → View → Bool → Type 0) → Option A → Said → View → Bool → Type 0
+  PassesIf passes None said v b = b ≡ false
+  PassesIf passes (Some x) said v b = passes x said v b
+
+  abbrev pub AsksIf : (A → PlainMetadata → View → Bool → Type 0) → Option A → PlainMetadata → View → Bool → Type 0
+  AsksIf asks None m v b = b ≡ false
+  AsksIf asks (Some x) m v b = asks x m v b
+
+module _ {A L : Type 0} (g : Ghosts A) (h : Ghosts L) (maybe : Ghosts (Option A)) (leads : A → L → Type 0) (passes : A → Said → View → Bool → Type 0) (f : TellsWhere g h leads passes) where
+  if_there : (x : Option A) (said : Said) (v : View) (left : RegistryValue) (y : Option A) (l : L) → NotifiedOf g x (Called said v left) y → LeadsIf leads x l → Reaches maybe h (LeadsIf leads) (PassesIf passes) x said v y l
+  if_there None said v left y l told lead = absurd lead
+  if_there (Some x) said v left None l told lead = absurd told
+  if_there (Some x) said v left (Some y) l told lead = f x said v left y l told lead
+
+  -- into a layer that may be absent
+  pub present_tells : ((x : Option A) (said : Said) (v : View) (left : RegistryValue) (y : Option A) → maybe.told x (Called said v left) y → NotifiedOf g x (Called said v left) y) → TellsWhere maybe h (LeadsIf leads) (PassesIf passes)
+  present_tells by x said v left y l told lead = if_there x said v left y l (by x said v left y told) lead
+
+pub present_keeps : {A : Type 0} (g : Ghosts A) (passes : A → Said → View → Bool → Type 0) (asks : A → PlainMetadata → View → Bool → Type 0) → KeepsWord g.kept passes asks → KeepsWord (KeptOf g) (PassesIf passes) (AsksIf asks)
+present_keeps g passes asks f None m v verdicts some id call u b kept stands p = p
+present_keeps g passes asks f (Some x) m v verdicts some id call u b kept stands p = f x m v verdicts some id call u b kept stands p

@@ -21,4 +21,4 @@ pub use laws::{
     trees_stay_attached,
 };
 pub use layer::{Identity, Layer, LayerExt, Layered, Listener, Listening, SubscriberExt, Told};
-pub use way::{Below, Each, Here, Inner, Outer, Way};
+pub use way::{Below, Each, Here, Inner, Outer, Present, Way};

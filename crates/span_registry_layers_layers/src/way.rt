@@ -61,6 +61,13 @@ pub struct Each<W> {
     pub rest: W,
 }
 
+/// Into a layer that may be absent, where it is there.
+#[derive(Clone, Copy, Debug, Drop)]
+pub struct Present<W> {
+    /// The way from there.
+    pub rest: W,
+}
+
 impl<T: Layer> Way<T, T> for Here {
     ghost use Rattle.span_registry_layers_layers.specs.Ways.{here_tells};
 
@@ -135,4 +142,19 @@ impl<A: Layer, L: Layer, W: Way<A, L>> Way<Vec<A>, L> for Each<W> {
 
     ghost keeps = { λ w. each_keeps ⟦<A as Layer>⟧ (λ (v : _). v.items) (W.passes w.rest) (W.asks w.rest)
         (W.keeps w.rest) w.place };
+}
+
+impl<A: Layer, L: Layer, W: Way<A, L>> Way<Option<A>, L> for Present<W> {
+    ghost use Rattle.span_registry_layers_layers.specs.Ways.{AsksIf, LeadsIf, PassesIf, present_keeps, present_tells};
+
+    ghost leads = { λ w. LeadsIf (W.leads w.rest) };
+
+    ghost passes = { λ w. PassesIf (W.passes w.rest) };
+
+    ghost asks = { λ w. AsksIf (W.asks w.rest) };
+
+    ghost tells = { λ w. present_tells ⟦<A as Layer>⟧ ⟦<L as Layer>⟧ ⟦<Option<A> as Layer>⟧ (W.leads w.rest)
+        (W.passes w.rest) (W.tells w.rest) (λ x said v left y t. t) };
+
+    ghost keeps = { λ w. present_keeps ⟦<A as Layer>⟧ (W.passes w.rest) (W.asks w.rest) (W.keeps w.rest) };
 }
