@@ -6,7 +6,7 @@ ghost use Rattle.std.specs.Ordering.{is_lt};
 ghost use Rattle.std.specs.List.Sorted.{IsPermutation, IsSortedBy};
 ghost use Rattle.tracing_appender_rolling.specs.Builders.{builder_names};
 ghost use Rattle.tracing_appender_folders.specs.Listings.{listed_of};
-ghost use Rattle.tracing_appender_rolling.specs.Retention.{Tells, made_of, begins, ends, is_before, goes_by, GoesBy, IsAdded, IsCandidates, candidate_of};
+ghost use Rattle.tracing_appender_rolling.specs.Retention.{Tells, made_of, begins, ends, is_before, goes_by, GoesBy, IsAdded, IsCandidates, candidate_of, asked_prefix};
 ghost use Rattle.tracing_appender_rolling.specs.Pruning.{Removes, RemovesDoomed, Prunes, names_by};
 ghost use Rattle.tracing_appender_rolling.specs.Telling.{CountsRetention};
 
@@ -231,6 +231,16 @@ fn remove_doomed<D: Folder>(
     Ok(())
 }
 
+/// The prefix of the names that are asked for, which is empty where there is none.
+fn asked_prefix(builder: &Builder) -> &str
+    ensures { result.now ≡ asked_prefix (builder_names builder.now) }
+{
+    match &builder.prefix {
+        None => "",
+        Some(prefix) => prefix.as_str(),
+    }
+}
+
 /// Removes the files that go where one more is to be opened, where there is a limit. A fault is counted, and
 /// the work goes on; want of memory ends it.
 pub(crate) fn prune_old_logs<D: Folder>(
@@ -248,7 +258,7 @@ pub(crate) fn prune_old_logs<D: Folder>(
     let Some(limit) = builder.limit else {
         return Ok(());
     };
-    match folder.list() {
+    match folder.list(asked_prefix(builder)) {
         Ok(entries) => {
             let all = candidates(alloc, builder, entries.as_slice())?;
             remove_doomed(alloc, folder, all.as_slice(), limit, faults)?;
