@@ -4,7 +4,7 @@ pub mod Apart
 pub mod Files
 pub mod ByPeriod
 pub mod Writing
-pub mod Soundness
+pub mod Onward
 pub mod Rising
 pub mod Removing
 pub mod Switching
@@ -24,3 +24,4 @@ pub mod Handover
 pub mod Oldest
 pub mod Sorting
 pub mod Unique
+pub mod Trying
