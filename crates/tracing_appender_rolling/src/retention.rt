@@ -1,6 +1,6 @@
 //! Which files go where one more is to be opened.
 
-ghost use Rattle.std.specs.Prelude.{◌≡◌, ◌≤◌, [], ◌∷◌, None, Ok, IfOk, OnOk, map, length, string_bytes};
+ghost use Rattle.std.specs.Prelude.{◌≡◌, ◌≤◌, [], ◌∷◌, None, Ok, IfOk, OnOk, OnErr, map, length, string_bytes};
 ghost use Rattle.std.specs.Option.{option_map};
 ghost use Rattle.std.specs.Ordering.{is_lt};
 ghost use Rattle.std.specs.List.Sorted.{IsPermutation, IsSortedBy};
@@ -164,6 +164,8 @@ fn is_doomed(last: &Option<Candidate<'_>>, candidate: &Candidate<'_>) -> bool
 fn remove_file<D: Folder>(folder: &mut D, name: &str, faults: &mut Faults) -> Result<(), AllocError>
     ensures removes { Removes (name.now ∷ []) faults.old (D.contents folder.old) result faults.new
         (D.contents folder.new) }
+    // a refusal is not told as want of memory
+    ensures fed { OnErr result (D.failed folder.new ≡ D.failed folder.old) }
     ensures counts { CountsRetention (D.failed folder.old) faults.old faults.new (D.failed folder.new) }
 {
     match folder.remove(name) {
