@@ -127,7 +127,7 @@ lane_more {F = F} p threads u t ls marks is rest =
     ∙ ap (λ (lanes : ℕ). record old { skeleton = record (old.skeleton) { lanes = lanes }; threads = ts ++ plain_thread t ∷ [] }) (length_more ts (plain_thread t))
 
 -- one callsite more
-pub callsite_more : {F : Type 0} (p : TraceParts F) (callsites : Vec Callsite Global) (u : Table (StackValue F) HubCallsite) (c : Callsite) (rows : List (KeptCallsite HubCallsite)) → callsites.items ≡ p.callsites.items ++ c ∷ [] → u.subscribers ≡ p.hub.subscribers → u ≡ record (p.hub) { subscribers = u.subscribers; rows = rows } →
+pub callsite_more : {F : Type 0} (p : TraceParts F) (callsites : Vec Callsite Global) (u : Table (StackValue F) HubCallsite) (c : Callsite) (rows : List (KeptCallsite HubCallsite)) → callsites.items ≡ p.callsites.items ++ c ∷ [] → u.subscribers ≡ p.hub.subscribers → u ≡ record (p.hub) { subscribers = u.subscribers; callsites = rows } →
     value_in (record p { callsites = callsites; hub = u }) ≡ record (value_in p) { skeleton = record ((value_in p).skeleton) { callsites = (value_in p).skeleton.callsites ++ plain_callsite c ∷ [] } }
 callsite_more {F = F} p callsites u c rows is same rest =
     let ts = map plain_thread p.threads.items in
