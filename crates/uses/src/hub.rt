@@ -3,13 +3,12 @@
 ghost use Rattle.std.specs.Prelude.{◌≡◌, nat_le, false, if◌then◌else◌, None, Some, OnOk, OnErr, IfOk, ℕ, slice_get};
 ghost use Rattle.std.specs.Option.{option_map};
 ghost use Rattle.tracing_core.specs.Commands.{reached, callsite_with};
-ghost use Rattle.tracing_core.specs.KeptSubscriber.{KeptSubscriber};
+ghost use Rattle.tracing_core.specs.Kept.{KeptCallsite, KeptSubscriber};
 ghost use Rattle.tracing_core.specs.Handles.{subscriber_with};
 ghost use Rattle.tracing_core.specs.Keeping.{PreservesCaches};
 ghost use Rattle.tracing_core.specs.ValidCaches.{HasValidCache};
 ghost use Rattle.tracing_core.specs.Lent.{living_of};
 ghost use Rattle.tracing_core.specs.PlainRequests.{plain_event};
-ghost use Rattle.tracing_core.specs.KeptCallsite.{KeptCallsite};
 ghost use Rattle.tracing_core.specs.LaneDefault.TheVariants.{Unset};
 ghost use Rattle.tracing_core.specs.Sound.{IsSound};
 ghost use Rattle.tracing_core.specs.Table.{own_setting};
