@@ -1,4 +1,4 @@
--- What asking one subscriber gives, by its place.
+-- What asking one subscriber gives, by its index.
 use Rattle.std.proofs.Common.{◌≡◌, ℕ, ◌<◌, ◌≤◌, Bool, true, false, List, length, get_or, set, Option, Some, refl, ap, sym, ◌∙◌, arith}
 use Rattle.tracing_core_fields.specs.PlainMetadata.{PlainMetadata}
 use Rattle.tracing_core_requests.specs.Calls.{Asked}

@@ -21,7 +21,7 @@ pub same_at : {S C : Type 0} (v t : Table S C) (es : List (KeptSubscriber S)) (r
 same_at {S = S} {C = C} v t es rs e subscribers callsites =
     ap (λ (x : List (KeptSubscriber S)). record v { subscribers = x; callsites = rs }) subscribers ∙ ap (λ (x : List (KeptCallsite C)). record v { callsites = x }) callsites ∙ e
 
--- a row more, and other subscribers
+-- a callsite more, and other subscribers
 pub kept_at : {S C : Type 0} (v t : Table S C) (es : List (KeptSubscriber S)) (rs : List (KeptCallsite C)) (row : KeptCallsite C) → v ≡ t → rs ≡ v.callsites ++ row ∷ [] → ◌≡◌ {A = Table S C} (record v { subscribers = es; callsites = rs }) (record t { subscribers = es; callsites = t.callsites ++ row ∷ [] })
 kept_at {S = S} {C = C} v t es rs row e r =
     ap (λ (x : List (KeptCallsite C)). record v { subscribers = es; callsites = x }) r ∙ ap (λ (x : Table S C). record x { subscribers = es; callsites = x.callsites ++ row ∷ [] }) e

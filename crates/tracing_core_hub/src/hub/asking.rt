@@ -103,7 +103,8 @@ pub(crate) fn ask_hints<S: Subscriber>(subscribers: &mut [RegisteredSubscriber<S
 impl<C: Callsite> RegisteredCallsite<C> {
     // Asks all of the callsite, and tells it what they have in common.
     pub(crate) fn ask<S: Subscriber>(&mut self, subscribers: &mut [RegisteredSubscriber<S>])
-        ensures { CallsiteAsked ⟦<S as Subscriber>⟧ ⟦<C as Callsite>⟧ subscribers.old self.old self.new subscribers.new }
+        ensures { CallsiteAsked ⟦<S as Subscriber>⟧ ⟦<C as Callsite>⟧ subscribers.old self.old self.new
+            subscribers.new }
     {
         let interest = self.interest_of_all(subscribers);
         self.callsite.set_interest(interest);
@@ -114,7 +115,8 @@ impl<C: Callsite> RegisteredCallsite<C> {
         &self,
         subscribers: &mut [RegisteredSubscriber<S>],
     ) -> Interest
-        ensures { AskedAll ⟦<S as Subscriber>⟧ (C.metadata_of self.now.callsite) subscribers.old subscribers.new result }
+        ensures { AskedAll ⟦<S as Subscriber>⟧ (C.metadata_of self.now.callsite) subscribers.old subscribers.new
+            result }
     {
         let metadata = self.callsite.metadata();
         ask_all(subscribers, &metadata)

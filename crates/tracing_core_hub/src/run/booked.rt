@@ -22,8 +22,8 @@ impl<S: Subscriber, C: Callsite> Hub<S, C> {
         book: &mut Book,
         handle: Option<u64>,
     ) -> CommandReply<S, C>
-        ensures gives { CommandGives ⟦<S as Subscriber>⟧ ⟦<C as Callsite>⟧ self.old book.old (SetGlobalDefault handle) result
-            self.new book.new }
+        ensures gives { CommandGives ⟦<S as Subscriber>⟧ ⟦<C as Callsite>⟧ self.old book.old (SetGlobalDefault handle)
+            result self.new book.new }
         ensures keeps { PreservesCaches ⟦<S as Subscriber>⟧ ⟦<C as Callsite>⟧ self.old self.new }
     {
         self.run_set_global_default(&book.handles, handle)
@@ -35,8 +35,8 @@ impl<S: Subscriber, C: Callsite> Hub<S, C> {
         lane: u64,
         handle: Option<u64>,
     ) -> CommandReply<S, C>
-        ensures gives { CommandGives ⟦<S as Subscriber>⟧ ⟦<C as Callsite>⟧ self.old book.old (SetDefault lane handle) result
-            self.new book.new }
+        ensures gives { CommandGives ⟦<S as Subscriber>⟧ ⟦<C as Callsite>⟧ self.old book.old (SetDefault lane handle)
+            result self.new book.new }
         ensures keeps { PreservesCaches ⟦<S as Subscriber>⟧ ⟦<C as Callsite>⟧ self.old self.new }
     {
         self.run_set_default(&book.handles, &mut book.guards, lane, handle)
