@@ -4,10 +4,10 @@ ghost use Rattle.tracing_core_fields.specs.PlainMetadata.{is_same_metadata};
 ghost use Rattle.tracing_core_fields.specs.Metadata.{plain_metadata};
 ghost use Rattle.tracing_core_requests.specs.Calls.{Asked};
 ghost use Rattle.tracing_core_requests.specs.Steady.{IsReal};
-ghost use Rattle.tracing_core_hub.specs.Commands.{known, AnswerGives, AskGives, new_row};
+ghost use Rattle.tracing_core_hub.specs.Commands.{known, AnswerGives, AskGives, new_callsite};
 
-use crate::hub::entries::place_of;
 use crate::hub::parts::{RegisteredCallsite, RegisteredSubscriber};
+use crate::hub::subscribers::index_of;
 use tracing_core_fields::{LevelFilter, Metadata};
 use tracing_core_requests::{At, Callsite, Interest, Subscriber};
 
@@ -26,26 +26,28 @@ fn known_answer(greatest: LevelFilter, level: LevelFilter, interest: Interest) -
 
 // Asks the subscriber of the number, where it lives.
 pub(crate) fn ask_one<S: Subscriber>(
-    entries: &mut [RegisteredSubscriber<S>],
+    subscribers: &mut [RegisteredSubscriber<S>],
     serial: Option<u64>,
     metadata: &Metadata<'_>,
     at: At,
 ) -> bool
-    ensures { AskGives ⟦<S as Subscriber>⟧ (plain_metadata metadata.now) at serial entries.old result entries.new }
+    ensures { AskGives ⟦<S as Subscriber>⟧ (plain_metadata metadata.now) at serial subscribers.old result
+        subscribers.new }
 {
     let Some(serial) = serial else {
         return false;
     };
-    let Some(place) = place_of(entries, serial) else {
+    let Some(index) = index_of(subscribers, serial) else {
         return false;
     };
-    entries[place].subscriber.enabled(metadata, at)
+    let registered = &mut subscribers[index];
+    registered.subscriber.enabled(metadata, at)
 }
 
 impl<C: Callsite> RegisteredCallsite<C> {
     // The callsite as it comes.
     pub(crate) fn new(callsite: C) -> RegisteredCallsite<C>
-        ensures row { result ≡ new_row ⟦<C as Callsite>⟧ callsite }
+        ensures row { result ≡ new_callsite ⟦<C as Callsite>⟧ callsite }
         ensures real { IsReal (C.metadata_of callsite) }
     {
         let metadata = callsite.metadata();
@@ -57,6 +59,18 @@ impl<C: Callsite> RegisteredCallsite<C> {
             level,
             interest: Interest::never(),
         }
+    }
+
+    pub(crate) fn identifier(&self) -> u64
+        ensures { result ≡ self.now.identifier }
+    {
+        self.identifier
+    }
+
+    pub(crate) fn interest(&self) -> Interest
+        ensures { result ≡ self.now.interest }
+    {
+        self.interest
     }
 
     pub(crate) fn into_callsite(self) -> C
@@ -81,13 +95,13 @@ impl<C: Callsite> RegisteredCallsite<C> {
     // What is known, or else what the subscriber of the number says. Where there is none, nothing is wanted.
     pub(crate) fn answer<S: Subscriber>(
         &self,
-        entries: &mut [RegisteredSubscriber<S>],
+        subscribers: &mut [RegisteredSubscriber<S>],
         serial: Option<u64>,
         greatest: LevelFilter,
         at: At,
     ) -> bool
         ensures { AnswerGives ⟦<S as Subscriber>⟧ ⟦<C as Callsite>⟧ self.now at
-            (known greatest self.now.level self.now.interest) serial entries.old result entries.new }
+            (known greatest self.now.level self.now.interest) serial subscribers.old result subscribers.new }
     {
         if serial.is_none() {
             return false;
@@ -96,7 +110,7 @@ impl<C: Callsite> RegisteredCallsite<C> {
             Some(answer) => answer,
             None => {
                 let metadata = self.callsite.metadata();
-                ask_one(entries, serial, &metadata, at)
+                ask_one(subscribers, serial, &metadata, at)
             }
         }
     }
