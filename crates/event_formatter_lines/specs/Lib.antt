@@ -1,3 +1,4 @@
 pub mod Shown
+pub mod Frames
 pub mod Heads
 pub mod Full

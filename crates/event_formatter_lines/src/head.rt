@@ -23,8 +23,8 @@ pub struct Head<'a> {
     pub target: Option<&'a str>,
     /// The file.
     pub file: Option<&'a str>,
-    /// The line in the file, in decimal digits.
-    pub line: Option<&'a str>,
+    /// The line in the file.
+    pub line: Option<u32>,
 }
 
 // The code that begins the style of a level.
