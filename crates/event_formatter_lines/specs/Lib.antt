@@ -2,3 +2,4 @@ pub mod Shown
 pub mod Frames
 pub mod Heads
 pub mod Full
+pub mod Compact
