@@ -41,13 +41,17 @@ line_text settings (Some line) = dimmed settings (decimal line) ++ dimmed settin
 abbrev pub shows_place : PlainHead → Bool
 shows_place head = is_some head.target || (is_some head.file || is_some head.line)
 
+-- target, file and line, and a space where one of them is shown
+unfoldable pub places_text : Settings → PlainHead → List ℕ
+places_text settings head =
+    with_colon settings head.target ++ file_text settings (is_some head.target) head.file
+    ++ line_text settings head.line ++ space_if (shows_place head)
+
 -- what stands before the fields
 abbrev pub compact_head : Settings → PlainHead → List PlainShown → List ℕ
 compact_head settings head loose =
     time_piece settings head.time ++ level_piece settings head.level ++ plain_piece head.thread_name
-    ++ plain_piece head.thread_id ++ names_text settings loose ++ with_colon settings head.target
-    ++ file_text settings (is_some head.target) head.file ++ line_text settings head.line
-    ++ space_if (shows_place head)
+    ++ plain_piece head.thread_id ++ names_text settings loose ++ places_text settings head
 
 -- a span's text behind a space, where it isn't empty
 abbrev pub behind_space : Settings → List ℕ → List ℕ

@@ -3,7 +3,7 @@ ghost use Rattle.std.specs.Prelude.{◌≡◌, ◌<◌, ◌++◌, OnOk, length, 
 ghost use Rattle.std.specs.List.{flat_map};
 ghost use Rattle.std.specs.Option.{option_map};
 ghost use Rattle.event_formatter_text.specs.Lists.{Formats};
-ghost use Rattle.event_formatter_lines.specs.Compact.{behind_space, compact_head, compact_line, compact_tail, file_text, line_text, name_piece, names_text, shows_place, space_if, text_piece, with_colon};
+ghost use Rattle.event_formatter_lines.specs.Compact.{behind_space, compact_head, compact_line, compact_tail, file_text, line_text, name_piece, names_text, places_text, shows_place, space_if, text_piece, with_colon};
 ghost use Rattle.event_formatter_lines.specs.Heads.{plain_head};
 ghost use Rattle.event_formatter_lines.specs.Shown.{span_at};
 
@@ -123,6 +123,18 @@ fn shows_place(head: &Head<'_>) -> bool
     head.target.is_some() || head.file.is_some() || head.line.is_some()
 }
 
+// Appends target, file and line, and a space where one of them is shown.
+#[tactic(auto, unfolding(crate::specs::Compact::places_text))]
+fn push_places(out: &mut String, settings: Settings, head: &Head<'_>) -> Result<(), AllocError>
+    ensures { OnOk result (string_bytes out.new ≡ string_bytes out.old
+        ++ places_text settings (plain_head head.now)) }
+{
+    push_with_colon(out, settings, head.target)?;
+    push_file(out, settings, head.file, head.target.is_some())?;
+    push_line(out, settings, head.line)?;
+    push_space_if(out, shows_place(head))
+}
+
 /// Appends what stands before an event's fields: time, level, thread, the spans' names, target, file and line.
 ///
 /// # Errors
@@ -142,10 +154,7 @@ pub fn push_compact_head<S: ShownSpans>(
     push_plain(out, head.thread_name)?;
     push_plain(out, head.thread_id)?;
     push_names(out, settings, spans)?;
-    push_with_colon(out, settings, head.target)?;
-    push_file(out, settings, head.file, head.target.is_some())?;
-    push_line(out, settings, head.line)?;
-    push_space_if(out, shows_place(head))
+    push_places(out, settings, head)
 }
 
 // Appends a span's text behind a space, where it isn't empty.
