@@ -3,3 +3,4 @@ pub mod Frames
 pub mod Heads
 pub mod Full
 pub mod Compact
+pub mod Pretty

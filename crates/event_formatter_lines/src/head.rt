@@ -41,9 +41,9 @@ fn level_start(name: &str) -> &'static str
     }
 }
 
-// A level's name in five places.
+/// A level's name in five places.
 #[tactic(auto, unfolding(crate::specs::Heads::in_five_places))]
-fn in_five_places(level: Level) -> &'static str
+pub(crate) fn in_five_places(level: Level) -> &'static str
     ensures { result.now ≡ in_five_places (level_name level) }
 {
     match level.as_str() {
