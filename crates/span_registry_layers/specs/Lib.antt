@@ -36,6 +36,8 @@ pub use Rattle.span_registry_layers_layers.specs.Singles
 pub use Rattle.span_registry_layers_layers.specs.Firms
 pub use Rattle.span_registry_layers_layers.specs.Trees
 pub use Rattle.span_registry_layers_layers.specs.Staying
+pub use Rattle.span_registry_layers_layers.specs.Listenings
+pub use Rattle.span_registry_layers_layers.specs.Ways
 pub use Rattle.span_registry_layers_layers.specs.Soundness as TreeSoundness
 pub use Rattle.span_registry_layers_stack.specs.Rows
 pub use Rattle.span_registry_layers_stack.specs.Sites
@@ -75,6 +77,9 @@ pub use Rattle.span_registry_layers_layers.specs.declared.filter.Filter
 pub use Rattle.span_registry_layers_layers.specs.declared.filtered.Filtered
 pub use Rattle.span_registry_layers_layers.specs.declared.layer.Layer
 pub use Rattle.span_registry_layers_layers.specs.declared.layer.layered.Layered
+pub use Rattle.span_registry_layers_layers.specs.declared.layer.listening.Listener
+pub use Rattle.span_registry_layers_layers.specs.declared.layer.listening.Listening
+pub use Rattle.span_registry_layers_layers.specs.declared.way.Way
 pub use Rattle.span_registry_layers_layers.specs.declared.attached.AttachError
 pub use Rattle.span_registry_layers_stack.specs.declared.output.Output
 pub use Rattle.span_registry_layers_stack.specs.declared.output.StackError

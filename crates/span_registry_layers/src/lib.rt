@@ -2,10 +2,11 @@
 #![tactic(auto)]
 
 pub use span_registry_layers_layers::{
-    And, AttachError, CallsiteTest, Context, ContextTest, DynFilterFn, Filter, FilterExt, FilterFn,
-    Filtered, Identity, Layer, LayerExt, Layered, MetadataTest, Not, Or, SpanCall, SubscriberExt,
-    Told, dynamic_filter_fn, filter_fn, joined_registry_stays_sound, tree_registry_stays_sound,
-    trees_stay_attached,
+    And, AttachError, Below, CallsiteTest, Context, ContextTest, DynFilterFn, Each, Filter,
+    FilterExt, FilterFn, Filtered, Here, Identity, Inner, Layer, LayerExt, Layered, Listener,
+    Listening, MetadataTest, Not, Or, Outer, Present, SpanCall, SubscriberExt, Told, Way,
+    dynamic_filter_fn, filter_fn, joined_registry_stays_sound, layer_hears_what_its_filters_pass,
+    tree_registry_stays_sound, trees_stay_attached,
 };
 pub use span_registry_layers_stack::{
     IntoOutputs, Output, Stack, StackError, StackRefusal, UnknownOutput,

@@ -6,4 +6,5 @@ pub mod Joining
 pub mod Closing
 pub mod Soundness
 mod Turns
+pub mod Spans
 pub mod Writing

@@ -11,6 +11,7 @@ pub mod Contexts
 pub mod Dynamic
 pub mod Layereds
 pub mod Identities
+pub mod Listenings
 pub mod Absent
 pub mod Told
 pub mod Veto
@@ -21,5 +22,6 @@ pub mod FilteredWords
 pub mod Singles
 pub mod Firms
 pub mod Trees
+pub mod Ways
 pub mod Staying
 pub mod Soundness

@@ -1,8 +1,10 @@
 //! What holds of every tree of layers.
 ghost use Rattle.span_registry_layers_layers.specs.Soundness.{AttachedIsSound, JoinedIsSound, TreeStaysSound};
 ghost use Rattle.span_registry_layers_layers.specs.Trees.{StayAttached};
+ghost use Rattle.span_registry_layers_layers.specs.Ways.{TreeTells, TreeTellsEvents, TreeTellsSpans};
 
 use crate::layer::{Layer, Layered};
+use crate::way::Way;
 
 /// Each filter of a tree keeps its number, whatever is called.
 pub fn trees_stay_attached<L: Layer>()
@@ -20,4 +22,14 @@ pub fn tree_registry_stays_sound<L: Layer>()
 /// A further layer over a tree leaves its registry sound.
 pub fn joined_registry_stays_sound<L: Layer, M: Layer>()
     ensures { JoinedIsSound ⟦<L as Layer>⟧ ⟦<M as Layer>⟧ ⟦<Layered<L, M> as Layer>⟧ }
+{}
+
+/// A layer of a tree is told exactly what all filters on the way down to it pass, whatever stands beside it: an event
+/// where each of them, asked in turn there and then, passes it, a span that is made where each of them, asked in turn
+/// when it is made, passes its callsite, and a later call on the span where each of them passed it then. An event that
+/// a layer of the tree vetoes reaches nobody.
+pub fn layer_hears_what_its_filters_pass<T: Layer, L: Layer, W: Way<T, L>>()
+    ensures notified { (w : W) → TreeTells ⟦<T as Layer>⟧ ⟦<L as Layer>⟧ (W.leads w) (W.passes w) }
+    ensures event { (w : W) → TreeTellsEvents ⟦<T as Layer>⟧ ⟦<L as Layer>⟧ (W.leads w) (W.passes w) }
+    ensures span { (w : W) → TreeTellsSpans ⟦<T as Layer>⟧ ⟦<L as Layer>⟧ (W.leads w) (W.asks w) }
 {}

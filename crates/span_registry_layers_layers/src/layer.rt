@@ -17,6 +17,7 @@ mod ext;
 mod filtered;
 mod identity;
 mod layered;
+mod listening;
 mod optional;
 mod several;
 mod told;
@@ -26,6 +27,7 @@ use crate::context::Context;
 pub use ext::{LayerExt, SubscriberExt};
 pub use identity::Identity;
 pub use layered::Layered;
+pub use listening::{Listener, Listening};
 use span_registry_layers_store::{FilterMap, Registry};
 pub use told::Told;
 use tracing_core_fields::{Id, LevelFilter, Metadata};
@@ -39,10 +41,11 @@ use tracing_core_requests::{Attributes, Event, Interest, Record, WeakDispatch};
 /// stays as it was; a layer that writes says in `told` what it writes, by the registry that the notice holds
 /// as it is left. An honest layer is consistent as an honest filter does, whatever it is told.
 ///
-/// What a layer doesn't say is what one does that passes all, says so, knows no hint, and changes nothing by what it is
-/// told. The least that a layer writes is six laws (`fair`, `stays`, `numbered`, `once`, `aside`, `keyed`) and nine
-/// methods: `hear`, the four that answer whether something passes, and `on_register_dispatch`, `on_layer`, `room_left`
-/// and `ask_span`. A hook that does nothing is a case of `hear` that does nothing.
+/// A layer that only listens is written as a `Listener`, by one method and no law, and `Listening` makes the layer of
+/// it. Who writes a layer itself writes at least six laws (`fair`, `stays`, `numbered`, `once`, `aside`, `keyed`) and
+/// nine methods: `hear`, the four that answer whether something passes, and `on_register_dispatch`, `on_layer`,
+/// `room_left` and `ask_span`. What a layer doesn't say is what one does that passes all, says so, knows no hint, and
+/// changes nothing by what it is told. A hook that does nothing is a case of `hear` that does nothing.
 pub trait Layer: Drop {
     // What it may answer of a callsite, by what it may look at.
     ghost answers: { Self → PlainMetadata → View → Bool → Type 0 } = { λ x m v b. b ≡ true };

@@ -2,7 +2,7 @@ pub mod Spans
 pub mod Lanes
 pub mod Verdicts
 pub mod Places
-pub mod KnownMetadatas
+pub mod KeptMetadatas
 pub mod Registries
 pub mod Rising
 pub mod Gives

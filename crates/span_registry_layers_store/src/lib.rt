@@ -4,6 +4,7 @@
 mod extensions;
 mod filter_count;
 mod filter_map;
+mod kept_metadata;
 mod lanes;
 mod laws;
 mod lookup;

@@ -1,7 +1,6 @@
 //! What a registry keeps.
 
 ghost use Rattle.std.specs.Prelude.{◌≡◌, ◌<◌, ◌≤◌, ◌+◌, IfOk, IfSome, MatchOption, None, OnErr, OnOk, Some, false, get_or, length, map, reverse, take, true};
-ghost use Rattle.std.specs.Arc.{arc_value};
 ghost use Rattle.std.specs.Option.{option_map};
 ghost use Rattle.tracing_core_requests.specs.Refusals.{or_refused};
 ghost use Rattle.tracing_core_fields.specs.Metadata.{plain_metadata};
@@ -10,8 +9,6 @@ ghost use Rattle.span_registry_layers_store.specs.Copies.{CopyOf};
 ghost use Rattle.span_registry_layers_store.specs.Gives.{EntryGives, FilterGives, ForgetGives, IsNext, IsSettled, SpanGives, clone_gives, close_gives, follow_refusal, give_up_gives, open_refusal};
 ghost use Rattle.span_registry_layers_store.specs.Lanes.{lane_at};
 ghost use Rattle.span_registry_layers_store.specs.SlotLoans.{IsSpanToLend};
-ghost use Rattle.tracing_core_fields.specs.OwnedMetadatas.{owned_plain};
-ghost use Rattle.span_registry_layers_store.specs.KnownMetadatas.{is_known, with_copy};
 ghost use Rattle.span_registry_layers_store.specs.Places.{kin_of};
 ghost use Rattle.span_registry_layers_store.specs.Rising.{IsRising, Rises};
 ghost use Rattle.span_registry_layers_store.specs.Registries.{current_on, kin_in, knows, next_number, plain_registry, plain_span, swept, under, with_span, without_entry};
@@ -21,14 +18,14 @@ ghost use Rattle.span_registry_layers_store.specs.Views.{IsFoundAt, current_unde
 use crate::extensions::Extensions;
 use crate::filter_count::FilterCount;
 use crate::filter_map::{FilterId, FilterMap, TooManyFilters};
+use crate::kept_metadata::KeptMetadata;
 use crate::lanes::{drop_entry, lane_at, push_entry};
 use crate::plain::{closing, current, handles_of, is_member, is_open, parent_of, place_of};
 use crate::record::SpanRecord;
 use crate::span::Span;
 use crate::table::{RegistryTable, copy_lanes, copy_spans};
 use std::alloc::{AllocError, Global};
-use std::sync::Arc;
-use tracing_core_fields::{Id, Metadata, OwnedMetadata};
+use tracing_core_fields::{Id, Metadata};
 use tracing_core_requests::{Attributes, RequestError};
 
 /// Open spans, lane stacks, and the metadata of callsites that spans were made at.
@@ -39,28 +36,8 @@ pub(crate) struct RegistryParts {
     pub(crate) spans: Vec<Span>,
     /// The next span's id; none where all are given.
     pub(crate) next_id: Option<Id>,
-    pub(crate) callsites: Vec<Arc<OwnedMetadata>>,
+    pub(crate) callsites: KeptMetadata,
     pub(crate) filters: FilterCount,
-}
-
-/// The first copy of the metadata, where it is known.
-fn known<'a>(
-    callsites: &'a [Arc<OwnedMetadata>],
-    metadata: &Metadata<'_>,
-) -> Option<&'a Arc<OwnedMetadata>>
-    ensures found { MatchOption result (is_known (plain_metadata metadata.now)
-        (map (λ kept. owned_plain (arc_value kept)) callsites.now) ≡ false) (λ _. is_known (plain_metadata metadata.now)
-        (map (λ kept. owned_plain (arc_value kept)) callsites.now) ≡ true) }
-    ensures copy { IfSome result (λ copy. owned_plain (arc_value copy.now) ≡ plain_metadata metadata.now) }
-{
-    let mut rest = callsites;
-    while let [copy, later @ ..] = rest {
-        if copy.is_same(metadata) {
-            return Some(copy);
-        }
-        rest = later;
-    }
-    None
 }
 
 /// The id after an id, where there is one.
@@ -96,22 +73,6 @@ pub(crate) fn place_to_lend(spans: &[Span], id: Id) -> usize
 }
 
 impl RegistryParts {
-    /// The copy of the metadata that spans share. There is one of all that are alike.
-    fn owned(&mut self, metadata: &Metadata<'_>) -> Result<Arc<OwnedMetadata>, AllocError>
-        ensures copy { IfOk result (λ copy. owned_plain (arc_value copy) ≡ plain_metadata metadata.now) }
-        ensures kept { OnOk result (map (λ kept. owned_plain (arc_value kept)) self.new.callsites.items ≡
-            with_copy (plain_metadata metadata.now) (map (λ kept. owned_plain (arc_value kept))
-            self.old.callsites.items)) }
-        ensures rest { self.new ≡ record self.old { callsites = self.new.callsites } }
-    {
-        if let Some(copy) = known(&self.callsites, metadata) {
-            return Arc::clone(copy);
-        }
-        let copy = Arc::new(self.alloc, OwnedMetadata::new(self.alloc, metadata)?)?;
-        self.callsites.push(Arc::clone(&copy)?)?;
-        Ok(copy)
-    }
-
     /// A copy of the spans and lanes.
     pub(crate) fn table(&self) -> Result<RegistryTable, AllocError>
         ensures { IfOk result (λ copy. CopyOf (plain_registry self.now) copy) }
@@ -267,7 +228,7 @@ impl RegistryParts {
         ensures err { OnErr result (plain_registry self.new ≡ plain_registry self.old) }
         ensures fits { id ≤ 18446744073709551615 }
     {
-        let metadata = self.owned(metadata)?;
+        let metadata = self.callsites.share(metadata)?;
         let kin = SpanRecord {
             id,
             parent,

@@ -20,6 +20,7 @@ ghost use Rattle.span_registry_layers_store.specs.Views.{current_under, mask_of,
 use crate::extensions::ExtensionsMut;
 use crate::filter_count::FilterCount;
 use crate::filter_map::{FilterId, FilterMap, TooManyFilters};
+use crate::kept_metadata::KeptMetadata;
 use crate::lookup::Data;
 use crate::parts::{RegistryParts, place_to_lend};
 use crate::slot::{InsertError, OutputKey, Slot, Tag};
@@ -65,7 +66,7 @@ impl Registry {
                 lanes: Vec::new(alloc),
                 spans: Vec::new(alloc),
                 next_id: Id::from_u64(1),
-                callsites: Vec::new(alloc),
+                callsites: KeptMetadata::new(alloc),
                 filters: FilterCount::new(),
             },
         }

@@ -50,7 +50,7 @@ impl Folder for CountingFolder {
         Ok(())
     }
 
-    fn list(&mut self) -> Result<Vec<Entry>, FolderError> {
+    fn list(&mut self, _prefix: &str) -> Result<Vec<Entry>, FolderError> {
         Ok(Vec::new(self.alloc))
     }
 

@@ -2,18 +2,17 @@
 use Rattle.std.proofs.Common.{◌≡◌, ℕ, ◌+◌, Bool, List, [], ◌∷◌, ◌++◌, length, map, false, Option, Some, None, Ok, Err, Vec, refl, sym, ap, ◌∙◌, subst}
 use Rattle.std.specs.Global.{Global}
 use Rattle.std.proofs.lemmas.List.{length-append}
-use Rattle.tracing_core.specs.Asking.{Each, Registers, Hints, RowAsked}
+use Rattle.tracing_core.specs.Asking.{Each, Registers, Hints, CallsiteAsked}
 use Rattle.tracing_core.specs.Calls.{Call, ReplyTo, CallsiteRegistered, HintAsked, DispatchRegistered}
-use Rattle.tracing_core.specs.Commands.{AddGives, Rebuilt, RegisterGives, RegisterGivesAt, Registered, kept_alike, living, new_row, row_of}
+use Rattle.tracing_core.specs.Commands.{AddGives, Rebuilt, RegisterGives, RegisterGivesAt, Registered, kept_alike, living, new_callsite, callsite_with}
 use Rattle.tracing_core.specs.Defaults.{was_set}
 use Rattle.tracing_core.specs.LaneDefault.TheVariants.{Unset}
 use Rattle.tracing_core.specs.Sound.{IsSound as IsSoundHub}
 use Rattle.tracing_core.specs.Handles.{given_back, given_back_at}
 use Rattle.tracing_core.specs.Interests.{PlainInterest}
 use Rattle.tracing_core.specs.PlainMetadata.{PlainMetadata}
-use Rattle.tracing_core.specs.RegisteredSubscriber.{RegisteredSubscriber}
+use Rattle.tracing_core.specs.Kept.{KeptCallsite, KeptSubscriber}
 use Rattle.tracing_core.specs.RegisterError.TheVariants.{Taken, OutOfMemory}
-use Rattle.tracing_core.specs.RegisteredCallsite.{RegisteredCallsite}
 use Rattle.tracing_core.specs.Lane.{Lane}
 use Rattle.tracing_core.specs.Subscriber.{Ghosts as SubscriberGhosts}
 use Rattle.span_registry_layers.specs.Filter.{Ghosts}
@@ -51,21 +50,21 @@ unfolding Gives
 dispatch_same g x d y moved = moved.gives
 
 -- registering a callsite that isn't known
-pub taken_new : {S : Type 0} (g : SubscriberGhosts S) (t u : Table S HubCallsite) (site : HubCallsite) (k : PlainInterest) → row_of (ghosts.metadata_of site).callsite t.rows ≡ None → RegisterGives g ghosts t site (Ok k) u → Registered g ghosts t site k u
+pub taken_new : {S : Type 0} (g : SubscriberGhosts S) (t u : Table S HubCallsite) (site : HubCallsite) (k : PlainInterest) → callsite_with (ghosts.metadata_of site).callsite t.callsites ≡ None → RegisterGives g ghosts t site (Ok k) u → Registered g ghosts t site k u
 taken_new g t u site k unknown given = subst (λ o. RegisterGivesAt g ghosts t site (kept_alike ghosts (ghosts.metadata_of site) o) (Ok k) u) unknown given
 
-pub never_known : {S : Type 0} (g : SubscriberGhosts S) (t u : Table S HubCallsite) (site back : HubCallsite) → row_of (ghosts.metadata_of site).callsite t.rows ≡ None → RegisterGives g ghosts t site (Err (Taken back)) u → ⊥
+pub never_known : {S : Type 0} (g : SubscriberGhosts S) (t u : Table S HubCallsite) (site back : HubCallsite) → callsite_with (ghosts.metadata_of site).callsite t.callsites ≡ None → RegisterGives g ghosts t site (Err (Taken back)) u → ⊥
 never_known g t u site back unknown given = subst (λ o. RegisterGivesAt g ghosts t site (kept_alike ghosts (ghosts.metadata_of site) o) (Err (Taken back)) u) unknown given
 
 -- one that finds no memory
-pub out_of_memory : {S : Type 0} (g : SubscriberGhosts S) (t u : Table S HubCallsite) (site back : HubCallsite) → row_of (ghosts.metadata_of site).callsite t.rows ≡ None → RegisterGives g ghosts t site (Err (OutOfMemory back)) u → u ≡ t
+pub out_of_memory : {S : Type 0} (g : SubscriberGhosts S) (t u : Table S HubCallsite) (site back : HubCallsite) → callsite_with (ghosts.metadata_of site).callsite t.callsites ≡ None → RegisterGives g ghosts t site (Err (OutOfMemory back)) u → u ≡ t
 out_of_memory g t u site back unknown given = (subst (λ o. RegisterGivesAt g ghosts t site (kept_alike ghosts (ghosts.metadata_of site) o) (Err (OutOfMemory back)) u) unknown given).1
 
 -- with the same callsites and the same hub, all is as it was
 pub unchanged_value : {F : Type 0} (p : TraceParts F) (callsites : Vec Callsite Global) (u : Table (StackValue F) HubCallsite) → callsites.items ≡ p.callsites.items → u ≡ p.hub → value_in (record p { callsites = callsites; hub = u }) ≡ value_in p
 unchanged_value {F = F} p callsites u is same =
     let ts = map plain_thread p.threads.items in
-    ap (λ (h : Table (StackValue F) HubCallsite). value_with (map plain_callsite callsites.items) ts (was_set h.global) p.starved (stack_of p.handle h.entries)) same
+    ap (λ (h : Table (StackValue F) HubCallsite). value_with (map plain_callsite callsites.items) ts (was_set h.global) p.starved (stack_of p.handle h.subscribers)) same
     ∙ ap (λ (cs : List Callsite). value_with (map plain_callsite cs) ts (was_set p.hub.global) p.starved (stack_in p)) is
 
 pub unchanged_sound : {F : Type 0} (g : Ghosts F) (p : TraceParts F) (callsites : Vec Callsite Global) (u : Table (StackValue F) HubCallsite) → IsSound g p → callsites.items ≡ p.callsites.items → u ≡ p.hub → IsSound g (record p { callsites = callsites; hub = u })
@@ -80,35 +79,35 @@ unchanged_sound {F = F} g p callsites u sound is same =
     })
 
 module _ {F : Type 0} (g : Ghosts F) where
-  entries_same : (m : PlainMetadata) (es fs : List (RegisteredSubscriber (StackValue F))) (before after : Option PlainInterest) → Each (Registers (stack_ghosts g) m) before es fs after → fs ≡ es
+  entries_same : (m : PlainMetadata) (es fs : List (KeptSubscriber (StackValue F))) (before after : Option PlainInterest) → Each (Registers (stack_ghosts g) m) before es fs after → fs ≡ es
   entries_same m [] [] before after w = refl
   entries_same m [] (f ∷ fs) before after w = absurd w
   entries_same m (e ∷ es) [] before after w = absurd w
   entries_same m (e ∷ es) (f ∷ fs) before after (j, (k, says, moved, is, joined), rest) =
-      ap (λ (x : RegisteredSubscriber (StackValue F)). x ∷ fs) (is ∙ ap (λ (s : StackValue F). record e { subscriber = s }) (register_same g e.subscriber m k f.subscriber moved))
-      ∙ ap (λ (xs : List (RegisteredSubscriber (StackValue F))). e ∷ xs) (entries_same m es fs j after rest)
+      ap (λ (x : KeptSubscriber (StackValue F)). x ∷ fs) (is ∙ ap (λ (s : StackValue F). record e { subscriber = s }) (register_same g e.subscriber m k f.subscriber moved))
+      ∙ ap (λ (xs : List (KeptSubscriber (StackValue F))). e ∷ xs) (entries_same m es fs j after rest)
 
-  pub row_same : (h : SiteGhosts HubCallsite) (es fs : List (RegisteredSubscriber (StackValue F))) (row later : RegisteredCallsite HubCallsite) → RowAsked (stack_ghosts g) h es row later fs → fs ≡ es
+  pub row_same : (h : SiteGhosts HubCallsite) (es fs : List (KeptSubscriber (StackValue F))) (row later : KeptCallsite HubCallsite) → CallsiteAsked (stack_ghosts g) h es row later fs → fs ≡ es
   row_same h es fs row later w = entries_same (h.metadata_of row.callsite) es fs None w.0.0 w.0.1
 
-  pub registered_same : (h : SiteGhosts HubCallsite) (t u : Table (StackValue F) HubCallsite) (site : HubCallsite) (k : PlainInterest) → Registered (stack_ghosts g) h t site k u → u.entries ≡ t.entries
-  registered_same h t u site k w = row_same h t.entries u.entries (new_row h site) w.row w.asked
+  pub registered_same : (h : SiteGhosts HubCallsite) (t u : Table (StackValue F) HubCallsite) (site : HubCallsite) (k : PlainInterest) → Registered (stack_ghosts g) h t site k u → u.subscribers ≡ t.subscribers
+  registered_same h t u site k w = row_same h t.subscribers u.subscribers (new_callsite h site) w.row w.asked
 
-  rows_same : (h : SiteGhosts HubCallsite) (es fs : List (RegisteredSubscriber (StackValue F))) (rows later : List (RegisteredCallsite HubCallsite)) → Each (RowAsked (stack_ghosts g) h) es rows later fs → fs ≡ es
+  rows_same : (h : SiteGhosts HubCallsite) (es fs : List (KeptSubscriber (StackValue F))) (rows later : List (KeptCallsite HubCallsite)) → Each (CallsiteAsked (stack_ghosts g) h) es rows later fs → fs ≡ es
   rows_same h es fs [] [] w = w
   rows_same h es fs [] (r ∷ rs) w = absurd w
   rows_same h es fs (r ∷ rs) [] w = absurd w
   rows_same h es fs (r ∷ rs) (s ∷ ss) (j, asked, rest) = rows_same h j fs rs ss rest ∙ row_same h es j r s asked
 
-  hints_one : (e : RegisteredSubscriber (StackValue F)) (fs : List (RegisteredSubscriber (StackValue F))) (before after : ℕ) → Each (Hints (stack_ghosts g)) before (e ∷ []) fs after → fs ≡ (record e { lent = false }) ∷ []
+  hints_one : (e : KeptSubscriber (StackValue F)) (fs : List (KeptSubscriber (StackValue F))) (before after : ℕ) → Each (Hints (stack_ghosts g)) before (e ∷ []) fs after → fs ≡ (record e { lent = false }) ∷ []
   hints_one e [] before after w = absurd w
   hints_one e (f ∷ []) before after (j, (moved, is, level), rest) =
-      ap (λ (x : RegisteredSubscriber (StackValue F)). x ∷ []) (is ∙ ap (λ (s : StackValue F). record e { lent = false; subscriber = s }) (hint_same g e.subscriber _ f.subscriber moved))
+      ap (λ (x : KeptSubscriber (StackValue F)). x ∷ []) (is ∙ ap (λ (s : StackValue F). record e { lent = false; subscriber = s }) (hint_same g e.subscriber _ f.subscriber moved))
   hints_one e (f ∷ (d ∷ ds)) before after (j, hint, rest) = absurd rest
 
   -- the stack after a rebuild that it alone was asked in
-  pub rebuilt_one : (h : SiteGhosts HubCallsite) (t u : Table (StackValue F) HubCallsite) (e : RegisteredSubscriber (StackValue F)) → t.entries ≡ e ∷ [] → Rebuilt (stack_ghosts g) h t u → u.entries ≡ (record e { lent = false }) ∷ []
-  rebuilt_one h t u e one w = hints_one e u.entries 0 u.greatest (subst (λ es. Each (Hints (stack_ghosts g)) 0 es u.entries u.greatest) (rows_same h t.entries w.asked t.rows u.rows w.rows ∙ one) w.hints)
+  pub rebuilt_one : (h : SiteGhosts HubCallsite) (t u : Table (StackValue F) HubCallsite) (e : KeptSubscriber (StackValue F)) → t.subscribers ≡ e ∷ [] → Rebuilt (stack_ghosts g) h t u → u.subscribers ≡ (record e { lent = false }) ∷ []
+  rebuilt_one h t u e one w = hints_one e u.subscribers 0 u.greatest (subst (λ es. Each (Hints (stack_ghosts g)) 0 es u.subscribers u.greatest) (rows_same h t.subscribers w.asked t.callsites u.callsites w.callsites ∙ one) w.hints)
 
 length_more : {A : Type 0} (xs : List A) (x : A) → length (xs ++ x ∷ []) ≡ length xs + 1
 length_more xs x = length-append xs (x ∷ [])
@@ -123,16 +122,16 @@ lane_more {F = F} p threads u t ls marks is rest =
     let cs = map plain_callsite p.callsites.items in
     let ts = map plain_thread p.threads.items in
     let old = value_in p in
-    ap (λ (h : Table (StackValue F) HubCallsite). value_with cs (map plain_thread threads.items) (was_set h.global) p.starved (stack_of p.handle h.entries)) rest
+    ap (λ (h : Table (StackValue F) HubCallsite). value_with cs (map plain_thread threads.items) (was_set h.global) p.starved (stack_of p.handle h.subscribers)) rest
     ∙ ap (λ (xs : List PlainThread). value_with cs xs (was_set p.hub.global) p.starved (stack_in p)) (ap (map plain_thread) is ∙ map_more plain_thread p.threads.items t)
     ∙ ap (λ (lanes : ℕ). record old { skeleton = record (old.skeleton) { lanes = lanes }; threads = ts ++ plain_thread t ∷ [] }) (length_more ts (plain_thread t))
 
 -- one callsite more
-pub callsite_more : {F : Type 0} (p : TraceParts F) (callsites : Vec Callsite Global) (u : Table (StackValue F) HubCallsite) (c : Callsite) (rows : List (RegisteredCallsite HubCallsite)) → callsites.items ≡ p.callsites.items ++ c ∷ [] → u.entries ≡ p.hub.entries → u ≡ record (p.hub) { entries = u.entries; rows = rows } →
+pub callsite_more : {F : Type 0} (p : TraceParts F) (callsites : Vec Callsite Global) (u : Table (StackValue F) HubCallsite) (c : Callsite) (rows : List (KeptCallsite HubCallsite)) → callsites.items ≡ p.callsites.items ++ c ∷ [] → u.subscribers ≡ p.hub.subscribers → u ≡ record (p.hub) { subscribers = u.subscribers; callsites = rows } →
     value_in (record p { callsites = callsites; hub = u }) ≡ record (value_in p) { skeleton = record ((value_in p).skeleton) { callsites = (value_in p).skeleton.callsites ++ plain_callsite c ∷ [] } }
 callsite_more {F = F} p callsites u c rows is same rest =
     let ts = map plain_thread p.threads.items in
-    ap (λ (es : List (RegisteredSubscriber (StackValue F))). value_with (map plain_callsite callsites.items) ts (was_set u.global) p.starved (stack_of p.handle es)) same
+    ap (λ (es : List (KeptSubscriber (StackValue F))). value_with (map plain_callsite callsites.items) ts (was_set u.global) p.starved (stack_of p.handle es)) same
     ∙ ap (λ (h : Table (StackValue F) HubCallsite). value_with (map plain_callsite callsites.items) ts (was_set h.global) p.starved (stack_in p)) rest
     ∙ ap (λ (cs : List PlainCallsite). value_with cs ts (was_set p.hub.global) p.starved (stack_in p)) (ap (map plain_callsite) is ∙ map_more plain_callsite p.callsites.items c)
 
@@ -145,17 +144,17 @@ module _ {F : Type 0} (g : Ghosts F) where
   pub sound_more : (p : TraceParts F) (callsites : Vec Callsite Global) (u : Table (StackValue F) HubCallsite) (c : Callsite) (site : HubCallsite) (k : PlainInterest) → IsSound g p → callsites.items ≡ p.callsites.items ++ c ∷ [] → plain_callsite site.callsite ≡ plain_callsite c → Registered (stack_ghosts g) ghosts p.hub site k u → IsSoundHub ghosts u →
       IsSound g (record p { callsites = callsites; hub = u }) × StackSays g (stack_in p) (own_metadata c) k
   sound_more p callsites u c site k sound is same w hub =
-      let one = only_one p.handle p.hub.global p.hub.entries sound.only in
-      let stack = only_stack p.handle p.hub.global p.hub.entries sound.only in
+      let one = only_one p.handle p.hub.global p.hub.subscribers sound.only in
+      let stack = only_stack p.handle p.hub.global p.hub.subscribers sound.only in
       let entries = registered_same g ghosts p.hub u site k w in
       let rest = w.kept in
       let taken = registered_keeps g p.hub u p.callsites.items c site k one (own_same site.callsite c same) w (subst (λ o. HubHasCallsites g o p.callsites.items p.hub) stack sound.kept) in
-      let still = ap (λ (es : List (RegisteredSubscriber (StackValue F))). stack_of p.handle es) entries in (
+      let still = ap (λ (es : List (KeptSubscriber (StackValue F))). stack_of p.handle es) entries in (
         record {
-          only = subst (λ (h : Table (StackValue F) HubCallsite). HasOnly p.handle h.global u.entries) (sym rest) (subst (λ es. HasOnly p.handle p.hub.global es) (sym entries) sound.only);
+          only = subst (λ (h : Table (StackValue F) HubCallsite). HasOnly p.handle h.global u.subscribers) (sym rest) (subst (λ es. HasOnly p.handle p.hub.global es) (sym entries) sound.only);
           lanes = ap (λ (h : Table (StackValue F) HubCallsite). h.lanes) rest ∙ sound.lanes;
           hub = hub;
-          kept = subst (λ (cs : List Callsite). HubHasCallsites g (stack_of p.handle u.entries) cs u) (sym is) (subst (λ o. HubHasCallsites g o (p.callsites.items ++ c ∷ []) u) (sym (still ∙ stack)) taken.0);
+          kept = subst (λ (cs : List Callsite). HubHasCallsites g (stack_of p.handle u.subscribers) cs u) (sym is) (subst (λ o. HubHasCallsites g o (p.callsites.items ++ c ∷ []) u) (sym (still ∙ stack)) taken.0);
           honest = subst (IsHonest g) (sym still) sound.honest;
         },
         subst (λ o. StackSays g o (own_metadata c) k) (sym stack) taken.1,
@@ -166,20 +165,20 @@ module _ {F : Type 0} (g : Ghosts F) where
   first_stack p u s d sound none honest gives hub =
       let z = gives.1.0 in
       let e = living p.hub.next z in
-      let before = subst (λ o. HasOnly o p.hub.global p.hub.entries) none sound.only in
-      let one : p.hub.entries ++ e ∷ [] ≡ e ∷ [] = ap (λ (es : List (RegisteredSubscriber (StackValue F))). es ++ e ∷ []) before.0 in
-      let with_it : Table (StackValue F) HubCallsite = record (p.hub) { entries = p.hub.entries ++ e ∷ []; next = p.hub.next + 1 } in
-      let rebuilt = all_asked (stack_ghosts g) ghosts with_it u (subst (λ (es : List (RegisteredSubscriber (StackValue F))). AreLent es) (sym one) (refl, tt)) gives.1.2 in
+      let before = subst (λ o. HasOnly o p.hub.global p.hub.subscribers) none sound.only in
+      let one : p.hub.subscribers ++ e ∷ [] ≡ e ∷ [] = ap (λ (es : List (KeptSubscriber (StackValue F))). es ++ e ∷ []) before.0 in
+      let with_it : Table (StackValue F) HubCallsite = record (p.hub) { subscribers = p.hub.subscribers ++ e ∷ []; next = p.hub.next + 1 } in
+      let rebuilt = all_asked (stack_ghosts g) ghosts with_it u (subst (λ (es : List (KeptSubscriber (StackValue F))). AreLent es) (sym one) (refl, tt)) gives.1.2 in
       let left = rebuilt_one g ghosts with_it u e one rebuilt in
-      let last : RegisteredSubscriber (StackValue F) = record e { lent = false } in
+      let last : KeptSubscriber (StackValue F) = record e { lent = false } in
       let same = dispatch_same g s (Some p.hub.next) z gives.1.1 in
       let global : u.global ≡ p.hub.global = ap (λ (t : Table (StackValue F) HubCallsite). t.global) rebuilt.rest in
       let stack =
-      ap (λ (n : Option ℕ). stack_of (Some n) u.entries) gives.0 ∙ ap (λ (es : List (RegisteredSubscriber (StackValue F))). stack_of (Some (Some p.hub.next)) es) left
-      ∙ ap (λ (o : Option (RegisteredSubscriber (StackValue F))). option_map (λ (x : RegisteredSubscriber (StackValue F)). x.subscriber) o) (found last)
+      ap (λ (n : Option ℕ). stack_of (Some n) u.subscribers) gives.0 ∙ ap (λ (es : List (KeptSubscriber (StackValue F))). stack_of (Some (Some p.hub.next)) es) left
+      ∙ ap (λ (o : Option (KeptSubscriber (StackValue F))). option_map (λ (x : KeptSubscriber (StackValue F)). x.subscriber) o) (found last)
       ∙ ap (λ (x : StackValue F). Some x) same in
       let kept = rebuilt_keeps g (row_same g ghosts) with_it u p.callsites.items (subst IsOneAtMost (sym one) tt) rebuilt sound.kept.numbers sound.kept.metadata in
-      let there : stack_of (Some d) u.entries ≡ stack_at (p.hub.entries ++ e ∷ []) =
+      let there : stack_of (Some d) u.subscribers ≡ stack_at (p.hub.subscribers ++ e ∷ []) =
       stack ∙ ap (λ (x : StackValue F). Some x) (sym same) ∙ sym (ap stack_at one) in
       record {
         owns = (last, left, gives.0, refl);
@@ -195,26 +194,26 @@ module _ {F : Type 0} (g : Ghosts F) where
         global = global;
       }
 
-  rebuilt_none : (t u : Table (StackValue F) HubCallsite) → t.entries ≡ [] → Rebuilt (stack_ghosts g) ghosts t u → u.entries ≡ []
-  rebuilt_none t u none w = hints_none u.entries (subst (λ es. Each (Hints (stack_ghosts g)) 0 es u.entries u.greatest) (rows_same g ghosts t.entries w.asked t.rows u.rows w.rows ∙ none) w.hints)
+  rebuilt_none : (t u : Table (StackValue F) HubCallsite) → t.subscribers ≡ [] → Rebuilt (stack_ghosts g) ghosts t u → u.subscribers ≡ []
+  rebuilt_none t u none w = hints_none u.subscribers (subst (λ es. Each (Hints (stack_ghosts g)) 0 es u.subscribers u.greatest) (rows_same g ghosts t.subscribers w.asked t.callsites u.callsites w.callsites ∙ none) w.hints)
     where
-      hints_none : (fs : List (RegisteredSubscriber (StackValue F))) → Each (Hints (stack_ghosts g)) 0 [] fs u.greatest → fs ≡ []
+      hints_none : (fs : List (KeptSubscriber (StackValue F))) → Each (Hints (stack_ghosts g)) 0 [] fs u.greatest → fs ≡ []
       hints_none [] each = refl
       hints_none (f ∷ fs) each = absurd each
 
   -- the hub without a stack, after a rebuild
-  pub emptied : (p : TraceParts F) (u : Table (StackValue F) HubCallsite) → IsSound g p → p.hub.global ≡ Unset → Rebuilt (stack_ghosts g) ghosts (record (p.hub) { entries = [] }) u → IsSoundHub ghosts u → IsSound g (record p { handle = None; hub = u })
+  pub emptied : (p : TraceParts F) (u : Table (StackValue F) HubCallsite) → IsSound g p → p.hub.global ≡ Unset → Rebuilt (stack_ghosts g) ghosts (record (p.hub) { subscribers = [] }) u → IsSoundHub ghosts u → IsSound g (record p { handle = None; hub = u })
   emptied p u sound unset w hub = record {
-    only = (rebuilt_none (record (p.hub) { entries = [] }) u refl w, ap (λ (t : Table (StackValue F) HubCallsite). t.global) w.rest ∙ unset);
+    only = (rebuilt_none (record (p.hub) { subscribers = [] }) u refl w, ap (λ (t : Table (StackValue F) HubCallsite). t.global) w.rest ∙ unset);
     lanes = ap (λ (t : Table (StackValue F) HubCallsite). t.lanes) w.rest ∙ sound.lanes;
     hub = hub;
-    kept = rebuilt_keeps g (row_same g ghosts) (record (p.hub) { entries = [] }) u p.callsites.items tt w sound.kept.numbers sound.kept.metadata;
+    kept = rebuilt_keeps g (row_same g ghosts) (record (p.hub) { subscribers = [] }) u p.callsites.items tt w sound.kept.numbers sound.kept.metadata;
     honest = tt;
   }
 
 -- the one handle that is given back
-pub given_one : {F : Type 0} (dispatch : Option ℕ) (es : List (RegisteredSubscriber (StackValue F))) → OwnsOne (Some dispatch) es → (given_back dispatch es).1 ≡ []
+pub given_one : {F : Type 0} (dispatch : Option ℕ) (es : List (KeptSubscriber (StackValue F))) → OwnsOne (Some dispatch) es → (given_back dispatch es).1 ≡ []
 given_one {F = F} dispatch es owns =
     let e = owns.0 in
-    ap (λ d. (given_back d es).1) owns.2 ∙ ap (λ (xs : List (RegisteredSubscriber (StackValue F))). (given_back (Some e.serial) xs).1) owns.1
-    ∙ ap (λ (o : Option (RegisteredSubscriber (StackValue F))). (given_back_at e.serial (e ∷ []) o).1) (found e) ∙ let last = owns.3 in rw (last, same_number e.serial) refl
+    ap (λ d. (given_back d es).1) owns.2 ∙ ap (λ (xs : List (KeptSubscriber (StackValue F))). (given_back (Some e.serial) xs).1) owns.1
+    ∙ ap (λ (o : Option (KeptSubscriber (StackValue F))). (given_back_at e.serial (e ∷ []) o).1) (found e) ∙ let last = owns.3 in rw (last, same_number e.serial) refl

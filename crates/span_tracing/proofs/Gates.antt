@@ -8,16 +8,15 @@ use Rattle.tracing_core.specs.Asking.{level_of}
 use Rattle.tracing_core.specs.At.{At}
 use Rattle.tracing_core.specs.Calls.{Asked}
 use Rattle.tracing_core.specs.Defaults.{was_set}
-use Rattle.tracing_core.specs.Commands.{AnswerGives, AskGivesAt, GateGives, GateGivesAt, becomes, is_at, known, known_by, reached, row_of}
-use Rattle.tracing_core.specs.Handles.{changed, entry_of}
+use Rattle.tracing_core.specs.Commands.{AnswerGives, AskGivesAt, GateGives, GateGivesAt, becomes, is_at, known, known_by, reached, callsite_with}
+use Rattle.tracing_core.specs.Handles.{changed, subscriber_with}
 use Rattle.tracing_core.specs.Interests.{PlainInterest}
 use Rattle.tracing_core.specs.InterestInner.TheVariants.{Never, Sometimes, Always}
 use Rattle.tracing_core.specs.Lists.{Every}
-use Rattle.tracing_core.specs.ValidCaches.{IsTrueRow}
+use Rattle.tracing_core.specs.ValidCaches.{IsTrueCallsite}
 use Rattle.tracing_core.specs.Level.{IsRank}
 use Rattle.tracing_core.specs.PlainMetadata.{PlainMetadata}
-use Rattle.tracing_core.specs.RegisteredCallsite.{RegisteredCallsite}
-use Rattle.tracing_core.specs.RegisteredSubscriber.{RegisteredSubscriber}
+use Rattle.tracing_core.specs.Kept.{KeptCallsite, KeptSubscriber}
 use Rattle.tracing_core.specs.Sound.{identifiers}
 use Rattle.tracing_core.specs.Steady.{HintFits, IsReal}
 use Rattle.tracing_core.specs.Lane.TheVariants.{Running}
@@ -95,14 +94,14 @@ module _ {F : Type 0} (g : Ghosts F) where
       by_level false e is = inr (λ c a. above (g.hint f) m.level greatest c ((g.fair f honest).below m v c a) top real e ∙ (let e : false ≡ b = cc in e))
 
   -- what is kept of a callsite that is known, and nothing of one that isn't
-  abbrev pub RowFits : Option (StackValue F) → Option PlainCallsite → Option (RegisteredCallsite HubCallsite) → Type 0
+  abbrev pub RowFits : Option (StackValue F) → Option PlainCallsite → Option (KeptCallsite HubCallsite) → Type 0
   RowFits stack None None = Unit {0}
   RowFits stack None (Some row) = ⊥
   RowFits stack (Some c) None = ⊥
   RowFits stack (Some c) (Some row) = StackSays g stack (made_with c) row.interest × (own_metadata row.callsite.callsite ≡ made_with c) × (row.level ≡ c.metadata.level) × IsReal (made_with c)
 
-  rows_fit : (stack : Option (StackValue F)) (cs : List Callsite) (rows : List (RegisteredCallsite HubCallsite)) (number : ℕ) → identifiers rows ≡ map (λ (c : Callsite). c.number) cs → map (λ (row : RegisteredCallsite HubCallsite). own_metadata row.callsite.callsite) rows ≡ map own_metadata cs →
-      Every (λ (row : RegisteredCallsite HubCallsite). StackSays g stack (own_metadata row.callsite.callsite) row.interest) rows → Every (IsTrueRow ghosts) rows → RowFits stack (first_of (map plain_callsite cs) number) (row_of number rows)
+  rows_fit : (stack : Option (StackValue F)) (cs : List Callsite) (rows : List (KeptCallsite HubCallsite)) (number : ℕ) → identifiers rows ≡ map (λ (c : Callsite). c.number) cs → map (λ (row : KeptCallsite HubCallsite). own_metadata row.callsite.callsite) rows ≡ map own_metadata cs →
+      Every (λ (row : KeptCallsite HubCallsite). StackSays g stack (own_metadata row.callsite.callsite) row.interest) rows → Every (IsTrueCallsite ghosts) rows → RowFits stack (first_of (map plain_callsite cs) number) (callsite_with number rows)
   rows_fit stack [] [] number n m k all = tt
   rows_fit stack [] (row ∷ rows) number n m k all = absurd (cc)
   rows_fit stack (c ∷ cs) [] number n m k all = absurd (cc)
@@ -115,7 +114,7 @@ module _ {F : Type 0} (g : Ghosts F) where
       let rest = rows_fit stack cs rows number (cc) (cc) k.1 all.1 in
       by_test same (interest, metadata, level, real) rest (c.number == number) refl
     where
-      by_test : row.identifier ≡ c.number → RowFits stack (Some (plain_callsite c)) (Some row) → RowFits stack (first_of (map plain_callsite cs) number) (row_of number rows) → (b : Bool) → (c.number == number) ≡ b → RowFits stack (first_of (map plain_callsite (c ∷ cs)) number) (row_of number (row ∷ rows))
+      by_test : row.identifier ≡ c.number → RowFits stack (Some (plain_callsite c)) (Some row) → RowFits stack (first_of (map plain_callsite cs) number) (callsite_with number rows) → (b : Bool) → (c.number == number) ≡ b → RowFits stack (first_of (map plain_callsite (c ∷ cs)) number) (callsite_with number (row ∷ rows))
       by_test same here rest true e =
           let there : is_at number row ≡ true = ap (λ n. n == number) same ∙ e in
           rw (e, there) here
@@ -123,10 +122,10 @@ module _ {F : Type 0} (g : Ghosts F) where
           let away : is_at number row ≡ false = ap (λ n. n == number) same ∙ e in
           rw (e, away) rest
 
-  pub row_fits : (p : TraceParts F) (number : ℕ) → IsSound g p → RowFits (stack_in p) (callsite_named (map plain_callsite p.callsites.items) number) (row_of number p.hub.rows)
+  pub row_fits : (p : TraceParts F) (number : ℕ) → IsSound g p → RowFits (stack_in p) (callsite_named (map plain_callsite p.callsites.items) number) (callsite_with number p.hub.callsites)
   row_fits p number sound =
-      subst (λ o. RowFits (stack_in p) o (row_of number p.hub.rows)) (sym (named_first (map plain_callsite p.callsites.items) number))
-      (rows_fit (stack_in p) p.callsites.items p.hub.rows number sound.kept.numbers sound.kept.metadata sound.kept.interests sound.hub.sites)
+      subst (λ o. RowFits (stack_in p) o (callsite_with number p.hub.callsites)) (sym (named_first (map plain_callsite p.callsites.items) number))
+      (rows_fit (stack_in p) p.callsites.items p.hub.callsites number sound.kept.numbers sound.kept.metadata sound.kept.interests sound.hub.sites)
 
   -- what a stack says its filter says, or there is none
   pub stack_says : (stack : Option (StackValue F)) (m : PlainMetadata) (k : PlainInterest) → StackSays g stack m k → Says g (filter_at stack) m k
@@ -134,14 +133,14 @@ module _ {F : Type 0} (g : Ghosts F) where
   stack_says (Some x) m k w = says_by g x.filter m k w
 
   -- the interest that is kept of a callsite
-  pub interest_known : (stack : Option (StackValue F)) (c : Option PlainCallsite) (row : Option (RegisteredCallsite HubCallsite)) → RowFits stack c row → is_some (option_map (λ (r : RegisteredCallsite HubCallsite). r.interest) row) ≡ is_some c
+  pub interest_known : (stack : Option (StackValue F)) (c : Option PlainCallsite) (row : Option (KeptCallsite HubCallsite)) → RowFits stack c row → is_some (option_map (λ (r : KeptCallsite HubCallsite). r.interest) row) ≡ is_some c
   interest_known stack None None fits = refl
   interest_known stack None (Some row) fits = absurd fits
   interest_known stack (Some c) None fits = absurd fits
   interest_known stack (Some c) (Some row) fits = refl
 
-  pub interest_says : (stack : Option (StackValue F)) (c : Option PlainCallsite) (row : Option (RegisteredCallsite HubCallsite)) → RowFits stack c row →
-      IfSome (option_map (λ (r : RegisteredCallsite HubCallsite). r.interest) row) (λ k. (site : PlainCallsite) → c ≡ Some site → Says g (filter_at stack) (made_with site) k)
+  pub interest_says : (stack : Option (StackValue F)) (c : Option PlainCallsite) (row : Option (KeptCallsite HubCallsite)) → RowFits stack c row →
+      IfSome (option_map (λ (r : KeptCallsite HubCallsite). r.interest) row) (λ k. (site : PlainCallsite) → c ≡ Some site → Says g (filter_at stack) (made_with site) k)
   interest_says stack None None fits = tt
   interest_says stack None (Some row) fits = absurd fits
   interest_says stack (Some c) None fits = absurd fits
@@ -154,12 +153,12 @@ own_unset (suc n) zero h = refl
 own_unset (suc n) (suc lane) h = own_unset n lane (omega arith)
 
 -- where a global default is set, it is the one stack
-pub record Reaches {F : Type 0} (handle : Option (Option ℕ)) (global : LaneDefault) (entries : List (RegisteredSubscriber (StackValue F))) : Type 0 where
-  pub entry : RegisteredSubscriber (StackValue F)
+pub record Reaches {F : Type 0} (handle : Option (Option ℕ)) (global : LaneDefault) (entries : List (KeptSubscriber (StackValue F))) : Type 0 where
+  pub entry : KeptSubscriber (StackValue F)
   pub one : entries ≡ entry ∷ []
   pub leads : chosen (effective Unset global) ≡ Some entry.serial
 
-pub reached_at : {F : Type 0} (handle : Option (Option ℕ)) (global : LaneDefault) (entries : List (RegisteredSubscriber (StackValue F))) → HasOnly handle global entries → was_set global ≡ true → Reaches handle global entries
+pub reached_at : {F : Type 0} (handle : Option (Option ℕ)) (global : LaneDefault) (entries : List (KeptSubscriber (StackValue F))) → HasOnly handle global entries → was_set global ≡ true → Reaches handle global entries
 reached_at None global entries only set = absurd (true≢false (sym set ∙ ap was_set only.1))
 reached_at (Some dispatch) Unset entries only set = absurd (cc)
 reached_at (Some dispatch) Nothing entries only set = absurd only.4
@@ -175,11 +174,11 @@ module _ {F : Type 0} (g : Ghosts F) where
   unfolding Gives
   asked_same x m at r y moved = (moved.gives.1, moved.gives.0)
 
-  changed_same : (e : RegisteredSubscriber (StackValue F)) (y : StackValue F) → y ≡ e.subscriber → changed e.serial (becomes y) (e ∷ []) ≡ e ∷ []
+  changed_same : (e : KeptSubscriber (StackValue F)) (y : StackValue F) → y ≡ e.subscriber → changed e.serial (becomes y) (e ∷ []) ≡ e ∷ []
   changed_same e y is = rw (Rattle.span_tracing.proofs.Handed.same_number e.serial) (ap (λ (s : StackValue F). (record e { subscriber = s }) ∷ []) is)
 
   -- the hub answers what is known, or asks the stack
-  answered : (e : RegisteredSubscriber (StackValue F)) (row : RegisteredCallsite HubCallsite) (at : At) (c : PlainCallsite) (greatest : ℕ) (o : Option Bool) (answer : Bool) (fs : List (RegisteredSubscriber (StackValue F))) → HonestBy g e.subscriber.filter → RowFits g (Some e.subscriber) (Some c) (Some row) →
+  answered : (e : KeptSubscriber (StackValue F)) (row : KeptCallsite HubCallsite) (at : At) (c : PlainCallsite) (greatest : ℕ) (o : Option Bool) (answer : Bool) (fs : List (KeptSubscriber (StackValue F))) → HonestBy g e.subscriber.filter → RowFits g (Some e.subscriber) (Some c) (Some row) →
       greatest ≡ level_of (hint_by g e.subscriber.filter) → known greatest row.level row.interest ≡ o → AnswerGives (stack_ghosts g) ghosts row at o (Some e.serial) (e ∷ []) answer fs →
       (fs ≡ e ∷ []) × WouldPass g e.subscriber.filter (made_with c) (view_in e.subscriber.registry at) answer
   answered e row at c greatest (Some b) answer fs honest fits top is w =
@@ -193,7 +192,7 @@ module _ {F : Type 0} (g : Ghosts F) where
       )
 
   -- where the stack is reached
-  gate_reached : (e : RegisteredSubscriber (StackValue F)) (t u : Table (StackValue F) HubCallsite) (at : At) (c : Option PlainCallsite) (row : Option (RegisteredCallsite HubCallsite)) (result : Option Bool) → t.entries ≡ e ∷ [] → reached t at.lane ≡ Some e.serial → HonestBy g e.subscriber.filter → RowFits g (Some e.subscriber) c row →
+  gate_reached : (e : KeptSubscriber (StackValue F)) (t u : Table (StackValue F) HubCallsite) (at : At) (c : Option PlainCallsite) (row : Option (KeptCallsite HubCallsite)) (result : Option Bool) → t.subscribers ≡ e ∷ [] → reached t at.lane ≡ Some e.serial → HonestBy g e.subscriber.filter → RowFits g (Some e.subscriber) c row →
       t.greatest ≡ level_of (hint_by g e.subscriber.filter) → GateGivesAt (stack_ghosts g) ghosts t row at result u →
       (u ≡ t) × AskedOf true c (λ c b. WouldPass g e.subscriber.filter (made_with c) (view_in e.subscriber.registry at) b) (mask_by result)
   gate_reached e t u at None None result one leads honest fits top w = (w.1, ap mask_by w.0)
@@ -201,11 +200,11 @@ module _ {F : Type 0} (g : Ghosts F) where
   gate_reached e t u at (Some c) None result one leads honest fits top w = absurd fits
   gate_reached e t u at (Some c) (Some row) result one leads honest fits top w =
       let answer = w.0.0 in
-      let asked : AnswerGives (stack_ghosts g) ghosts row at (known t.greatest row.level row.interest) (Some e.serial) (e ∷ []) answer u.entries =
-      subst (λ es. AnswerGives (stack_ghosts g) ghosts row at (known t.greatest row.level row.interest) (Some e.serial) es answer u.entries) one
-      (subst (λ o. AnswerGives (stack_ghosts g) ghosts row at (known t.greatest row.level row.interest) o t.entries answer u.entries) leads w.0.2) in
-      let given = answered e row at c t.greatest (known t.greatest row.level row.interest) answer u.entries honest fits top refl asked in (
-        w.1 ∙ ap (λ (es : List (RegisteredSubscriber (StackValue F))). record t { entries = es }) (given.0 ∙ sym one),
+      let asked : AnswerGives (stack_ghosts g) ghosts row at (known t.greatest row.level row.interest) (Some e.serial) (e ∷ []) answer u.subscribers =
+      subst (λ es. AnswerGives (stack_ghosts g) ghosts row at (known t.greatest row.level row.interest) (Some e.serial) es answer u.subscribers) one
+      (subst (λ o. AnswerGives (stack_ghosts g) ghosts row at (known t.greatest row.level row.interest) o t.subscribers answer u.subscribers) leads w.0.2) in
+      let given = answered e row at c t.greatest (known t.greatest row.level row.interest) answer u.subscribers honest fits top refl asked in (
+        w.1 ∙ ap (λ (es : List (KeptSubscriber (StackValue F))). record t { subscribers = es }) (given.0 ∙ sym one),
         (answer, given.1, ap mask_by w.0.1),
       )
 
@@ -213,12 +212,12 @@ module _ {F : Type 0} (g : Ghosts F) where
   pub gate_tells : (p : TraceParts F) (u : Table (StackValue F) HubCallsite) (number : ℕ) (at : At) (result : Option Bool) → IsSound g p → at.lane < length p.threads.items → was_set p.hub.global ≡ true → GateGives (stack_ghosts g) ghosts p.hub number at result u →
       (u ≡ p.hub) × AskedOf true (callsite_named (map plain_callsite p.callsites.items) number) (λ c b. WouldPass g (filter_at (stack_in p)) (made_with c) (view_in (registry_in (stack_in p)) at) b) (mask_by result)
   gate_tells p u number at result sound within set gives =
-      let there = reached_at p.handle p.hub.global p.hub.entries sound.only set in
+      let there = reached_at p.handle p.hub.global p.hub.subscribers sound.only set in
       let e = there.entry in
-      let stack : stack_in p ≡ Some e.subscriber = only_stack p.handle p.hub.global p.hub.entries sound.only ∙ ap stack_at there.one in
-      let told = gate_reached e p.hub u at (callsite_named (map plain_callsite p.callsites.items) number) (row_of number p.hub.rows) result there.one (reached_by_global p at.lane sound within ∙ there.leads)
+      let stack : stack_in p ≡ Some e.subscriber = only_stack p.handle p.hub.global p.hub.subscribers sound.only ∙ ap stack_at there.one in
+      let told = gate_reached e p.hub u at (callsite_named (map plain_callsite p.callsites.items) number) (callsite_with number p.hub.callsites) result there.one (reached_by_global p at.lane sound within ∙ there.leads)
       (subst (IsHonest g) stack sound.honest)
-      (subst (λ o. RowFits g o (callsite_named (map plain_callsite p.callsites.items) number) (row_of number p.hub.rows)) stack (row_fits g p number sound))
+      (subst (λ o. RowFits g o (callsite_named (map plain_callsite p.callsites.items) number) (callsite_with number p.hub.callsites)) stack (row_fits g p number sound))
       (sound.kept.greatest ∙ ap (greatest_of g) stack) gives in (
         told.0,
         subst (λ (o : Option (StackValue F)). AskedOf true (callsite_named (map plain_callsite p.callsites.items) number) (λ c b. WouldPass g (filter_at o) (made_with c) (view_in (registry_in o) at) b) (mask_by result)) (sym stack) told.1,
@@ -227,14 +226,14 @@ module _ {F : Type 0} (g : Ghosts F) where
   -- where a request at a callsite is let through, there is a stack
   pub asked_stack : (p : TraceParts F) → IsSound g p → was_set p.hub.global ≡ true → is_some (stack_in p) ≡ true
   asked_stack p sound set =
-      let there = reached_at p.handle p.hub.global p.hub.entries sound.only set in
-      ap is_some (only_stack p.handle p.hub.global p.hub.entries sound.only ∙ ap stack_at there.one)
+      let there = reached_at p.handle p.hub.global p.hub.subscribers sound.only set in
+      ap is_some (only_stack p.handle p.hub.global p.hub.subscribers sound.only ∙ ap stack_at there.one)
 
   -- no row where no callsite is known
-  pub no_row : (p : TraceParts F) (number : ℕ) → IsSound g p → callsite_named (map plain_callsite p.callsites.items) number ≡ None → row_of number p.hub.rows ≡ None
-  no_row p number sound none = by_row (row_of number p.hub.rows) (subst (λ o. RowFits g (stack_in p) o (row_of number p.hub.rows)) none (row_fits g p number sound))
+  pub no_row : (p : TraceParts F) (number : ℕ) → IsSound g p → callsite_named (map plain_callsite p.callsites.items) number ≡ None → callsite_with number p.hub.callsites ≡ None
+  no_row p number sound none = by_row (callsite_with number p.hub.callsites) (subst (λ o. RowFits g (stack_in p) o (callsite_with number p.hub.callsites)) none (row_fits g p number sound))
     where
-      by_row : (o : Option (RegisteredCallsite HubCallsite)) → RowFits g (stack_in p) None o → o ≡ None
+      by_row : (o : Option (KeptCallsite HubCallsite)) → RowFits g (stack_in p) None o → o ≡ None
       by_row None fits = refl
       by_row (Some row) fits = absurd fits
 

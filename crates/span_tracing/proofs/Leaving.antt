@@ -108,38 +108,38 @@ module _ {F : Type 0} (g : Ghosts F) (p : TraceParts F) (u : Table (StackValue F
   cs = map plain_callsite p.callsites.items
 
   abbrev Rest : Type 0
-  Rest = u ≡ record (p.hub) { entries = u.entries }
+  Rest = u ≡ record (p.hub) { subscribers = u.subscribers }
 
   abbrev over : Rest → Option (StackValue F) → StateValue F
   over rest o = with_stack g p u dispatch handle sound rest o
 
-  the_call : (c : Call) (reply : ReplyTo c) → HubGives (stack_ghosts g) c dispatch p.hub reply u → OneCall g dispatch p.hub.global p.hub.entries u.entries c reply
-  the_call c reply gives = one_call g c dispatch p.hub.global p.hub.entries u.entries reply (has_only g p u dispatch handle sound gives.1) gives.0
+  the_call : (c : Call) (reply : ReplyTo c) → HubGives (stack_ghosts g) c dispatch p.hub reply u → OneCall g dispatch p.hub.global p.hub.subscribers u.subscribers c reply
+  the_call c reply gives = one_call g c dispatch p.hub.global p.hub.subscribers u.subscribers reply (has_only g p u dispatch handle sound gives.1) gives.0
 
   known : (rest : Rest) (x : StackValue F) (r : Request) → value_in p ≡ over rest (Some x) → parent_refusal (skeleton_of (value_in p)) r.parent ≡ None → knows_parent x (told_parent r.parent) ≡ true
   known rest x r is h = parent_known cs (length (map plain_thread p.threads.items)) (was_set p.hub.global) x r.parent (subst (λ (v : StateValue F). parent_refusal v.skeleton r.parent ≡ None) is h)
 
-  before : (rest : Rest) (x : StackValue F) → stack_of (Some dispatch) p.hub.entries ≡ Some x → value_in p ≡ over rest (Some x)
+  before : (rest : Rest) (x : StackValue F) → stack_of (Some dispatch) p.hub.subscribers ≡ Some x → value_in p ≡ over rest (Some x)
   before rest x stood = value_before g p u dispatch handle sound rest x stood
 
-  later_is : (rest : Rest) (y : StackValue F) → stack_of (Some dispatch) u.entries ≡ Some y → value_in new ≡ over rest (Some y)
+  later_is : (rest : Rest) (y : StackValue F) → stack_of (Some dispatch) u.subscribers ≡ Some y → value_in new ≡ over rest (Some y)
   later_is rest y stands = value_after g p u dispatch handle sound rest y stands
 
-  stays_sound : (rest : Rest) (x y : StackValue F) → stack_of (Some dispatch) p.hub.entries ≡ Some x → stack_of (Some dispatch) u.entries ≡ Some y → StepsBy g x.filter y.filter → HasOnly (Some dispatch) p.hub.global u.entries → IsSound g new
+  stays_sound : (rest : Rest) (x y : StackValue F) → stack_of (Some dispatch) p.hub.subscribers ≡ Some x → stack_of (Some dispatch) u.subscribers ≡ Some y → StepsBy g x.filter y.filter → HasOnly (Some dispatch) p.hub.global u.subscribers → IsSound g new
   stays_sound rest x y stood stands steps only = sound_after g p u dispatch handle sound rest x y stood stands steps only
 
   -- what the stack leaves, of which its filter was told
-  heard : (rest : Rest) (x y : StackValue F) → stack_of (Some dispatch) p.hub.entries ≡ Some x → stack_of (Some dispatch) u.entries ≡ Some y → StepsBy g x.filter y.filter → (shape : StateValue F → StateValue F) → over rest (Some y) ≡ record (shape (over rest (Some x))) { filter = y.filter } →
+  heard : (rest : Rest) (x y : StackValue F) → stack_of (Some dispatch) p.hub.subscribers ≡ Some x → stack_of (Some dispatch) u.subscribers ≡ Some y → StepsBy g x.filter y.filter → (shape : StateValue F → StateValue F) → over rest (Some y) ≡ record (shape (over rest (Some x))) { filter = y.filter } →
       Heard g (value_in p) (shape (value_in p)) (value_in new)
   heard rest x y stood stands steps shape e =
       let old = before rest x stood in
       (y.filter, subst (λ (v : StateValue F). StepsBy g v.filter y.filter) (sym old) steps, later_is rest y stands ∙ e ∙ ap (λ (v : StateValue F). record (shape v) { filter = y.filter }) (sym old))
 
   -- the same where nothing is left
-  leaves : (rest : Rest) (x y : StackValue F) → stack_of (Some dispatch) p.hub.entries ≡ Some x → stack_of (Some dispatch) u.entries ≡ Some y → StepsBy g x.filter y.filter → HasOnly (Some dispatch) p.hub.global u.entries → over rest (Some y) ≡ over rest (Some x) → LeavesParts g p new
+  leaves : (rest : Rest) (x y : StackValue F) → stack_of (Some dispatch) p.hub.subscribers ≡ Some x → stack_of (Some dispatch) u.subscribers ≡ Some y → StepsBy g x.filter y.filter → HasOnly (Some dispatch) p.hub.global u.subscribers → over rest (Some y) ≡ over rest (Some x) → LeavesParts g p new
   leaves rest x y stood stands steps only e = (stays_sound rest x y stood stands steps only, later_is rest y stands ∙ e ∙ sym (before rest x stood))
 
-  told_after : (rest : Rest) (y : StackValue F) → stack_of (Some dispatch) u.entries ≡ Some y → told_in (stack_in new) ≡ y.told
+  told_after : (rest : Rest) (y : StackValue F) → stack_of (Some dispatch) u.subscribers ≡ Some y → told_in (stack_in new) ≡ y.told
   told_after rest y stands = ap told_in (stack_after g p u dispatch handle sound rest y stands)
 
   -- an event
@@ -262,7 +262,7 @@ module _ {F : Type 0} (g : Ghosts F) (p : TraceParts F) (u : Table (StackValue F
       }
 
   -- the stack that stands has what the trace has
-  there_before : (rest : Rest) (x : StackValue F) (id : ℕ) → stack_of (Some dispatch) p.hub.entries ≡ Some x → is_open kin_in (registry_in (stack_in p)).spans id ≡ true → is_open kin_in x.registry.spans id ≡ true
+  there_before : (rest : Rest) (x : StackValue F) (id : ℕ) → stack_of (Some dispatch) p.hub.subscribers ≡ Some x → is_open kin_in (registry_in (stack_in p)).spans id ≡ true → is_open kin_in x.registry.spans id ≡ true
   there_before rest x id stood there = subst (λ (o : Option (StackValue F)). is_open kin_in (registry_in o).spans id ≡ true) (stack_before g p u dispatch handle sound rest x stood) there
 
   -- values for a span
@@ -351,7 +351,7 @@ module _ {F : Type 0} (g : Ghosts F) (p : TraceParts F) (u : Table (StackValue F
       ap (λ (w : Result ℕ RequestError × RegistryValue). w.1) w.0 ∙ ap (λ (refusal : Option RequestError). or_left refusal x.registry (with_handle x.registry id)) refused in
       w.1 ∙ ap (λ (z : RegistryValue). record x { registry = z; told = Quiet }) left
 
-  count_before : (rest : Rest) (x : StackValue F) (id n : ℕ) → stack_of (Some dispatch) p.hub.entries ≡ Some x → ¬ (handles_of kin_in (registry_in (stack_in p)).spans id ≡ n) → ¬ (handles_of kin_in x.registry.spans id ≡ n)
+  count_before : (rest : Rest) (x : StackValue F) (id n : ℕ) → stack_of (Some dispatch) p.hub.subscribers ≡ Some x → ¬ (handles_of kin_in (registry_in (stack_in p)).spans id ≡ n) → ¬ (handles_of kin_in x.registry.spans id ≡ n)
   count_before rest x id n stood other = subst (λ (o : Option (StackValue F)). ¬ (handles_of kin_in (registry_in o).spans id ≡ n)) (stack_before g p u dispatch handle sound rest x stood) other
 
   pub clones : (id : ℕ) (at : At) (r : Result ℕ RequestError) → HubGives (stack_ghosts g) (Cloned id at) dispatch p.hub r u → is_open kin_in (registry_in (stack_in p)).spans id ≡ true → ¬ (handles_of kin_in (registry_in (stack_in p)).spans id ≡ 18446744073709551615) → IsSound g new × (value_in new ≡ with_one (value_in p) id)

@@ -3,7 +3,7 @@ use Rattle.std.proofs.Common.{◌≡◌, ℕ, Bool, true, false, List, map, Opti
 use Rattle.std.specs.Prelude.{slice_get}
 use Rattle.tracing_core.specs.Defaults.{was_set}
 use Rattle.tracing_core.specs.Table.{Table}
-use Rattle.tracing_core.specs.RegisteredCallsite.{RegisteredCallsite}
+use Rattle.tracing_core.specs.Kept.{KeptCallsite}
 use Rattle.tracing_core.specs.RequestError.{RequestError}
 use Rattle.tracing_core.specs.RequestError.TheVariants.{OutOfMemory, UnknownSpan, UnknownParent, IdsSpent, TooManyHandles}
 use Rattle.tracing_core.specs.Calls.{SpanMade, EventDispatched, Entered, Exited, CloseTried}
@@ -91,43 +91,43 @@ hint_later g None (Some later) w h = absurd w
 hint_later g (Some f) None w h = absurd w
 hint_later g (Some f) (Some later) w h = (w h).1.same_hint
 
-module _ {F : Type 0} (g : Ghosts F) (p : TraceParts F) (u : Table (StackValue F) HubCallsite) (dispatch : Option ℕ) (handle : p.handle ≡ Some dispatch) (sound : IsSound g p) (rest : u ≡ record (p.hub) { entries = u.entries }) where
+module _ {F : Type 0} (g : Ghosts F) (p : TraceParts F) (u : Table (StackValue F) HubCallsite) (dispatch : Option ℕ) (handle : p.handle ≡ Some dispatch) (sound : IsSound g p) (rest : u ≡ record (p.hub) { subscribers = u.subscribers }) where
   abbrev pub later : TraceParts F
   later = record p { hub = u }
 
   abbrev pub with_stack : Option (StackValue F) → Rattle.span_tracing.specs.Skeletons.StateValue F
   with_stack o = value_with (map plain_callsite p.callsites.items) (map plain_thread p.threads.items) (was_set p.hub.global) p.starved o
 
-  pub has_only : HasOnly (Some dispatch) p.hub.global p.hub.entries
-  has_only = subst (λ h. HasOnly h p.hub.global p.hub.entries) handle sound.only
+  pub has_only : HasOnly (Some dispatch) p.hub.global p.hub.subscribers
+  has_only = subst (λ h. HasOnly h p.hub.global p.hub.subscribers) handle sound.only
 
-  pub stack_before : (x : StackValue F) → stack_of (Some dispatch) p.hub.entries ≡ Some x → stack_in p ≡ Some x
-  stack_before x stood = ap (λ h. stack_of h p.hub.entries) handle ∙ stood
+  pub stack_before : (x : StackValue F) → stack_of (Some dispatch) p.hub.subscribers ≡ Some x → stack_in p ≡ Some x
+  stack_before x stood = ap (λ h. stack_of h p.hub.subscribers) handle ∙ stood
 
-  pub stack_after : (y : StackValue F) → stack_of (Some dispatch) u.entries ≡ Some y → stack_in later ≡ Some y
-  stack_after y stands = ap (λ h. stack_of h u.entries) handle ∙ stands
+  pub stack_after : (y : StackValue F) → stack_of (Some dispatch) u.subscribers ≡ Some y → stack_in later ≡ Some y
+  stack_after y stands = ap (λ h. stack_of h u.subscribers) handle ∙ stands
 
-  pub value_before : (x : StackValue F) → stack_of (Some dispatch) p.hub.entries ≡ Some x → value_in p ≡ with_stack (Some x)
+  pub value_before : (x : StackValue F) → stack_of (Some dispatch) p.hub.subscribers ≡ Some x → value_in p ≡ with_stack (Some x)
   value_before x stood = ap with_stack (stack_before x stood)
 
-  pub value_after : (y : StackValue F) → stack_of (Some dispatch) u.entries ≡ Some y → value_in later ≡ with_stack (Some y)
+  pub value_after : (y : StackValue F) → stack_of (Some dispatch) u.subscribers ≡ Some y → value_in later ≡ with_stack (Some y)
   value_after y stands =
       ap (λ o. value_with (map plain_callsite p.callsites.items) (map plain_thread p.threads.items) (was_set u.global) p.starved o) (stack_after y stands)
       ∙ ap (λ (t : Table (StackValue F) HubCallsite). value_with (map plain_callsite p.callsites.items) (map plain_thread p.threads.items) (was_set t.global) p.starved (Some y)) rest
 
   -- the stack that took the call says what it said
-  pub sound_after : (x y : StackValue F) → stack_of (Some dispatch) p.hub.entries ≡ Some x → stack_of (Some dispatch) u.entries ≡ Some y → StepsBy g x.filter y.filter → HasOnly (Some dispatch) p.hub.global u.entries → IsSound g later
+  pub sound_after : (x y : StackValue F) → stack_of (Some dispatch) p.hub.subscribers ≡ Some x → stack_of (Some dispatch) u.subscribers ≡ Some y → StepsBy g x.filter y.filter → HasOnly (Some dispatch) p.hub.global u.subscribers → IsSound g later
   sound_after x y stood stands steps only =
       let before = stack_before x stood in
       let after = stack_after y stands in
       let honest : HonestBy g x.filter = subst (IsHonest g) before sound.honest in
       record {
-        only = subst (λ h. HasOnly h u.global u.entries) (sym handle) (subst (λ (t : Table (StackValue F) HubCallsite). HasOnly (Some dispatch) t.global u.entries) (sym rest) only);
+        only = subst (λ h. HasOnly h u.global u.subscribers) (sym handle) (subst (λ (t : Table (StackValue F) HubCallsite). HasOnly (Some dispatch) t.global u.subscribers) (sym rest) only);
         lanes = ap (λ (t : Table (StackValue F) HubCallsite). t.lanes) rest ∙ sound.lanes;
-        hub = hub_alike p.hub u rest (same_serials dispatch p.hub.global p.hub.global p.hub.entries u.entries has_only only) sound.hub;
+        hub = hub_alike p.hub u rest (same_serials dispatch p.hub.global p.hub.global p.hub.subscribers u.subscribers has_only only) sound.hub;
         kept =
             subst (λ o. HubHasCallsites g o p.callsites.items u) (sym after)
-            (kept_alike g (Some x) (Some y) p.callsites.items p.hub u (ap (λ (t : Table (StackValue F) HubCallsite). t.rows) rest) (ap (λ (t : Table (StackValue F) HubCallsite). t.greatest) rest)
+            (kept_alike g (Some x) (Some y) p.callsites.items p.hub u (ap (λ (t : Table (StackValue F) HubCallsite). t.callsites) rest) (ap (λ (t : Table (StackValue F) HubCallsite). t.greatest) rest)
             (λ m k. says_later g x.filter y.filter m k steps honest) (ap level_of (hint_later g x.filter y.filter steps honest)) (subst (λ o. HubHasCallsites g o p.callsites.items p.hub) before sound.kept));
         honest = subst (IsHonest g) (sym after) (honest_later g x.filter y.filter steps honest);
       }

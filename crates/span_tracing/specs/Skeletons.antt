@@ -2,7 +2,7 @@
 use Rattle.std.specs.Prelude.{ℕ, List, [], length, map, Bool, false, Option, Some, None, is_some, string_bytes}
 use Rattle.std.specs.Option.{option_map}
 use Rattle.tracing_core.specs.Defaults.{was_set}
-use Rattle.tracing_core.specs.RegisteredSubscriber.{RegisteredSubscriber}
+use Rattle.tracing_core.specs.Kept.{KeptSubscriber}
 use Rattle.tracing_core.specs.Lent.{living_of}
 use Rattle.span_tracing_machine.specs.Skeleton.{Skeleton, PlainCallsite}
 use Rattle.span_tracing_machine.specs.State.{PlainText}
@@ -61,12 +61,12 @@ time_in None = None
 time_in (Some s) = plain_time s.format.timer
 
 -- the stack that a handle leads to
-abbrev pub stack_of : {F : Type 0} → Option (Option ℕ) → List (RegisteredSubscriber (StackValue F)) → Option (StackValue F)
-stack_of None entries = None
-stack_of {F = F} (Some dispatch) entries = option_map (λ (e : RegisteredSubscriber (StackValue F)). e.subscriber) (living_of dispatch entries)
+abbrev pub stack_of : {F : Type 0} → Option (Option ℕ) → List (KeptSubscriber (StackValue F)) → Option (StackValue F)
+stack_of None subscribers = None
+stack_of {F = F} (Some dispatch) subscribers = option_map (λ (e : KeptSubscriber (StackValue F)). e.subscriber) (living_of dispatch subscribers)
 
 abbrev pub stack_in : {F : Type 0} → TraceParts F → Option (StackValue F)
-stack_in p = stack_of p.handle p.hub.entries
+stack_in p = stack_of p.handle p.hub.subscribers
 
 abbrev pub filter_at : {F : Type 0} → Option (StackValue F) → Option F
 filter_at None = None

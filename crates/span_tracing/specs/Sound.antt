@@ -5,9 +5,8 @@ use Rattle.tracing_core.specs.Interests.{PlainInterest}
 use Rattle.tracing_core.specs.InterestInner.TheVariants.{Never}
 use Rattle.tracing_core.specs.Lists.{Every}
 use Rattle.tracing_core.specs.PlainMetadata.{PlainMetadata}
-use Rattle.tracing_core.specs.RegisteredSubscriber.{RegisteredSubscriber}
+use Rattle.tracing_core.specs.Kept.{KeptCallsite, KeptSubscriber}
 use Rattle.tracing_core.specs.Lane.TheVariants.{Running}
-use Rattle.tracing_core.specs.RegisteredCallsite.{RegisteredCallsite}
 use Rattle.tracing_core.specs.LaneDefault.{LaneDefault}
 use Rattle.tracing_core.specs.LaneDefault.TheVariants.{Unset, Nothing, To}
 use Rattle.tracing_core.specs.Sound.{IsSound as IsSoundHub, identifiers}
@@ -29,15 +28,15 @@ LeadsTo Nothing serial = ⊥
 LeadsTo (To number) serial = number ≡ serial
 
 -- the hub has the stack alone, which one handle leads to until a global default is set, and then this default too
-abbrev pub HasOnly : {F : Type 0} → Option (Option ℕ) → LaneDefault → List (RegisteredSubscriber (StackValue F)) → Type 0
-HasOnly None global entries = (entries ≡ []) × (global ≡ Unset)
-HasOnly {F = F} (Some dispatch) global entries =
-    (e : RegisteredSubscriber (StackValue F)) × (entries ≡ e ∷ []) × (dispatch ≡ Some e.serial) × (global ≡ Unset → e.handles ≡ 1) × LeadsTo global e.serial
+abbrev pub HasOnly : {F : Type 0} → Option (Option ℕ) → LaneDefault → List (KeptSubscriber (StackValue F)) → Type 0
+HasOnly None global subscribers = (subscribers ≡ []) × (global ≡ Unset)
+HasOnly {F = F} (Some dispatch) global subscribers =
+    (e : KeptSubscriber (StackValue F)) × (subscribers ≡ e ∷ []) × (dispatch ≡ Some e.serial) × (global ≡ Unset → e.handles ≡ 1) × LeadsTo global e.serial
 
 -- one handle leads to the one stack
-abbrev pub OwnsOne : {F : Type 0} → Option (Option ℕ) → List (RegisteredSubscriber (StackValue F)) → Type 0
-OwnsOne None entries = ⊥
-OwnsOne {F = F} (Some dispatch) entries = (e : RegisteredSubscriber (StackValue F)) × (entries ≡ e ∷ []) × (dispatch ≡ Some e.serial) × (e.handles ≡ 1)
+abbrev pub OwnsOne : {F : Type 0} → Option (Option ℕ) → List (KeptSubscriber (StackValue F)) → Type 0
+OwnsOne None subscribers = ⊥
+OwnsOne {F = F} (Some dispatch) subscribers = (e : KeptSubscriber (StackValue F)) × (subscribers ≡ e ∷ []) × (dispatch ≡ Some e.serial) × (e.handles ≡ 1)
 
 module _ {F : Type 0} (g : Ghosts F) where
   -- what the stack says of a callsite; where there is none nobody is interested
@@ -56,13 +55,13 @@ module _ {F : Type 0} (g : Ghosts F) where
 
   -- the hub has these callsites, in order, with an interest that the stack says of each, and its greatest level is the stack's
   pub record HubHasCallsites (stack : Option (StackValue F)) (callsites : List Callsite) (hub : Table (StackValue F) HubCallsite) : Type 0 where
-    pub numbers : identifiers hub.rows ≡ map (λ (c : Callsite). c.number) callsites
-    pub metadata : map (λ (row : RegisteredCallsite HubCallsite). own_metadata row.callsite.callsite) hub.rows ≡ map own_metadata callsites
-    pub interests : Every (λ (row : RegisteredCallsite HubCallsite). StackSays stack (own_metadata row.callsite.callsite) row.interest) hub.rows
+    pub numbers : identifiers hub.callsites ≡ map (λ (c : Callsite). c.number) callsites
+    pub metadata : map (λ (row : KeptCallsite HubCallsite). own_metadata row.callsite.callsite) hub.callsites ≡ map own_metadata callsites
+    pub interests : Every (λ (row : KeptCallsite HubCallsite). StackSays stack (own_metadata row.callsite.callsite) row.interest) hub.callsites
     pub greatest : hub.greatest ≡ greatest_of stack
 
   pub record IsSound (p : TraceParts F) : Type 0 where
-    pub only : HasOnly p.handle p.hub.global p.hub.entries
+    pub only : HasOnly p.handle p.hub.global p.hub.subscribers
     -- no lane has a default of its own
     pub lanes : p.hub.lanes ≡ replicate (length p.threads.items) (Running Unset)
     pub hub : IsSoundHub ghosts p.hub
@@ -71,7 +70,7 @@ module _ {F : Type 0} (g : Ghosts F) where
 
   -- the hub took its first stack
   pub record HasFirst (old new : TraceParts F) (x : StackValue F) : Type 0 where
-    pub owns : OwnsOne new.handle new.hub.entries
+    pub owns : OwnsOne new.handle new.hub.subscribers
     pub sound : IsSound new
     pub stack : stack_in new ≡ Some x
     pub rest : new ≡ record old { handle = new.handle; hub = new.hub }

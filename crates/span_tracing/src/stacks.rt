@@ -111,7 +111,7 @@ impl<F: Filter> TraceParts<F> {
     /// Gives the stack up again, to which only its one handle leads. Then nobody is interested in any callsite.
     fn take_stack(&mut self) -> Option<Stack<F>>
         requires sound { IsSound ⟦<F as Filter>⟧ self.old }
-        requires owns { OwnsOne self.old.handle self.old.hub.entries }
+        requires owns { OwnsOne self.old.handle self.old.hub.subscribers }
         requires unset { self.old.hub.global ≡ Unset }
         ensures stack { result ≡ stack_in self.old }
         ensures sound { IsSound ⟦<F as Filter>⟧ self.new }
@@ -166,7 +166,7 @@ impl<F: Filter> TraceParts<F> {
         moment: Moment,
     ) -> Result<RollingFileAppender<D>, OutputBack<D, F>>
         requires sound { IsSound ⟦<F as Filter>⟧ self.old }
-        requires owns { OwnsOne self.old.handle self.old.hub.entries }
+        requires owns { OwnsOne self.old.handle self.old.hub.subscribers }
         requires unset { self.old.hub.global ≡ Unset }
         requires moment { is_moment moment ≡ true }
         ensures sound { IsSound ⟦<F as Filter>⟧ self.new }

@@ -107,7 +107,7 @@ impl Folder for FailingFolder {
         Ok(())
     }
 
-    fn list(&mut self) -> Result<Vec<Entry>, FolderError> {
+    fn list(&mut self, _prefix: &str) -> Result<Vec<Entry>, FolderError> {
         Err(FolderError::OutOfMemory)
     }
 

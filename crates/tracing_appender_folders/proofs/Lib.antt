@@ -4,3 +4,4 @@ pub mod Named
 pub mod Wrapped
 pub mod Listing
 pub mod Puts
+pub mod Attempting

@@ -1,10 +1,11 @@
 -- Files in memory by name.
-use Rattle.std.proofs.Common.{◌≡◌, ℕ, zero, suc, ◌+◌, ◌<◌, ◌≤◌, Bool, true, false, List, [], ◌∷◌, ◌++◌, map, refl, sym, ap, ◌∙◌, string_bytes, arith, length, Some, get_or, set, take, cond}
+use Rattle.std.proofs.Common.{◌≡◌, ℕ, zero, suc, ◌+◌, ◌<◌, ◌≤◌, Bool, true, false, List, [], ◌∷◌, ◌++◌, map, refl, sym, ap, ◌∙◌, string_bytes, arith, length, Some, get_or, set, take, cond, append_assoc}
 use Rattle.std.specs.List.{position_from}
 use Rattle.tracing_appender_folders.specs.declared.memory.MemoryFile.{MemoryFile}
 use Rattle.std.specs.List.{filter}
 use Rattle.std.specs.Str.{bytes_eq}
-use Rattle.std.proofs.lemmas.List.{take_more}
+use Rattle.std.proofs.lemmas.List.{take_more, map-append}
+use Rattle.std.proofs.lemmas.List.Elements.{filter-append}
 use Rattle.tracing_appender_folders.specs.declared.memory.MemoryLink.{MemoryLink}
 use Rattle.tracing_appender_folders.specs.declared.memory.MemoryFolder.{MemoryFolder}
 use Rattle.tracing_appender_folders.specs.Contents.{has_name, file_named, link_place, StoredFile, Listed, listing, listed_file, listed_link, appended, unnamed}
@@ -61,8 +62,20 @@ files_push : (fs : List MemoryFile) (m : MemoryFile) → files_listed (fs ++ m �
 files_push [] m = refl
 files_push (g ∷ fs) m = ap (λ r. cond g.stands (listed_file (kept_of g) ∷ r) r) (files_push fs m) ∙ joined g.stands (listed_file (kept_of g)) (files_listed fs) (cond m.stands (listed_file (kept_of m) ∷ []) [])
 
-pub files_more : (files : List MemoryFile) (i : ℕ) (f : MemoryFile) (b : Bool) → i < length files → f ≡ get_or files i f → f.stands ≡ b → files_listed (take (i + 1) files) ≡ files_listed (take i files) ++ cond b (listed_file (kept_of f) ∷ []) []
+files_more : (files : List MemoryFile) (i : ℕ) (f : MemoryFile) (b : Bool) → i < length files → f ≡ get_or files i f → f.stands ≡ b → files_listed (take (i + 1) files) ≡ files_listed (take i files) ++ cond b (listed_file (kept_of f) ∷ []) []
 files_more files i f b lt is stands = ap files_listed (take_more files i f lt) ∙ files_push (take i files) (get_or files i f) ∙ ap (λ (m : MemoryFile). files_listed (take i files) ++ cond m.stands (listed_file (kept_of m) ∷ []) []) (sym is) ∙ ap (λ c. files_listed (take i files) ++ cond c (listed_file (kept_of f) ∷ []) []) stands
+
+-- the same where only those that pass a test are listed
+module _ (p : Listed → Bool) where
+  pub some_files_more : (files : List MemoryFile) (i : ℕ) (f : MemoryFile) (b : Bool) → i < length files → f ≡ get_or files i f → f.stands ≡ b → filter p (files_listed (take (i + 1) files)) ≡ filter p (files_listed (take i files)) ++ filter p (cond b (listed_file (kept_of f) ∷ []) [])
+  some_files_more files i f b lt is stands = ap (filter p) (files_more files i f b lt is stands) ∙ filter-append p (files_listed (take i files)) (cond b (listed_file (kept_of f) ∷ []) [])
+
+  pub some_links_more : (before : List Listed) (links : List MemoryLink) (i : ℕ) (l : MemoryLink) → i < length links → l ≡ get_or links i l → filter p (before ++ links_listed (take (i + 1) links)) ≡ filter p (before ++ links_listed (take i links)) ++ filter p (listed_link (link_of l) ∷ [])
+  some_links_more before links i l lt is =
+      ap (λ (ls : List MemoryLink). filter p (before ++ links_listed ls)) (take_more links i l lt ∙ ap (λ (m : MemoryLink). take i links ++ m ∷ []) (sym is))
+      ∙ ap (λ (xs : List Listed). filter p (before ++ xs)) (map-append (λ (m : MemoryLink). listed_link (link_of m)) (take i links) (l ∷ []))
+      ∙ ap (filter p) (sym (append_assoc before (links_listed (take i links)) (listed_link (link_of l) ∷ [])))
+      ∙ filter-append p (before ++ links_listed (take i links)) (listed_link (link_of l) ∷ [])
 
 -- a link's place
 pub link_place-memory : (name : List ℕ) (links : List MemoryLink) → link_place name (map link_of links) ≡ position_from (λ (l : MemoryLink). bytes_eq (string_bytes l.name) name) 0 links

@@ -67,8 +67,8 @@ make_ignores = record { same = λ c g. refl }
 pub flush_ignores : (file : FileNumber) → IgnoresPlan (flush_plain file)
 flush_ignores file = record { same = λ c g. refl }
 
-pub list_ignores : IgnoresPlan list_plain
-list_ignores = record { same = λ c g. refl }
+pub list_ignores : (prefix : List ℕ) → IgnoresPlan (list_plain prefix)
+list_ignores prefix = record { same = λ c g. refl }
 
 -- the plan of a folder in memory
 abbrev pub whole_plan : ℕ → Outcome

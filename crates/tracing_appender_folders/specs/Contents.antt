@@ -170,11 +170,16 @@ listed_link l = record { name = l.0; plain = false; created = None }
 abbrev pub listing : Contents → List Listed
 listing c = map listed_file (filter (λ f. f.stands) c.files) ++ map listed_link c.links
 
-abbrev pub list_plain : Contents → Answer (List Listed)
-list_plain c = (Ok (listing c), called c)
+-- its name begins with these bytes
+abbrev pub begins_with : List ℕ → Listed → Bool
+begins_with prefix l = bytes_eq prefix (take (length prefix) l.name)
 
-abbrev pub names_listed : Contents → Answer (List Listed)
-names_listed c = unless_refused c (list_plain c)
+-- those of them whose names begin with a prefix, in the same order
+abbrev pub list_plain : List ℕ → Contents → Answer (List Listed)
+list_plain prefix c = (Ok (filter (begins_with prefix) (listing c)), called c)
+
+abbrev pub names_listed : Contents → List ℕ → Answer (List Listed)
+names_listed c prefix = unless_refused c (list_plain prefix c)
 
 -- a link under a name, in place of one of that name; a file under it refuses
 abbrev pub links_with : List (List ℕ × List ℕ) → Option ℕ → List ℕ × List ℕ → List (List ℕ × List ℕ)

@@ -1,7 +1,8 @@
 //! A folder of the system.
 
-ghost use Rattle.std.specs.Prelude.{◌≡◌, ◌≢◌, ◌≤◌, ◌+◌, ◌-◌, ◌^◌, ℕ, true, false, min, length, string_bytes, IfOk, IfErr, OnErr};
-ghost use Rattle.tracing_appender_folders.specs.Contents.{Gives, opened, closed, written, flushed, failures_after};
+ghost use Rattle.std.specs.Prelude.{◌≡◌, ◌≢◌, ◌≤◌, ◌+◌, ◌-◌, ◌^◌, ℕ, true, false, min, length, string_bytes, IfOk, IfErr, OnErr, All};
+ghost use Rattle.tracing_appender_folders.specs.Contents.{Gives, opened, closed, written, flushed, names_listed, begins_with, failures_after};
+ghost use Rattle.tracing_appender_folders.specs.Listings.{listed_of, listed_all};
 ghost use Rattle.tracing_appender_folders.specs.Disks.{joined, is_open_at, SameOpen, HasRoom, OpensNumber, ClosesNumber};
 
 use crate::fault::{Entry, FileNumber, FolderError, FolderFault, failures_after};
@@ -158,8 +159,10 @@ impl<R: Files + AllocGlobal + Clone + Drop> DiskFolder<R> {
     }
 
     // An entry that can't be read is passed over. An error that ends the reading isn't, since the list would be
-    // short.
-    fn entries(&self) -> Result<Vec<Entry>, FolderError> {
+    // short. Of a name without the prefix nothing is asked and nothing is copied.
+    fn entries(&self, prefix: &str) -> Result<Vec<Entry>, FolderError>
+        ensures { IfOk result (λ all. All (λ e. begins_with prefix.now (listed_of e) ≡ true) all.items) }
+    {
         let alloc = self.rt.alloc();
         let mut all = Vec::new(alloc);
         let entries = match fs::read_dir(&self.rt, self.listed_path()) {
@@ -172,6 +175,9 @@ impl<R: Files + AllocGlobal + Clone + Drop> DiskFolder<R> {
                 Err(error) if is_bad_name(&error) => continue,
                 Err(error) => return Err(fault_of(&error)),
             };
+            if !entry.file_name().as_bytes().starts_with(prefix.as_bytes()) {
+                continue;
+            }
             let Ok(kind) = entry.file_type() else {
                 continue
             };
@@ -265,8 +271,12 @@ impl<R: Files + AllocGlobal + Clone + Drop> Folder for DiskFolder<R> {
         }
     }
 
-    fn list(&mut self) -> Result<Vec<Entry>, FolderError> {
-        let answer = self.entries();
+    fn list(&mut self, prefix: &str) -> Result<Vec<Entry>, FolderError>
+        ensures gives { Gives (λ c. names_listed c prefix.now) None (listed_all result) None }
+        ensures failures { self.new.failures ≡ failures_after self.old.failures (listed_all result) }
+        ensures begins { IfOk result (λ all. All (λ e. begins_with prefix.now (listed_of e) ≡ true) all.items) }
+    {
+        let answer = self.entries(prefix);
         self.told(answer)
     }
 

@@ -144,8 +144,8 @@ impl Folder for FaultyFolder {
         self.make(|inner| inner.remove(name))
     }
 
-    fn list(&mut self) -> Result<Vec<Entry>, FolderError> {
-        self.make(|inner| inner.list())
+    fn list(&mut self, prefix: &str) -> Result<Vec<Entry>, FolderError> {
+        self.make(|inner| inner.list(prefix))
     }
 
     fn create_dirs(&mut self) -> Result<(), FolderError> {

@@ -44,9 +44,11 @@ pub trait Folder: Drop {
         ensures fed { IfErr result (λ e. e ≢ FolderError.OutOfMemory) }
         ensures failures { failed self.new ≡ failures_after (failed self.old) result };
 
-    /// The names, those of links too.
-    fn list(&mut self) -> Result<Vec<Entry>, FolderError>
-        ensures gives { Gives names_listed (contents self.old) (listed_all result) (contents self.new) }
+    /// The names that begin with a prefix, those of links too; with an empty prefix all names. The folders here
+    /// copy no other name.
+    fn list(&mut self, prefix: &str) -> Result<Vec<Entry>, FolderError>
+        ensures gives { Gives (λ c. names_listed c prefix.now) (contents self.old) (listed_all result)
+            (contents self.new) }
         ensures failures { failed self.new ≡ failures_after (failed self.old) (listed_all result) };
 
     /// Removes the name of a file. An opened file can still be written.

@@ -1,6 +1,7 @@
 //! Folders of files, as their users see them: one in memory, one that refuses calls, and one of the system.
 #![tactic(auto)]
 
+mod attempts;
 mod disk;
 mod entries;
 mod fault;

@@ -1,9 +1,10 @@
 //! A folder in memory.
 
-ghost use Rattle.std.specs.Prelude.{◌≡◌, ◌==◌, ◌+◌, ◌-◌, ◌^◌, ℕ, List, Some, None, true, map, min, OnOk, OnErr, IfOk, IfSome, IfNone, ◌<◌, length, if◌then◌else◌};
+ghost use Rattle.std.specs.Prelude.{◌≡◌, ◌==◌, ◌+◌, ◌-◌, ◌^◌, ℕ, List, [], ◌∷◌, ◌++◌, Some, None, true, map, string_bytes, min, OnOk, OnErr, IfOk, IfSome, IfNone, ◌<◌, length, if◌then◌else◌};
 ghost use Rattle.std.specs.Str.{bytes_eq};
-ghost use Rattle.std.specs.List.{position_from};
-ghost use Rattle.tracing_appender_folders.specs.Contents.{file_named, bytes_at, link_place, is_open, listing};
+ghost use Rattle.std.specs.List.{position_from, filter};
+ghost use Rattle.tracing_appender_folders.specs.Contents.{file_named, bytes_at, link_place, is_open, listing, begins_with};
+ghost use Rattle.tracing_appender_folders.specs.Listings.{listed_of};
 
 use crate::entries::add_entry;
 use crate::fault::{Entry, FileNumber, FolderError, FolderFault};
@@ -53,7 +54,6 @@ pub struct MemoryFolder {
 impl MemoryFolder {
     ghost use Rattle.tracing_appender_folders.specs.Memory.{memory_contents, nothing_there, put_at, target_at};
     ghost use Rattle.tracing_appender_folders.specs.Entries.{FilesListed};
-    ghost use Rattle.tracing_appender_folders.specs.Listings.{listed_of};
 
     /// A folder with no files.
     pub fn new(alloc: Global) -> MemoryFolder
@@ -154,26 +154,19 @@ impl MemoryFolder {
         self.last_flushed
     }
 
-    /// The names of files that stand, and of links.
-    fn entries(&self) -> Result<Vec<Entry>, AllocError>
-        ensures { IfOk result (λ all. map listed_of all.items ≡ listing (memory_contents self.now)) }
+    /// The names of files that stand, and of links, that begin with a prefix.
+    fn entries(&self, prefix: &str) -> Result<Vec<Entry>, AllocError>
+        ensures { IfOk result (λ all. map listed_of all.items
+            ≡ filter (begins_with prefix.now) (listing (memory_contents self.now))) }
     {
         let mut all = Vec::new(self.alloc);
         for file in &self.files {
             if file.stands {
-                all.push(Entry {
-                    name: file.name.clone()?,
-                    plain: true,
-                    created: file.created,
-                })?;
+                add_listed(&mut all, prefix, &file.name, true, file.created)?;
             }
         }
         for link in &self.links {
-            all.push(Entry {
-                name: link.name.clone()?,
-                plain: false,
-                created: None,
-            })?;
+            add_listed(&mut all, prefix, &link.name, false, None)?;
         }
         Ok(all)
     }
@@ -285,8 +278,8 @@ impl Folder for MemoryFolder {
         }
     }
 
-    fn list(&mut self) -> Result<Vec<Entry>, FolderError> {
-        Ok(self.entries()?)
+    fn list(&mut self, prefix: &str) -> Result<Vec<Entry>, FolderError> {
+        Ok(self.entries(prefix)?)
     }
 
     fn remove(&mut self, name: &str) -> Result<(), FolderError> {
@@ -317,4 +310,27 @@ impl Folder for MemoryFolder {
     fn failures(&self) -> u64 {
         self.failures
     }
+}
+
+/// Adds an entry where its name begins with a prefix. No other name is copied.
+fn add_listed(
+    all: &mut Vec<Entry>,
+    prefix: &str,
+    name: &String,
+    plain: bool,
+    created: Option<Moment>,
+) -> Result<(), AllocError>
+    ensures { OnOk result (map listed_of all.new.items ≡ map listed_of all.old.items
+        ++ filter (begins_with prefix.now) ((record { name = string_bytes name.now; plain = plain; created = created })
+        ∷ [])) }
+{
+    if name.as_bytes().starts_with(prefix.as_bytes()) {
+        let name = name.clone()?;
+        all.push(Entry {
+            name,
+            plain,
+            created,
+        })?;
+    }
+    Ok(())
 }

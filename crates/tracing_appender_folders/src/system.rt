@@ -1,14 +1,13 @@
 //! What the system answers, as a folder tells it.
 
-ghost use Rattle.std.specs.Prelude.{◌≡◌, ◌≤◌, ◌<◌, ◌↔◌, ℕ, None, is_some, IfOk, length, true, false};
+ghost use Rattle.std.specs.Prelude.{◌≡◌, ◌≤◌, ◌<◌, ◌↔◌, ℕ, None, is_some, IfOk, IfSome, length, true, false};
 ghost use Rattle.std.specs.IoError.{error_kind, raw_os_error};
 ghost use Rattle.tracing_appender_folders.specs.Disks.{is_open_at};
+ghost use Rattle.tracing_appender_folders.specs.Attempts.{FirstAnswer};
 
+use crate::attempts::{Attempts, write_tries};
 use crate::fault::{FolderError, FolderFault};
-use std::io::{Error, ErrorKind, Write};
-
-/// How often a write is tried in all: once, and again up to 1,000 times while it is interrupted.
-const TRIES: u32 = 1_001;
+use std::io::{Error, ErrorKind};
 
 /// What the system's refusal is called here. Want of memory is ours where this process's allocator refused;
 /// where the kernel told it, the system refused the call.
@@ -26,8 +25,13 @@ pub(crate) fn fault_of(error: &Error) -> FolderError
 }
 
 /// Writes to the file in a slot, where there is one.
-pub(crate) fn write_slot<W: Write>(slot: &mut Option<W>, bytes: &[u8]) -> Result<usize, FolderError>
+pub(crate) fn write_slot<A: Attempts>(
+    slot: &mut Option<A>,
+    bytes: &[u8],
+) -> Result<usize, FolderError>
     ensures bound { IfOk result (λ n. n ≤ length bytes.now) }
+    ensures first { IfSome slot.old (λ old. IfSome slot.new (λ new.
+        FirstAnswer 1001 (A.coming old) bytes.now result (A.coming new))) }
     ensures found { slot.old ≡ None → result ≡ Err (FolderError.Fault FolderFault.NotFound) }
     ensures same { is_some slot.new ≡ is_some slot.old }
 {
@@ -35,23 +39,6 @@ pub(crate) fn write_slot<W: Write>(slot: &mut Option<W>, bytes: &[u8]) -> Result
         Some(file) => write_tries(file, bytes),
         None => Err(FolderError::Fault(FolderFault::NotFound)),
     }
-}
-
-/// Writes once, and again while it is interrupted.
-fn write_tries<W: Write>(file: &mut W, bytes: &[u8]) -> Result<usize, FolderError>
-    ensures { IfOk result (λ n. n ≤ length bytes.now) }
-{
-    for _ in 0..TRIES {
-        match file.write(bytes) {
-            Ok(taken) => return Ok(taken),
-            Err(error) => {
-                if error.kind() != ErrorKind::Interrupted {
-                    return Err(fault_of(&error));
-                }
-            }
-        }
-    }
-    Err(FolderError::Fault(FolderFault::Refused))
 }
 
 /// The first number that isn't that of an open file.

@@ -52,7 +52,7 @@ fn refusals<D: Folder>(folder: &mut D) -> (usize, u64) {
         refused += 1;
         last = 5;
     }
-    if folder.list().is_err() {
+    if folder.list("").is_err() {
         refused += 1;
         last = 6;
     }
@@ -130,11 +130,49 @@ fn links_give_way_to_links(rt: HostRuntime) -> Result<(), Fail> {
     assert_eq!(rt; folder.link_target("a"), None);
     assert_eq!(rt; folder.link("a", "latest"), Err(REFUSED));
     assert!(rt; folder.open_append("latest").is_err());
-    let entries = folder.list()?;
+    let entries = folder.list("")?;
     assert_eq!(rt; entries.len(), 2);
     assert_eq!(rt; listed(entries.as_slice(), "a"), Some(true));
     assert_eq!(rt; listed(entries.as_slice(), "latest"), Some(false));
     assert_eq!(rt; folder.failures(), 2);
+    Ok(())
+}
+
+/// The names of what a folder lists with a prefix, one in a line.
+fn names_with<D: Folder>(
+    alloc: Global,
+    folder: &mut D,
+    prefix: &str,
+) -> Result<String, FolderError> {
+    let mut names = String::new(alloc);
+    for entry in folder.list(prefix)? {
+        names.push_str(entry.name.as_str())?;
+        names.push('\n')?;
+    }
+    Ok(names)
+}
+
+#[test]
+fn names_are_listed_by_their_prefix(rt: HostRuntime) -> Result<(), Fail> {
+    let alloc = rt.alloc();
+    let mut folder = MemoryFolder::new(alloc);
+    for name in ["app.2", "other", "app.1", "ap", "app.3"] {
+        folder.put(name, b"", None)?;
+    }
+    folder.remove("app.1")?;
+    folder.link("app.latest", "app.3")?;
+    folder.link("latest", "app.3")?;
+    assert_eq!(rt;
+        names_with(alloc, &mut folder, "app.")?.as_str(),
+        "app.2\napp.3\napp.latest\n"
+    );
+    assert_eq!(rt; names_with(alloc, &mut folder, "app.2.")?.as_str(), "");
+    assert_eq!(rt; folder.list("")?.len(), 6);
+    let refused = numbers(alloc, &[2])?;
+    let mut faulty = FaultyFolder::new(folder, refused);
+    assert_eq!(rt; names_with(alloc, &mut faulty, "ot")?.as_str(), "other\n");
+    assert_eq!(rt; names_with(alloc, &mut faulty, "ot").err(), Some(REFUSED));
+    assert_eq!(rt; names_with(alloc, &mut faulty, "lat")?.as_str(), "latest\n");
     Ok(())
 }
 

@@ -4,6 +4,7 @@ pub mod Apart
 pub mod Files
 pub mod ByPeriod
 pub mod Writing
+pub mod Onward
 pub mod Rising
 pub mod Removing
 pub mod Switching
@@ -13,6 +14,7 @@ pub mod Whole
 pub mod InOrder
 pub mod Sparing
 pub mod Starving
+pub mod Asking
 pub mod Retaining
 pub mod Leading
 pub mod Newest
@@ -22,3 +24,4 @@ pub mod Handover
 pub mod Oldest
 pub mod Sorting
 pub mod Unique
+pub mod Trying

@@ -6,14 +6,15 @@ use Rattle.std.specs.Str.{bytes_eq}
 use Rattle.std.proofs.lemmas.Bool.{false≢true, false_from_ne_true}
 use Rattle.std.proofs.lemmas.Slice.Eq.{bytes_eq-Decides}
 use Rattle.tracing_appender_folders.specs.declared.moment.Moment.{Moment}
-use Rattle.tracing_appender_folders.specs.Contents.{Contents, StoredFile, Listed, Answer, Outcome, IsSound, called, has_name, file_named, bytes_at, unnamed, fresh, if_refused, refusal, remove_at, remove_plain, removed, listing, listed_file, listed_link, list_plain, names_listed}
+use Rattle.tracing_appender_folders.specs.Contents.{Contents, StoredFile, Listed, Answer, Outcome, IsSound, called, has_name, file_named, bytes_at, unnamed, fresh, if_refused, refusal, remove_at, remove_plain, removed, listing, listed_file, listed_link, list_plain, names_listed, begins_with}
 use Rattle.tracing_appender_folders.proofs.Content.{StandsAt, stands_from, none_step, added_other}
 use Rattle.tracing_appender_rolling.specs.declared.faults.Faults.{Faults}
 use Rattle.tracing_appender_rolling.specs.Names.{FileNames}
-use Rattle.tracing_appender_rolling.specs.Retention.{PlainCandidate, IsCandidates, with_candidate, made_of, goes}
+use Rattle.tracing_appender_rolling.specs.Retention.{PlainCandidate, IsCandidates, with_candidate, made_of, asked_prefix, goes}
 use Rattle.tracing_appender_rolling.specs.Pruning.{doomed, after_removal, removed_all, Pruned, PrunedBy, PrunedAfter}
 use Rattle.tracing_appender_rolling.specs.Remaining.{is_named, IsRemoved, StandOnce}
 use Rattle.tracing_appender_rolling.proofs.Sparing.{bytes_unnamed}
+use Rattle.tracing_appender_rolling.proofs.Asking.{asked_candidates}
 
 -- bytes and places of a name
 pub none_first : (q : List ℕ) (f : StoredFile) (fs : List StoredFile) (b : Bool) → cond b (Some f.bytes) (bytes_at fs q) ≡ None → (b ≡ false) × (bytes_at fs q ≡ None)
@@ -191,20 +192,21 @@ pub record Retention (names : FileNames) (f l : Faults) (c d : Contents) : Type 
   pub counts : l ≡ f
   pub leaves : Removal c d removed
 
-listed_sound : (c : Contents) → IsSound c → names_listed c ≡ (Ok (listing c), called c)
-listed_sound c sound = ap (λ (o : Outcome). if_refused o (λ e. refusal e c) (list_plain c)) (sound 0)
+listed_sound : (prefix : List ℕ) (c : Contents) → IsSound c → names_listed c prefix ≡ (Ok (filter (begins_with prefix) (listing c)), called c)
+listed_sound prefix c sound = ap (λ (o : Outcome). if_refused o (λ e. refusal e c) (list_plain prefix c)) (sound 0)
 
 retained_by : (limit : Option ℕ) (names : FileNames) (f l : Faults) (c d : Contents) → IsSound c → StandOnce c.files → PrunedBy limit names f c l d → (removed : List (List ℕ)) × IsRemoved limit names (listing c) removed × (l ≡ f) × Removal c d removed
 retained_by None names f l c d sound once (counts, same) =
     ([], refl, counts, subst (λ (x : Contents). Removal c x []) (sym same) (record { sound = sound; links = refl; once = once; bytes = λ q. refl; open_stay = refl }))
 retained_by (Some limit) names f l c d sound once pruned =
-    let after = subst (λ (a : Answer (List Listed)). PrunedAfter names limit f a l d) (listed_sound c sound) pruned in
+    let after = subst (λ (a : Answer (List Listed)). PrunedAfter names limit f a l d) (listed_sound (asked_prefix names) c sound) pruned in
     let cs = after.0 in
-    let fine = fine_some c.files (goes limit cs) cs (fine_by names c.files c.links cs once after.1) in
+    let are = asked_candidates names (listing c) cs after.1 in
+    let fine = fine_some c.files (goes limit cs) cs (fine_by names c.files c.links cs once are) in
     let all = removes_all (doomed limit cs) f (called c) (λ k. sound (suc k)) once fine.0 fine.1 in
     let e = after.2 in
     let left = subst (λ (x : Contents). Removal (called c) x (doomed limit cs)) (ap (λ (at : Faults × Contents). at.1) e) all.1 in
-    (doomed limit cs, (cs, after.1, refl), sym (ap (λ (at : Faults × Contents). at.0) e) ∙ all.0, record { sound = left.sound; links = left.links; once = left.once; bytes = left.bytes; open_stay = left.open_stay })
+    (doomed limit cs, (cs, are, refl), sym (ap (λ (at : Faults × Contents). at.0) e) ∙ all.0, record { sound = left.sound; links = left.links; once = left.once; bytes = left.bytes; open_stay = left.open_stay })
 
 pub retained : (names : FileNames) (f l : Faults) (c d : Contents) → IsSound c → StandOnce c.files → Pruned names f c l d → Retention names f l c d
 retained names f l c d sound once pruned =

@@ -12,6 +12,7 @@ use Rattle.tracing_appender_rolling.specs.declared.init.InitContext.TheVariants.
 use Rattle.tracing_appender_rolling.specs.declared.init.InitFailure.{InitFailure}
 use Rattle.tracing_appender_rolling.specs.Names.{FileNames}
 use Rattle.tracing_appender_rolling.specs.Writes.{Fruitless}
+use Rattle.tracing_appender_rolling.specs.Retention.{asked_prefix}
 use Rattle.tracing_appender_rolling.specs.Pruning.{UnprunedAfter, UnprunedBy}
 use Rattle.tracing_appender_rolling.specs.Tries.{Tried, Tries, MissedFile, MissesOr, Gave, failure, after_dirs, made_again, after_opening, last_opening, opened_twice}
 use Rattle.tracing_appender_rolling.specs.Looks.{Starved, name_at}
@@ -143,7 +144,7 @@ starved_known names m f l c after (inr (inl u)) = by_limit names.limit u
     by_limit : (limit : Option ℕ) → UnprunedBy limit names f c l after → (d : Contents) × (after ≡ Some d)
     by_limit None u = absurd u
     by_limit (Some limit) (inl left) = (called c, left.1)
-    by_limit (Some limit) (inr u) = by_listing limit (names_listed c) u
+    by_limit (Some limit) (inr u) = by_listing limit (names_listed c (asked_prefix names)) u
 starved_known names m f l c after (inr (inr t)) = by_latest names.latest t.missed
   where
     by_latest : (latest : Option (List ℕ)) → MissedFile latest (name_at names m) t.pruned after → (d : Contents) × (after ≡ Some d)

@@ -16,7 +16,7 @@ use Rattle.tracing_appender_folders.specs.Contents.{Contents, StoredFile, Answer
 use Rattle.tracing_appender_rolling.specs.declared.faults.Faults.{Faults}
 use Rattle.tracing_appender_rolling.specs.Names.{FileNames}
 use Rattle.tracing_appender_rolling.specs.Faults.{after_write}
-use Rattle.tracing_appender_rolling.specs.Retention.{PlainCandidate, Tells, IsCandidates, made_of, with_candidate}
+use Rattle.tracing_appender_rolling.specs.Retention.{PlainCandidate, Tells, IsCandidates, asked_prefix, made_of, with_candidate}
 use Rattle.tracing_appender_rolling.specs.Pruning.{PrunedAfter, PrunedBy, doomed, removed_all}
 use Rattle.tracing_appender_rolling.specs.Looks.{Held, IsHeld, LookedTo, tried, try_at, end_at}
 use Rattle.tracing_appender_rolling.specs.Writes.{Left, for_file, taken_by, Takes, FailsWith, WroteAll, WroteSome, Wrote, WritesAll}
@@ -52,7 +52,7 @@ module _ (names : FileNames) (f l k : Faults) (d e : Contents) where
 
   pruned_once : (limit : Option ℕ) (c : Contents) → PrunedBy limit names f c l d → PrunedBy limit names f c k e → ◌≡◌ {A = Faults × Contents} (l, d) (k, e)
   pruned_once None c (counts, left) (also, again) = pair_same l k d e (counts ∙ sym also) (left ∙ sym again)
-  pruned_once (Some limit) c one two = after_once limit (names_listed c) one two
+  pruned_once (Some limit) c one two = after_once limit (names_listed c (asked_prefix names)) one two
 
 -- a look
 held_same : (a b : Held) → a.boundary ≡ b.boundary → a.current ≡ b.current → a.faults ≡ b.faults → a.contents ≡ b.contents → a ≡ b

@@ -23,6 +23,7 @@ pub mod Builds
 pub mod Anywhere
 pub mod Handing
 pub mod Reading
+pub mod Pieces
 pub use Rattle.tracing_appender_folders.specs.declared.moment.Moment
 pub use Rattle.tracing_appender_folders.specs.declared.fault.FolderFault
 pub use Rattle.tracing_appender_folders.specs.declared.fault.FolderError

@@ -6,7 +6,7 @@ use Rattle.tracing_appender_folders.specs.declared.fault.FolderError.TheVariants
 use Rattle.tracing_appender_rolling.specs.Names.{FileNames}
 use Rattle.tracing_appender_folders.specs.Contents.{Contents, Answer, Listed, called, removed, names_listed}
 use Rattle.tracing_appender_rolling.specs.Faults.{after_retention}
-use Rattle.tracing_appender_rolling.specs.Retention.{PlainCandidate, IsCandidates, goes}
+use Rattle.tracing_appender_rolling.specs.Retention.{PlainCandidate, IsCandidates, asked_prefix, goes}
 
 -- the names of those candidates that pass a test
 abbrev pub names_by : (PlainCandidate → Bool) → List PlainCandidate → List (List ℕ)
@@ -62,7 +62,7 @@ PrunedAfter names limit f (Err OutOfMemory, c) left d = ⊥
 -- without a limit nothing is asked
 abbrev pub PrunedBy : Option ℕ → FileNames → Faults → Contents → Faults → Contents → Type 0
 PrunedBy None names f c left d = (left ≡ f) × (d ≡ c)
-PrunedBy (Some limit) names f c left d = PrunedAfter names limit f (names_listed c) left d
+PrunedBy (Some limit) names f c left d = PrunedAfter names limit f (names_listed c (asked_prefix names)) left d
 
 abbrev pub Pruned : FileNames → Faults → Contents → Faults → Contents → Type 0
 Pruned names f c left d = PrunedBy names.limit names f c left d
@@ -74,7 +74,7 @@ UnprunedAfter names limit f (Err e, c) left after = ⊥
 
 abbrev pub UnprunedBy : Option ℕ → FileNames → Faults → Contents → Faults → Option Contents → Type 0
 UnprunedBy None names f c left after = ⊥
-UnprunedBy (Some limit) names f c left after = ((left ≡ f) × (after ≡ Some (called c))) ⊎ UnprunedAfter names limit f (names_listed c) left after
+UnprunedBy (Some limit) names f c left after = ((left ≡ f) × (after ≡ Some (called c))) ⊎ UnprunedAfter names limit f (names_listed c (asked_prefix names)) left after
 
 abbrev pub Unpruned : FileNames → Faults → Contents → Faults → Option Contents → Type 0
 Unpruned names f c left after = UnprunedBy names.limit names f c left after

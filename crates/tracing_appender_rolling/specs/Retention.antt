@@ -12,6 +12,10 @@ use Rattle.tracing_appender_folders.specs.Moments.{is_earlier}
 use Rattle.tracing_appender_rolling.specs.Names.{FileNames}
 use Rattle.tracing_appender_folders.specs.Contents.{Listed}
 
+abbrev pub text_or_empty : Option (List ℕ) → List ℕ
+text_or_empty None = []
+text_or_empty (Some text) = text
+
 abbrev pub begins : Option (List ℕ) → List ℕ → Bool
 begins None name = true
 begins (Some prefix) name = bytes_eq prefix (take (length prefix) name)
@@ -19,6 +23,10 @@ begins (Some prefix) name = bytes_eq prefix (take (length prefix) name)
 abbrev pub ends : Option (List ℕ) → List ℕ → Bool
 ends None name = true
 ends (Some suffix) name = bytes_eq suffix (drop (length name - length suffix) name)
+
+-- the prefix of the names that retention asks the folder for; without one it asks for all
+abbrev pub asked_prefix : FileNames → List ℕ
+asked_prefix names = text_or_empty names.prefix
 
 -- the second that the date in a name tells, where it is prefix, date and suffix with a point between two
 pub record Tells (names : FileNames) (name : List ℕ) (date : Option ℤ) : Type 0 where

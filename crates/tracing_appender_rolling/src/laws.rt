@@ -6,6 +6,7 @@ ghost use Rattle.tracing_appender_rolling.specs.Names.{NamesDiffer};
 ghost use Rattle.tracing_appender_rolling.specs.Sinks.{FilesByPeriod};
 ghost use Rattle.tracing_appender_rolling.specs.Reading.{LinesStandWhole, FilesReadInOrder, OwnFilesReadInOrder, RetentionSpares};
 ghost use Rattle.tracing_appender_rolling.specs.Remaining.{LeftByPeriod};
+ghost use Rattle.tracing_appender_rolling.specs.Pieces.{FilesGoByTries};
 
 /// Different periods have different file names.
 pub fn names_differ()
@@ -48,4 +49,12 @@ pub fn retention_spares_others()
 /// found and then that period's lines.
 pub fn left_files_by_period()
     ensures { LeftByPeriod }
+{}
+
+/// Whatever a folder refuses, the files go by a list of tries: the building's, and one for each line whose period
+/// is later than that of every try before. The current file is that of the last try that succeeded, and each file,
+/// standing or removed, has what it had at the opening and then the bytes that the folder's writes took for it.
+/// While no memory is refused.
+pub fn files_go_by_tries()
+    ensures { FilesGoByTries }
 {}

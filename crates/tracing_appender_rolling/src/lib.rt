@@ -18,8 +18,9 @@ pub use builder::Builder;
 pub use faults::Faults;
 pub use init::{InitContext, InitError};
 pub use laws::{
-    files_by_period, files_read_in_order, later_periods_are_due, left_files_by_period,
-    lines_have_one_end, lines_stand_whole, names_differ, retention_spares_others,
+    files_by_period, files_go_by_tries, files_read_in_order, later_periods_are_due,
+    left_files_by_period, lines_have_one_end, lines_stand_whole, names_differ,
+    retention_spares_others,
 };
 pub use rotation::Rotation;
 pub use tracing_appender_dates::{date_text, dates_count_days, names_rise, worked_dates};

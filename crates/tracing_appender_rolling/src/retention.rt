@@ -1,12 +1,12 @@
 //! Which files go where one more is to be opened.
 
-ghost use Rattle.std.specs.Prelude.{◌≡◌, ◌≤◌, [], ◌∷◌, None, Ok, IfOk, OnOk, map, length, string_bytes};
+ghost use Rattle.std.specs.Prelude.{◌≡◌, ◌≤◌, [], ◌∷◌, None, Ok, IfOk, OnOk, OnErr, map, length, string_bytes};
 ghost use Rattle.std.specs.Option.{option_map};
 ghost use Rattle.std.specs.Ordering.{is_lt};
 ghost use Rattle.std.specs.List.Sorted.{IsPermutation, IsSortedBy};
 ghost use Rattle.tracing_appender_rolling.specs.Builders.{builder_names};
 ghost use Rattle.tracing_appender_folders.specs.Listings.{listed_of};
-ghost use Rattle.tracing_appender_rolling.specs.Retention.{Tells, made_of, begins, ends, is_before, goes_by, GoesBy, IsAdded, IsCandidates, candidate_of};
+ghost use Rattle.tracing_appender_rolling.specs.Retention.{Tells, made_of, begins, ends, is_before, goes_by, GoesBy, IsAdded, IsCandidates, candidate_of, asked_prefix};
 ghost use Rattle.tracing_appender_rolling.specs.Pruning.{Removes, RemovesDoomed, Prunes, names_by};
 ghost use Rattle.tracing_appender_rolling.specs.Telling.{CountsRetention};
 
@@ -164,6 +164,8 @@ fn is_doomed(last: &Option<Candidate<'_>>, candidate: &Candidate<'_>) -> bool
 fn remove_file<D: Folder>(folder: &mut D, name: &str, faults: &mut Faults) -> Result<(), AllocError>
     ensures removes { Removes (name.now ∷ []) faults.old (D.contents folder.old) result faults.new
         (D.contents folder.new) }
+    // a refusal is not told as want of memory
+    ensures fed { OnErr result (D.failed folder.new ≡ D.failed folder.old) }
     ensures counts { CountsRetention (D.failed folder.old) faults.old faults.new (D.failed folder.new) }
 {
     match folder.remove(name) {
@@ -231,6 +233,16 @@ fn remove_doomed<D: Folder>(
     Ok(())
 }
 
+/// The prefix of the names that are asked for, which is empty where there is none.
+fn asked_prefix(builder: &Builder) -> &str
+    ensures { result.now ≡ asked_prefix (builder_names builder.now) }
+{
+    match &builder.prefix {
+        None => "",
+        Some(prefix) => prefix.as_str(),
+    }
+}
+
 /// Removes the files that go where one more is to be opened, where there is a limit. A fault is counted, and
 /// the work goes on; want of memory ends it.
 pub(crate) fn prune_old_logs<D: Folder>(
@@ -248,7 +260,7 @@ pub(crate) fn prune_old_logs<D: Folder>(
     let Some(limit) = builder.limit else {
         return Ok(());
     };
-    match folder.list() {
+    match folder.list(asked_prefix(builder)) {
         Ok(entries) => {
             let all = candidates(alloc, builder, entries.as_slice())?;
             remove_doomed(alloc, folder, all.as_slice(), limit, faults)?;

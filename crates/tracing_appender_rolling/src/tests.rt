@@ -3,6 +3,7 @@
 ghost use Rattle.std.specs.Prelude.{◌≡◌, true};
 ghost use Rattle.tracing_appender_folders.specs.Moments.{is_moment};
 
+mod many;
 mod moments;
 mod rolling;
 mod system;
@@ -76,7 +77,7 @@ impl Folder for SlowFolder {
         Ok(())
     }
 
-    fn list(&mut self) -> Result<Vec<Entry>, FolderError> {
+    fn list(&mut self, _prefix: &str) -> Result<Vec<Entry>, FolderError> {
         if self.listings == 0 {
             return Err(FolderError::OutOfMemory);
         }

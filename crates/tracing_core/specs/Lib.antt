@@ -31,6 +31,7 @@ pub use Rattle.tracing_core_requests.specs.PlainRequests
 pub use Rattle.tracing_core_requests.specs.Calls
 pub use Rattle.tracing_core_requests.specs.Steady
 pub use Rattle.tracing_core_requests.specs.NoReplies
+pub use Rattle.tracing_core_hub.specs.Kept
 pub use Rattle.tracing_core_hub.specs.Table
 pub use Rattle.tracing_core_hub.specs.Handles
 pub use Rattle.tracing_core_hub.specs.Asking
@@ -58,8 +59,6 @@ pub use Rattle.tracing_core_requests.specs.declared.interest.InterestInner
 pub use Rattle.tracing_core_requests.specs.declared.requests.parent.Parent
 pub use Rattle.tracing_core_requests.specs.declared.current_span.CurrentSpan
 pub use Rattle.tracing_core_requests.specs.declared.refusal.RequestError
-pub use Rattle.tracing_core_hub.specs.declared.hub.parts.RegisteredSubscriber
-pub use Rattle.tracing_core_hub.specs.declared.hub.parts.RegisteredCallsite
 pub use Rattle.tracing_core_hub.specs.declared.hub.parts.LaneDefault
 pub use Rattle.tracing_core_hub.specs.declared.refusal.RegisterError
 pub use Rattle.tracing_core_hub.specs.declared.hub.parts.Lane

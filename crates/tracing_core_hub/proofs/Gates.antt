@@ -3,17 +3,16 @@ use Rattle.std.proofs.Common.{◌≡◌, ℕ, zero, suc, ◌≤◌, Bool, true, 
 use Rattle.std.specs.Prelude.{if◌then◌else◌, slice_get}
 use Rattle.tracing_core_fields.specs.PlainMetadata.{PlainMetadata}
 use Rattle.tracing_core_hub.specs.Asking.{level_of}
-use Rattle.tracing_core_hub.specs.Commands.{AskGives, AskGivesAt, AnswerGives, GateGives, GateGivesAt, known, known_by, reached, row_of}
-use Rattle.tracing_core_hub.specs.Handles.{entry_of}
+use Rattle.tracing_core_hub.specs.Commands.{AskGives, AskGivesAt, AnswerGives, GateGives, GateGivesAt, known, known_by, reached, callsite_with}
+use Rattle.tracing_core_hub.specs.Handles.{subscriber_with}
 use Rattle.tracing_core_requests.specs.Interests.{PlainInterest, Covers}
 use Rattle.tracing_core_requests.specs.Lists.{Every}
-use Rattle.tracing_core_hub.specs.ValidCaches.{IsTrueRow, RowRight, HasValidCache}
+use Rattle.tracing_core_hub.specs.ValidCaches.{IsTrueCallsite, CallsiteRight, HasValidCache}
 use Rattle.tracing_core_requests.specs.Steady.{InterestFits, HintFits}
 use Rattle.tracing_core_hub.specs.Table.{Table}
 use Rattle.tracing_core_requests.specs.declared.at.At.{At}
 use Rattle.tracing_core_requests.specs.declared.callsite.Callsite.{Ghosts as SiteGhosts}
-use Rattle.tracing_core_hub.specs.declared.hub.parts.RegisteredSubscriber.{RegisteredSubscriber}
-use Rattle.tracing_core_hub.specs.declared.hub.parts.RegisteredCallsite.{RegisteredCallsite}
+use Rattle.tracing_core_hub.specs.Kept.{KeptCallsite, KeptSubscriber}
 use Rattle.tracing_core_requests.specs.declared.interest.InterestInner.TheVariants.{Never, Sometimes, Always}
 use Rattle.tracing_core_requests.specs.declared.subscriber.Subscriber.{Ghosts}
 use Rattle.tracing_core_hub.proofs.Keeping.{row_every}
@@ -30,10 +29,10 @@ answered true Always own p b outside covers fits e = subst (λ x. InterestFits x
 
 module _ {S C : Type 0} (g : Ghosts S) (h : SiteGhosts C) where
   -- asking the subscriber of the callsite may answer this
-  abbrev May : RegisteredSubscriber S → RegisteredCallsite C → At → Bool → Type 0
+  abbrev May : KeptSubscriber S → KeptCallsite C → At → Bool → Type 0
   May e row place b = g.answers e.subscriber (h.metadata_of row.callsite) place b
 
-  known_right : (t : Table S C) (e : RegisteredSubscriber S) (row : RegisteredCallsite C) (place : At) (b p : Bool) → HasValidCache g h t e → IsTrueRow h row → RowRight g h e.subscriber row → May e row place p → known t.greatest row.level row.interest ≡ Some b → p ≡ b
+  known_right : (t : Table S C) (e : KeptSubscriber S) (row : KeptCallsite C) (place : At) (b p : Bool) → HasValidCache g h t e → IsTrueCallsite h row → CallsiteRight g h e.subscriber row → May e row place p → known t.greatest row.level row.interest ≡ Some b → p ≡ b
   known_right t e row place b p kept true_row right given e_known =
       let m = h.metadata_of row.callsite in
       let fair = g.fair e.subscriber kept.steady in
@@ -41,37 +40,37 @@ module _ {S C : Type 0} (g : Ghosts S) (h : SiteGhosts C) where
       (λ above. refused (g.hint e.subscriber) t.greatest m.level p (fair.below m place p true_row.1 given) kept.below true_row.1.1 (subst (λ l. nat_le l t.greatest ≡ false) true_row.0 above))
       right.2 (fair.interest m place p right.0 true_row.1 given right.1) e_known
 
-  asked_right : (t : Table S C) (e : RegisteredSubscriber S) (m : PlainMetadata) (place : At) (answer : Bool) (fs : List (RegisteredSubscriber S)) → entry_of e.serial t.entries ≡ Some e → AskGives g m place (Some e.serial) t.entries answer fs → g.answers e.subscriber m place answer
+  asked_right : (t : Table S C) (e : KeptSubscriber S) (m : PlainMetadata) (place : At) (answer : Bool) (fs : List (KeptSubscriber S)) → subscriber_with e.serial t.subscribers ≡ Some e → AskGives g m place (Some e.serial) t.subscribers answer fs → g.answers e.subscriber m place answer
   asked_right t e m place answer fs there given =
-      let asked : AskGivesAt g m place e.serial t.entries (Some e) answer fs = subst (λ o. AskGivesAt g m place e.serial t.entries o answer fs) there given in
+      let asked : AskGivesAt g m place e.serial t.subscribers (Some e) answer fs = subst (λ o. AskGivesAt g m place e.serial t.subscribers o answer fs) there given in
       asked.1
 
-  answer_right : (t : Table S C) (e : RegisteredSubscriber S) (row : RegisteredCallsite C) (place : At) (k : Option Bool) (answer p : Bool) (fs : List (RegisteredSubscriber S)) → known t.greatest row.level row.interest ≡ k → HasValidCache g h t e → IsTrueRow h row → RowRight g h e.subscriber row → May e row place p → AnswerGives g h row place k (Some e.serial) t.entries answer fs → answer ≡ p
+  answer_right : (t : Table S C) (e : KeptSubscriber S) (row : KeptCallsite C) (place : At) (k : Option Bool) (answer p : Bool) (fs : List (KeptSubscriber S)) → known t.greatest row.level row.interest ≡ k → HasValidCache g h t e → IsTrueCallsite h row → CallsiteRight g h e.subscriber row → May e row place p → AnswerGives g h row place k (Some e.serial) t.subscribers answer fs → answer ≡ p
   answer_right t e row place (Some b) answer p fs found kept true_row right may given = given.0 ∙ sym (known_right t e row place b p kept true_row right may found)
   answer_right t e row place None answer p fs found kept true_row right may given =
       let m = h.metadata_of row.callsite in
       g.single e.subscriber m place answer p kept.steady (asked_right t e m place answer fs kept.stands given) may
 
-  place_every : (P : RegisteredCallsite C → Type 0) (place : ℕ) (rows : List (RegisteredCallsite C)) (row : RegisteredCallsite C) → slice_get rows place ≡ Some row → Every P rows → P row
+  place_every : (P : KeptCallsite C → Type 0) (place : ℕ) (callsites : List (KeptCallsite C)) (row : KeptCallsite C) → slice_get callsites place ≡ Some row → Every P callsites → P row
   place_every P place [] row found all = absurd (cc)
-  place_every P zero (r ∷ rows) row found all = let same : r ≡ row = cc in subst P same all.0
-  place_every P (suc place) (r ∷ rows) row found all = place_every P place rows row found all.1
+  place_every P zero (r ∷ callsites) row found all = let same : r ≡ row = cc in subst P same all.0
+  place_every P (suc place) (r ∷ callsites) row found all = place_every P place callsites row found all.1
 
-  gate_right_at : (t u : Table S C) (e : RegisteredSubscriber S) (row : RegisteredCallsite C) (o : Option (RegisteredCallsite C)) (place : At) (result : Option Bool) (p : Bool) → GateGivesAt g h t o place result u → o ≡ Some row → reached t place.lane ≡ Some e.serial → HasValidCache g h t e → IsTrueRow h row → RowRight g h e.subscriber row → g.answers e.subscriber (h.metadata_of row.callsite) place p → result ≡ Some p
+  gate_right_at : (t u : Table S C) (e : KeptSubscriber S) (row : KeptCallsite C) (o : Option (KeptCallsite C)) (place : At) (result : Option Bool) (p : Bool) → GateGivesAt g h t o place result u → o ≡ Some row → reached t place.lane ≡ Some e.serial → HasValidCache g h t e → IsTrueCallsite h row → CallsiteRight g h e.subscriber row → g.answers e.subscriber (h.metadata_of row.callsite) place p → result ≡ Some p
   gate_right_at t u e row o place result p given found reaches kept true_row right may =
       let at_row : GateGivesAt g h t (Some row) place result u = subst (λ x. GateGivesAt g h t x place result u) found given in
       let k = known t.greatest row.level row.interest in
       let answer = at_row.0.0 in
-      let one : AnswerGives g h row place k (Some e.serial) t.entries answer u.entries = subst (λ x. AnswerGives g h row place k x t.entries answer u.entries) reaches at_row.0.2 in
-      let same : answer ≡ p = answer_right t e row place k answer p u.entries refl kept true_row right may one in
+      let one : AnswerGives g h row place k (Some e.serial) t.subscribers answer u.subscribers = subst (λ x. AnswerGives g h row place k x t.subscribers answer u.subscribers) reaches at_row.0.2 in
+      let same : answer ≡ p = answer_right t e row place k answer p u.subscribers refl kept true_row right may one in
       at_row.0.1 ∙ ap Some same
 
   -- a gate answers what asking the reached subscriber does
-  pub gate_right : (t u : Table S C) (e : RegisteredSubscriber S) (row : RegisteredCallsite C) (identifier : ℕ) (place : At) (result : Option Bool) (p : Bool) → GateGives g h t identifier place result u → row_of identifier t.rows ≡ Some row → reached t place.lane ≡ Some e.serial → HasValidCache g h t e → g.answers e.subscriber (h.metadata_of row.callsite) place p → result ≡ Some p
+  pub gate_right : (t u : Table S C) (e : KeptSubscriber S) (row : KeptCallsite C) (identifier : ℕ) (place : At) (result : Option Bool) (p : Bool) → GateGives g h t identifier place result u → callsite_with identifier t.callsites ≡ Some row → reached t place.lane ≡ Some e.serial → HasValidCache g h t e → g.answers e.subscriber (h.metadata_of row.callsite) place p → result ≡ Some p
   gate_right t u e row identifier place result p given found reaches kept may =
-      gate_right_at t u e row (row_of identifier t.rows) place result p given found reaches kept (row_every (IsTrueRow h) identifier t.rows row found kept.rows) (row_every (RowRight g h e.subscriber) identifier t.rows row found kept.right) may
+      gate_right_at t u e row (callsite_with identifier t.callsites) place result p given found reaches kept (row_every (IsTrueCallsite h) identifier t.callsites row found kept.callsites) (row_every (CallsiteRight g h e.subscriber) identifier t.callsites row found kept.right) may
 
   -- so does one at an index
-  pub index_right : (t u : Table S C) (e : RegisteredSubscriber S) (row : RegisteredCallsite C) (index : ℕ) (place : At) (result : Option Bool) (p : Bool) → GateGivesAt g h t (slice_get t.rows index) place result u → slice_get t.rows index ≡ Some row → reached t place.lane ≡ Some e.serial → HasValidCache g h t e → g.answers e.subscriber (h.metadata_of row.callsite) place p → result ≡ Some p
+  pub index_right : (t u : Table S C) (e : KeptSubscriber S) (row : KeptCallsite C) (index : ℕ) (place : At) (result : Option Bool) (p : Bool) → GateGivesAt g h t (slice_get t.callsites index) place result u → slice_get t.callsites index ≡ Some row → reached t place.lane ≡ Some e.serial → HasValidCache g h t e → g.answers e.subscriber (h.metadata_of row.callsite) place p → result ≡ Some p
   index_right t u e row index place result p given found reaches kept may =
-      gate_right_at t u e row (slice_get t.rows index) place result p given found reaches kept (place_every (IsTrueRow h) index t.rows row found kept.rows) (place_every (RowRight g h e.subscriber) index t.rows row found kept.right) may
+      gate_right_at t u e row (slice_get t.callsites index) place result p given found reaches kept (place_every (IsTrueCallsite h) index t.callsites row found kept.callsites) (place_every (CallsiteRight g h e.subscriber) index t.callsites row found kept.right) may

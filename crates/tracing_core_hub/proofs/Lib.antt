@@ -1,4 +1,4 @@
-pub mod Entries
+pub mod Subscribers
 pub mod Loops
 pub mod Asks
 pub mod Tables
@@ -14,3 +14,4 @@ pub mod Books
 pub mod Runs
 pub mod Scoping
 pub mod Callsites
+pub mod Defaults

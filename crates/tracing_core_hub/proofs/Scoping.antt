@@ -38,7 +38,7 @@ module _ {S C F T : Type 0} (g : Once F (MutBor (Table S C) × (Bor (Option ℕ)
 
 module _ {S C : Type 0} (g : Ghosts S) (h : SiteGhosts C) where
   pub marks_keep : (t : Table S C) (lane : ℕ) (mark : Bool) → PreservesCaches g h t (marked t lane mark)
-  marks_keep t lane mark = same_keeps g h t (marked t lane mark) refl (record { next = refl; rows = refl; greatest = refl })
+  marks_keep t lane mark = same_keeps g h t (marked t lane mark) refl (record { next = refl; callsites = refl; greatest = refl })
 
   pub marks_living : (t : Table S C) (lane : ℕ) (mark : Bool) → PreservesLivingCaches g h t (marked t lane mark)
   marks_living t lane mark = living_from g h t (marked t lane mark) (marks_keep t lane mark)

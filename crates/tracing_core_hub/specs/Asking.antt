@@ -3,8 +3,7 @@ use Rattle.std.specs.Prelude.{◌≡◌, ℕ, max, false, List, [], ◌∷◌, O
 use Rattle.tracing_core_fields.specs.PlainMetadata.{PlainMetadata}
 use Rattle.tracing_core_requests.specs.Calls.{CallsiteRegistered, HintAsked}
 use Rattle.tracing_core_requests.specs.Interests.{PlainInterest, joined, settled}
-use Rattle.tracing_core_hub.specs.declared.hub.parts.RegisteredSubscriber.{RegisteredSubscriber}
-use Rattle.tracing_core_hub.specs.declared.hub.parts.RegisteredCallsite.{RegisteredCallsite}
+use Rattle.tracing_core_hub.specs.Kept.{KeptCallsite, KeptSubscriber}
 use Rattle.tracing_core_requests.specs.declared.subscriber.Subscriber.{Ghosts}
 use Rattle.tracing_core_requests.specs.declared.callsite.Callsite.{Ghosts as SiteGhosts}
 
@@ -22,25 +21,25 @@ level_of (Some level) = level
 
 module _ {S : Type 0} (g : Ghosts S) where
   -- the subscriber was asked of the callsite, and its answer joined those before
-  abbrev pub Registers : PlainMetadata → Option PlainInterest → RegisteredSubscriber S → RegisteredSubscriber S → Option PlainInterest → Type 0
+  abbrev pub Registers : PlainMetadata → Option PlainInterest → KeptSubscriber S → KeptSubscriber S → Option PlainInterest → Type 0
   Registers m before e f after =
       (k : PlainInterest) × g.says e.subscriber m k × g.moves e.subscriber (CallsiteRegistered m) k f.subscriber
       × (f ≡ record e { subscriber = f.subscriber }) × (after ≡ joined before k)
 
   -- all were asked of the callsite, in order, and this is their common interest
-  abbrev pub AskedAll : PlainMetadata → List (RegisteredSubscriber S) → List (RegisteredSubscriber S) → PlainInterest → Type 0
+  abbrev pub AskedAll : PlainMetadata → List (KeptSubscriber S) → List (KeptSubscriber S) → PlainInterest → Type 0
   AskedAll m es fs k = (o : Option PlainInterest) × Each (Registers m) None es fs o × (k ≡ settled o)
 
   -- the subscriber was asked for its hint, and counts as not lent from then on
-  abbrev pub Hints : ℕ → RegisteredSubscriber S → RegisteredSubscriber S → ℕ → Type 0
+  abbrev pub Hints : ℕ → KeptSubscriber S → KeptSubscriber S → ℕ → Type 0
   Hints before e f after =
       g.moves e.subscriber HintAsked (g.hint e.subscriber) f.subscriber
       × (f ≡ record e { lent = false; subscriber = f.subscriber }) × (after ≡ max before (level_of (g.hint e.subscriber)))
 
   module _ {C : Type 0} (h : SiteGhosts C) where
     -- all were asked of the callsite of the row, which was told their common interest
-    abbrev pub RowAsked : List (RegisteredSubscriber S) → RegisteredCallsite C → RegisteredCallsite C → List (RegisteredSubscriber S) → Type 0
-    RowAsked es row later fs =
+    abbrev pub CallsiteAsked : List (KeptSubscriber S) → KeptCallsite C → KeptCallsite C → List (KeptSubscriber S) → Type 0
+    CallsiteAsked es row later fs =
         AskedAll (h.metadata_of row.callsite) es fs later.interest
         × (h.metadata_of later.callsite ≡ h.metadata_of row.callsite) × (h.interest_of later.callsite ≡ later.interest)
         × (later ≡ record row { callsite = later.callsite; interest = later.interest })

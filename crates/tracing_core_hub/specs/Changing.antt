@@ -5,7 +5,7 @@ use Rattle.std.specs.Fn.{Once, FnOnceReturnsAtMut}
 use Rattle.tracing_core_hub.specs.Commands.{becomes}
 use Rattle.tracing_core_hub.specs.Lent.{living_of, living_changed}
 use Rattle.tracing_core_requests.specs.Steady.{SameWord}
-use Rattle.tracing_core_hub.specs.declared.hub.parts.RegisteredSubscriber.{RegisteredSubscriber}
+use Rattle.tracing_core_hub.specs.Kept.{KeptSubscriber}
 use Rattle.tracing_core_requests.specs.declared.subscriber.Subscriber.{Ghosts}
 
 -- the later value is consistent where the earlier one is, and says the same of its interests, and of its hint
@@ -17,12 +17,12 @@ module _ {S F T : Type 0} (g : Once F (MutBor S × Unit {0}) (T × (MutBor S × 
   abbrev pub ChangesBy : (S → S → Type 0) → Type 0
   ChangesBy R = (x y : S) (answer : T) → FnOnceReturnsAtMut g f x answer y → R x y
 
-  abbrev pub ChangeGivesAt : Option ℕ → List (RegisteredSubscriber S) → Option (RegisteredSubscriber S) → Option T → List (RegisteredSubscriber S) → Type 0
+  abbrev pub ChangeGivesAt : Option ℕ → List (KeptSubscriber S) → Option (KeptSubscriber S) → Option T → List (KeptSubscriber S) → Type 0
   ChangeGivesAt dispatch es None result fs = (result ≡ None) × (fs ≡ es)
   ChangeGivesAt dispatch es (Some e) result fs =
       (answer : T) × (after : S) × (result ≡ Some answer) × FnOnceReturnsAtMut g f e.subscriber answer after
       × (fs ≡ living_changed dispatch (becomes after) es)
 
   -- f was called once with the subscriber of the handle, where it lives, and nothing else of the hub changed
-  abbrev pub ChangeGives : Option ℕ → List (RegisteredSubscriber S) → Option T → List (RegisteredSubscriber S) → Type 0
+  abbrev pub ChangeGives : Option ℕ → List (KeptSubscriber S) → Option T → List (KeptSubscriber S) → Type 0
   ChangeGives dispatch es result fs = ChangeGivesAt dispatch es (living_of dispatch es) result fs

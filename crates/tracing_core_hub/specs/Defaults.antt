@@ -43,19 +43,19 @@ upgrade_answer dispatch (Some TooMany) = Err (record { 0 = tt })
 module _ {S C : Type 0} where
   -- with one more handle to what this one leads to
   abbrev pub holding : Table S C → Option ℕ → Table S C
-  holding t dispatch = record t { entries = held dispatch t.entries }
+  holding t dispatch = record t { subscribers = held dispatch t.subscribers }
 
   -- with one handle less
   abbrev pub letting_go : Table S C → Option ℕ → Table S C
-  letting_go t dispatch = record t { entries = (given_back dispatch t.entries).1 }
+  letting_go t dispatch = record t { subscribers = (given_back dispatch t.subscribers).1 }
 
   -- why the global default isn't set
   abbrev pub global_refusal : Table S C → Option ℕ → Option SetGlobalDefaultError
-  global_refusal t dispatch = if was_set t.global then Some global.AlreadySet else option_map global.Handle (hold_refusal dispatch t.entries)
+  global_refusal t dispatch = if was_set t.global then Some global.AlreadySet else option_map global.Handle (hold_refusal dispatch t.subscribers)
 
   -- with the global default set
   abbrev pub globally : Table S C → Option ℕ → Table S C
-  globally t dispatch = record t { entries = held dispatch t.entries; global = setting_to dispatch }
+  globally t dispatch = record t { subscribers = held dispatch t.subscribers; global = setting_to dispatch }
 
   -- with another default of a lane
   abbrev pub with_lane : Table S C → ℕ → Lane → Table S C
@@ -63,7 +63,7 @@ module _ {S C : Type 0} where
 
   abbrev pub default_refusal_at : Table S C → Option ℕ → Option LaneDefault → Option SetDefaultError
   default_refusal_at t dispatch None = Some own.UnknownLane
-  default_refusal_at t dispatch (Some setting) = option_map own.Handle (hold_refusal dispatch t.entries)
+  default_refusal_at t dispatch (Some setting) = option_map own.Handle (hold_refusal dispatch t.subscribers)
 
   -- why the default of a lane isn't set
   abbrev pub default_refusal : Table S C → ℕ → Option ℕ → Option SetDefaultError
@@ -79,7 +79,7 @@ module _ {S C : Type 0} where
 
   -- with one hold of a default given up, and another value of the lane: the subscriber that this releases comes back
   abbrev pub given_up : Table S C → ℕ → LaneDefault → Lane → Option S × Table S C
-  given_up t lane setting value = ((given_back (chosen setting) t.entries).0, with_lane (letting_go t (chosen setting)) lane value)
+  given_up t lane setting value = ((given_back (chosen setting) t.subscribers).0, with_lane (letting_go t (chosen setting)) lane value)
 
   abbrev pub end_gives_at : Table S C → ℕ → Option LaneDefault → Result (Option S) UnknownLane × Table S C
   end_gives_at t lane None = (Err (record { 0 = tt }), t)

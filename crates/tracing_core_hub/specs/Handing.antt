@@ -5,19 +5,19 @@ use Rattle.tracing_core_hub.specs.Commands.{becomes}
 use Rattle.tracing_core_hub.specs.Lent.{living_of, living_changed}
 use Rattle.tracing_core_requests.specs.NoReplies.{no_reply}
 use Rattle.tracing_core_hub.specs.Table.{Table}
-use Rattle.tracing_core_hub.specs.declared.hub.parts.RegisteredSubscriber.{RegisteredSubscriber}
+use Rattle.tracing_core_hub.specs.Kept.{KeptSubscriber}
 use Rattle.tracing_core_requests.specs.declared.subscriber.Subscriber.{Ghosts}
 
 module _ {S : Type 0} (g : Ghosts S) where
-  abbrev pub CallGivesAt : (c : Call) → Option ℕ → List (RegisteredSubscriber S) → Option (RegisteredSubscriber S) → ReplyTo c → List (RegisteredSubscriber S) → Type 0
+  abbrev pub CallGivesAt : (c : Call) → Option ℕ → List (KeptSubscriber S) → Option (KeptSubscriber S) → ReplyTo c → List (KeptSubscriber S) → Type 0
   CallGivesAt c dispatch es None reply fs = (reply ≡ no_reply c) × (fs ≡ es)
   CallGivesAt c dispatch es (Some e) reply fs =
       (after : S) × g.moves e.subscriber c reply after × (fs ≡ living_changed dispatch (becomes after) es)
 
   -- the subscriber of the handle took the call; where there is none, the answer is that of the subscriber that wants nothing
-  abbrev pub CallGives : (c : Call) → Option ℕ → List (RegisteredSubscriber S) → ReplyTo c → List (RegisteredSubscriber S) → Type 0
+  abbrev pub CallGives : (c : Call) → Option ℕ → List (KeptSubscriber S) → ReplyTo c → List (KeptSubscriber S) → Type 0
   CallGives c dispatch es reply fs = CallGivesAt c dispatch es (living_of dispatch es) reply fs
 
   -- a call through a hub
   abbrev pub HubGives : {C : Type 0} → (c : Call) → Option ℕ → Table S C → ReplyTo c → Table S C → Type 0
-  HubGives c dispatch t reply u = CallGives c dispatch t.entries reply u.entries × (u ≡ record t { entries = u.entries })
+  HubGives c dispatch t reply u = CallGives c dispatch t.subscribers reply u.subscribers × (u ≡ record t { subscribers = u.subscribers })

@@ -8,4 +8,4 @@ use Rattle.tracing_core_hub.specs.contracts.hub.Hub.{the_row}
 
 -- the hub ends with the subscriber of the handle as the last value behind r, and marked as lent
 abbrev pub LendsSubscriber : (S C : RattleType) → MutBor (Table S.Denot C.Denot) → Option ℕ → Option (MutBor S.Denot) → Fml
-LendsSubscriber S C h dispatch r = LendsIf (the_row S C) S h r (λ w. record h.now { entries = lent_to dispatch w h.now.entries }) h.now
+LendsSubscriber S C h dispatch r = LendsIf (the_row S C) S h r (λ w. record h.now { subscribers = lent_to dispatch w h.now.subscribers }) h.now

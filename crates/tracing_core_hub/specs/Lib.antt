@@ -1,3 +1,4 @@
+pub mod Kept
 pub mod Table
 pub mod Handles
 pub mod Asking
@@ -8,7 +9,7 @@ pub mod Lent
 pub mod ValidCaches
 pub mod Refreshing
 pub mod Sound
-pub mod Places
+pub mod Indices
 pub mod Keeping
 pub mod Lending
 pub mod Handing

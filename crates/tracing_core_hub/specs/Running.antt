@@ -1,7 +1,7 @@
 -- What a hub replies to commands on handles, lanes and guards by number, and what they leave.
 use Rattle.std.specs.Prelude.{◌≡◌, ℕ, Bool, true, false, List, [], ◌∷◌, ◌++◌, Option, Some, None, Result, Ok, Err, length, slice_get, slice_set}
 use Rattle.std.specs.Option.{option_map}
-use Rattle.tracing_core_hub.specs.Commands.{AddGives, GateGives, RegisterGives, Rebuilt, reached, row_of}
+use Rattle.tracing_core_hub.specs.Commands.{AddGives, GateGives, RegisterGives, Rebuilt, reached, callsite_with}
 use Rattle.tracing_core_hub.specs.Defaults.{was_set, holding, letting_go, global_refusal, globally, default_refusal, locally, guard_of, running, end_gives, reset_gives}
 use Rattle.tracing_core_hub.specs.Handles.{given_back, hold_refusal}
 use Rattle.tracing_core_requests.specs.Refusals.{or_refused, or_same}
@@ -137,7 +137,7 @@ module _ {S C : Type 0} where
 
   abbrev pub CloneRunsAt : Table S C → List (Option (Option ℕ)) → Option (Option ℕ) → CommandReply S C → Table S C → List (Option (Option ℕ)) → Type 0
   CloneRunsAt t handles None answer u left = (answer ≡ reply.Refused error.UnknownHandle) × (u ≡ t) × (left ≡ handles)
-  CloneRunsAt t handles (Some dispatch) answer u left = HoldRuns t handles dispatch clone_refused (hold_refusal dispatch t.entries) answer u left
+  CloneRunsAt t handles (Some dispatch) answer u left = HoldRuns t handles dispatch clone_refused (hold_refusal dispatch t.subscribers) answer u left
 
   -- a handle becomes two
   abbrev pub CloneRuns : Table S C → List (Option (Option ℕ)) → ℕ → CommandReply S C → Table S C → List (Option (Option ℕ)) → Type 0
@@ -159,7 +159,7 @@ module _ {S C : Type 0} where
 
   abbrev pub UpgradeRunsAt : Table S C → List (Option (Option ℕ)) → Option (Option ℕ) → CommandReply S C → Table S C → List (Option (Option ℕ)) → Type 0
   UpgradeRunsAt t handles None answer u left = (answer ≡ reply.Refused error.UnknownWeakHandle) × (u ≡ t) × (left ≡ handles)
-  UpgradeRunsAt t handles (Some dispatch) answer u left = HoldRuns t handles dispatch upgrade_refused (hold_refusal dispatch t.entries) answer u left
+  UpgradeRunsAt t handles (Some dispatch) answer u left = HoldRuns t handles dispatch upgrade_refused (hold_refusal dispatch t.subscribers) answer u left
 
   -- a weak handle becomes a handle where its subscriber lives
   abbrev pub UpgradeRuns : Table S C → List (Option ℕ) → List (Option (Option ℕ)) → ℕ → CommandReply S C → Table S C → List (Option (Option ℕ)) → Type 0
@@ -167,7 +167,7 @@ module _ {S C : Type 0} where
 
   abbrev pub release_gives_at : Table S C → List (Option (Option ℕ)) → ℕ → Option (Option ℕ) → (CommandReply S C × Table S C) × List (Option (Option ℕ))
   release_gives_at t handles number None = ((reply.Refused error.UnknownHandle, t), handles)
-  release_gives_at t handles number (Some dispatch) = ((reply.Released (given_back dispatch t.entries).0, letting_go t dispatch), slice_set handles number None)
+  release_gives_at t handles number (Some dispatch) = ((reply.Released (given_back dispatch t.subscribers).0, letting_go t dispatch), slice_set handles number None)
 
   -- a handle is spent
   abbrev pub release_gives : Table S C → List (Option (Option ℕ)) → ℕ → (CommandReply S C × Table S C) × List (Option (Option ℕ))
@@ -221,7 +221,7 @@ module _ {S : Type 0} (g : Ghosts S) {C : Type 0} (h : SiteGhosts C) where
       (((answer, u), c.handles) ≡ release_gives t b.handles handle) × (c ≡ record b { handles = c.handles })
   CommandGives t b (command.Gate identifier at) answer u c = GateRuns t identifier.0 at answer u × (c ≡ b)
   CommandGives t b (command.Interest identifier) answer u c =
-      (answer ≡ reply.Kept (option_map (λ row. row.interest) (row_of identifier.0 t.rows))) × (u ≡ t) × (c ≡ b)
+      (answer ≡ reply.Kept (option_map (λ row. row.interest) (callsite_with identifier.0 t.callsites))) × (u ≡ t) × (c ≡ b)
   CommandGives t b (command.Reached lane) answer u c = (answer ≡ reply.Reached (reached t lane)) × (u ≡ t) × (c ≡ b)
 
   -- what a command leaves of what the hub knows

@@ -1,11 +1,10 @@
 -- What is true of every hub.
 use Rattle.std.specs.Prelude.{◌≡◌, ◌≤◌, ◌+◌, ℕ, List, [], ◌∷◌, map}
 use Rattle.tracing_core_requests.specs.Lists.{Every}
-use Rattle.tracing_core_hub.specs.ValidCaches.{IsTrueRow}
+use Rattle.tracing_core_hub.specs.ValidCaches.{IsTrueCallsite}
 use Rattle.tracing_core_hub.specs.Table.{Table}
 use Rattle.tracing_core_requests.specs.declared.callsite.Callsite.{Ghosts as SiteGhosts}
-use Rattle.tracing_core_hub.specs.declared.hub.parts.RegisteredSubscriber.{RegisteredSubscriber}
-use Rattle.tracing_core_hub.specs.declared.hub.parts.RegisteredCallsite.{RegisteredCallsite}
+use Rattle.tracing_core_hub.specs.Kept.{KeptCallsite, KeptSubscriber}
 
 -- numbers that ascend from the least on, all of them below the end
 abbrev pub Ascends : ℕ → List ℕ → ℕ → Type 0
@@ -18,17 +17,17 @@ AreDistinct [] = Unit {0}
 AreDistinct (n ∷ ns) = Every (λ m. ¬ (m ≡ n)) ns × AreDistinct ns
 
 -- the numbers of the subscribers
-abbrev pub serials : {S : Type 0} → List (RegisteredSubscriber S) → List ℕ
-serials {S = S} es = map (λ (e : RegisteredSubscriber S). e.serial) es
+abbrev pub serials : {S : Type 0} → List (KeptSubscriber S) → List ℕ
+serials {S = S} es = map (λ (e : KeptSubscriber S). e.serial) es
 
 -- the identifiers of the callsites
-abbrev pub identifiers : {C : Type 0} → List (RegisteredCallsite C) → List ℕ
-identifiers {C = C} rows = map (λ (row : RegisteredCallsite C). row.identifier) rows
+abbrev pub identifiers : {C : Type 0} → List (KeptCallsite C) → List ℕ
+identifiers {C = C} callsites = map (λ (row : KeptCallsite C). row.identifier) callsites
 
 pub record IsSound {S C : Type 0} (h : SiteGhosts C) (t : Table S C) : Type 0 where
   -- the numbers of subscribers differ, and are below the next one
-  pub numbers : Ascends 0 (serials t.entries) t.next
+  pub numbers : Ascends 0 (serials t.subscribers) t.next
   -- the identifiers of callsites differ
-  pub apart : AreDistinct (identifiers t.rows)
+  pub apart : AreDistinct (identifiers t.callsites)
   -- the identifier and the level that are kept are the callsite's
-  pub sites : Every (IsTrueRow h) t.rows
+  pub sites : Every (IsTrueCallsite h) t.callsites

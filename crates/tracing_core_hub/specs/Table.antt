@@ -1,7 +1,6 @@
 -- What a hub keeps, as plain data.
 use Rattle.std.specs.Prelude.{ℕ, Bool, List, [], Option, Some, None}
-use Rattle.tracing_core_hub.specs.declared.hub.parts.RegisteredSubscriber.{RegisteredSubscriber}
-use Rattle.tracing_core_hub.specs.declared.hub.parts.RegisteredCallsite.{RegisteredCallsite}
+use Rattle.tracing_core_hub.specs.Kept.{KeptCallsite, KeptSubscriber}
 use Rattle.tracing_core_hub.specs.declared.hub.parts.LaneDefault.{LaneDefault}
 use Rattle.tracing_core_hub.specs.declared.hub.parts.LaneDefault.TheVariants.{Unset, Nothing, To}
 use Rattle.tracing_core_hub.specs.declared.hub.parts.Lane.{Lane}
@@ -9,11 +8,11 @@ use Rattle.tracing_core_hub.specs.declared.hub.parts.Lane.TheVariants.{Ended, Ru
 
 pub record Table (S C : Type 0) : Type 0 where
   -- the subscribers that some handle leads to, in order of their numbers
-  pub entries : List (RegisteredSubscriber S)
+  pub subscribers : List (KeptSubscriber S)
   -- the number of the next one
   pub next : ℕ
   -- the callsites, in order of registration
-  pub rows : List (RegisteredCallsite C)
+  pub callsites : List (KeptCallsite C)
   -- the lanes, by their numbers
   pub lanes : List Lane
   -- by lane, whether it is within a call that lends its subscriber
@@ -23,7 +22,7 @@ pub record Table (S C : Type 0) : Type 0 where
   pub greatest : ℕ
 
 abbrev pub fresh : {S C : Type 0} → Table S C
-fresh = record { entries = []; next = 0; rows = []; lanes = []; entered = []; global = Unset; greatest = 0 }
+fresh = record { subscribers = []; next = 0; callsites = []; lanes = []; entered = []; global = Unset; greatest = 0 }
 
 -- the subscriber that a default leads to
 abbrev pub chosen : LaneDefault → Option ℕ

@@ -10,7 +10,6 @@ mod asking;
 mod callsites;
 mod defaults;
 mod dispatching;
-mod entries;
 mod gate;
 mod handing;
 mod handles;
@@ -18,9 +17,10 @@ mod index;
 mod lending;
 mod parts;
 mod reaching;
+mod registered;
 mod requests;
-mod rows;
 mod scoped;
+mod subscribers;
 mod table;
 mod taking;
 
@@ -39,9 +39,9 @@ use tracing_core_requests::{Callsite, Subscriber};
 /// A contract sees a hub as a `Table`.
 #[derive(Drop)]
 pub struct Hub<S, C> {
-    entries: Vec<RegisteredSubscriber<S>>,
+    subscribers: Vec<RegisteredSubscriber<S>>,
     next: u64,
-    rows: Callsites<C>,
+    callsites: Callsites<C>,
     lanes: Vec<Lane>,
     // by lane, whether it is within a `get_default` or `get_current`
     entered: Vec<bool>,
@@ -55,9 +55,9 @@ impl<S, C> Model for Hub<S, C> {
     ghost Value = { Table S C };
 
     ghost view = { λ h. record {
-      entries = h.entries.items;
+      subscribers = h.subscribers.items;
       next = h.next;
-      rows = h.rows;
+      callsites = h.callsites;
       lanes = h.lanes.items;
       entered = h.entered.items;
       global = h.global;
@@ -72,9 +72,9 @@ impl<S: Subscriber, C: Callsite> Hub<S, C> {
         ensures sound { IsSound ⟦<C as Callsite>⟧ result }
     {
         Hub {
-            entries: Vec::new(alloc),
+            subscribers: Vec::new(alloc),
             next: 0,
-            rows: Callsites::new(alloc),
+            callsites: Callsites::new(alloc),
             lanes: Vec::new(alloc),
             entered: Vec::new(alloc),
             global: LaneDefault::Unset,

@@ -1,6 +1,7 @@
 //! Commands on handles, lanes and guards by number.
 
 mod book;
+mod booked;
 mod command;
 mod defaults;
 mod handles;

@@ -1,3 +1,4 @@
+pub mod Choices
 pub mod Tallies
 pub mod CountsKept
 pub mod Letters

@@ -2,14 +2,13 @@
 
 ghost use Rattle.std.specs.Prelude.{◌≡◌, nat_le, false, if◌then◌else◌, None, Some, OnOk, OnErr, IfOk, ℕ, slice_get};
 ghost use Rattle.std.specs.Option.{option_map};
-ghost use Rattle.tracing_core.specs.Commands.{reached, row_of};
-ghost use Rattle.tracing_core.specs.RegisteredSubscriber.{RegisteredSubscriber};
-ghost use Rattle.tracing_core.specs.Handles.{entry_of};
+ghost use Rattle.tracing_core.specs.Commands.{reached, callsite_with};
+ghost use Rattle.tracing_core.specs.Kept.{KeptCallsite, KeptSubscriber};
+ghost use Rattle.tracing_core.specs.Handles.{subscriber_with};
 ghost use Rattle.tracing_core.specs.Keeping.{PreservesCaches};
 ghost use Rattle.tracing_core.specs.ValidCaches.{HasValidCache};
 ghost use Rattle.tracing_core.specs.Lent.{living_of};
 ghost use Rattle.tracing_core.specs.PlainRequests.{plain_event};
-ghost use Rattle.tracing_core.specs.RegisteredCallsite.{RegisteredCallsite};
 ghost use Rattle.tracing_core.specs.LaneDefault.TheVariants.{Unset};
 ghost use Rattle.tracing_core.specs.Sound.{IsSound};
 ghost use Rattle.tracing_core.specs.Table.{own_setting};
@@ -149,7 +148,7 @@ pub fn hub_of<S: Subscriber, C: Callsite>(
     subscriber: S,
 ) -> Result<(Hub<S, C>, Dispatch), AddError<S>>
     ensures right { IfOk result (λ made. S.steady subscriber →
-        ((e : RegisteredSubscriber S) × (made.1 ≡ Some e.serial) ×
+        ((e : KeptSubscriber S) × (made.1 ≡ Some e.serial) ×
         HasValidCache ⟦<S as Subscriber>⟧ ⟦<C as Callsite>⟧ made.0 e)) }
     ensures sound { IfOk result (λ made. IsSound ⟦<C as Callsite>⟧ made.0) }
 {
@@ -183,14 +182,14 @@ pub fn reach_by_default<S: Subscriber, C: Callsite>(
 pub fn log_event<C: Callsite>(hub: &mut Hub<Tally, C>, event: &Event<'_, '_>, at: At) -> bool
     ensures nobody { reached hub.old at.lane ≡ None → (result ≡ false) × (hub.new ≡ hub.old) }
     // Where what is kept is right of the reached tally, its level decides.
-    ensures wanted { (row : RegisteredCallsite C) (e : RegisteredSubscriber Tally) →
-        row_of (plain_event event.now).metadata.callsite hub.old.rows ≡ Some row →
+    ensures wanted { (row : KeptCallsite C) (e : KeptSubscriber Tally) →
+        callsite_with (plain_event event.now).metadata.callsite hub.old.callsites ≡ Some row →
         reached hub.old at.lane ≡ Some e.serial → HasValidCache ⟦<Tally as Subscriber>⟧ ⟦<C as Callsite>⟧ hub.old e →
         result ≡ nat_le (C.metadata_of row.callsite).level e.subscriber.most }
     // And it counts the event exactly where it was handed on.
-    ensures counted { (e : RegisteredSubscriber Tally) → reached hub.old at.lane ≡ Some e.serial →
-        entry_of e.serial hub.old.entries ≡ Some e → option_map (λ f. f.subscriber.events)
-        (entry_of e.serial hub.new.entries) ≡ Some (if result then counted e.subscriber.events else
+    ensures counted { (e : KeptSubscriber Tally) → reached hub.old at.lane ≡ Some e.serial →
+        subscriber_with e.serial hub.old.subscribers ≡ Some e → option_map (λ f. f.subscriber.events)
+        (subscriber_with e.serial hub.new.subscribers) ≡ Some (if result then counted e.subscriber.events else
         e.subscriber.events) }
     ensures keeps { PreservesCaches ⟦<Tally as Subscriber>⟧ ⟦<C as Callsite>⟧ hub.old hub.new }
 {
@@ -202,7 +201,7 @@ pub fn log_event<C: Callsite>(hub: &mut Hub<Tally, C>, event: &Event<'_, '_>, at
 
 /// How many events the tally of the handle was told of.
 pub fn events_of<C: Callsite>(hub: &Hub<Tally, C>, dispatch: &Dispatch) -> Option<u64>
-    ensures { result ≡ option_map (λ e. e.subscriber.events) (living_of dispatch.now hub.now.entries) }
+    ensures { result ≡ option_map (λ e. e.subscriber.events) (living_of dispatch.now hub.now.subscribers) }
 {
     match hub.subscriber(dispatch) {
         Some(tally) => Some(tally.events),

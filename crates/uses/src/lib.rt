@@ -2,6 +2,7 @@
 #![tactic(auto)]
 
 pub mod boxed;
+pub mod choice;
 pub mod filter;
 pub mod hub;
 pub mod layer;

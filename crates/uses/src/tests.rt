@@ -5,6 +5,7 @@ ghost use Rattle.span_registry_layers.specs.CacheValidity.{CacheIsValid};
 ghost use Rattle.tracing_core.specs.Metadata.{plain_metadata};
 
 use crate::boxed::{under_both, under_box, under_context_closure};
+use crate::choice::{by_closure, by_level, under_choice};
 use crate::filter::{hand, under_closure, under_level, under_verbosity};
 use crate::hub::{Tally, events_of, hub_of, log_event, reach_by_default};
 use crate::layer::Counts;
@@ -13,8 +14,8 @@ use crate::queue::{close_behind, dropping_queue, next_line, offer_text, two_in_o
 use crate::rolling::{files_of, open_daily, write_line};
 use crate::visitor::{kinds_of, texts_of};
 use span_registry_layers::{
-    Context, ContextTest, DynFilterFn, Filter, Filtered, Identity, MetadataTest, Output, OutputKey,
-    Stack,
+    Context, ContextTest, DynFilterFn, Filter, Filtered, Identity, Listening, MetadataTest, Output,
+    OutputKey, Stack,
 };
 use span_tracing::Reply;
 use std::test::Fail;
@@ -119,12 +120,25 @@ fn a_level_and_a_closure_pass_warnings(rt: HostRuntime) -> Result<(), Fail> {
 }
 
 #[test]
+fn a_choice_passes_warnings(rt: HostRuntime) -> Result<(), Fail> {
+    let quiet: MetadataTest = Box::new(rt.alloc(), is_quiet)?;
+    let mut chosen = under_choice(rt.alloc(), by_closure(quiet))
+        .ok()
+        .ok_or("room")?;
+    let mut other = under_choice(rt.alloc(), by_level(LevelFilter::WARN))
+        .ok()
+        .ok_or("room")?;
+    assert!(rt; passes_warnings(&mut chosen)? && passes_warnings(&mut other)?);
+    Ok(())
+}
+
+#[test]
 fn a_layer_counts(rt: HostRuntime) -> Result<(), Fail> {
     let alloc = rt.alloc();
     let mut outputs = Vec::new(alloc);
     let output = Output {
         key: OutputKey(1),
-        output: Filtered::new(Counts::none(), LevelFilter::INFO),
+        output: Filtered::new(Listening::new(Counts::none()), LevelFilter::INFO),
     };
     outputs.push(output).ok().ok_or("room")?;
     let mut stack = Stack::new(alloc, outputs).ok().ok_or("a stack")?;
@@ -148,7 +162,7 @@ fn a_layer_counts(rt: HostRuntime) -> Result<(), Fail> {
     );
     let made = stack.new_span(&Attributes::new(&span, fields.value_set_all(&[])), PLACE)?;
     assert!(rt; made.is_some());
-    let counts = *stack.output(0).ok_or("an output")?.inner();
+    let counts = *stack.output(0).ok_or("an output")?.inner().listener();
     assert_eq!(rt;
         counts,
         Counts {

@@ -42,20 +42,20 @@ fn a_folder_of_the_system_keeps_files(rt: HostRuntime) -> Result<(), Fail> {
     assert_eq!(rt; folder.write(again, b"two\n")?, 4);
     let bytes = fs::read(&rt, "logs/deep/a")?;
     assert_eq!(rt; bytes.as_slice(), b"one\ntwo\n".as_slice());
-    let entries = folder.list()?;
+    let entries = folder.list("")?;
     assert_eq!(rt; entries.len(), 1);
     assert_eq!(rt; listed(entries.as_slice(), "a"), Some(true));
     folder.remove("a")?;
     assert_eq!(rt; folder.remove("a"), Err(NOT_FOUND));
     assert_eq!(rt; folder.write(again, b"three\n")?, 6);
-    assert_eq!(rt; folder.list()?.len(), 0);
+    assert_eq!(rt; folder.list("")?.len(), 0);
     let link = Err(FolderError::Fault(FolderFault::Unsupported));
     assert_eq!(rt; folder.link("latest", "a"), link);
     assert_eq!(rt; folder.failures(), 4);
     fs::remove_dir_all(&rt, "logs")?;
-    assert!(rt; folder.list().is_err());
+    assert!(rt; folder.list("").is_err());
     folder.create_dirs()?;
-    assert_eq!(rt; folder.list()?.len(), 0);
+    assert_eq!(rt; folder.list("")?.len(), 0);
     fs::remove_dir_all(&rt, "logs")?;
     Ok(())
 }
@@ -74,7 +74,7 @@ fn a_link_is_refused_and_not_followed(rt: HostRuntime) -> Result<(), Fail> {
     assert_eq!(rt; folder.write(file, b"new\n")?, 4);
     let bytes = fs::read(&rt, "holds_links/file")?;
     assert_eq!(rt; bytes.as_slice(), b"old\nnew\n".as_slice());
-    let entries = folder.list()?;
+    let entries = folder.list("")?;
     assert_eq!(rt; entries.len(), 3);
     assert_eq!(rt; listed(entries.as_slice(), "linked"), Some(false));
     assert_eq!(rt; listed(entries.as_slice(), "dangling"), Some(false));
@@ -89,7 +89,7 @@ fn a_directory_under_a_files_name_is_refused(rt: HostRuntime) -> Result<(), Fail
     fs::create_dir(&rt, "holds_directories/a")?;
     assert_eq!(rt; folder.open_append("a"), Err(REFUSED));
     assert_eq!(rt; folder.remove("a"), Err(REFUSED));
-    let entries = folder.list()?;
+    let entries = folder.list("")?;
     assert_eq!(rt; entries.len(), 1);
     assert_eq!(rt; listed(entries.as_slice(), "a"), Some(false));
     assert_eq!(rt; folder.failures(), 2);
@@ -105,7 +105,7 @@ fn a_file_in_the_directorys_place_is_refused(rt: HostRuntime) -> Result<(), Fail
     assert_eq!(rt; folder.open_append("a"), Err(REFUSED));
     assert_eq!(rt; folder.create_dirs(), Err(REFUSED));
     assert_eq!(rt; folder.remove("a"), Err(REFUSED));
-    assert_eq!(rt; folder.list().err(), Some(REFUSED));
+    assert_eq!(rt; folder.list("").err(), Some(REFUSED));
     assert_eq!(rt; folder.failures(), 4);
     let bytes = fs::read(&rt, "file_in_place")?;
     assert_eq!(rt; bytes.as_slice(), b"kept".as_slice());
@@ -120,7 +120,7 @@ fn a_removed_directory_is_not_found(rt: HostRuntime) -> Result<(), Fail> {
     fs::remove_dir_all(&rt, "goes_away")?;
     assert_eq!(rt; folder.write(file, b"one")?, 3);
     assert_eq!(rt; folder.open_append("b"), Err(NOT_FOUND));
-    assert_eq!(rt; folder.list().err(), Some(NOT_FOUND));
+    assert_eq!(rt; folder.list("").err(), Some(NOT_FOUND));
     assert_eq!(rt; folder.remove("a"), Err(NOT_FOUND));
     assert_eq!(rt; folder.failures(), 3);
     folder.create_dirs()?;
@@ -161,9 +161,29 @@ fn an_empty_path_is_the_current_folder(rt: HostRuntime) -> Result<(), Fail> {
     assert_eq!(rt; folder.write(file, b"one")?, 3);
     let bytes = fs::read(&rt, "in_the_current_folder")?;
     assert_eq!(rt; bytes.as_slice(), b"one".as_slice());
-    let entries = folder.list()?;
+    let entries = folder.list("")?;
     let plain = listed(entries.as_slice(), "in_the_current_folder");
     assert_eq!(rt; plain, Some(true));
     folder.remove("in_the_current_folder")?;
+    Ok(())
+}
+
+#[test]
+fn thousands_of_files_are_listed_by_their_prefix(rt: HostRuntime) -> Result<(), Fail> {
+    let alloc = rt.alloc();
+    let mut folder = made(rt, "holds_many")?;
+    for number in 0..2_000 {
+        let first = folder.open_append(format!(in alloc; "app.{number}")?.as_str())?;
+        folder.close_file(first)?;
+        let second = folder.open_append(format!(in alloc; "other.{number}")?.as_str())?;
+        folder.close_file(second)?;
+    }
+    let entries = folder.list("app.")?;
+    assert_eq!(rt; entries.len(), 2_000);
+    assert!(rt; entries.iter().all(|entry| entry.plain && entry.name.as_str().starts_with("app.")));
+    assert_eq!(rt; folder.list("other.19")?.len(), 111);
+    assert_eq!(rt; folder.list("")?.len(), 4_000);
+    assert_eq!(rt; folder.failures(), 0);
+    fs::remove_dir_all(&rt, "holds_many")?;
     Ok(())
 }

@@ -101,7 +101,7 @@ fn listed_in(
 #[test]
 fn a_directory_that_breaks_off_is_refused(rt: HostRuntime) -> Result<(), Fail> {
     let mut torn = listed_in(rt, b"first\0", true)?;
-    assert_eq!(rt; torn.list().err(), Some(REFUSED));
+    assert_eq!(rt; torn.list("").err(), Some(REFUSED));
     assert_eq!(rt; torn.failures(), 1);
     Ok(())
 }
@@ -110,7 +110,7 @@ fn a_directory_that_breaks_off_is_refused(rt: HostRuntime) -> Result<(), Fail> {
 fn entries_that_cannot_be_read_are_passed_over(rt: HostRuntime) -> Result<(), Fail> {
     fs::write(&rt, "stands_alone", b"")?;
     let mut folder = listed_in(rt, b"no_such_file\0\xff\0stands_alone\0", false)?;
-    let entries = folder.list()?;
+    let entries = folder.list("")?;
     assert_eq!(rt; entries.len(), 1);
     assert_eq!(rt; listed(entries.as_slice(), "stands_alone"), Some(true));
     assert_eq!(rt; folder.failures(), 0);

@@ -1,7 +1,7 @@
 //! Asking subscribers of callsites and for their hints.
 ghost use Rattle.std.specs.Prelude.{◌≡◌, None, max};
 ghost use Rattle.tracing_core_fields.specs.Metadata.{plain_metadata};
-ghost use Rattle.tracing_core_hub.specs.Asking.{Each, Registers, Hints, AskedAll, RowAsked, level_of};
+ghost use Rattle.tracing_core_hub.specs.Asking.{Each, Registers, Hints, AskedAll, CallsiteAsked, level_of};
 ghost use Rattle.tracing_core_requests.specs.Interests.{joined, settled};
 
 use crate::hub::parts::{RegisteredCallsite, RegisteredSubscriber};
@@ -38,26 +38,27 @@ impl<S: Subscriber> RegisteredSubscriber<S> {
 }
 
 fn ask_each<S: Subscriber>(
-    entries: &mut [RegisteredSubscriber<S>],
+    subscribers: &mut [RegisteredSubscriber<S>],
     metadata: &Metadata<'_>,
 ) -> Option<Interest>
-    ensures { Each (Registers ⟦<S as Subscriber>⟧ (plain_metadata metadata.now)) None entries.old entries.new result }
+    ensures { Each (Registers ⟦<S as Subscriber>⟧ (plain_metadata metadata.now)) None subscribers.old subscribers.new
+        result }
 {
     let mut interest = None;
-    for entry in entries.iter_mut() {
-        interest = entry.register(metadata, interest);
+    for subscriber in subscribers.iter_mut() {
+        interest = subscriber.register(metadata, interest);
     }
     interest
 }
 
 // Asks all of a callsite, in order, and answers their common interest.
 pub(crate) fn ask_all<S: Subscriber>(
-    entries: &mut [RegisteredSubscriber<S>],
+    subscribers: &mut [RegisteredSubscriber<S>],
     metadata: &Metadata<'_>,
 ) -> Interest
-    ensures { AskedAll ⟦<S as Subscriber>⟧ (plain_metadata metadata.now) entries.old entries.new result }
+    ensures { AskedAll ⟦<S as Subscriber>⟧ (plain_metadata metadata.now) subscribers.old subscribers.new result }
 {
-    let interest = ask_each(entries, metadata);
+    let interest = ask_each(subscribers, metadata);
     settle(interest)
 }
 
@@ -89,42 +90,48 @@ impl<S: Subscriber> RegisteredSubscriber<S> {
 }
 
 // Asks all for their hints, in order, and answers the greatest level. Then nobody counts as lent.
-pub(crate) fn ask_hints<S: Subscriber>(entries: &mut [RegisteredSubscriber<S>]) -> LevelFilter
-    ensures { Each (Hints ⟦<S as Subscriber>⟧) 0 entries.old entries.new result }
+pub(crate) fn ask_hints<S: Subscriber>(subscribers: &mut [RegisteredSubscriber<S>]) -> LevelFilter
+    ensures { Each (Hints ⟦<S as Subscriber>⟧) 0 subscribers.old subscribers.new result }
 {
     let mut greatest = LevelFilter::OFF;
-    for entry in entries.iter_mut() {
-        greatest = entry.ask_hint(greatest);
+    for subscriber in subscribers.iter_mut() {
+        greatest = subscriber.ask_hint(greatest);
     }
     greatest
 }
 
 impl<C: Callsite> RegisteredCallsite<C> {
     // Asks all of the callsite, and tells it what they have in common.
-    pub(crate) fn ask<S: Subscriber>(&mut self, entries: &mut [RegisteredSubscriber<S>])
-        ensures { RowAsked ⟦<S as Subscriber>⟧ ⟦<C as Callsite>⟧ entries.old self.old self.new entries.new }
+    pub(crate) fn ask<S: Subscriber>(&mut self, subscribers: &mut [RegisteredSubscriber<S>])
+        ensures { CallsiteAsked ⟦<S as Subscriber>⟧ ⟦<C as Callsite>⟧ subscribers.old self.old self.new
+            subscribers.new }
     {
-        let interest = self.interest_of_all(entries);
+        let interest = self.interest_of_all(subscribers);
         self.callsite.set_interest(interest);
         self.interest = interest;
     }
 
-    fn interest_of_all<S: Subscriber>(&self, entries: &mut [RegisteredSubscriber<S>]) -> Interest
-        ensures { AskedAll ⟦<S as Subscriber>⟧ (C.metadata_of self.now.callsite) entries.old entries.new result }
+    fn interest_of_all<S: Subscriber>(
+        &self,
+        subscribers: &mut [RegisteredSubscriber<S>],
+    ) -> Interest
+        ensures { AskedAll ⟦<S as Subscriber>⟧ (C.metadata_of self.now.callsite) subscribers.old subscribers.new
+            result }
     {
         let metadata = self.callsite.metadata();
-        ask_all(entries, &metadata)
+        ask_all(subscribers, &metadata)
     }
 }
 
 // Asks all of each callsite, in order.
-pub(crate) fn ask_rows<S: Subscriber, C: Callsite>(
-    entries: &mut [RegisteredSubscriber<S>],
-    rows: &mut [RegisteredCallsite<C>],
+pub(crate) fn ask_callsites<S: Subscriber, C: Callsite>(
+    subscribers: &mut [RegisteredSubscriber<S>],
+    callsites: &mut [RegisteredCallsite<C>],
 )
-    ensures { Each (RowAsked ⟦<S as Subscriber>⟧ ⟦<C as Callsite>⟧) entries.old rows.old rows.new entries.new }
+    ensures { Each (CallsiteAsked ⟦<S as Subscriber>⟧ ⟦<C as Callsite>⟧) subscribers.old callsites.old callsites.new
+        subscribers.new }
 {
-    for row in rows.iter_mut() {
-        row.ask(entries);
+    for callsite in callsites.iter_mut() {
+        callsite.ask(subscribers);
     }
 }

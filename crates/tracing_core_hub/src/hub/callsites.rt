@@ -1,11 +1,11 @@
 //! The callsites of a hub, found by their identifiers in one step.
 ghost use Rattle.std.specs.Prelude.{◌≡◌, [], None, slice_get};
 ghost use Rattle.std.specs.Option.{option_map};
-ghost use Rattle.tracing_core_hub.specs.Asking.{Each, RowAsked};
-ghost use Rattle.tracing_core_hub.specs.Commands.{row_of};
-ghost use Rattle.tracing_core_hub.specs.Places.{TakesCallsite, place_of_callsite};
+ghost use Rattle.tracing_core_hub.specs.Asking.{Each, CallsiteAsked};
+ghost use Rattle.tracing_core_hub.specs.Commands.{callsite_with};
+ghost use Rattle.tracing_core_hub.specs.Indices.{TakesCallsite, index_of_callsite};
 
-use crate::hub::asking::ask_rows;
+use crate::hub::asking::ask_callsites;
 use crate::hub::parts::{RegisteredCallsite, RegisteredSubscriber};
 use std::alloc::Global;
 use std::collections::HashMap;
@@ -15,22 +15,22 @@ use tracing_core_requests::{Callsite, Interest, Subscriber};
 // Callsites in order of registration.
 #[derive(Drop)]
 pub(crate) struct Callsites<C> {
-    rows: Vec<RegisteredCallsite<C>>,
-    // the place of each identifier among them
-    places: HashMap<u64, usize>,
+    callsites: Vec<RegisteredCallsite<C>>,
+    // the index of each identifier among them
+    indices: HashMap<u64, usize>,
 }
 
 impl<C> Model for Callsites<C> {
     ghost use Rattle.std.specs.HashMap.{get};
     ghost use Rattle.std.specs.Prelude.{◌≡◌, ℕ, List, nat_eq};
-    ghost use Rattle.tracing_core_hub.specs.Places.{place_of_callsite};
-    ghost use Rattle.tracing_core_hub.specs.declared.hub.parts.RegisteredCallsite.{RegisteredCallsite};
+    ghost use Rattle.tracing_core_hub.specs.Indices.{index_of_callsite};
+    ghost use Rattle.tracing_core_hub.specs.Kept.{KeptCallsite};
 
-    ghost Value = { List (RegisteredCallsite C) };
+    ghost Value = { List (KeptCallsite C) };
 
-    ghost view = { λ c. c.rows.items };
+    ghost view = { λ c. c.callsites.items };
 
-    ghost invariant = { λ c. (n : ℕ) → get nat_eq c.places n ≡ place_of_callsite n c.rows.items };
+    ghost invariant = { λ c. (n : ℕ) → get nat_eq c.indices n ≡ index_of_callsite n c.callsites.items };
 }
 
 impl<C> Callsites<C> {
@@ -38,72 +38,73 @@ impl<C> Callsites<C> {
         ensures { result ≡ [] }
     {
         Callsites {
-            rows: Vec::new(alloc),
-            places: HashMap::new(alloc),
+            callsites: Vec::new(alloc),
+            indices: HashMap::new(alloc),
         }
     }
 
     pub(crate) fn as_slice(&self) -> &[RegisteredCallsite<C>]
         ensures { result.now ≡ self.now }
     {
-        self.rows.as_slice()
+        self.callsites.as_slice()
     }
 
-    // The place of the callsite with the identifier.
-    pub(crate) fn place_of(&self, identifier: u64) -> Option<usize>
-        ensures { result ≡ place_of_callsite identifier self.now }
+    // The index of the callsite with the identifier.
+    pub(crate) fn index_of(&self, identifier: u64) -> Option<usize>
+        ensures { result ≡ index_of_callsite identifier self.now }
     {
-        match self.places.get(&identifier) {
+        match self.indices.get(&identifier) {
             None => None,
-            Some(place) => Some(*place),
+            Some(index) => Some(*index),
         }
     }
 
-    pub(crate) fn at(&self, place: usize) -> Option<&RegisteredCallsite<C>>
-        ensures { option_map (λ row. row.now) result ≡ slice_get self.now place }
+    pub(crate) fn at(&self, index: usize) -> Option<&RegisteredCallsite<C>>
+        ensures { option_map (λ site. site.now) result ≡ slice_get self.now index }
     {
-        self.rows.get(place)
+        self.callsites.get(index)
     }
 
     // The callsite with the identifier.
     pub(crate) fn find(&self, identifier: u64) -> Option<&RegisteredCallsite<C>>
-        ensures { option_map (λ row. row.now) result ≡ row_of identifier self.now }
+        ensures { option_map (λ site. site.now) result ≡ callsite_with identifier self.now }
     {
-        match self.place_of(identifier) {
+        match self.index_of(identifier) {
             None => None,
-            Some(place) => self.at(place),
+            Some(index) => self.at(index),
         }
     }
 }
 
 impl<C: Callsite> Callsites<C> {
     // Asks all of each callsite, in order.
-    pub(crate) fn ask_all<S: Subscriber>(&mut self, entries: &mut [RegisteredSubscriber<S>])
-        ensures { Each (RowAsked ⟦<S as Subscriber>⟧ ⟦<C as Callsite>⟧) entries.old self.old self.new entries.new }
+    pub(crate) fn ask_all<S: Subscriber>(&mut self, subscribers: &mut [RegisteredSubscriber<S>])
+        ensures { Each (CallsiteAsked ⟦<S as Subscriber>⟧ ⟦<C as Callsite>⟧) subscribers.old self.old self.new
+            subscribers.new }
     {
-        ask_rows(entries, &mut self.rows);
+        ask_callsites(subscribers, &mut self.callsites);
     }
 
     // Takes a callsite whose identifier isn't known, and asks all of it; for want of memory it comes back.
     pub(crate) fn take<S: Subscriber>(
         &mut self,
         callsite: C,
-        entries: &mut [RegisteredSubscriber<S>],
+        subscribers: &mut [RegisteredSubscriber<S>],
     ) -> Result<Interest, C>
-        requires { row_of (C.metadata_of callsite).callsite self.old ≡ None }
-        ensures { TakesCallsite ⟦<S as Subscriber>⟧ ⟦<C as Callsite>⟧ self.old entries.old callsite result self.new
-            entries.new }
+        requires { callsite_with (C.metadata_of callsite).callsite self.old ≡ None }
+        ensures { TakesCallsite ⟦<S as Subscriber>⟧ ⟦<C as Callsite>⟧ self.old subscribers.old callsite result self.new
+            subscribers.new }
     {
         let mut row = RegisteredCallsite::new(callsite);
-        if self.rows.reserve(1).is_err() {
+        if self.callsites.reserve(1).is_err() {
             return Err(row.into_callsite());
         }
-        let Ok(_) = self.places.insert(row.identifier, self.rows.len()) else {
+        let Ok(_) = self.indices.insert(row.identifier(), self.callsites.len()) else {
             return Err(row.into_callsite());
         };
-        row.ask(entries);
-        let interest = row.interest;
-        self.rows.push_reserved(row);
+        row.ask(subscribers);
+        let interest = row.interest();
+        self.callsites.push_reserved(row);
         Ok(interest)
     }
 }

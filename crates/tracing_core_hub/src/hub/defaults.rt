@@ -1,19 +1,42 @@
 //! The defaults: the global one, and those of lanes.
-ghost use Rattle.std.specs.Option.{is_some};
-ghost use Rattle.std.specs.Prelude.{◌≡◌, ◌<◌, length, slice_get};
+ghost use Rattle.std.specs.Option.{is_some, option_map};
+ghost use Rattle.std.specs.Prelude.{◌≡◌, ◌<◌, length, slice_get, IfSome};
 ghost use Rattle.tracing_core_hub.specs.Defaults.{was_set, setting_to, global_refusal, globally, default_refusal, guard_of, locally, end_gives, reset_gives, given_up, running};
 ghost use Rattle.tracing_core_requests.specs.Refusals.{or_refused, or_same};
 ghost use Rattle.tracing_core_hub.specs.Keeping.{PreservesCaches, PreservesLivingCaches};
 ghost use Rattle.tracing_core_hub.specs.Table.{chosen};
+ghost use Rattle.tracing_core_hub.specs.declared.refusal.SetDefaultError.TheVariants.{Handle};
 
 use crate::dispatch::Dispatch;
 use crate::guard::{DefaultGuard, WrongLane};
 use crate::hub::Hub;
-use crate::hub::entries::{give_back, take_handle};
 use crate::hub::lending::hold_refusal;
 use crate::hub::parts::{Lane, LaneDefault, lane_at};
-use crate::refusal::{SetDefaultError, SetGlobalDefaultError, UnknownLane};
+use crate::hub::subscribers::{give_back, take_handle};
+use crate::refusal::{HandleError, SetDefaultError, SetGlobalDefaultError, UnknownLane};
 use tracing_core_requests::{Callsite, Subscriber};
+
+// The default of the lane of the number, where it runs.
+fn running_at(lanes: &[Lane], lane: u64) -> Option<LaneDefault>
+    ensures value { result ≡ running (slice_get lanes.now lane) }
+    ensures bound { IfSome result (λ _. lane < length lanes.now) }
+{
+    match lane_at(lanes, lane) {
+        Some(Lane::Running(setting)) => Some(setting),
+        Some(Lane::Ended) => None,
+        None => None,
+    }
+}
+
+// The same refusal, as one of a default.
+fn handle_refusal(refusal: Option<HandleError>) -> Option<SetDefaultError>
+    ensures { result ≡ option_map Handle refusal }
+{
+    match refusal {
+        None => None,
+        Some(error) => Some(SetDefaultError::Handle(error)),
+    }
+}
 
 impl LaneDefault {
     fn to(dispatch: &Dispatch) -> LaneDefault
@@ -59,7 +82,7 @@ impl<S, C> Hub<S, C> {
         if self.global.is_set() {
             return Err(SetGlobalDefaultError::AlreadySet);
         }
-        match take_handle(&mut self.entries, dispatch.serial()) {
+        match take_handle(&mut self.subscribers, dispatch.serial()) {
             Ok(()) => {
                 self.global = LaneDefault::to(dispatch);
                 Ok(())
@@ -79,19 +102,16 @@ impl<S, C> Hub<S, C> {
     pub(crate) fn is_running(&self, lane: u64) -> bool
         ensures { result ≡ is_some (running (slice_get self.now.lanes lane)) }
     {
-        matches!(lane_at(&self.lanes, lane), Some(Lane::Running(_)))
+        running_at(&self.lanes, lane).is_some()
     }
 
     // Why the default of a lane isn't set to the subscriber of the handle.
     pub(crate) fn default_refusal(&self, lane: u64, dispatch: &Dispatch) -> Option<SetDefaultError>
         ensures { result ≡ default_refusal self.now lane dispatch.now }
     {
-        let Some(Lane::Running(_)) = lane_at(&self.lanes, lane) else {
-            return Some(SetDefaultError::UnknownLane);
-        };
-        match hold_refusal(&self.entries, dispatch.serial()) {
-            None => None,
-            Some(error) => Some(SetDefaultError::Handle(error)),
+        match running_at(&self.lanes, lane) {
+            None => Some(SetDefaultError::UnknownLane),
+            Some(_) => handle_refusal(hold_refusal(&self.subscribers, dispatch.serial())),
         }
     }
 
@@ -104,7 +124,7 @@ impl<S, C> Hub<S, C> {
         let Some(Lane::Running(before)) = lane_at(&self.lanes, lane) else {
             return Err(SetDefaultError::UnknownLane);
         };
-        match take_handle(&mut self.entries, dispatch.serial()) {
+        match take_handle(&mut self.subscribers, dispatch.serial()) {
             Ok(()) => {
                 self.lanes[lane as usize] = Lane::Running(LaneDefault::to(dispatch));
                 Ok(DefaultGuard { lane, before })
@@ -130,13 +150,14 @@ impl<S, C> Hub<S, C> {
     }
 
     // Ends a lane that runs.
+    #[tactic(auto, using(crate::proofs::Defaults::ended))]
     fn end_lane(&mut self, lane: u64) -> Result<Option<S>, UnknownLane>
         ensures { (result, self.new) ≡ end_gives self.old lane }
     {
-        let Some(Lane::Running(setting)) = lane_at(&self.lanes, lane) else {
-            return Err(UnknownLane(()));
-        };
-        Ok(self.give_up(lane, setting, Lane::Ended))
+        match running_at(&self.lanes, lane) {
+            None => Err(UnknownLane(())),
+            Some(setting) => Ok(self.give_up(lane, setting, Lane::Ended)),
+        }
     }
 
     // Gives up one hold of a default, and gives the lane another value.
@@ -145,7 +166,7 @@ impl<S, C> Hub<S, C> {
         ensures { (result, self.new) ≡ given_up self.old lane setting value }
     {
         self.lanes[lane as usize] = value;
-        give_back(&mut self.entries, setting.serial())
+        give_back(&mut self.subscribers, setting.serial())
     }
 }
 

@@ -1,13 +1,14 @@
 //! Whether spans and events are wanted.
 ghost use Rattle.std.specs.Prelude.{◌≡◌, Bool, Some, slice_get};
 ghost use Rattle.std.specs.Option.{option_map};
-ghost use Rattle.tracing_core_hub.specs.Commands.{GateGives, reached, row_of};
+ghost use Rattle.tracing_core_hub.specs.Commands.{GateGives, reached, callsite_with};
+ghost use Rattle.tracing_core_hub.specs.Kept.{KeptCallsite, KeptSubscriber};
 ghost use Rattle.tracing_core_hub.specs.Keeping.{PreservesCaches};
 ghost use Rattle.tracing_core_hub.specs.ValidCaches.{HasValidCache};
 ghost use Rattle.tracing_core_hub.specs.Table.{own_setting, effective, chosen};
 
 use crate::hub::Hub;
-use crate::hub::parts::{Lane, LaneDefault, RegisteredCallsite, RegisteredSubscriber, lane_at};
+use crate::hub::parts::{Lane, LaneDefault, RegisteredCallsite, lane_at};
 use tracing_core_fields::Identifier;
 use tracing_core_requests::{At, Callsite, Interest, Subscriber, WeakDispatch, weak_of};
 
@@ -50,19 +51,19 @@ impl<S, C> Hub<S, C> {
     }
 
     // The callsite with the identifier.
-    pub(crate) fn row(&self, identifier: u64) -> Option<&RegisteredCallsite<C>>
-        ensures { option_map (λ row. row.now) result ≡ row_of identifier self.now.rows }
+    pub(crate) fn callsite_with(&self, identifier: u64) -> Option<&RegisteredCallsite<C>>
+        ensures { option_map (λ site. site.now) result ≡ callsite_with identifier self.now.callsites }
     {
-        self.rows.find(identifier)
+        self.callsites.find(identifier)
     }
 
     /// The common interest that is kept of the callsite with the identifier.
     pub fn interest(&self, identifier: Identifier) -> Option<Interest>
-        ensures { result ≡ option_map (λ row. row.interest) (row_of identifier.0 self.now.rows) }
+        ensures { result ≡ option_map (λ site. site.interest) (callsite_with identifier.0 self.now.callsites) }
     {
-        match self.rows.find(identifier.0) {
+        match self.callsites.find(identifier.0) {
             None => None,
-            Some(row) => Some(row.interest),
+            Some(registered) => Some(registered.interest),
         }
     }
 }
@@ -74,10 +75,10 @@ impl<S: Subscriber, C: Callsite> Hub<S, C> {
     pub fn gate(&mut self, identifier: Identifier, at: At) -> Option<bool>
         ensures answer { GateGives ⟦<S as Subscriber>⟧ ⟦<C as Callsite>⟧ self.old identifier.0 at result self.new }
         // Where what is kept is right of the reached subscriber, this is what asking it answers.
-        ensures asking { (row : RegisteredCallsite C) (e : RegisteredSubscriber S) (b : Bool) →
-            row_of identifier.0 self.old.rows ≡ Some row → reached self.old at.lane ≡ Some e.serial →
+        ensures asking { (site : KeptCallsite C) (e : KeptSubscriber S) (b : Bool) →
+            callsite_with identifier.0 self.old.callsites ≡ Some site → reached self.old at.lane ≡ Some e.serial →
             HasValidCache ⟦<S as Subscriber>⟧ ⟦<C as Callsite>⟧ self.old e →
-            S.answers e.subscriber (C.metadata_of row.callsite) at b → result ≡ Some b }
+            S.answers e.subscriber (C.metadata_of site.callsite) at b → result ≡ Some b }
         ensures keeps { PreservesCaches ⟦<S as Subscriber>⟧ ⟦<C as Callsite>⟧ self.old self.new }
     {
         self.look(identifier, at)
@@ -87,9 +88,14 @@ impl<S: Subscriber, C: Callsite> Hub<S, C> {
         ensures { GateGives ⟦<S as Subscriber>⟧ ⟦<C as Callsite>⟧ self.old identifier.0 at result self.new }
     {
         let serial = self.reached_serial(at.lane);
-        match self.rows.find(identifier.0) {
+        match self.callsites.find(identifier.0) {
             None => None,
-            Some(row) => Some(row.answer(&mut self.entries, serial, self.greatest, at)),
+            Some(registered) => Some(registered.answer(
+                &mut self.subscribers,
+                serial,
+                self.greatest,
+                at,
+            )),
         }
     }
 }

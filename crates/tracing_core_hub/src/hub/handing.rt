@@ -3,7 +3,7 @@ ghost use Rattle.tracing_core_requests.specs.Calls.{SpanMade, Recorded, FollowsR
 ghost use Rattle.tracing_core_hub.specs.Handing.{CallGives};
 ghost use Rattle.tracing_core_requests.specs.PlainRequests.{plain_attributes, plain_event, plain_record};
 
-use crate::hub::lending::place_or_end;
+use crate::hub::lending::index_or_end;
 use crate::hub::parts::RegisteredSubscriber;
 use tracing_core_fields::Id;
 use tracing_core_requests::{
@@ -11,182 +11,193 @@ use tracing_core_requests::{
 };
 
 pub(crate) fn new_span_at<S: Subscriber>(
-    entries: &mut [RegisteredSubscriber<S>],
+    subscribers: &mut [RegisteredSubscriber<S>],
     serial: Option<u64>,
     attributes: &Attributes<'_, '_>,
     at: At,
 ) -> Result<Option<Id>, RequestError>
-    ensures { CallGives ⟦<S as Subscriber>⟧ (SpanMade (plain_attributes attributes.now) at) serial entries.old result
-        entries.new }
+    ensures { CallGives ⟦<S as Subscriber>⟧ (SpanMade (plain_attributes attributes.now) at) serial subscribers.old
+        result
+        subscribers.new }
 {
-    let place = place_or_end(entries, serial);
-    if place < entries.len() {
-        entries[place].subscriber.new_span(attributes, at)
+    let index = index_or_end(subscribers, serial);
+    if index < subscribers.len() {
+        let registered = &mut subscribers[index];
+        registered.subscriber.new_span(attributes, at)
     } else {
         NoSubscriber::new().new_span(attributes, at)
     }
 }
 
 pub(crate) fn record_at<S: Subscriber>(
-    entries: &mut [RegisteredSubscriber<S>],
+    subscribers: &mut [RegisteredSubscriber<S>],
     serial: Option<u64>,
     span: &Id,
     values: &Record<'_>,
     at: At,
 ) -> Result<(), RequestError>
-    ensures { CallGives ⟦<S as Subscriber>⟧ (Recorded span.now (plain_record values.now) at) serial entries.old result
-        entries.new }
+    ensures { CallGives ⟦<S as Subscriber>⟧ (Recorded span.now (plain_record values.now) at) serial subscribers.old
+        result
+        subscribers.new }
 {
-    let place = place_or_end(entries, serial);
-    if place < entries.len() {
-        entries[place].subscriber.record(span, values, at)
+    let index = index_or_end(subscribers, serial);
+    if index < subscribers.len() {
+        let registered = &mut subscribers[index];
+        registered.subscriber.record(span, values, at)
     } else {
         Ok(())
     }
 }
 
 pub(crate) fn record_follows_from_at<S: Subscriber>(
-    entries: &mut [RegisteredSubscriber<S>],
+    subscribers: &mut [RegisteredSubscriber<S>],
     serial: Option<u64>,
     span: &Id,
     follows: &Id,
     at: At,
 ) -> Result<(), RequestError>
-    ensures { CallGives ⟦<S as Subscriber>⟧ (FollowsRecorded span.now follows.now at) serial entries.old result
-        entries.new }
+    ensures { CallGives ⟦<S as Subscriber>⟧ (FollowsRecorded span.now follows.now at) serial subscribers.old result
+        subscribers.new }
 {
-    let place = place_or_end(entries, serial);
-    if place < entries.len() {
-        entries[place]
-            .subscriber
-            .record_follows_from(span, follows, at)
+    let index = index_or_end(subscribers, serial);
+    if index < subscribers.len() {
+        let registered = &mut subscribers[index];
+        registered.subscriber.record_follows_from(span, follows, at)
     } else {
         Ok(())
     }
 }
 
 pub(crate) fn event_enabled_at<S: Subscriber>(
-    entries: &mut [RegisteredSubscriber<S>],
+    subscribers: &mut [RegisteredSubscriber<S>],
     serial: Option<u64>,
     event: &Event<'_, '_>,
     at: At,
 ) -> bool
-    ensures { CallGives ⟦<S as Subscriber>⟧ (EventAsked (plain_event event.now) at) serial entries.old result
-        entries.new }
+    ensures { CallGives ⟦<S as Subscriber>⟧ (EventAsked (plain_event event.now) at) serial subscribers.old result
+        subscribers.new }
 {
-    let place = place_or_end(entries, serial);
-    if place < entries.len() {
-        entries[place].subscriber.event_enabled(event, at)
+    let index = index_or_end(subscribers, serial);
+    if index < subscribers.len() {
+        let registered = &mut subscribers[index];
+        registered.subscriber.event_enabled(event, at)
     } else {
         true
     }
 }
 
 pub(crate) fn event_at<S: Subscriber>(
-    entries: &mut [RegisteredSubscriber<S>],
+    subscribers: &mut [RegisteredSubscriber<S>],
     serial: Option<u64>,
     event: &Event<'_, '_>,
     at: At,
 ) -> Result<(), RequestError>
-    ensures { CallGives ⟦<S as Subscriber>⟧ (EventDispatched (plain_event event.now) at) serial entries.old result
-        entries.new }
+    ensures { CallGives ⟦<S as Subscriber>⟧ (EventDispatched (plain_event event.now) at) serial subscribers.old result
+        subscribers.new }
 {
-    let place = place_or_end(entries, serial);
-    if place < entries.len() {
-        entries[place].subscriber.event(event, at)
+    let index = index_or_end(subscribers, serial);
+    if index < subscribers.len() {
+        let registered = &mut subscribers[index];
+        registered.subscriber.event(event, at)
     } else {
         Ok(())
     }
 }
 
 pub(crate) fn enter_at<S: Subscriber>(
-    entries: &mut [RegisteredSubscriber<S>],
+    subscribers: &mut [RegisteredSubscriber<S>],
     serial: Option<u64>,
     span: &Id,
     at: At,
 ) -> Result<(), RequestError>
-    ensures { CallGives ⟦<S as Subscriber>⟧ (Entered span.now at) serial entries.old result entries.new }
+    ensures { CallGives ⟦<S as Subscriber>⟧ (Entered span.now at) serial subscribers.old result subscribers.new }
 {
-    let place = place_or_end(entries, serial);
-    if place < entries.len() {
-        entries[place].subscriber.enter(span, at)
+    let index = index_or_end(subscribers, serial);
+    if index < subscribers.len() {
+        let registered = &mut subscribers[index];
+        registered.subscriber.enter(span, at)
     } else {
         Ok(())
     }
 }
 
 pub(crate) fn exit_at<S: Subscriber>(
-    entries: &mut [RegisteredSubscriber<S>],
+    subscribers: &mut [RegisteredSubscriber<S>],
     serial: Option<u64>,
     span: &Id,
     at: At,
 )
-    ensures { CallGives ⟦<S as Subscriber>⟧ (Exited span.now at) serial entries.old tt entries.new }
+    ensures { CallGives ⟦<S as Subscriber>⟧ (Exited span.now at) serial subscribers.old tt subscribers.new }
 {
-    let place = place_or_end(entries, serial);
-    if place >= entries.len() {
+    let index = index_or_end(subscribers, serial);
+    if index >= subscribers.len() {
         return;
     }
-    entries[place].subscriber.exit(span, at)
+    let registered = &mut subscribers[index];
+    registered.subscriber.exit(span, at)
 }
 
 pub(crate) fn clone_span_at<S: Subscriber>(
-    entries: &mut [RegisteredSubscriber<S>],
+    subscribers: &mut [RegisteredSubscriber<S>],
     serial: Option<u64>,
     span: &Id,
     at: At,
 ) -> Result<Id, RequestError>
-    ensures { CallGives ⟦<S as Subscriber>⟧ (Cloned span.now at) serial entries.old result entries.new }
+    ensures { CallGives ⟦<S as Subscriber>⟧ (Cloned span.now at) serial subscribers.old result subscribers.new }
 {
-    let place = place_or_end(entries, serial);
-    if place < entries.len() {
-        entries[place].subscriber.clone_span(span, at)
+    let index = index_or_end(subscribers, serial);
+    if index < subscribers.len() {
+        let registered = &mut subscribers[index];
+        registered.subscriber.clone_span(span, at)
     } else {
         Ok(*span)
     }
 }
 
 pub(crate) fn drop_span_at<S: Subscriber>(
-    entries: &mut [RegisteredSubscriber<S>],
+    subscribers: &mut [RegisteredSubscriber<S>],
     serial: Option<u64>,
     span: Id,
     at: At,
 )
-    ensures { CallGives ⟦<S as Subscriber>⟧ (Dropped span at) serial entries.old tt entries.new }
+    ensures { CallGives ⟦<S as Subscriber>⟧ (Dropped span at) serial subscribers.old tt subscribers.new }
 {
-    let place = place_or_end(entries, serial);
-    if place >= entries.len() {
+    let index = index_or_end(subscribers, serial);
+    if index >= subscribers.len() {
         return;
     }
-    entries[place].subscriber.drop_span(span, at)
+    let registered = &mut subscribers[index];
+    registered.subscriber.drop_span(span, at)
 }
 
 pub(crate) fn try_close_at<S: Subscriber>(
-    entries: &mut [RegisteredSubscriber<S>],
+    subscribers: &mut [RegisteredSubscriber<S>],
     serial: Option<u64>,
     span: Id,
     at: At,
 ) -> bool
-    ensures { CallGives ⟦<S as Subscriber>⟧ (CloseTried span at) serial entries.old result entries.new }
+    ensures { CallGives ⟦<S as Subscriber>⟧ (CloseTried span at) serial subscribers.old result subscribers.new }
 {
-    let place = place_or_end(entries, serial);
-    if place < entries.len() {
-        entries[place].subscriber.try_close(span, at)
+    let index = index_or_end(subscribers, serial);
+    if index < subscribers.len() {
+        let registered = &mut subscribers[index];
+        registered.subscriber.try_close(span, at)
     } else {
         false
     }
 }
 
 pub(crate) fn current_span_at<S: Subscriber>(
-    entries: &mut [RegisteredSubscriber<S>],
+    subscribers: &mut [RegisteredSubscriber<S>],
     serial: Option<u64>,
     at: At,
 ) -> CurrentSpan
-    ensures { CallGives ⟦<S as Subscriber>⟧ (CurrentAsked at) serial entries.old result entries.new }
+    ensures { CallGives ⟦<S as Subscriber>⟧ (CurrentAsked at) serial subscribers.old result subscribers.new }
 {
-    let place = place_or_end(entries, serial);
-    if place < entries.len() {
-        entries[place].subscriber.current_span(at)
+    let index = index_or_end(subscribers, serial);
+    if index < subscribers.len() {
+        let registered = &mut subscribers[index];
+        registered.subscriber.current_span(at)
     } else {
         CurrentSpan::Unknown
     }

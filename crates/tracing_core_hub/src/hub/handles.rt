@@ -7,26 +7,26 @@ ghost use Rattle.tracing_core_hub.specs.Keeping.{PreservesCaches, PreservesLivin
 
 use crate::dispatch::Dispatch;
 use crate::hub::Hub;
-use crate::hub::entries::{give_back, take_handle};
 use crate::hub::lending::hold_refusal;
+use crate::hub::subscribers::{give_back, take_handle};
 use crate::refusal::{HandleError, TooManyHandles};
 use tracing_core_requests::{Callsite, Subscriber, WeakDispatch, serial_of, weak_of};
 
 impl<S, C> Hub<S, C> {
     // Why there can't be a further handle to the subscriber of the number.
     pub(crate) fn further_refusal(&self, serial: Option<u64>) -> Option<HandleError>
-        ensures { result ≡ hold_refusal serial self.now.entries }
+        ensures { result ≡ hold_refusal serial self.now.subscribers }
     {
-        hold_refusal(&self.entries, serial)
+        hold_refusal(&self.subscribers, serial)
     }
 
     // One handle more.
     fn take_another(&mut self, dispatch: &Dispatch) -> Result<Dispatch, HandleError>
-        ensures answer { result ≡ or_refused (hold_refusal dispatch.now self.old.entries) dispatch.now }
-        ensures state { self.new ≡ or_same (hold_refusal dispatch.now self.old.entries) self.old
+        ensures answer { result ≡ or_refused (hold_refusal dispatch.now self.old.subscribers) dispatch.now }
+        ensures state { self.new ≡ or_same (hold_refusal dispatch.now self.old.subscribers) self.old
             (holding self.old dispatch.now) }
     {
-        take_handle(&mut self.entries, dispatch.serial())?;
+        take_handle(&mut self.subscribers, dispatch.serial())?;
         Ok(Dispatch::new(dispatch.serial()))
     }
 
@@ -39,11 +39,11 @@ impl<S, C> Hub<S, C> {
 
     // One handle more, where the subscriber lives.
     fn revive(&mut self, dispatch: &WeakDispatch) -> Result<Option<Dispatch>, TooManyHandles>
-        ensures answer { result ≡ upgrade_answer dispatch.now (hold_refusal dispatch.now self.old.entries) }
-        ensures state { self.new ≡ or_same (hold_refusal dispatch.now self.old.entries) self.old
+        ensures answer { result ≡ upgrade_answer dispatch.now (hold_refusal dispatch.now self.old.subscribers) }
+        ensures state { self.new ≡ or_same (hold_refusal dispatch.now self.old.subscribers) self.old
             (holding self.old dispatch.now) }
     {
-        match take_handle(&mut self.entries, serial_of(dispatch)) {
+        match take_handle(&mut self.subscribers, serial_of(dispatch)) {
             Ok(()) => Ok(Some(Dispatch::new(serial_of(dispatch)))),
             Err(HandleError::Unknown) => Ok(None),
             Err(HandleError::TooMany) => Err(TooManyHandles(())),
@@ -52,18 +52,18 @@ impl<S, C> Hub<S, C> {
 
     // One handle less.
     fn let_go(&mut self, dispatch: Dispatch) -> Option<S>
-        ensures answer { result ≡ (given_back dispatch self.old.entries).0 }
-        ensures state { self.new ≡ record self.old { entries = (given_back dispatch self.old.entries).1 } }
+        ensures answer { result ≡ (given_back dispatch self.old.subscribers).0 }
+        ensures state { self.new ≡ record self.old { subscribers = (given_back dispatch self.old.subscribers).1 } }
     {
-        give_back(&mut self.entries, dispatch.serial())
+        give_back(&mut self.subscribers, dispatch.serial())
     }
 }
 
 impl<S: Subscriber, C: Callsite> Hub<S, C> {
     /// Another handle to the same subscriber. It takes no memory.
     pub fn clone(&mut self, dispatch: &Dispatch) -> Result<Dispatch, HandleError>
-        ensures answer { result ≡ or_refused (hold_refusal dispatch.now self.old.entries) dispatch.now }
-        ensures state { self.new ≡ or_same (hold_refusal dispatch.now self.old.entries) self.old
+        ensures answer { result ≡ or_refused (hold_refusal dispatch.now self.old.subscribers) dispatch.now }
+        ensures state { self.new ≡ or_same (hold_refusal dispatch.now self.old.subscribers) self.old
             (holding self.old dispatch.now) }
         ensures keeps { PreservesCaches ⟦<S as Subscriber>⟧ ⟦<C as Callsite>⟧ self.old self.new }
     {
@@ -72,8 +72,8 @@ impl<S: Subscriber, C: Callsite> Hub<S, C> {
 
     /// A handle that keeps the subscriber, or `None` where it was released. It takes no memory.
     pub fn upgrade(&mut self, dispatch: &WeakDispatch) -> Result<Option<Dispatch>, TooManyHandles>
-        ensures answer { result ≡ upgrade_answer dispatch.now (hold_refusal dispatch.now self.old.entries) }
-        ensures state { self.new ≡ or_same (hold_refusal dispatch.now self.old.entries) self.old
+        ensures answer { result ≡ upgrade_answer dispatch.now (hold_refusal dispatch.now self.old.subscribers) }
+        ensures state { self.new ≡ or_same (hold_refusal dispatch.now self.old.subscribers) self.old
             (holding self.old dispatch.now) }
         ensures keeps { PreservesCaches ⟦<S as Subscriber>⟧ ⟦<C as Callsite>⟧ self.old self.new }
     {
@@ -83,8 +83,8 @@ impl<S: Subscriber, C: Callsite> Hub<S, C> {
     /// Takes a handle back. The subscriber comes back with its last one; what is kept of callsites, and the
     /// greatest level, stay as they are until the next rebuild.
     pub fn release(&mut self, dispatch: Dispatch) -> Option<S>
-        ensures answer { result ≡ (given_back dispatch self.old.entries).0 }
-        ensures state { self.new ≡ record self.old { entries = (given_back dispatch self.old.entries).1 } }
+        ensures answer { result ≡ (given_back dispatch self.old.subscribers).0 }
+        ensures state { self.new ≡ record self.old { subscribers = (given_back dispatch self.old.subscribers).1 } }
         ensures keeps { PreservesLivingCaches ⟦<S as Subscriber>⟧ ⟦<C as Callsite>⟧ self.old self.new }
     {
         self.let_go(dispatch)

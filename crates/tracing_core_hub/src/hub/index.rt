@@ -3,12 +3,12 @@ ghost use Rattle.std.specs.Prelude.{◌≡◌, Bool, Some, slice_get};
 ghost use Rattle.std.specs.Option.{option_map};
 ghost use Rattle.tracing_core_fields.specs.Metadata.{plain_metadata};
 ghost use Rattle.tracing_core_hub.specs.Commands.{GateGivesAt, reached};
+ghost use Rattle.tracing_core_hub.specs.Kept.{KeptCallsite, KeptSubscriber};
 ghost use Rattle.tracing_core_hub.specs.Keeping.{PreservesCaches};
-ghost use Rattle.tracing_core_hub.specs.Places.{place_of_callsite};
+ghost use Rattle.tracing_core_hub.specs.Indices.{index_of_callsite};
 ghost use Rattle.tracing_core_hub.specs.ValidCaches.{HasValidCache};
 
 use crate::hub::Hub;
-use crate::hub::parts::{RegisteredCallsite, RegisteredSubscriber};
 use tracing_core_fields::{Identifier, Metadata};
 use tracing_core_requests::{At, Callsite, Interest, Subscriber};
 
@@ -21,21 +21,21 @@ impl<S, C> Hub<S, C> {
     /// Where the callsite with the identifier stands, for the calls that take its index. It is found in one
     /// step, however many callsites there are.
     pub fn index_of(&self, identifier: Identifier) -> Option<CallsiteIndex>
-        ensures { option_map (λ index. index.0) result ≡ place_of_callsite identifier.0 self.now.rows }
+        ensures { option_map (λ index. index.0) result ≡ index_of_callsite identifier.0 self.now.callsites }
     {
-        match self.rows.place_of(identifier.0) {
+        match self.callsites.index_of(identifier.0) {
             None => None,
-            Some(place) => Some(CallsiteIndex(place)),
+            Some(index) => Some(CallsiteIndex(index)),
         }
     }
 
     /// The common interest that is kept of the callsite at the index, or `None` where none stands there.
     pub fn interest_at(&self, index: CallsiteIndex) -> Option<Interest>
-        ensures { result ≡ option_map (λ row. row.interest) (slice_get self.now.rows index.0) }
+        ensures { result ≡ option_map (λ site. site.interest) (slice_get self.now.callsites index.0) }
     {
-        match self.rows.at(index.0) {
+        match self.callsites.at(index.0) {
             None => None,
-            Some(row) => Some(row.interest),
+            Some(registered) => Some(registered.interest),
         }
     }
 }
@@ -44,11 +44,11 @@ impl<S, C: Callsite> Hub<S, C> {
     /// The metadata of the callsite at the index, or `None` where none stands there.
     pub fn metadata_at(&self, index: CallsiteIndex) -> Option<Metadata<'_>>
         ensures { option_map plain_metadata result
-            ≡ option_map (λ row. C.metadata_of row.callsite) (slice_get self.now.rows index.0) }
+            ≡ option_map (λ site. C.metadata_of site.callsite) (slice_get self.now.callsites index.0) }
     {
-        match self.rows.at(index.0) {
+        match self.callsites.at(index.0) {
             None => None,
-            Some(row) => Some(row.callsite.metadata()),
+            Some(registered) => Some(registered.callsite.metadata()),
         }
     }
 }
@@ -57,25 +57,30 @@ impl<S: Subscriber, C: Callsite> Hub<S, C> {
     /// The same as [`Hub::gate`] of the callsite at the index, or `None` where none stands there.
     pub fn gate_at(&mut self, index: CallsiteIndex, at: At) -> Option<bool>
         ensures answer { GateGivesAt ⟦<S as Subscriber>⟧ ⟦<C as Callsite>⟧ self.old
-            (slice_get self.old.rows index.0) at result self.new }
+            (slice_get self.old.callsites index.0) at result self.new }
         // Where what is kept is right of the reached subscriber, this is what asking it answers.
-        ensures asking { (row : RegisteredCallsite C) (e : RegisteredSubscriber S) (b : Bool) →
-            slice_get self.old.rows index.0 ≡ Some row → reached self.old at.lane ≡ Some e.serial →
+        ensures asking { (site : KeptCallsite C) (e : KeptSubscriber S) (b : Bool) →
+            slice_get self.old.callsites index.0 ≡ Some site → reached self.old at.lane ≡ Some e.serial →
             HasValidCache ⟦<S as Subscriber>⟧ ⟦<C as Callsite>⟧ self.old e →
-            S.answers e.subscriber (C.metadata_of row.callsite) at b → result ≡ Some b }
+            S.answers e.subscriber (C.metadata_of site.callsite) at b → result ≡ Some b }
         ensures keeps { PreservesCaches ⟦<S as Subscriber>⟧ ⟦<C as Callsite>⟧ self.old self.new }
     {
         self.look_at(index, at)
     }
 
     fn look_at(&mut self, index: CallsiteIndex, at: At) -> Option<bool>
-        ensures { GateGivesAt ⟦<S as Subscriber>⟧ ⟦<C as Callsite>⟧ self.old (slice_get self.old.rows index.0) at
+        ensures { GateGivesAt ⟦<S as Subscriber>⟧ ⟦<C as Callsite>⟧ self.old (slice_get self.old.callsites index.0) at
             result self.new }
     {
         let serial = self.reached_serial(at.lane);
-        match self.rows.at(index.0) {
+        match self.callsites.at(index.0) {
             None => None,
-            Some(row) => Some(row.answer(&mut self.entries, serial, self.greatest, at)),
+            Some(registered) => Some(registered.answer(
+                &mut self.subscribers,
+                serial,
+                self.greatest,
+                at,
+            )),
         }
     }
 }

@@ -5,13 +5,13 @@ ghost use Rattle.std.specs.Prelude.{◌≡◌};
 ghost use Rattle.tracing_core_hub.specs.Changing.{AnswersAlike, ChangeGives, ChangesBy};
 ghost use Rattle.tracing_core_hub.specs.Handles.{hold_refusal};
 ghost use Rattle.tracing_core_hub.specs.Keeping.{PreservesCaches, PreservesUnlentCaches};
-ghost use Rattle.tracing_core_hub.specs.Lent.{living_of, lent_to, IsPlaceOrEnd, IsPlaceToLend};
+ghost use Rattle.tracing_core_hub.specs.Lent.{living_of, lent_to, IsIndexOrEnd, IsIndexToLend};
 ghost use Rattle.tracing_core_hub.specs.Lending.{LendsSubscriber};
 
 use crate::dispatch::Dispatch;
 use crate::hub::Hub;
-use crate::hub::entries::place_of;
 use crate::hub::parts::RegisteredSubscriber;
+use crate::hub::subscribers::index_of;
 use crate::refusal::HandleError;
 use tracing_core_requests::{Callsite, Subscriber};
 
@@ -19,27 +19,27 @@ impl<S, C> Hub<S, C> {
     /// The subscriber that the handle leads to.
     pub fn subscriber(&self, dispatch: &Dispatch) -> Option<&S>
         ensures { option_map (λ subscriber. subscriber.now) result
-            ≡ option_map (λ entry. entry.subscriber) (living_of dispatch.now self.now.entries) }
+            ≡ option_map (λ kept. kept.subscriber) (living_of dispatch.now self.now.subscribers) }
     {
-        let place = place_or_end(&self.entries, dispatch.serial());
-        match self.entries.get(place) {
+        let index = index_or_end(&self.subscribers, dispatch.serial());
+        match self.subscribers.get(index) {
             None => None,
-            Some(entry) => Some(&entry.subscriber),
+            Some(registered) => Some(&registered.subscriber),
         }
     }
 
     // Lends the subscriber, and marks it.
     fn lend(&mut self, dispatch: &Dispatch) -> Option<&mut S>
         ensures lent { option_map (λ subscriber. subscriber.now) result
-            ≡ option_map (λ entry. entry.subscriber) (living_of dispatch.now self.old.entries) }
+            ≡ option_map (λ kept. kept.subscriber) (living_of dispatch.now self.old.subscribers) }
         ensures* ends { sem 𝓛 (LendsSubscriber S.row C.row self.entry dispatch.now result) }
     {
-        let place = place_to_lend(&self.entries, dispatch.serial());
-        match self.entries.get_mut(place) {
+        let index = index_to_lend(&self.subscribers, dispatch.serial());
+        match self.subscribers.get_mut(index) {
             None => None,
-            Some(entry) => {
-                entry.lent = true;
-                Some(&mut entry.subscriber)
+            Some(registered) => {
+                registered.lent = true;
+                Some(&mut registered.subscriber)
             }
         }
     }
@@ -50,10 +50,10 @@ impl<S: Subscriber, C: Callsite> Hub<S, C> {
     /// counts for nothing until the next rebuild.
     pub fn subscriber_mut(&mut self, dispatch: &Dispatch) -> Option<&mut S>
         ensures lent { option_map (λ subscriber. subscriber.now) result
-            ≡ option_map (λ entry. entry.subscriber) (living_of dispatch.now self.old.entries) }
+            ≡ option_map (λ kept. kept.subscriber) (living_of dispatch.now self.old.subscribers) }
         // What is kept stays right of the others, whatever the lent one becomes.
         ensures others { (w : S) → PreservesUnlentCaches ⟦<S as Subscriber>⟧ ⟦<C as Callsite>⟧ self.old
-            (record self.old { entries = lent_to dispatch.now w self.old.entries }) }
+            (record self.old { subscribers = lent_to dispatch.now w self.old.subscribers }) }
         ensures* ends { sem 𝓛 (LendsSubscriber S.row C.row self.entry dispatch.now result) }
     {
         self.lend(dispatch)
@@ -69,65 +69,66 @@ impl<S: Subscriber, C: Callsite> Hub<S, C> {
         change: F,
     ) -> Option<T>
         requires { F.IsAlwaysCallable change }
-        ensures gives { ChangeGives F.FnOnce change dispatch.now self.old.entries result self.new.entries }
-        ensures rest { self.new ≡ record self.old { entries = self.new.entries } }
+        ensures gives { ChangeGives F.FnOnce change dispatch.now self.old.subscribers result self.new.subscribers }
+        ensures rest { self.new ≡ record self.old { subscribers = self.new.subscribers } }
         ensures keeps { ChangesBy F.FnOnce change (AnswersAlike ⟦<S as Subscriber>⟧) →
             PreservesCaches ⟦<S as Subscriber>⟧ ⟦<C as Callsite>⟧ self.old self.new }
     {
-        change_at(&mut self.entries, dispatch.serial(), change)
+        change_at(&mut self.subscribers, dispatch.serial(), change)
     }
 }
 
 // Calls the closure with the subscriber of the number, where it lives.
 fn change_at<S, T, F: FnOnce(&mut S) -> T>(
-    entries: &mut [RegisteredSubscriber<S>],
+    subscribers: &mut [RegisteredSubscriber<S>],
     serial: Option<u64>,
     change: F,
 ) -> Option<T>
     requires { F.IsAlwaysCallable change }
-    ensures { ChangeGives F.FnOnce change serial entries.old result entries.new }
+    ensures { ChangeGives F.FnOnce change serial subscribers.old result subscribers.new }
 {
-    let place = place_or_end(entries, serial);
-    if place < entries.len() {
-        Some(change(&mut entries[place].subscriber))
+    let index = index_or_end(subscribers, serial);
+    if index < subscribers.len() {
+        let registered = &mut subscribers[index];
+        Some(change(&mut registered.subscriber))
     } else {
         None
     }
 }
 
-// The place of the subscriber of the number, or the end where there is none.
-pub(crate) fn place_or_end<S>(entries: &[RegisteredSubscriber<S>], serial: Option<u64>) -> usize
-    ensures { IsPlaceOrEnd serial entries.now result }
+// The index of the subscriber of the number, or the end where there is none.
+pub(crate) fn index_or_end<S>(subscribers: &[RegisteredSubscriber<S>], serial: Option<u64>) -> usize
+    ensures { IsIndexOrEnd serial subscribers.now result }
 {
     let Some(serial) = serial else {
-        return entries.len();
+        return subscribers.len();
     };
-    match place_of(entries, serial) {
-        None => entries.len(),
-        Some(place) => place,
+    match index_of(subscribers, serial) {
+        None => subscribers.len(),
+        Some(index) => index,
     }
 }
 
 // Why there can't be one more handle to the subscriber of the number.
 pub(crate) fn hold_refusal<S>(
-    entries: &[RegisteredSubscriber<S>],
+    subscribers: &[RegisteredSubscriber<S>],
     serial: Option<u64>,
 ) -> Option<HandleError>
-    ensures { result ≡ hold_refusal serial entries.now }
+    ensures { result ≡ hold_refusal serial subscribers.now }
 {
     if serial.is_none() {
         return None;
     }
-    match entries.get(place_or_end(entries, serial)) {
+    match subscribers.get(index_or_end(subscribers, serial)) {
         None => Some(HandleError::Unknown),
-        Some(entry) if entry.handles == u64::MAX => Some(HandleError::TooMany),
+        Some(registered) if registered.is_full() => Some(HandleError::TooMany),
         Some(_) => None,
     }
 }
 
-// The same place, by what lending makes of it: a loan is proved where its clause names the change.
-fn place_to_lend<S>(entries: &[RegisteredSubscriber<S>], serial: Option<u64>) -> usize
-    ensures { IsPlaceToLend serial entries.now result }
+// The same index, by what lending makes of it: a loan is proved where its clause names the change.
+fn index_to_lend<S>(subscribers: &[RegisteredSubscriber<S>], serial: Option<u64>) -> usize
+    ensures { IsIndexToLend serial subscribers.now result }
 {
-    place_or_end(entries, serial)
+    index_or_end(subscribers, serial)
 }

@@ -1,10 +1,11 @@
 //! What a hub keeps.
 ghost use Rattle.std.specs.Prelude.{◌≡◌, ◌<◌, slice_get, length, IfSome};
 
+use std::marker::Model;
 use tracing_core_fields::LevelFilter;
 use tracing_core_requests::Interest;
 
-// A subscriber that some handle leads to.
+// A subscriber that some handle leads to. A contract sees what is kept of it.
 #[derive(Drop)]
 pub(crate) struct RegisteredSubscriber<S> {
     pub(crate) serial: u64,
@@ -14,7 +15,20 @@ pub(crate) struct RegisteredSubscriber<S> {
     pub(crate) subscriber: S,
 }
 
-// A callsite, with what is kept of it.
+impl<S> Model for RegisteredSubscriber<S> {
+    ghost use Rattle.tracing_core_hub.specs.Kept.{KeptSubscriber};
+
+    ghost Value = { KeptSubscriber S };
+
+    ghost view = { λ e. record {
+      serial = e.serial;
+      handles = e.handles;
+      lent = e.lent;
+      subscriber = e.subscriber;
+    } };
+}
+
+// A callsite. A contract sees what is kept of it.
 #[derive(Drop)]
 pub(crate) struct RegisteredCallsite<C> {
     pub(crate) callsite: C,
@@ -22,6 +36,19 @@ pub(crate) struct RegisteredCallsite<C> {
     // the least verbose filter that passes the callsite's level
     pub(crate) level: LevelFilter,
     pub(crate) interest: Interest,
+}
+
+impl<C> Model for RegisteredCallsite<C> {
+    ghost use Rattle.tracing_core_hub.specs.Kept.{KeptCallsite};
+
+    ghost Value = { KeptCallsite C };
+
+    ghost view = { λ row. record {
+      callsite = row.callsite;
+      identifier = row.identifier;
+      level = row.level;
+      interest = row.interest;
+    } };
 }
 
 /// A default.

@@ -4,13 +4,14 @@ ghost use Rattle.tracing_core_fields.specs.Metadata.{plain_metadata};
 ghost use Rattle.tracing_core_requests.specs.Calls.{CallsiteRegistered, CurrentAsked, SpanMade, EventDispatched};
 ghost use Rattle.tracing_core_hub.specs.Commands.{AskGives, reached};
 ghost use Rattle.tracing_core_hub.specs.Handing.{CallGives, HubGives};
+ghost use Rattle.tracing_core_hub.specs.Kept.{KeptSubscriber};
 ghost use Rattle.tracing_core_hub.specs.Keeping.{PreservesCaches};
 ghost use Rattle.tracing_core_hub.specs.Lent.{living_of};
 ghost use Rattle.tracing_core_requests.specs.PlainRequests.{plain_attributes, plain_event};
 
 use crate::dispatch::Dispatch;
 use crate::hub::Hub;
-use crate::hub::lending::place_or_end;
+use crate::hub::lending::index_or_end;
 use crate::hub::parts::RegisteredSubscriber;
 use tracing_core_fields::{Id, Metadata};
 use tracing_core_requests::{
@@ -18,18 +19,19 @@ use tracing_core_requests::{
 };
 
 fn register_callsite_at<S: Subscriber>(
-    entries: &mut [RegisteredSubscriber<S>],
+    subscribers: &mut [RegisteredSubscriber<S>],
     serial: Option<u64>,
     metadata: &Metadata<'_>,
 ) -> Interest
-    ensures answer { (e : RegisteredSubscriber S) → living_of serial entries.old ≡ Some e →
+    ensures answer { (e : KeptSubscriber S) → living_of serial subscribers.old ≡ Some e →
         S.says e.subscriber (plain_metadata metadata.now) result }
     ensures handed { CallGives ⟦<S as Subscriber>⟧ (CallsiteRegistered (plain_metadata metadata.now)) serial
-        entries.old result entries.new }
+        subscribers.old result subscribers.new }
 {
-    let place = place_or_end(entries, serial);
-    if place < entries.len() {
-        entries[place].subscriber.register_callsite(metadata)
+    let index = index_or_end(subscribers, serial);
+    if index < subscribers.len() {
+        let registered = &mut subscribers[index];
+        registered.subscriber.register_callsite(metadata)
     } else {
         Interest::never()
     }
@@ -48,21 +50,21 @@ impl<S: Subscriber, C: Callsite> Hub<S, C> {
     /// Asks the subscriber of the handle for its interest in a callsite, which is never where there is
     /// none. What is kept of callsites stays.
     pub fn register_callsite(&mut self, dispatch: &Dispatch, metadata: &Metadata<'_>) -> Interest
-        ensures answer { (e : RegisteredSubscriber S) → living_of dispatch.now self.old.entries ≡ Some e →
+        ensures answer { (e : KeptSubscriber S) → living_of dispatch.now self.old.subscribers ≡ Some e →
             S.says e.subscriber (plain_metadata metadata.now) result }
         ensures handed { HubGives ⟦<S as Subscriber>⟧ (CallsiteRegistered (plain_metadata metadata.now)) dispatch.now
             self.old result self.new }
         ensures keeps { PreservesCaches ⟦<S as Subscriber>⟧ ⟦<C as Callsite>⟧ self.old self.new }
     {
-        register_callsite_at(&mut self.entries, dispatch.serial(), metadata)
+        register_callsite_at(&mut self.subscribers, dispatch.serial(), metadata)
     }
 
     /// Whether the subscriber that the lane reaches wants a span or an event of the callsite. It is asked
     /// in any case; [`Hub::gate`] asks only where what is kept doesn't tell.
     pub fn enabled_here(&mut self, metadata: &Metadata<'_>, at: At) -> bool
         ensures asked { AskGives ⟦<S as Subscriber>⟧ (plain_metadata metadata.now) at (reached self.old at.lane)
-            self.old.entries result self.new.entries }
-        ensures rest { self.new ≡ record self.old { entries = self.new.entries } }
+            self.old.subscribers result self.new.subscribers }
+        ensures rest { self.new ≡ record self.old { subscribers = self.new.subscribers } }
         ensures keeps { PreservesCaches ⟦<S as Subscriber>⟧ ⟦<C as Callsite>⟧ self.old self.new }
     {
         let dispatch = self.reached_handle(at.lane);

@@ -13,7 +13,7 @@ use crate::hub::handing::{
     clone_span_at, current_span_at, drop_span_at, enter_at, event_at, event_enabled_at, exit_at,
     new_span_at, record_at, record_follows_from_at, try_close_at,
 };
-use crate::hub::rows::ask_one;
+use crate::hub::registered::ask_one;
 use tracing_core_fields::{Id, Metadata};
 use tracing_core_requests::{
     At, Attributes, Callsite, CurrentSpan, Event, Record, RequestError, Subscriber,
@@ -22,12 +22,12 @@ use tracing_core_requests::{
 impl<S: Subscriber, C: Callsite> Hub<S, C> {
     /// Whether the subscriber of the handle wants a span or an event of the callsite.
     pub fn enabled(&mut self, dispatch: &Dispatch, metadata: &Metadata<'_>, at: At) -> bool
-        ensures asked { AskGives ⟦<S as Subscriber>⟧ (plain_metadata metadata.now) at dispatch.now self.old.entries
-            result self.new.entries }
-        ensures rest { self.new ≡ record self.old { entries = self.new.entries } }
+        ensures asked { AskGives ⟦<S as Subscriber>⟧ (plain_metadata metadata.now) at dispatch.now self.old.subscribers
+            result self.new.subscribers }
+        ensures rest { self.new ≡ record self.old { subscribers = self.new.subscribers } }
         ensures keeps { PreservesCaches ⟦<S as Subscriber>⟧ ⟦<C as Callsite>⟧ self.old self.new }
     {
-        ask_one(&mut self.entries, dispatch.serial(), metadata, at)
+        ask_one(&mut self.subscribers, dispatch.serial(), metadata, at)
     }
 
     /// Makes a span through the subscriber of the handle.
@@ -41,7 +41,7 @@ impl<S: Subscriber, C: Callsite> Hub<S, C> {
             self.old result self.new }
         ensures keeps { PreservesCaches ⟦<S as Subscriber>⟧ ⟦<C as Callsite>⟧ self.old self.new }
     {
-        new_span_at(&mut self.entries, dispatch.serial(), attributes, at)
+        new_span_at(&mut self.subscribers, dispatch.serial(), attributes, at)
     }
 
     /// Records more values of a span.
@@ -56,7 +56,7 @@ impl<S: Subscriber, C: Callsite> Hub<S, C> {
             self.old result self.new }
         ensures keeps { PreservesCaches ⟦<S as Subscriber>⟧ ⟦<C as Callsite>⟧ self.old self.new }
     {
-        record_at(&mut self.entries, dispatch.serial(), span, values, at)
+        record_at(&mut self.subscribers, dispatch.serial(), span, values, at)
     }
 
     /// Records that a span follows from another one.
@@ -71,7 +71,7 @@ impl<S: Subscriber, C: Callsite> Hub<S, C> {
             result self.new }
         ensures keeps { PreservesCaches ⟦<S as Subscriber>⟧ ⟦<C as Callsite>⟧ self.old self.new }
     {
-        record_follows_from_at(&mut self.entries, dispatch.serial(), span, follows, at)
+        record_follows_from_at(&mut self.subscribers, dispatch.serial(), span, follows, at)
     }
 
     /// Whether the subscriber of the handle wants the event, whose callsite is enabled.
@@ -80,7 +80,7 @@ impl<S: Subscriber, C: Callsite> Hub<S, C> {
             result self.new }
         ensures keeps { PreservesCaches ⟦<S as Subscriber>⟧ ⟦<C as Callsite>⟧ self.old self.new }
     {
-        event_enabled_at(&mut self.entries, dispatch.serial(), event, at)
+        event_enabled_at(&mut self.subscribers, dispatch.serial(), event, at)
     }
 
     /// Hands an event to the subscriber of the handle.
@@ -94,7 +94,7 @@ impl<S: Subscriber, C: Callsite> Hub<S, C> {
             self.old result self.new }
         ensures keeps { PreservesCaches ⟦<S as Subscriber>⟧ ⟦<C as Callsite>⟧ self.old self.new }
     {
-        event_at(&mut self.entries, dispatch.serial(), event, at)
+        event_at(&mut self.subscribers, dispatch.serial(), event, at)
     }
 
     /// The lane enters a span.
@@ -102,7 +102,7 @@ impl<S: Subscriber, C: Callsite> Hub<S, C> {
         ensures gives { HubGives ⟦<S as Subscriber>⟧ (Entered span.now at) dispatch.now self.old result self.new }
         ensures keeps { PreservesCaches ⟦<S as Subscriber>⟧ ⟦<C as Callsite>⟧ self.old self.new }
     {
-        enter_at(&mut self.entries, dispatch.serial(), span, at)
+        enter_at(&mut self.subscribers, dispatch.serial(), span, at)
     }
 
     /// The lane leaves a span.
@@ -110,7 +110,7 @@ impl<S: Subscriber, C: Callsite> Hub<S, C> {
         ensures gives { HubGives ⟦<S as Subscriber>⟧ (Exited span.now at) dispatch.now self.old tt self.new }
         ensures keeps { PreservesCaches ⟦<S as Subscriber>⟧ ⟦<C as Callsite>⟧ self.old self.new }
     {
-        exit_at(&mut self.entries, dispatch.serial(), span, at)
+        exit_at(&mut self.subscribers, dispatch.serial(), span, at)
     }
 
     /// Counts one more handle of a span, and answers the id to use for it.
@@ -118,7 +118,7 @@ impl<S: Subscriber, C: Callsite> Hub<S, C> {
         ensures gives { HubGives ⟦<S as Subscriber>⟧ (Cloned span.now at) dispatch.now self.old result self.new }
         ensures keeps { PreservesCaches ⟦<S as Subscriber>⟧ ⟦<C as Callsite>⟧ self.old self.new }
     {
-        clone_span_at(&mut self.entries, dispatch.serial(), span, at)
+        clone_span_at(&mut self.subscribers, dispatch.serial(), span, at)
     }
 
     /// Counts one handle of a span less.
@@ -126,7 +126,7 @@ impl<S: Subscriber, C: Callsite> Hub<S, C> {
         ensures gives { HubGives ⟦<S as Subscriber>⟧ (Dropped span at) dispatch.now self.old tt self.new }
         ensures keeps { PreservesCaches ⟦<S as Subscriber>⟧ ⟦<C as Callsite>⟧ self.old self.new }
     {
-        drop_span_at(&mut self.entries, dispatch.serial(), span, at)
+        drop_span_at(&mut self.subscribers, dispatch.serial(), span, at)
     }
 
     /// Counts one handle of a span less, and answers whether the span closed.
@@ -134,7 +134,7 @@ impl<S: Subscriber, C: Callsite> Hub<S, C> {
         ensures gives { HubGives ⟦<S as Subscriber>⟧ (CloseTried span at) dispatch.now self.old result self.new }
         ensures keeps { PreservesCaches ⟦<S as Subscriber>⟧ ⟦<C as Callsite>⟧ self.old self.new }
     {
-        try_close_at(&mut self.entries, dispatch.serial(), span, at)
+        try_close_at(&mut self.subscribers, dispatch.serial(), span, at)
     }
 
     /// The span that the lane is in.
@@ -142,6 +142,6 @@ impl<S: Subscriber, C: Callsite> Hub<S, C> {
         ensures gives { HubGives ⟦<S as Subscriber>⟧ (CurrentAsked at) dispatch.now self.old result self.new }
         ensures keeps { PreservesCaches ⟦<S as Subscriber>⟧ ⟦<C as Callsite>⟧ self.old self.new }
     {
-        current_span_at(&mut self.entries, dispatch.serial(), at)
+        current_span_at(&mut self.subscribers, dispatch.serial(), at)
     }
 }

@@ -14,9 +14,9 @@ use tracing_core_requests::{Callsite, Subscriber};
 fn set_mark(marks: &mut [bool], lane: u64, mark: bool)
     ensures { marks.new ≡ slice_set marks.old lane mark }
 {
-    let place = lane as usize;
-    if place < marks.len() {
-        marks[place] = mark;
+    let index = lane as usize;
+    if index < marks.len() {
+        marks[index] = mark;
     }
 }
 

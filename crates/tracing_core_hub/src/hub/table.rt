@@ -43,15 +43,15 @@ pub struct HubTable {
 
 fn count_handles<S>(
     alloc: Global,
-    entries: &[RegisteredSubscriber<S>],
+    subscribers: &[RegisteredSubscriber<S>],
 ) -> Result<Vec<HandleCount>, AllocError>
-    ensures { IfOk result (λ counts. counts.items ≡ map handles_of entries.now) }
+    ensures { IfOk result (λ counts. counts.items ≡ map handles_of subscribers.now) }
 {
-    entries
+    subscribers
         .iter()
-        .map(|entry| HandleCount {
-            serial: entry.serial,
-            handles: entry.handles,
+        .map(|registered| HandleCount {
+            serial: registered.serial,
+            handles: registered.handles,
         })
         .collect(alloc)
 }
@@ -64,14 +64,15 @@ fn copy_lanes(alloc: Global, lanes: &[Lane]) -> Result<Vec<Lane>, AllocError>
 
 fn copy_interests<C>(
     alloc: Global,
-    rows: &[RegisteredCallsite<C>],
+    callsites: &[RegisteredCallsite<C>],
 ) -> Result<Vec<KeptInterest>, AllocError>
-    ensures { IfOk result (λ copy. copy.items ≡ map kept_of rows.now) }
+    ensures { IfOk result (λ copy. copy.items ≡ map kept_of callsites.now) }
 {
-    rows.iter()
-        .map(|row| KeptInterest {
-            identifier: Identifier(row.identifier),
-            interest: row.interest,
+    callsites
+        .iter()
+        .map(|registered| KeptInterest {
+            identifier: Identifier(registered.identifier),
+            interest: registered.interest,
         })
         .collect(alloc)
 }
@@ -81,12 +82,12 @@ impl<S, C> Hub<S, C> {
     pub fn table(&self) -> Result<HubTable, AllocError>
         ensures { IfOk result (λ copy. CopyOf self.now copy) }
     {
-        let alloc = *self.entries.allocator();
+        let alloc = *self.subscribers.allocator();
         Ok(HubTable {
-            handles: count_handles(alloc, &self.entries)?,
+            handles: count_handles(alloc, &self.subscribers)?,
             global: self.global,
             lanes: copy_lanes(alloc, &self.lanes)?,
-            callsites: copy_interests(alloc, self.rows.as_slice())?,
+            callsites: copy_interests(alloc, self.callsites.as_slice())?,
             greatest: self.greatest,
         })
     }

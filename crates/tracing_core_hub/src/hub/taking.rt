@@ -1,10 +1,11 @@
 //! Taking subscribers and callsites, and asking all again.
 ghost use Rattle.std.specs.Prelude.{◌≡◌, ◌==◌, Some, None, [], true, IfOk};
-ghost use Rattle.tracing_core_hub.specs.Commands.{Rebuilt, AddGives, RegisterGives, TakeGives, kept_alike, row_of};
-ghost use Rattle.tracing_core_hub.specs.Handles.{entry_of, most};
+ghost use Rattle.tracing_core_hub.specs.Commands.{Rebuilt, AddGives, RegisterGives, TakeGives, kept_alike, callsite_with};
+ghost use Rattle.tracing_core_hub.specs.Handles.{subscriber_with, most};
+ghost use Rattle.tracing_core_hub.specs.Kept.{KeptSubscriber};
 ghost use Rattle.tracing_core_hub.specs.Keeping.{PreservesCaches, IsOff};
 ghost use Rattle.tracing_core_requests.specs.Lists.{Every};
-ghost use Rattle.tracing_core_hub.specs.ValidCaches.{IsTrueRow, HasValidCache, asked_anew};
+ghost use Rattle.tracing_core_hub.specs.ValidCaches.{IsTrueCallsite, HasValidCache, asked_anew};
 ghost use Rattle.tracing_core_hub.specs.Refreshing.{Refreshed};
 ghost use Rattle.tracing_core_hub.specs.Sound.{IsSound};
 
@@ -21,11 +22,11 @@ impl<S: Subscriber, C: Callsite> Hub<S, C> {
     pub fn rebuild_interest_cache(&mut self)
         ensures asked { Rebuilt ⟦<S as Subscriber>⟧ ⟦<C as Callsite>⟧ self.old self.new }
         // Then what is kept is right of each subscriber that is consistent.
-        ensures right { (e : RegisteredSubscriber S) → entry_of e.serial self.old.entries ≡ Some e →
-            S.steady e.subscriber → Every (IsTrueRow ⟦<C as Callsite>⟧) self.old.rows →
+        ensures right { (e : KeptSubscriber S) → subscriber_with e.serial self.old.subscribers ≡ Some e →
+            S.steady e.subscriber → Every (IsTrueCallsite ⟦<C as Callsite>⟧) self.old.callsites →
             ((z : S) × HasValidCache ⟦<S as Subscriber>⟧ ⟦<C as Callsite>⟧ self.new (asked_anew z e)) }
         ensures keeps { PreservesCaches ⟦<S as Subscriber>⟧ ⟦<C as Callsite>⟧ self.old self.new }
-        ensures nobody { self.old.entries ≡ [] → IsOff self.new }
+        ensures nobody { self.old.subscribers ≡ [] → IsOff self.new }
     {
         self.ask_all_again()
     }
@@ -34,8 +35,8 @@ impl<S: Subscriber, C: Callsite> Hub<S, C> {
     fn ask_all_again(&mut self)
         ensures { Rebuilt ⟦<S as Subscriber>⟧ ⟦<C as Callsite>⟧ self.old self.new }
     {
-        self.rows.ask_all(&mut self.entries);
-        self.greatest = ask_hints(&mut self.entries);
+        self.callsites.ask_all(&mut self.subscribers);
+        self.greatest = ask_hints(&mut self.subscribers);
     }
 
     /// Asks again whoever was lent since it was last asked, and maybe others, and forms what is kept anew: of
@@ -43,11 +44,12 @@ impl<S: Subscriber, C: Callsite> Hub<S, C> {
     pub fn refresh(&mut self)
         ensures asked { Refreshed ⟦<S as Subscriber>⟧ ⟦<C as Callsite>⟧ self.old self.new }
         // Then what is kept is right of each that was lent and is consistent.
-        ensures right { (e : RegisteredSubscriber S) → entry_of e.serial self.old.entries ≡ Some e → e.lent ≡ true →
-            S.steady e.subscriber → Every (IsTrueRow ⟦<C as Callsite>⟧) self.old.rows →
+        ensures right { (e : KeptSubscriber S) → subscriber_with e.serial self.old.subscribers ≡ Some e → e.lent ≡ true
+            →
+            S.steady e.subscriber → Every (IsTrueCallsite ⟦<C as Callsite>⟧) self.old.callsites →
             ((z : S) × HasValidCache ⟦<S as Subscriber>⟧ ⟦<C as Callsite>⟧ self.new (asked_anew z e)) }
         ensures keeps { PreservesCaches ⟦<S as Subscriber>⟧ ⟦<C as Callsite>⟧ self.old self.new }
-        ensures nobody { self.old.entries ≡ [] → IsOff self.new }
+        ensures nobody { self.old.subscribers ≡ [] → IsOff self.new }
     {
         self.ask_again()
     }
@@ -73,13 +75,13 @@ impl<S: Subscriber, C: Callsite> Hub<S, C> {
         if self.next == u64::MAX {
             return Err(AddError::NumbersSpent(subscriber));
         }
-        if self.entries.reserve(1).is_err() {
+        if self.subscribers.reserve(1).is_err() {
             return Err(AddError::OutOfMemory(subscriber));
         }
         let serial = self.next;
         let mut subscriber = subscriber;
         subscriber.on_register_dispatch(&weak_of(Some(serial)));
-        self.entries.push_reserved(RegisteredSubscriber {
+        self.subscribers.push_reserved(RegisteredSubscriber {
             serial,
             handles: 1,
             lent: true,
@@ -92,10 +94,10 @@ impl<S: Subscriber, C: Callsite> Hub<S, C> {
 
     // Takes a callsite whose identifier isn't known, and asks all of it.
     fn take_callsite(&mut self, callsite: C) -> Result<Interest, RegisterError<C>>
-        requires { row_of (C.metadata_of callsite).callsite self.old.rows ≡ None }
+        requires { callsite_with (C.metadata_of callsite).callsite self.old.callsites ≡ None }
         ensures { TakeGives ⟦<S as Subscriber>⟧ ⟦<C as Callsite>⟧ self.old callsite result self.new }
     {
-        match self.rows.take(callsite, &mut self.entries) {
+        match self.callsites.take(callsite, &mut self.subscribers) {
             Ok(interest) => return Ok(interest),
             Err(callsite) => return Err(RegisterError::OutOfMemory(callsite)),
         }
@@ -104,12 +106,12 @@ impl<S: Subscriber, C: Callsite> Hub<S, C> {
     // What is kept of the identifier of the callsite: the interest where the metadata is the same.
     fn kept_alike(&self, callsite: &C) -> Option<Option<Interest>>
         ensures { result ≡ kept_alike ⟦<C as Callsite>⟧ (C.metadata_of callsite.now)
-            (row_of (C.metadata_of callsite.now).callsite self.now.rows) }
+            (callsite_with (C.metadata_of callsite.now).callsite self.now.callsites) }
     {
         let metadata = callsite.metadata();
-        match self.row(metadata.callsite().0) {
+        match self.callsite_with(metadata.callsite().0) {
             None => None,
-            Some(row) => Some(row.interest_where(&metadata)),
+            Some(registered) => Some(registered.interest_where(&metadata)),
         }
     }
 
@@ -130,12 +132,12 @@ impl<S: Subscriber, C: Callsite> Hub<S, C> {
         ensures gives { AddGives ⟦<S as Subscriber>⟧ ⟦<C as Callsite>⟧ self.old subscriber result self.new }
         // Then what is kept is right of the new one, if it is consistent.
         ensures right { IfOk result (λ dispatch. IsSound ⟦<C as Callsite>⟧ self.old → S.steady subscriber →
-            ((e : RegisteredSubscriber S) × (dispatch ≡ Some e.serial) ×
+            ((e : KeptSubscriber S) × (dispatch ≡ Some e.serial) ×
             HasValidCache ⟦<S as Subscriber>⟧ ⟦<C as Callsite>⟧ self.new e)) }
         // And of each that was lent and is consistent.
-        ensures others { IfOk result (λ _. (e : RegisteredSubscriber S) →
-            entry_of e.serial self.old.entries ≡ Some e → e.lent ≡ true → S.steady e.subscriber →
-            Every (IsTrueRow ⟦<C as Callsite>⟧) self.old.rows →
+        ensures others { IfOk result (λ _. (e : KeptSubscriber S) →
+            subscriber_with e.serial self.old.subscribers ≡ Some e → e.lent ≡ true → S.steady e.subscriber →
+            Every (IsTrueCallsite ⟦<C as Callsite>⟧) self.old.callsites →
             ((z : S) × HasValidCache ⟦<S as Subscriber>⟧ ⟦<C as Callsite>⟧ self.new (asked_anew z e))) }
         ensures keeps { PreservesCaches ⟦<S as Subscriber>⟧ ⟦<C as Callsite>⟧ self.old self.new }
     {

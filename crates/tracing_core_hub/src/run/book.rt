@@ -81,9 +81,9 @@ pub(crate) fn spend<T>(items: &mut [Option<T>], number: u64) -> Option<T>
     ensures item { result ≡ item_of items.old number }
     ensures state { items.new ≡ spent_by items.old number (item_of items.old number) }
 {
-    let place = number as usize;
-    if place < items.len() {
-        items[place].take()
+    let index = number as usize;
+    if index < items.len() {
+        items[index].take()
     } else {
         None
     }
@@ -94,9 +94,9 @@ pub(crate) fn spend<T>(items: &mut [Option<T>], number: u64) -> Option<T>
 pub(crate) fn put_back<T: Drop>(items: &mut [Option<T>], number: u64, item: T)
     ensures { items.new ≡ slice_set items.old number (Some item) }
 {
-    let place = number as usize;
-    if place < items.len() {
-        items[place] = Some(item);
+    let index = number as usize;
+    if index < items.len() {
+        items[index] = Some(item);
     }
 }
 

@@ -39,7 +39,7 @@ impl<S: Subscriber, C: Callsite> Hub<S, C> {
         match command {
             Command::Thread => self.run_lane(),
             Command::EndThread(lane) => self.run_end_lane(lane),
-            Command::Add(subscriber) => self.run_add(&mut book.handles, subscriber),
+            Command::Add(subscriber) => self.on_add(book, subscriber),
             Command::Register(callsite) => self.run_register(callsite),
             Command::RebuildInterestCache => {
                 self.rebuild_interest_cache();
@@ -50,20 +50,14 @@ impl<S: Subscriber, C: Callsite> Hub<S, C> {
                 CommandReply::Done
             }
             Command::MaxLevel => CommandReply::Level(self.max_level()),
-            Command::SetGlobalDefault(handle) => {
-                self.run_set_global_default(&book.handles, handle)
-            }
+            Command::SetGlobalDefault(handle) => self.on_set_global_default(book, handle),
             Command::HasBeenSet => CommandReply::Set(self.has_been_set()),
-            Command::SetDefault(lane, handle) => {
-                self.run_set_default(&book.handles, &mut book.guards, lane, handle)
-            }
-            Command::Reset(lane, guard) => self.run_reset(&mut book.guards, lane, guard),
-            Command::CloneHandle(handle) => self.run_clone(&mut book.handles, handle),
-            Command::Downgrade(handle) => {
-                self.run_downgrade(&book.handles, &mut book.weak, handle)
-            }
-            Command::Upgrade(weak) => self.run_upgrade(&book.weak, &mut book.handles, weak),
-            Command::Release(handle) => self.run_release(&mut book.handles, handle),
+            Command::SetDefault(lane, handle) => self.on_set_default(book, lane, handle),
+            Command::Reset(lane, guard) => self.on_reset(book, lane, guard),
+            Command::CloneHandle(handle) => self.on_clone(book, handle),
+            Command::Downgrade(handle) => self.on_downgrade(book, handle),
+            Command::Upgrade(weak) => self.on_upgrade(book, weak),
+            Command::Release(handle) => self.on_release(book, handle),
             Command::Gate(identifier, at) => self.run_gate(identifier, at),
             Command::Interest(identifier) => CommandReply::Kept(self.interest(identifier)),
             Command::Reached(lane) => CommandReply::Reached(serial_of(&self.reached(lane))),

@@ -1,6 +1,6 @@
 use Rattle.std.proofs.Common.{map, sym, ap, ◌∙◌, subst, Option, Some, ◌≡◌}
 use Rattle.std.specs.Prelude.{IfSome, is_some}
-use Rattle.tracing_core.specs.Commands.{row_of}
+use Rattle.tracing_core.specs.Commands.{callsite_with}
 use Rattle.tracing_core.specs.Interests.{PlainInterest}
 use Rattle.span_tracing_machine.specs.Machine.{made_with}
 use Rattle.span_tracing_machine.specs.Skeleton.{PlainCallsite}
@@ -14,11 +14,11 @@ pub returns-clause-known : goal.returns-clause-known
 returns-clause-known g c =
     let p = c.args.self.now in
     let site = callsite_named (map plain_callsite p.callsites.items) c.args.number in
-    ap is_some c.interest.ensures ∙ interest_known g.F.Filter (stack_in p) site (row_of c.args.number p.hub.rows) (row_fits g.F.Filter p c.args.number c.requires)
+    ap is_some c.interest.ensures ∙ interest_known g.F.Filter (stack_in p) site (callsite_with c.args.number p.hub.callsites) (row_fits g.F.Filter p c.args.number c.requires)
 
 pub returns-clause-says : goal.returns-clause-says
 returns-clause-says g c =
     let p = c.args.self.now in
     let site = callsite_named (map plain_callsite p.callsites.items) c.args.number in
     subst (λ (o : Option PlainInterest). IfSome o (λ interest. (c : PlainCallsite) → site ≡ Some c → Says g.F.Filter (filter_at (stack_in p)) (made_with c) interest)) (sym c.interest.ensures)
-    (interest_says g.F.Filter (stack_in p) site (row_of c.args.number p.hub.rows) (row_fits g.F.Filter p c.args.number c.requires))
+    (interest_says g.F.Filter (stack_in p) site (callsite_with c.args.number p.hub.callsites) (row_fits g.F.Filter p c.args.number c.requires))

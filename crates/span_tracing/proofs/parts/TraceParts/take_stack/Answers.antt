@@ -1,7 +1,7 @@
 use Rattle.span_tracing.proofs.Filters.{stack_ghosts}
 use Rattle.std.proofs.Common.{ap, sym, subst, List, ◌∙◌}
 use Rattle.tracing_core.specs.Commands.{Rebuilt}
-use Rattle.tracing_core.specs.RegisteredSubscriber.{RegisteredSubscriber}
+use Rattle.tracing_core.specs.Kept.{KeptSubscriber}
 use Rattle.tracing_core.specs.Table.{Table}
 use Rattle.span_tracing_stack.specs.Stacks.{StackValue}
 use Rattle.span_tracing.specs.contracts.hub_callsite.HubCallsiteCallsite.TheImpl as site
@@ -15,8 +15,8 @@ returns-clause-sound g c =
     let p = c.args.self.now in
     let u = c.rebuild_interest_cache.new.self in
     let handle = sym c.replace.ensures.value ∙ c.in_ok-handle.was in
-    let owns = subst (λ h. OwnsOne h p.hub.entries) handle c.requires.owns in
-    let left = c.release-stack.ensures.state ∙ ap (λ (es : List (RegisteredSubscriber (StackValue g.row.F.Denot))). record (p.hub) { entries = es }) (given_one c.in_ok-handle.handle p.hub.entries owns) in
+    let owns = subst (λ h. OwnsOne h p.hub.subscribers) handle c.requires.owns in
+    let left = c.release-stack.ensures.state ∙ ap (λ (es : List (KeptSubscriber (StackValue g.row.F.Denot))). record (p.hub) { subscribers = es }) (given_one c.in_ok-handle.handle p.hub.subscribers owns) in
     rw (c.replace.ensures.after) (emptied g.F.Filter p u c.requires.sound c.requires.unset
     (subst (λ (t : Table (StackValue g.row.F.Denot) HubCallsite). Rebuilt (stack_ghosts g.F.Filter) site.ghosts t u) left c.rebuild_interest_cache.ensures.asked)
     (c.rebuild_interest_cache.ensures.keeps.sound (c.release-stack.ensures.keeps.sound c.requires.sound.hub)))

@@ -7,4 +7,4 @@ use Rattle.tracing_core_hub.proofs.hub.Hub.drop_span.Goals as goal
 pub returns-clause-keeps : goal.returns-clause-keeps
 returns-clause-keeps g c =
     handed_keeps g.S.Subscriber g.C.Callsite (Dropped c.args.span c.args.at) tt c.serial.ensures c.self.view_is c.deref_mut.ensures.value
-    (with_items_is c.self.inside.entries c.drop_span_at.new.entries (omega arith)) c.drop_span_at.ensures
+    (with_items_is c.self.inside.subscribers c.drop_span_at.new.subscribers (omega arith)) c.drop_span_at.ensures

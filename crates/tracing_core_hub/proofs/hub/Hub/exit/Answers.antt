@@ -7,4 +7,4 @@ use Rattle.tracing_core_hub.proofs.hub.Hub.exit.Goals as goal
 pub returns-clause-keeps : goal.returns-clause-keeps
 returns-clause-keeps g c =
     handed_keeps g.S.Subscriber g.C.Callsite (Exited c.args.span.now c.args.at) tt c.serial.ensures c.self.view_is c.deref_mut.ensures.value
-    (with_items_is c.self.inside.entries c.exit_at.new.entries (omega arith)) c.exit_at.ensures
+    (with_items_is c.self.inside.subscribers c.exit_at.new.subscribers (omega arith)) c.exit_at.ensures

@@ -4,8 +4,8 @@ use Rattle.tracing_core_hub.proofs.Words.{rebuild_keeps}
 use Rattle.tracing_core_hub.proofs.hub.Hub.rebuild_interest_cache.Goals as goal
 
 pub returns-clause-right : goal.returns-clause-right
-returns-clause-right g c e there steady rows =
-    rebuilt_keeps g.S.Subscriber g.C.Callsite c.args.self.now _ e c.ask_all_again.ensures there steady rows
+returns-clause-right g c e there steady callsites =
+    rebuilt_keeps g.S.Subscriber g.C.Callsite c.args.self.now _ e c.ask_all_again.ensures there steady callsites
 
 pub returns-clause-keeps : goal.returns-clause-keeps
 returns-clause-keeps g c = rebuild_keeps g.S.Subscriber g.C.Callsite c.args.self.now _ c.ask_all_again.ensures

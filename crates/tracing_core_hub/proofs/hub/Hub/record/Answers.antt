@@ -8,4 +8,4 @@ use Rattle.tracing_core_hub.proofs.hub.Hub.record.Goals as goal
 pub returns-clause-keeps : goal.returns-clause-keeps
 returns-clause-keeps g c =
     handed_keeps g.S.Subscriber g.C.Callsite (Recorded c.args.span.now (plain_record c.args.values.now) c.args.at) c.record_at.result c.serial.ensures c.self.view_is c.deref_mut.ensures.value
-    (with_items_is c.self.inside.entries c.record_at.new.entries (omega arith)) c.record_at.ensures
+    (with_items_is c.self.inside.subscribers c.record_at.new.subscribers (omega arith)) c.record_at.ensures

@@ -4,8 +4,8 @@ use Rattle.tracing_core_hub.proofs.Words.{refresh_keeps}
 use Rattle.tracing_core_hub.proofs.hub.Hub.refresh.Goals as goal
 
 pub returns-clause-right : goal.returns-clause-right
-returns-clause-right g c e there lent steady rows =
-    refreshed_right g.S.Subscriber g.C.Callsite c.args.self.now _ e c.ask_again.ensures (inl lent) there steady rows
+returns-clause-right g c e there lent steady callsites =
+    refreshed_right g.S.Subscriber g.C.Callsite c.args.self.now _ e c.ask_again.ensures (inl lent) there steady callsites
 
 pub returns-clause-keeps : goal.returns-clause-keeps
 returns-clause-keeps g c = refresh_keeps g.S.Subscriber g.C.Callsite c.args.self.now _ c.ask_again.ensures

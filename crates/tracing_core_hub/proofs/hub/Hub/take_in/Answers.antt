@@ -2,19 +2,19 @@ use Rattle.std.proofs.Common.{◌≡◌, ◌+◌, ap, ◌∙◌, subst, List, []
 use Rattle.tracing_core_requests.specs.Calls.{DispatchRegistered}
 use Rattle.tracing_core_hub.specs.Commands.{living}
 use Rattle.tracing_core_hub.specs.Refreshing.{Refreshed}
-use Rattle.tracing_core_hub.specs.declared.hub.parts.RegisteredSubscriber.{RegisteredSubscriber}
+use Rattle.tracing_core_hub.specs.Kept.{KeptSubscriber}
 use Rattle.tracing_core_hub.proofs.hub.Hub.take_in.Goals as goal
 
 pub returns : goal.returns
 returns g c =
     let i = c.self.inside in
     let z = c.on_register_dispatch.new.self in
-    let pushed : c.push_reserved.new.self.items ≡ i.entries.items ++ living i.next z ∷ [] = c.push_reserved.ensures.items ∙ ap (λ (es : List (RegisteredSubscriber g.row.S.Denot)). es ++ living i.next z ∷ []) c.reserve.ensures.items in
+    let pushed : c.push_reserved.new.self.items ≡ i.subscribers.items ++ living i.next z ∷ [] = c.push_reserved.ensures.items ∙ ap (λ (es : List (KeptSubscriber g.row.S.Denot)). es ++ living i.next z ∷ []) c.reserve.ensures.items in
     rw (← c.self.view_is) (
       c.new.ensures,
       (
         z,
         subst (λ d. g.S.Subscriber.moves c.args.subscriber (DispatchRegistered d) tt z) c.weak_of.ensures c.on_register_dispatch.ensures,
-        subst (λ (es : List (RegisteredSubscriber g.row.S.Denot)). Refreshed g.S.Subscriber g.C.Callsite (record { entries = es; next = i.next + 1; rows = i.rows; lanes = i.lanes.items; entered = i.entered.items; global = i.global; greatest = i.greatest }) c.ask_again.new.self) pushed c.ask_again.ensures,
+        subst (λ (es : List (KeptSubscriber g.row.S.Denot)). Refreshed g.S.Subscriber g.C.Callsite (record { subscribers = es; next = i.next + 1; callsites = i.callsites; lanes = i.lanes.items; entered = i.entered.items; global = i.global; greatest = i.greatest }) c.ask_again.new.self) pushed c.ask_again.ensures,
       ),
     )

@@ -6,4 +6,4 @@ use Rattle.tracing_core_hub.proofs.hub.Hub.with_subscriber_mut.Goals as goal
 pub returns-clause-keeps : goal.returns-clause-keeps
 returns-clause-keeps g c alike =
     changed_keeps g.S.Subscriber g.C.Callsite g.F.FnOnce c.args.change c.change_at.result alike c.serial.ensures c.self.view_is c.deref_mut.ensures.value
-    (with_items_is c.self.inside.entries c.change_at.new.entries (omega arith)) c.change_at.ensures
+    (with_items_is c.self.inside.subscribers c.change_at.new.subscribers (omega arith)) c.change_at.ensures

@@ -2,9 +2,9 @@ use Rattle.std.proofs.Common.{◌≡◌, take, drop}
 use Rattle.tracing_core_hub.specs.Asking.{Each, Hints}
 use Rattle.tracing_core_hub.proofs.hub.asking.ask_hints.Given as goal
 
-abbrev pub invariant-loop-entry : goal.invariant-loop-entry
-invariant-loop-entry g l =
+abbrev pub invariant-loop-subscriber : goal.invariant-loop-subscriber
+invariant-loop-subscriber g l =
     record {
-      done : Each (Hints g.S.Subscriber) 0 (take l.entry-index l.fn.entries) (take l.entry-index l.entries) l.greatest;
-      left : drop l.entry-index l.entries ≡ drop l.entry-index l.fn.entries;
+      done : Each (Hints g.S.Subscriber) 0 (take l.subscriber-index l.fn.subscribers) (take l.subscriber-index l.subscribers) l.greatest;
+      left : drop l.subscriber-index l.subscribers ≡ drop l.subscriber-index l.fn.subscribers;
     }

@@ -1,14 +1,14 @@
-use Rattle.std.proofs.Common.{arith}
+use Rattle.std.proofs.Common.{arith, refl}
 use Rattle.tracing_core_requests.specs.Calls.{EventAsked}
 use Rattle.tracing_core_requests.specs.PlainRequests.{plain_event}
-use Rattle.tracing_core_hub.proofs.Handed.{to_nobody, to_somebody}
+use Rattle.tracing_core_hub.proofs.Handed.{to_nobody, to_opened}
 use Rattle.tracing_core_hub.proofs.hub.handing.event_enabled_at.Goals as goal
 
-pub returns-then-place-entries : goal.returns-then-place-entries
-returns-then-place-entries g c =
-    to_somebody g.S.Subscriber (EventAsked (plain_event c.args.event.now) c.args.at) c.args.serial c.args.entries.now c.place_or_end-place.result c.place_or_end-place.ensures
-    c.if-place-entries.true c.index-entries-place.result c.event_enabled.result c.event_enabled.new.self c.event_enabled.ensures
+pub returns-then-index-subscribers : goal.returns-then-index-subscribers
+returns-then-index-subscribers g c =
+    to_opened g.S.Subscriber (EventAsked (plain_event c.args.event.now) c.args.at) c.args.serial c.args.subscribers.now c.index_or_end-index.result c.index_or_end-index.ensures
+    c.if-index-subscribers.true c.index-subscribers-index.result _ _ c.event_enabled.result c.registered.view_is refl c.event_enabled.ensures
 
-pub returns-else-place-entries : goal.returns-else-place-entries
-returns-else-place-entries g c =
-    to_nobody g.S.Subscriber (EventAsked (plain_event c.args.event.now) c.args.at) c.args.serial c.args.entries.now c.place_or_end-place.result c.place_or_end-place.ensures (omega arith)
+pub returns-else-index-subscribers : goal.returns-else-index-subscribers
+returns-else-index-subscribers g c =
+    to_nobody g.S.Subscriber (EventAsked (plain_event c.args.event.now) c.args.at) c.args.serial c.args.subscribers.now c.index_or_end-index.result c.index_or_end-index.ensures (omega arith)

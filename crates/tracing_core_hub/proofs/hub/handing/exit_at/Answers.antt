@@ -1,13 +1,13 @@
-use Rattle.std.proofs.Common.{arith}
+use Rattle.std.proofs.Common.{arith, refl}
 use Rattle.tracing_core_requests.specs.Calls.{Exited}
-use Rattle.tracing_core_hub.proofs.Handed.{to_nobody, to_somebody}
+use Rattle.tracing_core_hub.proofs.Handed.{to_nobody, to_opened}
 use Rattle.tracing_core_hub.proofs.hub.handing.exit_at.Goals as goal
 
 pub returns : goal.returns
 returns g c =
-    to_somebody g.S.Subscriber (Exited c.args.span.now c.args.at) c.args.serial c.args.entries.now c.place_or_end-place.result c.place_or_end-place.ensures
-    (omega arith) c.index-entries-place.result tt c.exit.new.self c.exit.ensures
+    to_opened g.S.Subscriber (Exited c.args.span.now c.args.at) c.args.serial c.args.subscribers.now c.index_or_end-index.result c.index_or_end-index.ensures
+    (omega arith) c.index-subscribers-index.result _ _ tt c.registered.view_is refl c.exit.ensures
 
-pub returns-then-place-entries : goal.returns-then-place-entries
-returns-then-place-entries g c =
-    to_nobody g.S.Subscriber (Exited c.args.span.now c.args.at) c.args.serial c.args.entries.now c.place_or_end-place.result c.place_or_end-place.ensures (omega arith)
+pub returns-then-index-subscribers : goal.returns-then-index-subscribers
+returns-then-index-subscribers g c =
+    to_nobody g.S.Subscriber (Exited c.args.span.now c.args.at) c.args.serial c.args.subscribers.now c.index_or_end-index.result c.index_or_end-index.ensures (omega arith)

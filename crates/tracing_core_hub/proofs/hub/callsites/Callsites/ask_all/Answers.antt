@@ -1,17 +1,25 @@
-use Rattle.std.proofs.Common.{ap, sym, ◌∙◌, arith, List}
+use Rattle.std.proofs.Common.{ap, sym, subst, ◌∙◌, arith, List}
 use Rattle.std.proofs.lemmas.List.{with_items_is}
-use Rattle.tracing_core_hub.specs.Places.{place_among}
+use Rattle.tracing_core_hub.specs.Asking.{Each, CallsiteAsked}
+use Rattle.tracing_core_hub.specs.Indices.{index_among}
 use Rattle.tracing_core_hub.specs.Sound.{identifiers}
-use Rattle.tracing_core_hub.specs.declared.hub.parts.RegisteredCallsite.{RegisteredCallsite}
+use Rattle.tracing_core_hub.specs.Kept.{KeptCallsite}
 use Rattle.tracing_core_hub.proofs.Callsites.{asked_identifiers}
 use Rattle.tracing_core_hub.proofs.hub.callsites.Callsites.ask_all.Goals as goal
 
 pub invariant_of-self : goal.invariant_of-self
 invariant_of-self g c = λ n.
-    let whole = with_items_is c.self.inside.rows c.ask_rows.new.rows (omega arith) in
-    let asked = asked_identifiers g.S.Subscriber g.C.Callsite _ _ _ _ c.ask_rows.ensures in
+    let whole = with_items_is c.self.inside.callsites c.ask_callsites.new.callsites (omega arith) in
+    let asked = asked_identifiers g.S.Subscriber g.C.Callsite _ _ _ _ c.ask_callsites.ensures in
     c.self.invariant n
-    ∙ ap (place_among n) (
-    ap (λ (rows : List (RegisteredCallsite g.row.C.Denot)). identifiers rows) (sym c.deref_mut.ensures.value) ∙ sym asked
-    ∙ ap (λ (rows : List (RegisteredCallsite g.row.C.Denot)). identifiers rows) (sym whole)
+    ∙ ap (index_among n) (
+    ap (λ (callsites : List (KeptCallsite g.row.C.Denot)). identifiers callsites) (sym c.deref_mut.ensures.value) ∙ sym asked
+    ∙ ap (λ (callsites : List (KeptCallsite g.row.C.Denot)). identifiers callsites) (sym whole)
     )
+
+pub returns : goal.returns
+returns g c =
+    let whole = with_items_is c.self.inside.callsites c.ask_callsites.new.callsites (omega arith) in
+    let asked = Each (CallsiteAsked g.S.Subscriber g.C.Callsite) c.args.subscribers.now in
+    subst (λ (later : List (KeptCallsite g.row.C.Denot)). asked c.args.self.now later c.ask_callsites.new.subscribers) (sym whole)
+    (subst (λ (before : List (KeptCallsite g.row.C.Denot)). asked before c.ask_callsites.new.callsites c.ask_callsites.new.subscribers) (c.deref_mut.ensures.value ∙ c.self.view_is) c.ask_callsites.ensures)

@@ -5,10 +5,10 @@ use Rattle.tracing_core_hub.proofs.hub.callsites.Callsites.find.Goals as goal
 
 pub returns-in-None : goal.returns-in-None
 returns-in-None g c =
-    let rows = c.args.self.now in
-    sym (row_at_place c.args.identifier rows ∙ ap (option_and_then (λ place. slice_get rows place)) (sym c.place_of.ensures ∙ c.in-None.is))
+    let callsites = c.args.self.now in
+    sym (row_at_place c.args.identifier callsites ∙ ap (option_and_then (λ index. slice_get callsites index)) (sym c.index_of.ensures ∙ c.in-None.is))
 
 pub returns-in-Some : goal.returns-in-Some
 returns-in-Some g c =
-    let rows = c.args.self.now in
-    c.at.ensures ∙ sym (row_at_place c.args.identifier rows ∙ ap (option_and_then (λ place. slice_get rows place)) (sym c.place_of.ensures ∙ c.in-Some.is))
+    let callsites = c.args.self.now in
+    c.at.ensures ∙ sym (row_at_place c.args.identifier callsites ∙ ap (option_and_then (λ index. slice_get callsites index)) (sym c.index_of.ensures ∙ c.in-Some.is))

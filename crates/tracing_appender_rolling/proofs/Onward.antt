@@ -1,0 +1,174 @@
+-- What a look leaves of a folder, whatever is refused: each file has its bytes, and no file is lost. Where nothing is refused before, nothing is after.
+use Rattle.std.specs.Prelude.{is_some}
+use Rattle.std.proofs.Common.{◌≡◌, ◌≤◌, ℕ, ℤ, zero, suc, Bool, true, false, cond, List, [], ◌∷◌, ◌++◌, length, refl, ap, subst, sym, ◌∙◌, arith, Option, Some, None, Result, Ok, Err}
+use Rattle.tracing_appender_folders.specs.declared.moment.Moment.{Moment}
+use Rattle.tracing_appender_folders.specs.declared.fault.FileNumber.{FileNumber}
+use Rattle.tracing_appender_folders.specs.declared.fault.FolderFault.TheVariants.{Refused}
+use Rattle.tracing_appender_folders.specs.declared.fault.FolderError.{FolderError}
+use Rattle.tracing_appender_folders.specs.declared.fault.FolderError.TheVariants.{Fault, OutOfMemory}
+use Rattle.tracing_appender_folders.specs.Contents.{Contents, StoredFile, Listed, Answer, Outcome, Done, Refuses, Short, IsSound, called, fresh, unnamed, refusal, if_refused, on_file, file_named, link_named, link_place, links_with, open_at, open_plain, opened, make_plain, dirs_made, link_plain, linked, remove_at, remove_plain, removed, list_plain, names_listed, close_plain, closed}
+use Rattle.tracing_appender_rolling.specs.declared.faults.Faults.{Faults}
+use Rattle.tracing_appender_rolling.specs.Names.{FileNames}
+use Rattle.tracing_appender_rolling.specs.Retention.{asked_prefix}
+use Rattle.tracing_appender_rolling.specs.Pruning.{doomed, after_removal, removed_all, PrunedBy, PrunedAfter}
+use Rattle.tracing_appender_rolling.specs.Tries.{Tried, last_opening, after_dirs, after_opening, opened_twice, after_link, after_file, opened_linked}
+use Rattle.tracing_appender_rolling.specs.Looks.{Held, IsHeld, LookedTo, failed_by, tried, try_at, end_at}
+use Rattle.tracing_appender_rolling.specs.Writes.{WroteAll}
+use Rattle.tracing_appender_rolling.specs.Handing.{HandsTo}
+use Rattle.tracing_appender_rolling.specs.Pieces.{bytes_of}
+use Rattle.tracing_appender_rolling.proofs.Writing.{still_sound}
+
+pub record Onward (c d : Contents) : Type 0 where
+  pub sound : IsSound c → IsSound d
+  pub bytes : (n : ℕ) → bytes_of d.files n ≡ bytes_of c.files n
+  pub grows : length c.files ≤ length d.files
+
+onward_then : (c d e : Contents) → Onward c d → Onward d e → Onward c e
+onward_then c d e a b = record { sound = λ s. b.sound (a.sound s); bytes = λ n. b.bytes n ∙ a.bytes n; grows = omega (arith, a.grows, b.grows) }
+
+-- a call that leaves the files
+pub kept : (c d : Contents) → d.files ≡ c.files → ((n : ℕ) → d.coming n ≡ c.coming (suc n)) → Onward c d
+kept c d same next = record { sound = λ s n. next n ∙ s (suc n); bytes = λ n. ap (λ (fs : List StoredFile). bytes_of fs n) same; grows = omega (arith, ap length same) }
+
+bytes_made : (fs : List StoredFile) (name : List ℕ) (n : ℕ) → bytes_of (fs ++ fresh name ∷ []) n ≡ bytes_of fs n
+bytes_made [] name zero = refl
+bytes_made [] name (suc n) = refl
+bytes_made (f ∷ fs) name zero = refl
+bytes_made (f ∷ fs) name (suc n) = bytes_made fs name n
+
+one_longer : (fs : List StoredFile) (f : StoredFile) → length (fs ++ f ∷ []) ≡ suc (length fs)
+one_longer [] f = refl
+one_longer (g ∷ fs) f = ap suc (one_longer fs f)
+
+bytes_unnamed : (fs : List StoredFile) (place n : ℕ) → bytes_of (unnamed fs place) n ≡ bytes_of fs n
+bytes_unnamed [] place n = refl
+bytes_unnamed (f ∷ fs) zero zero = refl
+bytes_unnamed (f ∷ fs) zero (suc n) = refl
+bytes_unnamed (f ∷ fs) (suc place) zero = refl
+bytes_unnamed (f ∷ fs) (suc place) (suc n) = bytes_unnamed fs place n
+
+length_unnamed : (fs : List StoredFile) (place : ℕ) → length (unnamed fs place) ≡ length fs
+length_unnamed [] place = refl
+length_unnamed (f ∷ fs) zero = refl
+length_unnamed (f ∷ fs) (suc place) = ap suc (length_unnamed fs place)
+
+-- a call that may be refused
+by_outcome : {T : Type 0} (c : Contents) (answer : Answer T) → Onward c answer.1 → (o : Outcome) → Onward c (if_refused o (λ f. refusal f c) answer).1
+by_outcome c answer on Done = on
+by_outcome c answer on (Refuses f) = kept c (called c) refl (λ n. refl)
+by_outcome c answer on (Short most) = on
+
+open_found : (c : Contents) (name : List ℕ) (found : Option ℕ) → Onward c (open_at c name found).1
+open_found c name None = record { sound = λ s n. s (suc n); bytes = bytes_made c.files name; grows = omega (arith, one_longer c.files (fresh name)) }
+open_found c name (Some place) = kept c (open_at c name (Some place)).1 refl (λ n. refl)
+
+open_free : (c : Contents) (name : List ℕ) (taken : Bool) → Onward c (cond taken (refusal Refused c) (open_at c name (file_named name c.files))).1
+open_free c name true = kept c (called c) refl (λ n. refl)
+open_free c name false = open_found c name (file_named name c.files)
+
+opened_on : (c : Contents) (name : List ℕ) → Onward c (opened c name).1
+opened_on c name = by_outcome c (open_plain name c) (open_free c name (link_named name c.links)) (c.coming 0)
+
+made_on : (c : Contents) → Onward c (dirs_made c).1
+made_on c = by_outcome c (make_plain c) (kept c (make_plain c).1 refl (λ n. refl)) (c.coming 0)
+
+link_free : (c : Contents) (links : List (List ℕ × List ℕ)) (taken : Bool) → Onward c (cond taken (refusal {T = Unit {0}} Refused c) (Ok tt, record (called c) { links = links })).1
+link_free c links true = kept c (called c) refl (λ n. refl)
+link_free c links false = kept c (record (called c) { links = links }) refl (λ n. refl)
+
+linked_on : (c : Contents) (name target : List ℕ) → Onward c (linked c name target).1
+linked_on c name target =
+    by_outcome c (link_plain name target c) (link_free c (links_with c.links (link_place name c.links) (name, target)) (is_some (file_named name c.files))) (c.coming 0)
+
+pub linked_grows : (c : Contents) (name target : List ℕ) → length c.files ≤ length (linked c name target).1.files
+linked_grows c name target = (linked_on c name target).grows
+
+remove_found : (c : Contents) (found : Option ℕ) → Onward c (remove_at c found).1
+remove_found c None = kept c (called c) refl (λ n. refl)
+remove_found c (Some place) = record { sound = λ s n. s (suc n); bytes = bytes_unnamed c.files place; grows = omega (arith, length_unnamed c.files place) }
+
+removed_on : (c : Contents) (name : List ℕ) → Onward c (removed c name).1
+removed_on c name = by_outcome c (remove_plain name c) (remove_found c (file_named name c.files)) (c.coming 0)
+
+listed_on : (c : Contents) (prefix : List ℕ) → Onward c (names_listed c prefix).1
+listed_on c prefix = by_outcome c (list_plain prefix c) (kept c (called c) refl (λ n. refl)) (c.coming 0)
+
+pub closed_on : (c : Contents) (file : FileNumber) → Onward c (closed c file).1
+closed_on c file = by_outcome c (close_plain file c) (kept c (close_plain file c).1 refl (λ n. refl)) (on_file file c 0)
+
+module _ (start : Contents) where
+  -- retention
+  removal_on : (f : Faults) (a : Answer (Unit {0})) → Onward start a.1 → Onward start (after_removal f a).1
+  removal_on f (Ok done, c) on = on
+  removal_on f (Err (Fault fault), c) on = on
+  removal_on f (Err OutOfMemory, c) on = on
+
+  removals_on : (names : List (List ℕ)) (at : Faults × Contents) → Onward start at.1 → Onward start (removed_all names at).1
+  removals_on [] at on = on
+  removals_on (name ∷ names) at on =
+      removals_on names (after_removal at.0 (removed at.1 name)) (removal_on at.0 (removed at.1 name) (onward_then start at.1 (removed at.1 name).1 on (removed_on at.1 name)))
+
+  pruned_after : (names : FileNames) (limit : ℕ) (f l : Faults) (a : Answer (List Listed)) (d : Contents) → Onward start a.1 → PrunedAfter names limit f a l d → Onward start d
+  pruned_after names limit f l (Ok listing, c) d on (cs, are, is) = subst (λ (at : Faults × Contents). Onward start at.1) is (removals_on (doomed limit cs) (f, c) on)
+  pruned_after names limit f l (Err (Fault fault), c) d on (counts, same) = subst (Onward start) (sym same) on
+  pruned_after names limit f l (Err OutOfMemory, c) d on none = absurd none
+
+  -- a try
+  last_on : (a : Answer FileNumber) → Onward start a.1 → Onward start (last_opening a).1
+  last_on (Ok file, c) on = on
+  last_on (Err e, c) on = on
+
+  dirs_on : (name : List ℕ) (a : Answer (Unit {0})) → Onward start a.1 → Onward start (after_dirs name a).1
+  dirs_on name (Ok done, c) on = last_on (opened c name) (onward_then start c (opened c name).1 on (opened_on c name))
+  dirs_on name (Err e, c) on = on
+
+  opening_on : (name : List ℕ) (a : Answer FileNumber) → Onward start a.1 → Onward start (after_opening name a).1
+  opening_on name (Ok file, c) on = on
+  opening_on name (Err e, c) on = dirs_on name (dirs_made c) (onward_then start c (dirs_made c).1 on (made_on c))
+
+  link_on : (file : FileNumber) (a : Answer (Unit {0})) → Onward start a.1 → Onward start (after_link file a).1
+  link_on file (Ok done, c) on = on
+  link_on file (Err e, c) on = onward_then start c (closed c file).1 on (closed_on c file)
+
+  file_on : (link name : List ℕ) (t : Tried) → Onward start t.1 → Onward start (after_file link name t).1
+  file_on link name (Ok file, c) on = link_on file (linked c link name) (onward_then start c (linked c link name).1 on (linked_on c link name))
+  file_on link name (Err f, c) on = on
+
+  failed_on : (h : Held) (c : Contents) (e : FolderError) → Onward start c → Onward start (failed_by h c e).contents
+  failed_on h c (Fault fault) on = on
+  failed_on h c OutOfMemory on = on
+
+  tried_on : (h : Held) (t : Tried) → Onward start t.1 → Onward start (tried h t).contents
+  tried_on h (Ok file, c) on = onward_then start c (closed c h.current).1 on (closed_on c h.current)
+  tried_on h (Err f, c) on = failed_on h c f.error on
+
+pruned_by : (limit : Option ℕ) (names : FileNames) (f l : Faults) (c d : Contents) → PrunedBy limit names f c l d → Onward c d
+pruned_by None names f l c d (counts, same) = subst (Onward c) (sym same) (record { sound = λ s. s; bytes = λ n. refl; grows = omega arith })
+pruned_by (Some limit) names f l c d pruned = pruned_after c names limit f l (names_listed c (asked_prefix names)) d (listed_on c (asked_prefix names)) pruned
+
+twice_on : (c : Contents) (name : List ℕ) → Onward c (opened_twice name c).1
+twice_on c name = opening_on c name (opened c name) (opened_on c name)
+
+try_on : (latest : Option (List ℕ)) (name : List ℕ) (c : Contents) → Onward c (opened_linked latest name c).1
+try_on None name c = twice_on c name
+try_on (Some link) name c = file_on c link name (opened_twice name c) (twice_on c name)
+
+-- a look
+held_on : (start c : Contents) (boundary : Option ℤ) (current : FileNumber) (f : Faults) (h : Held) → IsHeld (Some c) boundary current f h → Onward start h.contents → Onward start c
+held_on start c boundary current f h held on = let same : c ≡ h.contents = cc (held.folder) in subst (Onward start) (sym same) on
+
+pub looked_on : (due : Bool) (names : FileNames) (m : Moment) (h seen : Held) → LookedTo due names m h seen.boundary seen.current seen.faults (Some seen.contents) → Onward h.contents seen.contents
+looked_on true names m h seen looked =
+    let middle = looked.pruned in
+    let before : Held = record { boundary = end_at names m; current = h.current; faults = looked.counted; contents = middle } in
+    let pruned = pruned_by names.limit names h.faults looked.counted h.contents middle looked.retention in
+    held_on h.contents seen.contents seen.boundary seen.current seen.faults (tried before (try_at names m middle)) looked.held
+    (tried_on h.contents before (try_at names m middle) (onward_then h.contents middle (try_at names m middle).1 pruned (try_on names.latest _ middle)))
+looked_on false names m h seen held = held_on h.contents seen.contents seen.boundary seen.current seen.faults h held (record { sound = λ s. s; bytes = λ n. refl; grows = omega arith })
+
+pub line_sound : (names : FileNames) (m : Moment) (h : Held) (bytes : List ℕ) (boundary : Option ℤ) (current : FileNumber) (f : Faults) (d : Contents) → IsSound h.contents → HandsTo names m h bytes (Ok tt) boundary current f (Some d) → IsSound d
+line_sound names m h bytes boundary current f d sound over =
+    let seen = (looked_on _ names m h over.seen over.looked).sound sound in
+    let w : WroteAll over.seen.contents over.seen.current bytes (Some d) = over.writes in
+    let same : d ≡ w.left.contents = cc (w.left.is) in
+    subst IsSound (sym same) (still_sound w.left seen)
