@@ -66,3 +66,7 @@ impl ShownSpans for Rows<'_> {
         self.rows[index].text
     }
 }
+
+fn hi_and_three() -> [Option<AnyValue<'static>>; 2] {
+    [Some(AnyValue::Str("hi")), Some(AnyValue::I64(3))]
+}

@@ -45,7 +45,7 @@ fn plain(rt: HostRuntime) -> Result<(), Fail> {
         target: Some("app"),
         ..BARE
     };
-    let values = [Some(AnyValue::Str("hi")), Some(AnyValue::I64(3))];
+    let values = hi_and_three();
     let line = line_of(rt.alloc(), PLAIN, &head, &OUTER, &values)?;
     assert_eq!(rt; line.as_str(), "fake time outer{x=42}: app: hi n=3\n");
     Ok(())

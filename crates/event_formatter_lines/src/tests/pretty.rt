@@ -1,6 +1,7 @@
 use super::*;
 use event_formatter_text::PrettyFields;
 use std::test::Fail;
+use tracing_core_fields::DebugText;
 
 const OUTER: [Row; 1] = [Row {
     name: "outer",
@@ -27,19 +28,20 @@ const NOWHERE: Place<'static> = Place {
     thread: None,
 };
 
-// The lines of a message and a number.
-fn lines_of(
+// The lines of the values.
+fn lines_of_values(
     alloc: Global,
     head: &Head<'_>,
     place: &Place<'_>,
     shows_target: bool,
     rows: &[Row],
+    values: &[Option<AnyValue<'_>>],
 ) -> Result<String, FormatError> {
     let mut out = String::new(alloc);
     let set = FieldSet::new(&NAMES, Identifier(1));
     let spans = Rows { rows };
-    let values = [Some(AnyValue::Str("hi")), Some(AnyValue::I64(3))];
-    let values = set.value_set_all(&values);
+    let values = set.value_set_all(values);
+    let fields = PrettyFields::new();
     push_pretty_line(
         alloc,
         &mut out,
@@ -48,10 +50,21 @@ fn lines_of(
         place,
         shows_target,
         &spans,
-        &PrettyFields::new(),
+        &fields,
         &values,
     )?;
     Ok(out)
+}
+
+// The lines of a message and a number.
+fn lines_of(
+    alloc: Global,
+    head: &Head<'_>,
+    place: &Place<'_>,
+    shows_target: bool,
+    rows: &[Row],
+) -> Result<String, FormatError> {
+    lines_of_values(alloc, head, place, shows_target, rows, &hi_and_three())
 }
 
 #[test]
@@ -133,9 +146,9 @@ fn file_and_thread_on_a_line(rt: HostRuntime) -> Result<(), Fail> {
 }
 
 // The lines of an event on the thread.
-fn on_thread(alloc: Global, name: Option<&str>, id: Option<&str>) -> Result<String, FormatError> {
+fn on_thread(alloc: Global, thread: Thread<'static>) -> Result<String, FormatError> {
     let place = Place {
-        thread: Some(Thread { name, id }),
+        thread: Some(thread),
         ..NOWHERE
     };
     lines_of(alloc, &BARE, &place, true, &[])
@@ -143,11 +156,31 @@ fn on_thread(alloc: Global, name: Option<&str>, id: Option<&str>) -> Result<Stri
 
 #[test]
 fn thread_on_its_own(rt: HostRuntime) -> Result<(), Fail> {
-    let lines = on_thread(rt.alloc(), None, None)?;
+    let unnamed = Thread {
+        name: None,
+        id: None,
+    };
+    let named = Thread {
+        name: Some("main"),
+        id: None,
+    };
+    let numbered = Thread {
+        name: None,
+        id: Some("ThreadId(2)"),
+    };
+    let lines = on_thread(rt.alloc(), unnamed)?;
     assert_eq!(rt; lines.as_str(), "   hi, n: 3\n    on \n\n");
-    let lines = on_thread(rt.alloc(), Some("main"), None)?;
+    let lines = on_thread(rt.alloc(), named)?;
     assert_eq!(rt; lines.as_str(), "   hi, n: 3\n    on main\n\n");
-    let lines = on_thread(rt.alloc(), None, Some("ThreadId(2)"))?;
+    let lines = on_thread(rt.alloc(), numbered)?;
     assert_eq!(rt; lines.as_str(), "   hi, n: 3\n    on ThreadId(2)\n\n");
+    Ok(())
+}
+
+#[test]
+fn a_value_that_fails(rt: HostRuntime) -> Result<(), Fail> {
+    let values = [None, Some(AnyValue::Debug(DebugText::Failing))];
+    let lines = lines_of_values(rt.alloc(), &BARE, &NOWHERE, true, &BOTH, &values);
+    assert!(rt; lines.err() == Some(FormatError::Failed));
     Ok(())
 }
