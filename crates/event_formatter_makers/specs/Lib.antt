@@ -1,3 +1,4 @@
 pub mod Makers
+pub mod Either
 pub mod Filters
 pub mod Routes

@@ -2,8 +2,12 @@
 use Rattle.std.specs.Prelude.{◌≡◌, Bool, true, false, Result, Ok, Err}
 use Rattle.std.specs.declared.io.Error.{Error}
 
+-- what handing a line over answered, and what it left
+abbrev pub Handing : Type 0 → Type 1
+Handing M = Result (Unit {0}) Error → M → Type 0
+
 -- it is handed on where the bound lets it through; else nothing is done
-abbrev pub WritesIf : {M : Type 0} → Bool → (Result (Unit {0}) Error → M → Type 0) → M → Result (Unit {0}) Error → M → Type 0
+abbrev pub WritesIf : {M : Type 0} → Bool → Handing M → M → Result (Unit {0}) Error → M → Type 0
 WritesIf true writes before answer after = writes answer after
 WritesIf false writes before answer after = (answer ≡ Ok tt) × (after ≡ before)
 
@@ -13,15 +17,15 @@ first_error (Ok done) second = second
 first_error (Err error) second = Err error
 
 -- both are handed the line
-abbrev pub WritesBoth : {A B : Type 0} → (Result (Unit {0}) Error → A → Type 0) → (Result (Unit {0}) Error → B → Type 0) → Result (Unit {0}) Error → A → B → Type 0
+abbrev pub WritesBoth : {A B : Type 0} → Handing A → Handing B → Result (Unit {0}) Error → A → B → Type 0
 WritesBoth first second answer a b =
     (x : Result (Unit {0}) Error) × (y : Result (Unit {0}) Error) × first x a × second y b × (answer ≡ first_error x y)
 
 -- one is handed the line, by what the first takes
-abbrev pub WritesOne : {A B : Type 0} → Bool → (Result (Unit {0}) Error → A → Type 0) → (Result (Unit {0}) Error → B → Type 0) → A → B → Result (Unit {0}) Error → A → B → Type 0
+abbrev pub WritesOne : {A B : Type 0} → Bool → Handing A → Handing B → A → B → Result (Unit {0}) Error → A → B → Type 0
 WritesOne true first second old-a old-b answer a b = first answer a × (b ≡ old-b)
 WritesOne false first second old-a old-b answer a b = second answer b × (a ≡ old-a)
 
-abbrev pub WritesEither : {A B : Type 0} → (Bool → Type 0) → (Result (Unit {0}) Error → A → Type 0) → (Result (Unit {0}) Error → B → Type 0) → A → B → Result (Unit {0}) Error → A → B → Type 0
+abbrev pub WritesEither : {A B : Type 0} → (Bool → Type 0) → Handing A → Handing B → A → B → Result (Unit {0}) Error → A → B → Type 0
 WritesEither takes first second old-a old-b answer a b =
     (taken : Bool) × takes taken × WritesOne taken first second old-a old-b answer a b

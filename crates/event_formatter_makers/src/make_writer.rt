@@ -4,7 +4,7 @@ ghost use Rattle.std.specs.declared.io.Error.{Error};
 ghost use Rattle.tracing_core_fields.specs.Metadata.{plain_metadata};
 ghost use Rattle.tracing_core_fields.specs.PlainMetadata.{PlainMetadata};
 
-use crate::combined::{OrElse, Tee, WithMaxLevel, WithMinLevel};
+use crate::combined::{OrElse, Tee, WithFilter, WithMaxLevel, WithMinLevel};
 use std::io;
 use tracing_core_fields::{Level, Metadata};
 
@@ -15,7 +15,7 @@ pub type MetadataTest = Box<dyn Fn(&Metadata<'_>) -> bool>;
 ///
 /// In Rust a maker makes a writer for an event's metadata, and the formatter writes the line to it. Here the maker does
 /// both in one call, so that a line is handed over whole.
-pub trait MakeWriter {
+pub trait MakeWriter: Drop {
     // Whether its outermost bound lets lines of such metadata through.
     ghost takes: { Self → PlainMetadata → Bool → Type 0 };
 
@@ -45,6 +45,11 @@ pub trait MakeWriterExt: Sized {
     fn with_min_level(self, level: Level) -> WithMinLevel<Self>
         ensures { (result.maker ≡ self) × (result.level ≡ level) };
 
+    /// Takes only lines of metadata that the closure passes.
+    fn with_filter(self, filter: MetadataTest) -> WithFilter<Self>
+        requires { MetadataTest.IsAlwaysCallable filter }
+        ensures { (result.maker ≡ self) × (result.filter ≡ filter) };
+
     /// Hands each line to this maker, and then to the other.
     fn and<B>(self, other: B) -> Tee<Self, B>
         ensures { (result.first ≡ self) × (result.second ≡ other) };
@@ -61,6 +66,10 @@ impl<M: MakeWriter> MakeWriterExt for M {
 
     fn with_min_level(self, level: Level) -> WithMinLevel<M> {
         WithMinLevel::new(self, level)
+    }
+
+    fn with_filter(self, filter: MetadataTest) -> WithFilter<M> {
+        WithFilter::new(self, filter)
     }
 
     fn and<B>(self, other: B) -> Tee<M, B> {

@@ -8,6 +8,8 @@ use thiserror::Error;
 use tracing_core_fields::Level;
 
 /// Which sinks of an output take a line, by the level of the line.
+///
+/// Its calls go down the route by recursion: one of some thousand levels is fine, one of a hundred thousand isn't.
 #[derive(Debug, Drop)]
 pub enum Route {
     /// The sink with this number.
@@ -56,7 +58,7 @@ impl Route {
     ///
     /// # Errors
     ///
-    /// Want of memory. What was appended before stays.
+    /// Want of memory; some of them may have been appended then.
     pub fn push_taken(&self, level: Level, sinks: &mut Vec<usize>) -> Result<(), AllocError>
         ensures { OnOk result (sinks.new.items ≡ sinks.old.items ++ taken_sinks self.now level) }
     {

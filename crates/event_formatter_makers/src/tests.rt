@@ -2,6 +2,7 @@
 use super::*;
 use std::alloc::Global;
 use std::io;
+use std::io::Write;
 use std::test::Fail;
 use tracing_core_fields::{FieldSet, Identifier, Kind, Level, Metadata};
 
@@ -88,10 +89,50 @@ fn closures_filter(rt: HostRuntime) -> Result<(), Fail> {
         rt.alloc(),
         |metadata: &Metadata<'_>| *metadata.level() == Level::DEBUG,
     )?;
-    let mut maker = WithFilter::new(make_kept(rt.alloc(), false), test);
+    let mut maker = make_kept(rt.alloc(), false).with_filter(test);
     assert_eq!(rt; hand_over(&mut maker), 0);
     assert!(rt; maker.maker.text.as_slice() == b"d".as_slice());
     Ok(())
+}
+
+#[test]
+fn makers_in_boxes(rt: HostRuntime) -> Result<(), Fail> {
+    let taking: Box<dyn MakeWriter> = Box::new(rt.alloc(), make_kept(rt.alloc(), false))?;
+    assert_eq!(rt; hand_over(&mut BoxMakeWriter::new(taking)), 0);
+    let bounded = make_kept(rt.alloc(), true).with_max_level(Level::WARN);
+    let refusing: Box<dyn MakeWriter> = Box::new(rt.alloc(), bounded)?;
+    let maker = BoxMakeWriter::new(refusing);
+    let mut maker = maker.or_else(make_kept(rt.alloc(), false));
+    assert_eq!(rt; hand_over(&mut maker), 2);
+    assert!(rt; maker.second.text.as_slice() == b"idt".as_slice());
+    Ok(())
+}
+
+#[test]
+fn closures_are_makers(rt: HostRuntime) -> Result<(), Fail> {
+    let mut lines = 0;
+    let taker: LineTaker = Box::new(rt.alloc(), move |metadata: &Metadata<'_>, line: &[u8]| {
+        lines += line.len() % 2;
+        if lines > 2 || *metadata.level() == Level::ERROR {
+            return Err(io::ErrorKind::Other.into());
+        }
+        Ok(())
+    })?;
+    assert_eq!(rt; hand_over(&mut FnMaker::new(taker)), 4);
+    Ok(())
+}
+
+#[test]
+fn writers_of_a_side(rt: HostRuntime) {
+    let mut first = EitherWriter::<Vec<u8>, Vec<u8>>::A(Vec::new(rt.alloc()));
+    assert!(rt; first.write_all(b"ab").is_ok() && first.flush().is_ok());
+    assert!(rt; matches!(first, EitherWriter::A(bytes) if bytes.as_slice() == b"ab".as_slice()));
+    let mut some = OptionalWriter::from(Some(Vec::new(rt.alloc())));
+    assert!(rt; matches!(some.write(b"c"), Ok(1)));
+    assert!(rt; matches!(some, EitherWriter::A(bytes) if bytes.as_slice() == b"c".as_slice()));
+    let mut none = OptionalWriter::<Vec<u8>>::from(None);
+    assert!(rt; matches!(none.write(b"c"), Ok(1)) && none.write_all(b"de").is_ok());
+    assert!(rt; matches!(none, EitherWriter::B(_)));
 }
 
 fn boxed(alloc: Global, route: Route) -> Result<Box<Route>, Fail> {

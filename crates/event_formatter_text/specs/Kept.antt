@@ -1,10 +1,6 @@
 -- What is kept of the fields of a span.
-use Rattle.std.specs.Prelude.{◌≡◌, ℕ, List, [], ◌∷◌, ◌++◌, Bool, true, false, Option, Some, None, Result, Ok, Err, codes, map, string_bytes}
+use Rattle.std.specs.Prelude.{◌≡◌, ℕ, List, [], ◌∷◌, ◌++◌, Option, Some, None, Result, Ok, Err, codes, map, string_bytes}
 use Rattle.std.specs.Option.{option_map}
-use Rattle.tracing_core_requests.specs.PlainRequests.{PlainValues}
-use Rattle.event_formatter_text.specs.Lists.{pieces_text}
-use Rattle.event_formatter_text.specs.Visitors.{pretty_piece}
-use Rattle.event_formatter_text.specs.Writers.{without_styles}
 use Rattle.event_formatter_text.specs.declared.error.FormatError.{FormatError}
 use Rattle.event_formatter_text.specs.declared.error.FormatError.TheVariants.{Failed, OutOfMemory}
 use Rattle.event_formatter_text.specs.declared.formatted_fields.FormattedFields.{FormattedFields}
@@ -37,13 +33,3 @@ space_behind (b ∷ bs) = codes " "
 abbrev pub behind_space : Option (List ℕ) → PlainFields → Option PlainFields
 behind_space more fields =
     option_map (λ text. record fields { text = fields.text ++ (space_behind fields.text ++ text) }) more
-
-abbrev pub is_nil : List ℕ → Bool
-is_nil [] = true
-is_nil (b ∷ bs) = false
-
--- the text of one more list in the pretty format, behind a comma and a space where there is a text before it
-abbrev pub behind_comma : PlainValues → PlainFields → Option PlainFields
-behind_comma values fields =
-    option_map (λ text. record fields { text = fields.text ++ text })
-    (pieces_text (codes ", ") (pretty_piece (without_styles fields.settings)) (is_nil fields.text) values.names values.entries)

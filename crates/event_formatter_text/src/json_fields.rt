@@ -13,7 +13,8 @@ use crate::writer::Writer;
 use std::alloc::{AllocError, Global};
 
 /// Writes fields as one JSON object: the last value of each key, in byte order of the keys. Numbers of at most 64 bits
-/// and bools stand as they are, bytes as an array of numbers, all else as strings.
+/// and bools stand as they are, also where they come as debug values, bytes as an array of numbers, all else as strings.
+/// Nothing is sanitized, and there are no styles: JSON's own escapes are all.
 #[derive(Clone, Copy, Debug, Default, PartialEq, Eq)]
 pub struct JsonFields;
 

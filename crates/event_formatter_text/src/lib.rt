@@ -26,6 +26,7 @@ pub use json_fields::JsonFields;
 pub use pretty_fields::PrettyFields;
 pub use record_fields::RecordFields;
 pub use settings::Settings;
+pub use style::{push_bold, push_dimmed, push_italic, push_styled};
 pub use visitors::alt::{Alt, Messages};
 pub use visitors::default::DefaultVisitor;
 pub use visitors::json::JsonVisitor;

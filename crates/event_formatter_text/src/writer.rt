@@ -1,6 +1,7 @@
 //! What texts are written to.
-ghost use Rattle.std.specs.Prelude.{◌≡◌, ◌++◌, OnOk, codes, encode_utf8, false, string_bytes, true};
+ghost use Rattle.std.specs.Prelude.{◌≡◌, ◌++◌, codes, encode_utf8, false, if◌then◌else◌, string_bytes, true};
 ghost use Rattle.std.specs.Option.{option_map};
+ghost use Rattle.std.specs.Result.{is_ok};
 ghost use Rattle.tracing_core_fields.specs.DebugText.{plain_debug};
 ghost use Rattle.event_formatter_text.specs.FieldTexts.{field_piece, separator};
 ghost use Rattle.event_formatter_text.specs.JsonTexts.{json_piece};
@@ -71,10 +72,10 @@ impl<'w> Writer<'w> {
     ///
     /// # Errors
     ///
-    /// Want of memory.
+    /// Want of memory; nothing was appended then.
     pub fn write_str(&mut self, text: &str) -> Result<(), AllocError>
         ensures same { IsSameWriter self.old self.new }
-        ensures text { OnOk result (written self.new ≡ written self.old ++ text.now) }
+        ensures text { written self.new ≡ (if is_ok result then written self.old ++ text.now else written self.old) }
     {
         self.out.push_str(text)
     }
@@ -83,10 +84,10 @@ impl<'w> Writer<'w> {
     ///
     /// # Errors
     ///
-    /// Want of memory.
+    /// Want of memory; nothing was appended then.
     pub fn write_char(&mut self, c: char) -> Result<(), AllocError>
         ensures same { IsSameWriter self.old self.new }
-        ensures text { OnOk result (written self.new ≡ written self.old ++ encode_utf8 c) }
+        ensures text { written self.new ≡ (if is_ok result then written self.old ++ encode_utf8 c else written self.old) }
     {
         self.out.push(c)
     }

@@ -56,3 +56,11 @@ IsText None (Ok out) = ⊥
 IsText (Some text) (Err Failed) = ⊥
 IsText None (Err Failed) = Unit {0}
 IsText text (Err OutOfMemory) = Unit {0}
+
+-- the text was appended, or there is none and nothing was; want of memory says nothing of what was appended
+abbrev pub TellsTime : Option (List ℕ) → List ℕ → Result (Unit {0}) FormatError → List ℕ → Type 0
+TellsTime (Some text) old (Ok done) new = new ≡ old ++ text
+TellsTime None old (Ok done) new = ⊥
+TellsTime (Some text) old (Err Failed) new = ⊥
+TellsTime None old (Err Failed) new = new ≡ old
+TellsTime text old (Err OutOfMemory) new = Unit {0}

@@ -1,6 +1,6 @@
 //! What tells the time of a line.
 ghost use Rattle.std.specs.Prelude.{◌≡◌, ℕ, ℤ, List, Option, Some, string_bytes};
-ghost use Rattle.event_formatter_text.specs.Lists.{Formats};
+ghost use Rattle.event_formatter_times.specs.Times.{TellsTime};
 
 use event_formatter_text::FormatError;
 use std::alloc::Global;
@@ -16,7 +16,8 @@ pub trait FormatTime {
     ///
     /// # Errors
     ///
-    /// A moment that can't be formatted, or want of memory. What was appended before is to be dropped.
+    /// `Failed` for a moment that has no text, where nothing is appended, and want of memory, where what was appended is to
+    /// be dropped.
     fn format_time(
         &mut self,
         alloc: Global,
@@ -25,7 +26,7 @@ pub trait FormatTime {
         nanoseconds: u32,
     ) -> Result<(), FormatError>
         ensures timer { (s : ℤ) (n : ℕ) → text_at self.new s n ≡ text_at self.old s n }
-        ensures text { Formats (text_at self.old seconds nanoseconds) (string_bytes out.old) result
+        ensures text { TellsTime (text_at self.old seconds nanoseconds) (string_bytes out.old) result
             (string_bytes out.new) };
 }
 

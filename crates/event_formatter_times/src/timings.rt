@@ -1,4 +1,6 @@
 //! How long a span was busy and idle, from the moments that it is told.
+//!
+//! A moment is given in seconds from 1970-01-01T00:00:00Z and the nanoseconds after these; the sums are in nanoseconds.
 ghost use Rattle.std.specs.Prelude.{◌≡◌};
 ghost use Rattle.event_formatter_times.specs.SpanTimings.{at_start, deeper, shallower, until};
 

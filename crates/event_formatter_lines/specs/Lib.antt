@@ -1,0 +1,6 @@
+pub mod Shown
+pub mod Frames
+pub mod Heads
+pub mod Full
+pub mod Compact
+pub mod Pretty

@@ -1,0 +1,14 @@
+-- The spans that a line shows.
+use Rattle.std.specs.Prelude.{ℕ, List, [], slice_index_or}
+
+-- a span by its name, its target, and the text of its fields
+pub record PlainShown : Type 0 where
+  pub name : List ℕ
+  pub target : List ℕ
+  pub text : List ℕ
+
+abbrev pub nothing_shown : PlainShown
+nothing_shown = record { name = []; target = []; text = [] }
+
+abbrev pub span_at : List PlainShown → ℕ → PlainShown
+span_at spans index = slice_index_or spans index nothing_shown

@@ -1,0 +1,102 @@
+//! What is known of an event beside its fields and spans.
+ghost use Rattle.std.specs.Prelude.{◌≡◌, ◌++◌, OnOk, string_bytes};
+ghost use Rattle.std.specs.Option.{option_map};
+ghost use Rattle.tracing_core_fields.specs.Level.{level_name};
+ghost use Rattle.event_formatter_lines.specs.Heads.{in_five_places, level_piece, level_start, level_text, plain_piece, time_piece};
+
+use event_formatter_text::{Settings, push_dimmed, push_styled};
+use std::alloc::AllocError;
+use tracing_core_fields::Level;
+
+/// What is known of an event beside its fields and spans. A part is `None` where it isn't shown or isn't known.
+#[derive(Clone, Copy, Debug)]
+pub struct Head<'a> {
+    /// The time.
+    pub time: Option<&'a str>,
+    /// The level.
+    pub level: Option<Level>,
+    /// The thread's name, as the format shows it.
+    pub thread_name: Option<&'a str>,
+    /// The thread's number, as the format shows it.
+    pub thread_id: Option<&'a str>,
+    /// The target.
+    pub target: Option<&'a str>,
+    /// The file.
+    pub file: Option<&'a str>,
+    /// The line in the file.
+    pub line: Option<u32>,
+}
+
+// The code that begins the style of a level.
+#[tactic(auto, unfolding(crate::specs::Heads::level_start))]
+fn level_start(name: &str) -> &'static str
+    ensures { result.now ≡ level_start name.now }
+{
+    match name {
+        "ERROR" => "\u{1b}[31m",
+        "WARN" => "\u{1b}[33m",
+        "INFO" => "\u{1b}[32m",
+        "DEBUG" => "\u{1b}[34m",
+        _ => "\u{1b}[35m",
+    }
+}
+
+/// A level's name in five places.
+#[tactic(auto, unfolding(crate::specs::Heads::in_five_places))]
+pub(crate) fn in_five_places(level: Level) -> &'static str
+    ensures { result.now ≡ in_five_places (level_name level) }
+{
+    match level.as_str() {
+        "INFO" => " INFO",
+        "WARN" => " WARN",
+        name => name,
+    }
+}
+
+/// Appends the level, where there is one, and a space.
+pub(crate) fn push_level(
+    out: &mut String,
+    settings: Settings,
+    level: Option<Level>,
+) -> Result<(), AllocError>
+    ensures { OnOk result (string_bytes out.new ≡ string_bytes out.old ++ level_piece settings level) }
+{
+    let Some(level) = level else {
+        return Ok(());
+    };
+    push_styled(
+        out,
+        settings,
+        level_start(level.as_str()),
+        in_five_places(level),
+    )?;
+    out.push(' ')
+}
+
+/// Appends the time, dimmed, where there is one, and a space.
+pub(crate) fn push_time(
+    out: &mut String,
+    settings: Settings,
+    time: Option<&str>,
+) -> Result<(), AllocError>
+    ensures { OnOk result (string_bytes out.new ≡ string_bytes out.old
+        ++ time_piece settings (option_map (λ text. text.now) time.entry)) }
+{
+    let Some(time) = time else {
+        return Ok(());
+    };
+    push_dimmed(out, settings, time)?;
+    out.push(' ')
+}
+
+/// Appends the text as it is, where there is one, and a space.
+pub(crate) fn push_plain(out: &mut String, text: Option<&str>) -> Result<(), AllocError>
+    ensures { OnOk result (string_bytes out.new ≡ string_bytes out.old
+        ++ plain_piece (option_map (λ text. text.now) text.entry)) }
+{
+    let Some(text) = text else {
+        return Ok(());
+    };
+    out.push_str(text)?;
+    out.push(' ')
+}

@@ -1,0 +1,20 @@
+//! Lines: what stands before and behind the fields of an event, in each format.
+#![tactic(auto)]
+
+mod compact;
+mod fields;
+mod full;
+mod head;
+mod place;
+mod pretty;
+mod shown;
+
+pub use compact::{push_compact_head, push_compact_line};
+pub use full::{push_full_head, push_full_line};
+pub use head::Head;
+pub use place::{Place, Thread};
+pub use pretty::push_pretty_line;
+pub use shown::ShownSpans;
+
+#[cfg(test)]
+mod tests;
