@@ -59,3 +59,20 @@ impl FormatTime for FixedText {
         Ok(())
     }
 }
+
+/// Writes nothing.
+impl FormatTime for () {
+    ghost use Rattle.std.specs.Prelude.{[]};
+
+    ghost text_at = { λ timer s n. Some [] };
+
+    fn format_time(
+        &mut self,
+        _alloc: Global,
+        _out: &mut String,
+        _seconds: i64,
+        _nanoseconds: u32,
+    ) -> Result<(), FormatError> {
+        Ok(())
+    }
+}

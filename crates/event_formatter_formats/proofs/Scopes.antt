@@ -1,0 +1,131 @@
+-- How the spans of a scope are found again by their ids.
+use Rattle.std.proofs.Common.{◌≡◌, ℕ, List, [], ◌∷◌, ◌++◌, ◌==◌, Bool, true, false, map, reverse, Option, Some, None, is_some, refl, sym, ap, ◌∙◌, if◌then◌else◌}
+use Rattle.std.specs.Option.{option_map}
+use Rattle.std.proofs.lemmas.Bool.{eqb-true}
+use Rattle.std.proofs.lemmas.List.{map-append, reverse-append}
+use Rattle.tracing_core_requests.specs.declared.requests.parent.Parent.{Parent}
+use Rattle.tracing_core_requests.specs.declared.requests.parent.Parent.TheVariants.{Root, Current, Explicit}
+use Rattle.span_registry_layers_store.specs.Lanes.{lane_at}
+use Rattle.span_registry_layers_store.specs.References.{PlainRef, ref_of, refs_of}
+use Rattle.span_registry_layers_store.specs.Registries.{PlainSpan, RegistryValue, kin_in}
+use Rattle.span_registry_layers_store.specs.Spans.{found, is_member, line_of}
+use Rattle.span_registry_layers_store.specs.Views.{all_seen, entry_seen, first_of, latest_seen, one_or_none, seen, seen_if, sees}
+use Rattle.span_registry_layers_layers.specs.Contexts.{event_span, lane_span, scope_in, span_in}
+use Rattle.span_registry_layers_layers.specs.Looks.{View}
+use Rattle.event_formatter_lines.specs.Shown.{PlainShown}
+use Rattle.event_formatter_formats.specs.Scopes.{only_if, refs_from, shown_at, shown_or_nothing, shown_scope, shown_span}
+use Rattle.event_formatter_formats.specs.Walks.{FillsScope, first_id, id_of, id_of_ref, ids_from}
+
+found_here : (b : Bool) (x s : PlainSpan) (xs : List PlainSpan) (id : ℕ) → (x.kin.id == id) ≡ b → (found kin_in xs id ≡ Some s → s.kin.id ≡ id) →
+    (if b then Some x else found kin_in xs id) ≡ Some s → s.kin.id ≡ id
+found_here true x s xs id is rest same = let e : x ≡ s = cc in ap (λ (y : PlainSpan). y.kin.id) (sym e) ∙ eqb-true x.kin.id id is
+found_here false x s xs id is rest same = rest same
+
+-- a span that is found by an id has it
+found_id : (xs : List PlainSpan) (id : ℕ) (s : PlainSpan) → found kin_in xs id ≡ Some s → s.kin.id ≡ id
+found_id [] id s same = cc
+found_id (x ∷ xs) id s same = found_here (x.kin.id == id) x s xs id refl (found_id xs id s) same
+
+passed_by : (b : Bool) (t s : PlainSpan) → (if b then Some t else None) ≡ Some s → Some t ≡ Some s
+passed_by true t s same = same
+passed_by false t s same = cc
+
+passed : (mask : Option ℕ) (f : Option PlainSpan) (s : PlainSpan) → seen_if mask f ≡ Some s → f ≡ Some s
+passed mask None s same = same
+passed mask (Some t) s same = passed_by (sees mask t) t s same
+
+-- so it is seen by its own
+seen_again : (x : RegistryValue) (mask : Option ℕ) (id : ℕ) (s : PlainSpan) → seen x mask id ≡ Some s → seen x mask s.kin.id ≡ Some s
+seen_again x mask id s same =
+    ap (seen x mask) (found_id x.spans id s (passed mask (found kin_in x.spans id) s same)) ∙ same
+
+-- each span that an id of a list shows is shown by its own
+abbrev IsShown : View → Option PlainSpan → Type 0
+IsShown v f = (s : PlainSpan) → f ≡ Some s → span_in v s.kin.id ≡ Some s
+
+shown_one : (v : View) (key : ℕ) (f : Option PlainSpan) → IsShown v f →
+    map (λ (r : PlainRef). shown_at v key (id_of_ref r)) (map (ref_of v.registry v.mask) (one_or_none f))
+    ≡ map (λ (r : PlainRef). shown_span key r.span) (map (ref_of v.registry v.mask) (one_or_none f))
+shown_one v key None is = refl
+shown_one v key (Some s) is = ap (λ (f : Option PlainSpan). shown_or_nothing key f ∷ []) (is s refl)
+
+shown_all : (v : View) (key : ℕ) (ids : List ℕ) →
+    map (λ (r : PlainRef). shown_at v key (id_of_ref r)) (refs_of v.registry v.mask ids)
+    ≡ map (λ (r : PlainRef). shown_span key r.span) (refs_of v.registry v.mask ids)
+shown_all v key [] = refl
+shown_all v key (id ∷ ids) =
+    let here = one_or_none (seen v.registry v.mask id) in
+    let later = all_seen v.registry v.mask ids in
+    let by_id = λ (r : PlainRef). shown_at v key (id_of_ref r) in
+    let as_it_is = λ (r : PlainRef). shown_span key r.span in
+    let ref = ref_of v.registry v.mask in
+    ap (map by_id) (map-append ref here later)
+    ∙ map-append by_id (map ref here) (map ref later)
+    ∙ ap (λ (shown : List PlainShown). shown ++ map by_id (map ref later)) (shown_one v key (seen v.registry v.mask id) (seen_again v.registry v.mask id))
+    ∙ ap (λ (shown : List PlainShown). map as_it_is (map ref here) ++ shown) (shown_all v key ids)
+    ∙ sym (map-append as_it_is (map ref here) (map ref later))
+    ∙ sym (ap (map as_it_is) (map-append ref here later))
+
+map_reverse : {A : Type 0} → {B : Type 0} (f : A → B) (xs : List A) → map f (reverse xs) ≡ reverse (map f xs)
+map_reverse f [] = refl
+map_reverse f (x ∷ xs) =
+    ap (map f) (reverse-append (x ∷ []) xs) ∙ map-append f (reverse xs) (x ∷ []) ∙ ap (λ ys. ys ++ f x ∷ []) (map_reverse f xs)
+    ∙ sym (reverse-append (f x ∷ []) (map f xs))
+
+map_twice : {A : Type 0} → {B : Type 0} → {C : Type 0} (f : A → B) (g : B → C) (xs : List A) → map g (map f xs) ≡ map (λ x. g (f x)) xs
+map_twice f g [] = refl
+map_twice f g (x ∷ xs) = ap (λ ys. g (f x) ∷ ys) (map_twice f g xs)
+
+refs_shown : (v : View) (key : ℕ) (f : Option PlainSpan) →
+    map (λ (r : PlainRef). shown_at v key (id_of_ref r)) (refs_from v f) ≡ map (λ (r : PlainRef). shown_span key r.span) (refs_from v f)
+refs_shown v key None = refl
+refs_shown v key (Some s) = shown_all v key (line_of kin_in v.registry.spans s.kin.id)
+
+-- the ids of a scope show it
+scope_shown : (v : View) (key : ℕ) (s : PlainSpan) → span_in v s.kin.id ≡ Some s →
+    map (shown_at v key) (reverse (ids_from v (Some s.kin.id))) ≡ shown_scope v key (Some s)
+scope_shown v key s is =
+    let refs = refs_from v (span_in v s.kin.id) in
+    map_reverse (shown_at v key) (map id_of_ref refs)
+    ∙ ap reverse (map_twice id_of_ref (shown_at v key) refs ∙ refs_shown v key (span_in v s.kin.id))
+    ∙ ap (λ (f : Option PlainSpan). shown_scope v key f) is
+
+first_shown : (v : View) (f later : Option PlainSpan) → IsShown v f → IsShown v later → IsShown v (first_of f later)
+first_shown v None later here there = there
+first_shown v (Some s) later here there = here
+
+entry_shown : (v : View) (earlier : List ℕ) (id : ℕ) (b : Bool) → is_member earlier id ≡ b → IsShown v (entry_seen v.registry v.mask earlier id)
+entry_shown v earlier id true is = rw is (λ s same. cc)
+entry_shown v earlier id false is = rw is (seen_again v.registry v.mask id)
+
+lane_shown : (v : View) (ids : List ℕ) → IsShown v (latest_seen v.registry v.mask ids)
+lane_shown v [] = λ s same. cc
+lane_shown v (id ∷ earlier) =
+    first_shown v (entry_seen v.registry v.mask earlier id) (latest_seen v.registry v.mask earlier)
+    (entry_shown v earlier id (is_member earlier id) refl) (lane_shown v earlier)
+
+current_shown : (v : View) → IsShown v (lane_span v)
+current_shown v = lane_shown v (reverse (lane_at v.registry.lanes v.at.lane))
+
+event_shown : (v : View) (parent : Parent) → IsShown v (event_span v parent)
+event_shown v Root = λ s same. cc
+event_shown v Current = current_shown v
+event_shown v (Explicit id) = seen_again v.registry v.mask id
+
+filled_by : (v : View) (key : ℕ) (strict lane : Option PlainSpan) → IsShown v strict → IsShown v lane → (ids : List ℕ) →
+    ids ≡ reverse (ids_from v (first_id (option_map id_of strict) (option_map id_of lane))) →
+    (map (shown_at v key) ids ≡ shown_scope v key (first_of strict lane))
+    × (only_if (is_some (option_map id_of strict)) (map (shown_at v key) ids) ≡ shown_scope v key strict)
+filled_by v key (Some s) lane here there ids are =
+    let all = ap (map (shown_at v key)) are ∙ scope_shown v key s (here s refl) in (all, all)
+filled_by v key None None here there ids are = (ap (map (shown_at v key)) are, refl)
+filled_by v key None (Some s) here there ids are =
+    (ap (map (shown_at v key)) are ∙ scope_shown v key s (there s refl), refl)
+
+pub filled : (v : View) (parent : Parent) (ids : List ℕ) (stands_in : Option ℕ) →
+    stands_in ≡ option_map id_of (event_span v parent) →
+    ids ≡ reverse (ids_from v (first_id stands_in (option_map id_of (lane_span v)))) →
+    FillsScope v parent ids (is_some stands_in)
+filled v parent ids stands_in is are key =
+    rw is (filled_by v key (event_span v parent) (lane_span v) (event_shown v parent) (current_shown v) ids
+    (are ∙ ap (λ (leaf : Option ℕ). reverse (ids_from v (first_id leaf (option_map id_of (lane_span v))))) is))

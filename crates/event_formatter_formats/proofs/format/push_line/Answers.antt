@@ -1,0 +1,26 @@
+use Rattle.std.proofs.Common.{◌≡◌, ℕ, List, Option, ap, subst, sym, ◌∙◌, string_bytes}
+use Rattle.tracing_core_requests.specs.PlainRequests.{plain_event}
+use Rattle.event_formatter_text.specs.Lists.{Formats}
+use Rattle.event_formatter_lines.specs.Compact.{compact_line}
+use Rattle.event_formatter_lines.specs.Heads.{plain_head}
+use Rattle.event_formatter_lines.specs.Shown.{PlainShown}
+use Rattle.event_formatter_formats.specs.Contexts.{plain_context, spans_in}
+use Rattle.event_formatter_formats.specs.Lines.{line_behind}
+use Rattle.event_formatter_formats.specs.declared.line_format.LineFormat.{LineFormat}
+use Rattle.event_formatter_formats.proofs.format.push_line.Goals as goal
+
+pub returns-in-Compact : goal.returns-in-Compact
+returns-in-Compact g c =
+    let settings = c.args.settings in
+    let head = plain_head c.args.head.now in
+    let values = (plain_event c.args.event.now).values in
+    let context = plain_context g.N.FormatFields.text_of c.args.context.now in
+    let text : g.row.N.Denot → Option (List ℕ) = λ f. g.N.FormatFields.text_of f settings values in
+    let strict = spans_in c.strict_spans-strict.result in
+    let fields = text c.field_format-in-Compact.result.now in
+    subst (λ (line : Option (List ℕ)). Formats line (string_bytes c.args.out.now) c.push_compact_line.result (string_bytes c.push_compact_line.new.out))
+    (ap (λ (loose : List PlainShown). compact_line settings head loose strict fields) c.loose_spans-loose.ensures
+    ∙ ap (λ (spans : List PlainShown). compact_line settings head context.loose spans fields) c.strict_spans-strict.ensures
+    ∙ ap (λ (f : g.row.N.Denot). compact_line settings head context.loose context.strict (text f)) c.field_format-in-Compact.ensures
+    ∙ ap (λ (shape : LineFormat). line_behind shape c.args.parts settings head context values) (sym c.in-Compact.is))
+    c.push_compact_line.ensures

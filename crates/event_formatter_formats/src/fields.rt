@@ -1,0 +1,62 @@
+//! The field formatters as one type.
+ghost use Rattle.std.specs.Prelude.{[]};
+ghost use Rattle.event_formatter_formats.specs.FieldFormats.{added, started_text, text_of};
+
+use event_formatter_text::{
+    DefaultFields, FormatError, FormatFields, FormattedFields, JsonFields, PrettyFields,
+    RecordFields, Settings, Writer,
+};
+use std::alloc::{AllocError, Global};
+
+/// One of the field formatters, for outputs that share one type.
+#[derive(Clone, Copy, Debug, Drop, PartialEq, Eq)]
+pub enum Fields {
+    /// `name=value`, a space between two.
+    Default,
+    /// `name: value`, a comma and a space between two.
+    Pretty,
+    /// One JSON object.
+    Json,
+}
+
+impl FormatFields for Fields {
+    ghost text_of = { text_of };
+
+    ghost started = { λ fields settings. record { text = started_text fields; words = []; settings = settings } };
+
+    ghost added = { added };
+
+    fn format_fields<R: RecordFields>(
+        &self,
+        alloc: Global,
+        writer: &mut Writer<'_>,
+        fields: &R,
+    ) -> Result<(), FormatError> {
+        match self {
+            Fields::Default => DefaultFields.format_fields(alloc, writer, fields),
+            Fields::Pretty => PrettyFields.format_fields(alloc, writer, fields),
+            Fields::Json => JsonFields.format_fields(alloc, writer, fields),
+        }
+    }
+
+    fn start(&self, alloc: Global, settings: Settings) -> Result<FormattedFields, AllocError> {
+        match self {
+            Fields::Default => DefaultFields.start(alloc, settings),
+            Fields::Pretty => PrettyFields.start(alloc, settings),
+            Fields::Json => JsonFields.start(alloc, settings),
+        }
+    }
+
+    fn add_fields<R: RecordFields>(
+        &self,
+        alloc: Global,
+        current: &mut FormattedFields,
+        fields: &R,
+    ) -> Result<(), FormatError> {
+        match self {
+            Fields::Default => DefaultFields.add_fields(alloc, current, fields),
+            Fields::Pretty => PrettyFields.add_fields(alloc, current, fields),
+            Fields::Json => JsonFields.add_fields(alloc, current, fields),
+        }
+    }
+}

@@ -1,0 +1,122 @@
+//! The texts of the time and the thread of an event.
+ghost use Rattle.std.specs.Prelude.{◌≡◌, ◌++◌, ℕ, ℤ, OnOk, if◌then◌else◌, string_bytes};
+ghost use Rattle.event_formatter_times.specs.Threads.{padded_name};
+ghost use Rattle.event_formatter_formats.specs.Contexts.{plain_thread};
+ghost use Rattle.event_formatter_formats.specs.Headings.{Shows, id_in_place, id_shown, name_shown, time_shown};
+
+use crate::context::CurrentThread;
+use crate::parts::Parts;
+use event_formatter_text::FormatError;
+use event_formatter_times::{FormatTime, push_thread_id, push_thread_name};
+use std::alloc::{AllocError, Global};
+use tracing_core_requests::At;
+
+/// Puts the text of the moment in place of what `out` held, and answers whether a time is shown.
+///
+/// # Errors
+///
+/// Want of memory.
+pub(crate) fn fill_time<T: FormatTime>(
+    alloc: Global,
+    out: &mut String,
+    parts: Parts,
+    timer: &mut T,
+    at: At,
+) -> Result<bool, AllocError>
+    ensures timer { (s : ℤ) (n : ℕ) → T.text_at timer.new s n ≡ T.text_at timer.old s n }
+    ensures text { Shows (time_shown parts (T.text_at timer.old at.seconds at.nanoseconds)) result (string_bytes out.new) }
+{
+    out.clear();
+    if !parts.timestamp {
+        return Ok(false);
+    }
+    match timer.format_time(alloc, out, at.seconds, at.nanoseconds) {
+        Ok(()) => Ok(true),
+        Err(FormatError::Failed) => {
+            out.push_str("<unknown time>")?;
+            Ok(true)
+        }
+        Err(FormatError::OutOfMemory) => Err(AllocError),
+    }
+}
+
+/// Puts the thread's number in place of what `out` held, and answers whether it is shown.
+///
+/// # Errors
+///
+/// Want of memory.
+pub(crate) fn fill_id(
+    out: &mut String,
+    is_padded: bool,
+    parts: Parts,
+    thread: CurrentThread<'_>,
+) -> Result<bool, AllocError>
+    ensures { Shows (id_shown is_padded parts (plain_thread thread.entry)) result (string_bytes out.new) }
+{
+    out.clear();
+    if !parts.thread_ids {
+        return Ok(false);
+    }
+    push_thread_id(out, thread.id, is_padded)?;
+    Ok(true)
+}
+
+// Appends a name to an empty text.
+fn push_name(
+    out: &mut String,
+    is_padded: bool,
+    name: &str,
+    longest: usize,
+) -> Result<(), AllocError>
+    ensures { OnOk result (string_bytes out.new ≡ string_bytes out.old
+        ++ (if is_padded then padded_name longest name.now else name.now)) }
+{
+    if is_padded {
+        push_thread_name(out, name, longest)
+    } else {
+        out.push_str(name)
+    }
+}
+
+// Puts the number in the place of a name that there isn't, unless it is shown itself.
+fn fill_place(
+    out: &mut String,
+    is_padded: bool,
+    parts: Parts,
+    thread: CurrentThread<'_>,
+) -> Result<bool, AllocError>
+    ensures { Shows (id_in_place is_padded parts (plain_thread thread.entry)) result (string_bytes out.new) }
+{
+    out.clear();
+    if parts.thread_ids {
+        return Ok(false);
+    }
+    push_thread_id(out, thread.id, is_padded)?;
+    Ok(true)
+}
+
+/// Puts the thread's name, or what stands in its place, in place of what `out` held, and answers whether there is one.
+///
+/// # Errors
+///
+/// Want of memory.
+pub(crate) fn fill_name(
+    out: &mut String,
+    is_padded: bool,
+    parts: Parts,
+    thread: CurrentThread<'_>,
+) -> Result<bool, AllocError>
+    ensures { Shows (name_shown is_padded parts (plain_thread thread.entry)) result (string_bytes out.new) }
+{
+    out.clear();
+    if !parts.thread_names {
+        return Ok(false);
+    }
+    match thread.name {
+        None => fill_place(out, is_padded, parts, thread),
+        Some(name) => {
+            push_name(out, is_padded, name, thread.longest)?;
+            Ok(true)
+        }
+    }
+}

@@ -1,0 +1,24 @@
+//! Formats of lines: which parts of an event a line shows, and in which order.
+#![tactic(auto)]
+
+mod context;
+mod fields;
+mod format;
+mod format_event;
+mod heading;
+mod line_format;
+mod parts;
+mod scope;
+mod timer;
+
+pub use context::{CurrentThread, FmtContext};
+pub use fields::Fields;
+pub use format::Format;
+pub use format_event::FormatEvent;
+pub use line_format::{Compact, EventShape, Full, LineFormat, Pretty};
+pub use parts::Parts;
+pub use scope::{ScopedSpans, fill_scope};
+pub use timer::Timer;
+
+#[cfg(test)]
+mod tests;

@@ -1,0 +1,110 @@
+//! The formats, by what stands where in a line.
+ghost use Rattle.std.specs.Prelude.{◌≡◌, true};
+ghost use Rattle.event_formatter_formats.specs.Lines.{is_padded};
+ghost use Rattle.event_formatter_formats.specs.declared.line_format.LineFormat.{LineFormat};
+ghost use Rattle.event_formatter_formats.specs.declared.line_format.LineFormat.TheVariants as format;
+
+/// The spans from the root with their fields, and then the event, in one line.
+#[derive(Clone, Copy, Debug, Default, Drop, PartialEq, Eq)]
+pub struct Full;
+
+/// The names of the spans, the event, and then the fields of the spans, in one line.
+#[derive(Clone, Copy, Debug, Default, Drop, PartialEq, Eq)]
+pub struct Compact;
+
+/// Several lines for an event: the event, its place in the source, and a line for each span. It has no styles.
+#[derive(Clone, Copy, Debug, Drop, PartialEq, Eq)]
+pub struct Pretty {
+    pub(crate) display_location: bool,
+}
+
+impl Pretty {
+    /// With the place in the source.
+    pub fn new() -> Pretty
+        ensures { result.display_location ≡ true }
+    {
+        Pretty {
+            display_location: true,
+        }
+    }
+
+    /// Sets whether the place in the source is shown.
+    pub fn with_source_location(self, display_location: bool) -> Pretty
+        ensures { result.display_location ≡ display_location }
+    {
+        Pretty { display_location }
+    }
+}
+
+impl Default for Pretty {
+    ghost is_default = { λ p. p.display_location ≡ true };
+
+    fn default() -> Pretty {
+        Pretty::new()
+    }
+}
+
+/// One of the formats.
+#[derive(Clone, Copy, Debug, Drop, PartialEq, Eq)]
+pub enum LineFormat {
+    /// See [`Full`].
+    Full,
+    /// See [`Compact`].
+    Compact,
+    /// See [`Pretty`].
+    Pretty(Pretty),
+}
+
+impl LineFormat {
+    // Whether the texts of a thread are brought to a common width.
+    pub(crate) fn is_padded(self) -> bool
+        ensures { result ≡ is_padded self }
+    {
+        match self {
+            LineFormat::Full | LineFormat::Compact => true,
+            LineFormat::Pretty(_) => false,
+        }
+    }
+}
+
+/// What says in which format a line is written.
+pub trait EventShape: Drop {
+    // The format.
+    ghost shape: { Self → LineFormat };
+
+    /// The format.
+    fn line_format(&self) -> LineFormat
+        ensures { result ≡ shape self.now };
+}
+
+impl EventShape for Full {
+    ghost shape = { λ _. format.Full };
+
+    fn line_format(&self) -> LineFormat {
+        LineFormat::Full
+    }
+}
+
+impl EventShape for Compact {
+    ghost shape = { λ _. format.Compact };
+
+    fn line_format(&self) -> LineFormat {
+        LineFormat::Compact
+    }
+}
+
+impl EventShape for Pretty {
+    ghost shape = { λ p. format.Pretty p };
+
+    fn line_format(&self) -> LineFormat {
+        LineFormat::Pretty(*self)
+    }
+}
+
+impl EventShape for LineFormat {
+    ghost shape = { λ format. format };
+
+    fn line_format(&self) -> LineFormat {
+        *self
+    }
+}

@@ -1,0 +1,39 @@
+//! Which parts a line shows.
+ghost use Rattle.std.specs.Prelude.{◌≡◌};
+ghost use Rattle.event_formatter_formats.specs.Parts.{default_parts};
+
+/// Which parts a line shows beside its fields and spans.
+#[derive(Clone, Copy, Debug, Drop, PartialEq, Eq)]
+pub struct Parts {
+    /// The time.
+    pub timestamp: bool,
+    /// The level.
+    pub level: bool,
+    /// The target.
+    pub target: bool,
+    /// The name of the thread.
+    pub thread_names: bool,
+    /// The number of the thread.
+    pub thread_ids: bool,
+    /// The source file.
+    pub file: bool,
+    /// The line in the source file.
+    pub line_number: bool,
+}
+
+impl Default for Parts {
+    ghost is_default = { λ parts. parts ≡ default_parts };
+
+    /// Time, level and target.
+    fn default() -> Parts {
+        Parts {
+            timestamp: true,
+            level: true,
+            target: true,
+            thread_names: false,
+            thread_ids: false,
+            file: false,
+            line_number: false,
+        }
+    }
+}

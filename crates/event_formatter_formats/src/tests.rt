@@ -1,0 +1,1 @@
+//! Lines of events in a registry.

@@ -1,0 +1,88 @@
+//! The layer that writes lines, and what it keeps.
+ghost use Rattle.std.specs.Prelude.{◌≡◌, [], string_bytes};
+ghost use Rattle.tracing_core_requests.specs.PlainRequests.{plain_event};
+ghost use Rattle.span_registry_layers_layers.specs.Looks.{view};
+ghost use Rattle.event_formatter_text.specs.Lists.{Formats};
+ghost use Rattle.event_formatter_layer.specs.Layers.{SameMaking, TellsEvent, line_in_view};
+
+use crate::output::Output;
+use crate::threads::Threads;
+use event_formatter_formats::{FmtContext, FormatEvent, fill_scope};
+use event_formatter_makers::MakeWriter;
+use event_formatter_text::{FormatError, FormatFields, Settings};
+use span_registry_layers_layers::Context;
+use span_registry_layers_store::OutputKey;
+use std::alloc::Global;
+use tracing_core_fields::Id;
+use tracing_core_requests::Event;
+
+/// How a layer was made. Nothing that it is told changes this.
+#[derive(Drop)]
+pub(crate) struct Config<N> {
+    pub(crate) key: OutputKey,
+    pub(crate) fields: N,
+    pub(crate) settings: Settings,
+    pub(crate) log_internal_errors: bool,
+}
+
+/// Writes a line for each event that it is told, and hands it to a maker.
+#[derive(Drop)]
+pub struct Layer<N, E, W> {
+    pub(crate) alloc: Global,
+    pub(crate) config: Config<N>,
+    pub(crate) format: E,
+    pub(crate) threads: Threads,
+    pub(crate) output: Output<W>,
+    pub(crate) ids: Vec<Id>,
+}
+
+impl<N: FormatFields, E: FormatEvent, W> Layer<N, E, W> {
+    // Writes the line of an event.
+    fn write_line(
+        &mut self,
+        context: &Context<'_>,
+        event: &Event<'_, '_>,
+    ) -> Result<(), FormatError>
+        ensures stays { SameMaking E.line_of self.old self.new }
+        ensures output { (self.new.threads ≡ self.old.threads) × (self.new.output.maker ≡ self.old.output.maker) × (self.new.output.starved ≡ self.old.output.starved) }
+        ensures text { Formats (line_in_view N.text_of E.line_of self.old (view context.now) (plain_event event.now)) [] result
+            (string_bytes self.new.output.line) }
+    {
+        let has_scope = fill_scope(context, event, &mut self.ids)?;
+        let thread = self.threads.at(context.at().lane);
+        let written = FmtContext::new(
+            context,
+            &self.config.fields,
+            self.config.key,
+            thread,
+            self.ids.as_slice(),
+            has_scope,
+        );
+        self.output.line.clear();
+        self.format.format_event(
+            self.alloc,
+            &written,
+            &mut self.output.line,
+            self.config.settings,
+            event,
+        )
+    }
+}
+
+impl<N: FormatFields, E: FormatEvent, W: MakeWriter> Layer<N, E, W> {
+    /// Writes the line of an event, and hands it on.
+    pub(crate) fn tell_event(&mut self, context: &Context<'_>, event: &Event<'_, '_>)
+        ensures { TellsEvent N.text_of E.line_of W.writes self.old (view context.now) (plain_event event.now) self.new }
+    {
+        self.threads.meet(context.at().lane);
+        let metadata = event.metadata();
+        match self.write_line(context, event) {
+            Ok(()) => self.output.hand_over(metadata),
+            Err(FormatError::Failed) => {
+                let tells_faults = self.config.log_internal_errors;
+                self.output.hand_fault(metadata, tells_faults);
+            }
+            Err(FormatError::OutOfMemory) => self.output.miss(),
+        }
+    }
+}

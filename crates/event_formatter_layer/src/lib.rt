@@ -1,0 +1,8 @@
+//! A layer that writes a line for each event that it is told.
+#![tactic(auto)]
+
+mod layer;
+mod output;
+mod threads;
+
+pub use layer::Layer;

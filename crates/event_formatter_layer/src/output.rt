@@ -1,0 +1,83 @@
+//! Where the lines of a layer go.
+ghost use Rattle.std.specs.Prelude.{◌≡◌, ◌++◌, OnOk, codes, string_bytes};
+ghost use Rattle.std.specs.List.{join_by};
+ghost use Rattle.tracing_core_fields.specs.FieldSet.{field_names};
+ghost use Rattle.tracing_core_fields.specs.Metadata.{plain_metadata};
+ghost use Rattle.event_formatter_layer.specs.Lines.{HandsLine, Offers, fault_if, fault_text, one_more};
+
+use event_formatter_makers::MakeWriter;
+use std::alloc::AllocError;
+use std::io::ErrorKind;
+use tracing_core_fields::{FieldSet, Metadata};
+
+/// The maker that takes the lines, the line that is being written, and how many texts and lines found no memory.
+#[derive(Drop)]
+pub(crate) struct Output<W> {
+    pub(crate) maker: W,
+    pub(crate) line: String,
+    pub(crate) starved: u64,
+}
+
+// Appends the names, a comma and a space between two.
+fn push_names(out: &mut String, fields: &FieldSet<'_>) -> Result<(), AllocError>
+    ensures { OnOk result (string_bytes out.new ≡ string_bytes out.old
+        ++ join_by (λ name. name) (codes ", ") (field_names fields.now)) }
+{
+    let mut is_first = true;
+    for field in fields.iter() {
+        if !is_first {
+            out.push_str(", ")?;
+        }
+        out.push_str(field.name())?;
+        is_first = false;
+    }
+    Ok(())
+}
+
+// Appends what stands in place of an event that can't be formatted.
+fn push_fault(out: &mut String, metadata: &Metadata<'_>) -> Result<(), AllocError>
+    ensures { OnOk result (string_bytes out.new ≡ string_bytes out.old ++ fault_text (plain_metadata metadata.now)) }
+{
+    out.push_str("Unable to format the following event. Name: ")?;
+    out.push_str(metadata.name())?;
+    out.push_str("; Fields: [")?;
+    push_names(out, metadata.fields())?;
+    out.push_str("]\n")
+}
+
+impl<W> Output<W> {
+    /// Counts a text or a line that found no memory.
+    pub(crate) fn miss(&mut self)
+        ensures { (self.new.maker ≡ self.old.maker) × (self.new.starved ≡ one_more self.old.starved) }
+    {
+        self.starved = self.starved.saturating_add(1);
+    }
+}
+
+impl<W: MakeWriter> Output<W> {
+    /// Hands the line on, whole. A refusal of the maker is its own affair, but for want of memory, which is counted.
+    pub(crate) fn hand_over(&mut self, metadata: &Metadata<'_>)
+        ensures { HandsLine W.writes self.old (plain_metadata metadata.now) (string_bytes self.old.line) self.new }
+    {
+        let answer = self.maker.write_for(metadata, self.line.as_bytes());
+        if let Err(error) = answer {
+            if error.kind() == ErrorKind::OutOfMemory {
+                self.miss();
+            }
+        }
+    }
+
+    /// Hands on what stands in place of an event that can't be formatted, where faults are told.
+    pub(crate) fn hand_fault(&mut self, metadata: &Metadata<'_>, tells_faults: bool)
+        ensures { let m = plain_metadata metadata.now in Offers W.writes self.old m (fault_if tells_faults m) self.new }
+    {
+        if !tells_faults {
+            return;
+        }
+        self.line.clear();
+        match push_fault(&mut self.line, metadata) {
+            Ok(()) => self.hand_over(metadata),
+            Err(_) => self.miss(),
+        }
+    }
+}
