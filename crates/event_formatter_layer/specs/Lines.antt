@@ -1,17 +1,32 @@
 -- What becomes of the line of an event.
 use Rattle.std.specs.Prelude.{◌≡◌, ◌+◌, ℕ, min, Bool, true, false, List, [], ◌∷◌, ◌++◌, Option, Some, None, Result, Ok, Err, codes}
 use Rattle.std.specs.IoError.{error_kind}
-use Rattle.std.specs.List.{join_by}
+use Rattle.std.specs.List.{flat_map}
 use Rattle.std.specs.declared.io.Error.{Error}
 use Rattle.std.specs.declared.io.ErrorKind.TheVariants as kind
 use Rattle.tracing_core_fields.specs.PlainMetadata.{PlainMetadata}
 use Rattle.event_formatter_layer.specs.declared.output.Output.{Output}
 
+-- names, a comma and a space before each
+abbrev pub later_names : List (List ℕ) → List ℕ
+later_names names = flat_map (λ name. codes ", " ++ name) names
+
+-- names, a comma and a space between two
+abbrev pub names_inside : List (List ℕ) → List ℕ
+names_inside [] = []
+names_inside (name ∷ names) = name ++ later_names names
+
+-- what stands before an event's name, in what stands in place of one that can't be formatted
+unfoldable pub before_name : List ℕ
+before_name = codes "Unable to format the following event. Name: "
+
+-- what stands before the names of its fields there
+unfoldable pub before_fields : List ℕ
+before_fields = codes "; Fields: ["
+
 -- what stands in place of an event that can't be formatted
 abbrev pub fault_text : PlainMetadata → List ℕ
-fault_text m =
-    codes "Unable to format the following event. Name: " ++ m.name ++ codes "; Fields: [" ++ join_by (λ name. name) (codes ", ") m.field_names
-    ++ codes "]\n"
+fault_text m = before_name ++ m.name ++ before_fields ++ names_inside m.field_names ++ codes "]\n"
 
 abbrev pub fault_if : Bool → PlainMetadata → Option (List ℕ)
 fault_if true m = Some (fault_text m)

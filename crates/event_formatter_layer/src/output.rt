@@ -1,9 +1,8 @@
 //! Where the lines of a layer go.
-ghost use Rattle.std.specs.Prelude.{◌≡◌, ◌++◌, OnOk, codes, string_bytes};
-ghost use Rattle.std.specs.List.{join_by};
+ghost use Rattle.std.specs.Prelude.{◌≡◌, ◌++◌, OnOk, string_bytes};
 ghost use Rattle.tracing_core_fields.specs.FieldSet.{field_names};
 ghost use Rattle.tracing_core_fields.specs.Metadata.{plain_metadata};
-ghost use Rattle.event_formatter_layer.specs.Lines.{HandsLine, Offers, fault_if, fault_text, one_more};
+ghost use Rattle.event_formatter_layer.specs.Lines.{HandsLine, Offers, before_fields, before_name, fault_if, fault_text, names_inside, one_more};
 
 use event_formatter_makers::MakeWriter;
 use std::alloc::AllocError;
@@ -20,27 +19,43 @@ pub(crate) struct Output<W> {
 
 // Appends the names, a comma and a space between two.
 fn push_names(out: &mut String, fields: &FieldSet<'_>) -> Result<(), AllocError>
-    ensures { OnOk result (string_bytes out.new ≡ string_bytes out.old
-        ++ join_by (λ name. name) (codes ", ") (field_names fields.now)) }
+    ensures { OnOk result (string_bytes out.new ≡ string_bytes out.old ++ names_inside (field_names fields.now)) }
 {
-    let mut is_first = true;
-    for field in fields.iter() {
-        if !is_first {
-            out.push_str(", ")?;
-        }
+    let mut rest = fields.iter();
+    let Some(first) = rest.next() else {
+        return Ok(());
+    };
+    out.push_str(first.name())?;
+    for field in rest {
+        out.push_str(", ")?;
         out.push_str(field.name())?;
-        is_first = false;
     }
     Ok(())
+}
+
+// What stands before the name of an event that can't be formatted.
+#[tactic(auto, unfolding(crate::specs::Lines::before_name))]
+fn before_name() -> &'static str
+    ensures { result.now ≡ before_name }
+{
+    "Unable to format the following event. Name: "
+}
+
+// What stands before the names of its fields.
+#[tactic(auto, unfolding(crate::specs::Lines::before_fields))]
+fn before_fields() -> &'static str
+    ensures { result.now ≡ before_fields }
+{
+    "; Fields: ["
 }
 
 // Appends what stands in place of an event that can't be formatted.
 fn push_fault(out: &mut String, metadata: &Metadata<'_>) -> Result<(), AllocError>
     ensures { OnOk result (string_bytes out.new ≡ string_bytes out.old ++ fault_text (plain_metadata metadata.now)) }
 {
-    out.push_str("Unable to format the following event. Name: ")?;
+    out.push_str(before_name())?;
     out.push_str(metadata.name())?;
-    out.push_str("; Fields: [")?;
+    out.push_str(before_fields())?;
     push_names(out, metadata.fields())?;
     out.push_str("]\n")
 }
