@@ -1,2 +1,6 @@
 mod Framing
 mod LeafFirst
+mod Members
+mod Braces
+mod Joining
+mod Lines

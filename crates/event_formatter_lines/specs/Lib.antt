@@ -4,3 +4,4 @@ pub mod Heads
 pub mod Full
 pub mod Compact
 pub mod Pretty
+pub mod Json
