@@ -4,3 +4,4 @@ mod Members
 mod Braces
 mod Joining
 mod Lines
+mod SpanObjects

@@ -11,6 +11,10 @@ use Rattle.event_formatter_lines.specs.Heads.{PlainHead}
 use Rattle.event_formatter_lines.specs.Shown.{PlainShown}
 use Rattle.event_formatter_lines.specs.declared.json.JsonShape.{JsonShape}
 
+-- the fields in an object of their own, and all that is known of the spans
+abbrev pub default_shape : JsonShape
+default_shape = record { flatten_event = false; current_span = true; span_list = true }
+
 -- a key in which nothing is to be escaped, and a colon
 unfoldable pub key_text : List ℕ → List ℕ
 key_text key = codes "\"" ++ key ++ codes "\":"

@@ -5,3 +5,4 @@ pub mod Full
 pub mod Compact
 pub mod Pretty
 pub mod Json
+pub mod JsonLaws

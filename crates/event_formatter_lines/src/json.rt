@@ -3,7 +3,7 @@
 mod members;
 mod spans;
 
-ghost use Rattle.std.specs.Prelude.{◌++◌, IfOk, string_bytes};
+ghost use Rattle.std.specs.Prelude.{◌≡◌, ◌++◌, IfOk, string_bytes};
 ghost use Rattle.event_formatter_text.specs.Chains.{Extends, ExtendsWhole};
 ghost use Rattle.event_formatter_text.specs.Lists.{Formats};
 ghost use Rattle.event_formatter_lines.specs.Heads.{plain_head};
@@ -28,6 +28,10 @@ pub struct JsonShape {
 }
 
 impl Default for JsonShape {
+    ghost use Rattle.event_formatter_lines.specs.Json.{default_shape};
+
+    ghost is_default = { λ shape. shape ≡ default_shape };
+
     fn default() -> JsonShape {
         JsonShape {
             flatten_event: false,

@@ -1,6 +1,7 @@
 //! The lines of an event, and what they leave out.
 
 mod full;
+mod json;
 mod pretty;
 
 ghost use Rattle.std.specs.Prelude.{◌≡◌, map};
