@@ -5,3 +5,4 @@ mod Braces
 mod Joining
 mod Lines
 mod SpanObjects
+mod Moments

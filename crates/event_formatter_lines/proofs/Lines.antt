@@ -1,5 +1,5 @@
 -- A line whose fields were appended as members.
-use Rattle.std.proofs.Common.{◌≡◌, ℕ, Bool, true, false, List, [], ◌∷◌, ◌++◌, codes, Option, Some, None, Result, Ok, Err, refl, sym, ap, ◌∙◌, append_assoc}
+use Rattle.std.proofs.Common.{◌≡◌, ℕ, Bool, true, false, List, ◌++◌, codes, Option, Some, None, Ok, Err, refl, sym, ap, ◌∙◌, append_assoc}
 use Rattle.std.specs.Option.{option_map}
 use Rattle.event_formatter_text.specs.Chains.{Extends, ExtendsWhole}
 use Rattle.event_formatter_text.specs.Lists.{Formats, further, joined}

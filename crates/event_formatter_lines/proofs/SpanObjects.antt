@@ -1,16 +1,14 @@
 -- Spans of which an object is kept.
 use Rattle.std.proofs.Common.{◌≡◌, ℕ, List, [], ◌∷◌, ◌++◌, codes, Option, Some, refl, sym, ap, ◌∙◌, append_assoc}
-use Rattle.std.proofs.lemmas.List.{append-nil}
 use Rattle.std.proofs.lemmas.Grind.{flat_map-append}
 use lib.Utf8.{encode}
 use Rattle.std.specs.Str.{chars}
-use Rattle.std.specs.List.{flat_map, join_by}
+use Rattle.std.specs.List.{join_by}
 use Rattle.event_formatter_text.specs.Escapes.{escaped, json_char, json_string}
 use Rattle.event_formatter_text.specs.JsonObjects.{Pair, later_members, member_text, members_inside, object_text}
 use Rattle.event_formatter_lines.proofs.Braces.{inside}
-use Rattle.event_formatter_lines.specs.Json.{inside_braces, kept_by, kept_members, key_text, members_as_kept, object_of, span_object, text_member}
+use Rattle.event_formatter_lines.specs.Json.{kept_by, kept_members, key_text, members_as_kept, object_of, span_object, text_member}
 use Rattle.event_formatter_lines.specs.JsonLaws.{SpansExtendObjects}
-use Rattle.event_formatter_lines.specs.Shown.{PlainShown}
 
 abbrev name_pair : List ℕ → Pair
 name_pair name = (codes "name", json_string name)

@@ -6,3 +6,4 @@ pub mod Compact
 pub mod Pretty
 pub mod Json
 pub mod JsonLaws
+pub mod FmtSpans

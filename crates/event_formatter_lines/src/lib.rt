@@ -3,6 +3,7 @@
 
 mod compact;
 mod fields;
+mod fmt_span;
 mod full;
 mod head;
 mod json;
@@ -12,6 +13,7 @@ mod pretty;
 mod shown;
 
 pub use compact::{push_compact_head, push_compact_line};
+pub use fmt_span::FmtSpan;
 pub use full::{push_full_head, push_full_line};
 pub use head::Head;
 pub use json::{JsonShape, push_json_line};

@@ -1,5 +1,6 @@
 //! The lines of an event, and what they leave out.
 
+mod fmt_span;
 mod full;
 mod json;
 mod pretty;
