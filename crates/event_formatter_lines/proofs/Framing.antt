@@ -1,5 +1,5 @@
 -- A text that was formatted between two others.
-use Rattle.std.proofs.Common.{◌≡◌, ℕ, List, ◌++◌, Option, Some, None, Result, Ok, Err, ap, ◌∙◌, append_assoc}
+use Rattle.std.proofs.Common.{◌≡◌, ℕ, List, ◌++◌, Option, Some, None, Ok, Err, ap, ◌∙◌, append_assoc}
 use Rattle.event_formatter_lines.specs.Frames.{framed_text}
 use Rattle.event_formatter_text.specs.Lists.{Formats}
 use Rattle.event_formatter_text.specs.declared.error.FormatError.{FormatError}

@@ -1,5 +1,5 @@
 -- Lines of spans, from the last span down.
-use Rattle.std.proofs.Common.{arith, ◌≡◌, ◌<◌, ◌≤◌, ◌+◌, ◌-◌, ℕ, Bool, List, [], ◌++◌, append_assoc, ap, sym, ◌∙◌, drop, length}
+use Rattle.std.proofs.Common.{arith, ◌≡◌, ◌<◌, ◌≤◌, ◌+◌, ◌-◌, ℕ, Bool, List, ◌++◌, append_assoc, ap, sym, ◌∙◌, drop, length}
 use Rattle.std.proofs.lemmas.List.{append-nil, at_drop_all, at_drop_more}
 use Rattle.event_formatter_lines.specs.Pretty.{from_leaf, span_line}
 use Rattle.event_formatter_lines.specs.Shown.{PlainShown, nothing_shown, span_at}

@@ -1,2 +1,8 @@
 mod Framing
 mod LeafFirst
+mod Members
+mod Braces
+mod Joining
+mod Lines
+mod SpanObjects
+mod Moments

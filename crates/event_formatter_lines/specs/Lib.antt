@@ -4,3 +4,6 @@ pub mod Heads
 pub mod Full
 pub mod Compact
 pub mod Pretty
+pub mod Json
+pub mod JsonLaws
+pub mod FmtSpans

@@ -3,15 +3,21 @@
 
 mod compact;
 mod fields;
+mod fmt_span;
 mod full;
 mod head;
+mod json;
+mod laws;
 mod place;
 mod pretty;
 mod shown;
 
 pub use compact::{push_compact_head, push_compact_line};
+pub use fmt_span::FmtSpan;
 pub use full::{push_full_head, push_full_line};
 pub use head::Head;
+pub use json::{JsonShape, push_json_line};
+pub use laws::spans_extend_objects;
 pub use place::{Place, Thread};
 pub use pretty::push_pretty_line;
 pub use shown::ShownSpans;

@@ -1,6 +1,8 @@
 //! The lines of an event, and what they leave out.
 
+mod fmt_span;
 mod full;
+mod json;
 mod pretty;
 
 ghost use Rattle.std.specs.Prelude.{◌≡◌, map};

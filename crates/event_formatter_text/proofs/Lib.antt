@@ -4,3 +4,4 @@ mod Lending
 mod Putting
 mod Keeping
 mod Objects
+mod Chaining

@@ -10,3 +10,4 @@ pub mod Visitors
 pub mod Members
 pub mod GivenMembers
 pub mod Handing
+pub mod Chains

@@ -152,8 +152,12 @@ pub(crate) fn push_sanitized(out: &mut String, text: &str) -> Result<(), AllocEr
 }
 
 /// Appends the text as a JSON string.
+///
+/// # Errors
+///
+/// Want of memory. What was appended before is to be dropped.
 #[tactic(auto, unfolding(crate::specs::Escapes::json_string))]
-pub(crate) fn push_json_string(out: &mut String, text: &str) -> Result<(), AllocError>
+pub fn push_json_string(out: &mut String, text: &str) -> Result<(), AllocError>
     ensures { OnOk result (string_bytes out.new ≡ string_bytes out.old ++ json_string text.now) }
 {
     out.push('"')?;

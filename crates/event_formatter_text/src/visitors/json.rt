@@ -10,7 +10,7 @@ use tracing_core_fields::{DebugText, Field, Visit};
 #[derive(Drop)]
 pub struct JsonVisitor<'w> {
     writer: Writer<'w>,
-    is_empty: bool,
+    pub(crate) is_empty: bool,
 }
 
 impl<'w> JsonVisitor<'w> {
