@@ -1,0 +1,3 @@
+mod Ordering
+mod Tagged
+mod Writing
