@@ -59,19 +59,24 @@ Leaves before kept after = (kept_by after ≡ kept) × (after.others ≡ before.
 -- the fields are kept; without memory there is no text of them that wasn't there before
 abbrev pub PutsFields : PlainFields → SlotsByTag → Bool → SlotsByTag → Type 0
 PutsFields fields before true after = Leaves before (record (kept_by before) { fields = Some fields }) after
-PutsFields fields before false after = (after.text ≡ before.text) × (after.timings ≡ before.timings) × (after.others ≡ before.others)
+PutsFields fields before false after =
+    (after.text ≡ before.text) × (after.timings ≡ before.timings) × (after.others ≡ before.others)
 
 -- the text is taken out, and an empty one left there
 abbrev pub TakesText : SlotsByTag → Option (List ℕ) → SlotsByTag → Type 0
 TakesText before None after = (text_by before.text ≡ None) × (after ≡ before)
-TakesText before (Some text) after = (text_by before.text ≡ Some text) × (after ≡ record before { text = Some (Text []) })
+TakesText before (Some text) after =
+    (text_by before.text ≡ Some text) × (after ≡ record before { text = Some (Text []) })
 
 -- the words are taken out, and none left there; without memory nothing changes
 abbrev pub TakesWords : SlotsByTag → Option (List (List ℕ)) → SlotsByTag → Type 0
 TakesWords before None after = after ≡ before
-TakesWords before (Some words) after = (words_by before.words ≡ words) × (after ≡ record before { words = Some (Words []) })
+TakesWords before (Some words) after =
+    (words_by before.words ≡ words) × (after ≡ record before { words = Some (Words []) })
 
 -- the fields are taken out, and slots left for others; without memory they stay
 abbrev pub TakesFields : SlotsByTag → Option PlainFields → SlotsByTag → Type 0
 TakesFields before None after = Leaves before (kept_by before) after
-TakesFields before (Some fields) after = ((kept_by before).fields ≡ Some fields) × (after.timings ≡ before.timings) × (after.others ≡ before.others) × IsSome after.text × IsSome after.words × IsSome after.number
+TakesFields before (Some fields) after =
+    ((kept_by before).fields ≡ Some fields) × (after.timings ≡ before.timings) × (after.others ≡ before.others)
+    × IsSome after.text × IsSome after.words × IsSome after.number

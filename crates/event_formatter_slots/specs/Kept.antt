@@ -1,5 +1,6 @@
 -- What an output keeps with a span, read out of the span's slots.
-use Rattle.std.specs.Prelude.{◌≡◌, ℕ, ◌+◌, ◌==◌, ◌||◌, List, [], Bool, true, false, if◌then◌else◌, Option, Some, None, unwrap_or}
+use Rattle.std.specs.Prelude.{◌≡◌, ℕ, ◌+◌, ◌==◌, ◌||◌, List, [], Bool, true, false, if◌then◌else◌, unwrap_or}
+use Rattle.std.specs.Prelude.{Option, Some, None}
 use Rattle.std.specs.Option.{option_map}
 use Rattle.span_registry_layers_store.specs.Slots.{PlainPlace, PlainSlot, Number, Text, Times, Words, slot_at}
 use Rattle.span_registry_layers_store.specs.declared.slot.Tag.TheVariants as tag
