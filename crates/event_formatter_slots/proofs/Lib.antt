@@ -1,0 +1,4 @@
+mod Ordering
+mod Tagged
+mod Writing
+mod Locality

@@ -1,0 +1,4 @@
+pub mod Kept
+pub mod ByTag
+pub mod Rekeeping
+pub mod SteppedTimings

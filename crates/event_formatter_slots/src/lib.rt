@@ -1,0 +1,20 @@
+//! What an output of a formatter keeps with spans: the texts of their fields, and how long they were busy and idle.
+#![tactic(auto)]
+
+mod laws;
+mod new_span;
+mod own_fields;
+mod own_slots;
+mod reading;
+mod recorded;
+mod settings_number;
+mod timings;
+
+pub use laws::rekeeping_is_local;
+pub use new_span::keep_new;
+pub use reading::kept_text;
+pub use recorded::add_record;
+pub use timings::{TimingStep, step_timings};
+
+#[cfg(test)]
+mod tests;
