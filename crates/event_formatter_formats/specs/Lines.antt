@@ -7,6 +7,7 @@ use Rattle.event_formatter_text.specs.declared.settings.Settings.{Settings}
 use Rattle.event_formatter_lines.specs.Compact.{compact_line}
 use Rattle.event_formatter_lines.specs.Full.{full_line}
 use Rattle.event_formatter_lines.specs.Heads.{PlainHead}
+use Rattle.event_formatter_lines.specs.Json.{json_line}
 use Rattle.event_formatter_lines.specs.Pretty as pretty
 use Rattle.event_formatter_lines.specs.Pretty.{PlainPlace, pretty_line}
 use Rattle.event_formatter_formats.specs.Contexts.{PlainContext, PlainThread}
@@ -26,6 +27,7 @@ abbrev pub is_padded : LineFormat → Bool
 is_padded format.Full = true
 is_padded format.Compact = true
 is_padded (format.Pretty p) = false
+is_padded (format.Json shape) = false
 
 -- what a line shows of an event beside its fields and spans, with these texts of the time and the thread
 abbrev pub head_with : Parts → Option (List ℕ) → Option (List ℕ) → Option (List ℕ) → PlainMetadata → PlainHead
@@ -70,6 +72,7 @@ line_behind format.Compact parts settings head c values =
 line_behind (format.Pretty p) parts settings head c values =
     pretty_line (pretty_heading p parts head) (pretty_place p parts c.thread.name head) parts.target c.loose
     (pretty_text settings values)
+line_behind (format.Json json) parts settings head c values = json_line json.shape head c.loose values
 
 -- the line of an event, where it can be formatted; the time is that of the timer
 abbrev pub line_in : LineFormat → Parts → Settings → Option (List ℕ) → PlainContext → PlainEvent → Option (List ℕ)

@@ -3,25 +3,16 @@ use Rattle.std.specs.Prelude.{ℕ, Bool, true, false, List, [], map, reverse, Op
 use Rattle.tracing_core_requests.specs.declared.requests.parent.Parent.{Parent}
 use Rattle.span_registry_layers_store.specs.References.{PlainRef}
 use Rattle.span_registry_layers_store.specs.Registries.{PlainSpan}
-use Rattle.span_registry_layers_store.specs.Slots.{PlainSlot, Number, Text, Times, Words, slot_at}
 use Rattle.span_registry_layers_store.specs.Views.{first_of}
-use Rattle.span_registry_layers_store.specs.declared.slot.Tag.TheVariants as tag
 use Rattle.span_registry_layers_layers.specs.Contexts.{event_span, lane_span, scope_in, span_in}
 use Rattle.span_registry_layers_layers.specs.Looks.{View}
 use Rattle.event_formatter_lines.specs.Shown.{PlainShown, nothing_shown}
-
--- the text in a slot
-abbrev pub slot_text : Option PlainSlot → List ℕ
-slot_text None = []
-slot_text (Some (Text text)) = text
-slot_text (Some (Times times)) = []
-slot_text (Some (Number number)) = []
-slot_text (Some (Words words)) = []
+use Rattle.event_formatter_slots.specs.Kept.{kept_at, text_of}
 
 -- a span, with the text that the output keeps with it
 abbrev pub shown_span : ℕ → PlainSpan → PlainShown
 shown_span key s =
-    record { name = s.metadata.name; target = s.metadata.target; text = slot_text (slot_at s.slots key tag.Text) }
+    record { name = s.metadata.name; target = s.metadata.target; text = text_of (kept_at key s.slots) }
 
 abbrev pub target_or_none : Option PlainSpan → List ℕ
 target_or_none None = []

@@ -5,6 +5,7 @@ ghost use Rattle.tracing_core_fields.specs.Metadata.{plain_metadata};
 ghost use Rattle.tracing_core_requests.specs.PlainRequests.{plain_event};
 ghost use Rattle.event_formatter_text.specs.Lists.{Formats};
 ghost use Rattle.event_formatter_lines.specs.Heads.{plain_head};
+ghost use Rattle.event_formatter_lines.specs.Json.{default_shape};
 ghost use Rattle.event_formatter_lines.specs.Pretty.{plain_place};
 ghost use Rattle.event_formatter_formats.specs.Contexts.{plain_context};
 ghost use Rattle.event_formatter_formats.specs.Parts.{default_parts};
@@ -13,10 +14,10 @@ ghost use Rattle.event_formatter_formats.specs.Lines.{asked, head_with, line_beh
 use crate::context::FmtContext;
 use crate::format_event::FormatEvent;
 use crate::heading::{fill_id, fill_name, fill_time};
-use crate::line_format::{Compact, EventShape, Full, LineFormat, Pretty};
+use crate::line_format::{Compact, EventShape, Full, Json, LineFormat, Pretty};
 use crate::parts::Parts;
 use event_formatter_lines::{
-    Head, Place, Thread, push_compact_line, push_full_line, push_pretty_line,
+    Head, Place, Thread, push_compact_line, push_full_line, push_json_line, push_pretty_line,
 };
 use event_formatter_text::{FormatError, FormatFields, PrettyFields, Settings};
 use event_formatter_times::{FormatTime, SystemTime};
@@ -95,6 +96,14 @@ impl<F: Drop, T: Drop> Format<F, T> {
         ensures rest { (result.timer ≡ self.timer) × (result.parts ≡ record self.parts { file = true; line_number = true }) × (result.ansi ≡ self.ansi) }
     {
         self.with_source_location(true).with_shape(Pretty::new())
+    }
+
+    /// In the JSON format.
+    pub fn json(self) -> Format<Json, T>
+        ensures shape { result.shape.shape ≡ default_shape }
+        ensures rest { (result.timer ≡ self.timer) × (result.parts ≡ self.parts) × (result.ansi ≡ self.ansi) }
+    {
+        self.with_shape(Json::new())
     }
 
     /// With the time of this timer.
@@ -193,6 +202,32 @@ impl<F: Drop, T: Drop> Format<F, T> {
     {
         self.parts.file = display_location;
         self.parts.line_number = display_location;
+        self
+    }
+}
+
+impl<T: Drop> Format<Json, T> {
+    /// Sets whether the event's fields stand among the members of the line.
+    pub fn flatten_event(mut self, flatten_event: bool) -> Format<Json, T>
+        ensures { result ≡ record self { shape = record self.shape { shape = record self.shape.shape { flatten_event = flatten_event } } } }
+    {
+        self.shape = self.shape.flatten_event(flatten_event);
+        self
+    }
+
+    /// Sets whether the innermost span is shown.
+    pub fn with_current_span(mut self, display_current_span: bool) -> Format<Json, T>
+        ensures { result ≡ record self { shape = record self.shape { shape = record self.shape.shape { current_span = display_current_span } } } }
+    {
+        self.shape = self.shape.with_current_span(display_current_span);
+        self
+    }
+
+    /// Sets whether the list of spans is shown.
+    pub fn with_span_list(mut self, display_span_list: bool) -> Format<Json, T>
+        ensures { result ≡ record self { shape = record self.shape { shape = record self.shape.shape { span_list = display_span_list } } } }
+    {
+        self.shape = self.shape.with_span_list(display_span_list);
         self
     }
 }
@@ -345,6 +380,13 @@ fn push_line<N: FormatFields>(
                 event,
             )
         }
+        LineFormat::Json(json) => push_json_line(
+            out,
+            json.shape,
+            head,
+            &context.loose_spans(),
+            event,
+        ),
     }
 }
 

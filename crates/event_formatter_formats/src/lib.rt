@@ -15,7 +15,7 @@ pub use context::{CurrentThread, FmtContext};
 pub use fields::Fields;
 pub use format::Format;
 pub use format_event::FormatEvent;
-pub use line_format::{Compact, EventShape, Full, LineFormat, Pretty};
+pub use line_format::{Compact, EventShape, Full, Json, LineFormat, Pretty};
 pub use parts::Parts;
 pub use scope::{ScopedSpans, fill_scope};
 pub use timer::Timer;

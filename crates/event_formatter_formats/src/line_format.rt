@@ -1,8 +1,11 @@
 //! The formats, by what stands where in a line.
 ghost use Rattle.std.specs.Prelude.{◌≡◌, true};
+ghost use Rattle.event_formatter_lines.specs.Json.{default_shape};
 ghost use Rattle.event_formatter_formats.specs.Lines.{is_padded};
 ghost use Rattle.event_formatter_formats.specs.declared.line_format.LineFormat.{LineFormat};
 ghost use Rattle.event_formatter_formats.specs.declared.line_format.LineFormat.TheVariants as format;
+
+use event_formatter_lines::JsonShape;
 
 /// The spans from the root with their fields, and then the event, in one line.
 #[derive(Clone, Copy, Debug, Default, Drop, PartialEq, Eq)]
@@ -44,6 +47,67 @@ impl Default for Pretty {
     }
 }
 
+/// One JSON object for an event. It has no styles, and nothing is sanitized but by JSON's own escapes.
+#[derive(Clone, Copy, Debug, Drop, PartialEq, Eq)]
+pub struct Json {
+    pub(crate) shape: JsonShape,
+}
+
+impl Json {
+    /// With the event's fields in an object of their own, the innermost span, and the list of spans.
+    pub fn new() -> Json
+        ensures { result.shape ≡ default_shape }
+    {
+        Json {
+            shape: JsonShape::default(),
+        }
+    }
+
+    /// Sets whether the event's fields stand among the members of the line.
+    pub fn flatten_event(self, flatten_event: bool) -> Json
+        ensures { result.shape ≡ record self.shape { flatten_event = flatten_event } }
+    {
+        Json {
+            shape: JsonShape {
+                flatten_event,
+                ..self.shape
+            },
+        }
+    }
+
+    /// Sets whether the innermost span is shown.
+    pub fn with_current_span(self, display_current_span: bool) -> Json
+        ensures { result.shape ≡ record self.shape { current_span = display_current_span } }
+    {
+        Json {
+            shape: JsonShape {
+                current_span: display_current_span,
+                ..self.shape
+            },
+        }
+    }
+
+    /// Sets whether the list of spans is shown.
+    pub fn with_span_list(self, display_span_list: bool) -> Json
+        ensures { result.shape ≡ record self.shape { span_list = display_span_list } }
+    {
+        Json {
+            shape: JsonShape {
+                span_list: display_span_list,
+                ..self.shape
+            },
+        }
+    }
+}
+
+impl Default for Json {
+    ghost is_default = { λ json. json.shape ≡ default_shape };
+
+    fn default() -> Json {
+        Json::new()
+    }
+}
+
 /// One of the formats.
 #[derive(Clone, Copy, Debug, Drop, PartialEq, Eq)]
 pub enum LineFormat {
@@ -53,6 +117,8 @@ pub enum LineFormat {
     Compact,
     /// See [`Pretty`].
     Pretty(Pretty),
+    /// See [`Json`].
+    Json(Json),
 }
 
 impl LineFormat {
@@ -62,7 +128,7 @@ impl LineFormat {
     {
         match self {
             LineFormat::Full | LineFormat::Compact => true,
-            LineFormat::Pretty(_) => false,
+            LineFormat::Pretty(_) | LineFormat::Json(_) => false,
         }
     }
 }
@@ -98,6 +164,14 @@ impl EventShape for Pretty {
 
     fn line_format(&self) -> LineFormat {
         LineFormat::Pretty(*self)
+    }
+}
+
+impl EventShape for Json {
+    ghost shape = { λ json. format.Json json };
+
+    fn line_format(&self) -> LineFormat {
+        LineFormat::Json(*self)
     }
 }
 

@@ -2,15 +2,15 @@
 ghost use Rattle.std.specs.Prelude.{◌≡◌, ◌++◌, IfOk, OnOk, map, reverse};
 ghost use Rattle.std.specs.Option.{is_some, option_map};
 ghost use Rattle.tracing_core_requests.specs.PlainRequests.{plain_event};
-ghost use Rattle.span_registry_layers_store.specs.Slots.{plain_slot};
 ghost use Rattle.span_registry_layers_layers.specs.Contexts.{event_span, lane_span, span_in};
 ghost use Rattle.span_registry_layers_layers.specs.Looks.{view};
-ghost use Rattle.event_formatter_formats.specs.Scopes.{refs_from, slot_text, target_or_none};
+ghost use Rattle.event_formatter_formats.specs.Scopes.{refs_from, target_or_none};
 ghost use Rattle.event_formatter_formats.specs.Walks.{FillsScope, first_id, id_of, id_of_ref, ids_from};
 
 use event_formatter_lines::ShownSpans;
+use event_formatter_slots::kept_text;
 use span_registry_layers_layers::Context;
-use span_registry_layers_store::{OutputKey, Slot, Tag};
+use span_registry_layers_store::OutputKey;
 use std::alloc::AllocError;
 use tracing_core_fields::Id;
 use tracing_core_requests::Event;
@@ -30,16 +30,6 @@ fn target_in<'a>(context: &'a Context<'_>, id: &Id) -> &'a str
     match context.metadata(id) {
         Some(metadata) => metadata.target(),
         None => "",
-    }
-}
-
-// The text in a slot.
-fn text_in<'a>(slot: Option<&'a Slot>) -> &'a str
-    ensures { result.now ≡ slot_text (option_map (λ s. plain_slot s.now) slot.entry) }
-{
-    match slot {
-        Some(Slot::Text(text)) => text.as_str(),
-        _ => "",
     }
 }
 
@@ -65,7 +55,7 @@ impl ShownSpans for ScopedSpans<'_, '_> {
 
     fn text(&self, index: usize) -> &str {
         match self.context.span(&self.ids[index]) {
-            Some(span) => text_in(span.slot(self.key, Tag::Text)),
+            Some(span) => kept_text(&span, self.key),
             None => "",
         }
     }
