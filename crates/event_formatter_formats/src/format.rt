@@ -380,13 +380,10 @@ fn push_line<N: FormatFields>(
                 event,
             )
         }
-        LineFormat::Json(json) => push_json_line(
-            out,
-            json.shape,
-            head,
-            &context.loose_spans(),
-            event,
-        ),
+        LineFormat::Json(json) => {
+            let loose = context.loose_spans();
+            push_json_line(out, json.shape, head, &loose, event)
+        }
     }
 }
 

@@ -3,6 +3,7 @@ use Rattle.tracing_core_requests.specs.PlainRequests.{plain_event}
 use Rattle.event_formatter_text.specs.Lists.{Formats}
 use Rattle.event_formatter_lines.specs.Compact.{compact_line}
 use Rattle.event_formatter_lines.specs.Heads.{plain_head}
+use Rattle.event_formatter_lines.specs.Json.{json_line}
 use Rattle.event_formatter_lines.specs.Shown.{PlainShown}
 use Rattle.event_formatter_formats.specs.Contexts.{plain_context, spans_in}
 use Rattle.event_formatter_formats.specs.Lines.{line_behind}
@@ -24,3 +25,15 @@ returns-in-Compact g c =
     ∙ ap (λ (f : g.row.N.Denot). compact_line settings head context.loose context.strict (text f)) c.field_format-in-Compact.ensures
     ∙ ap (λ (shape : LineFormat). line_behind shape c.args.parts settings head context values) (sym c.in-Compact.is))
     c.push_compact_line.ensures
+
+pub returns-in-Json : goal.returns-in-Json
+returns-in-Json g c =
+    let settings = c.args.settings in
+    let head = plain_head c.args.head.now in
+    let values = (plain_event c.args.event.now).values in
+    let context = plain_context g.N.FormatFields.text_of c.args.context.now in
+    let json = c.in-Json.json in
+    subst (λ (line : Option (List ℕ)). Formats line (string_bytes c.args.out.now) c.push_json_line.result (string_bytes c.push_json_line.new.out))
+    (ap (λ (loose : List PlainShown). json_line json.shape head loose values) c.loose_spans-loose-in-Json.ensures
+    ∙ ap (λ (shape : LineFormat). line_behind shape c.args.parts settings head context values) (sym c.in-Json.is))
+    c.push_json_line.ensures
