@@ -1,3 +1,4 @@
 pub mod Lines
 pub mod Threads
 pub mod Layers
+pub mod SpanEvents

@@ -8,6 +8,7 @@ ghost use Rattle.event_formatter_layer.specs.Layers.{SameMaking, TellsEvent, lin
 use crate::output::Output;
 use crate::threads::Threads;
 use event_formatter_formats::{FmtContext, FormatEvent, fill_scope};
+use event_formatter_lines::FmtSpan;
 use event_formatter_makers::MakeWriter;
 use event_formatter_text::{FormatError, FormatFields, Settings};
 use span_registry_layers_layers::Context;
@@ -22,6 +23,8 @@ pub(crate) struct Config<N> {
     pub(crate) key: OutputKey,
     pub(crate) fields: N,
     pub(crate) settings: Settings,
+    pub(crate) span_events: FmtSpan,
+    pub(crate) has_timer: bool,
     pub(crate) log_internal_errors: bool,
 }
 
@@ -34,6 +37,8 @@ pub struct Layer<N, E, W> {
     pub(crate) threads: Threads,
     pub(crate) output: Output<W>,
     pub(crate) ids: Vec<Id>,
+    pub(crate) busy: String,
+    pub(crate) idle: String,
 }
 
 impl<N: FormatFields, E: FormatEvent, W> Layer<N, E, W> {

@@ -3,6 +3,7 @@
 
 mod layer;
 mod output;
+mod span_events;
 mod threads;
 
 pub use layer::Layer;
