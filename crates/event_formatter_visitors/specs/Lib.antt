@@ -1,0 +1,4 @@
+pub mod Visiting
+pub mod Delimiting
+pub mod Shown
+pub mod Functions
