@@ -11,12 +11,12 @@ use Rattle.event_formatter_visitors.specs.declared.field_fn.FieldFnVisitor.{Fiel
 
 -- the function writes the field to the text that was lent
 pub record ShowsByFunction {F : Type 0} (writes : F → Settings → PlainField → PlainDebug → List ℕ → Result (Unit {0}) FormatError → List ℕ → Type 0) (before : FieldFnVisitor F) (field : PlainField) (value : PlainDebug) (answer : Result (Unit {0}) FormatError) (after : FieldFnVisitor F) : Type 0 where
-  pub keeps_function : after.function ≡ before.function
+  pub keeps_function : after.function.now ≡ before.function.now
   pub keeps_frame : frame_of after.writer ≡ frame_of before.writer
-  pub text : writes before.function (settings_of before.writer) field value (written before.writer) answer (written after.writer)
+  pub text : writes before.function.now (settings_of before.writer) field value (written before.writer) answer (written after.writer)
 
 -- the text is appended to the one that was lent
 pub record AppendsText {F : Type 0} (before : FieldFnVisitor F) (text : List ℕ) (answer : Result (Unit {0}) FormatError) (after : FieldFnVisitor F) : Type 0 where
-  pub keeps_function : after.function ≡ before.function
+  pub keeps_function : after.function.now ≡ before.function.now
   pub keeps_frame : frame_of after.writer ≡ frame_of before.writer
   pub appended : Formats (Some text) (written before.writer) answer (written after.writer)

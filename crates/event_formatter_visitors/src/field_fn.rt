@@ -35,7 +35,7 @@ pub trait WriteField {
             (written writer.old) result (written writer.new) };
 }
 
-/// Makes visitors that write each field by a function.
+/// Makes visitors that write each field by a function. Its reference is the maker, since the visitors borrow the function.
 #[derive(Clone, Copy, Debug)]
 pub struct FieldFn<F> {
     pub(crate) function: F,
@@ -50,12 +50,12 @@ pub fn debug_fn<F: WriteField>(function: F) -> FieldFn<F>
 
 /// Writes each field by a function, with nothing between two fields. A refusal of the function ends the visit.
 #[derive(Drop)]
-pub struct FieldFnVisitor<'w, F> {
-    pub(crate) function: F,
+pub struct FieldFnVisitor<'f, 'w, F> {
+    pub(crate) function: &'f F,
     pub(crate) writer: Writer<'w>,
 }
 
-impl<F: WriteField> Visit for FieldFnVisitor<'_, F> {
+impl<F: WriteField> Visit for FieldFnVisitor<'_, '_, F> {
     ghost use Rattle.event_formatter_visitors.specs.Functions.{ShowsByFunction};
 
     type Error = FormatError;
@@ -71,7 +71,7 @@ impl<F: WriteField> Visit for FieldFnVisitor<'_, F> {
     }
 }
 
-impl<F: WriteField> VisitFmt for FieldFnVisitor<'_, F> {
+impl<F: WriteField> VisitFmt for FieldFnVisitor<'_, '_, F> {
     ghost use Rattle.event_formatter_visitors.specs.Functions.{AppendsText};
 
     ghost appends = { AppendsText };
@@ -82,20 +82,20 @@ impl<F: WriteField> VisitFmt for FieldFnVisitor<'_, F> {
     }
 }
 
-impl<F: WriteField + Drop> VisitOutput<()> for FieldFnVisitor<'_, F> {
+impl<F: WriteField> VisitOutput<()> for FieldFnVisitor<'_, '_, F> {
     ghost finishes = { λ _ _. Unit {0} };
 
     fn finish(self) {}
 }
 
-impl<'w, F: WriteField + Copy> MakeVisitor<Writer<'w>> for FieldFn<F> {
-    type Visitor = FieldFnVisitor<'w, F>;
+impl<'f, 'w, F: WriteField> MakeVisitor<Writer<'w>> for &'f FieldFn<F> {
+    type Visitor = FieldFnVisitor<'f, 'w, F>;
 
-    ghost makes = { λ maker target visitor. (visitor.function ≡ maker.function) × (visitor.writer ≡ target) };
+    ghost makes = { λ maker target visitor. (visitor.function.now ≡ maker.now.function) × (visitor.writer ≡ target) };
 
-    fn make_visitor(&self, target: Writer<'w>) -> FieldFnVisitor<'w, F> {
+    fn make_visitor(&self, target: Writer<'w>) -> FieldFnVisitor<'f, 'w, F> {
         FieldFnVisitor {
-            function: self.function,
+            function: &self.function,
             writer: target,
         }
     }

@@ -12,3 +12,6 @@ pub use field_fn::{FieldFn, FieldFnVisitor, WriteField, debug_fn};
 
 pub use make_visitor::{MakeExt, MakeVisitor};
 pub use visit_output::{VisitFmt, VisitOutput};
+
+#[cfg(test)]
+mod tests;
