@@ -2,3 +2,5 @@ pub mod Visiting
 pub mod Delimiting
 pub mod Shown
 pub mod Functions
+pub mod Pieces
+pub mod ShownPieces

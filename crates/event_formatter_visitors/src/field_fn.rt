@@ -1,39 +1,11 @@
-//! What users write of a field.
-ghost use Rattle.std.specs.Prelude.{◌≡◌, ℕ, List, Result};
-ghost use Rattle.tracing_core_fields.specs.DebugText.{plain_debug};
-ghost use Rattle.tracing_core_fields.specs.Field.{plain_field};
-ghost use Rattle.tracing_core_fields.specs.PlainDebug.{PlainDebug};
-ghost use Rattle.tracing_core_fields.specs.PlainField.{PlainField};
-ghost use Rattle.event_formatter_text.specs.Writers.{IsSameWriter, settings_of, written};
-ghost use Rattle.event_formatter_text.specs.declared.error.FormatError.{FormatError};
-ghost use Rattle.event_formatter_text.specs.declared.settings.Settings.{Settings};
+//! Visitors that write each field by a function.
+ghost use Rattle.std.specs.Prelude.{◌≡◌};
 
 use crate::make_visitor::MakeVisitor;
 use crate::visit_output::{VisitFmt, VisitOutput};
+use crate::write_field::WriteField;
 use event_formatter_text::{FormatError, Writer};
 use tracing_core_fields::{DebugText, Field, Visit};
-
-/// Writes a field.
-pub trait WriteField {
-    // What a call may do: how it is to write, the field, the value's debug text, the text that stands before, what it
-    // answers, and the text that stands after.
-    ghost writes: { Self → Settings → PlainField → PlainDebug → List ℕ → Result (Unit {0}) FormatError → List ℕ → Type 0 };
-
-    /// Appends the field to what was written.
-    ///
-    /// # Errors
-    ///
-    /// A value that can't be formatted, or want of memory. What was appended before is to be dropped.
-    fn write_field(
-        &self,
-        writer: &mut Writer<'_>,
-        field: &Field<'_>,
-        value: &DebugText<'_>,
-    ) -> Result<(), FormatError>
-        ensures same { IsSameWriter writer.old writer.new }
-        ensures text { writes self.now (settings_of writer.old) (plain_field field.now) (plain_debug value.now)
-            (written writer.old) result (written writer.new) };
-}
 
 /// Makes visitors that write each field by a function. Its reference is the maker, since the visitors borrow the function.
 #[derive(Clone, Copy, Debug)]

@@ -4,14 +4,18 @@
 mod delimited;
 mod field_fn;
 mod make_visitor;
+mod field_formatter;
 mod makers;
+mod target;
 mod visit_output;
+mod write_field;
 
 pub use delimited::{Delimited, VisitDelimited};
-pub use field_fn::{FieldFn, FieldFnVisitor, WriteField, debug_fn};
+pub use field_fn::{FieldFn, FieldFnVisitor, debug_fn};
 
 pub use make_visitor::{MakeExt, MakeVisitor};
 pub use visit_output::{VisitFmt, VisitOutput};
+pub use write_field::{WriteField, WritePiece};
 
 #[cfg(test)]
 mod tests;

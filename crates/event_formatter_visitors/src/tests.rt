@@ -1,7 +1,6 @@
 //! What visitors of makers write, and where they refuse.
 use super::*;
-use event_formatter_text::{Alt, DefaultFields, FormatError, JsonFields, Messages, PrettyFields, Settings, Writer};
-use std::alloc::Global;
+use event_formatter_text::{FormatError, Writer};
 use std::test::Fail;
 use tracing_core_fields::{AnyValue, DebugText, Field, FieldSet, Identifier};
 
@@ -21,6 +20,7 @@ fn all_values() -> [Option<AnyValue<'static>>; 3] {
 }
 
 // Writes the name of a field and a colon; a message it refuses.
+#[derive(Clone, Copy)]
 struct Names;
 
 impl WriteField for Names {
