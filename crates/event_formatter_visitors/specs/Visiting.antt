@@ -12,3 +12,9 @@ VisitsAndFinishes {V} shows finishes values before (Ok out) =
     (after : V) × Visits (λ v field value answer w. shows v field (debug_of value) answer w) values.callsite values.names values.entries before (Ok tt) after × finishes after out
 VisitsAndFinishes {V} shows finishes values before (Err error) =
     (after : V) × Visits (λ v field value answer w. shows v field (debug_of value) answer w) values.callsite values.names values.entries before (Err error) after
+
+-- A visitor was made that took all values and gave this at the end, or refused one of them.
+pub record VisitsMade {V E Out : Type 0} (makes : V → Type 0) (shows : V → PlainField → PlainDebug → Result (Unit {0}) E → V → Type 0) (finishes : V → Out → Type 0) (values : PlainValues) (answer : Result Out E) : Type 0 where
+  pub visitor : V
+  pub is_made : makes visitor
+  pub visits : VisitsAndFinishes shows finishes values visitor answer

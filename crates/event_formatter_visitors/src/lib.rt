@@ -13,7 +13,7 @@ mod write_field;
 pub use delimited::{Delimited, VisitDelimited};
 pub use field_fn::{FieldFn, FieldFnVisitor, debug_fn};
 
-pub use make_visitor::{MakeExt, MakeVisitor};
+pub use make_visitor::{MakeExt, MakeOutput, MakeVisitor};
 pub use visit_output::{VisitFmt, VisitOutput};
 pub use write_field::{WriteField, WritePiece};
 

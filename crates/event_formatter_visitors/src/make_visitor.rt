@@ -1,8 +1,10 @@
 //! Makers of visitors.
 ghost use Rattle.std.specs.Prelude.{◌≡◌};
+ghost use Rattle.event_formatter_visitors.specs.Visiting.{VisitsMade};
 
 use crate::delimited::Delimited;
-use event_formatter_text::{Alt, Messages};
+use crate::visit_output::VisitOutput;
+use event_formatter_text::{Alt, Messages, RecordFields};
 use tracing_core_fields::Visit;
 
 /// Makes visitors that write to a target.
@@ -16,6 +18,37 @@ pub trait MakeVisitor<T> {
     /// A visitor that writes to the target.
     fn make_visitor(&self, target: T) -> Self::Visitor
         ensures { makes self.now target result };
+}
+
+/// Makes a visitor, and visits with it.
+pub trait MakeOutput<T, Out>: MakeVisitor<T>
+where
+    Self::Visitor: VisitOutput<Out>,
+{
+    /// Makes a visitor that writes to the target, lets it take all values of the fields, and gives what the visit comes to.
+    ///
+    /// # Errors
+    ///
+    /// The first refusal, which ends the visit.
+    fn visit_with<R: RecordFields>(
+        &self,
+        target: T,
+        fields: &R,
+    ) -> Result<Out, <Self::Visitor as Visit>::Error>
+        ensures { VisitsMade (Self.makes self.now target) Self.Visitor.shows Self.Visitor.finishes (R.values fields.now) result };
+}
+
+impl<T, Out, M: MakeVisitor<T>> MakeOutput<T, Out> for M
+where
+    M::Visitor: VisitOutput<Out>,
+{
+    fn visit_with<R: RecordFields>(
+        &self,
+        target: T,
+        fields: &R,
+    ) -> Result<Out, <M::Visitor as Visit>::Error> {
+        self.make_visitor(target).visit(fields)
+    }
 }
 
 /// Combinations of makers.

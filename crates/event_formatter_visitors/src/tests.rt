@@ -19,11 +19,11 @@ fn all_values() -> [Option<AnyValue<'static>>; 3] {
     ]
 }
 
-// Writes the name of a field and a colon; a message it refuses.
+// Writes the name of a field, a colon, a space and its value, of which it knows texts alone.
 #[derive(Clone, Copy)]
-struct Names;
+struct Pair;
 
-impl WriteField for Names {
+impl WriteField for Pair {
     ghost writes = { λ _ _ _ _ _ _ _. Unit {0} };
 
     fn write_field(
@@ -32,26 +32,17 @@ impl WriteField for Names {
         field: &Field<'_>,
         value: &DebugText<'_>,
     ) -> Result<(), FormatError> {
-        writer.write_str(field.name())?;
         match value {
-            DebugText::Texts { plain, .. } => {
-                writer.write_str(": ")?;
-                writer.write_str(plain)?;
-                Ok(())
-            }
-            DebugText::Failing => Err(FormatError::Failed),
-            _ => Ok(()),
+            DebugText::Texts { plain, .. } => write_pair(writer, field.name(), plain),
+            DebugText::Str(text) => write_pair(writer, field.name(), text),
+            _ => Err(FormatError::Failed),
         }
     }
 }
 
-#[test]
-fn a_delimiter(rt: HostRuntime) -> Result<(), Fail> {
-    let mut out = String::new(rt.alloc());
-    let names = debug_fn(Names);
-    let visitor = (&names).delimited(", ").make_visitor(Writer::new(&mut out));
-    let set = FieldSet::new(&NAMES, Identifier(1));
-    visitor.visit(&set.value_set_all(&all_values()))?;
-    assert_eq!(rt; out.as_str(), "message, n, d: 3");
+fn write_pair(writer: &mut Writer<'_>, name: &str, text: &str) -> Result<(), FormatError> {
+    writer.write_str(name)?;
+    writer.write_str(": ")?;
+    writer.write_str(text)?;
     Ok(())
 }
