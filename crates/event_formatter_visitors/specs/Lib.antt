@@ -4,3 +4,4 @@ pub mod Shown
 pub mod Functions
 pub mod Pieces
 pub mod ShownPieces
+pub mod Pairs

@@ -84,7 +84,8 @@ impl<D: AsStr, V: VisitFmt> VisitFmt for VisitDelimited<D, V> {
     }
 }
 
-impl<Out, D: AsStr + Drop, V: VisitOutput<Out> + VisitFmt> VisitOutput<Out> for VisitDelimited<D, V> {
+impl<Out, D: AsStr + Drop, V: VisitOutput<Out> + VisitFmt> VisitOutput<Out>
+    for VisitDelimited<D, V> {
     ghost finishes = { λ visitor out. V.finishes visitor.inner out };
 
     fn finish(self) -> Out {

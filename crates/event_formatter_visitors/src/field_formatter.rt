@@ -8,7 +8,9 @@ use crate::delimited::Delimited;
 use crate::field_fn::FieldFn;
 use crate::target::FieldTarget;
 use crate::write_field::WritePiece;
-use event_formatter_text::{FormatError, FormatFields, FormattedFields, RecordFields, Settings, Writer};
+use event_formatter_text::{
+    FormatError, FormatFields, FormattedFields, RecordFields, Settings, Writer,
+};
 use std::alloc::{AllocError, Global};
 use std::convert::AsStr;
 use tracing_core_fields::{DebugText, Field, Visit};

@@ -3,8 +3,8 @@
 
 mod delimited;
 mod field_fn;
-mod make_visitor;
 mod field_formatter;
+mod make_visitor;
 mod makers;
 mod target;
 mod visit_output;
@@ -12,7 +12,6 @@ mod write_field;
 
 pub use delimited::{Delimited, VisitDelimited};
 pub use field_fn::{FieldFn, FieldFnVisitor, debug_fn};
-
 pub use make_visitor::{MakeExt, MakeOutput, MakeVisitor};
 pub use visit_output::{VisitFmt, VisitOutput};
 pub use write_field::{WriteField, WritePiece};

@@ -4,7 +4,10 @@ ghost use Rattle.event_formatter_text.specs.Writers.{plainly};
 
 use crate::make_visitor::MakeVisitor;
 use crate::visit_output::VisitOutput;
-use event_formatter_text::{Alt, DefaultFields, DefaultVisitor, JsonFields, JsonVisitor, Messages, PrettyFields, PrettyVisitor, Writer};
+use event_formatter_text::{
+    Alt, DefaultFields, DefaultVisitor, JsonFields, JsonVisitor, Messages, PrettyFields,
+    PrettyVisitor, Writer,
+};
 
 impl<'w> MakeVisitor<Writer<'w>> for DefaultFields {
     type Visitor = DefaultVisitor<'w>;
