@@ -5,3 +5,4 @@ pub mod Functions
 pub mod Pieces
 pub mod ShownPieces
 pub mod Pairs
+pub mod Closures

@@ -156,7 +156,7 @@ impl<D: AsStr, F: WritePiece> FormatFields for Delimited<D, FieldFn<F>> {
     }
 
     fn start(&self, alloc: Global, settings: Settings) -> Result<FormattedFields, AllocError> {
-        Ok(FormattedFields::new(alloc, settings))
+        self.inner.start(alloc, settings)
     }
 
     fn add_fields<R: RecordFields>(

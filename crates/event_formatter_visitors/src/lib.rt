@@ -1,6 +1,7 @@
 //! Makers of visitors, and visitors over other visitors.
 #![tactic(auto)]
 
+mod closure;
 mod delimited;
 mod field_fn;
 mod field_formatter;
@@ -10,6 +11,7 @@ mod target;
 mod visit_output;
 mod write_field;
 
+pub use closure::{AppendField, FieldClosure};
 pub use delimited::{Delimited, VisitDelimited};
 pub use field_fn::{FieldFn, FieldFnVisitor, debug_fn};
 pub use make_visitor::{MakeExt, MakeOutput, MakeVisitor};

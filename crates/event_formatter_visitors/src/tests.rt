@@ -1,5 +1,6 @@
 //! What visitors of makers write, and where they refuse.
 
+mod closures;
 mod formatters;
 
 ghost use Rattle.std.specs.Prelude.{◌≡◌, ◌++◌, Some};
