@@ -1,5 +1,5 @@
 -- A visit by a visitor that writes pieces writes the text of the list.
-use Rattle.std.proofs.Common.{◌≡◌, ℕ, Bool, List, [], ◌∷◌, Option, is_none, Result, Ok, Err, slice_index_or, refl, false, subst, ◌∙◌}
+use Rattle.std.proofs.Common.{◌≡◌, ℕ, Bool, List, [], Option, is_none, Result, Ok, Err, slice_index_or, refl, false, subst, ◌∙◌}
 use Rattle.std.specs.List.{filter_map, list_any}
 use Rattle.std.specs.Option.{option_map}
 use Rattle.tracing_core_fields.specs.PlainDebug.{PlainDebug}

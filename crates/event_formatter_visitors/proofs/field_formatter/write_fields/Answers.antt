@@ -1,4 +1,4 @@
-use Rattle.std.proofs.Common.{◌≡◌, ap, sym, ◌∙◌, subst}
+use Rattle.std.proofs.Common.{ap, sym, ◌∙◌, subst}
 use Rattle.event_formatter_text.specs.Lists.{Formats}
 use Rattle.event_formatter_visitors.specs.Pieces.{fields_text}
 use Rattle.event_formatter_visitors.proofs.Visiting.{visited}

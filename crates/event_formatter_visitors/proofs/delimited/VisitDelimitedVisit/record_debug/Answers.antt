@@ -1,4 +1,3 @@
-use Rattle.std.proofs.Common.{rules}
 use Rattle.event_formatter_visitors.proofs.Beginning.{goes_on, ends}
 use Rattle.event_formatter_visitors.proofs.delimited.VisitDelimitedVisit.record_debug.Goals as goal
 
