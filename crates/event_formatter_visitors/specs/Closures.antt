@@ -15,8 +15,8 @@ abbrev pub AppendsField : (String Global → Bor Field → Bor DebugText → Res
 AppendsField post field value text answer =
     (f : Bor Field) × (v : Bor DebugText) × (plain_field f.now ≡ field) × (plain_debug v.now ≡ value) × post text f v answer
 
--- The closure was handed an empty text, and what it gave was appended. A refusal, by the closure or for want of memory, says
--- nothing of what was appended.
+-- The closure was handed an empty text, and what it gave was appended. A refusal, by the closure or for want of
+-- memory, says nothing of what was appended.
 abbrev pub WritesByClosure : (String Global → Result (String Global) FormatError → Type 0) → List ℕ → Result (Unit {0}) FormatError → List ℕ → Type 0
 WritesByClosure gives before (Ok done) after =
     (empty : String Global) × (filled : String Global) × gives empty (Ok filled) × (string_bytes empty ≡ []) × (after ≡ before ++ string_bytes filled)

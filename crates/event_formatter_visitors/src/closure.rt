@@ -41,7 +41,8 @@ impl FieldClosure {
         field: &Field<'_>,
         value: &DebugText<'_>,
     ) -> Result<String, FormatError>
-        ensures { AppendsField (AppendField.post self.now.closure) (plain_field field.now) (plain_debug value.now) text result }
+        ensures { AppendsField (AppendField.post self.now.closure) (plain_field field.now)
+            (plain_debug value.now) text result }
     {
         (self.closure)(text, field, value)
     }

@@ -7,7 +7,8 @@ use crate::write_field::WriteField;
 use event_formatter_text::{FormatError, Writer};
 use tracing_core_fields::{DebugText, Field, Visit};
 
-/// Makes visitors that write each field by a function. Its reference is the maker, since the visitors borrow the function.
+/// Makes visitors that write each field by a function. Its reference is the maker, since the visitors borrow the
+/// function.
 #[derive(Clone, Copy, Debug)]
 pub struct FieldFn<F> {
     pub(crate) function: F,

@@ -31,8 +31,8 @@ impl<F: WritePiece, W: FieldTarget> PieceVisitor<'_, '_, '_, F, W> {
     fn delimit(&mut self) -> Result<(), FormatError>
         ensures stands { standing W.frame self.new ≡ standing W.frame self.old }
         ensures later { self.new.is_empty ≡ false }
-        ensures text { Formats (Some (before_field self.old.is_empty self.old.delimiter.now)) (W.text self.old.target.now)
-            result (W.text self.new.target.now) }
+        ensures text { Formats (Some (before_field self.old.is_empty self.old.delimiter.now))
+            (W.text self.old.target.now) result (W.text self.new.target.now) }
     {
         if self.is_empty {
             self.is_empty = false;
@@ -69,8 +69,8 @@ pub(crate) fn write_fields<F: WritePiece, W: FieldTarget, R: RecordFields>(
     fields: &R,
 ) -> Result<(), FormatError>
     ensures same { W.frame target.new ≡ W.frame target.old }
-    ensures text { Formats (fields_text delimiter.now (F.piece function.now (W.frame target.old).settings) (R.values fields.now))
-        (W.text target.old) result (W.text target.new) }
+    ensures text { Formats (fields_text delimiter.now (F.piece function.now (W.frame target.old).settings)
+        (R.values fields.now)) (W.text target.old) result (W.text target.new) }
 {
     let mut visitor = PieceVisitor {
         delimiter,
@@ -90,7 +90,8 @@ fn add_fields_to<F: WritePiece, R: RecordFields>(
     fields: &R,
 ) -> Result<(), FormatError>
     ensures { Adds (behind_space (fields_text delimiter.now (F.piece function.now (plain_fields current.old).settings)
-        (R.values fields.now)) (plain_fields current.old)) (plain_fields current.old) result (plain_fields current.new) }
+        (R.values fields.now)) (plain_fields current.old)) (plain_fields current.old)
+        result (plain_fields current.new) }
 {
     let mut more = current.begin_more(alloc)?;
     let mut writer = Writer::with_settings(&mut more, current.settings());

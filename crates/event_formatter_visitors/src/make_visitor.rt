@@ -25,7 +25,8 @@ pub trait MakeOutput<T, Out>: MakeVisitor<T>
 where
     Self::Visitor: VisitOutput<Out>,
 {
-    /// Makes a visitor that writes to the target, lets it take all values of the fields, and gives what the visit comes to.
+    /// Makes a visitor that writes to the target, lets it take all values of the fields, and gives what the
+    /// visit comes to.
     ///
     /// # Errors
     ///
@@ -35,7 +36,8 @@ where
         target: T,
         fields: &R,
     ) -> Result<Out, <Self::Visitor as Visit>::Error>
-        ensures { VisitsMade (Self.makes self.now target) Self.Visitor.shows Self.Visitor.finishes (R.values fields.now) result };
+        ensures { VisitsMade (Self.makes self.now target) Self.Visitor.shows Self.Visitor.finishes
+            (R.values fields.now) result };
 }
 
 impl<T, Out, M: MakeVisitor<T>> MakeOutput<T, Out> for M

@@ -10,8 +10,8 @@ use crate::write_field::WriteField;
 use event_formatter_text::{FormatError, Writer};
 use tracing_core_fields::{DebugText, Field};
 
-// What fields are written to. Where it's a type parameter, a visitor can borrow a writer that it doesn't own: the lifetime
-// in the writer's type isn't named then.
+// What fields are written to. Where it's a type parameter, a visitor can borrow a writer that it doesn't own: the
+// lifetime in the writer's type isn't named then.
 pub(crate) trait FieldTarget {
     // What was written.
     ghost text: { Self → List ℕ };

@@ -37,7 +37,8 @@ fn texts() -> [Option<AnyValue<'static>>; 3] {
     ]
 }
 
-// Writes a name, a colon and a text: one that was written before as it is, and any other behind a sign. It refuses all else.
+// Writes a name, a colon and a text: one that was written before as it is, and any other behind a sign. It refuses
+// all else.
 #[derive(Clone, Copy)]
 struct Pair;
 

@@ -16,7 +16,8 @@ use tracing_core_fields::{DebugText, Field};
 pub trait WriteField {
     // What a call may do: how it is to write, the field, the value's debug text, the text that stands before, what it
     // answers, and the text that stands after.
-    ghost writes: { Self → Settings → PlainField → PlainDebug → List ℕ → Result (Unit {0}) FormatError → List ℕ → Type 0 };
+    ghost writes: { Self → Settings → PlainField → PlainDebug → List ℕ → Result (Unit {0}) FormatError → List ℕ
+        → Type 0 };
 
     /// Appends the field to what was written.
     ///
