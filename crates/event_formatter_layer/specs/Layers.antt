@@ -35,6 +35,12 @@ SameMaking line_of x y =
     (y.config ≡ x.config) × (plain_lanes y.threads ≡ plain_lanes x.threads)
     × ((s : Settings) (c : PlainContext) (e : PlainEvent) → line_of y.format s c e ≡ line_of x.format s c e)
 
+-- all that it keeps but its scratch buffers is as before
+abbrev pub SameLayer : {N E W : Type 0} → Layer N E W → Layer N E W → Type 0
+SameLayer x y =
+    (y.config ≡ x.config) × (y.format ≡ x.format) × (y.threads ≡ x.threads) × (y.output.maker ≡ x.output.maker)
+    × (y.output.starved ≡ x.output.starved)
+
 -- with the name of the lane's thread among those that were met
 abbrev pub having_met : {N E W : Type 0} → Layer N E W → ℕ → Layer N E W
 having_met x lane =

@@ -2,3 +2,4 @@ pub mod Lines
 pub mod Threads
 pub mod Layers
 pub mod SpanEvents
+pub mod Hearing

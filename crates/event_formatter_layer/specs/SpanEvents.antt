@@ -13,7 +13,7 @@ use Rattle.span_registry_layers_layers.specs.Looks.{View}
 use Rattle.event_formatter_text.specs.declared.settings.Settings.{Settings}
 use Rattle.event_formatter_times.specs.Durations.{duration_text}
 use Rattle.event_formatter_formats.specs.Contexts.{PlainContext}
-use Rattle.event_formatter_layer.specs.Layers.{TellsEvent}
+use Rattle.event_formatter_layer.specs.Layers.{SameLayer, TellsEvent}
 use Rattle.event_formatter_layer.specs.declared.layer.Layer.{Layer}
 
 -- an event with the metadata of a span, which stands in that span
@@ -39,15 +39,17 @@ debug_value text = Debug (Written text text)
 abbrev pub close_names : List (List ℕ)
 close_names = codes "message" ∷ codes "time.busy" ∷ codes "time.idle" ∷ []
 
+abbrev pub close_texts : List ℕ → List ℕ → List (ℕ × PlainValue)
+close_texts busy idle = (0, Text (codes "close")) ∷ (1, debug_value busy) ∷ (2, debug_value idle) ∷ []
+
 abbrev pub close_entries : Timings → List (ℕ × PlainValue)
-close_entries timings =
-    (0, Text (codes "close")) ∷ (1, debug_value (duration_text timings.busy)) ∷ (2, debug_value (duration_text timings.idle)) ∷ []
+close_entries timings = close_texts (duration_text timings.busy) (duration_text timings.idle)
 
 module _ {N E W : Type 0} (text_of : N → Settings → PlainValues → Option (List ℕ))
     (line_of : E → Settings → PlainContext → PlainEvent → Option (List ℕ))
     (writes : W → PlainMetadata → List ℕ → Result (Unit {0}) Error → W → Type 0) where
   abbrev pub TellsOf : Option PlainMetadata → Layer N E W → View → ℕ → List (List ℕ) → List (ℕ × PlainValue) → Layer N E W → Type 0
-  TellsOf None x v id names entries y = y ≡ x
+  TellsOf None x v id names entries y = SameLayer x y
   TellsOf (Some m) x v id names entries y = TellsEvent text_of line_of writes x v (span_event m id names entries) y
 
   -- the line of an event of the span itself, where that is open and seen
@@ -57,4 +59,9 @@ module _ {N E W : Type 0} (text_of : N → Settings → PlainValues → Option (
   -- the same where it is asked for
   abbrev pub TellsSpanIf : Bool → Layer N E W → View → ℕ → List (List ℕ) → List (ℕ × PlainValue) → Layer N E W → Type 0
   TellsSpanIf true x v id names entries y = TellsSpan x v id names entries y
-  TellsSpanIf false x v id names entries y = y ≡ x
+  TellsSpanIf false x v id names entries y = SameLayer x y
+
+  -- the line of a close, with the timings where there are any
+  abbrev pub TellsClose : Option Timings → Layer N E W → View → ℕ → Layer N E W → Type 0
+  TellsClose None x v id y = TellsSpan x v id message_names (message_entries (codes "close")) y
+  TellsClose (Some timings) x v id y = TellsSpan x v id close_names (close_entries timings) y

@@ -63,7 +63,7 @@ fn push_fault(out: &mut String, metadata: &Metadata<'_>) -> Result<(), AllocErro
 impl<W> Output<W> {
     /// Counts a text or a line that found no memory.
     pub(crate) fn miss(&mut self)
-        ensures { (self.new.maker ≡ self.old.maker) × (self.new.starved ≡ one_more self.old.starved) }
+        ensures { self.new ≡ record self.old { starved = one_more self.old.starved } }
     {
         self.starved = self.starved.saturating_add(1);
     }

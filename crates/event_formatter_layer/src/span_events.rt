@@ -1,8 +1,9 @@
 //! The events of a span itself: that it was made, entered, left or closed.
-ghost use Rattle.std.specs.Prelude.{◌≡◌, ◌++◌, OnOk, string_bytes};
+ghost use Rattle.std.specs.Prelude.{◌≡◌, OnOk, length, map, string_bytes, take};
+ghost use Rattle.tracing_core_fields.specs.Values.{placed_entries};
 ghost use Rattle.span_registry_layers_layers.specs.Looks.{view};
 ghost use Rattle.event_formatter_times.specs.Durations.{duration_text};
-ghost use Rattle.event_formatter_layer.specs.SpanEvents.{TellsSpan, TellsSpanIf, close_entries, close_names, message_entries, message_names};
+ghost use Rattle.event_formatter_layer.specs.SpanEvents.{TellsClose, TellsSpan, TellsSpanIf, close_entries, close_names, close_texts, message_entries, message_names};
 
 use crate::layer::Layer;
 use event_formatter_formats::FormatEvent;
@@ -52,20 +53,43 @@ fn fill_duration(out: &mut String, nanoseconds: u128) -> Result<(), AllocError>
     push_duration(out, nanoseconds)
 }
 
+// Puts the texts of how long the span was busy and idle in place of what the two texts held.
+fn fill_durations(busy: &mut String, idle: &mut String, timings: &Timings) -> Result<(), AllocError>
+    ensures busy { OnOk result (string_bytes busy.new ≡ duration_text timings.now.busy) }
+    ensures idle { OnOk result (string_bytes idle.new ≡ duration_text timings.now.idle) }
+{
+    fill_duration(busy, timings.busy)?;
+    fill_duration(idle, timings.idle)
+}
+
 impl<N: FormatFields, E: FormatEvent, W: MakeWriter> Layer<N, E, W> {
+    // Writes the line of an event of the span itself, with fields of these names.
+    fn tell_fields(
+        &mut self,
+        context: &Context<'_>,
+        span: &Id,
+        names: &[&str],
+        values: &[Option<AnyValue<'_>>],
+    )
+        ensures { let own = map (λ name. name.now) names.now in
+            TellsSpan N.text_of E.line_of W.writes self.old (view context.now) span.now own
+            (placed_entries (take (length own) values.now)) self.new }
+    {
+        let Some(metadata) = context.metadata(span) else {
+            return;
+        };
+        let fields = FieldSet::new(names, metadata.callsite());
+        let event = Event::new_child_of(Some(*span), &metadata, fields.value_set_all(values));
+        self.tell_event(context, &event);
+    }
+
     /// Writes the line of an event of the span itself, with this message.
     pub(crate) fn tell_span(&mut self, context: &Context<'_>, span: &Id, message: &str)
         ensures { TellsSpan N.text_of E.line_of W.writes self.old (view context.now) span.now message_names
             (message_entries message.now) self.new }
     {
-        let Some(metadata) = context.metadata(span) else {
-            return;
-        };
-        let names = ["message"];
-        let fields = FieldSet::new(&names, metadata.callsite());
         let values = [Some(AnyValue::Str(message))];
-        let event = Event::new_child_of(Some(*span), &metadata, fields.value_set_all(&values));
-        self.tell_event(context, &event);
+        self.tell_fields(context, span, &["message"], &values);
     }
 
     /// The same where it is asked for.
@@ -81,6 +105,66 @@ impl<N: FormatFields, E: FormatEvent, W: MakeWriter> Layer<N, E, W> {
     {
         if is_asked {
             self.tell_span(context, span, message);
+        }
+    }
+
+    // Writes the line of a close, with these texts of how long the span was busy and idle.
+    fn tell_times<'t>(&mut self, context: &Context<'_>, span: &Id, busy: &'t str, idle: &'t str)
+        ensures { TellsSpan N.text_of E.line_of W.writes self.old (view context.now) span.now close_names
+            (close_texts busy.now idle.now) self.new }
+    {
+        let values = [
+            Some(AnyValue::Str("close")),
+            Some(AnyValue::Debug(DebugText::Texts {
+                plain: busy,
+                alternate: busy,
+            })),
+            Some(AnyValue::Debug(DebugText::Texts {
+                plain: idle,
+                alternate: idle,
+            })),
+        ];
+        self.tell_fields(
+            context,
+            span,
+            &["message", "time.busy", "time.idle"],
+            &values,
+        );
+    }
+
+    // Counts the line of an event of the span, where that is seen, as one that found no memory.
+    fn miss_span(&mut self, context: &Context<'_>, span: &Id, timings: &Timings)
+        ensures { TellsSpan N.text_of E.line_of W.writes self.old (view context.now) span.now close_names
+            (close_entries timings.now) self.new }
+    {
+        if context.exists(span) {
+            self.threads.meet(context.at().lane);
+            self.output.miss();
+        }
+    }
+
+    // Writes the line of a close with the timings.
+    fn tell_timed_close(&mut self, context: &Context<'_>, span: &Id, timings: &Timings)
+        ensures { TellsSpan N.text_of E.line_of W.writes self.old (view context.now) span.now close_names
+            (close_entries timings.now) self.new }
+    {
+        let mut busy = std::mem::replace(&mut self.busy, String::new(self.alloc));
+        let mut idle = std::mem::replace(&mut self.idle, String::new(self.alloc));
+        match fill_durations(&mut busy, &mut idle, timings) {
+            Ok(()) => self.tell_times(context, span, busy.as_str(), idle.as_str()),
+            Err(_) => self.miss_span(context, span, timings),
+        }
+        self.busy = busy;
+        self.idle = idle;
+    }
+
+    /// Writes the line of a close, with the timings where there are any.
+    pub(crate) fn tell_close(&mut self, context: &Context<'_>, span: &Id, timings: Option<Timings>)
+        ensures { TellsClose N.text_of E.line_of W.writes timings self.old (view context.now) span.now self.new }
+    {
+        match timings {
+            None => self.tell_span(context, span, "close"),
+            Some(timings) => self.tell_timed_close(context, span, &timings),
         }
     }
 }
