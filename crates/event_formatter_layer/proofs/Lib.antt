@@ -1,1 +1,2 @@
+mod Hooks
 mod Names

@@ -3,3 +3,4 @@ pub mod Threads
 pub mod Layers
 pub mod SpanEvents
 pub mod Hearing
+pub mod Told

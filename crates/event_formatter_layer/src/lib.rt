@@ -6,5 +6,6 @@ mod layer;
 mod output;
 mod span_events;
 mod threads;
+mod told;
 
 pub use layer::Layer;
