@@ -4,3 +4,4 @@ pub mod Layers
 pub mod SpanEvents
 pub mod Hearing
 pub mod Told
+pub mod Builders

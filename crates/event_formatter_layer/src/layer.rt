@@ -3,6 +3,7 @@ ghost use Rattle.std.specs.Prelude.{◌≡◌, [], string_bytes};
 ghost use Rattle.tracing_core_requests.specs.PlainRequests.{plain_event};
 ghost use Rattle.span_registry_layers_layers.specs.Looks.{view};
 ghost use Rattle.event_formatter_text.specs.Lists.{Formats};
+ghost use Rattle.event_formatter_layer.specs.Builders.{with_fields};
 ghost use Rattle.event_formatter_layer.specs.Layers.{SameMaking, TellsEvent, line_in_view};
 
 use crate::output::Output;
@@ -26,6 +27,22 @@ pub(crate) struct Config<N> {
     pub(crate) span_events: FmtSpan,
     pub(crate) has_timer: bool,
     pub(crate) log_internal_errors: bool,
+}
+
+impl<N: Drop> Config<N> {
+    /// The same with another formatter of fields.
+    pub(crate) fn with_fields<M>(self, fields: M) -> Config<M>
+        ensures { result ≡ with_fields fields self }
+    {
+        Config {
+            key: self.key,
+            fields,
+            settings: self.settings,
+            span_events: self.span_events,
+            has_timer: self.has_timer,
+            log_internal_errors: self.log_internal_errors,
+        }
+    }
 }
 
 /// Writes a line for each event that it is told, and hands it to a maker.

@@ -1,6 +1,7 @@
 //! A layer that writes a line for each event that it is told.
 #![tactic(auto)]
 
+mod builders;
 mod hearing;
 mod layer;
 mod output;

@@ -60,6 +60,20 @@ fn push_fault(out: &mut String, metadata: &Metadata<'_>) -> Result<(), AllocErro
     out.push_str("]\n")
 }
 
+impl<W: Drop> Output<W> {
+    /// The same with another maker.
+    pub(crate) fn with_maker<V>(self, maker: V) -> Output<V>
+        ensures maker { result.maker ≡ maker }
+        ensures starved { result.starved ≡ self.starved }
+    {
+        Output {
+            maker,
+            line: self.line,
+            starved: self.starved,
+        }
+    }
+}
+
 impl<W> Output<W> {
     /// Counts a text or a line that found no memory.
     pub(crate) fn miss(&mut self)
