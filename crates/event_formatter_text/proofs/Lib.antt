@@ -5,3 +5,5 @@ mod Putting
 mod Keeping
 mod Objects
 mod Chaining
+mod JsonStrings
+mod JsonObjectsHold
