@@ -7,3 +7,5 @@ mod Objects
 mod Chaining
 mod JsonStrings
 mod JsonObjectsHold
+mod JsonNumbers
+mod JsonValues

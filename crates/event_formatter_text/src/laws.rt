@@ -1,5 +1,5 @@
 //! Laws of the texts.
-ghost use Rattle.event_formatter_text.specs.JsonLaws.{ObjectsAreJson, StringsAreJson, TextsAreStrings};
+ghost use Rattle.event_formatter_text.specs.JsonLaws.{MembersAreJson, NumbersAreJson, ObjectsAreJson, StringsAreJson, TextsAreStrings, ValuesAreJson};
 
 /// What stands for a text in a JSON string may stand there by JSON's grammar, and the string is a value of JSON.
 #[tactic(auto, using(crate::proofs::JsonStrings::text_inside, crate::proofs::JsonObjectsHold::string_is))]
@@ -12,4 +12,12 @@ pub fn texts_are_strings()
 #[tactic(auto, using(crate::proofs::JsonObjectsHold::objects_are))]
 pub fn objects_are_json()
     ensures { ObjectsAreJson }
+{}
+
+/// What stands for values, for numbers and for lists of values is JSON, where numbers are in the ranges of their types.
+#[tactic(auto, using(crate::proofs::JsonValues::values_are, crate::proofs::JsonValues::numbers_are, crate::proofs::JsonValues::members_are))]
+pub fn values_are_json()
+    ensures values { ValuesAreJson }
+    ensures numbers { NumbersAreJson }
+    ensures members { MembersAreJson }
 {}
