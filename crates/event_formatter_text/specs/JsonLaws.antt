@@ -1,5 +1,5 @@
 -- What holds of JSON texts.
-use Rattle.std.specs.Prelude.{◌≡◌, ◌<◌, ◌^◌, ℕ, ℤ, pos, negsuc, true, List, IfSome}
+use Rattle.std.specs.Prelude.{◌≡◌, ◌<◌, ◌^◌, ℕ, ℤ, pos, negsuc, true, List, ◌∷◌, IfSome}
 use Rattle.std.specs.Fmt.{decimal}
 use Rattle.std.specs.List.{AllByRecursion}
 use Rattle.tracing_core_fields.specs.PlainDebug.{PlainDebug, Written, Unwritable, OfSigned, OfUnsigned, OfWideSigned, OfWideUnsigned, OfTruth, OfText, OfBytes, OfError}
@@ -8,7 +8,7 @@ use Rattle.tracing_core_requests.specs.PlainRequests.{PlainValues}
 use Rattle.event_formatter_text.specs.Chains.{members_of}
 use Rattle.event_formatter_text.specs.Escapes.{escaped, json_char, json_string}
 use Rattle.event_formatter_text.specs.IsJson.{Anywhere, IsJson, Members, Value, is_inside}
-use Rattle.event_formatter_text.specs.JsonObjects.{Pair, object_text}
+use Rattle.event_formatter_text.specs.JsonObjects.{Pair, members_inside, object_text}
 use Rattle.event_formatter_text.specs.JsonTexts.{json_value}
 
 -- what stands for a text in a JSON string may stand there
@@ -23,6 +23,12 @@ StringsAreJson = (text : List ℕ) → IsJson Value (json_string text)
 abbrev pub ObjectsAreJson : Type 0
 ObjectsAreJson =
     (pairs : List Pair) → AllByRecursion (λ p. IsJson Value p.1) pairs → IsJson Value (object_text pairs)
+
+-- and what stands in the object, where there is a member, are members
+abbrev pub InsidesAreJson : Type 0
+InsidesAreJson =
+    (p : Pair) (ps : List Pair) → IsJson Value p.1 → AllByRecursion (λ q. IsJson Value q.1) ps →
+    IsJson Members (members_inside (p ∷ ps))
 
 -- a number of its type's range
 abbrev pub IsSignedBelow : ℕ → ℤ → Type 0

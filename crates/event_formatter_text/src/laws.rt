@@ -1,5 +1,5 @@
 //! Laws of the texts.
-ghost use Rattle.event_formatter_text.specs.JsonLaws.{MembersAreJson, NumbersAreJson, ObjectsAreJson, StringsAreJson, TextsAreStrings, ValuesAreJson};
+ghost use Rattle.event_formatter_text.specs.JsonLaws.{InsidesAreJson, MembersAreJson, NumbersAreJson, ObjectsAreJson, StringsAreJson, TextsAreStrings, ValuesAreJson};
 
 /// What stands for a text in a JSON string may stand there by JSON's grammar, and the string is a value of JSON.
 #[tactic(auto, using(crate::proofs::JsonStrings::text_inside, crate::proofs::JsonObjectsHold::string_is))]
@@ -9,9 +9,10 @@ pub fn texts_are_strings()
 {}
 
 /// Members whose values are JSON make an object of JSON.
-#[tactic(auto, using(crate::proofs::JsonObjectsHold::objects_are))]
+#[tactic(auto, using(crate::proofs::JsonObjectsHold::objects_are, crate::proofs::JsonObjectsHold::all))]
 pub fn objects_are_json()
-    ensures { ObjectsAreJson }
+    ensures object { ObjectsAreJson }
+    ensures inside { InsidesAreJson }
 {}
 
 /// What stands for values, for numbers and for lists of values is JSON, where numbers are in the ranges of their types.
