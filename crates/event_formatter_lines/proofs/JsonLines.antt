@@ -100,9 +100,9 @@ module _ (strings : StringsAreJson) (insides : InsidesAreJson) where
   first_are : (head : PlainHead) → AreMembers (first_members head)
   first_are head = append_members (text_member (codes "timestamp") head.time) (text_member (codes "level") (option_map level_name head.level)) (text_is (codes "timestamp") head.time refl) (text_is (codes "level") (option_map level_name head.level) refl)
 
-  fields_are : (flat : Bool) (o : Option (List (List ℕ))) → IfSome o AreMembers → IfSome (option_map (λ texts. member_if (codes "fields") (Some (object_of texts))) o) AreMembers
-  fields_are flat None all = tt
-  fields_are flat (Some texts) all = member_is (codes "fields") (Some (object_of texts)) refl (object_is texts all)
+  fields_are : (o : Option (List (List ℕ))) → IfSome o AreMembers → IfSome (option_map (λ texts. member_if (codes "fields") (Some (object_of texts))) o) AreMembers
+  fields_are None all = tt
+  fields_are (Some texts) all = member_is (codes "fields") (Some (object_of texts)) refl (object_is texts all)
 
   last_are : NumbersAreJson → (shape : JsonShape) (head : PlainHead) (spans : List PlainShown) → IfSome head.line (λ n. n < 2 ^ 32) → AllByRecursion IsKeptWell spans → AreMembers (last_members shape head spans)
   last_are numbers shape head spans below well =
@@ -128,4 +128,4 @@ lines_are strings insides numbers lists shape head spans values below well range
   where
     by_flag : (flat : Bool) → IfSome (field_members flat values) AreMembers
     by_flag true = lists values ranges
-    by_flag false = fields_are strings insides false (members_of values) (lists values ranges)
+    by_flag false = fields_are strings insides (members_of values) (lists values ranges)

@@ -1,15 +1,14 @@
 -- Values and lists of values as JSON.
-use Rattle.std.proofs.Common.{arith, ◌≡◌, ◌<◌, ◌^◌, ℕ, ℤ, pos, negsuc, suc, Bool, true, false, List, [], ◌∷◌, ◌++◌, codes, Option, Some, None, IfSome, if◌then◌else◌, is_none, slice_index_or, refl, sym, subst, append_assoc}
+use Rattle.std.proofs.Common.{arith, ◌<◌, ◌^◌, ℕ, ℤ, pos, negsuc, suc, Bool, true, false, List, [], ◌∷◌, ◌++◌, codes, Option, Some, None, IfSome, if◌then◌else◌, is_none, slice_index_or, sym, subst, append_assoc}
 use Rattle.std.proofs.lemmas.List.{append-nil}
 use Rattle.std.specs.Fmt.{decimal, signed_decimal}
 use Rattle.std.specs.List.{AllByRecursion, cons_option, filter_map, list_any}
 use Rattle.std.specs.Option.{option_map}
-use Rattle.tracing_core_fields.specs.PlainDebug.{PlainDebug, Written, Unwritable, OfSigned, OfUnsigned, OfWideSigned, OfWideUnsigned, OfTruth, OfText, OfBytes, OfError}
+use Rattle.tracing_core_fields.specs.PlainDebug.{Written, Unwritable, OfSigned, OfUnsigned, OfWideSigned, OfWideUnsigned, OfTruth, OfText, OfBytes, OfError}
 use Rattle.tracing_core_fields.specs.PlainValue.{PlainValue, debug_of}
 use Rattle.event_formatter_text.proofs.JsonNumbers.{decimal_whole, whole_inside}
-use Rattle.event_formatter_text.proofs.JsonObjectsHold.{string_is}
+use Rattle.event_formatter_text.proofs.JsonObjects.{string_is}
 use Rattle.event_formatter_text.proofs.JsonStrings.{text_inside}
-use Rattle.event_formatter_text.specs.Chains.{members_of}
 use Rattle.event_formatter_text.specs.Escapes.{escaped, json_char, json_string}
 use Rattle.event_formatter_text.specs.FieldTexts.{plain_name}
 use Rattle.event_formatter_text.specs.IsJson.{Elements, IsJson, Members, Value, array, element, elements, empty_array, member, negative, number, string, truth, whole}

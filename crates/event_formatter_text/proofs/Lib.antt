@@ -6,6 +6,6 @@ mod Keeping
 mod Objects
 mod Chaining
 mod JsonStrings
-mod JsonObjectsHold
+mod JsonObjects
 mod JsonNumbers
 mod JsonValues

@@ -3,7 +3,8 @@ use Rattle.std.specs.Prelude.{◌≡◌, ℕ, zero, suc, Bool, true, false, ◌&
 use Rattle.event_formatter_text.specs.FieldTexts.{truth_text}
 use Rattle.event_formatter_text.specs.JsonTexts.{between_quotes}
 
--- where in a string a byte stands: anywhere, behind a backslash, or in the four digits of a code unit, so many before the last
+-- where in a string a byte stands: anywhere, behind a backslash, or in the four digits of a code unit, so many of them
+-- before the last
 pub data StringPart : Type 0 where
   Anywhere : StringPart
   BehindBackslash : StringPart
@@ -51,12 +52,14 @@ abbrev pub is_fraction : List ℕ → Bool
 is_fraction [] = false
 is_fraction (b ∷ bs) = is_digit b && are_digits bs
 
--- a number, from its sign on
+-- a number, from its sign on; one with an exponent is a number too, but nothing here writes it
 pub data IsNumber : List ℕ → Type 0 where
   whole : (text : List ℕ) → is_whole text ≡ true → IsNumber text
-  with_fraction : (text digits : List ℕ) → is_whole text ≡ true → is_fraction digits ≡ true → IsNumber (text ++ (codes "." ++ digits))
+  with_fraction : (text digits : List ℕ) → is_whole text ≡ true → is_fraction digits ≡ true →
+      IsNumber (text ++ (codes "." ++ digits))
   negative : (text : List ℕ) → is_whole text ≡ true → IsNumber (codes "-" ++ text)
-  negative_with_fraction : (text digits : List ℕ) → is_whole text ≡ true → is_fraction digits ≡ true → IsNumber (codes "-" ++ (text ++ (codes "." ++ digits)))
+  negative_with_fraction : (text digits : List ℕ) → is_whole text ≡ true → is_fraction digits ≡ true →
+      IsNumber (codes "-" ++ (text ++ (codes "." ++ digits)))
 
 -- what a text is of JSON: a value, the elements of an array, or the members of an object, commas between them
 pub data Kind : Type 0 where
@@ -74,6 +77,9 @@ pub data IsJson : Kind → List ℕ → Type 0 where
   empty_object : IsJson Value (codes "{}")
   object : (text : List ℕ) → IsJson Members text → IsJson Value (codes "{" ++ (text ++ codes "}"))
   element : (text : List ℕ) → IsJson Value text → IsJson Elements text
-  elements : (text more : List ℕ) → IsJson Value text → IsJson Elements more → IsJson Elements (text ++ (codes "," ++ more))
-  member : (key value : List ℕ) → is_inside Anywhere key ≡ true → IsJson Value value → IsJson Members (between_quotes key ++ (codes ":" ++ value))
-  members : (text more : List ℕ) → IsJson Members text → IsJson Members more → IsJson Members (text ++ (codes "," ++ more))
+  elements : (text more : List ℕ) → IsJson Value text → IsJson Elements more →
+      IsJson Elements (text ++ (codes "," ++ more))
+  member : (key value : List ℕ) → is_inside Anywhere key ≡ true → IsJson Value value →
+      IsJson Members (between_quotes key ++ (codes ":" ++ value))
+  members : (text more : List ℕ) → IsJson Members text → IsJson Members more →
+      IsJson Members (text ++ (codes "," ++ more))

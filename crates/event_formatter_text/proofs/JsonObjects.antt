@@ -1,11 +1,11 @@
 -- Objects of members.
-use Rattle.std.proofs.Common.{◌≡◌, ℕ, List, [], ◌∷◌, ◌++◌, codes, true, refl, subst, sym, append_assoc}
+use Rattle.std.proofs.Common.{ℕ, List, [], ◌∷◌, subst, sym}
 use Rattle.std.proofs.lemmas.List.{append-nil}
 use Rattle.std.specs.List.{AllByRecursion}
 use Rattle.event_formatter_text.proofs.JsonStrings.{text_inside}
 use Rattle.event_formatter_text.specs.Escapes.{escaped, json_char, json_string}
 use Rattle.event_formatter_text.specs.IsJson.{IsJson, Members, Value, empty_object, member, members, object, string}
-use Rattle.event_formatter_text.specs.JsonObjects.{Pair, later_members, member_text, members_inside, object_text}
+use Rattle.event_formatter_text.specs.JsonObjects.{Pair, member_text, members_inside, object_text}
 
 pub string_is : (text : List ℕ) → IsJson Value (json_string text)
 unfolding json_string
