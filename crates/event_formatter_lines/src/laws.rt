@@ -1,7 +1,9 @@
 //! Laws of the formats.
 ghost use Rattle.event_formatter_lines.specs.JsonLaws.{LinesAreJson, SpansExtendObjects};
 
-use event_formatter_text::{numbers_are_json, objects_are_json, texts_are_strings, values_are_json};
+use event_formatter_text::{
+    numbers_are_json, objects_are_json, texts_are_strings, values_are_json,
+};
 
 /// Where an object is kept of a span's fields, as `JsonFields` keeps it, the JSON format's object of the span is that
 /// object with one more member, the name. So it is an object again.
