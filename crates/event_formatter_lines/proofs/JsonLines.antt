@@ -1,5 +1,5 @@
 -- Lines are objects of JSON.
-use Rattle.std.proofs.Common.{◌≡◌, ◌<◌, ◌^◌, ◌⊎◌, inl, inr, ℕ, Bool, true, false, List, [], ◌∷◌, ◌++◌, codes, Option, Some, None, IfSome, refl, sym, ap, subst, ◌∙◌, append_assoc}
+use Rattle.std.proofs.Common.{◌≡◌, ◌<◌, ◌^◌, inl, inr, ℕ, Bool, true, false, List, [], ◌∷◌, ◌++◌, codes, Option, Some, None, IfSome, refl, sym, ap, subst, ◌∙◌, append_assoc}
 use Rattle.std.proofs.lemmas.List.{append-nil}
 use Rattle.std.specs.Fmt.{decimal}
 use Rattle.std.specs.List.{AllByRecursion, join_by, last_or}
@@ -12,7 +12,7 @@ use Rattle.event_formatter_text.specs.JsonLaws.{InsidesAreJson, MembersAreJson, 
 use Rattle.event_formatter_text.specs.JsonObjects.{Pair, members_inside, object_text}
 use Rattle.event_formatter_lines.proofs.Braces.{inside}
 use Rattle.event_formatter_lines.specs.Heads.{PlainHead}
-use Rattle.event_formatter_lines.specs.Json.{field_as_kept, field_members, first_members, inside_braces, json_line, kept_by, kept_members, key_text, last_members, member_if, members_as_kept, object_line, object_of, span_array, span_members, span_object, text_member, where_asked}
+use Rattle.event_formatter_lines.specs.Json.{field_as_kept, field_members, first_members, kept_by, kept_members, key_text, last_members, member_if, members_as_kept, object_line, object_of, span_array, span_members, span_object, text_member, where_asked}
 use Rattle.event_formatter_lines.specs.JsonLaws.{IsKeptWell, IsObjectLine, LinesAreJson}
 use Rattle.event_formatter_lines.specs.Shown.{PlainShown}
 use Rattle.event_formatter_lines.specs.declared.json.JsonShape.{JsonShape}
