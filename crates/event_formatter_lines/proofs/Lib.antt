@@ -6,3 +6,4 @@ mod Joining
 mod Lines
 mod SpanObjects
 mod Moments
+mod JsonLines

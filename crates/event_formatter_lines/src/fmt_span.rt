@@ -1,7 +1,8 @@
 //! At which moments of a span an event is written for it.
 ghost use Rattle.std.specs.Prelude.{◌≡◌, Some};
 ghost use Rattle.std.specs.Fmt.{WritesOnOk};
-ghost use Rattle.event_formatter_lines.specs.FmtSpans.{IsByMoment, both, contains, debug_text, either, just_one, name_behind};
+ghost use Rattle.event_formatter_lines.specs.FmtSpans.{IsByMoment, both, contains, debug_text};
+ghost use Rattle.event_formatter_lines.specs.FmtSpans.{either, just_one, name_behind};
 
 use std::fmt;
 use std::ops::{BitAnd, BitAndAssign, BitOr, BitOrAssign, BitXor, BitXorAssign};

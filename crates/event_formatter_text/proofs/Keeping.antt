@@ -1,5 +1,5 @@
 -- A visit by a visitor that keeps members keeps those of all entries.
-use Rattle.std.proofs.Common.{◌≡◌, ℕ, List, [], ◌∷◌, Option, Some, None, option_and_then, Result, Ok, Err, slice_index_or, refl, subst}
+use Rattle.std.proofs.Common.{ℕ, List, [], Option, Some, None, option_and_then, Result, Ok, Err, slice_index_or, refl, subst}
 use Rattle.std.specs.Option.{option_map}
 use Rattle.tracing_core_fields.specs.PlainField.{PlainField}
 use Rattle.tracing_core_fields.specs.PlainValue.{PlainValue, debug_of}

@@ -1,6 +1,5 @@
 -- What a visitor wrote to the text that was lent to it.
 use Rattle.std.proofs.Common.{◌≡◌, List, ℕ, Option, Result, Bool, String, Global, true, string_bytes, sym, ◌∙◌, ap, subst}
-use base.Fml.{GName}
 use Rattle.event_formatter_text.specs.Lists.{Formats}
 use Rattle.event_formatter_text.specs.Visitors.{frame_of}
 use Rattle.event_formatter_text.specs.Writers.{written}

@@ -5,3 +5,7 @@ mod Putting
 mod Keeping
 mod Objects
 mod Chaining
+mod JsonStrings
+mod JsonObjects
+mod JsonNumbers
+mod JsonValues

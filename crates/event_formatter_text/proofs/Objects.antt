@@ -1,5 +1,5 @@
 -- What is written and kept of members that a visit gave.
-use Rattle.std.proofs.Common.{◌≡◌, ℕ, List, ◌++◌, Option, Some, None, Result, Ok, Err, map, refl, sym, ap, ◌∙◌}
+use Rattle.std.proofs.Common.{◌≡◌, ℕ, List, ◌++◌, Option, Some, None, Ok, Err, map, refl, ap, ◌∙◌}
 use Rattle.std.specs.Global.{Vec}
 use Rattle.std.specs.Option.{option_map}
 use Rattle.event_formatter_text.specs.GivenMembers.{GivesMembers}

@@ -1,5 +1,5 @@
 -- Members of a JSON object, which several functions append one after the other.
-use Rattle.std.specs.Prelude.{◌≡◌, ℕ, Bool, true, false, List, [], ◌∷◌, ◌++◌, if◌then◌else◌, Option, Some, None, is_none, Result, Ok, Err, codes}
+use Rattle.std.specs.Prelude.{◌≡◌, ℕ, Bool, false, List, [], ◌∷◌, ◌++◌, if◌then◌else◌, Option, Some, None, is_none, Result, Ok, Err, codes}
 use Rattle.std.specs.List.{filter_map, list_any}
 use Rattle.tracing_core_requests.specs.PlainRequests.{PlainValues}
 use Rattle.event_formatter_text.specs.Lists.{entry_piece, joined}
@@ -19,7 +19,8 @@ is_still_first is_first [] = is_first
 is_still_first is_first (x ∷ xs) = false
 
 -- Members were appended, with a comma before each but the first one of the object.
-pub record Extends (members : List (List ℕ)) (is_first : Bool) (old : List ℕ) (is_still : Bool) (new : List ℕ) : Type 0 where
+pub record Extends (members : List (List ℕ)) (is_first : Bool) (old : List ℕ)
+    (is_still : Bool) (new : List ℕ) : Type 0 where
   pub text : new ≡ old ++ joined (codes ",") is_first members
   pub first : is_still ≡ is_still_first is_first members
 

@@ -1,20 +1,13 @@
 -- The members of a JSON object, in order of their keys.
-use Rattle.std.specs.Prelude.{◌≡◌, ℕ, Bool, false, List, [], ◌∷◌, ◌++◌, if◌then◌else◌, Option, Some, None, option_and_then, Result, Ok, Err, codes, slice_index_or, string_bytes}
+use Rattle.std.specs.Prelude.{ℕ, Bool, false, List, [], ◌∷◌, ◌++◌, if◌then◌else◌, Option, Some, option_and_then, codes, slice_index_or, string_bytes}
 use Rattle.std.specs.Cmp.Lexicographic.{slice_cmp}
 use Rattle.std.specs.List.{flat_map}
-use Rattle.std.specs.Option.{option_map}
 use Rattle.std.specs.Ordering.{is_lt, nat_cmp}
 use Rattle.std.specs.Str.{bytes_eq}
-use Rattle.tracing_core_fields.specs.PlainDebug.{PlainDebug}
-use Rattle.tracing_core_fields.specs.PlainField.{PlainField}
 use Rattle.tracing_core_fields.specs.PlainValue.{PlainValue, debug_of}
-use Rattle.tracing_core_requests.specs.PlainRequests.{PlainValues}
 use Rattle.event_formatter_text.specs.Escapes.{json_string}
 use Rattle.event_formatter_text.specs.FieldTexts.{plain_name}
 use Rattle.event_formatter_text.specs.JsonTexts.{json_value}
-use Rattle.event_formatter_text.specs.Lists.{further}
-use Rattle.event_formatter_text.specs.declared.error.FormatError.{FormatError}
-use Rattle.event_formatter_text.specs.declared.error.FormatError.TheVariants.{Failed, OutOfMemory}
 use Rattle.event_formatter_text.specs.declared.json_object.Member.{Member}
 
 -- a key, and the JSON of its value

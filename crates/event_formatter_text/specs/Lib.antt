@@ -11,3 +11,5 @@ pub mod Members
 pub mod GivenMembers
 pub mod Handing
 pub mod Chains
+pub mod IsJson
+pub mod JsonLaws

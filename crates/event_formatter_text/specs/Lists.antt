@@ -1,5 +1,5 @@
 -- The texts of lists of values, and what writes them piece by piece.
-use Rattle.std.specs.Prelude.{◌≡◌, ℕ, Bool, true, false, List, [], ◌∷◌, ◌++◌, if◌then◌else◌, Option, Some, None, is_none, Result, Ok, Err, OnOk, slice_index_or}
+use Rattle.std.specs.Prelude.{◌≡◌, ℕ, Bool, true, false, List, [], ◌++◌, if◌then◌else◌, Option, Some, None, is_none, Result, Ok, Err, OnOk, slice_index_or}
 use Rattle.std.specs.List.{filter_map, flat_map, join_by, list_any}
 use Rattle.std.specs.Option.{option_map}
 use Rattle.tracing_core_fields.specs.PlainValue.{PlainValue}

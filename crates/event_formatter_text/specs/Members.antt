@@ -1,5 +1,5 @@
 -- Members that a visitor keeps, and what a formatter keeps of them.
-use Rattle.std.specs.Prelude.{◌≡◌, ℕ, List, [], Option, Some, None, Result, Ok, Err, codes, map}
+use Rattle.std.specs.Prelude.{◌≡◌, ℕ, List, [], Option, Some, None, Result, Ok, Err, map}
 use Rattle.std.specs.Option.{option_map}
 use Rattle.tracing_core_fields.specs.PlainDebug.{PlainDebug}
 use Rattle.tracing_core_fields.specs.PlainField.{PlainField}

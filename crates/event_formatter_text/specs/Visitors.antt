@@ -3,14 +3,13 @@ use Rattle.std.specs.Prelude.{ℕ, List, Option, Result, codes}
 use base.Fml.{GName}
 use Rattle.tracing_core_fields.specs.PlainDebug.{PlainDebug}
 use Rattle.tracing_core_fields.specs.PlainField.{PlainField}
-use Rattle.event_formatter_text.specs.FieldTexts.{field_piece, separator}
+use Rattle.event_formatter_text.specs.FieldTexts.{field_piece}
 use Rattle.tracing_core_fields.specs.PlainValue.{PlainValue, debug_of}
 use Rattle.tracing_core_requests.specs.PlainRequests.{PlainValues}
 use Rattle.event_formatter_text.specs.Lists.{WrotePiece, list_text}
 use Rattle.event_formatter_text.specs.JsonTexts.{json_piece}
 use Rattle.event_formatter_text.specs.Writers.{written, without_styles}
 use Rattle.event_formatter_text.specs.declared.error.FormatError.{FormatError}
-use Rattle.event_formatter_text.specs.declared.field_text.Punctuation.{Punctuation}
 use Rattle.event_formatter_text.specs.declared.field_text.Punctuation.TheVariants.{Default, Pretty}
 use Rattle.event_formatter_text.specs.declared.settings.Settings.{Settings}
 use Rattle.event_formatter_text.specs.declared.writer.Writer.{Writer}

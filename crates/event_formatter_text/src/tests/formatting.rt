@@ -112,3 +112,17 @@ fn visitors_over_others(rt: HostRuntime) -> Result<(), Fail> {
     );
     Ok(())
 }
+
+#[test]
+fn members_of_an_object(rt: HostRuntime) -> Result<(), Fail> {
+    let set = FieldSet::new(&NAMES, Identifier(1));
+    let mut out = String::new(rt.alloc());
+    push_json_string(&mut out, "a\"b")?;
+    let none = push_json_members(&mut out, true, &set.value_set_all(&[]))?;
+    assert!(rt; none);
+    let values = [Some(AnyValue::Str("m")), Some(AnyValue::U64(1))];
+    let is_first = push_json_members(&mut out, false, &set.value_set_all(&values))?;
+    assert!(rt; !is_first);
+    assert_eq!(rt; out.as_str(), "\"a\\\"b\",\"message\":\"m\",\"n\":1");
+    Ok(())
+}

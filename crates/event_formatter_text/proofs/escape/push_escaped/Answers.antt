@@ -1,7 +1,7 @@
-use Rattle.std.proofs.Common.{◌≡◌, ◌++◌, sym, ap, ◌∙◌, arith, false, string_bytes}
+use Rattle.std.proofs.Common.{◌≡◌, sym, ap, ◌∙◌, arith, false}
 use Rattle.std.proofs.lemmas.Grind.{common_steps}
 use Rattle.std.specs.List.{list_any}
-use Rattle.event_formatter_text.specs.Escapes.{escaped, is_special, written_char}
+use Rattle.event_formatter_text.specs.Escapes.{is_special}
 use Rattle.event_formatter_text.proofs.Plain.{stands}
 use Rattle.event_formatter_text.proofs.escape.push_escaped.Goals as goal
 

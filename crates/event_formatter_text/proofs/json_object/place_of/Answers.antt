@@ -1,4 +1,4 @@
-use Rattle.std.proofs.Common.{rules, ℕ, List, sym, ◌∙◌}
+use Rattle.std.proofs.Common.{rules}
 use Rattle.event_formatter_text.proofs.Putting.{put_here, put_later}
 use Rattle.event_formatter_text.proofs.json_object.place_of.Goals as goal
 

@@ -1,5 +1,4 @@
-use Rattle.std.proofs.Common.{◌≡◌, ◌++◌, true, false, OnOk, drop, map, string_bytes, take, rules, arith, sym, ◌∙◌}
-use Rattle.std.proofs.lemmas.Grind.{common_steps}
+use Rattle.std.proofs.Common.{◌≡◌, ◌++◌, true, false, drop, map, string_bytes, take, rules, sym, ◌∙◌}
 use Rattle.event_formatter_text.specs.JsonObjects.{is_first_key, pair_of, put, put_first}
 use Rattle.event_formatter_text.proofs.Putting.{put_new, put_same}
 use Rattle.event_formatter_text.proofs.json_object.put.Goals as goal

@@ -1,0 +1,29 @@
+//! Laws of the texts.
+ghost use Rattle.event_formatter_text.specs.JsonLaws.{InsidesAreJson, MembersAreJson, NumbersAreJson, ObjectsAreJson, StringsAreJson, TextsAreStrings, ValuesAreJson};
+
+/// What stands for a text in a JSON string may stand there by JSON's grammar, and the string is a value of JSON.
+#[tactic(auto, using(crate::proofs::JsonStrings::text_inside, crate::proofs::JsonObjects::string_is))]
+pub fn texts_are_strings()
+    ensures inside { TextsAreStrings }
+    ensures value { StringsAreJson }
+{}
+
+/// Members whose values are JSON make an object of JSON.
+#[tactic(auto, using(crate::proofs::JsonObjects::objects_are, crate::proofs::JsonObjects::all))]
+pub fn objects_are_json()
+    ensures object { ObjectsAreJson }
+    ensures inside { InsidesAreJson }
+{}
+
+/// What stands for values and for lists of values is JSON, where numbers are in the ranges of their types.
+#[tactic(auto, using(crate::proofs::JsonValues::values_are, crate::proofs::JsonValues::members_are))]
+pub fn values_are_json()
+    ensures values { ValuesAreJson }
+    ensures members { MembersAreJson }
+{}
+
+/// A number of 32 bits in decimal digits is JSON.
+#[tactic(auto, using(crate::proofs::JsonValues::numbers_are))]
+pub fn numbers_are_json()
+    ensures { NumbersAreJson }
+{}
