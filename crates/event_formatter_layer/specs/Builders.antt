@@ -23,3 +23,12 @@ with_fields fields config =
 abbrev pub SameButLanes : {N E W : Type 0} → Layer N E W → Layer N E W → Type 0
 SameButLanes x y =
     (y.config ≡ x.config) × (y.format ≡ x.format) × (y.output ≡ x.output) × (y.threads.longest ≡ x.threads.longest)
+
+-- all but how it formats events is as before
+abbrev pub SameButFormat : {N E F W : Type 0} → Layer N E W → Layer N F W → Type 0
+SameButFormat x y = (y.config ≡ x.config) × (y.threads ≡ x.threads) × (y.output ≡ x.output)
+
+-- the same, and it has no timer
+abbrev pub SameButTimer : {N E F W : Type 0} → Layer N E W → Layer N F W → Type 0
+SameButTimer x y =
+    (y.config ≡ record x.config { has_timer = false }) × (y.threads ≡ x.threads) × (y.output ≡ x.output)

@@ -2,6 +2,7 @@
 #![tactic(auto)]
 
 mod builders;
+mod format_builders;
 mod hearing;
 mod layer;
 mod output;
