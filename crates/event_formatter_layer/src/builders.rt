@@ -146,6 +146,35 @@ impl<N: Drop, E: Drop, W: Drop> Layer<N, E, W> {
         }
     }
 
+    /// With the formatter of fields that the function makes of this one's.
+    pub fn map_fmt_fields<M: Drop, F: FnOnce(N) -> M>(self, map: F) -> Layer<M, E, W>
+        requires { F.pre map self.config.fields }
+        ensures fields { F.post map self.config.fields result.config.fields }
+        ensures config { result.config ≡ with_fields result.config.fields self.config }
+        ensures rest { (result.format ≡ self.format) × (result.threads ≡ self.threads) × (result.output ≡ self.output) }
+    {
+        let Layer {
+            alloc,
+            config,
+            format,
+            threads,
+            output,
+            ids,
+            busy,
+            idle,
+        } = self;
+        Layer {
+            alloc,
+            config: config.map_fields(map),
+            format,
+            threads,
+            output,
+            ids,
+            busy,
+            idle,
+        }
+    }
+
     /// With this maker, which takes the lines from now on.
     pub fn with_writer<V: Drop>(self, maker: V) -> Layer<N, E, V>
         ensures maker { result.output.maker ≡ maker }
@@ -168,6 +197,35 @@ impl<N: Drop, E: Drop, W: Drop> Layer<N, E, W> {
             format,
             threads,
             output: output.with_maker(maker),
+            ids,
+            busy,
+            idle,
+        }
+    }
+
+    /// With the maker that the function makes of this one's.
+    pub fn map_writer<V: Drop, F: FnOnce(W) -> V>(self, map: F) -> Layer<N, E, V>
+        requires { F.pre map self.output.maker }
+        ensures maker { F.post map self.output.maker result.output.maker }
+        ensures starved { result.output.starved ≡ self.output.starved }
+        ensures rest { (result.config ≡ self.config) × (result.format ≡ self.format) × (result.threads ≡ self.threads) }
+    {
+        let Layer {
+            alloc,
+            config,
+            format,
+            threads,
+            output,
+            ids,
+            busy,
+            idle,
+        } = self;
+        Layer {
+            alloc,
+            config,
+            format,
+            threads,
+            output: output.map_maker(map),
             ids,
             busy,
             idle,

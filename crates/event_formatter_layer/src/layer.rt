@@ -45,6 +45,24 @@ impl<N: Drop> Config<N> {
     }
 }
 
+impl<N> Config<N> {
+    /// The same with the formatter of fields that the function makes of this one's.
+    pub(crate) fn map_fields<M, F: FnOnce(N) -> M>(self, map: F) -> Config<M>
+        requires { F.pre map self.fields }
+        ensures fields { F.post map self.fields result.fields }
+        ensures rest { result ≡ with_fields result.fields self }
+    {
+        Config {
+            key: self.key,
+            fields: map(self.fields),
+            settings: self.settings,
+            span_events: self.span_events,
+            has_timer: self.has_timer,
+            log_internal_errors: self.log_internal_errors,
+        }
+    }
+}
+
 /// Writes a line for each event that it is told, and hands it to a maker.
 #[derive(Drop)]
 pub struct Layer<N, E, W> {

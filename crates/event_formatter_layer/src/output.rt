@@ -75,6 +75,19 @@ impl<W: Drop> Output<W> {
 }
 
 impl<W> Output<W> {
+    /// The same with the maker that the function makes of this one's.
+    pub(crate) fn map_maker<V, F: FnOnce(W) -> V>(self, map: F) -> Output<V>
+        requires { F.pre map self.maker }
+        ensures maker { F.post map self.maker result.maker }
+        ensures starved { result.starved ≡ self.starved }
+    {
+        Output {
+            maker: map(self.maker),
+            line: self.line,
+            starved: self.starved,
+        }
+    }
+
     /// Counts a text or a line that found no memory.
     pub(crate) fn miss(&mut self)
         ensures { self.new ≡ record self.old { starved = one_more self.old.starved } }
