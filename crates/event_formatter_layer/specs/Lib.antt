@@ -5,3 +5,4 @@ pub mod SpanEvents
 pub mod Hearing
 pub mod Told
 pub mod Builders
+pub mod Lending

@@ -1,8 +1,10 @@
 //! How a layer is made.
+ghost use Rattle.std.specs.Borrow.{sem};
 ghost use Rattle.std.specs.Prelude.{◌≡◌, [], ◌++◌, ◌∷◌, false, if◌then◌else◌, true};
 ghost use Rattle.std.specs.Result.{is_ok};
 ghost use Rattle.event_formatter_formats.specs.Parts.{default_parts};
 ghost use Rattle.event_formatter_layer.specs.Builders.{SameButLanes, no_span_events, with_fields};
+ghost use Rattle.event_formatter_layer.specs.Lending.{LendsMaker};
 ghost use Rattle.event_formatter_layer.specs.Threads.{plain_lane, plain_lanes};
 
 use crate::layer::{Config, Layer};
@@ -241,9 +243,10 @@ impl<N: Drop, E: Drop, W: Drop> Layer<N, E, W> {
 
     /// The maker that takes the lines, to be changed.
     pub fn writer_mut(&mut self) -> &mut W
-        ensures { result.now ≡ self.old.output.maker }
+        ensures lent { result.now ≡ self.old.output.maker }
+        ensures* ends { sem 𝓛 (LendsMaker N.row E.row W.row self.entry result) }
     {
-        &mut self.output.maker
+        self.output.maker_mut()
     }
 
     /// Sets whether lines, and the texts of spans that are made from now on, have styles.

@@ -1,7 +1,9 @@
 //! Where the lines of a layer go.
+ghost use Rattle.std.specs.Borrow.{sem};
 ghost use Rattle.std.specs.Prelude.{◌≡◌, ◌++◌, OnOk, string_bytes};
 ghost use Rattle.tracing_core_fields.specs.FieldSet.{field_names};
 ghost use Rattle.tracing_core_fields.specs.Metadata.{plain_metadata};
+ghost use Rattle.event_formatter_layer.specs.Lending.{LendsOwnMaker};
 ghost use Rattle.event_formatter_layer.specs.Lines.{HandsLine, Offers, before_fields, before_name, fault_if, fault_text, names_inside, one_more};
 
 use event_formatter_makers::MakeWriter;
@@ -75,6 +77,14 @@ impl<W: Drop> Output<W> {
 }
 
 impl<W> Output<W> {
+    /// The maker, to be changed.
+    pub(crate) fn maker_mut(&mut self) -> &mut W
+        ensures lent { result.now ≡ self.old.maker }
+        ensures* ends { sem 𝓛 (LendsOwnMaker W.row self.entry result) }
+    {
+        &mut self.maker
+    }
+
     /// The same with the maker that the function makes of this one's.
     pub(crate) fn map_maker<V, F: FnOnce(W) -> V>(self, map: F) -> Output<V>
         requires { F.pre map self.maker }
