@@ -267,7 +267,7 @@ impl<N: Drop, E: Drop, W: Drop> Layer<N, E, W> {
     pub fn with_ansi(mut self, ansi: bool) -> Layer<N, E, W>
         ensures { result ≡ record self { config = record self.config { settings = record self.config.settings { styles = ansi } } } }
     {
-        self.config.settings.styles = ansi;
+        self.set_ansi(ansi);
         self
     }
 
@@ -283,7 +283,7 @@ impl<N: Drop, E: Drop, W: Drop> Layer<N, E, W> {
     pub fn with_span_events(mut self, events: FmtSpan) -> Layer<N, E, W>
         ensures { result ≡ record self { config = record self.config { span_events = events } } }
     {
-        self.config.span_events = events;
+        self.set_span_events(events);
         self
     }
 

@@ -11,3 +11,6 @@ mod threads;
 mod told;
 
 pub use layer::Layer;
+
+#[cfg(test)]
+mod tests;
