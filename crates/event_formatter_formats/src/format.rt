@@ -9,7 +9,8 @@ ghost use Rattle.event_formatter_lines.specs.Json.{default_shape};
 ghost use Rattle.event_formatter_lines.specs.Pretty.{plain_place};
 ghost use Rattle.event_formatter_formats.specs.Contexts.{plain_context};
 ghost use Rattle.event_formatter_formats.specs.Parts.{default_parts};
-ghost use Rattle.event_formatter_formats.specs.Lines.{asked, head_with, line_behind, line_in, pretty_heading, pretty_place, with_styles};
+ghost use Rattle.event_formatter_formats.specs.Lines.{asked, head_with, line_behind, line_in};
+ghost use Rattle.event_formatter_formats.specs.Lines.{pretty_heading, pretty_place, with_styles};
 
 use crate::context::FmtContext;
 use crate::format_event::FormatEvent;
@@ -93,7 +94,8 @@ impl<F: Drop, T: Drop> Format<F, T> {
     /// In the pretty format, with the file and the line's number.
     pub fn pretty(self) -> Format<Pretty, T>
         ensures shape { result.shape.display_location ≡ true }
-        ensures rest { (result.timer ≡ self.timer) × (result.parts ≡ record self.parts { file = true; line_number = true }) × (result.ansi ≡ self.ansi) }
+        ensures parts { result.parts ≡ record self.parts { file = true; line_number = true } }
+        ensures rest { (result.timer ≡ self.timer) × (result.ansi ≡ self.ansi) }
     {
         self.with_source_location(true).with_shape(Pretty::new())
     }
@@ -133,7 +135,8 @@ impl<F: Drop, T: Drop> Format<F, T> {
 
     /// Without a time and the space behind it.
     pub fn without_time(self) -> Format<F, ()>
-        ensures { (result.shape ≡ self.shape) × (result.parts ≡ record self.parts { timestamp = false }) × (result.ansi ≡ self.ansi) }
+        ensures parts { result.parts ≡ record self.parts { timestamp = false } }
+        ensures rest { (result.shape ≡ self.shape) × (result.ansi ≡ self.ansi) }
     {
         let mut format = self.with_timer(());
         format.parts.timestamp = false;
@@ -198,7 +201,9 @@ impl<F: Drop, T: Drop> Format<F, T> {
 
     /// Sets whether the source file and the line in it are shown.
     pub fn with_source_location(mut self, display_location: bool) -> Format<F, T>
-        ensures { result ≡ record self { parts = record self.parts { file = display_location; line_number = display_location } } }
+        ensures { result ≡ record self {
+          parts = record self.parts { file = display_location; line_number = display_location };
+        } }
     {
         self.parts.file = display_location;
         self.parts.line_number = display_location;
@@ -209,7 +214,9 @@ impl<F: Drop, T: Drop> Format<F, T> {
 impl<T: Drop> Format<Json, T> {
     /// Sets whether the event's fields stand among the members of the line.
     pub fn flatten_event(mut self, flatten_event: bool) -> Format<Json, T>
-        ensures { result ≡ record self { shape = record self.shape { shape = record self.shape.shape { flatten_event = flatten_event } } } }
+        ensures { result ≡ record self {
+          shape = record self.shape { shape = record self.shape.shape { flatten_event = flatten_event } };
+        } }
     {
         self.shape = self.shape.flatten_event(flatten_event);
         self
@@ -217,7 +224,9 @@ impl<T: Drop> Format<Json, T> {
 
     /// Sets whether the innermost span is shown.
     pub fn with_current_span(mut self, display_current_span: bool) -> Format<Json, T>
-        ensures { result ≡ record self { shape = record self.shape { shape = record self.shape.shape { current_span = display_current_span } } } }
+        ensures { result ≡ record self {
+          shape = record self.shape { shape = record self.shape.shape { current_span = display_current_span } };
+        } }
     {
         self.shape = self.shape.with_current_span(display_current_span);
         self
@@ -225,7 +234,9 @@ impl<T: Drop> Format<Json, T> {
 
     /// Sets whether the list of spans is shown.
     pub fn with_span_list(mut self, display_span_list: bool) -> Format<Json, T>
-        ensures { result ≡ record self { shape = record self.shape { shape = record self.shape.shape { span_list = display_span_list } } } }
+        ensures { result ≡ record self {
+          shape = record self.shape { shape = record self.shape.shape { span_list = display_span_list } };
+        } }
     {
         self.shape = self.shape.with_span_list(display_span_list);
         self
