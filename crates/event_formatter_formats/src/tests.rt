@@ -66,7 +66,7 @@ fn fake_time(alloc: Global) -> Result<FixedText, Fail> {
     Ok(FixedText::new("fake time".to_string(alloc)?))
 }
 
-// Opens a root span, keeps the text of its fields, and enters it.
+// Opens a span in the lane's one, keeps the text of its fields, and enters it.
 fn enter_span(
     alloc: Global,
     registry: &mut Registry,
@@ -78,7 +78,7 @@ fn enter_span(
 ) -> Result<Id, Fail> {
     let set = FieldSet::new(names, Identifier(1));
     let metadata = Metadata::new(name, "app", Level::INFO, None, None, None, set, Kind::SPAN);
-    let attributes = Attributes::new_root(&metadata, metadata.fields().value_set_all(values));
+    let attributes = Attributes::new(&metadata, metadata.fields().value_set_all(values));
     let span = registry
         .new_span(&attributes, 0, passed)
         .ok()

@@ -1,4 +1,4 @@
-use Rattle.std.proofs.Common.{◌≡◌, ℕ, List, Option, ap, subst, sym, ◌∙◌, string_bytes}
+use Rattle.std.proofs.Common.{ℕ, List, Option, ap, subst, sym, ◌∙◌, string_bytes}
 use Rattle.tracing_core_requests.specs.PlainRequests.{plain_event}
 use Rattle.event_formatter_text.specs.Lists.{Formats}
 use Rattle.event_formatter_lines.specs.Compact.{compact_line}
