@@ -1,5 +1,5 @@
 -- Lines by what they are made of.
-use Rattle.std.proofs.Common.{◌≡◌, ℕ, Bool, true, false, List, Option, Some, None, Result, Ok, refl, ap, sym, ◌∙◌}
+use Rattle.std.proofs.Common.{◌≡◌, ℕ, Bool, true, false, List, Option, Some, None, Ok, refl, ap}
 use Rattle.event_formatter_formats.specs.Headings.{Shows}
 use Rattle.event_formatter_formats.specs.Lines.{asked}
 

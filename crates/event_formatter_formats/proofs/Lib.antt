@@ -1,2 +1,3 @@
 mod Heads
 mod Scopes
+mod Handing

@@ -10,7 +10,7 @@ use Rattle.span_registry_layers_store.specs.References.{PlainRef, ref_of, refs_o
 use Rattle.span_registry_layers_store.specs.Registries.{PlainSpan, RegistryValue, kin_in}
 use Rattle.span_registry_layers_store.specs.Spans.{found, is_member, line_of}
 use Rattle.span_registry_layers_store.specs.Views.{all_seen, entry_seen, first_of, latest_seen, one_or_none, seen, seen_if, sees}
-use Rattle.span_registry_layers_layers.specs.Contexts.{event_span, lane_span, scope_in, span_in}
+use Rattle.span_registry_layers_layers.specs.Contexts.{event_span, lane_span, span_in}
 use Rattle.span_registry_layers_layers.specs.Looks.{View}
 use Rattle.event_formatter_lines.specs.Shown.{PlainShown}
 use Rattle.event_formatter_formats.specs.Scopes.{only_if, refs_from, shown_at, shown_or_nothing, shown_scope, shown_span}

@@ -1,5 +1,6 @@
 -- What a line shows of the time and the thread of an event.
-use Rattle.std.specs.Prelude.{◌≡◌, ℕ, Bool, true, false, if◌then◌else◌, List, Option, Some, None, Result, Ok, Err, codes, unwrap_or}
+use Rattle.std.specs.Prelude.{◌≡◌, ℕ, Bool, true, false, if◌then◌else◌, List, codes}
+use Rattle.std.specs.Prelude.{Option, Some, None, Result, Ok, Err, unwrap_or}
 use Rattle.std.specs.declared.alloc.AllocError.{AllocError}
 use Rattle.event_formatter_times.specs.Threads.{padded_name, thread_id_text}
 use Rattle.event_formatter_formats.specs.Contexts.{PlainThread}

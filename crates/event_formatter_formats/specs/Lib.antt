@@ -1,6 +1,7 @@
 pub mod Parts
 pub mod Scopes
 pub mod Walks
+pub mod Handed
 pub mod Contexts
 pub mod Headings
 pub mod Lines

@@ -1,5 +1,5 @@
 -- The line of an event in each format.
-use Rattle.std.specs.Prelude.{ℕ, Bool, true, false, ◌&&◌, ◌||◌, not, if◌then◌else◌, List, Option, Some, None}
+use Rattle.std.specs.Prelude.{ℕ, Bool, true, false, ◌&&◌, ◌||◌, not, List, Option, Some, None}
 use Rattle.tracing_core_fields.specs.PlainMetadata.{PlainMetadata}
 use Rattle.tracing_core_requests.specs.PlainRequests.{PlainEvent, PlainValues}
 use Rattle.event_formatter_text.specs.Visitors.{pretty_text}

@@ -5,4 +5,12 @@ use Rattle.event_formatter_formats.specs.declared.parts.Parts.{Parts}
 -- time, level and target
 abbrev pub default_parts : Parts
 default_parts =
-    record { timestamp = true; level = true; target = true; thread_names = false; thread_ids = false; file = false; line_number = false }
+    record {
+      timestamp = true;
+      level = true;
+      target = true;
+      thread_names = false;
+      thread_ids = false;
+      file = false;
+      line_number = false;
+    }

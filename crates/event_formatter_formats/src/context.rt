@@ -1,12 +1,15 @@
 //! What is known of an event where its line is written.
 ghost use Rattle.std.specs.Prelude.{◌≡◌, is_some, map, string_bytes};
+ghost use Rattle.std.specs.Fn.{CalledAt};
 ghost use Rattle.std.specs.Option.{option_map};
 ghost use Rattle.tracing_core_fields.specs.Metadata.{plain_metadata};
 ghost use Rattle.span_registry_layers_store.specs.References.{plain_ref, scope_left};
-ghost use Rattle.span_registry_layers_layers.specs.Contexts.{current_told, lane_span, metadata_in, ref_in, scope_in, span_in};
+ghost use Rattle.span_registry_layers_layers.specs.Contexts.{current_told, lane_span, metadata_in};
+ghost use Rattle.span_registry_layers_layers.specs.Contexts.{ref_in, scope_in, span_in};
 ghost use Rattle.span_registry_layers_layers.specs.Looks.{view};
 ghost use Rattle.event_formatter_text.specs.Lists.{Formats};
 ghost use Rattle.event_formatter_formats.specs.Contexts.{plain_thread, spans_in};
+ghost use Rattle.event_formatter_formats.specs.Handed.{HandsEach, leaf_in, refs_at};
 ghost use Rattle.event_formatter_formats.specs.Scopes.{only_if, shown_at};
 
 use crate::scope::ScopedSpans;
@@ -26,6 +29,27 @@ pub struct CurrentThread<'a> {
     pub id: u64,
     /// How many bytes the longest name has that was met so far. Shorter names are filled up with spaces.
     pub longest: usize,
+}
+
+// Hands each of the spans that is seen to the closure, up to its first refusal, which is the answer.
+fn hand_each<E: Drop, F: FnMut(&SpanRef<'_>) -> Result<(), E>>(
+    context: &Context<'_>,
+    ids: &[Id],
+    mut f: F,
+) -> Result<(), E>
+    requires { F.IsAlwaysCallable f }
+    ensures { HandsEach (λ p span answer q. CalledAt F.FnMut p span answer q) (refs_at (view context.now) ids.now) f
+        result }
+{
+    let mut rest = ids;
+    while let Some((id, later)) = rest.split_first() {
+        rest = later;
+        let Some(span) = context.span(id) else {
+            continue;
+        };
+        f(&span)?;
+    }
+    Ok(())
 }
 
 /// What a format may ask where it writes the line of an event: the moment, the thread, the spans, and how fields are
@@ -81,6 +105,13 @@ impl<'c, 'r, N> FmtContext<'c, 'r, N> {
         self.thread
     }
 
+    // The ids of the spans that the event stands in, from the root on.
+    fn strict_ids(&self) -> &'c [Id]
+        ensures { result.now ≡ only_if self.now.has_scope self.now.ids.now }
+    {
+        if self.has_scope { self.ids } else { &[] }
+    }
+
     /// The spans that the event stands in, from the root on. There are none for a root event, nor where its parent was
     /// refused by the output's filter.
     pub fn strict_spans(&self) -> ScopedSpans<'c, 'r>
@@ -90,7 +121,7 @@ impl<'c, 'r, N> FmtContext<'c, 'r, N> {
         ScopedSpans {
             context: self.context,
             key: self.key,
-            ids: if self.has_scope { self.ids } else { &[] },
+            ids: self.strict_ids(),
         }
     }
 
@@ -149,6 +180,48 @@ impl<'c, 'r, N> FmtContext<'c, 'r, N> {
             ≡ option_map (scope_in v) (span_in v id.now) }
     {
         self.context.span_scope(id)
+    }
+
+    /// The innermost of the spans that the event stands in. There is none for a root event, nor where its parent was
+    /// refused by the output's filter.
+    #[tactic(auto, using(crate::proofs::Handing::last_is))]
+    pub fn parent_span(&self) -> Option<SpanRef<'_>>
+        ensures { let v = view self.now.context.now in option_map plain_ref result
+            ≡ option_map (ref_in v) (leaf_in v (only_if self.now.has_scope self.now.ids.now)) }
+    {
+        match self.strict_ids().last() {
+            None => None,
+            Some(id) => self.context.span(id),
+        }
+    }
+
+    /// The innermost of the spans that the event stands in and its ancestors, the nearest first, without those that the
+    /// filter refused.
+    pub fn event_scope(&self) -> Option<Scope<'_>>
+        ensures { let v = view self.now.context.now in option_map scope_left result
+            ≡ option_map (scope_in v) (leaf_in v (only_if self.now.has_scope self.now.ids.now)) }
+    {
+        match self.parent_span() {
+            None => None,
+            Some(span) => Some(span.scope()),
+        }
+    }
+
+    /// Hands each span that the event stands in to the closure, from the root on, up to its first refusal, which is the
+    /// answer.
+    ///
+    /// # Errors
+    ///
+    /// That of the closure.
+    pub fn visit_spans<E: Drop, F: FnMut(&SpanRef<'_>) -> Result<(), E>>(
+        &self,
+        f: F,
+    ) -> Result<(), E>
+        requires { F.IsAlwaysCallable f }
+        ensures { HandsEach (λ p span answer q. CalledAt F.FnMut p span answer q)
+            (refs_at (view self.now.context.now) (only_if self.now.has_scope self.now.ids.now)) f result }
+    {
+        hand_each(self.context, self.strict_ids(), f)
     }
 
     /// How fields are written.

@@ -1,31 +1,21 @@
 //! What a line shows of an event, and how.
-ghost use Rattle.std.specs.Prelude.{◌≡◌, false, true, Some, None, string_bytes};
-ghost use Rattle.std.specs.Option.{option_copied};
-ghost use Rattle.tracing_core_fields.specs.Metadata.{plain_metadata};
-ghost use Rattle.tracing_core_requests.specs.PlainRequests.{plain_event};
-ghost use Rattle.event_formatter_text.specs.Lists.{Formats};
-ghost use Rattle.event_formatter_lines.specs.Heads.{plain_head};
+ghost use Rattle.std.specs.Prelude.{◌≡◌, false, true, Some, None};
 ghost use Rattle.event_formatter_lines.specs.Json.{default_shape};
-ghost use Rattle.event_formatter_lines.specs.Pretty.{plain_place};
-ghost use Rattle.event_formatter_formats.specs.Contexts.{plain_context};
+ghost use Rattle.event_formatter_formats.specs.Lines.{line_in, with_styles};
 ghost use Rattle.event_formatter_formats.specs.Parts.{default_parts};
-ghost use Rattle.event_formatter_formats.specs.Lines.{asked, head_with, line_behind, line_in, pretty_heading, pretty_place, with_styles};
 
 use crate::context::FmtContext;
 use crate::format_event::FormatEvent;
 use crate::heading::{fill_id, fill_name, fill_time};
-use crate::line_format::{Compact, EventShape, Full, Json, LineFormat, Pretty};
+use crate::line::{head_with, push_line, shown, with_styles};
+use crate::line_format::{Compact, EventShape, Full, Json, Pretty};
 use crate::parts::Parts;
-use event_formatter_lines::{
-    Head, Place, Thread, push_compact_line, push_full_line, push_json_line, push_pretty_line,
-};
-use event_formatter_text::{FormatError, FormatFields, PrettyFields, Settings};
+use event_formatter_text::{FormatError, FormatFields, Settings};
 use event_formatter_times::{FormatTime, SystemTime};
 use std::alloc::Global;
-use tracing_core_fields::Metadata;
 use tracing_core_requests::Event;
 
-/// Writes lines in a format: the full one, the compact one or the pretty one, with the parts that are asked for.
+/// Writes lines in a format: the full, the compact, the pretty or the JSON one, with the parts that are asked for.
 ///
 /// It keeps the texts of the last time and the last thread, so that no line needs memory for them once they are there.
 #[derive(Drop)]
@@ -93,7 +83,8 @@ impl<F: Drop, T: Drop> Format<F, T> {
     /// In the pretty format, with the file and the line's number.
     pub fn pretty(self) -> Format<Pretty, T>
         ensures shape { result.shape.display_location ≡ true }
-        ensures rest { (result.timer ≡ self.timer) × (result.parts ≡ record self.parts { file = true; line_number = true }) × (result.ansi ≡ self.ansi) }
+        ensures parts { result.parts ≡ record self.parts { file = true; line_number = true } }
+        ensures rest { (result.timer ≡ self.timer) × (result.ansi ≡ self.ansi) }
     {
         self.with_source_location(true).with_shape(Pretty::new())
     }
@@ -133,7 +124,8 @@ impl<F: Drop, T: Drop> Format<F, T> {
 
     /// Without a time and the space behind it.
     pub fn without_time(self) -> Format<F, ()>
-        ensures { (result.shape ≡ self.shape) × (result.parts ≡ record self.parts { timestamp = false }) × (result.ansi ≡ self.ansi) }
+        ensures parts { result.parts ≡ record self.parts { timestamp = false } }
+        ensures rest { (result.shape ≡ self.shape) × (result.ansi ≡ self.ansi) }
     {
         let mut format = self.with_timer(());
         format.parts.timestamp = false;
@@ -198,7 +190,9 @@ impl<F: Drop, T: Drop> Format<F, T> {
 
     /// Sets whether the source file and the line in it are shown.
     pub fn with_source_location(mut self, display_location: bool) -> Format<F, T>
-        ensures { result ≡ record self { parts = record self.parts { file = display_location; line_number = display_location } } }
+        ensures { result ≡ record self {
+          parts = record self.parts { file = display_location; line_number = display_location };
+        } }
     {
         self.parts.file = display_location;
         self.parts.line_number = display_location;
@@ -209,7 +203,9 @@ impl<F: Drop, T: Drop> Format<F, T> {
 impl<T: Drop> Format<Json, T> {
     /// Sets whether the event's fields stand among the members of the line.
     pub fn flatten_event(mut self, flatten_event: bool) -> Format<Json, T>
-        ensures { result ≡ record self { shape = record self.shape { shape = record self.shape.shape { flatten_event = flatten_event } } } }
+        ensures { result ≡ record self {
+          shape = record self.shape { shape = record self.shape.shape { flatten_event = flatten_event } };
+        } }
     {
         self.shape = self.shape.flatten_event(flatten_event);
         self
@@ -217,7 +213,9 @@ impl<T: Drop> Format<Json, T> {
 
     /// Sets whether the innermost span is shown.
     pub fn with_current_span(mut self, display_current_span: bool) -> Format<Json, T>
-        ensures { result ≡ record self { shape = record self.shape { shape = record self.shape.shape { current_span = display_current_span } } } }
+        ensures { result ≡ record self {
+          shape = record self.shape { shape = record self.shape.shape { current_span = display_current_span } };
+        } }
     {
         self.shape = self.shape.with_current_span(display_current_span);
         self
@@ -225,165 +223,12 @@ impl<T: Drop> Format<Json, T> {
 
     /// Sets whether the list of spans is shown.
     pub fn with_span_list(mut self, display_span_list: bool) -> Format<Json, T>
-        ensures { result ≡ record self { shape = record self.shape { shape = record self.shape.shape { span_list = display_span_list } } } }
+        ensures { result ≡ record self {
+          shape = record self.shape { shape = record self.shape.shape { span_list = display_span_list } };
+        } }
     {
         self.shape = self.shape.with_span_list(display_span_list);
         self
-    }
-}
-
-// A text, where it is shown.
-fn shown(is_shown: bool, text: &str) -> Option<&str>
-    ensures { option_copied result ≡ asked is_shown (Some text.now) }
-{
-    if is_shown { Some(text) } else { None }
-}
-
-// What a line shows of an event beside its fields and spans, with these texts of the time and the thread.
-fn head_with<'a>(
-    parts: Parts,
-    time: Option<&'a str>,
-    thread_name: Option<&'a str>,
-    thread_id: Option<&'a str>,
-    metadata: &'a Metadata<'a>,
-) -> Head<'a>
-    ensures { plain_head result ≡ head_with parts (option_copied time.entry) (option_copied thread_name.entry)
-        (option_copied thread_id.entry) (plain_metadata metadata.now) }
-{
-    Head {
-        time,
-        level: if parts.level {
-            Some(*metadata.level())
-        } else {
-            None
-        },
-        thread_name,
-        thread_id,
-        target: shown(parts.target, metadata.target()),
-        file: if parts.file { metadata.file() } else { None },
-        line: if parts.line_number {
-            metadata.line()
-        } else {
-            None
-        },
-    }
-}
-
-// The settings, but for styles where the format has its own word on them.
-fn with_styles(ansi: Option<bool>, settings: Settings) -> Settings
-    ensures { result ≡ with_styles ansi settings }
-{
-    match ansi {
-        None => settings,
-        Some(styles) => Settings { styles, ..settings },
-    }
-}
-
-// The head of a pretty line: the line's number stands in it where the location is shown without a file.
-fn pretty_heading<'a>(pretty: Pretty, parts: Parts, head: &Head<'a>) -> Head<'a>
-    ensures { plain_head result ≡ pretty_heading pretty parts (plain_head head.now) }
-{
-    let shows_line = pretty.display_location && !parts.file;
-    Head {
-        time: head.time,
-        level: head.level,
-        thread_name: head.thread_name,
-        thread_id: head.thread_id,
-        target: head.target,
-        file: head.file,
-        line: if shows_line { head.line } else { None },
-    }
-}
-
-// What stands behind the fields of a pretty line.
-fn pretty_place<'a>(
-    pretty: Pretty,
-    parts: Parts,
-    name: Option<&'a str>,
-    head: &Head<'a>,
-) -> Place<'a>
-    ensures { plain_place result ≡ pretty_place pretty parts (option_copied name.entry) (plain_head head.now) }
-{
-    let thread = Thread {
-        name: if parts.thread_names { name } else { None },
-        id: head.thread_id,
-    };
-    Place {
-        file: if pretty.display_location {
-            head.file
-        } else {
-            None
-        },
-        line: head.line,
-        thread: if parts.thread_names || parts.thread_ids {
-            Some(thread)
-        } else {
-            None
-        },
-    }
-}
-
-// Appends the line of an event behind the head.
-fn push_line<N: FormatFields>(
-    alloc: Global,
-    out: &mut String,
-    settings: Settings,
-    shape: LineFormat,
-    parts: Parts,
-    head: &Head<'_>,
-    context: &FmtContext<'_, '_, N>,
-    event: &Event<'_, '_>,
-) -> Result<(), FormatError>
-    ensures { Formats (line_behind shape parts settings (plain_head head.now) (plain_context N.text_of context.now)
-        (plain_event event.now).values) (string_bytes out.old) result (string_bytes out.new) }
-{
-    match shape {
-        LineFormat::Full => {
-            let spans = context.strict_spans();
-            push_full_line(
-                alloc,
-                out,
-                settings,
-                head,
-                &spans,
-                context.field_format(),
-                event,
-            )
-        }
-        LineFormat::Compact => {
-            let loose = context.loose_spans();
-            let strict = context.strict_spans();
-            push_compact_line(
-                alloc,
-                out,
-                settings,
-                head,
-                &loose,
-                &strict,
-                context.field_format(),
-                event,
-            )
-        }
-        LineFormat::Pretty(pretty) => {
-            let heading = pretty_heading(pretty, parts, head);
-            let place = pretty_place(pretty, parts, context.thread().name, head);
-            let loose = context.loose_spans();
-            push_pretty_line(
-                alloc,
-                out,
-                settings,
-                &heading,
-                &place,
-                parts.target,
-                &loose,
-                &PrettyFields,
-                event,
-            )
-        }
-        LineFormat::Json(json) => {
-            let loose = context.loose_spans();
-            push_json_line(out, json.shape, head, &loose, event)
-        }
     }
 }
 

@@ -24,7 +24,8 @@ pub(crate) fn fill_time<T: FormatTime>(
     at: At,
 ) -> Result<bool, AllocError>
     ensures timer { (s : ℤ) (n : ℕ) → T.text_at timer.new s n ≡ T.text_at timer.old s n }
-    ensures text { Shows (time_shown parts (T.text_at timer.old at.seconds at.nanoseconds)) result (string_bytes out.new) }
+    ensures text { Shows (time_shown parts (T.text_at timer.old at.seconds at.nanoseconds)) result
+        (string_bytes out.new) }
 {
     out.clear();
     if !parts.timestamp {

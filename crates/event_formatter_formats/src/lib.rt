@@ -6,6 +6,7 @@ mod fields;
 mod format;
 mod format_event;
 mod heading;
+mod line;
 mod line_format;
 mod parts;
 mod scope;

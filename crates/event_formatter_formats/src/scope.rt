@@ -15,7 +15,8 @@ use std::alloc::AllocError;
 use tracing_core_fields::Id;
 use tracing_core_requests::Event;
 
-/// The spans of a scope, from the root on, by their ids. A span that isn't open, or that the filter refused, has no name.
+/// The spans of a scope, from the root on, by their ids. A span that isn't open, or that the filter refused, has no
+/// name.
 #[derive(Clone, Copy, Drop)]
 pub struct ScopedSpans<'c, 'r> {
     pub(crate) context: &'c Context<'r>,
@@ -120,9 +121,9 @@ fn fill_to(context: &Context<'_>, ids: &mut Vec<Id>, leaf: Option<Id>) -> Result
     Ok(())
 }
 
-/// Puts the ids of the spans that a line of the event may show, from the root on, in place of what the list held. Those are
-/// the span that the event stands in and its ancestors; where there is none, the lane's span and its ancestors. The answer
-/// tells whether the event stands in them.
+/// Puts the ids of the spans that a line of the event may show, from the root on, in place of what the list held.
+/// Those are the span that the event stands in and its ancestors; where there is none, the lane's span and its
+/// ancestors. The answer tells whether the event stands in them.
 ///
 /// # Errors
 ///
@@ -132,7 +133,8 @@ pub fn fill_scope(
     event: &Event<'_, '_>,
     ids: &mut Vec<Id>,
 ) -> Result<bool, AllocError>
-    ensures { IfOk result (λ stands_in. FillsScope (view context.now) (plain_event event.now).parent ids.new.items stands_in) }
+    ensures { IfOk result (λ stands_in.
+        FillsScope (view context.now) (plain_event event.now).parent ids.new.items stands_in) }
 {
     let stands_in = event_leaf(context, event);
     let leaf = loose_leaf(context, stands_in);

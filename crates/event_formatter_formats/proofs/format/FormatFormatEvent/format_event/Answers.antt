@@ -1,4 +1,4 @@
-use Rattle.std.proofs.Common.{◌≡◌, ℕ, List, Bool, Option, Some, ap, subst, sym, ◌∙◌, string_bytes}
+use Rattle.std.proofs.Common.{◌≡◌, ℕ, List, Bool, Option, Some, ap, subst, ◌∙◌, string_bytes}
 use Rattle.tracing_core_fields.specs.Metadata.{plain_metadata}
 use Rattle.tracing_core_requests.specs.PlainRequests.{plain_event}
 use Rattle.tracing_core_requests.specs.declared.at.At.{At}

@@ -1,4 +1,4 @@
-use Rattle.std.proofs.Common.{◌≡◌, ℕ, List, Option, ap, subst, sym, ◌∙◌, string_bytes}
+use Rattle.std.proofs.Common.{ℕ, List, Option, ap, subst, sym, ◌∙◌, string_bytes}
 use Rattle.tracing_core_requests.specs.PlainRequests.{plain_event}
 use Rattle.event_formatter_text.specs.Lists.{Formats}
 use Rattle.event_formatter_lines.specs.Compact.{compact_line}
@@ -8,7 +8,7 @@ use Rattle.event_formatter_lines.specs.Shown.{PlainShown}
 use Rattle.event_formatter_formats.specs.Contexts.{plain_context, spans_in}
 use Rattle.event_formatter_formats.specs.Lines.{line_behind}
 use Rattle.event_formatter_formats.specs.declared.line_format.LineFormat.{LineFormat}
-use Rattle.event_formatter_formats.proofs.format.push_line.Goals as goal
+use Rattle.event_formatter_formats.proofs.line.push_line.Goals as goal
 
 pub returns-in-Compact : goal.returns-in-Compact
 returns-in-Compact g c =

@@ -1,0 +1,67 @@
+use super::*;
+
+// A registry whose lane is in a span with two fields.
+fn in_json_span(alloc: Global) -> Result<Registry, Fail> {
+    let mut registry = Registry::new(alloc);
+    enter_span(
+        alloc,
+        &mut registry,
+        FilterMap::all(),
+        "json_span",
+        Fields::Json,
+        &["answer", "number"],
+        &[Some(AnyValue::I64(42)), Some(AnyValue::I64(3))],
+    )?;
+    Ok(registry)
+}
+
+fn json_message() -> [Option<AnyValue<'static>>; 2] {
+    [Some(AnyValue::Str("some json test")), None]
+}
+
+#[test]
+fn flattened_line(rt: HostRuntime) -> Result<(), Fail> {
+    let mut registry = in_json_span(rt.alloc())?;
+    let mut format = Format::new(rt.alloc())
+        .with_timer(fake_time(rt.alloc())?)
+        .json()
+        .flatten_event(true);
+    let line = line_of(
+        rt.alloc(),
+        &mut registry,
+        &mut format,
+        Fields::Json,
+        &json_message(),
+    )?;
+    assert_eq!(rt;
+        line.as_str(),
+        "{\"timestamp\":\"fake time\",\"level\":\"INFO\",\"message\":\"some json test\",\"target\":\"app\",\
+         \"span\":{\"answer\":42,\"number\":3,\"name\":\"json_span\"},\
+         \"spans\":[{\"answer\":42,\"number\":3,\"name\":\"json_span\"}]}\n"
+    );
+    Ok(())
+}
+
+#[test]
+fn line_without_spans(rt: HostRuntime) -> Result<(), Fail> {
+    let mut registry = in_json_span(rt.alloc())?;
+    let mut format = Format::new(rt.alloc())
+        .without_time()
+        .with_thread_ids(true)
+        .json()
+        .with_current_span(false)
+        .with_span_list(false);
+    let line = line_of(
+        rt.alloc(),
+        &mut registry,
+        &mut format,
+        Fields::Json,
+        &json_message(),
+    )?;
+    assert_eq!(rt;
+        line.as_str(),
+        "{\"level\":\"INFO\",\"fields\":{\"message\":\"some json test\"},\"target\":\"app\",\
+         \"threadId\":\"ThreadId(1)\"}\n"
+    );
+    Ok(())
+}
