@@ -32,5 +32,5 @@ pub use event_formatter_visitors::{
 };
 pub use shorthands::{format, json, layer, time, uptime};
 
-
-
+#[cfg(test)]
+mod tests;

@@ -22,7 +22,7 @@ pub fn json(alloc: Global) -> Format<Json, SystemTime>
     ensures shape { result.shape.shape ≡ default_shape }
     ensures parts { result.parts ≡ default_parts }
 {
-    Format::new(alloc).json()
+    format(alloc).json()
 }
 
 /// The timer that writes moments as `YYYY-MM-DDTHH:MM:SS.ffffffZ`.

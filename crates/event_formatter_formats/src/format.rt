@@ -48,8 +48,9 @@ impl Format<Full, SystemTime> {
 }
 
 impl<F: Drop, T: Drop> Format<F, T> {
-    // The same in another shape.
-    fn with_shape<G: Drop>(self, shape: G) -> Format<G, T>
+    /// In the shape that this one says. The parts that are shown stay as they are: of the pretty format's place,
+    /// [`with_source_location`](Format::with_source_location) asks for the file and the line.
+    pub fn with_shape<G: Drop>(self, shape: G) -> Format<G, T>
         ensures shape { result.shape ≡ shape }
         ensures rest { (result.timer ≡ self.timer) × (result.parts ≡ self.parts) × (result.ansi ≡ self.ansi) }
     {
