@@ -1,3 +1,4 @@
 mod Heads
 mod Scopes
 mod Handing
+mod Lent

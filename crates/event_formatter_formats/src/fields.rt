@@ -2,6 +2,7 @@
 ghost use Rattle.std.specs.Prelude.{[]};
 ghost use Rattle.event_formatter_formats.specs.FieldFormats.{added, started_text, text_of};
 
+use crate::line_format::Pretty;
 use event_formatter_text::{
     DefaultFields, FormatError, FormatFields, FormattedFields, JsonFields, PrettyFields,
     RecordFields, Settings, Writer,
@@ -13,8 +14,10 @@ use std::alloc::{AllocError, Global};
 pub enum Fields {
     /// `name=value`, a space between two.
     Default,
-    /// `name: value`, a comma and a space between two.
+    /// `name: value`, a comma and a space between two, also between two lists. See [`Pretty`].
     Pretty,
+    /// `name: value`, a comma and a space between two, and a space between two lists.
+    PrettyFields,
     /// One JSON object.
     Json,
 }
@@ -34,7 +37,8 @@ impl FormatFields for Fields {
     ) -> Result<(), FormatError> {
         match self {
             Fields::Default => DefaultFields.format_fields(alloc, writer, fields),
-            Fields::Pretty => PrettyFields.format_fields(alloc, writer, fields),
+            Fields::Pretty => Pretty::new().format_fields(alloc, writer, fields),
+            Fields::PrettyFields => PrettyFields.format_fields(alloc, writer, fields),
             Fields::Json => JsonFields.format_fields(alloc, writer, fields),
         }
     }
@@ -42,7 +46,8 @@ impl FormatFields for Fields {
     fn start(&self, alloc: Global, settings: Settings) -> Result<FormattedFields, AllocError> {
         match self {
             Fields::Default => DefaultFields.start(alloc, settings),
-            Fields::Pretty => PrettyFields.start(alloc, settings),
+            Fields::Pretty => Pretty::new().start(alloc, settings),
+            Fields::PrettyFields => PrettyFields.start(alloc, settings),
             Fields::Json => JsonFields.start(alloc, settings),
         }
     }
@@ -55,7 +60,8 @@ impl FormatFields for Fields {
     ) -> Result<(), FormatError> {
         match self {
             Fields::Default => DefaultFields.add_fields(alloc, current, fields),
-            Fields::Pretty => PrettyFields.add_fields(alloc, current, fields),
+            Fields::Pretty => Pretty::new().add_fields(alloc, current, fields),
+            Fields::PrettyFields => PrettyFields.add_fields(alloc, current, fields),
             Fields::Json => JsonFields.add_fields(alloc, current, fields),
         }
     }

@@ -9,6 +9,7 @@ mod heading;
 mod line;
 mod line_format;
 mod parts;
+mod pretty;
 mod scope;
 mod timer;
 

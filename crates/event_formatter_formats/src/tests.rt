@@ -1,6 +1,7 @@
 //! Lines of events in a registry.
 
 mod builders;
+mod fields;
 mod json;
 mod scopes;
 mod spans;

@@ -1,5 +1,5 @@
 mod Plain
-mod Visiting
+pub mod Visiting
 mod Lending
 mod Putting
 mod Keeping
