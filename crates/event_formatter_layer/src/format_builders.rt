@@ -4,7 +4,7 @@ ghost use Rattle.event_formatter_lines.specs.Json.{default_shape};
 ghost use Rattle.event_formatter_layer.specs.Builders.{SameButFormat, SameButTimer, with_fields};
 
 use crate::layer::Layer;
-use event_formatter_formats::{Compact, Format, Json};
+use event_formatter_formats::{Compact, Format, Json, Pretty};
 use event_formatter_text::JsonFields;
 
 impl<N: Drop, F: Drop, T: Drop, W: Drop> Layer<N, Format<F, T>, W> {
@@ -37,6 +37,19 @@ impl<N: Drop, F: Drop, T: Drop, W: Drop> Layer<N, Format<F, T>, W> {
         ensures rest { SameButFormat self result }
     {
         self.map_event_format(|format| format.compact())
+    }
+
+    /// In the pretty format, with the file and the line's number, and fields of spans as `name: value`.
+    pub fn pretty(self) -> Layer<Pretty, Format<Pretty, T>, W>
+        ensures shape { result.format.shape.display_location ≡ true }
+        ensures format { (result.format.timer ≡ self.format.timer)
+            × (result.format.parts ≡ record self.format.parts { file = true; line_number = true })
+            × (result.format.ansi ≡ self.format.ansi) }
+        ensures config { result.config ≡ with_fields result.config.fields self.config }
+        ensures rest { (result.threads ≡ self.threads) × (result.output ≡ self.output) }
+    {
+        self.map_event_format(|format| format.pretty())
+            .fmt_fields(Pretty::new())
     }
 
     /// In the JSON format, with fields of spans kept as JSON.
