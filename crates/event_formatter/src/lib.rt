@@ -22,13 +22,14 @@ pub use event_formatter_slots::{
 pub use event_formatter_text::{
     Alt, DefaultFields, DefaultVisitor, FormatError, FormatFields, FormattedFields, JsonFields,
     JsonVisitor, Messages, PrettyFields, PrettyVisitor, RecordFields, Settings, Writer,
+    sanitized_texts_are_harmless,
 };
 pub use event_formatter_times::{
     DateTime, FixedText, FormatTime, SystemTime, Uptime, push_duration,
 };
 pub use event_formatter_visitors::{
     Delimited, FieldClosure, FieldFn, FieldFnVisitor, MakeExt, MakeOutput, MakeVisitor,
-    VisitDelimited, VisitFmt, VisitOutput, WriteField, WritePiece, debug_fn,
+    VisitDelimited, VisitFmt, VisitOutput, VisitWrite, WriteField, WritePiece, debug_fn,
 };
 pub use shorthands::{format, json, layer, time, uptime};
 

@@ -45,6 +45,14 @@ impl Format<Full, SystemTime> {
             thread_id: String::new(alloc),
         }
     }
+
+    /// The same as [`Format::new`].
+    pub fn default(alloc: Global) -> Format<Full, SystemTime>
+        ensures parts { result.parts ≡ default_parts }
+        ensures ansi { result.ansi ≡ None }
+    {
+        Format::new(alloc)
+    }
 }
 
 impl<F: Drop, T: Drop> Format<F, T> {

@@ -3,6 +3,7 @@
 mod builders;
 mod fields;
 mod json;
+mod own;
 mod scopes;
 mod spans;
 mod threads;

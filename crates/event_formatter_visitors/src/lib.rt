@@ -1,12 +1,14 @@
 //! Makers of visitors, and visitors over other visitors.
 #![tactic(auto)]
 
+mod alt;
 mod closure;
 mod delimited;
 mod field_fn;
 mod field_formatter;
 mod make_visitor;
 mod makers;
+mod messages;
 mod outputs;
 mod target;
 mod visit_output;

@@ -1,11 +1,10 @@
-//! Makers of the visitors that write fields, and of visitors over others.
+//! Makers of the visitors that write fields.
 ghost use Rattle.std.specs.Prelude.{◌≡◌, true};
 ghost use Rattle.event_formatter_text.specs.Writers.{plainly};
 
 use crate::make_visitor::MakeVisitor;
 use event_formatter_text::{
-    Alt, DefaultFields, DefaultVisitor, JsonFields, JsonVisitor, Messages, PrettyFields,
-    PrettyVisitor, Writer,
+    DefaultFields, DefaultVisitor, JsonFields, JsonVisitor, PrettyFields, PrettyVisitor, Writer,
 };
 
 impl<'w> MakeVisitor<Writer<'w>> for DefaultFields {
@@ -36,25 +35,5 @@ impl<'w> MakeVisitor<Writer<'w>> for JsonFields {
 
     fn make_visitor(&self, target: Writer<'w>) -> JsonVisitor<'w> {
         JsonVisitor::new(target, true)
-    }
-}
-
-impl<T, M: MakeVisitor<T>> MakeVisitor<T> for Alt<M> {
-    type Visitor = Alt<M::Visitor>;
-
-    ghost makes = { λ maker target visitor. M.makes maker.0 target visitor.0 };
-
-    fn make_visitor(&self, target: T) -> Alt<M::Visitor> {
-        Alt::new(self.inner().make_visitor(target))
-    }
-}
-
-impl<T, M: MakeVisitor<T>> MakeVisitor<T> for Messages<M> {
-    type Visitor = Messages<M::Visitor>;
-
-    ghost makes = { λ maker target visitor. M.makes maker.0 target visitor.0 };
-
-    fn make_visitor(&self, target: T) -> Messages<M::Visitor> {
-        Messages::new(self.inner().make_visitor(target))
     }
 }
