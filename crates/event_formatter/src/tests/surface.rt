@@ -1,5 +1,39 @@
 use super::*;
-use tracing_core_fields::Visit;
+use tracing_core_fields::{DebugText, Field, Visit};
+
+// Writes the names of fields as bytes.
+#[derive(Drop)]
+struct Names {
+    bytes: Vec<u8>,
+}
+
+impl Visit for Names {
+    ghost use Rattle.std.specs.Prelude.{⊤};
+
+    type Error = FormatError;
+
+    ghost shows = { λ _ _ _ _ _. ⊤ };
+
+    fn record_debug(
+        &mut self,
+        field: &Field<'_>,
+        _value: &DebugText<'_>,
+    ) -> Result<(), FormatError> {
+        self.bytes.extend_from_slice(field.name().as_bytes())?;
+        Ok(())
+    }
+}
+
+impl VisitWrite for Names {
+    ghost use Rattle.std.specs.Prelude.{⊤};
+
+    ghost appends_bytes = { λ _ _ _ _. ⊤ };
+
+    fn write_all(&mut self, bytes: &[u8]) -> Result<(), FormatError> {
+        self.bytes.extend_from_slice(bytes)?;
+        Ok(())
+    }
+}
 
 // The values of the visitors below.
 fn values() -> [Option<AnyValue<'static>>; 2] {
@@ -33,6 +67,18 @@ fn surface_texts_between_fields(rt: HostRuntime) -> Result<(), Fail> {
     visitor.inner_mut().write_str("]")?;
     visitor.finish();
     assert_eq!(rt; out.as_str(), "[hi n=-3]");
+    Ok(())
+}
+
+#[test]
+fn surface_bytes_between_fields(rt: HostRuntime) -> Result<(), Fail> {
+    let set = FieldSet::new(&NAMES, Identifier(1));
+    let values = [None, Some(AnyValue::I64(-3))];
+    let bytes = Vec::new(rt.alloc());
+    let mut visitor = Alt::new(Names { bytes });
+    visitor.write_all(b"<")?;
+    set.value_set_all(&values).record(&mut visitor)?;
+    assert!(rt; visitor.inner().bytes.as_slice() == b"<n".as_slice());
     Ok(())
 }
 
