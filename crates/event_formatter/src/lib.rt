@@ -17,7 +17,7 @@ pub use event_formatter_makers::{
     MetadataTest, OptionalWriter, OrElse, Route, Tee, WithFilter, WithMaxLevel, WithMinLevel,
 };
 pub use event_formatter_slots::{
-    TimingStep, add_record, keep_new, kept_text, rekeeping_is_local, step_timings,
+    FirstText, TimingStep, add_record, keep_new, kept_text, rekeeping_is_local, step_timings,
 };
 pub use event_formatter_text::{
     Alt, DefaultFields, DefaultVisitor, FormatError, FormatFields, FormattedFields, JsonFields,

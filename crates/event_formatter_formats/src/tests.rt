@@ -87,7 +87,7 @@ fn enter_span(
     registry.enter(&span, 0).ok().ok_or("entered")?;
     let mut context = Context::new(registry, AT, None);
     let values = set.value_set_all(values);
-    if !keep_new(
+    let first = keep_new(
         alloc,
         &mut context,
         &span,
@@ -96,7 +96,8 @@ fn enter_span(
         &fields,
         &values,
         None,
-    ) {
+    );
+    if !first.is_whole() {
         return Err(Fail::from("kept"));
     }
     Ok(span)
