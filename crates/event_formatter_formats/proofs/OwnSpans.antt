@@ -3,7 +3,6 @@ use Rattle.std.proofs.Common.{◌≡◌, ◌<◌, ℕ, zero, suc, Bool, List, []
 use Rattle.std.specs.List.{last_or}
 use Rattle.std.specs.Option.{option_and_then}
 use Rattle.std.proofs.lemmas.List.{map-append, reverse-append}
-use Rattle.tracing_core_requests.specs.declared.requests.parent.Parent.{Parent}
 use Rattle.span_registry_layers_store.specs.References.{PlainRef, ref_of}
 use Rattle.span_registry_layers_store.specs.Registries.{PlainSpan, kin_in}
 use Rattle.span_registry_layers_store.specs.Spans.{ancestry, line_of, parent_of}
@@ -12,7 +11,7 @@ use Rattle.span_registry_layers_layers.specs.Contexts.{event_span, lane_span, sp
 use Rattle.span_registry_layers_layers.specs.Looks.{View}
 use Rattle.event_formatter_formats.specs.Handed.{IdsLeadBack, leaf_in, refs_at}
 use Rattle.event_formatter_formats.specs.Scopes.{only_if, refs_from}
-use Rattle.event_formatter_formats.specs.Walks.{FillsScope, id_of, id_of_ref}
+use Rattle.event_formatter_formats.specs.Walks.{id_of, id_of_ref}
 use Rattle.event_formatter_formats.proofs.Scopes.{IsShown, event_shown, map_reverse, map_twice, seen_again}
 
 module _ (v : View) where
