@@ -6,6 +6,7 @@ use Rattle.tracing_core_requests.specs.PlainRequests.{PlainAttributes, PlainEven
 use Rattle.tracing_core_requests.specs.declared.at.At.{At}
 use Rattle.span_registry_layers_store.specs.Registries.{RegistryValue}
 use Rattle.span_registry_layers_store.specs.declared.slot.Timings.{Timings}
+use Rattle.span_registry_layers_layers.specs.Contexts.{span_in}
 use Rattle.span_registry_layers_layers.specs.Looks.{View, seeing}
 use Rattle.event_formatter_text.specs.declared.format_fields.FormatFields.{Ghosts}
 use Rattle.event_formatter_text.specs.declared.settings.Settings.{Settings}
@@ -32,11 +33,16 @@ abbrev pub having_missed : {N E W : Type 0} → Bool → Layer N E W → Layer N
 having_missed true x = x
 having_missed false x = record x { output = record x.output { starved = one_more x.output.starved } }
 
+-- only of a span that is seen there is a text to miss
+abbrev pub MissesSeen : View → ℕ → Bool → Type 0
+MissesSeen v id whole = span_in v id ≡ None → whole ≡ true
+
 module _ {N E W : Type 0} (g : Ghosts N) where
   -- values were added to what is kept of the span, or to what spans start with; or there was no memory
   abbrev pub HearsRecord : Layer N E W → View → ℕ → PlainValues → RegistryValue → Layer N E W → Type 0
   HearsRecord x v id values left y =
       (whole : Bool)
+      × MissesSeen v id whole
       × Rekeeps v id x.config.key.0
       (kept_more whole (λ kept. g.added x.config.fields kept values) (g.started x.config.fields x.config.settings)
       (kept_in v id x.config.key.0)) left
@@ -48,6 +54,7 @@ module _ {N E W : Type 0} (g : Ghosts N) (line_of : E → Settings → PlainCont
   abbrev pub HearsNew : Layer N E W → View → ℕ → PlainAttributes → RegistryValue → Layer N E W → Type 0
   HearsNew x v id a left y =
       (text : FirstText)
+      × MissesSeen v id (is_whole text)
       × Rekeeps v id x.config.key.0
       (kept_first text (λ kept. g.added x.config.fields kept a.values) (g.started x.config.fields x.config.settings)
       (first_timings x v.at)) left
