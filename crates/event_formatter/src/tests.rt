@@ -1,5 +1,6 @@
 //! A request's lines in text for people and in JSON for machines, from one stack of two outputs of one type.
 
+mod memory;
 mod surface;
 
 use super::*;

@@ -39,7 +39,7 @@ impl<N: FormatFields, E: FormatEvent, W: MakeWriter> Layer<N, E, W> {
             (plain_attributes attributes.now) (left context.new) self.new }
     {
         let timings = self.first_timings(context.at());
-        let is_kept = keep_new(
+        let first = keep_new(
             self.alloc,
             context,
             span,
@@ -49,7 +49,7 @@ impl<N: FormatFields, E: FormatEvent, W: MakeWriter> Layer<N, E, W> {
             attributes,
             timings,
         );
-        if !is_kept {
+        if !first.is_whole() {
             self.output.miss();
         }
         self.tell_span_if(has_new(self.config.span_events), context, span, "new");
@@ -66,6 +66,7 @@ impl<N: FormatFields, E: FormatEvent, W: MakeWriter> Layer<N, E, W> {
             context,
             span,
             self.config.key,
+            self.config.settings,
             &self.config.fields,
             values,
         );
