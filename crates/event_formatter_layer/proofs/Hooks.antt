@@ -1,5 +1,5 @@
 -- Each hook of a layer as a notice.
-use Rattle.std.proofs.Common.{◌≡◌, ◌==◌, ℕ, Bool, true, false, List, Option, Some, None, Result, refl, ap, sym, ◌∙◌}
+use Rattle.std.proofs.Common.{◌≡◌, ◌==◌, ℕ, Bool, true, false, List, Option, Some, None, Result, refl, ◌∙◌}
 use Rattle.std.specs.Option.{option_map}
 use Rattle.std.specs.declared.io.Error.{Error}
 use Rattle.tracing_core_fields.specs.PlainMetadata.{PlainMetadata}
@@ -14,7 +14,6 @@ use Rattle.span_registry_layers_layers.specs.Notices.{Followed, Happened, Rename
 use Rattle.event_formatter_text.specs.declared.format_fields.FormatFields.{Ghosts}
 use Rattle.event_formatter_text.specs.declared.settings.Settings.{Settings}
 use Rattle.event_formatter_slots.specs.Kept.{is_whole}
-use Rattle.event_formatter_slots.specs.SteppedTimings.{kept_stepped}
 use Rattle.event_formatter_formats.specs.Contexts.{PlainContext}
 use Rattle.event_formatter_layer.specs.Hearing.{HearsClose, HearsEnter, HearsExit, HearsNew, HearsRecord, TellsCloseIf, having_missed}
 use Rattle.event_formatter_layer.specs.Layers.{TellsEvent}
