@@ -6,6 +6,7 @@ use Rattle.tracing_core_requests.specs.PlainRequests.{PlainAttributes, PlainEven
 use Rattle.tracing_core_requests.specs.declared.at.At.{At}
 use Rattle.span_registry_layers_store.specs.Registries.{RegistryValue}
 use Rattle.span_registry_layers_store.specs.declared.slot.Timings.{Timings}
+use Rattle.span_registry_layers_layers.specs.Contexts.{span_in}
 use Rattle.span_registry_layers_layers.specs.Looks.{View, seeing}
 use Rattle.event_formatter_text.specs.declared.format_fields.FormatFields.{Ghosts}
 use Rattle.event_formatter_text.specs.declared.settings.Settings.{Settings}
@@ -32,17 +33,19 @@ having_missed true x = x
 having_missed false x = record x { output = record x.output { starved = one_more x.output.starved } }
 
 module _ {N E W : Type 0} (g : Ghosts N) where
-  -- values were added to what is kept of the span, or there was no memory
+  -- values were added to what is kept of the span, or there was no memory; where nothing is kept, none is wanted
   abbrev pub HearsRecord : Layer N E W → View → ℕ → PlainValues → RegistryValue → Layer N E W → Type 0
   HearsRecord x v id values left y =
       (whole : Bool)
       × Rekeeps v id x.config.key.0
       (kept_more whole (λ kept. g.added x.config.fields kept values) (kept_in v id x.config.key.0)) left
       × SameLayer (having_missed whole x) y
+      × ((kept_in v id x.config.key.0).fields ≡ None → whole ≡ true)
 
 module _ {N E W : Type 0} (g : Ghosts N) (line_of : E → Settings → PlainContext → PlainEvent → Option (List ℕ))
     (writes : W → PlainMetadata → List ℕ → Result (Unit {0}) Error → W → Type 0) where
-  -- the span's first values are kept, or there was no memory; then its event is told, where that is asked for
+  -- the span's first values are kept, or there was no memory; then its event is told, where that is asked for; no memory is
+  -- wanted for a span that isn't seen
   abbrev pub HearsNew : Layer N E W → View → ℕ → PlainAttributes → RegistryValue → Layer N E W → Type 0
   HearsNew x v id a left y =
       (whole : Bool)
@@ -51,6 +54,7 @@ module _ {N E W : Type 0} (g : Ghosts N) (line_of : E → Settings → PlainCont
       (first_timings x v.at)) left
       × TellsSpanIf g.text_of line_of writes x.config.span_events.new (having_missed whole x) (seeing left v) id
       message_names (message_entries (codes "new")) y
+      × (span_in v id ≡ None → whole ≡ true)
 
   -- the timings go on to this moment; then the span's event is told, where that is asked for
   abbrev pub HearsStep : TimingStep → Bool → List ℕ → Layer N E W → View → ℕ → RegistryValue → Layer N E W → Type 0
