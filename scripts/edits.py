@@ -35,6 +35,12 @@ def end_of(lines, at, indent):
     return len(lines)
 
 
+def whole_head(lines, at):
+    """Returns the head that begins at this line without its indent, in one line: `rt fmt` breaks a long one before `for` or `where`."""
+    end = next((it for it in range(at, len(lines)) if "{" in lines[it]), at)
+    return " ".join(it.strip() for it in lines[at : end + 1])
+
+
 def functions(text):
     """Returns the first line, the line past the last, the name and the owner's head of each function."""
     lines, found, owners = text.split("\n"), [], []
@@ -42,7 +48,7 @@ def functions(text):
         owners = [it for it in owners if not line.startswith(f"{it[0]}}}")]
         owner = OWNER.match(line)
         if owner and not line.rstrip().endswith((";", "}")):
-            owners.append((owner[1], owner[2]))
+            owners.append((owner[1], whole_head(lines, at)))
         head = FUNCTION.match(line)
         if head:
             found.append((at, end_of(lines, at, head[1]), head[2], owners[-1][1] if owners else ""))

@@ -7,7 +7,7 @@ ghost use Rattle.event_formatter_layer.specs.Builders.{SameButLanes, no_span_eve
 ghost use Rattle.event_formatter_layer.specs.Lending.{LendsMaker};
 ghost use Rattle.event_formatter_layer.specs.Threads.{plain_lane, plain_lanes};
 
-use crate::layer::{Config, Layer};
+use crate::layer::{Config, Layer, Scratch};
 use crate::output::Output;
 use crate::threads::Threads;
 use event_formatter_formats::{Format, Full};
@@ -58,9 +58,11 @@ impl<W> Layer<DefaultFields, Format<Full, SystemTime>, W> {
                 line: String::new(alloc),
                 starved: 0,
             },
-            ids: Vec::new(alloc),
-            busy: String::new(alloc),
-            idle: String::new(alloc),
+            scratch: Scratch {
+                ids: Vec::new(alloc),
+                busy: String::new(alloc),
+                idle: String::new(alloc),
+            },
         }
     }
 }
@@ -71,25 +73,13 @@ impl<N: Drop, E: Drop, W: Drop> Layer<N, E, W> {
         ensures format { result.format ≡ format }
         ensures rest { (result.config ≡ self.config) × (result.threads ≡ self.threads) × (result.output ≡ self.output) }
     {
-        let Layer {
-            alloc,
-            config,
-            threads,
-            output,
-            ids,
-            busy,
-            idle,
-            ..
-        } = self;
         Layer {
-            alloc,
-            config,
+            alloc: self.alloc,
+            config: self.config,
             format,
-            threads,
-            output,
-            ids,
-            busy,
-            idle,
+            threads: self.threads,
+            output: self.output,
+            scratch: self.scratch,
         }
     }
 
@@ -99,25 +89,13 @@ impl<N: Drop, E: Drop, W: Drop> Layer<N, E, W> {
         ensures format { M.post map self.format result.format }
         ensures rest { (result.config ≡ self.config) × (result.threads ≡ self.threads) × (result.output ≡ self.output) }
     {
-        let Layer {
-            alloc,
-            config,
-            format,
-            threads,
-            output,
-            ids,
-            busy,
-            idle,
-        } = self;
         Layer {
-            alloc,
-            config,
-            format: map(format),
-            threads,
-            output,
-            ids,
-            busy,
-            idle,
+            alloc: self.alloc,
+            config: self.config,
+            format: map(self.format),
+            threads: self.threads,
+            output: self.output,
+            scratch: self.scratch,
         }
     }
 
@@ -126,25 +104,13 @@ impl<N: Drop, E: Drop, W: Drop> Layer<N, E, W> {
         ensures config { result.config ≡ with_fields fields self.config }
         ensures rest { (result.format ≡ self.format) × (result.threads ≡ self.threads) × (result.output ≡ self.output) }
     {
-        let Layer {
-            alloc,
-            config,
-            format,
-            threads,
-            output,
-            ids,
-            busy,
-            idle,
-        } = self;
         Layer {
-            alloc,
-            config: config.with_fields(fields),
-            format,
-            threads,
-            output,
-            ids,
-            busy,
-            idle,
+            alloc: self.alloc,
+            config: self.config.with_fields(fields),
+            format: self.format,
+            threads: self.threads,
+            output: self.output,
+            scratch: self.scratch,
         }
     }
 
@@ -155,25 +121,13 @@ impl<N: Drop, E: Drop, W: Drop> Layer<N, E, W> {
         ensures config { result.config ≡ with_fields result.config.fields self.config }
         ensures rest { (result.format ≡ self.format) × (result.threads ≡ self.threads) × (result.output ≡ self.output) }
     {
-        let Layer {
-            alloc,
-            config,
-            format,
-            threads,
-            output,
-            ids,
-            busy,
-            idle,
-        } = self;
         Layer {
-            alloc,
-            config: config.map_fields(map),
-            format,
-            threads,
-            output,
-            ids,
-            busy,
-            idle,
+            alloc: self.alloc,
+            config: self.config.map_fields(map),
+            format: self.format,
+            threads: self.threads,
+            output: self.output,
+            scratch: self.scratch,
         }
     }
 
@@ -183,25 +137,13 @@ impl<N: Drop, E: Drop, W: Drop> Layer<N, E, W> {
         ensures starved { result.output.starved ≡ self.output.starved }
         ensures rest { (result.config ≡ self.config) × (result.format ≡ self.format) × (result.threads ≡ self.threads) }
     {
-        let Layer {
-            alloc,
-            config,
-            format,
-            threads,
-            output,
-            ids,
-            busy,
-            idle,
-        } = self;
         Layer {
-            alloc,
-            config,
-            format,
-            threads,
-            output: output.with_maker(maker),
-            ids,
-            busy,
-            idle,
+            alloc: self.alloc,
+            config: self.config,
+            format: self.format,
+            threads: self.threads,
+            output: self.output.with_maker(maker),
+            scratch: self.scratch,
         }
     }
 
@@ -212,25 +154,13 @@ impl<N: Drop, E: Drop, W: Drop> Layer<N, E, W> {
         ensures starved { result.output.starved ≡ self.output.starved }
         ensures rest { (result.config ≡ self.config) × (result.format ≡ self.format) × (result.threads ≡ self.threads) }
     {
-        let Layer {
-            alloc,
-            config,
-            format,
-            threads,
-            output,
-            ids,
-            busy,
-            idle,
-        } = self;
         Layer {
-            alloc,
-            config,
-            format,
-            threads,
-            output: output.map_maker(map),
-            ids,
-            busy,
-            idle,
+            alloc: self.alloc,
+            config: self.config,
+            format: self.format,
+            threads: self.threads,
+            output: self.output.map_maker(map),
+            scratch: self.scratch,
         }
     }
 
@@ -251,7 +181,9 @@ impl<N: Drop, E: Drop, W: Drop> Layer<N, E, W> {
 
     /// Sets whether lines, and the texts of spans that are made from now on, have styles.
     pub fn set_ansi(&mut self, ansi: bool)
-        ensures { self.new ≡ record self.old { config = record self.old.config { settings = record self.old.config.settings { styles = ansi } } } }
+        ensures { self.new ≡ record self.old {
+          config = record self.old.config { settings = record self.old.config.settings { styles = ansi } };
+        } }
     {
         self.config.settings.styles = ansi;
     }
@@ -273,7 +205,9 @@ impl<N: Drop, E: Drop, W: Drop> Layer<N, E, W> {
 
     /// Sets whether characters that steer a terminal are written out in messages and in the texts of errors.
     pub fn with_ansi_sanitization(mut self, sanitizes: bool) -> Layer<N, E, W>
-        ensures { result ≡ record self { config = record self.config { settings = record self.config.settings { sanitizes = sanitizes } } } }
+        ensures { result ≡ record self {
+          config = record self.config { settings = record self.config.settings { sanitizes = sanitizes } };
+        } }
     {
         self.config.settings.sanitizes = sanitizes;
         self

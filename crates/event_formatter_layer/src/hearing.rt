@@ -39,13 +39,14 @@ impl<N: FormatFields, E: FormatEvent, W: MakeWriter> Layer<N, E, W> {
             (plain_attributes attributes.now) (left context.new) self.new }
     {
         let timings = self.first_timings(context.at());
+        let config = &self.config;
         let first = keep_new(
             self.alloc,
             context,
             span,
-            self.config.key,
-            self.config.settings,
-            &self.config.fields,
+            config.key,
+            config.settings,
+            &config.fields,
             attributes,
             timings,
         );

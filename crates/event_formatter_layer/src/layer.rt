@@ -63,6 +63,14 @@ impl<N> Config<N> {
     }
 }
 
+/// What is used again from line to line, so that no line needs memory for it once it is there.
+#[derive(Drop)]
+pub(crate) struct Scratch {
+    pub(crate) ids: Vec<Id>,
+    pub(crate) busy: String,
+    pub(crate) idle: String,
+}
+
 /// Writes a line for each event that it is told, and hands it to a maker.
 #[derive(Drop)]
 pub struct Layer<N, E, W> {
@@ -71,9 +79,7 @@ pub struct Layer<N, E, W> {
     pub(crate) format: E,
     pub(crate) threads: Threads,
     pub(crate) output: Output<W>,
-    pub(crate) ids: Vec<Id>,
-    pub(crate) busy: String,
-    pub(crate) idle: String,
+    pub(crate) scratch: Scratch,
 }
 
 impl<N: FormatFields, E: FormatEvent, W> Layer<N, E, W> {
@@ -84,18 +90,19 @@ impl<N: FormatFields, E: FormatEvent, W> Layer<N, E, W> {
         event: &Event<'_, '_>,
     ) -> Result<(), FormatError>
         ensures stays { SameMaking E.line_of self.old self.new }
-        ensures output { (self.new.threads ≡ self.old.threads) × (self.new.output.maker ≡ self.old.output.maker) × (self.new.output.starved ≡ self.old.output.starved) }
+        ensures output { (self.new.threads ≡ self.old.threads) × (self.new.output.maker ≡ self.old.output.maker)
+            × (self.new.output.starved ≡ self.old.output.starved) }
         ensures text { Formats (line_in_view N.text_of E.line_of self.old (view context.now) (plain_event event.now)) [] result
             (string_bytes self.new.output.line) }
     {
-        let has_scope = fill_scope(context, event, &mut self.ids)?;
+        let has_scope = fill_scope(context, event, &mut self.scratch.ids)?;
         let thread = self.threads.at(context.at().lane);
         let written = FmtContext::new(
             context,
             &self.config.fields,
             self.config.key,
             thread,
-            self.ids.as_slice(),
+            self.scratch.ids.as_slice(),
             has_scope,
         );
         self.output.line.clear();

@@ -148,14 +148,14 @@ impl<N: FormatFields, E: FormatEvent, W: MakeWriter> Layer<N, E, W> {
         ensures { TellsSpan N.text_of E.line_of W.writes self.old (view context.now) span.now close_names
             (close_entries timings.now) self.new }
     {
-        let mut busy = std::mem::replace(&mut self.busy, String::new(self.alloc));
-        let mut idle = std::mem::replace(&mut self.idle, String::new(self.alloc));
+        let mut busy = std::mem::replace(&mut self.scratch.busy, String::new(self.alloc));
+        let mut idle = std::mem::replace(&mut self.scratch.idle, String::new(self.alloc));
         match fill_durations(&mut busy, &mut idle, timings) {
             Ok(()) => self.tell_times(context, span, busy.as_str(), idle.as_str()),
             Err(_) => self.miss_span(context, span, timings),
         }
-        self.busy = busy;
-        self.idle = idle;
+        self.scratch.busy = busy;
+        self.scratch.idle = idle;
     }
 
     /// Writes the line of a close, with the timings where there are any.

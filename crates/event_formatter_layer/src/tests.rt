@@ -1,15 +1,18 @@
 //! What a layer writes of what it is told, through a registry.
 
+mod builders;
 mod faults;
+mod parts;
+mod setters;
 mod span_events;
 mod spans;
 mod threads;
 
 use super::*;
-use event_formatter_formats::{Format, Full};
+use event_formatter_formats::{Format, FormatEvent, Full};
 use event_formatter_lines::FmtSpan;
 use event_formatter_makers::MakeWriter;
-use event_formatter_text::DefaultFields;
+use event_formatter_text::{DefaultFields, FormatFields};
 use event_formatter_times::FixedText;
 use span_registry_layers_layers::{LayerExt, Layered, SubscriberExt};
 use span_registry_layers_store::{OutputKey, Registry};
@@ -156,7 +159,7 @@ fn tell_hi<S: Subscriber>(tree: &mut S) -> Result<(), Fail> {
 }
 
 // Whether the maker was handed just these lines.
-fn has_lines(layer: &Plain, lines: &[&str]) -> bool {
+fn has_lines<N: Drop, E: Drop>(layer: &Layer<N, E, Lines>, lines: &[&str]) -> bool {
     let written = layer.writer().lines.as_slice();
     if written.len() != lines.len() {
         return false;
@@ -167,4 +170,30 @@ fn has_lines(layer: &Plain, lines: &[&str]) -> bool {
         }
     }
     true
+}
+
+// Whether the layer writes just this of an event that has a place in the source and stands in a span with x = 42.
+fn writes<N: FormatFields + Drop, E: FormatEvent>(
+    alloc: Global,
+    layer: Layer<N, E, Lines>,
+    text: &str,
+) -> Result<bool, Fail> {
+    let tree = layer.with_subscriber(Registry::new(alloc));
+    let mut tree = tree.ok().ok_or("room")?;
+    enter_span(&mut tree, "s")?;
+    let fields = FieldSet::new(&NAMES, Identifier(2));
+    let metadata = Metadata::new(
+        "ev",
+        "app",
+        Level::INFO,
+        Some("src/a.rs"),
+        Some(7),
+        None,
+        fields,
+        Kind::EVENT,
+    );
+    let values = [Some(AnyValue::Str("hi")), Some(AnyValue::U64(3))];
+    let event = Event::new(&metadata, fields.value_set_all(&values));
+    tree.event(&event, moment(0))?;
+    Ok(has_lines(tree.layer(), &[text]))
 }

@@ -69,7 +69,9 @@ fn styles_stand_round_pieces(rt: HostRuntime) -> Result<(), Fail> {
         has_lines(
             tree.layer(),
             &[
-                "\u{1b}[2mfake time\u{1b}[0m \u{1b}[1ms\u{1b}[0m\u{1b}[1m{\u{1b}[0m\u{1b}[3mx\u{1b}[0m\u{1b}[2m=\u{1b}[0m42\u{1b}[1m}\u{1b}[0m\u{1b}[2m:\u{1b}[0m \u{1b}[2mapp\u{1b}[0m\u{1b}[2m:\u{1b}[0m hi \u{1b}[3mn\u{1b}[0m\u{1b}[2m=\u{1b}[0m3\n",
+                "\u{1b}[2mfake time\u{1b}[0m \u{1b}[1ms\u{1b}[0m\u{1b}[1m{\u{1b}[0m\
+                 \u{1b}[3mx\u{1b}[0m\u{1b}[2m=\u{1b}[0m42\u{1b}[1m}\u{1b}[0m\u{1b}[2m:\u{1b}[0m \
+                 \u{1b}[2mapp\u{1b}[0m\u{1b}[2m:\u{1b}[0m hi \u{1b}[3mn\u{1b}[0m\u{1b}[2m=\u{1b}[0m3\n",
             ]
         )
     );
