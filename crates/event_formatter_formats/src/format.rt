@@ -106,7 +106,7 @@ impl<F: Drop, T: Drop> Format<F, T> {
         self.with_shape(Json::new())
     }
 
-    /// With the time of this timer.
+    /// With the time of this timer. Whether a time is shown stays as it was.
     pub fn with_timer<U: Drop>(self, timer: U) -> Format<F, U>
         ensures timer { result.timer ≡ timer }
         ensures rest { (result.shape ≡ self.shape) × (result.parts ≡ self.parts) × (result.ansi ≡ self.ansi) }
