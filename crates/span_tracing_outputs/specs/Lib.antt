@@ -1,0 +1,6 @@
+pub mod Outs
+pub mod Heards
+pub mod Agreeing
+pub mod Turns
+pub mod StackFollows
+pub mod Pending

@@ -1,0 +1,11 @@
+//! Output machines: what each output of a trace keeps, and what a notice makes of it.
+#![tactic(auto)]
+
+mod laws;
+mod pending;
+
+pub use laws::{layer_follows, stack_follows};
+pub use pending::{PendingLine, PendingLines};
+
+#[cfg(test)]
+mod tests;
