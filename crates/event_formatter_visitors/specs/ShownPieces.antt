@@ -21,7 +21,8 @@ standing frame visitor =
     record { function = visitor.function.now; delimiter = visitor.delimiter.now; target = visitor.target.ghost_name; frame = frame visitor.target.now }
 
 -- the field's piece, behind the delimiter unless it is the first
-abbrev pub ShowsPiece : {F W : Type 0} → (W → List ℕ) → (W → Frame) → (F → Settings → List ℕ → PlainDebug → Option (List ℕ)) → PieceVisitor F W → PlainField → PlainDebug → Result (Unit {0}) FormatError → PieceVisitor F W → Type 0
+abbrev pub ShowsPiece : {F W : Type 0} → (W → List ℕ) → (W → Frame) →
+    (F → Settings → List ℕ → PlainDebug → Option (List ℕ)) → PieceVisitor F W → PlainField → PlainDebug → Result (Unit {0}) FormatError → PieceVisitor F W → Type 0
 ShowsPiece text frame piece before field value answer after =
     WrotePiece (λ v. text v.target.now) (λ v. v.is_empty) (standing frame) before.delimiter.now before
     (piece before.function.now (frame before.target.now).settings field.name value) answer after
