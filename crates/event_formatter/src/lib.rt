@@ -23,7 +23,7 @@ pub use event_formatter_slots::{
 pub use event_formatter_text::{
     Alt, DefaultFields, DefaultVisitor, FormatError, FormatFields, FormattedFields, JsonFields,
     JsonVisitor, Messages, PrettyFields, PrettyVisitor, RecordFields, Settings, Writer,
-    sanitized_texts_are_harmless,
+    messages_and_errors_are_harmless, sanitized_texts_are_harmless,
 };
 pub use event_formatter_times::{
     DateTime, FixedText, FormatTime, SystemTime, Uptime, push_duration,

@@ -59,7 +59,7 @@ pub appended : (values : PlainValues) (old : List ℕ) (name : GName) (given : W
     before.writer ≡ given → before.is_empty ≡ is_first → (name ≡ after.writer.out.ghost_name → final ≡ after.writer.out.now) → Visits TakesMembers values.callsite values.names values.entries before answer after →
     ExtendsWhole (members_of values) is_first old (told answer after.is_empty) (string_bytes final)
 appended values old name given before after is_first answer final named begun lent first tie visits =
-    let v = visited (λ v. written v.writer) (λ v. v.is_empty) (λ v. frame_of v.writer) (codes ",") (λ (f : Frame) n value. member_piece n value) visits in
+    let v = visited (λ v. written v.writer) (λ v. v.is_empty) (λ v. frame_of v.writer) (λ s. codes ",") (λ (f : Frame) n value. member_piece n value) visits in
     let ended : string_bytes final ≡ written after.writer = ap string_bytes (tie (sym (ap (λ f. f.text) v.0 ∙ ap (λ w. w.out.ghost_name) lent ∙ named))) in
     let fails : Bool = list_any (λ e. is_none (entry_piece member_piece values.names e)) values.entries in
     let pieces : List (List ℕ) = filter_map (entry_piece member_piece values.names) values.entries in

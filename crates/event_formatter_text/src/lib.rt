@@ -28,8 +28,8 @@ pub use formatted_fields::FormattedFields;
 pub use json_fields::JsonFields;
 pub use json_members::push_json_members;
 pub use laws::{
-    numbers_are_json, objects_are_json, sanitized_texts_are_harmless, texts_are_strings,
-    values_are_json,
+    messages_and_errors_are_harmless, numbers_are_json, objects_are_json,
+    sanitized_texts_are_harmless, texts_are_strings, values_are_json,
 };
 pub use pretty_fields::PrettyFields;
 pub use record_fields::RecordFields;

@@ -119,6 +119,7 @@ fn threads(rt: HostRuntime) -> Result<(), Fail> {
 }
 
 // A timer of a program's own: it writes the second alone.
+#[derive(Drop)]
 struct Seconds;
 
 impl FormatTime for Seconds {

@@ -1,2 +1,1 @@
 mod Beginning
-mod Visiting

@@ -10,7 +10,8 @@ use Rattle.event_formatter_text.specs.declared.visitors.pretty.PrettyVisitor.{Pr
 use Rattle.event_formatter_text.specs.declared.writer.Writer.{Writer}
 
 -- The text is appended to what was written. Whether the next field is the first one stays as it is.
-pub record Appends {V : Type 0} (writer : V → Writer) (is_empty : V → Bool) (before : V) (text : List ℕ) (answer : Result (Unit {0}) FormatError) (after : V) : Type 0 where
+pub record Appends {V : Type 0} (writer : V → Writer) (is_empty : V → Bool) (before : V) (text : List ℕ)
+    (answer : Result (Unit {0}) FormatError) (after : V) : Type 0 where
   pub keeps_frame : frame_of (writer after) ≡ frame_of (writer before)
   pub keeps_first : is_empty after ≡ is_empty before
   pub appended : Formats (Some text) (written (writer before)) answer (written (writer after))

@@ -1,10 +1,9 @@
 -- What a visitor does that writes pieces to a target.
-use Rattle.std.specs.Prelude.{◌≡◌, ℕ, List, false, Option, Result, OnOk}
-use Rattle.std.specs.Option.{option_map}
+use Rattle.std.specs.Prelude.{ℕ, List, Option, Result}
 use base.Fml.{GName}
 use Rattle.tracing_core_fields.specs.PlainDebug.{PlainDebug}
 use Rattle.tracing_core_fields.specs.PlainField.{PlainField}
-use Rattle.event_formatter_text.specs.Lists.{Formats, further}
+use Rattle.event_formatter_text.specs.Lists.{WrotePiece}
 use Rattle.event_formatter_text.specs.Visitors.{Frame}
 use Rattle.event_formatter_text.specs.declared.error.FormatError.{FormatError}
 use Rattle.event_formatter_text.specs.declared.settings.Settings.{Settings}
@@ -22,7 +21,8 @@ standing frame visitor =
     record { function = visitor.function.now; delimiter = visitor.delimiter.now; target = visitor.target.ghost_name; frame = frame visitor.target.now }
 
 -- the field's piece, behind the delimiter unless it is the first
-pub record ShowsPiece {F W : Type 0} (text : W → List ℕ) (frame : W → Frame) (piece : F → Settings → List ℕ → PlainDebug → Option (List ℕ)) (before : PieceVisitor F W) (field : PlainField) (value : PlainDebug) (answer : Result (Unit {0}) FormatError) (after : PieceVisitor F W) : Type 0 where
-  pub stands : standing frame after ≡ standing frame before
-  pub is_later : OnOk answer (after.is_empty ≡ false)
-  pub wrote : Formats (option_map (further before.delimiter.now before.is_empty) (piece before.function.now (frame before.target.now).settings field.name value)) (text before.target.now) answer (text after.target.now)
+abbrev pub ShowsPiece : {F W : Type 0} → (W → List ℕ) → (W → Frame) →
+    (F → Settings → List ℕ → PlainDebug → Option (List ℕ)) → PieceVisitor F W → PlainField → PlainDebug → Result (Unit {0}) FormatError → PieceVisitor F W → Type 0
+ShowsPiece text frame piece before field value answer after =
+    WrotePiece (λ v. text v.target.now) (λ v. v.is_empty) (standing frame) before.delimiter.now before
+    (piece before.function.now (frame before.target.now).settings field.name value) answer after

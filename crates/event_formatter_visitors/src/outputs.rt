@@ -1,5 +1,4 @@
 //! What the visitors that write fields come to, and texts between their fields.
-ghost use Rattle.std.specs.Prelude.{◌≡◌};
 
 use crate::visit_output::{VisitFmt, VisitOutput};
 use event_formatter_text::{DefaultVisitor, FormatError, JsonVisitor, PrettyVisitor};

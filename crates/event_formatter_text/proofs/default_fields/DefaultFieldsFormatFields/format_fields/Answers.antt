@@ -8,6 +8,6 @@ use Rattle.event_formatter_text.proofs.default_fields.DefaultFieldsFormatFields.
 
 pub returns-clause-text : goal.returns-clause-text
 returns-clause-text g c =
-    let v = visited (λ v. written v.writer) (λ v. v.is_empty) (λ v. frame_of v.writer) (codes " ") (λ s name value. default_piece s.settings name value) c.record.ensures in
+    let v = visited (λ v. written v.writer) (λ v. v.is_empty) (λ v. frame_of v.writer) (λ s. codes " ") (λ s name value. default_piece s.settings name value) c.record.ensures in
     let values = g.R.RecordFields.values c.args.fields.now in
     wrote_text (λ s b. pieces_text (codes " ") (default_piece s) b values.names values.entries) _ c.new-visitor.result.writer c.record.new.visitor.writer c.new-visitor.result.is_empty c.record.result _ c.new-visitor.ensures.writer c.new-visitor.ensures.empty c.writer-1.given.1 v.0 v.1
