@@ -1,5 +1,5 @@
 -- The spans that an event stands in, found again by the ids of its scope.
-use Rattle.std.proofs.Common.{◌≡◌, ◌<◌, ℕ, zero, suc, Bool, List, [], ◌∷◌, ◌++◌, map, reverse, Option, Some, None, IfSome, is_some, refl, sym, ap, ◌∙◌, append_assoc, arith}
+use Rattle.std.proofs.Common.{◌≡◌, ◌<◌, ℕ, zero, suc, Bool, List, [], ◌∷◌, ◌++◌, map, reverse, Option, Some, None, is_some, refl, sym, ap, ◌∙◌, append_assoc, arith}
 use Rattle.std.specs.List.{last_or}
 use Rattle.std.specs.Option.{option_and_then}
 use Rattle.std.proofs.lemmas.List.{map-append, reverse-append}
@@ -11,7 +11,7 @@ use Rattle.span_registry_layers_layers.specs.Contexts.{event_span, lane_span, sp
 use Rattle.span_registry_layers_layers.specs.Looks.{View}
 use Rattle.event_formatter_formats.specs.Handed.{IdsLeadBack, leaf_in, refs_at}
 use Rattle.event_formatter_formats.specs.Scopes.{only_if, refs_from}
-use Rattle.event_formatter_formats.specs.Walks.{id_of, id_of_ref}
+use Rattle.event_formatter_formats.specs.Walks.{HasNumber, id_of, id_of_ref}
 use Rattle.event_formatter_formats.proofs.Scopes.{IsShown, event_shown, map_reverse, map_twice, seen_again}
 
 module _ (v : View) where
@@ -84,7 +84,7 @@ module _ (v : View) where
       ∙ ap (option_and_then (span_in v)) (last_reversed s.kin.id later) ∙ is
 
   leads_by : (strict lane : Option PlainSpan) (ids : List ℕ) (stands_in : Bool) → IsShown v strict →
-      ids ≡ reverse (map id_of_ref (refs_from v (first_of strict lane))) → stands_in ≡ is_some strict → IfSome strict (λ (s : PlainSpan). 0 < s.kin.id) →
+      ids ≡ reverse (map id_of_ref (refs_from v (first_of strict lane))) → stands_in ≡ is_some strict → HasNumber strict →
       (leaf_in v (only_if stands_in ids) ≡ strict) × (refs_at v (only_if stands_in ids) ≡ reverse (refs_from v strict))
   leads_by None lane ids stands_in shown are told below =
       (ap (λ (b : Bool). leaf_in v (only_if b ids)) told, ap (λ (b : Bool). refs_at v (only_if b ids)) told)

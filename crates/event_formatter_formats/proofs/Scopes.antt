@@ -1,5 +1,5 @@
 -- How the spans of a scope are found again by their ids.
-use Rattle.std.proofs.Common.{◌≡◌, ℕ, List, [], ◌∷◌, ◌++◌, ◌==◌, Bool, true, false, map, reverse, Option, Some, None, is_some, refl, sym, ap, ◌∙◌, if◌then◌else◌}
+use Rattle.std.proofs.Common.{◌≡◌, ◌<◌, ℕ, List, [], ◌∷◌, ◌++◌, ◌==◌, Bool, true, false, map, reverse, Option, Some, None, IfSome, is_some, refl, sym, ap, subst, ◌∙◌, if◌then◌else◌}
 use Rattle.std.specs.Option.{option_map}
 use Rattle.std.proofs.lemmas.Bool.{eqb-true}
 use Rattle.std.proofs.lemmas.List.{map-append, reverse-append}
@@ -14,7 +14,7 @@ use Rattle.span_registry_layers_layers.specs.Contexts.{event_span, lane_span, sp
 use Rattle.span_registry_layers_layers.specs.Looks.{View}
 use Rattle.event_formatter_lines.specs.Shown.{PlainShown}
 use Rattle.event_formatter_formats.specs.Scopes.{only_if, refs_from, shown_at, shown_or_nothing, shown_scope, shown_span}
-use Rattle.event_formatter_formats.specs.Walks.{FillsScope, ShowsScope, first_id, id_of, id_of_ref, ids_from}
+use Rattle.event_formatter_formats.specs.Walks.{FillsScope, HasNumber, ShowsScope, first_id, id_of, id_of_ref, ids_from}
 
 found_here : (b : Bool) (x s : PlainSpan) (xs : List PlainSpan) (id : ℕ) → (x.kin.id == id) ≡ b → (found kin_in xs id ≡ Some s → s.kin.id ≡ id) →
     (if b then Some x else found kin_in xs id) ≡ Some s → s.kin.id ≡ id
@@ -150,3 +150,10 @@ filled v parent ids stands_in is are = (
       ∙ ap reverse (ids_by v (event_span v parent) (lane_span v) (event_shown v parent) (current_shown v)),
   ap is_some is ∙ is_there (event_span v parent),
 )
+
+numbered : (f : Option PlainSpan) → IfSome (option_map id_of f) (λ id. 0 < id) → HasNumber f
+numbered None is = tt
+numbered (Some s) is = is
+
+pub has_number : (f : Option PlainSpan) (stands_in : Option ℕ) → stands_in ≡ option_map id_of f → IfSome stands_in (λ id. 0 < id) → HasNumber f
+has_number f stands_in same is = numbered f (subst (λ (o : Option ℕ). IfSome o (λ id. 0 < id)) same is)

@@ -1,5 +1,5 @@
 -- The ids of a scope, and what they say of it.
-use Rattle.std.specs.Prelude.{◌≡◌, ℕ, List, [], Bool, map, reverse, Option, Some, None, is_some}
+use Rattle.std.specs.Prelude.{◌≡◌, ◌<◌, ℕ, List, [], Bool, map, reverse, Option, Some, None, IfSome, is_some}
 use Rattle.tracing_core_requests.specs.declared.requests.parent.Parent.{Parent}
 use Rattle.span_registry_layers_store.specs.References.{PlainRef}
 use Rattle.span_registry_layers_store.specs.Registries.{PlainSpan}
@@ -16,6 +16,10 @@ id_of_ref r = r.span.kin.id
 abbrev pub first_id : Option ℕ → Option ℕ → Option ℕ
 first_id None later = later
 first_id (Some id) later = Some id
+
+-- the span, where there is one, has a number other than 0
+abbrev pub HasNumber : Option PlainSpan → Type 0
+HasNumber f = IfSome f (λ s. 0 < s.kin.id)
 
 -- the ids of a span, where it is seen, and its ancestors, the nearest first
 abbrev pub ids_from : View → Option ℕ → List ℕ

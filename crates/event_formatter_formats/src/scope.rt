@@ -1,11 +1,11 @@
 //! The spans that a line shows, read from the registry.
-ghost use Rattle.std.specs.Prelude.{◌≡◌, ◌++◌, IfOk, OnOk, map, reverse};
+ghost use Rattle.std.specs.Prelude.{◌≡◌, ◌<◌, ◌++◌, IfOk, IfSome, OnOk, map, reverse};
 ghost use Rattle.std.specs.Option.{is_some, option_map};
 ghost use Rattle.tracing_core_requests.specs.PlainRequests.{plain_event};
 ghost use Rattle.span_registry_layers_layers.specs.Contexts.{event_span, lane_span, span_in};
 ghost use Rattle.span_registry_layers_layers.specs.Looks.{view};
 ghost use Rattle.event_formatter_formats.specs.Scopes.{refs_from, target_or_none};
-ghost use Rattle.event_formatter_formats.specs.Walks.{FillsScope, ShowsScope, first_id, id_of, id_of_ref, ids_from};
+ghost use Rattle.event_formatter_formats.specs.Walks.{FillsScope, HasNumber, ShowsScope, first_id, id_of, id_of_ref, ids_from};
 
 use event_formatter_lines::ShownSpans;
 use event_formatter_slots::kept_text;
@@ -99,7 +99,8 @@ fn loose_leaf(context: &Context<'_>, stands_in: Option<Id>) -> Option<Id>
 
 // The span that the event stands in, of those that are seen.
 fn event_leaf(context: &Context<'_>, event: &Event<'_, '_>) -> Option<Id>
-    ensures { result ≡ option_map id_of (event_span (view context.now) (plain_event event.now).parent) }
+    ensures span { result ≡ option_map id_of (event_span (view context.now) (plain_event event.now).parent) }
+    ensures number { IfSome result (λ id. 0 < id) }
 {
     match context.event_span(event) {
         None => None,
@@ -135,6 +136,7 @@ pub fn fill_scope(
 ) -> Result<bool, AllocError>
     ensures spans { IfOk result (λ stands_in.
         FillsScope (view context.now) (plain_event event.now).parent ids.new.items stands_in) }
+    ensures number { IfOk result (λ _. HasNumber (event_span (view context.now) (plain_event event.now).parent)) }
     ensures shown { IfOk result (λ stands_in.
         ShowsScope (view context.now) (plain_event event.now).parent ids.new.items stands_in) }
 {

@@ -1,6 +1,6 @@
 // Texts of spans for which there is no memory.
 use super::*;
-use span_registry_layers_layers::{LayerExt, SubscriberExt};
+use span_registry_layers_layers::{LayerExt, Layered, SubscriberExt};
 use span_registry_layers_store::Registry;
 use std::alloc::AllocError;
 use tracing_core_requests::{Record, Subscriber};
@@ -42,17 +42,23 @@ impl FormatFields for Starved {
     }
 }
 
-#[test]
-fn texts_without_memory_are_missed_alone(rt: HostRuntime) -> Result<(), Fail> {
+type Tree = Layered<Layer<Starved, Format<Full, SystemTime>, Lines>, Registry>;
+
+// A layer that tells closes, over a registry.
+fn starved_tree(alloc: Global) -> Result<Tree, Fail> {
     let lines = Lines {
-        alloc: rt.alloc(),
-        lines: Vec::new(rt.alloc()),
+        alloc,
+        lines: Vec::new(alloc),
     };
-    let layer = layer(rt.alloc(), OutputKey(1), lines)
+    let layer = layer(alloc, OutputKey(1), lines)
         .fmt_fields(Starved)
         .with_span_events(FmtSpan::CLOSE);
-    let tree = layer.with_subscriber(Registry::new(rt.alloc()));
-    let mut tree = tree.ok().ok_or("room")?;
+    let tree = layer.with_subscriber(Registry::new(alloc));
+    Ok(tree.ok().ok_or("room")?)
+}
+
+// Makes a span `request` with n = 7, and records the same once more.
+fn make_and_record<S: Subscriber>(tree: &mut S) -> Result<Id, Fail> {
     let fields = FieldSet::new(&NAMES, Identifier(1));
     let metadata = Metadata::new(
         "request",
@@ -67,8 +73,14 @@ fn texts_without_memory_are_missed_alone(rt: HostRuntime) -> Result<(), Fail> {
     let values = [None, Some(AnyValue::U64(7))];
     let attributes = Attributes::new(&metadata, fields.value_set_all(&values));
     let span = tree.new_span(&attributes, PLACE)?.ok_or("a span")?;
-    assert!(rt; tree.layer().starved() == 1);
     tree.record(&span, &Record::new(fields.value_set_all(&values)), PLACE)?;
+    Ok(span)
+}
+
+#[test]
+fn texts_without_memory_are_missed_alone(rt: HostRuntime) -> Result<(), Fail> {
+    let mut tree = starved_tree(rt.alloc())?;
+    let span = make_and_record(&mut tree)?;
     assert!(rt; tree.layer().starved() == 2);
     let last = At {
         nanoseconds: 5,
