@@ -6,3 +6,4 @@ pub mod Turns
 pub mod Rows
 pub mod Closing
 pub mod Stacks
+pub mod Folding

@@ -3,4 +3,5 @@ pub mod Heards
 pub mod Agreeing
 pub mod Turns
 pub mod StackFollows
+pub mod Plain
 pub mod Pending

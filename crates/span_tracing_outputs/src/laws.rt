@@ -2,6 +2,7 @@
 ghost use Rattle.std.specs.Prelude.{List};
 ghost use Rattle.span_tracing_outputs.specs.Agreeing.{KeepsLines, LayerFollows};
 ghost use Rattle.span_tracing_outputs.specs.Outs.{PlainLine};
+ghost use Rattle.span_tracing_outputs.specs.Plain.{FollowingFolds};
 ghost use Rattle.span_tracing_outputs.specs.StackFollows.{StackFollows};
 
 use crate::pending::PendingLines;
@@ -29,3 +30,9 @@ pub fn stack_follows<N: FormatFields + Drop, E: FormatEvent, F: Filter>()
 {
     layer_follows::<N, E, PendingLines>();
 }
+
+/// Outputs that go through their notices fold them: with some fates of their texts and lines, each agrees afterwards with
+/// what its output machine makes of its own notices, from whichever machine it agreed with before.
+pub fn outputs_fold<N: FormatFields, E: FormatEvent, F: Filter>()
+    ensures { FollowingFolds ⟦<N as FormatFields>⟧ E.line_of ⟦<F as Filter>⟧ }
+{}

@@ -4,7 +4,7 @@
 mod laws;
 mod pending;
 
-pub use laws::{layer_follows, stack_follows};
+pub use laws::{layer_follows, outputs_fold, stack_follows};
 pub use pending::{PendingLine, PendingLines};
 
 #[cfg(test)]
