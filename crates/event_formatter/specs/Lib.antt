@@ -1,4 +1,5 @@
 pub use Rattle.event_formatter_text.specs.Escapes
+pub use Rattle.event_formatter_text.specs.Steering
 pub use Rattle.event_formatter_text.specs.Styles
 pub use Rattle.event_formatter_text.specs.FieldTexts
 pub use Rattle.event_formatter_text.specs.JsonTexts
@@ -7,6 +8,8 @@ pub use Rattle.event_formatter_text.specs.IsJson
 pub use Rattle.event_formatter_text.specs.Kept
 pub use Rattle.event_formatter_text.specs.Lists
 pub use Rattle.event_formatter_text.specs.Members
+pub use Rattle.event_formatter_text.specs.Writers
+pub use Rattle.event_formatter_text.specs.Loans
 pub use Rattle.event_formatter_times.specs.Durations
 pub use Rattle.event_formatter_times.specs.SpanTimings
 pub use Rattle.event_formatter_times.specs.Threads as ThreadTexts

@@ -1,5 +1,8 @@
 //! A request's lines in text for people and in JSON for machines, from one stack of two outputs of one type.
 
+mod memory;
+mod surface;
+
 use super::*;
 use span_registry_layers_layers::Filtered;
 use span_registry_layers_stack::{Output, Stack};

@@ -2,3 +2,4 @@ mod Heads
 mod Scopes
 mod Handing
 mod Lent
+mod OwnSpans

@@ -14,7 +14,7 @@ use Rattle.span_registry_layers_layers.specs.Contexts.{event_span, lane_span, sp
 use Rattle.span_registry_layers_layers.specs.Looks.{View}
 use Rattle.event_formatter_lines.specs.Shown.{PlainShown}
 use Rattle.event_formatter_formats.specs.Scopes.{only_if, refs_from, shown_at, shown_or_nothing, shown_scope, shown_span}
-use Rattle.event_formatter_formats.specs.Walks.{FillsScope, first_id, id_of, id_of_ref, ids_from}
+use Rattle.event_formatter_formats.specs.Walks.{FillsScope, ShowsScope, first_id, id_of, id_of_ref, ids_from}
 
 found_here : (b : Bool) (x s : PlainSpan) (xs : List PlainSpan) (id : ℕ) → (x.kin.id == id) ≡ b → (found kin_in xs id ≡ Some s → s.kin.id ≡ id) →
     (if b then Some x else found kin_in xs id) ≡ Some s → s.kin.id ≡ id
@@ -35,12 +35,12 @@ passed mask None s same = same
 passed mask (Some t) s same = passed_by (sees mask t) t s same
 
 -- so it is seen by its own
-seen_again : (x : RegistryValue) (mask : Option ℕ) (id : ℕ) (s : PlainSpan) → seen x mask id ≡ Some s → seen x mask s.kin.id ≡ Some s
+pub seen_again : (x : RegistryValue) (mask : Option ℕ) (id : ℕ) (s : PlainSpan) → seen x mask id ≡ Some s → seen x mask s.kin.id ≡ Some s
 seen_again x mask id s same =
     ap (seen x mask) (found_id x.spans id s (passed mask (found kin_in x.spans id) s same)) ∙ same
 
 -- each span that an id of a list shows is shown by its own
-abbrev IsShown : View → Option PlainSpan → Type 0
+abbrev pub IsShown : View → Option PlainSpan → Type 0
 IsShown v f = (s : PlainSpan) → f ≡ Some s → span_in v s.kin.id ≡ Some s
 
 shown_one : (v : View) (key : ℕ) (f : Option PlainSpan) → IsShown v f →
@@ -66,13 +66,13 @@ shown_all v key (id ∷ ids) =
     ∙ sym (map-append as_it_is (map ref here) (map ref later))
     ∙ sym (ap (map as_it_is) (map-append ref here later))
 
-map_reverse : {A : Type 0} → {B : Type 0} (f : A → B) (xs : List A) → map f (reverse xs) ≡ reverse (map f xs)
+pub map_reverse : {A : Type 0} → {B : Type 0} (f : A → B) (xs : List A) → map f (reverse xs) ≡ reverse (map f xs)
 map_reverse f [] = refl
 map_reverse f (x ∷ xs) =
     ap (map f) (reverse-append (x ∷ []) xs) ∙ map-append f (reverse xs) (x ∷ []) ∙ ap (λ ys. ys ++ f x ∷ []) (map_reverse f xs)
     ∙ sym (reverse-append (f x ∷ []) (map f xs))
 
-map_twice : {A : Type 0} → {B : Type 0} → {C : Type 0} (f : A → B) (g : B → C) (xs : List A) → map g (map f xs) ≡ map (λ x. g (f x)) xs
+pub map_twice : {A : Type 0} → {B : Type 0} → {C : Type 0} (f : A → B) (g : B → C) (xs : List A) → map g (map f xs) ≡ map (λ x. g (f x)) xs
 map_twice f g [] = refl
 map_twice f g (x ∷ xs) = ap (λ ys. g (f x) ∷ ys) (map_twice f g xs)
 
@@ -107,7 +107,7 @@ lane_shown v (id ∷ earlier) =
 current_shown : (v : View) → IsShown v (lane_span v)
 current_shown v = lane_shown v (reverse (lane_at v.registry.lanes v.at.lane))
 
-event_shown : (v : View) (parent : Parent) → IsShown v (event_span v parent)
+pub event_shown : (v : View) (parent : Parent) → IsShown v (event_span v parent)
 event_shown v Root = λ s same. cc
 event_shown v Current = current_shown v
 event_shown v (Explicit id) = seen_again v.registry v.mask id
@@ -122,10 +122,31 @@ filled_by v key None None here there ids are = (ap (map (shown_at v key)) are, r
 filled_by v key None (Some s) here there ids are =
     (ap (map (shown_at v key)) are ∙ scope_shown v key s (there s refl), refl)
 
+pub shows : (v : View) (parent : Parent) (ids : List ℕ) (stands_in : Option ℕ) →
+    stands_in ≡ option_map id_of (event_span v parent) →
+    ids ≡ reverse (ids_from v (first_id stands_in (option_map id_of (lane_span v)))) →
+    ShowsScope v parent ids (is_some stands_in)
+shows v parent ids stands_in is are key =
+    rw is (filled_by v key (event_span v parent) (lane_span v) (event_shown v parent) (current_shown v) ids
+    (are ∙ ap (λ (leaf : Option ℕ). reverse (ids_from v (first_id leaf (option_map id_of (lane_span v))))) is))
+
+-- they are those of the spans themselves
+ids_by : (v : View) (strict lane : Option PlainSpan) → IsShown v strict → IsShown v lane →
+    ids_from v (first_id (option_map id_of strict) (option_map id_of lane)) ≡ map id_of_ref (refs_from v (first_of strict lane))
+ids_by v (Some s) lane here there = ap (λ (f : Option PlainSpan). map id_of_ref (refs_from v f)) (here s refl)
+ids_by v None (Some s) here there = ap (λ (f : Option PlainSpan). map id_of_ref (refs_from v f)) (there s refl)
+ids_by v None None here there = refl
+
+is_there : (f : Option PlainSpan) → is_some (option_map id_of f) ≡ is_some f
+is_there None = refl
+is_there (Some s) = refl
+
 pub filled : (v : View) (parent : Parent) (ids : List ℕ) (stands_in : Option ℕ) →
     stands_in ≡ option_map id_of (event_span v parent) →
     ids ≡ reverse (ids_from v (first_id stands_in (option_map id_of (lane_span v)))) →
     FillsScope v parent ids (is_some stands_in)
-filled v parent ids stands_in is are key =
-    rw is (filled_by v key (event_span v parent) (lane_span v) (event_shown v parent) (current_shown v) ids
-    (are ∙ ap (λ (leaf : Option ℕ). reverse (ids_from v (first_id leaf (option_map id_of (lane_span v))))) is))
+filled v parent ids stands_in is are = (
+  are ∙ ap (λ (leaf : Option ℕ). reverse (ids_from v (first_id leaf (option_map id_of (lane_span v))))) is
+      ∙ ap reverse (ids_by v (event_span v parent) (lane_span v) (event_shown v parent) (current_shown v)),
+  ap is_some is ∙ is_there (event_span v parent),
+)

@@ -1,12 +1,15 @@
 -- The spans that an event stands in, as a formatter asks for them.
-use Rattle.std.specs.Prelude.{◌≡◌, ℕ, List, [], ◌∷◌, Option, None, Result, Ok, Err}
+use Rattle.std.specs.Prelude.{◌≡◌, ◌<◌, ℕ, Bool, List, [], ◌∷◌, reverse, Option, None, IfSome, Result, Ok, Err}
 use Rattle.std.specs.List.{last_or}
 use Rattle.std.specs.Option.{option_and_then}
+use Rattle.tracing_core_requests.specs.declared.requests.parent.Parent.{Parent}
 use Rattle.span_registry_layers_store.specs.References.{PlainRef, plain_ref, refs_of}
 use Rattle.span_registry_layers_store.specs.Registries.{PlainSpan}
 use Rattle.span_registry_layers_store.specs.declared.span_ref.SpanRef.{SpanRef}
-use Rattle.span_registry_layers_layers.specs.Contexts.{span_in}
+use Rattle.span_registry_layers_layers.specs.Contexts.{event_span, span_in}
 use Rattle.span_registry_layers_layers.specs.Looks.{View}
+use Rattle.event_formatter_formats.specs.Scopes.{only_if, refs_from}
+use Rattle.event_formatter_formats.specs.Walks.{FillsScope}
 
 -- the span of the last id, where it is seen
 abbrev pub leaf_in : View → List ℕ → Option PlainSpan
@@ -25,3 +28,12 @@ pub data HandsEach {F E : Type 0} (calls : F → SpanRef → Result (Unit {0}) E
   refused : {s : PlainRef} {later : List PlainRef} {f left : F} {error : E} → (span : SpanRef) → plain_ref span ≡ s → calls f span (Err error) left → HandsEach calls (s ∷ later) f (Err error)
   -- a span was handed over, and then the others are
   handed : {s : PlainRef} {later : List PlainRef} {f next : F} {answer : Result (Unit {0}) E} → (span : SpanRef) → plain_ref span ≡ s → calls f span (Ok tt) next → HandsEach calls later next answer → HandsEach calls (s ∷ later) f answer
+
+-- the ids of an event's scope lead back to the spans that it stands in: to the innermost one, which has a number as each
+-- span has, and to all of them from the root on
+abbrev pub IdsLeadBack : Type 0
+IdsLeadBack =
+    (v : View) (parent : Parent) (ids : List ℕ) (stands_in : Bool) → FillsScope v parent ids stands_in →
+    IfSome (event_span v parent) (λ (s : PlainSpan). 0 < s.kin.id) →
+    (leaf_in v (only_if stands_in ids) ≡ event_span v parent)
+    × (refs_at v (only_if stands_in ids) ≡ reverse (refs_from v (event_span v parent)))

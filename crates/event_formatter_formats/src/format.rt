@@ -45,6 +45,14 @@ impl Format<Full, SystemTime> {
             thread_id: String::new(alloc),
         }
     }
+
+    /// The same as [`Format::new`].
+    pub fn default(alloc: Global) -> Format<Full, SystemTime>
+        ensures parts { result.parts ≡ default_parts }
+        ensures ansi { result.ansi ≡ None }
+    {
+        Format::new(alloc)
+    }
 }
 
 impl<F: Drop, T: Drop> Format<F, T> {
@@ -98,7 +106,7 @@ impl<F: Drop, T: Drop> Format<F, T> {
         self.with_shape(Json::new())
     }
 
-    /// With the time of this timer.
+    /// With the time of this timer. Whether a time is shown stays as it was.
     pub fn with_timer<U: Drop>(self, timer: U) -> Format<F, U>
         ensures timer { result.timer ≡ timer }
         ensures rest { (result.shape ≡ self.shape) × (result.parts ≡ self.parts) × (result.ansi ≡ self.ansi) }

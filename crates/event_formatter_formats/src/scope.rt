@@ -5,7 +5,7 @@ ghost use Rattle.tracing_core_requests.specs.PlainRequests.{plain_event};
 ghost use Rattle.span_registry_layers_layers.specs.Contexts.{event_span, lane_span, span_in};
 ghost use Rattle.span_registry_layers_layers.specs.Looks.{view};
 ghost use Rattle.event_formatter_formats.specs.Scopes.{refs_from, target_or_none};
-ghost use Rattle.event_formatter_formats.specs.Walks.{FillsScope, first_id, id_of, id_of_ref, ids_from};
+ghost use Rattle.event_formatter_formats.specs.Walks.{FillsScope, ShowsScope, first_id, id_of, id_of_ref, ids_from};
 
 use event_formatter_lines::ShownSpans;
 use event_formatter_slots::kept_text;
@@ -133,8 +133,10 @@ pub fn fill_scope(
     event: &Event<'_, '_>,
     ids: &mut Vec<Id>,
 ) -> Result<bool, AllocError>
-    ensures { IfOk result (λ stands_in.
+    ensures spans { IfOk result (λ stands_in.
         FillsScope (view context.now) (plain_event event.now).parent ids.new.items stands_in) }
+    ensures shown { IfOk result (λ stands_in.
+        ShowsScope (view context.now) (plain_event event.now).parent ids.new.items stands_in) }
 {
     let stands_in = event_leaf(context, event);
     let leaf = loose_leaf(context, stands_in);

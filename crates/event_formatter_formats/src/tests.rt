@@ -3,6 +3,7 @@
 mod builders;
 mod fields;
 mod json;
+mod own;
 mod scopes;
 mod spans;
 mod threads;
@@ -87,7 +88,7 @@ fn enter_span(
     registry.enter(&span, 0).ok().ok_or("entered")?;
     let mut context = Context::new(registry, AT, None);
     let values = set.value_set_all(values);
-    if !keep_new(
+    let first = keep_new(
         alloc,
         &mut context,
         &span,
@@ -96,7 +97,8 @@ fn enter_span(
         &fields,
         &values,
         None,
-    ) {
+    );
+    if !first.is_whole() {
         return Err(Fail::from("kept"));
     }
     Ok(span)

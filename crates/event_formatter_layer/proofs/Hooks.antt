@@ -1,5 +1,5 @@
 -- Each hook of a layer as a notice.
-use Rattle.std.proofs.Common.{◌≡◌, ◌==◌, ℕ, Bool, true, false, List, Option, Some, None, Result, refl, ap, sym, ◌∙◌}
+use Rattle.std.proofs.Common.{◌≡◌, ◌==◌, ℕ, Bool, true, false, List, Option, Some, None, Result, refl, ◌∙◌}
 use Rattle.std.specs.Option.{option_map}
 use Rattle.std.specs.declared.io.Error.{Error}
 use Rattle.tracing_core_fields.specs.PlainMetadata.{PlainMetadata}
@@ -13,7 +13,7 @@ use Rattle.span_registry_layers_layers.specs.Looks.{Closed, Entered, Exited, Rec
 use Rattle.span_registry_layers_layers.specs.Notices.{Followed, Happened, Renamed, Spanned}
 use Rattle.event_formatter_text.specs.declared.format_fields.FormatFields.{Ghosts}
 use Rattle.event_formatter_text.specs.declared.settings.Settings.{Settings}
-use Rattle.event_formatter_slots.specs.SteppedTimings.{kept_stepped}
+use Rattle.event_formatter_slots.specs.Kept.{is_whole}
 use Rattle.event_formatter_formats.specs.Contexts.{PlainContext}
 use Rattle.event_formatter_layer.specs.Hearing.{HearsClose, HearsEnter, HearsExit, HearsNew, HearsRecord, TellsCloseIf, having_missed}
 use Rattle.event_formatter_layer.specs.Layers.{TellsEvent}
@@ -54,11 +54,11 @@ module _ {N E W : Type 0} (g : Ghosts N) (line_of : E → Settings → PlainCont
   pub new_told : (x : Layer N E W) (v : View) (id own : ℕ) (a : PlainAttributes) (left : RegistryValue) (y : Layer N E W) →
       HearsNew g line_of writes x v id a left y → LayerTold g line_of writes x (Spanned id (SpanMade a own) v left) y
   new_told x v id own a left y h =
-      (if_config x.config.span_events.new (having_missed h.0 x) (seeing left v) id _ _ y h.2 ∙ missed_config h.0 x, h.1.1, h)
+      (if_config x.config.span_events.new (having_missed (is_whole h.0) x) (seeing left v) id _ _ y h.3 ∙ missed_config (is_whole h.0) x, h.2.1, h)
 
   pub record_told : (x : Layer N E W) (v : View) (id own : ℕ) (values : PlainValues) (left : RegistryValue) (y : Layer N E W) →
       HearsRecord g x v id values left y → LayerTold g line_of writes x (Spanned id (Recorded own values) v left) y
-  record_told x v id own values left y h = (h.2.0 ∙ missed_config h.0 x, h.1.1, h)
+  record_told x v id own values left y h = (h.3.0 ∙ missed_config h.0 x, h.2.1, h)
 
   pub enter_told : (x : Layer N E W) (v : View) (id own : ℕ) (left : RegistryValue) (y : Layer N E W) →
       HearsEnter g line_of writes x v id left y → LayerTold g line_of writes x (Spanned id (Entered own) v left) y

@@ -11,9 +11,10 @@ use Rattle.span_registry_layers_layers.specs.Looks.{View, seeing}
 use Rattle.event_formatter_text.specs.declared.format_fields.FormatFields.{Ghosts}
 use Rattle.event_formatter_text.specs.declared.settings.Settings.{Settings}
 use Rattle.event_formatter_times.specs.SpanTimings.{at_start}
-use Rattle.event_formatter_slots.specs.Kept.{fields_after, kept_first, kept_more}
+use Rattle.event_formatter_slots.specs.Kept.{is_whole, kept_first, kept_more}
 use Rattle.event_formatter_slots.specs.Rekeeping.{Rekeeps, kept_in}
 use Rattle.event_formatter_slots.specs.SteppedTimings.{kept_stepped}
+use Rattle.event_formatter_slots.specs.declared.first_text.FirstText.{FirstText}
 use Rattle.event_formatter_slots.specs.declared.timings.TimingStep.{TimingStep}
 use Rattle.event_formatter_slots.specs.declared.timings.TimingStep.TheVariants as step
 use Rattle.event_formatter_formats.specs.Contexts.{PlainContext}
@@ -32,29 +33,33 @@ abbrev pub having_missed : {N E W : Type 0} → Bool → Layer N E W → Layer N
 having_missed true x = x
 having_missed false x = record x { output = record x.output { starved = one_more x.output.starved } }
 
+-- only of a span that is seen there is a text to miss
+abbrev pub MissesSeen : View → ℕ → Bool → Type 0
+MissesSeen v id whole = span_in v id ≡ None → whole ≡ true
+
 module _ {N E W : Type 0} (g : Ghosts N) where
-  -- values were added to what is kept of the span, or there was no memory; where nothing is kept, none is wanted
+  -- values were added to what is kept of the span, or to what spans start with; or there was no memory
   abbrev pub HearsRecord : Layer N E W → View → ℕ → PlainValues → RegistryValue → Layer N E W → Type 0
   HearsRecord x v id values left y =
       (whole : Bool)
+      × MissesSeen v id whole
       × Rekeeps v id x.config.key.0
-      (kept_more whole (λ kept. g.added x.config.fields kept values) (kept_in v id x.config.key.0)) left
+      (kept_more whole (λ kept. g.added x.config.fields kept values) (g.started x.config.fields x.config.settings)
+      (kept_in v id x.config.key.0)) left
       × SameLayer (having_missed whole x) y
-      × ((kept_in v id x.config.key.0).fields ≡ None → whole ≡ true)
 
 module _ {N E W : Type 0} (g : Ghosts N) (line_of : E → Settings → PlainContext → PlainEvent → Option (List ℕ))
     (writes : W → PlainMetadata → List ℕ → Result (Unit {0}) Error → W → Type 0) where
-  -- the span's first values are kept, or there was no memory; then its event is told, where that is asked for; no memory is
-  -- wanted for a span that isn't seen
+  -- the span's first values are kept, as far as there was memory; then its event is told, where that is asked for
   abbrev pub HearsNew : Layer N E W → View → ℕ → PlainAttributes → RegistryValue → Layer N E W → Type 0
   HearsNew x v id a left y =
-      (whole : Bool)
+      (text : FirstText)
+      × MissesSeen v id (is_whole text)
       × Rekeeps v id x.config.key.0
-      (kept_first whole (fields_after (λ kept. g.added x.config.fields kept a.values) (g.started x.config.fields x.config.settings))
+      (kept_first text (λ kept. g.added x.config.fields kept a.values) (g.started x.config.fields x.config.settings)
       (first_timings x v.at)) left
-      × TellsSpanIf g.text_of line_of writes x.config.span_events.new (having_missed whole x) (seeing left v) id
+      × TellsSpanIf g.text_of line_of writes x.config.span_events.new (having_missed (is_whole text) x) (seeing left v) id
       message_names (message_entries (codes "new")) y
-      × (span_in v id ≡ None → whole ≡ true)
 
   -- the timings go on to this moment; then the span's event is told, where that is asked for
   abbrev pub HearsStep : TimingStep → Bool → List ℕ → Layer N E W → View → ℕ → RegistryValue → Layer N E W → Type 0

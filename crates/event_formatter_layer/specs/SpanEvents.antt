@@ -1,5 +1,5 @@
 -- The events of a span itself.
-use Rattle.std.specs.Prelude.{◌≡◌, ℕ, Bool, true, false, List, [], ◌∷◌, Option, Some, None, Result, codes}
+use Rattle.std.specs.Prelude.{ℕ, Bool, true, false, List, [], ◌∷◌, Option, Some, None, Result, codes}
 use Rattle.std.specs.Option.{option_map}
 use Rattle.std.specs.declared.io.Error.{Error}
 use Rattle.tracing_core_fields.specs.PlainDebug.{Written}

@@ -40,7 +40,7 @@ impl<N: FormatFields, E: FormatEvent, W: MakeWriter> Layer<N, E, W> {
     {
         let timings = self.first_timings(context.at());
         let config = &self.config;
-        let is_kept = keep_new(
+        let first = keep_new(
             self.alloc,
             context,
             span,
@@ -50,7 +50,7 @@ impl<N: FormatFields, E: FormatEvent, W: MakeWriter> Layer<N, E, W> {
             attributes,
             timings,
         );
-        if !is_kept {
+        if !first.is_whole() {
             self.output.miss();
         }
         self.tell_span_if(has_new(self.config.span_events), context, span, "new");
@@ -67,6 +67,7 @@ impl<N: FormatFields, E: FormatEvent, W: MakeWriter> Layer<N, E, W> {
             context,
             span,
             self.config.key,
+            self.config.settings,
             &self.config.fields,
             values,
         );

@@ -7,3 +7,5 @@ mod Lines
 mod SpanObjects
 mod Moments
 mod JsonLines
+mod KeptObjects
+mod Printed

@@ -54,6 +54,7 @@ pub(crate) fn in_five_places(level: Level) -> &'static str
 }
 
 /// Appends the level, where there is one, and a space.
+#[tactic(auto, unfolding(event_formatter_text::specs::Styles::styled))]
 pub(crate) fn push_level(
     out: &mut String,
     settings: Settings,
@@ -64,12 +65,16 @@ pub(crate) fn push_level(
     let Some(level) = level else {
         return Ok(());
     };
-    push_styled(
-        out,
-        settings,
-        level_start(level.as_str()),
-        in_five_places(level),
-    )?;
+    if settings.styles {
+        push_styled(
+            out,
+            settings,
+            level_start(level.as_str()),
+            in_five_places(level),
+        )?;
+    } else {
+        out.push_str(in_five_places(level))?;
+    }
     out.push(' ')
 }
 

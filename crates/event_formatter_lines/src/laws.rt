@@ -1,8 +1,9 @@
 //! Laws of the formats.
-ghost use Rattle.event_formatter_lines.specs.JsonLaws.{LinesAreJson, SpansExtendObjects};
+ghost use Rattle.event_formatter_lines.specs.JsonLaws.{JsonIsPrinted, KeepsObjects, LinesAreJson, LinesEndOnce, ObjectsAreKept, SpansExtendObjects};
 
 use event_formatter_text::{
-    numbers_are_json, objects_are_json, texts_are_strings, values_are_json,
+    FormatFields, JsonFields, numbers_are_json, objects_are_json, texts_are_strings,
+    values_are_json,
 };
 
 /// Where an object is kept of a span's fields, as `JsonFields` keeps it, the JSON format's object of the span is that
@@ -22,3 +23,22 @@ pub fn lines_are_json()
     values_are_json();
     numbers_are_json();
 }
+
+/// What `JsonFields` starts with is an object of JSON, and so is what it makes of an object by one more list of values,
+/// where numbers are in the ranges of their types. A span that shows the text of such an object keeps an object, as
+/// [`lines_are_json`] asks for.
+#[tactic(auto, using(crate::proofs::KeptObjects::objects_are_kept))]
+pub fn json_fields_keep_objects()
+    ensures objects { KeepsObjects ⟦<JsonFields as FormatFields>⟧ }
+    ensures shown { ObjectsAreKept }
+{
+    values_are_json();
+}
+
+/// No control character stands in JSON as it is written here, and in a line of the JSON format none but the newline at
+/// its end.
+#[tactic(auto, using(crate::proofs::Printed::json_is_printed, crate::proofs::Printed::lines_end_once))]
+pub fn json_lines_end_once()
+    ensures printed { JsonIsPrinted }
+    ensures line { LinesEndOnce }
+{}

@@ -17,7 +17,9 @@ pub use fmt_span::FmtSpan;
 pub use full::{push_full_head, push_full_line};
 pub use head::Head;
 pub use json::{JsonShape, push_json_line};
-pub use laws::{lines_are_json, spans_extend_objects};
+pub use laws::{
+    json_fields_keep_objects, json_lines_end_once, lines_are_json, spans_extend_objects,
+};
 pub use place::{Place, Thread};
 pub use pretty::push_pretty_line;
 pub use shown::ShownSpans;

@@ -7,6 +7,8 @@ use Rattle.span_registry_layers_store.specs.declared.slot.Tag.TheVariants as tag
 use Rattle.span_registry_layers_store.specs.declared.slot.Timings.{Timings}
 use Rattle.event_formatter_text.specs.Kept.{PlainFields}
 use Rattle.event_formatter_text.specs.declared.settings.Settings.{Settings}
+use Rattle.event_formatter_slots.specs.declared.first_text.FirstText.{FirstText}
+use Rattle.event_formatter_slots.specs.declared.first_text.FirstText.TheVariants as first
 
 -- what is kept of a span's fields, and how long the span was busy and idle
 pub record PlainKept : Type 0 where
@@ -69,11 +71,6 @@ kept_at key places =
 abbrev pub text_of : PlainKept → List ℕ
 text_of kept = unwrap_or (option_map (λ (fields : PlainFields). fields.text) kept.fields) []
 
--- what is kept of a new span; without memory that is nothing
-abbrev pub kept_first : Bool → PlainFields → Option Timings → PlainKept
-kept_first true fields timings = record { fields = Some fields; timings = timings }
-kept_first false fields timings = nothing_kept
-
 -- the fields once more values were added; values that can't be formatted change nothing
 abbrev pub fields_after : (PlainFields → Option PlainFields) → PlainFields → PlainFields
 fields_after added fields = unwrap_or (added fields) fields
@@ -83,7 +80,27 @@ abbrev pub AddsMore : (PlainFields → Option PlainFields) → PlainFields → B
 AddsMore added before true after = after ≡ fields_after added before
 AddsMore added before false after = after ≡ before
 
--- what is kept once values were recorded; without memory all stays
-abbrev pub kept_more : Bool → (PlainFields → Option PlainFields) → PlainKept → PlainKept
-kept_more true added kept = record kept { fields = option_map (fields_after added) kept.fields }
-kept_more false added kept = kept
+-- these fields and timings alone are kept, or nothing
+abbrev pub kept_alone : Bool → PlainFields → Option Timings → PlainKept
+kept_alone true fields timings = record { fields = Some fields; timings = timings }
+kept_alone false fields timings = nothing_kept
+
+abbrev pub is_whole : FirstText → Bool
+is_whole first.Whole = true
+is_whole first.Started = false
+is_whole first.Nothing = false
+
+-- what is kept of a new span: its first list and its timings; where there is no memory for the list, what spans start
+-- with in its place; nothing, where there is none for that either
+abbrev pub kept_first : FirstText → (PlainFields → Option PlainFields) → PlainFields → Option Timings → PlainKept
+kept_first first.Whole added started timings =
+    record { fields = Some (fields_after added started); timings = timings }
+kept_first first.Started added started timings = record { fields = Some started; timings = timings }
+kept_first first.Nothing added started timings = nothing_kept
+
+-- what is kept once values were recorded: they are added to the fields, or to what spans start with where none are
+-- kept; without memory all stays
+abbrev pub kept_more : Bool → (PlainFields → Option PlainFields) → PlainFields → PlainKept → PlainKept
+kept_more true added started kept =
+    record kept { fields = Some (fields_after added (unwrap_or kept.fields started)) }
+kept_more false added started kept = kept

@@ -1,36 +1,21 @@
 //! What is kept of a new span.
-ghost use Rattle.std.specs.Prelude.{◌≡◌, IfOk, None, true};
+ghost use Rattle.std.specs.Prelude.{◌≡◌, None, true};
 ghost use Rattle.span_registry_layers_layers.specs.Contexts.{span_in};
 ghost use Rattle.span_registry_layers_layers.specs.Looks.{SameLoan, left, view};
 ghost use Rattle.event_formatter_text.specs.Kept.{plain_fields};
 ghost use Rattle.event_formatter_slots.specs.ByTag.{Leaves, PutsTimings, by_tag};
-ghost use Rattle.event_formatter_slots.specs.Kept.{fields_after, kept_first};
+ghost use Rattle.event_formatter_slots.specs.Kept.{is_whole, kept_alone, kept_first};
 ghost use Rattle.event_formatter_slots.specs.Rekeeping.{Rekeeps};
 
+use crate::adding::add_list;
+use crate::first_text::FirstText;
 use crate::own_fields::put_fields;
 use crate::own_slots::{put, take};
-use event_formatter_text::{FormatError, FormatFields, FormattedFields, RecordFields, Settings};
+use event_formatter_text::{FormatFields, FormattedFields, RecordFields, Settings};
 use span_registry_layers_layers::Context;
 use span_registry_layers_store::{Extensions, OutputKey, Slot, Tag, Timings};
 use std::alloc::Global;
 use tracing_core_fields::Id;
-
-// What is kept of the fields of a span once its first list was added. A list that can't be formatted adds nothing.
-fn first_fields<F: FormatFields, R: RecordFields>(
-    alloc: Global,
-    settings: Settings,
-    formatter: &F,
-    fields: &R,
-) -> Result<FormattedFields, FormatError>
-    ensures { IfOk result (λ first. plain_fields first ≡ fields_after
-        (λ kept. F.added formatter.now kept (R.values fields.now)) (F.started formatter.now settings)) }
-{
-    let mut first = formatter.start(alloc, settings)?;
-    match formatter.add_fields(alloc, &mut first, fields) {
-        Ok(()) | Err(FormatError::Failed) => Ok(first),
-        Err(FormatError::OutOfMemory) => Err(FormatError::OutOfMemory),
-    }
-}
 
 // Keeps nothing of the fields and no timings.
 fn clear(slots: &mut Extensions, key: OutputKey)
@@ -50,13 +35,13 @@ fn put_timings(slots: &mut Extensions, key: OutputKey, timings: Option<Timings>)
 }
 
 // Keeps these alone, or nothing without memory, and answers which.
-fn keep_first(
+fn keep_alone(
     slots: &mut Extensions,
     key: OutputKey,
     fields: FormattedFields,
     timings: Option<Timings>,
 ) -> bool
-    ensures { Leaves (by_tag key.0 slots.old) (kept_first result (plain_fields fields) timings)
+    ensures { Leaves (by_tag key.0 slots.old) (kept_alone result (plain_fields fields) timings)
         (by_tag key.0 slots.new) }
 {
     clear(slots, key);
@@ -67,7 +52,7 @@ fn keep_first(
     kept
 }
 
-// Keeps what is made of the first list, and answers whether that found memory.
+// Keeps what is made of the first list, and answers how much of that found memory.
 fn keep_made<F: FormatFields, R: RecordFields>(
     alloc: Global,
     slots: &mut Extensions,
@@ -76,22 +61,28 @@ fn keep_made<F: FormatFields, R: RecordFields>(
     formatter: &F,
     fields: &R,
     timings: Option<Timings>,
-) -> bool
+) -> FirstText
     ensures { Leaves (by_tag key.0 slots.old)
-        (kept_first result (fields_after (λ kept. F.added formatter.now kept (R.values fields.now))
-        (F.started formatter.now settings)) timings) (by_tag key.0 slots.new) }
+        (kept_first result (λ kept. F.added formatter.now kept (R.values fields.now))
+        (F.started formatter.now settings) timings) (by_tag key.0 slots.new) }
 {
-    match first_fields(alloc, settings, formatter, fields) {
-        Ok(first) => keep_first(slots, key, first, timings),
-        Err(_) => {
-            clear(slots, key);
-            false
-        }
+    let Ok(mut kept) = formatter.start(alloc, settings) else {
+        clear(slots, key);
+        return FirstText::Nothing;
+    };
+    let is_added = add_list(alloc, &mut kept, formatter, fields);
+    if !keep_alone(slots, key, kept, timings) {
+        return FirstText::Nothing;
+    }
+    if is_added {
+        FirstText::Whole
+    } else {
+        FirstText::Started
     }
 }
 
-/// Keeps the fields of a span that was made, with its first list of values, and these timings, and answers whether that
-/// found memory. Without memory nothing is kept of the span. A list that can't be formatted adds nothing.
+/// Keeps the fields of a span that was made, with its first list of values, and these timings, and answers how much of
+/// that found memory. A list that can't be formatted adds nothing, and so does one whose text finds no memory.
 ///
 /// Whatever the output kept with the span before is replaced. Nothing happens where the context doesn't see the span.
 pub fn keep_new<F: FormatFields, R: RecordFields>(
@@ -103,15 +94,15 @@ pub fn keep_new<F: FormatFields, R: RecordFields>(
     formatter: &F,
     fields: &R,
     timings: Option<Timings>,
-) -> bool
+) -> FirstText
     ensures lent { SameLoan context.old context.new }
     ensures kept { Rekeeps (view context.old) span.now key.0
-        (kept_first result (fields_after (λ kept. F.added formatter.now kept (R.values fields.now))
-        (F.started formatter.now settings)) timings) (left context.new) }
-    ensures unseen { span_in (view context.old) span.now ≡ None → result ≡ true }
+        (kept_first result (λ kept. F.added formatter.now kept (R.values fields.now))
+        (F.started formatter.now settings) timings) (left context.new) }
+    ensures unseen { span_in (view context.old) span.now ≡ None → is_whole result ≡ true }
 {
     match context.extensions_mut(span) {
-        None => true,
+        None => FirstText::Whole,
         Some(slots) => keep_made(alloc, slots, key, settings, formatter, fields, timings),
     }
 }

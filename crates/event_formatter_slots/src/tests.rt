@@ -1,6 +1,7 @@
 //! What is kept with spans, written and read through contexts.
 
 mod fields;
+mod memory;
 mod timings;
 
 use super::*;

@@ -9,3 +9,5 @@ mod JsonStrings
 mod JsonObjects
 mod JsonNumbers
 mod JsonValues
+mod Steering
+mod SteeringFields

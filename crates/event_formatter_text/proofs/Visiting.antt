@@ -10,7 +10,7 @@ use Rattle.event_formatter_text.specs.Lists.{Formats, WrotePiece, entry_piece, f
 use Rattle.event_formatter_text.specs.declared.error.FormatError.{FormatError}
 use Rattle.event_formatter_text.specs.declared.error.FormatError.TheVariants.{Failed, OutOfMemory}
 
-nothing : (separator old : List ℕ) (is_first : Bool) → old ≡ old ++ joined separator is_first []
+pub nothing : (separator old : List ℕ) (is_first : Bool) → old ≡ old ++ joined separator is_first []
 nothing separator old true = sym (append-nil old)
 nothing separator old false = sym (append-nil old)
 
@@ -29,13 +29,15 @@ piece_then separator p true is_first rest old mid new (Err Failed) m f = tt
 piece_then separator p false is_first rest old mid new (Err OutOfMemory) m f = tt
 piece_then separator p true is_first rest old mid new (Err OutOfMemory) m f = tt
 
-taken_then : (separator : List ℕ) (o : Option (List ℕ)) (fails is_first : Bool) (rest : List (List ℕ)) (old mid new : List ℕ) (answer : Result (Unit {0}) FormatError) →
+-- a piece was written, and then the rest
+pub taken_then : (separator : List ℕ) (o : Option (List ℕ)) (fails is_first : Bool) (rest : List (List ℕ)) (old mid new : List ℕ) (answer : Result (Unit {0}) FormatError) →
     Formats (option_map (further separator is_first) o) old (Ok tt) mid → Formats (joined_unless separator false fails rest) mid answer new →
     Formats (joined_unless separator is_first (is_none o || fails) (cons_option o rest)) old answer new
 taken_then separator None fails is_first rest old mid new answer w f = absurd w
 taken_then separator (Some p) fails is_first rest old mid new answer w f = piece_then separator p fails is_first rest old mid new answer w f
 
-refused_at : (separator : List ℕ) (o : Option (List ℕ)) (fails is_first : Bool) (rest : List (List ℕ)) (old new : List ℕ) (error : FormatError) →
+-- a piece was refused
+pub refused_at : (separator : List ℕ) (o : Option (List ℕ)) (fails is_first : Bool) (rest : List (List ℕ)) (old new : List ℕ) (error : FormatError) →
     Formats (option_map (further separator is_first) o) old (Err error) new → Formats (joined_unless separator is_first (is_none o || fails) (cons_option o rest)) old (Err error) new
 refused_at separator None fails is_first rest old new Failed w = tt
 refused_at separator (Some p) fails is_first rest old new Failed w = absurd w

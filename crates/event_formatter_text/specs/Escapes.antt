@@ -51,6 +51,6 @@ written_char Quoted c = quoted_char c
 
 -- a byte of UTF-8 that a character has which is written out; others may have it too
 abbrev pub is_special : Escape → ℕ → Bool
-is_special Sanitized b = (b == 27) || ((b == 7) || ((b == 8) || ((b == 12) || ((b == 127) || (b == 194)))))
+is_special Sanitized b = nat_lt b 32 || ((b == 127) || (b == 194))
 is_special Json b = nat_lt b 32 || ((b == 34) || (b == 92))
 is_special Quoted b = nat_lt b 32 || ((b == 34) || ((b == 92) || ((b == 127) || (b == 194))))

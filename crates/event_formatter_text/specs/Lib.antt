@@ -1,4 +1,5 @@
 pub mod Escapes
+pub mod Steering
 pub mod Styles
 pub mod FieldTexts
 pub mod JsonTexts
@@ -6,6 +7,7 @@ pub mod JsonObjects
 pub mod Kept
 pub mod Lists
 pub mod Writers
+pub mod Loans
 pub mod Visitors
 pub mod Members
 pub mod GivenMembers

@@ -26,14 +26,7 @@ fn is_special(escape: Escape, byte: u8) -> bool
     ensures { result ≡ is_special escape byte }
 {
     match escape {
-        Escape::Sanitized => {
-            byte == 0x1b
-                || byte == 0x07
-                || byte == 0x08
-                || byte == 0x0c
-                || byte == 0x7f
-                || byte == 0xc2
-        }
+        Escape::Sanitized => byte < 0x20 || byte == 0x7f || byte == 0xc2,
         Escape::Json => byte < 0x20 || byte == b'"' || byte == b'\\',
         Escape::Quoted => {
             byte < 0x20 || byte == b'"' || byte == b'\\' || byte == 0x7f || byte == 0xc2
@@ -133,6 +126,7 @@ fn push_each(out: &mut String, escape: Escape, text: &str) -> Result<(), AllocEr
 }
 
 /// Appends the text with the characters of the escape written out.
+#[inline(always)]
 pub(crate) fn push_escaped(out: &mut String, escape: Escape, text: &str) -> Result<(), AllocError>
     ensures { OnOk result (string_bytes out.new ≡ string_bytes out.old ++ escaped (written_char escape) text.now) }
 {

@@ -7,6 +7,7 @@ ghost use Rattle.tracing_core_fields.specs.Quoted.{quoted};
 ghost use Rattle.std.specs.Option.{option_map};
 ghost use Rattle.event_formatter_text.specs.FieldTexts.{field_piece, is_message, label, mark, own_text, plain_name, separator, shown, shown_later, shown_list, sources_label, sources_text, truth_text, value_text};
 ghost use Rattle.event_formatter_text.specs.Lists.{Formats, further};
+ghost use Rattle.event_formatter_text.specs.Styles.{dimmed};
 
 use crate::error::FormatError;
 use crate::escape::{push_quoted, push_sanitized};
@@ -25,29 +26,34 @@ pub(crate) enum Punctuation {
     Pretty,
 }
 
-impl Punctuation {
-    /// What stands between two fields.
-    pub(crate) fn separator(self) -> &'static str
-        ensures { result.now ≡ separator self }
-    {
-        match self {
-            Punctuation::Default => " ",
-            Punctuation::Pretty => ", ",
-        }
+// Appends what stands between two fields. Each text is pushed by itself, which is cheaper than one of an unknown length.
+#[inline(always)]
+fn push_separator(out: &mut String, punctuation: Punctuation) -> Result<(), AllocError>
+    ensures { OnOk result (string_bytes out.new ≡ string_bytes out.old ++ separator punctuation) }
+{
+    match punctuation {
+        Punctuation::Default => out.push_str(" "),
+        Punctuation::Pretty => out.push_str(", "),
     }
+}
 
-    // What stands between a field's name and its value.
-    fn mark(self) -> &'static str
-        ensures { result.now ≡ mark self }
-    {
-        match self {
-            Punctuation::Default => "=",
-            Punctuation::Pretty => ": ",
-        }
+// Appends what stands between a field's name and its value.
+#[inline(always)]
+fn push_mark(
+    out: &mut String,
+    settings: Settings,
+    punctuation: Punctuation,
+) -> Result<(), AllocError>
+    ensures { OnOk result (string_bytes out.new ≡ string_bytes out.old ++ dimmed settings (mark punctuation)) }
+{
+    match punctuation {
+        Punctuation::Default => push_dimmed(out, settings, "="),
+        Punctuation::Pretty => push_dimmed(out, settings, ": "),
     }
 }
 
 /// Whether it is the name of a message.
+#[inline(always)]
 pub(crate) fn is_message(name: &str) -> bool
     ensures { result ≡ is_message name.now }
 {
@@ -129,7 +135,7 @@ pub(crate) fn push_label(
         return Ok(());
     }
     push_italic(out, settings, plain_name(name))?;
-    push_dimmed(out, settings, punctuation.mark())
+    push_mark(out, settings, punctuation)
 }
 
 // Appends a text that was written before.
@@ -172,7 +178,7 @@ fn push_sources_label(
 {
     push_italic(out, settings, plain_name(name))?;
     push_italic(out, settings, ".sources")?;
-    push_dimmed(out, settings, punctuation.mark())
+    push_mark(out, settings, punctuation)
 }
 
 // Appends what stands behind an error's text.
@@ -189,7 +195,7 @@ fn push_sources(
     let [_, ..] = sources else {
         return Ok(());
     };
-    out.push_str(punctuation.separator())?;
+    push_separator(out, punctuation)?;
     push_sources_label(out, settings, punctuation, name)?;
     out.push('[')?;
     push_shown_list(out, settings, sources)?;
@@ -260,7 +266,7 @@ pub(crate) fn push_field(
         return Err(FormatError::Failed);
     }
     if !is_first {
-        out.push_str(punctuation.separator())?;
+        push_separator(out, punctuation)?;
     }
     push_label(out, settings, punctuation, name)?;
     push_value(out, settings, punctuation, name, value)?;

@@ -1,9 +1,13 @@
 //! The texts of spans' fields, as they are kept.
-ghost use Rattle.std.specs.Prelude.{◌≡◌, ◌++◌, [], IfOk, Some, if◌then◌else◌, map, string_bytes};
+ghost use Rattle.std.specs.Prelude.{◌≡◌, ◌++◌, [], IfOk, Some, false, if◌then◌else◌, map, string_bytes, true};
+ghost use Rattle.std.specs.Borrow.{sem};
 ghost use Rattle.std.specs.Result.{is_ok};
 ghost use Rattle.event_formatter_text.specs.Kept.{plain_fields, space_behind};
+ghost use Rattle.event_formatter_text.specs.Loans.{LendsKept};
+ghost use Rattle.event_formatter_text.specs.Writers.{settings_of, written};
 
 use crate::settings::Settings;
+use crate::writer::Writer;
 use std::alloc::{AllocError, Global};
 use std::fmt;
 
@@ -26,6 +30,17 @@ impl FormattedFields {
             words: Vec::new(alloc),
             settings,
         }
+    }
+
+    /// No text and no words, to be written as a new [`Writer`] writes.
+    pub fn default(alloc: Global) -> FormattedFields
+        ensures { plain_fields result ≡ record { text = []; words = []; settings = record { styles = false; sanitizes = true } } }
+    {
+        let settings = Settings {
+            styles: false,
+            sanitizes: true,
+        };
+        FormattedFields::new(alloc, settings)
     }
 
     /// What was kept before, put together again.
@@ -78,6 +93,19 @@ impl FormattedFields {
             { text = (plain_fields self.old).text ++ more.now }) else plain_fields self.old) }
     {
         self.text.push_str(more)
+    }
+
+    /// A writer that appends to the text, with its settings.
+    pub fn as_writer(&mut self) -> Writer<'_>
+        ensures text { written result ≡ (plain_fields self.old).text }
+        ensures settings { settings_of result ≡ (plain_fields self.old).settings }
+        ensures* ends { sem 𝓛 (LendsKept self.entry result) }
+    {
+        let settings = self.settings;
+        Writer {
+            out: &mut self.text,
+            settings,
+        }
     }
 
     /// How the text is written.

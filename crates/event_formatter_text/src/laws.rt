@@ -1,5 +1,6 @@
 //! Laws of the texts.
 ghost use Rattle.event_formatter_text.specs.JsonLaws.{InsidesAreJson, MembersAreJson, NumbersAreJson, ObjectsAreJson, StringsAreJson, TextsAreStrings, ValuesAreJson};
+ghost use Rattle.event_formatter_text.specs.Steering.{ErrorsAreHarmless, MessagesAreHarmless, SanitizedTextsAreHarmless};
 
 /// What stands for a text in a JSON string may stand there by JSON's grammar, and the string is a value of JSON.
 #[tactic(auto, using(crate::proofs::JsonStrings::text_inside, crate::proofs::JsonObjects::string_is))]
@@ -26,4 +27,13 @@ pub fn values_are_json()
 #[tactic(auto, using(crate::proofs::JsonValues::numbers_are))]
 pub fn numbers_are_json()
     ensures { NumbersAreJson }
+{}
+
+/// No sanitized text steers a terminal, nor does a message or an error in one line, where texts are sanitized and there
+/// are no styles.
+#[tactic(auto, using(crate::proofs::Steering::texts_are, crate::proofs::SteeringFields::messages_are, crate::proofs::SteeringFields::errors_are))]
+pub fn sanitized_texts_are_harmless()
+    ensures texts { SanitizedTextsAreHarmless }
+    ensures messages { MessagesAreHarmless }
+    ensures errors { ErrorsAreHarmless }
 {}

@@ -27,7 +27,10 @@ pub use format_fields::FormatFields;
 pub use formatted_fields::FormattedFields;
 pub use json_fields::JsonFields;
 pub use json_members::push_json_members;
-pub use laws::{numbers_are_json, objects_are_json, texts_are_strings, values_are_json};
+pub use laws::{
+    numbers_are_json, objects_are_json, sanitized_texts_are_harmless, texts_are_strings,
+    values_are_json,
+};
 pub use pretty_fields::PrettyFields;
 pub use record_fields::RecordFields;
 pub use settings::Settings;

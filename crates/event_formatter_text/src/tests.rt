@@ -2,6 +2,7 @@
 
 mod formatting;
 mod keeping;
+mod writing;
 
 use super::*;
 use std::alloc::Global;

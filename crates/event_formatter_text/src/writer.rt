@@ -1,11 +1,14 @@
 //! What texts are written to.
-ghost use Rattle.std.specs.Prelude.{◌≡◌, ◌++◌, codes, encode_utf8, false, if◌then◌else◌, string_bytes, true};
+ghost use Rattle.std.specs.Prelude.{◌≡◌, ◌++◌, codes, encode_utf8, false, OnOk, if◌then◌else◌, string_bytes, true};
+ghost use Rattle.std.specs.Borrow.{sem};
+ghost use Rattle.std.specs.Fmt.{AppendsText};
 ghost use Rattle.std.specs.Option.{option_map};
 ghost use Rattle.std.specs.Result.{is_ok};
 ghost use Rattle.tracing_core_fields.specs.DebugText.{plain_debug};
 ghost use Rattle.event_formatter_text.specs.FieldTexts.{field_piece, separator};
 ghost use Rattle.event_formatter_text.specs.JsonTexts.{json_piece};
 ghost use Rattle.event_formatter_text.specs.Lists.{Formats, further};
+ghost use Rattle.event_formatter_text.specs.Loans.{LendsText};
 ghost use Rattle.event_formatter_text.specs.Writers.{IsSameWriter, settings_of, written};
 
 use crate::error::FormatError;
@@ -13,6 +16,7 @@ use crate::field_text::{Punctuation, push_field};
 use crate::json_text::push_member;
 use crate::settings::Settings;
 use std::alloc::AllocError;
+use std::fmt::Display;
 use tracing_core_fields::DebugText;
 
 /// Appends to a text that is lent to it.
@@ -45,6 +49,19 @@ impl<'w> Writer<'w> {
         ensures settings { settings_of result ≡ settings }
     {
         Writer { out, settings }
+    }
+
+    /// A writer behind the same text, with the same settings. It's of use where a writer is taken by value.
+    pub fn by_ref(&mut self) -> Writer<'_>
+        ensures text { written result ≡ written self.old }
+        ensures settings { settings_of result ≡ settings_of self.old }
+        ensures* ends { sem 𝓛 (LendsText self.entry result) }
+    {
+        let settings = self.settings;
+        Writer {
+            out: &mut *self.out,
+            settings,
+        }
     }
 
     /// How it writes.
@@ -90,6 +107,18 @@ impl<'w> Writer<'w> {
         ensures text { written self.new ≡ (if is_ok result then written self.old ++ encode_utf8 c else written self.old) }
     {
         self.out.push(c)
+    }
+
+    /// Appends what `write!` is given, as it is.
+    ///
+    /// # Errors
+    ///
+    /// Want of memory, or a value that could not be formatted; nothing was appended then.
+    pub fn write_fmt<D: Display + Drop>(&mut self, value: D) -> Result<(), AllocError>
+        ensures same { IsSameWriter self.old self.new }
+        ensures text { OnOk result (AppendsText (written self.old) (written self.new) (D.output value)) }
+    {
+        self.out.write_fmt(value)
     }
 
     // Appends a field, behind the separator unless it is the first.

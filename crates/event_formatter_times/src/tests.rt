@@ -117,3 +117,32 @@ fn threads(rt: HostRuntime) -> Result<(), Fail> {
     assert_eq!(rt; out.as_str(), "ThreadId(01)ThreadId(1)ThreadId(10)   émain");
     Ok(())
 }
+
+// A timer of a program's own: it writes the second alone.
+struct Seconds;
+
+impl FormatTime for Seconds {
+    ghost use Rattle.std.specs.Prelude.{Some};
+    ghost use Rattle.std.specs.Fmt.{signed_decimal};
+
+    ghost text_at = { λ timer s n. Some (signed_decimal s) };
+
+    fn format_time(
+        &mut self,
+        _alloc: Global,
+        out: &mut String,
+        seconds: i64,
+        _nanoseconds: u32,
+    ) -> Result<(), FormatError> {
+        write!(out, "{seconds}")?;
+        Ok(())
+    }
+}
+
+#[test]
+fn a_timer_of_ones_own(rt: HostRuntime) -> Result<(), Fail> {
+    let mut out = String::new(rt.alloc());
+    Seconds.format_time(rt.alloc(), &mut out, -7, 5)?;
+    assert_eq!(rt; out.as_str(), "-7");
+    Ok(())
+}

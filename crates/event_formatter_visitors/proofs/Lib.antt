@@ -1,3 +1,2 @@
 mod Beginning
-mod Joining
 mod Visiting

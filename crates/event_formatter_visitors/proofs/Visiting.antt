@@ -11,7 +11,7 @@ use Rattle.event_formatter_text.specs.declared.error.FormatError.{FormatError}
 use Rattle.event_formatter_text.specs.declared.settings.Settings.{Settings}
 use Rattle.event_formatter_visitors.specs.ShownPieces.{ShowsPiece, Standing, standing}
 use Rattle.event_formatter_visitors.specs.declared.field_formatter.PieceVisitor.{PieceVisitor}
-use Rattle.event_formatter_visitors.proofs.Joining.{nothing, refused_at, taken_then}
+use Rattle.event_formatter_text.proofs.Visiting.{nothing, refused_at, taken_then}
 
 module _ {F W : Type 0} (text : W → List ℕ) (frame : W → Frame) (piece : F → Settings → List ℕ → PlainDebug → Option (List ℕ)) where
   -- the piece of a field

@@ -1,4 +1,5 @@
 pub mod Visiting
+pub mod Appending
 pub mod Delimiting
 pub mod Shown
 pub mod Functions

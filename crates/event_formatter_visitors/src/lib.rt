@@ -1,12 +1,15 @@
 //! Makers of visitors, and visitors over other visitors.
 #![tactic(auto)]
 
+mod alt;
 mod closure;
 mod delimited;
 mod field_fn;
 mod field_formatter;
 mod make_visitor;
 mod makers;
+mod messages;
+mod outputs;
 mod target;
 mod visit_output;
 mod write_field;
@@ -15,7 +18,7 @@ pub use closure::{AppendField, FieldClosure};
 pub use delimited::{Delimited, VisitDelimited};
 pub use field_fn::{FieldFn, FieldFnVisitor, debug_fn};
 pub use make_visitor::{MakeExt, MakeOutput, MakeVisitor};
-pub use visit_output::{VisitFmt, VisitOutput};
+pub use visit_output::{VisitFmt, VisitOutput, VisitWrite};
 pub use write_field::{WriteField, WritePiece};
 
 #[cfg(test)]

@@ -1,5 +1,6 @@
 //! What visitors of makers write, and where they refuse.
 
+mod between;
 mod closures;
 mod formatters;
 

@@ -1,4 +1,4 @@
-//! Visitors that can be finished, and visitors that write to a text.
+//! Visitors that can be finished, and visitors that write to a text or to a writer of bytes.
 ghost use Rattle.std.specs.Prelude.{◌≡◌, ℕ, List, Result};
 ghost use Rattle.event_formatter_visitors.specs.Visiting.{VisitsAndFinishes};
 
@@ -43,4 +43,18 @@ pub trait VisitFmt: Visit {
     /// Want of memory, as the visitor tells it.
     fn write_str(&mut self, text: &str) -> Result<(), Self::Error>
         ensures { appends self.old text.now result self.new };
+}
+
+/// A visitor that writes bytes, to which others may write between its fields.
+pub trait VisitWrite: Visit {
+    // What appending bytes may answer, and leave.
+    ghost appends_bytes: { Self → List ℕ → Result (Unit {0}) Self.Error → Self → Type 0 };
+
+    /// Appends bytes to what the visitor writes.
+    ///
+    /// # Errors
+    ///
+    /// A failure of what the visitor writes to, as the visitor tells it.
+    fn write_all(&mut self, bytes: &[u8]) -> Result<(), Self::Error>
+        ensures { appends_bytes self.old bytes.now result self.new };
 }

@@ -2,7 +2,7 @@
 use Rattle.std.specs.Prelude.{ℕ, List, [], ◌∷◌, Bool, true, false, ◌&&◌, codes, is_some, Option, Some, None, if◌then◌else◌}
 use Rattle.std.specs.Str.{bytes_eq}
 use Rattle.span_trace_bench.specs.declared.bench.Bench.{Bench}
-use Rattle.span_trace_bench.specs.declared.bench.Bench.TheVariants.{DirectMemory, DirectFile, Never, Refused, Depth64, Open10k, SpanCycle, SpanCycle10k, Open}
+use Rattle.span_trace_bench.specs.declared.bench.Bench.TheVariants.{DirectMemory, DirectFile, Never, Refused, Depth64, Open10k, SpanCycle, SpanCycle10k, Open, FormatFull, FormatCompact, FormatPretty, FormatJson}
 
 abbrev pub name_of : Bench → List ℕ
 name_of DirectMemory = codes "direct_memory"
@@ -14,9 +14,14 @@ name_of Open10k = codes "open10k"
 name_of SpanCycle = codes "span_cycle"
 name_of SpanCycle10k = codes "span_cycle10k"
 name_of Open = codes "open"
+name_of FormatFull = codes "format_full"
+name_of FormatCompact = codes "format_compact"
+name_of FormatPretty = codes "format_pretty"
+name_of FormatJson = codes "format_json"
 
 abbrev pub all_benches : List Bench
-all_benches = DirectMemory ∷ DirectFile ∷ Never ∷ Refused ∷ Depth64 ∷ Open10k ∷ SpanCycle ∷ SpanCycle10k ∷ Open ∷ []
+all_benches = DirectMemory ∷ DirectFile ∷ Never ∷ Refused ∷ Depth64 ∷ Open10k ∷ SpanCycle ∷ SpanCycle10k ∷ Open
+    ∷ FormatFull ∷ FormatCompact ∷ FormatPretty ∷ FormatJson ∷ []
 
 abbrev pub named_in : List Bench → List ℕ → Option Bench
 named_in [] name = None

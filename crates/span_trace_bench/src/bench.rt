@@ -6,6 +6,7 @@ ghost use Rattle.span_trace_bench.specs.Names.{name_of, bench_named};
 
 use crate::fault::Fault;
 use crate::stage::{DETAIL, EVENT, NOISE, Stage};
+use event_formatter::{Json, LineFormat, Pretty};
 use span_tracing::Folder;
 
 /// A bench.
@@ -29,10 +30,18 @@ pub enum Bench {
     SpanCycle10k,
     /// Spans opened and left open.
     Open,
+    /// Events in a span of a stack by itself, written in the full format for a maker that only counts.
+    FormatFull,
+    /// The same in the compact format.
+    FormatCompact,
+    /// The same in the pretty format.
+    FormatPretty,
+    /// The same in JSON.
+    FormatJson,
 }
 
 /// The benches that need no folder of the system.
-pub(crate) const IN_MEMORY: [Bench; 8] = [
+pub(crate) const IN_MEMORY: [Bench; 12] = [
     Bench::DirectMemory,
     Bench::Never,
     Bench::Refused,
@@ -41,6 +50,10 @@ pub(crate) const IN_MEMORY: [Bench; 8] = [
     Bench::SpanCycle,
     Bench::SpanCycle10k,
     Bench::Open,
+    Bench::FormatFull,
+    Bench::FormatCompact,
+    Bench::FormatPretty,
+    Bench::FormatJson,
 ];
 
 impl Bench {
@@ -58,6 +71,10 @@ impl Bench {
             "span_cycle" => Some(Bench::SpanCycle),
             "span_cycle10k" => Some(Bench::SpanCycle10k),
             "open" => Some(Bench::Open),
+            "format_full" => Some(Bench::FormatFull),
+            "format_compact" => Some(Bench::FormatCompact),
+            "format_pretty" => Some(Bench::FormatPretty),
+            "format_json" => Some(Bench::FormatJson),
             _ => None,
         }
     }
@@ -76,6 +93,21 @@ impl Bench {
             Bench::SpanCycle => "span_cycle",
             Bench::SpanCycle10k => "span_cycle10k",
             Bench::Open => "open",
+            Bench::FormatFull => "format_full",
+            Bench::FormatCompact => "format_compact",
+            Bench::FormatPretty => "format_pretty",
+            Bench::FormatJson => "format_json",
+        }
+    }
+
+    /// The format whose lines are timed, where they are those of a stack by itself and no trace's.
+    pub(crate) fn line_format(self) -> Option<LineFormat> {
+        match self {
+            Bench::FormatFull => Some(LineFormat::Full),
+            Bench::FormatCompact => Some(LineFormat::Compact),
+            Bench::FormatPretty => Some(LineFormat::Pretty(Pretty::new())),
+            Bench::FormatJson => Some(LineFormat::Json(Json::new())),
+            _ => None,
         }
     }
 

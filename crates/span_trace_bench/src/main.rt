@@ -4,6 +4,7 @@
 mod bench;
 mod counting;
 mod fault;
+mod lines;
 mod program;
 mod stage;
 

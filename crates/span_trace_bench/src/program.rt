@@ -6,7 +6,9 @@ ghost use Rattle.span_trace_bench.specs.Names.{asks_bench};
 use crate::bench::{Bench, IN_MEMORY};
 use crate::counting::CountingFolder;
 use crate::fault::Fault;
+use crate::lines::Lines;
 use crate::stage::Stage;
+use event_formatter::LineFormat;
 use span_tracing::Folder;
 use std::alloc::Global;
 use std::io::Write;
@@ -48,6 +50,19 @@ fn time_over<R: Clock, D: Folder>(
     Ok(start.elapsed(rt)?.as_nanos())
 }
 
+/// The nanoseconds that the lines of a stack by itself take.
+fn time_lines<R: Clock>(
+    rt: &R,
+    alloc: Global,
+    shape: LineFormat,
+    count: u64,
+) -> Result<u128, Fault> {
+    let mut lines = Lines::new(alloc, shape)?;
+    let start = Instant::now(rt)?;
+    lines.tell(count)?;
+    Ok(start.elapsed(rt)?.as_nanos())
+}
+
 /// Times a bench, and writes its name, the count, and twice the nanoseconds: no call leaves work behind.
 fn write_time<R: Files + Clock + AllocGlobal + Clone + Drop, W: Write>(
     rt: &R,
@@ -61,6 +76,8 @@ fn write_time<R: Files + Clock + AllocGlobal + Clone + Drop, W: Write>(
     let nanoseconds = if bench == Bench::DirectFile {
         let folder = DiskFolder::new(rt.clone()?, String::from_str(alloc, path)?);
         time_over(rt, alloc, bench, count, folder, prefix)?
+    } else if let Some(shape) = bench.line_format() {
+        time_lines(rt, alloc, shape, count)?
     } else {
         let folder = CountingFolder::new(alloc);
         time_over(rt, alloc, bench, count, folder, prefix)?
@@ -88,9 +105,29 @@ fn write_sum<W: Write>(alloc: Global, bench: Bench, output: &mut W) -> Result<()
     Ok(())
 }
 
+/// The same of the lines of a stack by itself, in which one span is made.
+fn write_line_sum<W: Write>(
+    alloc: Global,
+    bench: Bench,
+    shape: LineFormat,
+    output: &mut W,
+) -> Result<(), Fault> {
+    let mut stage = Lines::new(alloc, shape)?;
+    stage.tell(SMALL)?;
+    let counted = stage.counted()?;
+    let name = bench.name();
+    let bytes = counted.bytes;
+    let lines = counted.lines;
+    writeln!(output, "{name} {bytes} {lines} 1")?;
+    Ok(())
+}
+
 fn write_sums<W: Write>(alloc: Global, output: &mut W) -> Result<(), Fault> {
     for bench in IN_MEMORY {
-        write_sum(alloc, bench, output)?;
+        match bench.line_format() {
+            Some(shape) => write_line_sum(alloc, bench, shape, output)?,
+            None => write_sum(alloc, bench, output)?,
+        }
     }
     Ok(())
 }

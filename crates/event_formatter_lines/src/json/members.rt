@@ -14,7 +14,9 @@ use itoa::Buffer;
 use std::alloc::AllocError;
 use tracing_core_fields::Level;
 
-/// Appends a key and a colon, behind a comma unless it is the first of its object.
+/// Appends a key and a colon, behind a comma unless it is the first of its object. Inlined, so that a key that the
+/// program names is copied by its known length.
+#[inline(always)]
 #[tactic(auto, unfolding(crate::specs::Json::key_text))]
 pub(super) fn push_key(out: &mut String, is_first: bool, key: &str) -> Result<(), AllocError>
     ensures { OnOk result (string_bytes out.new ≡ string_bytes out.old
@@ -26,6 +28,7 @@ pub(super) fn push_key(out: &mut String, is_first: bool, key: &str) -> Result<()
 }
 
 /// Appends a text as a member, where there is one. It answers whether the next member is the first of its object.
+#[inline(always)]
 #[tactic(auto, using(crate::proofs::Members::one, crate::proofs::Members::nothing))]
 pub(super) fn push_text_member(
     out: &mut String,

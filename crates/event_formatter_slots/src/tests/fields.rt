@@ -13,7 +13,7 @@ fn keep<F: FormatFields>(
     let set = FieldSet::new(&NAMES, Identifier(1));
     let mut context = Context::new(registry, at(0, 0), None);
     let values = set.value_set_all(values);
-    keep_new(
+    let first = keep_new(
         alloc,
         &mut context,
         span,
@@ -22,7 +22,8 @@ fn keep<F: FormatFields>(
         formatter,
         &values,
         None,
-    )
+    );
+    first.is_whole()
 }
 
 // Adds a record to what is kept.
@@ -37,7 +38,7 @@ fn add<F: FormatFields>(
     let set = FieldSet::new(&NAMES, Identifier(1));
     let mut context = Context::new(registry, at(0, 0), None);
     let values = set.value_set_all(values);
-    add_record(alloc, &mut context, span, key, formatter, &values)
+    add_record(alloc, &mut context, span, key, PLAIN, formatter, &values)
 }
 
 #[test]
@@ -143,7 +144,7 @@ fn a_text_alone_is_added_to(rt: HostRuntime) -> Result<(), Fail> {
     assert!(rt; add(alloc, &mut registry, &span, OTHER, &DefaultFields, &ONE));
     let kept = registry.span(&span).ok_or("a span")?;
     assert_eq!(rt; kept_text(&kept, KEY), "given n=1");
-    assert_eq!(rt; kept_text(&kept, OTHER), "");
+    assert_eq!(rt; kept_text(&kept, OTHER), "n=1");
     Ok(())
 }
 
@@ -163,7 +164,7 @@ fn nothing_is_kept_of_a_span_that_is_not_seen(rt: HostRuntime) -> Result<(), Fai
         &values,
         None,
     );
-    assert!(rt; kept);
+    assert!(rt; kept.is_whole());
     assert_eq!(rt; kept_text(&registry.span(&span).ok_or("a span")?, KEY), "");
     Ok(())
 }

@@ -20,7 +20,7 @@ fn start(alloc: Global, registry: &mut Registry, span: &Id, seconds: i64) -> boo
     let values = set.value_set_all(&ONE);
     let timings = Some(timings_at_start(seconds, 0));
     let mut context = Context::new(registry, at(seconds, 0), None);
-    keep_new(
+    let first = keep_new(
         alloc,
         &mut context,
         span,
@@ -29,7 +29,8 @@ fn start(alloc: Global, registry: &mut Registry, span: &Id, seconds: i64) -> boo
         &DefaultFields,
         &values,
         timings,
-    )
+    );
+    first.is_whole()
 }
 
 #[test]

@@ -1,7 +1,9 @@
 //! Visitors over other visitors.
 ghost use Rattle.std.specs.Prelude.{◌≡◌};
+ghost use Rattle.std.specs.Borrow.{sem};
 ghost use Rattle.tracing_core_fields.specs.DebugText.{plain_debug};
 ghost use Rattle.event_formatter_text.specs.Handing.{alternate, messaged};
+ghost use Rattle.event_formatter_text.specs.Loans.{LendsInAlt, LendsInMessages};
 
 use crate::field_text::is_message;
 use tracing_core_fields::{DebugText, Field, Visit};
@@ -16,6 +18,21 @@ impl<V> Alt<V> {
         ensures { result.0 ≡ visitor }
     {
         Alt(visitor)
+    }
+
+    /// The visitor that it hands values to.
+    pub fn inner(&self) -> &V
+        ensures { result.now ≡ self.now.0 }
+    {
+        &self.0
+    }
+
+    /// The visitor that it hands values to, for writing.
+    pub fn inner_mut(&mut self) -> &mut V
+        ensures inner { result.now ≡ self.old.0 }
+        ensures* ends { sem 𝓛 (LendsInAlt V.row self.entry result) }
+    {
+        &mut self.0
     }
 
     /// The visitor that it hands values to.
@@ -59,6 +76,21 @@ impl<V> Messages<V> {
         ensures { result.0 ≡ visitor }
     {
         Messages(visitor)
+    }
+
+    /// The visitor that it hands values to.
+    pub fn inner(&self) -> &V
+        ensures { result.now ≡ self.now.0 }
+    {
+        &self.0
+    }
+
+    /// The visitor that it hands values to, for writing.
+    pub fn inner_mut(&mut self) -> &mut V
+        ensures inner { result.now ≡ self.old.0 }
+        ensures* ends { sem 𝓛 (LendsInMessages V.row self.entry result) }
+    {
+        &mut self.0
     }
 
     /// The visitor that it hands values to.

@@ -1,9 +1,12 @@
 //! Fields as `name=value`.
-ghost use Rattle.std.specs.Prelude.{◌≡◌};
+ghost use Rattle.std.specs.Prelude.{◌≡◌, ◌++◌, if◌then◌else◌};
+ghost use Rattle.std.specs.Result.{is_ok};
+ghost use Rattle.event_formatter_text.specs.Writers.{IsSameWriter, written};
 
 use crate::error::FormatError;
 use crate::field_text::Punctuation;
 use crate::writer::Writer;
+use std::alloc::AllocError;
 use tracing_core_fields::{DebugText, Field, Visit};
 
 /// Writes the values of fields as `name=value`, a space between two. A message stands without its name. A value that
@@ -21,6 +24,20 @@ impl<'w> DefaultVisitor<'w> {
         ensures empty { result.is_empty ≡ is_empty }
     {
         DefaultVisitor { writer, is_empty }
+    }
+
+    /// Appends the text as it is.
+    ///
+    /// # Errors
+    ///
+    /// Want of memory; nothing was appended then.
+    pub fn write_str(&mut self, text: &str) -> Result<(), AllocError>
+        ensures same { IsSameWriter self.old.writer self.new.writer }
+        ensures empty { self.new.is_empty ≡ self.old.is_empty }
+        ensures text { written self.new.writer ≡
+            (if is_ok result then written self.old.writer ++ text.now else written self.old.writer) }
+    {
+        self.writer.write_str(text)
     }
 }
 

@@ -1,0 +1,85 @@
+// Texts of spans for which there is no memory.
+use super::*;
+use span_registry_layers_layers::{LayerExt, SubscriberExt};
+use span_registry_layers_store::Registry;
+use std::alloc::AllocError;
+use tracing_core_requests::{Record, Subscriber};
+
+// Finds no memory for the texts of spans.
+#[derive(Drop)]
+struct Starved;
+
+impl FormatFields for Starved {
+    ghost use Rattle.std.specs.Prelude.{[], None};
+    ghost use Rattle.event_formatter_text.specs.Visitors.{default_text};
+
+    ghost text_of = { λ _ settings values. default_text settings values };
+
+    ghost started = { λ _ settings. record { text = []; words = []; settings = settings } };
+
+    ghost added = { λ _ fields values. None };
+
+    fn format_fields<R: RecordFields>(
+        &self,
+        alloc: Global,
+        writer: &mut Writer<'_>,
+        fields: &R,
+    ) -> Result<(), FormatError> {
+        DefaultFields.format_fields(alloc, writer, fields)
+    }
+
+    fn start(&self, alloc: Global, settings: Settings) -> Result<FormattedFields, AllocError> {
+        Ok(FormattedFields::new(alloc, settings))
+    }
+
+    fn add_fields<R: RecordFields>(
+        &self,
+        _alloc: Global,
+        _current: &mut FormattedFields,
+        _fields: &R,
+    ) -> Result<(), FormatError> {
+        Err(FormatError::OutOfMemory)
+    }
+}
+
+#[test]
+fn texts_without_memory_are_missed_alone(rt: HostRuntime) -> Result<(), Fail> {
+    let lines = Lines {
+        alloc: rt.alloc(),
+        lines: Vec::new(rt.alloc()),
+    };
+    let layer = layer(rt.alloc(), OutputKey(1), lines)
+        .fmt_fields(Starved)
+        .with_span_events(FmtSpan::CLOSE);
+    let tree = layer.with_subscriber(Registry::new(rt.alloc()));
+    let mut tree = tree.ok().ok_or("room")?;
+    let fields = FieldSet::new(&NAMES, Identifier(1));
+    let metadata = Metadata::new(
+        "request",
+        "app",
+        Level::INFO,
+        None,
+        None,
+        None,
+        fields,
+        Kind::SPAN,
+    );
+    let values = [None, Some(AnyValue::U64(7))];
+    let attributes = Attributes::new(&metadata, fields.value_set_all(&values));
+    let span = tree.new_span(&attributes, PLACE)?.ok_or("a span")?;
+    assert!(rt; tree.layer().starved() == 1);
+    tree.record(&span, &Record::new(fields.value_set_all(&values)), PLACE)?;
+    assert!(rt; tree.layer().starved() == 2);
+    let last = At {
+        nanoseconds: 5,
+        ..PLACE
+    };
+    tree.try_close(span, last);
+    let written = tree.layer().writer().lines.as_slice();
+    assert!(rt; written.len() == 1 && tree.layer().starved() == 2);
+    assert_eq!(rt;
+        written[0].as_str(),
+        "2025-02-17T10:01:00.000000Z  INFO request: app: close time.busy=0.00ns time.idle=5.00ns\n"
+    );
+    Ok(())
+}

@@ -1,0 +1,113 @@
+use super::*;
+use event_formatter_text::{FormatError, FormattedFields, RecordFields, Writer};
+use event_formatter_times::timings_at_start;
+use std::alloc::AllocError;
+
+// Finds no memory for a list of values, and for the start of a text only where there is room for it.
+#[derive(Drop)]
+struct Starved {
+    starts: bool,
+}
+
+impl FormatFields for Starved {
+    ghost use Rattle.std.specs.Prelude.{[], None};
+
+    ghost text_of = { λ _ settings values. None };
+
+    ghost started = { λ _ settings. record { text = []; words = []; settings = settings } };
+
+    ghost added = { λ _ fields values. None };
+
+    fn format_fields<R: RecordFields>(
+        &self,
+        _alloc: Global,
+        _writer: &mut Writer<'_>,
+        _fields: &R,
+    ) -> Result<(), FormatError> {
+        Err(FormatError::OutOfMemory)
+    }
+
+    fn start(&self, alloc: Global, settings: Settings) -> Result<FormattedFields, AllocError> {
+        if self.starts {
+            return Ok(FormattedFields::new(alloc, settings));
+        }
+        Err(AllocError)
+    }
+
+    fn add_fields<R: RecordFields>(
+        &self,
+        _alloc: Global,
+        _current: &mut FormattedFields,
+        _fields: &R,
+    ) -> Result<(), FormatError> {
+        Err(FormatError::OutOfMemory)
+    }
+}
+
+// Keeps a first list with styles and timings, for which there is no memory.
+fn keep_starved(alloc: Global, registry: &mut Registry, span: &Id, starts: bool) -> FirstText {
+    let set = FieldSet::new(&NAMES, Identifier(1));
+    let values = set.value_set_all(&ONE);
+    let timings = Some(timings_at_start(1, 0));
+    let mut context = Context::new(registry, at(1, 0), None);
+    let formatter = Starved { starts };
+    keep_new(
+        alloc,
+        &mut context,
+        span,
+        KEY,
+        STYLED,
+        &formatter,
+        &values,
+        timings,
+    )
+}
+
+// Adds a record without styles.
+fn add<F: FormatFields>(alloc: Global, registry: &mut Registry, span: &Id, formatter: &F) -> bool {
+    let set = FieldSet::new(&NAMES, Identifier(1));
+    let values = set.value_set_all(&NO);
+    let mut context = Context::new(registry, at(2, 0), None);
+    add_record(alloc, &mut context, span, KEY, PLAIN, formatter, &values)
+}
+
+// How long the span was idle at its close.
+fn idle(registry: &mut Registry, span: &Id) -> Option<u128> {
+    let mut context = Context::new(registry, at(3, 0), None);
+    match step_timings(&mut context, span, KEY, TimingStep::Close) {
+        None => None,
+        Some(timings) => Some(timings.idle),
+    }
+}
+
+#[test]
+fn a_first_text_without_memory_is_missed_alone(rt: HostRuntime) -> Result<(), Fail> {
+    let (mut registry, span) = one_span(rt.alloc())?;
+    let first = keep_starved(rt.alloc(), &mut registry, &span, true);
+    assert!(rt; first == FirstText::Started && !first.is_whole());
+    assert_eq!(rt; kept_text(&registry.span(&span).ok_or("a span")?, KEY), "");
+    assert!(rt; add(rt.alloc(), &mut registry, &span, &DefaultFields));
+    assert_eq!(rt;
+        kept_text(&registry.span(&span).ok_or("a span")?, KEY),
+        "\u{1b}[3md\u{1b}[0m\u{1b}[2m=\u{1b}[0mfalse"
+    );
+    assert!(rt; idle(&mut registry, &span) == Some(2_000_000_000));
+    Ok(())
+}
+
+#[test]
+fn a_record_begins_the_text_where_nothing_is_kept(rt: HostRuntime) -> Result<(), Fail> {
+    let (mut registry, span) = one_span(rt.alloc())?;
+    let first = keep_starved(rt.alloc(), &mut registry, &span, false);
+    assert!(rt; first == FirstText::Nothing && !first.is_whole());
+    let starved = Starved { starts: true };
+    assert!(rt; !add(rt.alloc(), &mut registry, &span, &starved));
+    assert_eq!(rt; kept_text(&registry.span(&span).ok_or("a span")?, KEY), "");
+    assert!(rt; add(rt.alloc(), &mut registry, &span, &JsonFields));
+    assert_eq!(rt;
+        kept_text(&registry.span(&span).ok_or("a span")?, KEY),
+        "{\"d\":false}"
+    );
+    assert!(rt; idle(&mut registry, &span).is_none());
+    Ok(())
+}
