@@ -1,7 +1,9 @@
 //! The usual formats, timers and layer, by the names under which they are known.
-ghost use Rattle.std.specs.Prelude.{◌≡◌};
+ghost use Rattle.std.specs.Prelude.{◌≡◌, [], None, false, true};
 ghost use Rattle.event_formatter_lines.specs.Json.{default_shape};
 ghost use Rattle.event_formatter_formats.specs.Parts.{default_parts};
+ghost use Rattle.event_formatter_layer.specs.Builders.{no_span_events};
+ghost use Rattle.event_formatter_layer.specs.Threads.{plain_lanes};
 
 use event_formatter_formats::{Format, Full, Json};
 use event_formatter_layer::Layer;
@@ -12,7 +14,8 @@ use std::alloc::Global;
 
 /// The full format with time, level and target.
 pub fn format(alloc: Global) -> Format<Full, SystemTime>
-    ensures { result.parts ≡ default_parts }
+    ensures parts { result.parts ≡ default_parts }
+    ensures ansi { result.ansi ≡ None }
 {
     Format::new(alloc)
 }
@@ -21,6 +24,7 @@ pub fn format(alloc: Global) -> Format<Full, SystemTime>
 pub fn json(alloc: Global) -> Format<Json, SystemTime>
     ensures shape { result.shape.shape ≡ default_shape }
     ensures parts { result.parts ≡ default_parts }
+    ensures ansi { result.ansi ≡ None }
 {
     format(alloc).json()
 }
@@ -44,8 +48,15 @@ pub fn layer<W>(
     key: OutputKey,
     maker: W,
 ) -> Layer<DefaultFields, Format<Full, SystemTime>, W>
-    ensures maker { result.output.maker ≡ maker }
     ensures key { result.config.key ≡ key }
+    ensures maker { result.output.maker ≡ maker }
+    ensures settings { result.config.settings ≡ record { styles = false; sanitizes = true } }
+    ensures events { result.config.span_events ≡ no_span_events }
+    ensures timer { result.config.has_timer ≡ true }
+    ensures faults { result.config.log_internal_errors ≡ true }
+    ensures format { (result.format.parts ≡ default_parts) × (result.format.ansi ≡ None) }
+    ensures threads { (plain_lanes result.threads ≡ []) × (result.threads.longest ≡ 0) }
+    ensures starved { result.output.starved ≡ 0 }
 {
     Layer::new(alloc, key, maker)
 }

@@ -1,6 +1,6 @@
 //! How a layer is made.
 ghost use Rattle.std.specs.Borrow.{sem};
-ghost use Rattle.std.specs.Prelude.{◌≡◌, [], ◌++◌, ◌∷◌, false, if◌then◌else◌, true};
+ghost use Rattle.std.specs.Prelude.{◌≡◌, [], ◌++◌, ◌∷◌, None, false, if◌then◌else◌, true};
 ghost use Rattle.std.specs.Result.{is_ok};
 ghost use Rattle.event_formatter_formats.specs.Parts.{default_parts};
 ghost use Rattle.event_formatter_layer.specs.Builders.{SameButLanes, no_span_events, with_fields};
@@ -34,7 +34,7 @@ impl<W> Layer<DefaultFields, Format<Full, SystemTime>, W> {
         ensures events { result.config.span_events ≡ no_span_events }
         ensures timer { result.config.has_timer ≡ true }
         ensures faults { result.config.log_internal_errors ≡ true }
-        ensures format { result.format.parts ≡ default_parts }
+        ensures format { (result.format.parts ≡ default_parts) × (result.format.ansi ≡ None) }
         ensures threads { (plain_lanes result.threads ≡ []) × (result.threads.longest ≡ 0) }
         ensures starved { result.output.starved ≡ 0 }
     {
