@@ -7,3 +7,4 @@ pub mod Rows
 pub mod Closing
 pub mod Stacks
 pub mod Folding
+pub mod Handing

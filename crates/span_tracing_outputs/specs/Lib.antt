@@ -4,4 +4,5 @@ pub mod Agreeing
 pub mod Turns
 pub mod StackFollows
 pub mod Plain
+pub mod Hands
 pub mod Pending

@@ -176,3 +176,48 @@ fn outputs_keep_the_lines_of_what_they_passed(rt: HostRuntime) -> Result<(), Fai
     );
     Ok(())
 }
+
+// Keeps the lines that it takes, each behind the lane of its request and a space.
+#[derive(Drop)]
+struct KeptLines {
+    text: String,
+}
+
+impl LineSink for KeptLines {
+    ghost takes = { λ old at line new. Unit {0} };
+
+    fn take(&mut self, at: At, _level: Level, line: &[u8]) {
+        let _kept = write!(self.text, "{} ", at.lane);
+        let _pushed = self.text.push_str(str::from_utf8(line).unwrap_or("?"));
+    }
+}
+
+#[test]
+fn each_sink_takes_the_lines_of_its_output(rt: HostRuntime) -> Result<(), Fail> {
+    let mut stack = stack_of_two(rt.alloc())?;
+    let mut sinks = Vec::new(rt.alloc());
+    for _ in 0..2 {
+        sinks
+            .push(KeptLines {
+                text: String::new(rt.alloc()),
+            })
+            .ok()
+            .ok_or("room")?;
+    }
+    tell(&mut stack, Level::WARN, "w")?;
+    tell(&mut stack, Level::INFO, "i")?;
+    hand_over(&mut stack, &mut sinks, At { lane: 3, ..PLACE });
+    assert!(rt; keeps(&stack, 0, &[]) && keeps(&stack, 1, &[]));
+    assert_eq!(rt; sinks[0].text.as_str(), "3 fake time  WARN app: w\n3 fake time  INFO app: i\n");
+    assert_eq!(rt;
+        sinks[1].text.as_str(),
+        "3 {\"timestamp\":\"fake time\",\"level\":\"WARN\",\"fields\":{\"message\":\"w\"},\"target\":\"app\"}\n"
+    );
+    tell(&mut stack, Level::DEBUG, "d")?;
+    hand_over(&mut stack, &mut sinks, PLACE);
+    assert_eq!(rt;
+        sinks[0].text.as_str(),
+        "3 fake time  WARN app: w\n3 fake time  INFO app: i\n0 fake time DEBUG app: d\n"
+    );
+    Ok(())
+}

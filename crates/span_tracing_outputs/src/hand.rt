@@ -1,0 +1,55 @@
+//! The lines of a request, handed to the sinks of their outputs.
+ghost use Rattle.std.specs.Prelude.{◌≡◌, ◌<◌, length, slice_get};
+ghost use Rattle.span_tracing_outputs.specs.Hands.{HandsOver, LinesIf, cleared_at};
+
+use crate::pending::PendingLines;
+use crate::sink::{LineSink, take_all};
+use event_formatter_formats::FormatEvent;
+use event_formatter_layer::Layer;
+use event_formatter_text::FormatFields;
+use span_registry_layers_layers::{Filter, Filtered};
+use span_registry_layers_stack::Stack;
+use tracing_core_requests::At;
+
+// The lines of the output at a place go to the sink there.
+fn hand_lines<N: FormatFields + Drop, E: FormatEvent, F: Filter, S: LineSink>(
+    stack: &Stack<Filtered<Layer<N, E, PendingLines>, F>>,
+    sinks: &mut Vec<S>,
+    at: At,
+    place: usize,
+)
+    requires { place < length sinks.old.items }
+    ensures { LinesIf S.takes at (slice_get stack.now.rows place) place sinks.old.items sinks.new.items }
+{
+    if let Some(output) = stack.output(place) {
+        take_all(&mut sinks[place], at, output.inner().writer().lines());
+    }
+}
+
+// The output at a place has no line any more.
+fn clear_at<N: FormatFields + Drop, E: FormatEvent, F: Filter>(
+    stack: &mut Stack<Filtered<Layer<N, E, PendingLines>, F>>,
+    place: usize,
+)
+    ensures { stack.new ≡ record stack.old { rows = cleared_at (slice_get stack.old.rows place) place stack.old.rows } }
+{
+    if let Some(layer) = stack.layer_mut(place) {
+        layer.writer_mut().clear();
+    }
+}
+
+/// Hands the lines that the outputs keep to their sinks, outputs in order, and each output's lines in order. No output
+/// keeps a line afterwards, and nothing else of the stack changes. There are as many sinks as outputs.
+pub fn hand_over<N: FormatFields + Drop, E: FormatEvent, F: Filter, S: LineSink>(
+    stack: &mut Stack<Filtered<Layer<N, E, PendingLines>, F>>,
+    sinks: &mut Vec<S>,
+    at: At,
+)
+    requires { length sinks.old.items ≡ length stack.old.rows }
+    ensures { HandsOver S.takes at stack.old sinks.old.items stack.new sinks.new.items }
+{
+    for place in 0..sinks.len() {
+        hand_lines(stack, sinks, at, place);
+        clear_at(stack, place);
+    }
+}

@@ -1,0 +1,31 @@
+//! Where the lines of an output go.
+ghost use Rattle.std.specs.Prelude.{◌≡◌, List, ℕ, map};
+ghost use Rattle.tracing_core_requests.specs.declared.at.At.{At};
+ghost use Rattle.span_tracing_outputs.specs.Hands.{TakesAll};
+ghost use Rattle.span_tracing_outputs.specs.Outs.{PlainLine};
+ghost use Rattle.span_tracing_outputs.specs.Pending.{plain_line};
+
+use crate::pending::PendingLine;
+use tracing_core_fields::Level;
+use tracing_core_requests::At;
+
+/// Takes the lines of an output. What becomes of a line is the sink's own affair: it counts what it loses.
+pub trait LineSink: Drop {
+    // What a line makes of it that is handed over there and then.
+    ghost takes: { Self → At → PlainLine → Self → Type 0 };
+
+    /// Takes a line of this level, at the moment of the request in which it was written.
+    fn take(&mut self, at: At, level: Level, line: &[u8])
+        ensures { takes self.old at (record { level = level; bytes = line.now }) self.new };
+}
+
+/// Hands over lines, in order.
+pub(crate) fn take_all<S: LineSink>(sink: &mut S, at: At, lines: &[PendingLine])
+    ensures { TakesAll S.takes at (map plain_line lines.now) sink.old sink.new }
+{
+    let mut rest = lines;
+    while let [line, later @ ..] = rest {
+        sink.take(at, line.level, line.bytes.as_slice());
+        rest = later;
+    }
+}
