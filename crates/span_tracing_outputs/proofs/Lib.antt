@@ -8,3 +8,4 @@ pub mod Closing
 pub mod Stacks
 pub mod Folding
 pub mod Handing
+pub mod Paired

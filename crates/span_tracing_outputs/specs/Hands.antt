@@ -1,5 +1,5 @@
 -- Lines that are handed to sinks.
-use Rattle.std.specs.Prelude.{◌≡◌, ℕ, zero, suc, List, [], ◌∷◌, length, map, Option, Some, None, slice_get, slice_set}
+use Rattle.std.specs.Prelude.{◌≡◌, ℕ, List, [], ◌∷◌, map, Option, Some, None, slice_get, slice_set}
 use Rattle.tracing_core_requests.specs.declared.at.At.{At}
 use Rattle.span_registry_layers_stack.specs.Rows.{with_layer}
 use Rattle.span_tracing_outputs.specs.Outs.{PlainLine}

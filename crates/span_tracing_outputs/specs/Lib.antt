@@ -5,4 +5,6 @@ pub mod Turns
 pub mod StackFollows
 pub mod Plain
 pub mod Hands
+pub mod TraceStacks
+pub mod TraceSteadiness
 pub mod Pending

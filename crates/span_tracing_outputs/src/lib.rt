@@ -5,11 +5,13 @@ mod hand;
 mod laws;
 mod pending;
 mod sink;
+mod trace_stack;
 
 pub use hand::hand_over;
 pub use laws::{layer_follows, outputs_fold, stack_follows};
 pub use pending::{PendingLine, PendingLines};
 pub use sink::LineSink;
+pub use trace_stack::{TraceStack, UnpairedSinks};
 
 #[cfg(test)]
 mod tests;

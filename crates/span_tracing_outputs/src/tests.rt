@@ -12,7 +12,7 @@ use span_registry_layers_store::OutputKey;
 use std::alloc::Global;
 use std::test::Fail;
 use tracing_core_fields::{AnyValue, FieldSet, Id, Identifier, Kind, Level, LevelFilter, Metadata};
-use tracing_core_requests::{At, Attributes, Event};
+use tracing_core_requests::{At, Attributes, Event, Subscriber};
 
 const NAMES: [&str; 1] = ["message"];
 
@@ -177,6 +177,39 @@ fn outputs_keep_the_lines_of_what_they_passed(rt: HostRuntime) -> Result<(), Fai
     Ok(())
 }
 
+#[test]
+fn a_full_line_shows_json_fields(rt: HostRuntime) -> Result<(), Fail> {
+    let alloc = rt.alloc();
+    let mut outputs = Vec::new(alloc);
+    let output = output_in(
+        alloc,
+        1,
+        LineFormat::Full,
+        Fields::Json,
+        LevelFilter::TRACE,
+    )?;
+    outputs.push(output).ok().ok_or("room")?;
+    let mut stack = Stack::new(alloc, outputs).ok().ok_or("a stack")?;
+    let own = FieldSet::new(&["x"], Identifier(1));
+    let metadata = Metadata::new("outer", "app", Level::INFO, None, None, None, own, Kind::SPAN);
+    let values = [Some(AnyValue::U64(42))];
+    let attributes = Attributes::new(&metadata, own.value_set_all(&values));
+    let span = stack.new_span(&attributes, PLACE)?.ok_or("a span")?;
+    stack.enter(&span, PLACE)?;
+    let fields = FieldSet::new(&["message", "n"], Identifier(2));
+    let metadata = Metadata::new("e", "app", Level::INFO, None, None, None, fields, Kind::EVENT);
+    let values = [Some(AnyValue::Str("hi")), Some(AnyValue::U64(3))];
+    stack.event(&Event::new(&metadata, fields.value_set_all(&values)), PLACE)?;
+    assert!(rt;
+        keeps(
+            &stack,
+            0,
+            &["fake time  INFO outer{{\"x\":42}}: app: {\"message\":\"hi\",\"n\":3}\n"]
+        )
+    );
+    Ok(())
+}
+
 // Keeps the lines that it takes, each behind the lane of its request and a space.
 #[derive(Drop)]
 struct KeptLines {
@@ -192,23 +225,31 @@ impl LineSink for KeptLines {
     }
 }
 
-#[test]
-fn each_sink_takes_the_lines_of_its_output(rt: HostRuntime) -> Result<(), Fail> {
-    let mut stack = stack_of_two(rt.alloc())?;
-    let mut sinks = Vec::new(rt.alloc());
-    for _ in 0..2 {
+fn empty_sinks(alloc: Global, count: usize) -> Result<Vec<KeptLines>, Fail> {
+    let mut sinks = Vec::new(alloc);
+    for _ in 0..count {
         sinks
             .push(KeptLines {
-                text: String::new(rt.alloc()),
+                text: String::new(alloc),
             })
             .ok()
             .ok_or("room")?;
     }
+    Ok(sinks)
+}
+
+#[test]
+fn each_sink_takes_the_lines_of_its_output(rt: HostRuntime) -> Result<(), Fail> {
+    let mut stack = stack_of_two(rt.alloc())?;
+    let mut sinks = empty_sinks(rt.alloc(), 2)?;
     tell(&mut stack, Level::WARN, "w")?;
     tell(&mut stack, Level::INFO, "i")?;
     hand_over(&mut stack, &mut sinks, At { lane: 3, ..PLACE });
     assert!(rt; keeps(&stack, 0, &[]) && keeps(&stack, 1, &[]));
-    assert_eq!(rt; sinks[0].text.as_str(), "3 fake time  WARN app: w\n3 fake time  INFO app: i\n");
+    assert_eq!(rt;
+        sinks[0].text.as_str(),
+        "3 fake time  WARN app: w\n3 fake time  INFO app: i\n"
+    );
     assert_eq!(rt;
         sinks[1].text.as_str(),
         "3 {\"timestamp\":\"fake time\",\"level\":\"WARN\",\"fields\":{\"message\":\"w\"},\"target\":\"app\"}\n"
@@ -219,5 +260,41 @@ fn each_sink_takes_the_lines_of_its_output(rt: HostRuntime) -> Result<(), Fail> 
         sinks[0].text.as_str(),
         "3 fake time  WARN app: w\n3 fake time  INFO app: i\n0 fake time DEBUG app: d\n"
     );
+    Ok(())
+}
+
+#[test]
+fn a_stack_with_sinks_hands_over_at_each_request(rt: HostRuntime) -> Result<(), Fail> {
+    let alloc = rt.alloc();
+    let Err(unpaired) = TraceStack::new(stack_of_two(alloc)?, empty_sinks(alloc, 1)?) else {
+        return Err("two outputs with one sink")?;
+    };
+    assert_eq!(rt; unpaired.sinks.len(), 1);
+    let mut trace = TraceStack::new(unpaired.stack, empty_sinks(alloc, 2)?)
+        .ok()
+        .ok_or("pairs")?;
+    let fields = FieldSet::new(&NAMES, Identifier(1));
+    let metadata = Metadata::new(
+        "s",
+        "app",
+        Level::INFO,
+        None,
+        None,
+        None,
+        fields,
+        Kind::SPAN,
+    );
+    let attributes = Attributes::new(&metadata, fields.value_set_all(&[]));
+    let span = trace.new_span(&attributes, PLACE)?.ok_or("a span")?;
+    trace.enter(&span, PLACE)?;
+    trace.exit(&span, PLACE);
+    assert!(rt; trace.sinks()[0].text.is_empty());
+    assert!(rt; trace.try_close(span, At { lane: 5, ..PLACE }));
+    assert_eq!(rt;
+        trace.sinks()[0].text.as_str(),
+        "5 fake time  INFO s: app: close\n"
+    );
+    assert!(rt; trace.sinks()[1].text.is_empty());
+    assert!(rt; keeps(trace.stack(), 0, &[]));
     Ok(())
 }

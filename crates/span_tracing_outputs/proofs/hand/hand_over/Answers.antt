@@ -1,4 +1,4 @@
-use Rattle.std.proofs.Common.{◌≡◌, ◌+◌, ◌<◌, ◌≤◌, suc, ℕ, List, Option, length, slice_get, ap, sym, ◌∙◌, subst, add-one, rules}
+use Rattle.std.proofs.Common.{◌≡◌, ◌<◌, ◌≤◌, ℕ, List, Option, length, slice_get, ap, sym, ◌∙◌, subst, add-one, rules}
 use Rattle.span_tracing_outputs.specs.Hands.{LinesIf, cleared_at}
 use Rattle.span_tracing_outputs.specs.StackFollows.{LinedStack}
 use Rattle.span_tracing_outputs.specs.Turns.{Lined}
@@ -37,8 +37,7 @@ returns g c =
     let sinks = c.loop-place.sinks.items in
     let inv = c.loop-place.invariant in
     let same : length sinks ≡ length rows = inv.sinks ∙ c.requires in
-    let past : length sinks ≤ place = search rules in
-    (
+    let past : length sinks ≤ place = search rules in (
       inv.whole sinks (all_taken g.S.LineSink.takes c.args.at place rows sinks same past),
       inv.stack ∙ ap (λ (ls : List (Lined _ _ _)). record s { rows = ls }) (all_cleared place rows (subst (λ (n : ℕ). n ≤ place) same past)),
     )

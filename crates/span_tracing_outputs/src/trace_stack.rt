@@ -1,0 +1,207 @@
+//! A stack whose outputs have sinks, as a subscriber.
+ghost use Rattle.std.specs.Prelude.{◌≡◌, length, nat_eq};
+ghost use Rattle.span_tracing_outputs.specs.TraceStacks.{NewGives};
+
+use crate::hand::hand_over;
+use crate::pending::PendingLines;
+use crate::sink::LineSink;
+use event_formatter_formats::FormatEvent;
+use event_formatter_layer::Layer;
+use event_formatter_text::FormatFields;
+use span_registry_layers_layers::{Filter, Filtered};
+use span_registry_layers_stack::Stack;
+use std::marker::Model;
+use tracing_core_fields::{Id, LevelFilter, Metadata};
+use tracing_core_requests::{
+    At, Attributes, CurrentSpan, Event, Interest, Record, RequestError, Subscriber, WeakDispatch,
+};
+
+/// A stack of outputs, and for each output a sink that takes its lines. A sink gets them once a request, when all
+/// outputs were told.
+///
+/// A contract sees it as a `TraceStackValue`.
+#[derive(Drop)]
+pub struct TraceStack<N, E, F, S> {
+    stack: Stack<Filtered<Layer<N, E, PendingLines>, F>>,
+    sinks: Vec<S>,
+}
+
+impl<N, E, F, S> Model for TraceStack<N, E, F, S> {
+    ghost use Rattle.std.specs.Prelude.{◌≡◌, length};
+    ghost use Rattle.span_tracing_outputs.specs.TraceStacks.{TraceStackValue};
+
+    ghost Value = { TraceStackValue N E F S };
+
+    ghost view = { λ t. record { stack = t.stack; sinks = t.sinks.items } };
+
+    ghost invariant = { λ t. length t.sinks.items ≡ length t.stack.rows };
+}
+
+/// There are not as many sinks as outputs. Both are as they were.
+#[derive(Drop)]
+pub struct UnpairedSinks<N, E, F, S> {
+    /// The outputs.
+    pub stack: Stack<Filtered<Layer<N, E, PendingLines>, F>>,
+    /// The sinks.
+    pub sinks: Vec<S>,
+}
+
+#[tactic(auto, using(crate::proofs::Paired::counted))]
+fn has_outputs<O>(stack: &Stack<O>, count: usize) -> bool
+    ensures { result ≡ nat_eq (length stack.now.rows) count }
+{
+    if stack.output(count).is_some() {
+        return false;
+    }
+    match count.checked_sub(1) {
+        None => true,
+        Some(last) => stack.output(last).is_some(),
+    }
+}
+
+impl<N, E, F, S> TraceStack<N, E, F, S> {
+    /// Gives each output of a stack the sink at its place.
+    ///
+    /// # Errors
+    ///
+    /// `UnpairedSinks` where there are not as many sinks as outputs. Both come back.
+    pub fn new(
+        stack: Stack<Filtered<Layer<N, E, PendingLines>, F>>,
+        sinks: Vec<S>,
+    ) -> Result<TraceStack<N, E, F, S>, UnpairedSinks<N, E, F, S>>
+        ensures { NewGives stack sinks.items result }
+    {
+        if has_outputs(&stack, sinks.len()) {
+            Ok(TraceStack { stack, sinks })
+        } else {
+            Err(UnpairedSinks { stack, sinks })
+        }
+    }
+
+    /// The stack of outputs.
+    pub fn stack(&self) -> &Stack<Filtered<Layer<N, E, PendingLines>, F>>
+        ensures { result.now ≡ self.now.stack }
+    {
+        &self.stack
+    }
+
+    /// The sinks, each at the place of its output.
+    pub fn sinks(&self) -> &[S]
+        ensures { result.now ≡ self.now.sinks }
+    {
+        self.sinks.as_slice()
+    }
+}
+
+/// It answers as its stack does, and is steady while the stack is.
+impl<N: FormatFields + Drop, E: FormatEvent, F: Filter, S: LineSink> Subscriber
+    for TraceStack<N, E, F, S> {
+    ghost use Rattle.std.specs.Prelude.{Some};
+    ghost use Rattle.span_registry_layers_stack.specs.Asked.{CommonInterest, common_hint};
+    ghost use Rattle.span_registry_layers_stack.specs.CacheValidity.{CacheIsValid};
+    ghost use Rattle.span_registry_layers_stack.specs.Rows.{filters_of};
+    ghost use Rattle.span_registry_layers_stack.specs.Stacks.{PassesCached};
+    ghost use Rattle.span_registry_layers_stack.specs.Steadiness.{asked_stays, stack_fair, stack_quiet, stack_single};
+    ghost use Rattle.span_tracing_outputs.specs.TraceStacks.{TraceMoves};
+    ghost use Rattle.span_tracing_outputs.specs.TraceSteadiness.{trace_stays};
+
+    ghost answers = { λ x m at b. PassesCached ⟦<F as Filter>⟧ x.stack m at b };
+
+    ghost says = { λ x m k. CommonInterest ⟦<F as Filter>⟧ m (filters_of x.stack.rows) k };
+
+    ghost hint = { λ x. common_hint ⟦<F as Filter>⟧ (Some 0) (filters_of x.stack.rows) };
+
+    ghost moves = { λ x c r y. TraceMoves ⟦<F as Filter>⟧
+        ⟦<Layer<N, E, PendingLines> as span_registry_layers_layers::Layer>⟧ S.takes x c r y };
+
+    ghost steady = { λ x. CacheIsValid ⟦<F as Filter>⟧ x.stack };
+
+    ghost fair = { λ x k. stack_fair ⟦<F as Filter>⟧ x.stack k };
+
+    ghost single = { λ x m at a b k p q. stack_single ⟦<F as Filter>⟧ x.stack m at a b k p q };
+
+    ghost stays = { λ x c r y moved k. trace_stays ⟦<F as Filter>⟧
+        ⟦<Layer<N, E, PendingLines> as span_registry_layers_layers::Layer>⟧ S.takes x c r y moved k };
+
+    ghost quiet = { λ x m n at now r y b moved k. stack_quiet ⟦<F as Filter>⟧ x.stack y.stack n now b
+        (asked_stays ⟦<F as Filter>⟧ ⟦<Layer<N, E, PendingLines> as span_registry_layers_layers::Layer>⟧ x.stack m at r
+        y.stack moved.0) };
+
+    fn on_register_dispatch(&mut self, dispatch: &WeakDispatch) {
+        self.stack.on_register_dispatch(dispatch);
+    }
+
+    fn register_callsite(&mut self, metadata: &Metadata<'_>) -> Interest {
+        self.stack.register_callsite(metadata)
+    }
+
+    fn enabled(&mut self, metadata: &Metadata<'_>, at: At) -> bool {
+        Subscriber::enabled(&mut self.stack, metadata, at)
+    }
+
+    fn max_level_hint(&mut self) -> Option<LevelFilter> {
+        self.stack.max_level_hint()
+    }
+
+    fn new_span(
+        &mut self,
+        attributes: &Attributes<'_, '_>,
+        at: At,
+    ) -> Result<Option<Id>, RequestError> {
+        let made = Subscriber::new_span(&mut self.stack, attributes, at);
+        hand_over(&mut self.stack, &mut self.sinks, at);
+        made
+    }
+
+    fn record(&mut self, span: &Id, values: &Record<'_>, at: At) -> Result<(), RequestError> {
+        let recorded = Subscriber::record(&mut self.stack, span, values, at);
+        hand_over(&mut self.stack, &mut self.sinks, at);
+        recorded
+    }
+
+    fn record_follows_from(&mut self, span: &Id, follows: &Id, at: At) -> Result<(), RequestError> {
+        let recorded = Subscriber::record_follows_from(&mut self.stack, span, follows, at);
+        hand_over(&mut self.stack, &mut self.sinks, at);
+        recorded
+    }
+
+    fn event_enabled(&mut self, event: &Event<'_, '_>, at: At) -> bool {
+        Subscriber::event_enabled(&mut self.stack, event, at)
+    }
+
+    fn event(&mut self, event: &Event<'_, '_>, at: At) -> Result<(), RequestError> {
+        let told = Subscriber::event(&mut self.stack, event, at);
+        hand_over(&mut self.stack, &mut self.sinks, at);
+        told
+    }
+
+    fn enter(&mut self, span: &Id, at: At) -> Result<(), RequestError> {
+        let entered = Subscriber::enter(&mut self.stack, span, at);
+        hand_over(&mut self.stack, &mut self.sinks, at);
+        entered
+    }
+
+    fn exit(&mut self, span: &Id, at: At) {
+        Subscriber::exit(&mut self.stack, span, at);
+        hand_over(&mut self.stack, &mut self.sinks, at);
+    }
+
+    fn clone_span(&mut self, span: &Id, at: At) -> Result<Id, RequestError> {
+        Subscriber::clone_span(&mut self.stack, span, at)
+    }
+
+    fn drop_span(&mut self, span: Id, at: At) {
+        Subscriber::drop_span(&mut self.stack, span, at);
+        hand_over(&mut self.stack, &mut self.sinks, at);
+    }
+
+    fn try_close(&mut self, span: Id, at: At) -> bool {
+        let closed = Subscriber::try_close(&mut self.stack, span, at);
+        hand_over(&mut self.stack, &mut self.sinks, at);
+        closed
+    }
+
+    fn current_span(&mut self, at: At) -> CurrentSpan {
+        Subscriber::current_span(&mut self.stack, at)
+    }
+}
