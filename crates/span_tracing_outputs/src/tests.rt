@@ -181,23 +181,35 @@ fn outputs_keep_the_lines_of_what_they_passed(rt: HostRuntime) -> Result<(), Fai
 fn a_full_line_shows_json_fields(rt: HostRuntime) -> Result<(), Fail> {
     let alloc = rt.alloc();
     let mut outputs = Vec::new(alloc);
-    let output = output_in(
-        alloc,
-        1,
-        LineFormat::Full,
-        Fields::Json,
-        LevelFilter::TRACE,
-    )?;
+    let output = output_in(alloc, 1, LineFormat::Full, Fields::Json, LevelFilter::TRACE)?;
     outputs.push(output).ok().ok_or("room")?;
     let mut stack = Stack::new(alloc, outputs).ok().ok_or("a stack")?;
     let own = FieldSet::new(&["x"], Identifier(1));
-    let metadata = Metadata::new("outer", "app", Level::INFO, None, None, None, own, Kind::SPAN);
+    let metadata = Metadata::new(
+        "outer",
+        "app",
+        Level::INFO,
+        None,
+        None,
+        None,
+        own,
+        Kind::SPAN,
+    );
     let values = [Some(AnyValue::U64(42))];
     let attributes = Attributes::new(&metadata, own.value_set_all(&values));
     let span = stack.new_span(&attributes, PLACE)?.ok_or("a span")?;
     stack.enter(&span, PLACE)?;
     let fields = FieldSet::new(&["message", "n"], Identifier(2));
-    let metadata = Metadata::new("e", "app", Level::INFO, None, None, None, fields, Kind::EVENT);
+    let metadata = Metadata::new(
+        "e",
+        "app",
+        Level::INFO,
+        None,
+        None,
+        None,
+        fields,
+        Kind::EVENT,
+    );
     let values = [Some(AnyValue::Str("hi")), Some(AnyValue::U64(3))];
     stack.event(&Event::new(&metadata, fields.value_set_all(&values)), PLACE)?;
     assert!(rt;
