@@ -35,6 +35,6 @@ TakesEach takes at [] [] [] = Unit {0}
 TakesEach takes at (row ∷ rows) (sink ∷ sinks) (taken ∷ takens) = TakesAll takes at row.output.layer.output.maker sink taken × TakesEach takes at rows sinks takens
 TakesEach takes at rows sinks takens = ⊥
 
--- and no output has a line any more
+-- each sink took its output's lines, and no output has a line any more
 abbrev pub HandsOver : {N E F S : Type 0} → (S → At → PlainLine → S → Type 0) → At → LinedStack N E F → List S → LinedStack N E F → List S → Type 0
 HandsOver takes at s sinks t takens = TakesEach takes at s.rows sinks takens × (t ≡ record s { rows = map cleared_row s.rows })

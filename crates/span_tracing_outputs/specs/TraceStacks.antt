@@ -26,7 +26,7 @@ module _ {N E F S : Type 0} (g : FilterGhosts F) (h : LayerGhosts (Lines N E)) (
   abbrev pub ThenHandsOver : At → TraceStackValue N E F S → (c : Call) → ReplyTo c → TraceStackValue N E F S → Type 0
   ThenHandsOver at x c r y = (mid : LinedStack N E F) × Moves g h x.stack c r mid × HandsOver takes at mid x.sinks y.stack y.sinks
 
-  -- the stack takes the call, which writes no line
+  -- the stack takes the call, and the sinks stay
   abbrev pub LeavesSinks : TraceStackValue N E F S → (c : Call) → ReplyTo c → TraceStackValue N E F S → Type 0
   LeavesSinks x c r y = Moves g h x.stack c r y.stack × (y.sinks ≡ x.sinks)
 

@@ -39,7 +39,8 @@ fn clear_at<N: FormatFields + Drop, E: FormatEvent, F: Filter>(
 }
 
 /// Hands the lines that the outputs keep to their sinks, outputs in order, and each output's lines in order. No output
-/// keeps a line afterwards, and nothing else of the stack changes. There are as many sinks as outputs.
+/// keeps a line afterwards, and nothing else of the stack changes. It wants as
+/// many sinks as outputs.
 pub fn hand_over<N: FormatFields + Drop, E: FormatEvent, F: Filter, S: LineSink>(
     stack: &mut Stack<Filtered<Layer<N, E, PendingLines>, F>>,
     sinks: &mut Vec<S>,

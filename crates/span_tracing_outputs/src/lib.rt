@@ -1,4 +1,5 @@
-//! Output machines: what each output of a trace keeps, and what a notice makes of it.
+//! Output machines: what each output of a trace keeps, and what a notice makes of it; and a stack that hands its outputs'
+//! lines to sinks.
 #![tactic(auto)]
 
 mod hand;

@@ -9,12 +9,12 @@ use crate::pending::PendingLine;
 use tracing_core_fields::Level;
 use tracing_core_requests::At;
 
-/// Takes the lines of an output. What becomes of a line is the sink's own affair: it counts what it loses.
+/// Takes the lines of an output. What becomes of a line is the sink's own affair, also whether it counts what it loses.
 pub trait LineSink: Drop {
-    // What a line makes of it that is handed over there and then.
+    // How it may come out of taking a line at a moment.
     ghost takes: { Self → At → PlainLine → Self → Type 0 };
 
-    /// Takes a line of this level, at the moment of the request in which it was written.
+    /// Takes a line of this level, at the moment that it is handed over with. A `TraceStack` gives that of its request.
     fn take(&mut self, at: At, level: Level, line: &[u8])
         ensures { takes self.old at (record { level = level; bytes = line.now }) self.new };
 }

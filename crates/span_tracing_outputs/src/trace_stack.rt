@@ -16,8 +16,8 @@ use tracing_core_requests::{
     At, Attributes, CurrentSpan, Event, Interest, Record, RequestError, Subscriber, WeakDispatch,
 };
 
-/// A stack of outputs, and for each output a sink that takes its lines. A sink gets them once a request, when all
-/// outputs were told.
+/// A stack of outputs, and for each output a sink that takes its lines. They go there at the end of each
+/// request, after all outputs were told.
 ///
 /// A contract sees it as a `TraceStackValue`.
 #[derive(Drop)]
