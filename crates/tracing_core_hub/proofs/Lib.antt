@@ -15,3 +15,4 @@ pub mod Runs
 pub mod Scoping
 pub mod Callsites
 pub mod Defaults
+pub mod Indexed

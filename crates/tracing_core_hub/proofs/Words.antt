@@ -284,7 +284,7 @@ module _ {S C : Type 0} (g : Ghosts S) (h : SiteGhosts C) where
       }
 
   -- a request through a handle
-  call_keeps : (c : Call) (dispatch : Option ℕ) (t u : Table S C) (reply : ReplyTo c) → HubGives g c dispatch t reply u → PreservesCaches g h t u
+  pub call_keeps : (c : Call) (dispatch : Option ℕ) (t u : Table S C) (reply : ReplyTo c) → HubGives g c dispatch t reply u → PreservesCaches g h t u
   call_keeps c dispatch t u reply given = moved_keeps t u (call_moves c dispatch t.subscribers u.subscribers reply given.0) (alike_but_entries t u given.1)
 
   change_moves_at : {F T : Type 0} (call : Once F (MutBor S × Unit {0}) (T × (MutBor S × Unit {0}))) (f : F) (n : ℕ) (es fs : List (KeptSubscriber S)) (o : Option (KeptSubscriber S)) (result : Option T) → ChangesBy call f (AnswersAlike g) → subscriber_with n es ≡ o → ChangeGivesAt call f (Some n) es o result fs → Moved g es fs

@@ -13,6 +13,7 @@ pub mod Indices
 pub mod Keeping
 pub mod Lending
 pub mod Handing
+pub mod Indexed
 pub mod Changing
 pub mod Copies
 pub mod Running

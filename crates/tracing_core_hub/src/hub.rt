@@ -14,6 +14,7 @@ mod gate;
 mod handing;
 mod handles;
 mod index;
+mod indexed;
 mod lending;
 mod parts;
 mod reaching;
@@ -26,6 +27,7 @@ mod taking;
 
 use callsites::Callsites;
 pub use index::CallsiteIndex;
+pub use indexed::RequestParent;
 use parts::RegisteredSubscriber;
 pub use parts::{Lane, LaneDefault};
 use std::alloc::{AllocError, Global};

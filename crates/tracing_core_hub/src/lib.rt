@@ -11,7 +11,9 @@ mod run;
 pub use callsite::DefaultCallsite;
 pub use dispatch::Dispatch;
 pub use guard::{DefaultGuard, WrongLane};
-pub use hub::{CallsiteIndex, HandleCount, Hub, HubTable, KeptInterest, Lane, LaneDefault};
+pub use hub::{
+    CallsiteIndex, HandleCount, Hub, HubTable, KeptInterest, Lane, LaneDefault, RequestParent,
+};
 pub use refusal::{
     AddError, HandleError, RegisterError, SetDefaultError, SetGlobalDefaultError, TooManyHandles,
     UnknownLane,

@@ -15,7 +15,7 @@ use tracing_core_requests::{At, Callsite, Interest, Subscriber};
 /// Where a callsite stands in a hub: the first that was registered at 0, and each later one behind those
 /// before. It stays the same while the hub lives.
 #[derive(Clone, Copy, Debug, PartialEq, Eq)]
-pub struct CallsiteIndex(usize);
+pub struct CallsiteIndex(pub(crate) usize);
 
 impl<S, C> Hub<S, C> {
     /// Where the callsite with the identifier stands, for the calls that take its index. It is found in one

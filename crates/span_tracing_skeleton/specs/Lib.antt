@@ -1,0 +1,4 @@
+pub mod Refusals
+pub mod PlainData
+pub mod Skeleton
+pub mod Machine

@@ -1,0 +1,14 @@
+//! What callers hand to a trace and what it answers, as plain data; and the skeleton of a trace, which says in
+//! `specs/` which step is refused, what it answers, and which spans are open afterwards.
+#![tactic(auto)]
+
+mod call;
+mod has_registry;
+mod refusal;
+
+pub use call::{
+    EnabledCall, EventCall, FollowsCall, NewSpanCall, Parent, RecordCall, Reply, SpanCall,
+    SpanName, Step,
+};
+pub use has_registry::HasRegistry;
+pub use refusal::Refusal;
