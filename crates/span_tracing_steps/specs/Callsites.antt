@@ -1,8 +1,8 @@
--- Where callsites stand.
-use Rattle.std.specs.Prelude.{ℕ, suc, ◌==◌, if◌then◌else◌, List, [], ◌∷◌, map, Option, Some, None}
-use Rattle.std.specs.Arc.{Arc, arc_value}
-use Rattle.std.specs.Option.{option_map}
-use Rattle.tracing_core.specs.OwnedMetadatas.{owned_plain}
-use Rattle.tracing_core.specs.PlainMetadata.{PlainMetadata}
-use Rattle.tracing_core_fields.specs.declared.owned_metadata.OwnedMetadata.{OwnedMetadata}
+-- Callsites as a trace keeps them.
+use Rattle.tracing_core_fields.specs.OwnedMetadatas.{owned_plain}
+use Rattle.tracing_core_fields.specs.PlainMetadata.{PlainMetadata}
+use Rattle.span_tracing_steps.specs.declared.callsite.TraceCallsite.{TraceCallsite}
 
+-- the metadata, whose fields are the callsite's own
+abbrev pub own_metadata : TraceCallsite → PlainMetadata
+own_metadata site = record (owned_plain site.metadata) { callsite = site.identifier.0 }

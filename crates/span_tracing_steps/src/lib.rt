@@ -2,17 +2,12 @@
 #![tactic(auto)]
 
 mod action;
-mod callsites;
+mod callsite;
 mod checks;
-mod hand;
 mod parts;
 mod requests;
-mod setup;
-mod shared_callsite;
-mod state;
-mod steps;
+mod spans;
 
-pub use state::{TraceState, StackBack};
-
-#[cfg(test)]
-mod tests;
+pub use action::{RecordRequest, Request};
+pub use callsite::TraceCallsite;
+pub use parts::{Thread, TraceParts};

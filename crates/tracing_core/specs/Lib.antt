@@ -49,6 +49,7 @@ pub use Rattle.tracing_core_hub.specs.Sound
 pub use Rattle.tracing_core_hub.specs.Keeping
 pub use Rattle.tracing_core_hub.specs.Lending
 pub use Rattle.tracing_core_hub.specs.Handing
+pub use Rattle.tracing_core_hub.specs.Indexed
 pub use Rattle.tracing_core_hub.specs.Copies
 pub use Rattle.tracing_core_hub.specs.Running
 pub use Rattle.tracing_core_hub.specs.Scopes

@@ -12,8 +12,8 @@ pub use tracing_core_fields::{
 pub use tracing_core_hub::{
     AddError, Book, CallsiteIndex, Command, CommandError, CommandReply, DefaultCallsite,
     DefaultGuard, Dispatch, HandleCount, HandleError, Hub, HubTable, KeptInterest, Lane,
-    LaneDefault, NoRoom, RegisterError, SetDefaultError, SetGlobalDefaultError, TooManyHandles,
-    UnknownLane, WrongLane,
+    LaneDefault, NoRoom, RegisterError, RequestParent, SetDefaultError, SetGlobalDefaultError,
+    TooManyHandles, UnknownLane, WrongLane,
 };
 pub use tracing_core_requests::{
     At, Attributes, Callsite, Current, CurrentSpan, Event, Interest, NoSubscriber, Record,

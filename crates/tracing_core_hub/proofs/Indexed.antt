@@ -1,5 +1,5 @@
 -- Requests at callsites that are told by their index.
-use Rattle.std.proofs.Common.{◌≡◌, ℕ, List, length, Option, Some, None, Result, refl, ap, sym, ◌∙◌, subst}
+use Rattle.std.proofs.Common.{◌≡◌, ℕ, Bool, List, length, Option, Some, None, Result, refl, ap, sym, ◌∙◌, subst}
 use Rattle.tracing_core_fields.specs.FieldSet.{field_names, set_callsite}
 use Rattle.tracing_core_fields.specs.OwnedValues.{indexed_entries}
 use Rattle.tracing_core_fields.specs.PlainMetadata.{PlainMetadata}
@@ -13,12 +13,12 @@ use Rattle.tracing_core_requests.specs.declared.at.At.{At}
 use Rattle.tracing_core_requests.specs.declared.callsite.Callsite.{Ghosts as SiteGhosts}
 use Rattle.tracing_core_requests.specs.declared.refusal.RequestError.{RequestError}
 use Rattle.tracing_core_requests.specs.declared.subscriber.Subscriber.{Ghosts}
-use Rattle.tracing_core_hub.specs.Indexed.{EventAtGives, RecordAtGives, SpanAtGives, request_at, values_at}
+use Rattle.tracing_core_hub.specs.Indexed.{AskAtGives, EventAtGives, RecordAtGives, SpanAtGives, request_at, values_at}
 use Rattle.tracing_core_hub.specs.Keeping.{PreservesCaches}
 use Rattle.tracing_core_hub.specs.Kept.{KeptCallsite}
 use Rattle.tracing_core_hub.specs.Table.{Table}
 use Rattle.tracing_core_hub.specs.declared.hub.indexed.RequestParent.{RequestParent}
-use Rattle.tracing_core_hub.proofs.Words.{call_keeps, itself_keeps}
+use Rattle.tracing_core_hub.proofs.Words.{ask_keeps, call_keeps, itself_keeps}
 
 -- the values of a set by the places of fields
 pub values_are : (vs : ValueSet) (fs : FieldSet) (m : PlainMetadata) (values : List FieldValue) → entries_of vs ≡ indexed_entries (length (field_names fs)) values → fields_of_values vs ≡ fs → field_names fs ≡ m.field_names → set_callsite fs ≡ m.callsite → plain_values vs ≡ values_at m values
@@ -29,6 +29,10 @@ values_are vs fs m values entries fields names callsite =
     ∙ ap (λ (ns : List (List ℕ)). record { callsite = m.callsite; names = ns; entries = indexed_entries (length ns) values }) names
 
 module _ {S C : Type 0} (g : Ghosts S) (h : SiteGhosts C) where
+  pub asked_at_keeps : (o : Option (KeptCallsite C)) (at : At) (dispatch : Option ℕ) (t : Table S C) (result : Option Bool) (u : Table S C) → AskAtGives g h o at dispatch t result u → PreservesCaches g h t u
+  asked_at_keeps None at dispatch t result u w = subst (PreservesCaches g h t) (sym w.1) (itself_keeps g h t)
+  asked_at_keeps (Some row) at dispatch t result u w = ask_keeps g h (h.metadata_of row.callsite) at dispatch t u w.0 w.2 w.3
+
   pub event_keeps : (o : Option (KeptCallsite C)) (values : List FieldValue) (parent : RequestParent) (at : At) (dispatch : Option ℕ) (t : Table S C) (result : Option (Result (Unit {0}) RequestError)) (u : Table S C) → EventAtGives g h o values parent at dispatch t result u → PreservesCaches g h t u
   event_keeps None values parent at dispatch t result u w = subst (PreservesCaches g h t) (sym w.1) (itself_keeps g h t)
   event_keeps (Some row) values parent at dispatch t result u w = call_keeps g h (EventDispatched (request_at (h.metadata_of row.callsite) values parent) at) dispatch t u w.0 w.2

@@ -300,7 +300,7 @@ module _ {S C : Type 0} (g : Ghosts S) (h : SiteGhosts C) where
   change_keeps call f dispatch t u result alike given left = moved_keeps t u (change_moves call f dispatch t.subscribers u.subscribers result alike given) (alike_but_entries t u left)
 
   -- a question through a handle
-  ask_keeps : (m : PlainMetadata) (now : At) (dispatch : Option ℕ) (t u : Table S C) (answer : Bool) → AskGives g m now dispatch t.subscribers answer u.subscribers → u ≡ record t { subscribers = u.subscribers } → PreservesCaches g h t u
+  pub ask_keeps : (m : PlainMetadata) (now : At) (dispatch : Option ℕ) (t u : Table S C) (answer : Bool) → AskGives g m now dispatch t.subscribers answer u.subscribers → u ≡ record t { subscribers = u.subscribers } → PreservesCaches g h t u
   ask_keeps m now dispatch t u answer given left = moved_keeps t u (ask_moves m now dispatch t.subscribers u.subscribers answer given) (alike_but_entries t u left)
 
   -- what the subscribers give by the number of a handle is what the hub gives

@@ -1,5 +1,5 @@
 -- Requests at callsites that are told by their index.
-use Rattle.std.specs.Prelude.{◌≡◌, ℕ, List, length, Option, Some, None, Result}
+use Rattle.std.specs.Prelude.{◌≡◌, ℕ, Bool, List, length, Option, Some, None, Result}
 use Rattle.tracing_core_fields.specs.OwnedValues.{indexed_entries}
 use Rattle.tracing_core_fields.specs.PlainMetadata.{PlainMetadata}
 use Rattle.tracing_core_fields.specs.declared.owned_value.FieldValue.{FieldValue}
@@ -11,6 +11,7 @@ use Rattle.tracing_core_requests.specs.declared.refusal.RequestError.{RequestErr
 use Rattle.tracing_core_requests.specs.declared.requests.parent.Parent.{Parent}
 use Rattle.tracing_core_requests.specs.declared.requests.parent.Parent.TheVariants.{Current, Explicit, Root}
 use Rattle.tracing_core_requests.specs.declared.subscriber.Subscriber.{Ghosts}
+use Rattle.tracing_core_hub.specs.Commands.{AskGives}
 use Rattle.tracing_core_hub.specs.Handing.{HubGives}
 use Rattle.tracing_core_hub.specs.Kept.{KeptCallsite}
 use Rattle.tracing_core_hub.specs.Table.{Table}
@@ -31,6 +32,12 @@ abbrev pub request_at : PlainMetadata → List FieldValue → RequestParent → 
 request_at m values parent = record { metadata = m; values = values_at m values; parent = plain_parent parent }
 
 module _ {S C : Type 0} (g : Ghosts S) (h : SiteGhosts C) where
+  -- the subscriber of the handle was asked, or no callsite stands there
+  abbrev pub AskAtGives : Option (KeptCallsite C) → At → Option ℕ → Table S C → Option Bool → Table S C → Type 0
+  AskAtGives None at dispatch t result u = (result ≡ None) × (u ≡ t)
+  AskAtGives (Some row) at dispatch t result u =
+      (answer : Bool) × (result ≡ Some answer) × AskGives g (h.metadata_of row.callsite) at dispatch t.subscribers answer u.subscribers × (u ≡ record t { subscribers = u.subscribers })
+
   -- the subscriber of the handle took the event, or no callsite stands there
   abbrev pub EventAtGives : Option (KeptCallsite C) → List FieldValue → RequestParent → At → Option ℕ → Table S C → Option (Result (Unit {0}) RequestError) → Table S C → Type 0
   EventAtGives None values parent at dispatch t result u = (result ≡ None) × (u ≡ t)

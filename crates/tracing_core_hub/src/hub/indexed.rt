@@ -2,7 +2,7 @@
 ghost use Rattle.std.specs.Prelude.{◌≡◌, slice_get};
 ghost use Rattle.tracing_core_fields.specs.Metadata.{plain_metadata};
 ghost use Rattle.tracing_core_hub.specs.Handing.{CallGives};
-ghost use Rattle.tracing_core_hub.specs.Indexed.{EventAtGives, RecordAtGives, SpanAtGives, plain_parent, request_at, values_at};
+ghost use Rattle.tracing_core_hub.specs.Indexed.{AskAtGives, EventAtGives, RecordAtGives, SpanAtGives, plain_parent, request_at, values_at};
 ghost use Rattle.tracing_core_hub.specs.Keeping.{PreservesCaches};
 ghost use Rattle.tracing_core_requests.specs.Calls.{EventDispatched, Recorded, SpanMade};
 
@@ -11,6 +11,7 @@ use crate::hub::Hub;
 use crate::hub::handing::{event_at, new_span_at, record_at};
 use crate::hub::index::CallsiteIndex;
 use crate::hub::parts::RegisteredSubscriber;
+use crate::hub::registered::ask_one;
 use tracing_core_fields::{FieldValue, Id, Metadata};
 use tracing_core_requests::{At, Attributes, Callsite, Event, Record, RequestError, Subscriber};
 
@@ -95,6 +96,34 @@ fn tell_values<S: Subscriber>(
 }
 
 impl<S: Subscriber, C: Callsite> Hub<S, C> {
+    /// Whether the subscriber of the handle wants a span or an event of the callsite of the index, or `None` where no
+    /// callsite stands there.
+    pub fn enabled_at(
+        &mut self,
+        dispatch: &Dispatch,
+        index: CallsiteIndex,
+        at: At,
+    ) -> Option<bool>
+        ensures gives { AskAtGives ⟦<S as Subscriber>⟧ ⟦<C as Callsite>⟧ (slice_get self.old.callsites index.0) at
+            dispatch.now self.old result self.new }
+        ensures keeps { PreservesCaches ⟦<S as Subscriber>⟧ ⟦<C as Callsite>⟧ self.old self.new }
+    {
+        self.ask_at(dispatch, index, at)
+    }
+
+    fn ask_at(&mut self, dispatch: &Dispatch, index: CallsiteIndex, at: At) -> Option<bool>
+        ensures { AskAtGives ⟦<S as Subscriber>⟧ ⟦<C as Callsite>⟧ (slice_get self.old.callsites index.0) at
+            dispatch.now self.old result self.new }
+    {
+        match self.callsites.at(index.0) {
+            None => None,
+            Some(registered) => {
+                let metadata = registered.callsite.metadata();
+                Some(ask_one(&mut self.subscribers, dispatch.serial(), &metadata, at))
+            }
+        }
+    }
+
     /// Makes an event at the callsite of the index, and hands it to the subscriber of the handle, or answers `None`
     /// where no callsite stands there. A value is told by its field's place among those of the callsite; one of a
     /// field that the callsite lacks is passed over.

@@ -1,0 +1,5 @@
+pub mod Bare
+pub mod Callsites
+pub mod Called
+pub mod Indexed
+pub mod Going

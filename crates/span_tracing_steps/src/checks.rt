@@ -1,0 +1,365 @@
+//! Which steps are refused, by reading alone.
+ghost use Rattle.std.specs.Prelude.{◌≡◌, not, Some, None, length, map, option_and_then, is_some};
+ghost use Rattle.std.specs.Option.{option_copied, option_map};
+ghost use Rattle.span_registry_layers_store.specs.Registries.{PlainSpan, kin_in};
+ghost use Rattle.span_registry_layers_store.specs.Spans.{found};
+ghost use Rattle.span_tracing_skeleton.specs.Machine.{call_refusal, callsite_of, count_refusal, enabled_refusal, first, follows_refusal, handle_refusal, handles_in, has_open, ids_refusal, known, knows_stack, lane_refusal, moment_refusal, named, open_refusal, pair_refusal, parent_refusal, request_refusal, span_refusal, stack_refusal, when};
+ghost use Rattle.span_tracing_skeleton.specs.declared.refusal.Refusal.TheVariants.{GlobalSet, UnknownStack};
+ghost use Rattle.span_tracing_skeleton.specs.PlainData.{on_span};
+ghost use Rattle.span_tracing_steps.specs.Actions.{plain_record};
+ghost use Rattle.span_tracing_steps.specs.States.{at_index, skeleton_of, stack_in, value_in};
+
+use crate::action::{RecordRequest, Request};
+use crate::parts::TraceParts;
+use span_tracing_skeleton::{
+    EnabledCall, FollowsCall, HasRegistry, Parent, Refusal, SpanCall, SpanName,
+};
+use tracing_appender_folders::Moment;
+use tracing_core_fields::{Id, Identifier};
+use tracing_core_hub::CallsiteIndex;
+use tracing_core_requests::Subscriber;
+
+impl<T: Subscriber + HasRegistry> TraceParts<T> {
+    ghost use Rattle.span_tracing_steps.specs.Sound.{IsSound};
+
+    /// Where the callsite with the identifier stands.
+    #[tactic(auto, using(crate::proofs::Callsites::index_names, crate::proofs::Callsites::index_there))]
+    pub(crate) fn find(&self, number: u64) -> Option<CallsiteIndex>
+        requires { IsSound ⟦<T as Subscriber>⟧ self.now }
+        ensures names { at_index (value_in self.now).callsites result ≡ named (value_in self.now).callsites number }
+        ensures there { is_some result ≡ is_some (named (value_in self.now).callsites number) }
+    {
+        self.hub.index_of(Identifier(number))
+    }
+
+    /// Where the callsite of this kind with the identifier stands.
+    pub(crate) fn known(&self, number: u64, is_span: bool) -> Option<CallsiteIndex>
+        requires { IsSound ⟦<T as Subscriber>⟧ self.now }
+        ensures names { at_index (value_in self.now).callsites result
+            ≡ known (skeleton_of T.registry_of (value_in self.now)) number is_span }
+        ensures there { is_some result ≡ is_some (known (skeleton_of T.registry_of (value_in self.now)) number is_span) }
+    {
+        let index = self.find(number)?;
+        let Some(metadata) = self.hub.metadata_at(index) else {
+            return None;
+        };
+        let kind = metadata.kind();
+        let is_kind = if is_span {
+            kind.is_span()
+        } else {
+            kind.is_event()
+        };
+        if is_kind { Some(index) } else { None }
+    }
+
+    /// Whether the span is open.
+    #[tactic(auto, using(crate::proofs::Bare::open_bare))]
+    fn is_open(&self, id: Id) -> bool
+        ensures { result ≡ has_open (skeleton_of T.registry_of (value_in self.now)) id }
+    {
+        match self.stack() {
+            None => false,
+            Some(stack) => stack.registry().is_open(&id),
+        }
+    }
+
+    /// How many handles the span has, and 0 where it is not open.
+    #[tactic(auto, using(crate::proofs::Bare::handles_bare))]
+    fn handles_of(&self, id: Id) -> usize
+        ensures { result ≡ handles_in (skeleton_of T.registry_of (value_in self.now)) id }
+    {
+        match self.stack() {
+            None => 0,
+            Some(stack) => stack.registry().handles_of(&id),
+        }
+    }
+
+    // The identifier of an open span's callsite.
+    fn number_of(&self, id: Id) -> Option<u64>
+        ensures { result ≡ option_and_then (λ x. option_map (λ (s : PlainSpan). s.metadata.callsite)
+            (found kin_in (T.registry_of x).spans id)) (stack_in self.now) }
+    {
+        match self.stack() {
+            None => None,
+            Some(stack) => match stack.registry().span(&id) {
+                None => None,
+                Some(span) => Some(span.fields().callsite().0),
+            },
+        }
+    }
+
+    /// Where the callsite of an open span stands.
+    #[tactic(auto, using(crate::proofs::Bare::callsite_bare))]
+    pub(crate) fn callsite_of(&self, id: Id) -> Option<CallsiteIndex>
+        requires { IsSound ⟦<T as Subscriber>⟧ self.now }
+        ensures names { at_index (value_in self.now).callsites result
+            ≡ callsite_of (skeleton_of T.registry_of (value_in self.now)) id }
+        ensures there { is_some result ≡ is_some (callsite_of (skeleton_of T.registry_of (value_in self.now)) id) }
+    {
+        match self.number_of(id) {
+            None => None,
+            Some(number) => self.find(number),
+        }
+    }
+
+    fn knows_stack(&self, stack: usize) -> bool
+        ensures { result ≡ knows_stack (skeleton_of T.registry_of (value_in self.now)) stack }
+    {
+        self.stack().is_some() && stack == 0
+    }
+
+    fn parent_refusal(&self, parent: Parent) -> Option<Refusal>
+        ensures { result ≡ parent_refusal (skeleton_of T.registry_of (value_in self.now)) parent }
+    {
+        match parent {
+            Parent::Contextual => None,
+            Parent::Root => None,
+            Parent::Explicit(name) => {
+                if !self.knows_stack(name.stack) {
+                    return Some(Refusal::UnknownStack);
+                }
+                if !self.hub.has_been_set() {
+                    return Some(Refusal::ForeignParent);
+                }
+                if !self.is_open(name.id) {
+                    return Some(Refusal::UnknownSpan);
+                }
+                None
+            }
+        }
+    }
+
+    /// The refusal of a lane, and then of a moment.
+    #[tactic(auto, using(crate::proofs::Bare::length_map))]
+    fn place_refusal(&self, lane: usize, moment: Moment) -> Option<Refusal>
+        ensures { result ≡ first (lane_refusal (skeleton_of T.registry_of (value_in self.now)) lane)
+            (moment_refusal moment) }
+    {
+        if self.threads.len() <= lane {
+            return Some(Refusal::UnknownLane);
+        }
+        if !moment.is_in_range() {
+            return Some(Refusal::BadMoment);
+        }
+        None
+    }
+
+    /// Why no event or span of this kind is made at the callsite that was looked for.
+    pub(crate) fn request_refusal(
+        &self,
+        request: &Request<'_>,
+        is_span: bool,
+        callsite: Option<CallsiteIndex>,
+    ) -> Option<Refusal>
+        requires { is_some callsite
+            ≡ is_some (known (skeleton_of T.registry_of (value_in self.now)) request.now.callsite is_span) }
+        ensures { result ≡ request_refusal (skeleton_of T.registry_of (value_in self.now)) request.now.lane
+            request.now.moment request.now.callsite is_span request.now.parent }
+    {
+        if let Some(refusal) = self.place_refusal(request.lane, request.moment) {
+            return Some(refusal);
+        }
+        match callsite {
+            None => Some(Refusal::UnknownCallsite),
+            Some(_) => self.parent_refusal(request.parent),
+        }
+    }
+
+    /// Why no span is made: the stack is reached, and all ids were given.
+    pub(crate) fn ids_refusal(&self) -> Option<Refusal>
+        ensures { result ≡ ids_refusal (skeleton_of T.registry_of (value_in self.now)) }
+    {
+        if !self.hub.has_been_set() {
+            return None;
+        }
+        match self.stack() {
+            None => None,
+            Some(stack) => match stack.registry().next_id() {
+                None => Some(Refusal::IdsSpent),
+                Some(_) => None,
+            },
+        }
+    }
+
+    /// Why a question isn't asked.
+    pub(crate) fn enabled_refusal(
+        &self,
+        call: &EnabledCall,
+        callsite: Option<CallsiteIndex>,
+    ) -> Option<Refusal>
+        requires { is_some callsite ≡ is_some (named (value_in self.now).callsites call.now.callsite.0) }
+        ensures { result ≡ enabled_refusal (skeleton_of T.registry_of (value_in self.now)) call.now }
+    {
+        if let Some(refusal) = self.place_refusal(call.lane, call.moment) {
+            return Some(refusal);
+        }
+        match callsite {
+            None => Some(Refusal::UnknownCallsite),
+            Some(_) => None,
+        }
+    }
+
+    fn span_refusal(&self, span: Option<SpanName>) -> Option<Refusal>
+        ensures { result ≡ span_refusal (skeleton_of T.registry_of (value_in self.now)) span }
+    {
+        match span {
+            None => None,
+            Some(name) => {
+                if !self.knows_stack(name.stack) {
+                    return Some(Refusal::UnknownStack);
+                }
+                if !self.is_open(name.id) {
+                    return Some(Refusal::UnknownSpan);
+                }
+                None
+            }
+        }
+    }
+
+    /// Why a call on a span isn't made.
+    pub(crate) fn call_refusal(&self, call: &SpanCall) -> Option<Refusal>
+        ensures { result ≡ call_refusal (skeleton_of T.registry_of (value_in self.now)) call.now }
+    {
+        if let Some(refusal) = self.place_refusal(call.lane, call.moment) {
+            return Some(refusal);
+        }
+        self.span_refusal(call.span)
+    }
+
+    /// Why values aren't told.
+    pub(crate) fn values_refusal(&self, request: &RecordRequest<'_>) -> Option<Refusal>
+        ensures { result ≡ call_refusal (skeleton_of T.registry_of (value_in self.now))
+            (on_span (plain_record request.now)) }
+    {
+        if let Some(refusal) = self.place_refusal(request.lane, request.moment) {
+            return Some(refusal);
+        }
+        self.span_refusal(request.span)
+    }
+
+    fn stack_refusal(&self, span: Option<SpanName>) -> Option<Refusal>
+        ensures { result ≡ stack_refusal (skeleton_of T.registry_of (value_in self.now)) span }
+    {
+        match span {
+            None => None,
+            Some(name) => {
+                if self.knows_stack(name.stack) {
+                    None
+                } else {
+                    Some(Refusal::UnknownStack)
+                }
+            }
+        }
+    }
+
+    fn open_refusal(&self, span: Option<SpanName>) -> Option<Refusal>
+        ensures { result ≡ open_refusal (skeleton_of T.registry_of (value_in self.now)) span }
+    {
+        match span {
+            None => None,
+            Some(name) => {
+                if self.is_open(name.id) {
+                    None
+                } else {
+                    Some(Refusal::UnknownSpan)
+                }
+            }
+        }
+    }
+
+    // The stacks of both are looked at before whether they are open.
+    fn pair_refusal(&self, call: &FollowsCall) -> Option<Refusal>
+        ensures { result ≡ pair_refusal (skeleton_of T.registry_of (value_in self.now)) call.now.span
+            call.now.follows }
+    {
+        let refusal = self.stack_refusal(call.span);
+        if refusal.is_some() {
+            return refusal;
+        }
+        let refusal = self.stack_refusal(call.follows);
+        if refusal.is_some() {
+            return refusal;
+        }
+        let refusal = self.open_refusal(call.span);
+        if refusal.is_some() {
+            return refusal;
+        }
+        self.open_refusal(call.follows)
+    }
+
+    /// Why it isn't told that a span follows another one.
+    pub(crate) fn follows_refusal(&self, call: &FollowsCall) -> Option<Refusal>
+        ensures { result ≡ follows_refusal (skeleton_of T.registry_of (value_in self.now)) call.now }
+    {
+        if let Some(refusal) = self.place_refusal(call.lane, call.moment) {
+            return Some(refusal);
+        }
+        self.pair_refusal(call)
+    }
+
+    fn count_refusal(&self, span: Option<SpanName>) -> Option<Refusal>
+        ensures { result ≡ count_refusal (skeleton_of T.registry_of (value_in self.now)) span }
+    {
+        match span {
+            None => None,
+            Some(name) => {
+                if self.handles_of(name.id) == usize::MAX {
+                    return Some(Refusal::TooManyHandles);
+                }
+                None
+            }
+        }
+    }
+
+    fn handle_refusal(&self, span: Option<SpanName>) -> Option<Refusal>
+        ensures { result ≡ handle_refusal (skeleton_of T.registry_of (value_in self.now)) span }
+    {
+        match span {
+            None => None,
+            Some(name) => {
+                if self.handles_of(name.id) == 0 {
+                    return Some(Refusal::UnknownSpan);
+                }
+                None
+            }
+        }
+    }
+
+    /// Why no handle is taken.
+    pub(crate) fn clone_refusal(&self, call: &SpanCall) -> Option<Refusal>
+        ensures { result ≡ first (call_refusal (skeleton_of T.registry_of (value_in self.now)) call.now)
+            (count_refusal (skeleton_of T.registry_of (value_in self.now)) call.now.span) }
+    {
+        let refusal = self.call_refusal(call);
+        if refusal.is_some() {
+            return refusal;
+        }
+        self.count_refusal(call.span)
+    }
+
+    /// Why no handle is given up.
+    pub(crate) fn close_refusal(&self, call: &SpanCall) -> Option<Refusal>
+        ensures { result ≡ first (call_refusal (skeleton_of T.registry_of (value_in self.now)) call.now)
+            (handle_refusal (skeleton_of T.registry_of (value_in self.now)) call.now.span) }
+    {
+        let refusal = self.call_refusal(call);
+        if refusal.is_some() {
+            return refusal;
+        }
+        self.handle_refusal(call.span)
+    }
+
+    /// Why the stack with this handle isn't made the one that lanes reach.
+    pub(crate) fn global_refusal(&self, handle: usize) -> Option<Refusal>
+        ensures { result ≡ first (when (not (knows_stack (skeleton_of T.registry_of (value_in self.now)) handle))
+            UnknownStack) (when (skeleton_of T.registry_of (value_in self.now)).is_global GlobalSet) }
+    {
+        if !self.knows_stack(handle) {
+            return Some(Refusal::UnknownStack);
+        }
+        if self.hub.has_been_set() {
+            return Some(Refusal::GlobalSet);
+        }
+        None
+    }
+}

@@ -1,0 +1,42 @@
+//! All that a trace keeps.
+ghost use Rattle.std.specs.Prelude.{◌≡◌};
+ghost use Rattle.std.specs.Option.{option_copied};
+
+use crate::callsite::TraceCallsite;
+use span_tracing_skeleton::HasRegistry;
+use std::alloc::Global;
+use tracing_core_hub::{Dispatch, Hub};
+use tracing_core_requests::Subscriber;
+
+/// A lane's name and thread.
+#[derive(Debug, Drop)]
+pub struct Thread {
+    /// The name, where it has one.
+    pub name: Option<String>,
+    /// The number of the thread.
+    pub thread_id: u64,
+}
+
+/// The lanes' threads, and the hub with the callsites and the one stack.
+#[derive(Drop)]
+pub struct TraceParts<T> {
+    pub(crate) alloc: Global,
+    pub(crate) threads: Vec<Thread>,
+    pub(crate) hub: Hub<T, TraceCallsite>,
+    /// The stack's handle, where there is a stack.
+    pub(crate) handle: Option<Dispatch>,
+}
+
+impl<T: Subscriber> TraceParts<T> {
+    ghost use Rattle.span_tracing_steps.specs.States.{stack_in};
+
+    /// The stack, where there is one.
+    pub fn stack(&self) -> Option<&T>
+        ensures { option_copied result ≡ stack_in self.now }
+    {
+        match &self.handle {
+            None => None,
+            Some(handle) => self.hub.subscriber(handle),
+        }
+    }
+}

@@ -1,0 +1,146 @@
+//! Events, questions and new spans.
+ghost use Rattle.std.specs.Prelude.{◌≡◌};
+ghost use Rattle.tracing_core_hub.specs.Indexed.{plain_parent};
+ghost use Rattle.tracing_core_requests.specs.declared.refusal.RequestError.{RequestError};
+ghost use Rattle.span_tracing_skeleton.specs.Machine.{told_parent};
+ghost use Rattle.span_tracing_skeleton.specs.PlainData.{EnabledStep, EventStep, SpanStep};
+ghost use Rattle.span_tracing_steps.specs.Actions.{plain_request};
+ghost use Rattle.span_tracing_steps.specs.States.{value_in};
+ghost use Rattle.span_tracing_steps.specs.Steps.{StepGives, span_reply};
+ghost use Rattle.span_tracing_steps.specs.Telling.{named_as, place_at};
+
+use crate::action::Request;
+use crate::parts::TraceParts;
+use span_tracing_skeleton::{EnabledCall, HasRegistry, Parent, Refusal, Reply, SpanName};
+use tracing_appender_folders::Moment;
+use tracing_core_fields::Id;
+use tracing_core_hub::RequestParent;
+use tracing_core_requests::{At, RequestError, Subscriber};
+
+/// Where and when.
+pub(crate) fn at_of(lane: usize, moment: Moment) -> At
+    ensures { result ≡ place_at lane moment }
+{
+    At {
+        lane: lane as u64,
+        seconds: moment.seconds,
+        nanoseconds: moment.nanoseconds,
+    }
+}
+
+// The parent, as the hub is told of it: its stack was looked at.
+fn parent_of(parent: Parent) -> RequestParent
+    ensures { plain_parent result ≡ told_parent parent }
+{
+    match parent {
+        Parent::Contextual => RequestParent::Contextual,
+        Parent::Root => RequestParent::Root,
+        Parent::Explicit(name) => RequestParent::Explicit(name.id),
+    }
+}
+
+// The name of the span that was made.
+fn name_of(id: Option<Id>) -> Option<SpanName>
+    ensures { result ≡ named_as id }
+{
+    match id {
+        None => None,
+        Some(id) => Some(SpanName { stack: 0, id }),
+    }
+}
+
+// A parent was looked for, and that ids are left, so that only want of memory is new.
+fn reply_of(made: Result<Option<Id>, RequestError>) -> Reply
+    ensures { result ≡ span_reply made }
+{
+    match made {
+        Ok(id) => Reply::Span(name_of(id)),
+        Err(RequestError::IdsSpent) => Reply::Refused(Refusal::IdsSpent),
+        Err(_) => Reply::Refused(Refusal::OutOfMemory),
+    }
+}
+
+impl<T: Subscriber + HasRegistry> TraceParts<T> {
+    ghost use Rattle.span_tracing_steps.specs.Sound.{IsSound};
+
+    /// An event on a lane.
+    pub fn event(&mut self, event: &Request<'_>) -> Reply
+        requires { IsSound ⟦<T as Subscriber>⟧ self.old }
+        ensures sound { IsSound ⟦<T as Subscriber>⟧ self.new }
+        ensures gives { StepGives ⟦<T as Subscriber>⟧ T.registry_of (value_in self.old) (EventStep
+            (plain_request event.now)) result (value_in self.new) }
+    {
+        let found = self.known(event.callsite, false);
+        if let Some(refusal) = self.request_refusal(event, false, found) {
+            return Reply::Refused(refusal);
+        }
+        if !self.hub.has_been_set() {
+            return Reply::Done;
+        }
+        let Some(index) = found else { unreachable!() };
+        let Some(handle) = &self.handle else {
+            unreachable!()
+        };
+        // The refusals were looked for, so nothing stands in its way.
+        let at = at_of(event.lane, event.moment);
+        let parent = parent_of(event.parent);
+        let _told = self.hub.event_at(handle, index, parent, event.values, at);
+        Reply::Done
+    }
+
+    /// A new span on a lane.
+    pub fn new_span(&mut self, span: &Request<'_>) -> Reply
+        requires { IsSound ⟦<T as Subscriber>⟧ self.old }
+        ensures sound { IsSound ⟦<T as Subscriber>⟧ self.new }
+        ensures gives { StepGives ⟦<T as Subscriber>⟧ T.registry_of (value_in self.old) (SpanStep
+            (plain_request span.now)) result (value_in self.new) }
+    {
+        let found = self.known(span.callsite, true);
+        if let Some(refusal) = self.request_refusal(span, true, found) {
+            return Reply::Refused(refusal);
+        }
+        if let Some(refusal) = self.ids_refusal() {
+            return Reply::Refused(refusal);
+        }
+        if !self.hub.has_been_set() {
+            return Reply::Span(None);
+        }
+        let Some(index) = found else { unreachable!() };
+        let Some(handle) = &self.handle else {
+            unreachable!()
+        };
+        let at = at_of(span.lane, span.moment);
+        let parent = parent_of(span.parent);
+        match self.hub.new_span_at(handle, index, parent, span.values, at) {
+            None => unreachable!(),
+            Some(made) => reply_of(made),
+        }
+    }
+
+    /// Asks whether a request at a callsite would be made.
+    pub fn enabled(&mut self, call: &EnabledCall) -> Reply
+        requires { IsSound ⟦<T as Subscriber>⟧ self.old }
+        ensures sound { IsSound ⟦<T as Subscriber>⟧ self.new }
+        ensures gives { StepGives ⟦<T as Subscriber>⟧ T.registry_of (value_in self.old) (EnabledStep
+            call.now) result (value_in self.new) }
+    {
+        let found = self.find(call.callsite.0);
+        if let Some(refusal) = self.enabled_refusal(call, found) {
+            return Reply::Refused(refusal);
+        }
+        if !self.hub.has_been_set() {
+            return Reply::Enabled(false);
+        }
+        let Some(index) = found else { unreachable!() };
+        let Some(handle) = &self.handle else {
+            unreachable!()
+        };
+        match self
+            .hub
+            .enabled_at(handle, index, at_of(call.lane, call.moment))
+        {
+            None => unreachable!(),
+            Some(wanted) => Reply::Enabled(wanted),
+        }
+    }
+}

@@ -1,0 +1,176 @@
+//! Calls on spans that are there.
+ghost use Rattle.std.specs.Prelude.{◌≡◌};
+ghost use Rattle.span_tracing_skeleton.specs.PlainData.{CloneStep, CloseStep, EnterStep, ExitStep, FollowsFromStep, GlobalStep, RecordStep};
+ghost use Rattle.span_tracing_steps.specs.Actions.{plain_record};
+ghost use Rattle.span_tracing_steps.specs.States.{value_in};
+ghost use Rattle.span_tracing_steps.specs.Steps.{StepGives};
+
+use crate::action::RecordRequest;
+use crate::parts::TraceParts;
+use crate::requests::at_of;
+use span_tracing_skeleton::{FollowsCall, HasRegistry, Refusal, Reply, SpanCall};
+use tracing_core_requests::Subscriber;
+
+impl<T: Subscriber + HasRegistry> TraceParts<T> {
+    ghost use Rattle.span_tracing_steps.specs.Sound.{IsSound};
+
+    /// Makes the stack with this handle the one that lanes reach.
+    pub fn set_global_default(&mut self, handle: usize) -> Reply
+        requires { IsSound ⟦<T as Subscriber>⟧ self.old }
+        ensures sound { IsSound ⟦<T as Subscriber>⟧ self.new }
+        ensures gives { StepGives ⟦<T as Subscriber>⟧ T.registry_of (value_in self.old) (GlobalStep handle) result
+            (value_in self.new) }
+    {
+        if let Some(refusal) = self.global_refusal(handle) {
+            return Reply::Refused(refusal);
+        }
+        let Some(dispatch) = &self.handle else {
+            unreachable!()
+        };
+        // It is the stack's own handle, and the first default.
+        let _set = self.hub.set_global_default(dispatch);
+        Reply::Done
+    }
+
+    /// Adds values to a span's.
+    pub fn record(&mut self, request: &RecordRequest<'_>) -> Reply
+        requires { IsSound ⟦<T as Subscriber>⟧ self.old }
+        ensures sound { IsSound ⟦<T as Subscriber>⟧ self.new }
+        ensures gives { StepGives ⟦<T as Subscriber>⟧ T.registry_of (value_in self.old) (RecordStep
+            (plain_record request.now)) result (value_in self.new) }
+    {
+        if let Some(refusal) = self.values_refusal(request) {
+            return Reply::Refused(refusal);
+        }
+        let Some(name) = request.span else {
+            return Reply::Done;
+        };
+        let Some(index) = self.callsite_of(name.id) else {
+            return Reply::Done;
+        };
+        let Some(handle) = &self.handle else {
+            unreachable!()
+        };
+        let at = at_of(request.lane, request.moment);
+        let _told = self
+            .hub
+            .record_at(handle, index, &name.id, request.values, at);
+        Reply::Done
+    }
+
+    /// Records that a span follows from another one.
+    pub fn record_follows_from(&mut self, call: &FollowsCall) -> Reply
+        requires { IsSound ⟦<T as Subscriber>⟧ self.old }
+        ensures sound { IsSound ⟦<T as Subscriber>⟧ self.new }
+        ensures gives { StepGives ⟦<T as Subscriber>⟧ T.registry_of (value_in self.old) (FollowsFromStep
+            call.now) result (value_in self.new) }
+    {
+        if let Some(refusal) = self.follows_refusal(call) {
+            return Reply::Refused(refusal);
+        }
+        let Some(name) = call.span else {
+            return Reply::Done;
+        };
+        let Some(followed) = call.follows else {
+            return Reply::Done;
+        };
+        let Some(handle) = &self.handle else {
+            unreachable!()
+        };
+        let at = at_of(call.lane, call.moment);
+        let _told = self
+            .hub
+            .record_follows_from(handle, &name.id, &followed.id, at);
+        Reply::Done
+    }
+
+    /// Enters a span on a lane.
+    pub fn enter(&mut self, call: &SpanCall) -> Reply
+        requires { IsSound ⟦<T as Subscriber>⟧ self.old }
+        ensures sound { IsSound ⟦<T as Subscriber>⟧ self.new }
+        ensures gives { StepGives ⟦<T as Subscriber>⟧ T.registry_of (value_in self.old) (EnterStep call.now)
+            result (value_in self.new) }
+    {
+        if let Some(refusal) = self.call_refusal(call) {
+            return Reply::Refused(refusal);
+        }
+        let Some(name) = call.span else {
+            return Reply::Done;
+        };
+        let Some(handle) = &self.handle else {
+            unreachable!()
+        };
+        match self
+            .hub
+            .enter(handle, &name.id, at_of(call.lane, call.moment))
+        {
+            Ok(()) => Reply::Done,
+            Err(_) => Reply::Refused(Refusal::OutOfMemory),
+        }
+    }
+
+    /// Leaves a span on a lane.
+    pub fn exit(&mut self, call: &SpanCall) -> Reply
+        requires { IsSound ⟦<T as Subscriber>⟧ self.old }
+        ensures sound { IsSound ⟦<T as Subscriber>⟧ self.new }
+        ensures gives { StepGives ⟦<T as Subscriber>⟧ T.registry_of (value_in self.old) (ExitStep call.now)
+            result (value_in self.new) }
+    {
+        if let Some(refusal) = self.call_refusal(call) {
+            return Reply::Refused(refusal);
+        }
+        let Some(name) = call.span else {
+            return Reply::Done;
+        };
+        let Some(handle) = &self.handle else {
+            unreachable!()
+        };
+        self.hub
+            .exit(handle, &name.id, at_of(call.lane, call.moment));
+        Reply::Done
+    }
+
+    /// Takes one more handle of a span.
+    pub fn clone_span(&mut self, call: &SpanCall) -> Reply
+        requires { IsSound ⟦<T as Subscriber>⟧ self.old }
+        ensures sound { IsSound ⟦<T as Subscriber>⟧ self.new }
+        ensures gives { StepGives ⟦<T as Subscriber>⟧ T.registry_of (value_in self.old) (CloneStep call.now)
+            result (value_in self.new) }
+    {
+        if let Some(refusal) = self.clone_refusal(call) {
+            return Reply::Refused(refusal);
+        }
+        let Some(name) = call.span else {
+            return Reply::Done;
+        };
+        let Some(handle) = &self.handle else {
+            unreachable!()
+        };
+        let _same = self
+            .hub
+            .clone_span(handle, &name.id, at_of(call.lane, call.moment));
+        Reply::Done
+    }
+
+    /// Gives up one handle of a span; answers whether the span closed.
+    pub fn try_close(&mut self, call: &SpanCall) -> Reply
+        requires { IsSound ⟦<T as Subscriber>⟧ self.old }
+        ensures sound { IsSound ⟦<T as Subscriber>⟧ self.new }
+        ensures gives { StepGives ⟦<T as Subscriber>⟧ T.registry_of (value_in self.old) (CloseStep call.now)
+            result (value_in self.new) }
+    {
+        if let Some(refusal) = self.close_refusal(call) {
+            return Reply::Refused(refusal);
+        }
+        let Some(name) = call.span else {
+            return Reply::Closed(false);
+        };
+        let Some(handle) = &self.handle else {
+            unreachable!()
+        };
+        Reply::Closed(
+            self.hub
+                .try_close(handle, name.id, at_of(call.lane, call.moment)),
+        )
+    }
+}
