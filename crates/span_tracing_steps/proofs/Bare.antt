@@ -1,5 +1,5 @@
 -- A registry without slots has the same spans.
-use Rattle.std.proofs.Common.{◌≡◌, ℕ, suc, Bool, true, false, ◌==◌, List, [], ◌∷◌, length, map, Option, Some, None, refl, ap, ◌∙◌, sym}
+use Rattle.std.proofs.Common.{◌≡◌, ℕ, suc, Bool, true, false, ◌==◌, List, [], ◌∷◌, ◌++◌, length, map, Option, Some, None, refl, ap, ◌∙◌, sym}
 use Rattle.std.specs.Prelude.{if◌then◌else◌, ◌||◌, option_and_then}
 use Rattle.std.specs.Option.{option_map}
 use Rattle.tracing_core_fields.specs.PlainMetadata.{PlainMetadata}
@@ -44,3 +44,7 @@ pub callsite_by : {T : Type 0} (registry_of : T → RegistryValue) (f : ℕ → 
     ≡ option_and_then f (option_and_then (λ x. option_map (λ (s : PlainSpan). s.metadata.callsite) (found kin_in (registry_of x).spans id)) stack)
 callsite_by registry_of f None id = refl
 callsite_by registry_of f (Some x) id = callsite_bare f (registry_of x).spans id
+
+pub map_more : {A B : Type 0} (f : A → B) (xs : List A) (x : A) → map f (xs ++ x ∷ []) ≡ map f xs ++ f x ∷ []
+map_more f [] x = refl
+map_more f (y ∷ ys) x = ap (λ rest. f y ∷ rest) (map_more f ys x)

@@ -32,13 +32,13 @@ use Rattle.span_tracing_steps.specs.declared.parts.TraceParts.{TraceParts}
 same_number : (n : ℕ) → (n == n) ≡ true
 same_number n = grind (arith, nat_tests)
 
-found_one : {T : Type 0} (e : KeptSubscriber T) → subscriber_with e.serial (e ∷ []) ≡ Some e
+pub found_one : {T : Type 0} (e : KeptSubscriber T) → subscriber_with e.serial (e ∷ []) ≡ Some e
 found_one e = rw (same_number e.serial) refl
 
 changed_one : {T : Type 0} (e : KeptSubscriber T) (f : KeptSubscriber T → KeptSubscriber T) → changed e.serial f (e ∷ []) ≡ f e ∷ []
 changed_one e f = rw (same_number e.serial) refl
 
-found_by : {T : Type 0} (n : ℕ) (e f : KeptSubscriber T) → subscriber_with n (e ∷ []) ≡ Some f → n ≡ e.serial → f ≡ e
+pub found_by : {T : Type 0} (n : ℕ) (e f : KeptSubscriber T) → subscriber_with n (e ∷ []) ≡ Some f → n ≡ e.serial → f ≡ e
 found_by n e f stands is = let here : Some f ≡ Some e = sym stands ∙ ap (λ (k : ℕ). subscriber_with k (e ∷ [])) is ∙ found_one e in cc
 
 -- the stack took the call, and is still the only one

@@ -3,3 +3,5 @@ pub mod Callsites
 pub mod Called
 pub mod Indexed
 pub mod Going
+pub mod Anew
+pub mod Registering

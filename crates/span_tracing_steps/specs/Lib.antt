@@ -4,3 +4,4 @@ pub mod States
 pub mod Sound
 pub mod Telling
 pub mod Steps
+pub mod Setup

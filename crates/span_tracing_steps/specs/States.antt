@@ -66,3 +66,7 @@ skeleton_of registry_of v = record {
 abbrev pub at_index : List PlainMetadata → Option CallsiteIndex → Option PlainMetadata
 at_index callsites None = None
 at_index callsites (Some index) = slice_get callsites index.0
+
+-- no callsite, no lane, no stack
+abbrev pub new_state : {T : Type 0} → StateValue T
+new_state = record { callsites = []; threads = []; is_global = false; stack = None }

@@ -6,6 +6,7 @@ mod callsite;
 mod checks;
 mod parts;
 mod requests;
+mod setup;
 mod spans;
 
 pub use action::{RecordRequest, Request};

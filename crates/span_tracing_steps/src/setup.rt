@@ -1,0 +1,100 @@
+//! Setup calls, which are no steps.
+ghost use Rattle.std.specs.Prelude.{◌≡◌, ◌++◌, ◌∷◌, [], IfOk, OnErr, OnOk, length, string_bytes};
+ghost use Rattle.std.specs.Option.{option_map};
+ghost use Rattle.tracing_core_fields.specs.Metadata.{plain_metadata};
+ghost use Rattle.span_tracing_steps.specs.Setup.{AddGives, RegisterGives, own_at};
+ghost use Rattle.span_tracing_steps.specs.States.{new_state, value_in};
+
+use crate::callsite::TraceCallsite;
+use crate::parts::{Thread, TraceParts};
+use span_tracing_skeleton::Refusal;
+use std::alloc::{AllocError, Global};
+use tracing_core_fields::{Identifier, Metadata};
+use tracing_core_hub::{AddError, Hub, RegisterError};
+use tracing_core_requests::{Interest, Subscriber};
+
+impl<T: Subscriber> TraceParts<T> {
+    ghost use Rattle.span_tracing_steps.specs.Sound.{IsSound};
+
+    /// No stack, no lane and no callsite.
+    pub fn new(alloc: Global) -> TraceParts<T>
+        ensures sound { IsSound ⟦<T as Subscriber>⟧ result }
+        ensures value { value_in result ≡ new_state }
+    {
+        TraceParts {
+            alloc,
+            threads: Vec::new(alloc),
+            hub: Hub::new(alloc),
+            handle: None,
+        }
+    }
+
+    /// Adds a lane, and answers its number: lanes are numbered from 0.
+    ///
+    /// # Errors
+    ///
+    /// Want of memory, which changes nothing.
+    #[tactic(auto, using(crate::proofs::Bare::length_map, crate::proofs::Bare::map_more))]
+    pub fn thread(&mut self, name: Option<String>, thread_id: u64) -> Result<usize, AllocError>
+        requires { IsSound ⟦<T as Subscriber>⟧ self.old }
+        ensures sound { IsSound ⟦<T as Subscriber>⟧ self.new }
+        ensures number { IfOk result (λ lane. lane ≡ length (value_in self.old).threads) }
+        ensures ok { OnOk result (value_in self.new ≡ record (value_in self.old) {
+          threads = (value_in self.old).threads ++ (record { name = option_map string_bytes name; number = thread_id }) ∷ [];
+        }) }
+        ensures err { OnErr result (value_in self.new ≡ value_in self.old) }
+    {
+        let lane = self.threads.len();
+        self.threads.push(Thread { name, thread_id })?;
+        Ok(lane)
+    }
+
+    /// Registers a callsite under an identifier, and answers the interest in it that is kept: what the stack says of it,
+    /// and never where there is no stack. Equal metadata may be registered again, which answers the kept interest
+    /// and changes nothing.
+    ///
+    /// # Errors
+    ///
+    /// `Taken` where other metadata holds the identifier, else `OutOfMemory`; both change nothing.
+    pub fn register(
+        &mut self,
+        identifier: Identifier,
+        metadata: &Metadata<'_>,
+    ) -> Result<Interest, Refusal>
+        requires { IsSound ⟦<T as Subscriber>⟧ self.old }
+        ensures sound { IsSound ⟦<T as Subscriber>⟧ self.new }
+        ensures gives { RegisterGives ⟦<T as Subscriber>⟧ (value_in self.old)
+            (own_at identifier.0 (plain_metadata metadata.now)) result (value_in self.new) }
+    {
+        let Ok(callsite) = TraceCallsite::new(self.alloc, identifier, metadata) else {
+            return Err(Refusal::OutOfMemory);
+        };
+        match self.hub.register(callsite) {
+            Ok(interest) => Ok(interest),
+            Err(RegisterError::Taken(_)) => Err(Refusal::Taken),
+            Err(RegisterError::OutOfMemory(_)) => Err(Refusal::OutOfMemory),
+        }
+    }
+
+    /// Takes a stack, where there is none, and asks it of each callsite.
+    ///
+    /// # Errors
+    ///
+    /// Want of memory, which changes nothing and gives the stack back.
+    pub fn add_stack(&mut self, stack: T) -> Result<(), T>
+        requires sound { IsSound ⟦<T as Subscriber>⟧ self.old }
+        requires none { self.old.handle ≡ None }
+        requires steady { T.steady stack }
+        ensures sound { IsSound ⟦<T as Subscriber>⟧ self.new }
+        ensures gives { AddGives ⟦<T as Subscriber>⟧ (value_in self.old) stack result (value_in self.new) }
+    {
+        match self.hub.add(stack) {
+            Ok(handle) => {
+                self.handle = Some(handle);
+                Ok(())
+            }
+            Err(AddError::OutOfMemory(stack)) => Err(stack),
+            Err(AddError::NumbersSpent(stack)) => Err(stack),
+        }
+    }
+}
