@@ -1,0 +1,4 @@
+pub mod Runs
+pub mod Each
+pub mod Counting
+pub mod Told

@@ -1,0 +1,4 @@
+pub mod Takes
+pub mod Runs
+pub mod Each
+pub mod Fates
