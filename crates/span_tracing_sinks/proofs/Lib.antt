@@ -2,3 +2,4 @@ pub mod Runs
 pub mod Each
 pub mod Counting
 pub mod Told
+pub mod Standing

@@ -2,3 +2,4 @@ pub mod Takes
 pub mod Runs
 pub mod Each
 pub mod Fates
+pub mod Standing

@@ -2,6 +2,7 @@
 ghost use Rattle.span_tracing_sinks.specs.Fates.{CountsAreExact, DropsAreCounted, KeptLinesGoInTurn, LinesReachFiles, LinesReachLeftFiles, RunsAreTold};
 ghost use Rattle.span_tracing_sinks.specs.Each.{EachComposes};
 ghost use Rattle.span_tracing_sinks.specs.Runs.{RunsCompose};
+ghost use Rattle.span_tracing_sinks.specs.Standing.{LinesStandInFiles, LinesStandInLeftFiles};
 
 use span_tracing_outputs::LineSink;
 use tracing_appender_rolling::Folder;
@@ -30,6 +31,13 @@ pub fn lines_reach_files<D: Folder>()
     ensures all { LinesReachFiles D.contents D.failed }
     // with retention or a link too
     ensures left { LinesReachLeftFiles D.contents D.failed }
+{}
+
+/// The same by the folder: exactly a run's lines stand in its files, behind what was found there.
+pub fn lines_stand_in_files<D: Folder>()
+    ensures all { LinesStandInFiles D.contents D.failed }
+    // with retention or a link too
+    ensures left { LinesStandInLeftFiles D.contents D.failed }
 {}
 
 /// The count of dropped lines never falls, and rises by at most one a line. The names of the files stay.

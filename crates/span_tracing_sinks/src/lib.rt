@@ -6,7 +6,7 @@ mod sink;
 
 pub use laws::{
     drops_are_counted, each_sink_has_its_run, kept_lines_go_in_turn, lines_reach_files,
-    runs_are_told, runs_compose,
+    lines_stand_in_files, runs_are_told, runs_compose,
 };
 pub use sink::RollingSink;
 
