@@ -1,0 +1,5 @@
+pub mod Runs
+pub mod Each
+pub mod Counting
+pub mod Told
+pub mod Standing

@@ -1,0 +1,5 @@
+pub mod Takes
+pub mod Runs
+pub mod Each
+pub mod Fates
+pub mod Standing

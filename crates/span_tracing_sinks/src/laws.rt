@@ -1,0 +1,52 @@
+//! Laws of lines that are taken one after another.
+ghost use Rattle.span_tracing_sinks.specs.Fates.{CountsAreExact, DropsAreCounted, KeptLinesGoInTurn, LinesReachFiles, LinesReachLeftFiles, RunsAreTold};
+ghost use Rattle.span_tracing_sinks.specs.Each.{EachComposes};
+ghost use Rattle.span_tracing_sinks.specs.Runs.{RunsCompose};
+ghost use Rattle.span_tracing_sinks.specs.Standing.{LinesStandInFiles, LinesStandInLeftFiles};
+
+use span_tracing_outputs::LineSink;
+use tracing_appender_rolling::Folder;
+
+/// Runs of lines follow one another as their lists do, and what a sink takes at one moment is a run.
+pub fn runs_compose<S: LineSink>()
+    ensures { RunsCompose S.takes }
+{}
+
+/// The sinks of several outputs, request by request: each takes a run of its own, which grows by what a request hands
+/// over.
+pub fn each_sink_has_its_run<N, E, F, S: LineSink>()
+    ensures { EachComposes N E F S.takes }
+{}
+
+/// Each line of a run has one fate. With these fates the count of dropped lines is exact, and all holds that an
+/// appender promises of its writes: over a folder of known contents which looks, removals, openings and writes were
+/// made, line by line, whatever it refuses; and over any folder what is counted.
+pub fn runs_are_told<D: Folder>()
+    ensures { RunsAreTold D.contents D.failed }
+{}
+
+/// Where the count of dropped lines stayed, exactly the lines of a run were handed to the files, in order, each at
+/// its own moment.
+pub fn lines_reach_files<D: Folder>()
+    ensures all { LinesReachFiles D.contents D.failed }
+    // with retention or a link too
+    ensures left { LinesReachLeftFiles D.contents D.failed }
+{}
+
+/// The same by the folder: exactly a run's lines stand in its files, behind what was found there.
+pub fn lines_stand_in_files<D: Folder>()
+    ensures all { LinesStandInFiles D.contents D.failed }
+    // with retention or a link too
+    ensures left { LinesStandInLeftFiles D.contents D.failed }
+{}
+
+/// The count of dropped lines never falls, and rises by at most one a line. The names of the files stay.
+pub fn drops_are_counted<D: Folder>()
+    ensures runs { DropsAreCounted D.contents D.failed }
+    ensures exact { CountsAreExact }
+{}
+
+/// Lines of which none was dropped go to the files by the list of tries that the appender's laws tell of.
+pub fn kept_lines_go_in_turn()
+    ensures { KeptLinesGoInTurn }
+{}

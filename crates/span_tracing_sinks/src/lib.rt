@@ -1,0 +1,14 @@
+//! Sinks of a trace's outputs: rolling files that take lines.
+#![tactic(auto)]
+
+mod laws;
+mod sink;
+
+pub use laws::{
+    drops_are_counted, each_sink_has_its_run, kept_lines_go_in_turn, lines_reach_files,
+    lines_stand_in_files, runs_are_told, runs_compose,
+};
+pub use sink::RollingSink;
+
+#[cfg(test)]
+mod tests;
