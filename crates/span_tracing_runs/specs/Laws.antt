@@ -1,0 +1,23 @@
+-- Laws of steps and runs.
+use Rattle.std.specs.Prelude.{◌≡◌, ℕ, List, Option}
+use Rattle.tracing_core_requests.specs.PlainRequests.{PlainEvent}
+use Rattle.tracing_core_requests.specs.declared.at.At.{At}
+use Rattle.tracing_core_requests.specs.declared.subscriber.Subscriber.{Ghosts as SubscriberGhosts}
+use Rattle.span_registry_layers_layers.specs.declared.filter.Filter.{Ghosts as FilterGhosts}
+use Rattle.span_registry_layers_layers.specs.declared.layer.Layer.{Ghosts as LayerGhosts}
+use Rattle.event_formatter_text.specs.declared.format_fields.FormatFields.{Ghosts}
+use Rattle.event_formatter_text.specs.declared.settings.Settings.{Settings}
+use Rattle.event_formatter_formats.specs.Contexts.{PlainContext}
+use Rattle.span_tracing_outputs.specs.Outs.{PlainLine}
+use Rattle.span_tracing_outputs.specs.TraceStacks.{TraceStackValue}
+use Rattle.span_tracing_outputs.specs.Turns.{Lines}
+use Rattle.span_tracing_skeleton.specs.PlainData.{PlainStep}
+use Rattle.span_tracing_skeleton.specs.declared.call.Reply.{Reply}
+use Rattle.span_tracing_steps.specs.Steps.{StepGives}
+use Rattle.span_tracing_runs.specs.Follows.{Follows, StackIsReady, Traced, registry_of}
+
+module _ {N E F S : Type 0} (n : Ghosts N) (line_of : E → Settings → PlainContext → PlainEvent → Option (List ℕ)) (g : FilterGhosts F) (takes : S → At → PlainLine → S → Type 0) (h : LayerGhosts (Lines N E)) (sg : SubscriberGhosts (TraceStackValue N E F S)) where
+  -- each step of a trace over a stack with sinks follows the skeleton and the output machines, and leaves the stack ready for the next one
+  abbrev pub StepsFollow : Type 0
+  StepsFollow = (v : Traced N E F S) (step : PlainStep) (reply : Reply) (w : Traced N E F S) → StackIsReady g h v.stack → StepGives sg registry_of v step reply w →
+      Follows n line_of g takes h v step reply w × StackIsReady g h w.stack

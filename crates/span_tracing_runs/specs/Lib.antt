@@ -1,0 +1,4 @@
+pub mod Told
+pub mod Follows
+pub mod Runs
+pub mod Laws
