@@ -14,6 +14,7 @@ use Rattle.span_tracing_outputs.specs.Turns.{Lines}
 use Rattle.span_tracing_skeleton.specs.PlainData.{PlainStep}
 use Rattle.span_tracing_skeleton.specs.declared.call.Reply.{Reply}
 use Rattle.span_tracing_steps.specs.Steps.{StepGives}
+use Rattle.span_tracing_runs.specs.Runs.{RunFollows, RunGives}
 use Rattle.span_tracing_runs.specs.Follows.{Follows, StackIsReady, Traced, registry_of}
 
 module _ {N E F S : Type 0} (n : Ghosts N) (line_of : E → Settings → PlainContext → PlainEvent → Option (List ℕ)) (g : FilterGhosts F) (takes : S → At → PlainLine → S → Type 0) (h : LayerGhosts (Lines N E)) (sg : SubscriberGhosts (TraceStackValue N E F S)) where
@@ -21,3 +22,8 @@ module _ {N E F S : Type 0} (n : Ghosts N) (line_of : E → Settings → PlainCo
   abbrev pub StepsFollow : Type 0
   StepsFollow = (v : Traced N E F S) (step : PlainStep) (reply : Reply) (w : Traced N E F S) → StackIsReady g h v.stack → StepGives sg registry_of v step reply w →
       Follows n line_of g takes h v step reply w × StackIsReady g h w.stack
+
+  -- so does a run of steps
+  abbrev pub RunsFollow : Type 0
+  RunsFollow = (v : Traced N E F S) (steps : List PlainStep) (replies : List Reply) (w : Traced N E F S) → StackIsReady g h v.stack → RunGives sg v steps replies w →
+      RunFollows n line_of g takes h v steps replies w × StackIsReady g h w.stack

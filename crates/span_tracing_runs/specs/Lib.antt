@@ -2,3 +2,4 @@ pub mod Told
 pub mod Follows
 pub mod Runs
 pub mod Laws
+pub mod Files

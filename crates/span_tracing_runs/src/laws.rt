@@ -1,11 +1,16 @@
 //! Laws of steps and runs.
-ghost use Rattle.span_tracing_runs.specs.Laws.{StepsFollow};
+ghost use Rattle.span_tracing_runs.specs.Files.{FilesFollow};
+ghost use Rattle.span_tracing_runs.specs.Laws.{RunsFollow, StepsFollow};
 
 use event_formatter_formats::FormatEvent;
 use event_formatter_layer::Layer;
 use event_formatter_text::FormatFields;
 use span_registry_layers_layers::Filter;
 use span_tracing_outputs::{LineSink, PendingLines, TraceStack, trace_follows};
+use span_tracing_sinks::{
+    RollingSink, each_sink_has_its_run, lines_stand_in_files, runs_compose,
+};
+use tracing_appender_rolling::Folder;
 use tracing_core_requests::Subscriber;
 
 /// A step of a trace over a stack of outputs with sinks goes as the skeleton and the output machines do.
@@ -15,4 +20,29 @@ pub fn steps_follow<N: FormatFields + Drop, E: FormatEvent, F: Filter, S: LineSi
         ⟦<TraceStack<N, E, F, S> as Subscriber>⟧ }
 {
     trace_follows::<N, E, F, S>();
+}
+
+/// A run of steps does: from each plain state that the trace agrees with, the replies are the plain ones, the trace agrees
+/// with the plain state afterwards, and each output's sink took exactly the lines of the output's machine, in order, each
+/// with where and when it was handed over. A step that found no memory did nothing.
+pub fn runs_follow<N: FormatFields + Drop, E: FormatEvent, F: Filter, S: LineSink>()
+    ensures { RunsFollow ⟦<N as FormatFields>⟧ E.line_of ⟦<F as Filter>⟧ S.takes
+        ⟦<Layer<N, E, PendingLines> as span_registry_layers_layers::Layer>⟧
+        ⟦<TraceStack<N, E, F, S> as Subscriber>⟧ }
+{
+    steps_follow::<N, E, F, S>();
+    runs_compose::<S>();
+    each_sink_has_its_run::<N, E, F, S>();
+}
+
+/// Which bytes stand in which file after a run over sinks of rolling files: where no line of an output found no memory
+/// and its folder's contents are known, exactly the lines of the output's machine stand in its files, whole and in order.
+/// Over any other folder each sink took just these lines, of which the laws of sinks say which looks, openings and writes
+/// they come to.
+pub fn files_follow<N: FormatFields + Drop, E: FormatEvent, F: Filter, D: Folder>()
+    ensures { FilesFollow D.contents D.failed ⟦<N as FormatFields>⟧ E.line_of ⟦<F as Filter>⟧
+        ⟦<Layer<N, E, PendingLines> as span_registry_layers_layers::Layer>⟧ }
+{
+    each_sink_has_its_run::<N, E, F, RollingSink<D>>();
+    lines_stand_in_files::<D>();
 }

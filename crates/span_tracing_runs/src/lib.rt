@@ -3,4 +3,4 @@
 
 mod laws;
 
-pub use laws::steps_follow;
+pub use laws::{files_follow, runs_follow, steps_follow};
