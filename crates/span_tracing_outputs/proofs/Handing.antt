@@ -52,37 +52,37 @@ module _ {N E F : Type 0} where
   module _ {S : Type 0} (takes : S → At → PlainLine → S → Type 0) (at : At) where
     -- so many sinks are as they are, and the others take their lines
     abbrev pub TakesFrom : ℕ → List (Lined N E F) → List S → List S → Type 0
-    TakesFrom zero rows sinks takens = TakesEach takes at rows sinks takens
+    TakesFrom zero rows sinks sinks_after = TakesEach takes at rows sinks sinks_after
     TakesFrom (suc n) [] [] [] = Unit {0}
-    TakesFrom (suc n) (row ∷ rows) (sink ∷ sinks) (taken ∷ takens) = (taken ≡ sink) × TakesFrom n rows sinks takens
-    TakesFrom (suc n) rows sinks takens = ⊥
+    TakesFrom (suc n) (row ∷ rows) (sink ∷ sinks) (taken ∷ sinks_after) = (taken ≡ sink) × TakesFrom n rows sinks sinks_after
+    TakesFrom (suc n) rows sinks sinks_after = ⊥
 
     tail_lines : (o : Option (Lined N E F)) (n : ℕ) (sink : S) (sinks nexts : List S) → LinesIf takes at o (suc n) (sink ∷ sinks) nexts → (later : List S) × (nexts ≡ sink ∷ later) × LinesIf takes at o n sinks later
     tail_lines None n sink sinks nexts is = (sinks, is, refl)
     tail_lines (Some r) n sink sinks nexts is = (slice_set sinks n is.1, is.4, (is.0, is.1, is.2, is.3, refl))
 
-    here : (row : Lined N E F) (rows : List (Lined N E F)) (sink taken : S) (sinks takens : List S) → TakesAll takes at row.output.layer.output.maker sink taken →
-        TakesFrom 1 (row ∷ rows) (taken ∷ sinks) takens → TakesEach takes at (row ∷ rows) (sink ∷ sinks) takens
+    here : (row : Lined N E F) (rows : List (Lined N E F)) (sink taken : S) (sinks sinks_after : List S) → TakesAll takes at row.output.layer.output.maker sink taken →
+        TakesFrom 1 (row ∷ rows) (taken ∷ sinks) sinks_after → TakesEach takes at (row ∷ rows) (sink ∷ sinks) sinks_after
     here row rows sink taken sinks [] all later = absurd later
-    here row rows sink taken sinks (t ∷ takens) all later = (subst (λ (k : S). TakesAll takes at row.output.layer.output.maker sink k) (sym later.0) all, later.1)
+    here row rows sink taken sinks (t ∷ sinks_after) all later = (subst (λ (k : S). TakesAll takes at row.output.layer.output.maker sink k) (sym later.0) all, later.1)
 
-    later_on : (n : ℕ) (row : Lined N E F) (rows : List (Lined N E F)) (sink : S) (sinks nextks takens : List S) → ((ts : List S) → TakesFrom (suc n) rows nextks ts → TakesFrom n rows sinks ts) →
-        TakesFrom (suc (suc n)) (row ∷ rows) (sink ∷ nextks) takens → TakesFrom (suc n) (row ∷ rows) (sink ∷ sinks) takens
+    later_on : (n : ℕ) (row : Lined N E F) (rows : List (Lined N E F)) (sink : S) (sinks nextks sinks_after : List S) → ((ts : List S) → TakesFrom (suc n) rows nextks ts → TakesFrom n rows sinks ts) →
+        TakesFrom (suc (suc n)) (row ∷ rows) (sink ∷ nextks) sinks_after → TakesFrom (suc n) (row ∷ rows) (sink ∷ sinks) sinks_after
     later_on n row rows sink sinks nextks [] f later = absurd later
-    later_on n row rows sink sinks nextks (t ∷ takens) f later = (later.0, f takens later.1)
+    later_on n row rows sink sinks nextks (t ∷ sinks_after) f later = (later.0, f sinks_after later.1)
 
     pub turn : (place : ℕ) (rows : List (Lined N E F)) (sinks nextks : List S) → length sinks ≡ length rows → place < length sinks → LinesIf takes at (slice_get rows place) place sinks nextks →
-        (takens : List S) → TakesFrom (suc place) rows nextks takens → TakesFrom place rows sinks takens
-    turn place rows [] nextks same within lines takens later = absurd (omega (arith, within))
-    turn place [] (sink ∷ sinks) nextks same within lines takens later = absurd (cc)
-    turn zero (row ∷ rows) (sink ∷ sinks) nextks same within lines takens later =
+        (sinks_after : List S) → TakesFrom (suc place) rows nextks sinks_after → TakesFrom place rows sinks sinks_after
+    turn place rows [] nextks same within lines sinks_after later = absurd (omega (arith, within))
+    turn place [] (sink ∷ sinks) nextks same within lines sinks_after later = absurd (cc)
+    turn zero (row ∷ rows) (sink ∷ sinks) nextks same within lines sinks_after later =
         let first : sink ≡ lines.0 = cc in
-        here row rows sink lines.1 sinks takens (subst (λ (k : S). TakesAll takes at row.output.layer.output.maker k lines.1) (sym first) lines.3)
-        (subst (λ (ks : List S). TakesFrom 1 (row ∷ rows) ks takens) lines.4 later)
-    turn (suc n) (row ∷ rows) (sink ∷ sinks) nextks same within lines takens later =
+        here row rows sink lines.1 sinks sinks_after (subst (λ (k : S). TakesAll takes at row.output.layer.output.maker k lines.1) (sym first) lines.3)
+        (subst (λ (ks : List S). TakesFrom 1 (row ∷ rows) ks sinks_after) lines.4 later)
+    turn (suc n) (row ∷ rows) (sink ∷ sinks) nextks same within lines sinks_after later =
         let ks = tail_lines (slice_get rows n) n sink sinks nextks lines in
-        later_on n row rows sink sinks ks.0 takens (turn n rows sinks ks.0 (omega (arith, same)) (omega (arith, within)) ks.2)
-        (subst (λ (ns : List S). TakesFrom (suc (suc n)) (row ∷ rows) ns takens) ks.1 later)
+        later_on n row rows sink sinks ks.0 sinks_after (turn n rows sinks ks.0 (omega (arith, same)) (omega (arith, within)) ks.2)
+        (subst (λ (ns : List S). TakesFrom (suc (suc n)) (row ∷ rows) ns sinks_after) ks.1 later)
 
     pub lines_length : (o : Option (Lined N E F)) (place : ℕ) (sinks nexts : List S) → LinesIf takes at o place sinks nexts → length nexts ≡ length sinks
     lines_length None place sinks nexts lines = ap length lines

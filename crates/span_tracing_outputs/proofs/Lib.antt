@@ -9,3 +9,9 @@ pub mod Stacks
 pub mod Folding
 pub mod Handing
 pub mod Paired
+pub mod Quiet
+pub mod Resting
+pub mod Answering
+pub mod Tracing
+pub mod Readying
+pub mod Starting

@@ -7,4 +7,6 @@ pub mod Plain
 pub mod Hands
 pub mod TraceStacks
 pub mod TraceSteadiness
+pub mod TraceFollows
+pub mod TraceStarts
 pub mod Pending

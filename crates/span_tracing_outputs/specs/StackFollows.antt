@@ -24,8 +24,8 @@ use Rattle.span_tracing_outputs.specs.Turns.{AreDistinct, EachFollows, Lined, Li
 abbrev pub LinedStack : Type 0 → Type 0 → Type 0 → Type 0
 LinedStack N E F = StackValue (Filtered (Lines N E) F)
 
--- where the call was taken, outputs are told; else the stack stays
-abbrev pub IfTaken : {A : Type 0} → {N E F : Type 0} → Result A RequestError → LinedStack N E F → Type 0 → LinedStack N E F → Type 0
+-- where the call was taken, outputs are told; else all stays
+abbrev pub IfTaken : {A V : Type 0} → Result A RequestError → V → Type 0 → V → Type 0
 IfTaken (Ok done) s goes t = goes
 IfTaken (Err e) s goes t = t ≡ s
 

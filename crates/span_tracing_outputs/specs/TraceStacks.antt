@@ -1,11 +1,11 @@
 -- A stack with the sinks of its outputs, and what a call makes of both.
-use Rattle.std.specs.Prelude.{◌≡◌, List, length, Result, Ok, Err}
+use Rattle.std.specs.Prelude.{◌≡◌, List, length, map, Result, Ok, Err}
 use Rattle.tracing_core_requests.specs.declared.at.At.{At}
 use Rattle.tracing_core_requests.specs.Calls.{Call, ReplyTo, DispatchRegistered, CallsiteRegistered, Asked, HintAsked, SpanMade, Recorded, FollowsRecorded, EventAsked, EventDispatched, Entered, Exited, Cloned, Dropped, CloseTried, CurrentAsked}
 use Rattle.span_registry_layers_layers.specs.declared.filter.Filter.{Ghosts as FilterGhosts}
 use Rattle.span_registry_layers_layers.specs.declared.layer.Layer.{Ghosts as LayerGhosts}
 use Rattle.span_registry_layers_stack.specs.Moves.{Moves}
-use Rattle.span_tracing_outputs.specs.Hands.{HandsOver}
+use Rattle.span_tracing_outputs.specs.Hands.{HandsOver, NoLines, cleared_row}
 use Rattle.span_tracing_outputs.specs.Outs.{PlainLine}
 use Rattle.span_tracing_outputs.specs.StackFollows.{LinedStack}
 use Rattle.span_tracing_outputs.specs.Turns.{Lines}
@@ -16,9 +16,13 @@ pub record TraceStackValue (N E F S : Type 0) : Type 0 where
   pub stack : LinedStack N E F
   pub sinks : List S
 
--- as many sinks as outputs, or both come back
+-- there are as many sinks as outputs, and no output keeps a line
+abbrev pub IsAtRest : {N E F S : Type 0} → LinedStack N E F → List S → Type 0
+IsAtRest stack sinks = (length sinks ≡ length stack.rows) × NoLines stack.rows
+
+-- as many sinks as outputs, whose lines are forgotten, or both come back
 abbrev pub NewGives : {N E F S : Type 0} → LinedStack N E F → List S → Result (TraceStackValue N E F S) (UnpairedSinks N E F S) → Type 0
-NewGives stack sinks (Ok made) = (length sinks ≡ length stack.rows) × (made ≡ record { stack = stack; sinks = sinks })
+NewGives stack sinks (Ok made) = (length sinks ≡ length stack.rows) × (made ≡ record { stack = record stack { rows = map cleared_row stack.rows }; sinks = sinks })
 NewGives stack sinks (Err back) = (length sinks ≡ length stack.rows → ⊥) × (back.stack ≡ stack) × (back.sinks.items ≡ sinks)
 
 module _ {N E F S : Type 0} (g : FilterGhosts F) (h : LayerGhosts (Lines N E)) (takes : S → At → PlainLine → S → Type 0) where

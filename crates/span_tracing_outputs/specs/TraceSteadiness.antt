@@ -16,7 +16,7 @@ use Rattle.span_tracing_outputs.specs.StackFollows.{LinedStack}
 use Rattle.span_tracing_outputs.specs.TraceStacks.{ThenHandsOver, TraceMoves, TraceStackValue}
 use Rattle.span_tracing_outputs.specs.Turns.{Lined, Lines}
 
-same_filters : {N E F : Type 0} (rows : List (Lined N E F)) → filters_of (map cleared_row rows) ≡ filters_of rows
+pub same_filters : {N E F : Type 0} (rows : List (Lined N E F)) → filters_of (map cleared_row rows) ≡ filters_of rows
 same_filters [] = refl
 same_filters (row ∷ rows) = ap (λ (fs : List _). row.output.filter ∷ fs) (same_filters rows)
 
@@ -32,8 +32,8 @@ module _ {N E F S : Type 0} (g : FilterGhosts F) (h : LayerGhosts (Lines N E)) (
       CacheIsValidFor g fs t.sites t.hint
       × SameWord (λ m k. CommonInterest g m (filters_of s.rows) k) (λ m k. CommonInterest g m fs k) (common_hint g (Some 0) (filters_of s.rows)) (common_hint g (Some 0) fs)
 
-  hands_stay : (at : At) (s mid : LinedStack N E F) (sinks : List S) (t : LinedStack N E F) (takens : List S) → HandsOver takes at mid sinks t takens → StaysAs s mid → StaysAs s t
-  hands_stay at s mid sinks t takens over w =
+  hands_stay : (at : At) (s mid : LinedStack N E F) (sinks : List S) (t : LinedStack N E F) (sinks_after : List S) → HandsOver takes at mid sinks t sinks_after → StaysAs s mid → StaysAs s t
+  hands_stay at s mid sinks t sinks_after over w =
       subst (StaysAs s) (sym over.1) (subst (λ (fs : List F). StaysBy s fs mid) (sym (same_filters mid.rows)) w)
 
   then_stays : (at : At) (x : TraceStackValue N E F S) (c : Call) (r : ReplyTo c) (y : TraceStackValue N E F S) → ThenHandsOver g h takes at x c r y → CacheIsValid g x.stack → StaysAs x.stack y.stack

@@ -1,6 +1,6 @@
 //! The lines of a request, handed to the sinks of their outputs.
-ghost use Rattle.std.specs.Prelude.{◌≡◌, ◌<◌, length, slice_get};
-ghost use Rattle.span_tracing_outputs.specs.Hands.{HandsOver, LinesIf, cleared_at};
+ghost use Rattle.std.specs.Prelude.{◌≡◌, ◌<◌, length, map, slice_get};
+ghost use Rattle.span_tracing_outputs.specs.Hands.{HandsOver, LinesIf, cleared_at, cleared_row};
 
 use crate::pending::PendingLines;
 use crate::sink::{LineSink, take_all};
@@ -35,6 +35,19 @@ fn clear_at<N: FormatFields + Drop, E: FormatEvent, F: Filter>(
 {
     if let Some(layer) = stack.layer_mut(place) {
         layer.writer_mut().clear();
+    }
+}
+
+/// Forgets the lines of all outputs, of which there are so many. Nothing else of the stack changes.
+pub(crate) fn clear_lines<N: FormatFields + Drop, E: FormatEvent, F: Filter>(
+    stack: &mut Stack<Filtered<Layer<N, E, PendingLines>, F>>,
+    count: usize,
+)
+    requires { length stack.old.rows ≡ count }
+    ensures { stack.new ≡ record stack.old { rows = map cleared_row stack.old.rows } }
+{
+    for place in 0..count {
+        clear_at(stack, place);
     }
 }
 

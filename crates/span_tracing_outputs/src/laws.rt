@@ -4,14 +4,18 @@ ghost use Rattle.span_tracing_outputs.specs.Agreeing.{KeepsLines, LayerFollows};
 ghost use Rattle.span_tracing_outputs.specs.Outs.{PlainLine};
 ghost use Rattle.span_tracing_outputs.specs.Plain.{FollowingFolds};
 ghost use Rattle.span_tracing_outputs.specs.StackFollows.{StackFollows};
+ghost use Rattle.span_tracing_outputs.specs.TraceFollows.{TraceFollows};
+ghost use Rattle.span_tracing_outputs.specs.TraceStarts.{TraceStarts};
 
 use crate::pending::PendingLines;
+use crate::sink::LineSink;
 use event_formatter_formats::FormatEvent;
 use event_formatter_layer::Layer;
 use event_formatter_makers::MakeWriter;
 use event_formatter_slots::rekeeping_is_local;
 use event_formatter_text::FormatFields;
 use span_registry_layers_layers::Filter;
+use span_registry_layers_stack::stack_registry_stays_sound;
 
 /// What a layer makes of an event, or of a call on a span that it sees, is one step of an output machine. The maker may
 /// be any that keeps the lines that it is handed, and refuses one for want of memory alone.
@@ -36,3 +40,27 @@ pub fn stack_follows<N: FormatFields + Drop, E: FormatEvent, F: Filter>()
 pub fn outputs_fold<N: FormatFields, E: FormatEvent, F: Filter>()
     ensures { FollowingFolds ⟦<N as FormatFields>⟧ E.line_of ⟦<F as Filter>⟧ }
 {}
+
+/// What each call of a stack with sinks answers, and what it makes of its outputs and sinks, where what is kept of the
+/// filters' answers is right, the registry is sound, no two layers have the same key, and no output keeps a line. So it is
+/// afterwards.
+///
+/// Each output is told its notices in order, which the skeleton and the filters' answers decide, and goes on as any output
+/// machine does that it agrees with, with some fates of its texts and lines. Each sink takes the lines of its machine. What
+/// is refused changes nothing.
+pub fn trace_follows<N: FormatFields + Drop, E: FormatEvent, F: Filter, S: LineSink>()
+    ensures { TraceFollows ⟦<N as FormatFields>⟧ E.line_of ⟦<F as Filter>⟧ S.takes
+        ⟦<Layer<N, E, PendingLines> as span_registry_layers_layers::Layer>⟧ }
+{
+    stack_follows::<N, E, F>();
+    stack_registry_stays_sound::<Layer<N, E, PendingLines>, F>();
+}
+
+/// A new stack is ready for its first call once it has its sinks, where the layer of each output was made with the
+/// output's key, and what is kept of the filters' answers is right. Its outputs agree with machines that keep nothing.
+pub fn trace_starts<N: FormatFields + Drop, E: FormatEvent, F: Filter, S: LineSink>()
+    ensures { TraceStarts ⟦<N as FormatFields>⟧ E.line_of ⟦<F as Filter>⟧
+        ⟦<Layer<N, E, PendingLines> as span_registry_layers_layers::Layer>⟧ S }
+{
+    stack_registry_stays_sound::<Layer<N, E, PendingLines>, F>();
+}

@@ -9,7 +9,7 @@ mod sink;
 mod trace_stack;
 
 pub use hand::hand_over;
-pub use laws::{layer_follows, outputs_fold, stack_follows};
+pub use laws::{layer_follows, outputs_fold, stack_follows, trace_follows, trace_starts};
 pub use pending::{PendingLine, PendingLines};
 pub use sink::LineSink;
 pub use trace_stack::{TraceStack, UnpairedSinks};

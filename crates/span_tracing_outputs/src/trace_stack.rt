@@ -2,7 +2,7 @@
 ghost use Rattle.std.specs.Prelude.{◌≡◌, length, nat_eq};
 ghost use Rattle.span_tracing_outputs.specs.TraceStacks.{NewGives};
 
-use crate::hand::hand_over;
+use crate::hand::{clear_lines, hand_over};
 use crate::pending::PendingLines;
 use crate::sink::LineSink;
 use event_formatter_formats::FormatEvent;
@@ -17,7 +17,7 @@ use tracing_core_requests::{
 };
 
 /// A stack of outputs, and for each output a sink that takes its lines. They go there at the end of each
-/// request, after all outputs were told.
+/// request, after all outputs were told, so that no output keeps a line between requests.
 ///
 /// A contract sees it as a `TraceStackValue`.
 #[derive(Drop)]
@@ -27,14 +27,13 @@ pub struct TraceStack<N, E, F, S> {
 }
 
 impl<N, E, F, S> Model for TraceStack<N, E, F, S> {
-    ghost use Rattle.std.specs.Prelude.{◌≡◌, length};
-    ghost use Rattle.span_tracing_outputs.specs.TraceStacks.{TraceStackValue};
+    ghost use Rattle.span_tracing_outputs.specs.TraceStacks.{IsAtRest, TraceStackValue};
 
     ghost Value = { TraceStackValue N E F S };
 
     ghost view = { λ t. record { stack = t.stack; sinks = t.sinks.items } };
 
-    ghost invariant = { λ t. length t.sinks.items ≡ length t.stack.rows };
+    ghost invariant = { λ t. IsAtRest t.stack t.sinks.items };
 }
 
 /// There are not as many sinks as outputs. Both are as they were.
@@ -47,7 +46,7 @@ pub struct UnpairedSinks<N, E, F, S> {
 }
 
 #[tactic(auto, using(crate::proofs::Paired::counted))]
-fn has_outputs<O>(stack: &Stack<O>, count: usize) -> bool
+fn has_exactly<O>(stack: &Stack<O>, count: usize) -> bool
     ensures { result ≡ nat_eq (length stack.now.rows) count }
 {
     if stack.output(count).is_some() {
@@ -59,8 +58,8 @@ fn has_outputs<O>(stack: &Stack<O>, count: usize) -> bool
     }
 }
 
-impl<N, E, F, S> TraceStack<N, E, F, S> {
-    /// Gives each output of a stack the sink at its place.
+impl<N: FormatFields + Drop, E: FormatEvent, F: Filter, S> TraceStack<N, E, F, S> {
+    /// Gives each output of a stack the sink at its place. Lines that outputs kept before are forgotten.
     ///
     /// # Errors
     ///
@@ -71,13 +70,16 @@ impl<N, E, F, S> TraceStack<N, E, F, S> {
     ) -> Result<TraceStack<N, E, F, S>, UnpairedSinks<N, E, F, S>>
         ensures { NewGives stack sinks.items result }
     {
-        if has_outputs(&stack, sinks.len()) {
-            Ok(TraceStack { stack, sinks })
-        } else {
-            Err(UnpairedSinks { stack, sinks })
+        if !has_exactly(&stack, sinks.len()) {
+            return Err(UnpairedSinks { stack, sinks });
         }
+        let mut stack = stack;
+        clear_lines(&mut stack, sinks.len());
+        Ok(TraceStack { stack, sinks })
     }
+}
 
+impl<N, E, F, S> TraceStack<N, E, F, S> {
     /// The stack of outputs.
     pub fn stack(&self) -> &Stack<Filtered<Layer<N, E, PendingLines>, F>>
         ensures { result.now ≡ self.now.stack }

@@ -20,7 +20,7 @@ loop-place-preserved g c =
     let row : slice_get c.loop-place.stack.rows place ≡ slice_get rows place = ap (λ (z : LinedStack _ _ _). slice_get z.rows place) inv.stack ∙ next_is place rows in
     let lines : LinesIf takes at (slice_get rows place) place sinks nexts = subst (λ (o : Option (Lined _ _ _)). LinesIf takes at o place sinks nexts) row c.hand_lines.ensures in
     record {
-      whole = λ takens later. inv.whole takens (turn takes at place rows sinks nexts same within lines takens (subst (λ (n : ℕ). TakesFrom takes at n rows nexts takens) (add-one place) later));
+      whole = λ sinks_after later. inv.whole sinks_after (turn takes at place rows sinks nexts same within lines sinks_after (subst (λ (n : ℕ). TakesFrom takes at n rows nexts sinks_after) (add-one place) later));
       stack = c.clear_at.ensures
           ∙ ap (λ (z : LinedStack _ _ _). record z { rows = cleared_at (slice_get z.rows place) place z.rows }) inv.stack
           ∙ ap (λ (o : Option (Lined _ _ _)). record s { rows = cleared_at o place (cleared_to place rows) }) (next_is place rows)

@@ -1,9 +1,10 @@
 use Rattle.std.proofs.Common.{◌≡◌, length, nat_eq, true, sym, ◌∙◌, rules}
+use Rattle.span_tracing_outputs.proofs.Paired.{cleared_rest}
 use Rattle.span_tracing_outputs.proofs.trace_stack.TraceStack.new.Goals as goal
 
 pub invariant_of-result : goal.invariant_of-result
 invariant_of-result g c =
-    let counted : nat_eq (length c.args.stack.rows) c.len.result ≡ true = sym c.has_outputs.ensures ∙ c.if-has_outputs.true in
+    let counted : nat_eq (length c.args.stack.rows) c.len.result ≡ true = sym c.has_exactly.ensures ∙ c.if-not-has_exactly.false in
     let same : length c.args.stack.rows ≡ c.len.result = search rules in
     let all : length c.args.sinks.items ≡ c.args.sinks.len = sym c.args.sinks.ok.0 in
-    all ∙ sym c.len.ensures ∙ sym same
+    cleared_rest c.args.stack c.clear_lines.new.stack c.args.sinks.items (all ∙ sym c.len.ensures ∙ sym same) c.clear_lines.ensures

@@ -12,12 +12,12 @@ use Rattle.span_tracing_outputs.proofs.trace_stack.TraceStackSubscriber.record.G
 
 pub hand_over-requires : goal.hand_over-requires
 hand_over-requires g c =
-    c.self.invariant ∙ sym (moves_length g.F.Filter (ghosts g.row.N g.row.E pending_row g.N.FormatFields no_dict g.E.FormatEvent no_dict writer_ghosts no_dict no_dict no_dict no_dict) c.self.inside.stack (Recorded c.args.span.now (plain_record c.args.values.now) c.args.at) c.record-recorded.result c.record-recorded.new.self c.record-recorded.ensures)
+    c.self.invariant.0 ∙ sym (moves_length g.F.Filter (ghosts g.row.N g.row.E pending_row g.N.FormatFields no_dict g.E.FormatEvent no_dict writer_ghosts no_dict no_dict no_dict no_dict) c.self.inside.stack (Recorded c.args.span.now (plain_record c.args.values.now) c.args.at) c.record-recorded.result c.record-recorded.new.self c.record-recorded.ensures)
 
 pub invariant_of-self : goal.invariant_of-self
 invariant_of-self g c =
     hands_paired g.S.LineSink.takes c.args.at c.record-recorded.new.self c.self.inside.sinks.items c.hand_over.new.stack c.hand_over.new.sinks.items c.hand_over.ensures
-    (c.self.invariant ∙ sym (moves_length g.F.Filter (ghosts g.row.N g.row.E pending_row g.N.FormatFields no_dict g.E.FormatEvent no_dict writer_ghosts no_dict no_dict no_dict no_dict) c.self.inside.stack (Recorded c.args.span.now (plain_record c.args.values.now) c.args.at) c.record-recorded.result c.record-recorded.new.self c.record-recorded.ensures))
+    (c.self.invariant.0 ∙ sym (moves_length g.F.Filter (ghosts g.row.N g.row.E pending_row g.N.FormatFields no_dict g.E.FormatEvent no_dict writer_ghosts no_dict no_dict no_dict no_dict) c.self.inside.stack (Recorded c.args.span.now (plain_record c.args.values.now) c.args.at) c.record-recorded.result c.record-recorded.new.self c.record-recorded.ensures))
 
 pub returns : goal.returns
 returns g c = (
