@@ -13,5 +13,6 @@ pub mod Quiet
 pub mod Resting
 pub mod Answering
 pub mod Tracing
+pub mod Idle
 pub mod Readying
 pub mod Starting

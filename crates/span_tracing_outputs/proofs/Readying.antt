@@ -1,5 +1,5 @@
 -- A stack that is ready for a call is ready afterwards.
-use Rattle.std.proofs.Common.{◌≡◌, ◌==◌, ℕ, List, [], ◌∷◌, true, Option, refl, ap, sym, ◌∙◌, subst, arith}
+use Rattle.std.proofs.Common.{◌≡◌, ◌==◌, ℕ, List, [], ◌∷◌, length, true, Option, refl, ap, sym, ◌∙◌, subst, arith}
 use Rattle.std.proofs.lemmas.Bool.{eqb-true}
 use Rattle.std.proofs.lemmas.Bool.Decides.{nat_tests}
 use Rattle.tracing_core_requests.specs.Calls.{Call, ReplyTo, DispatchRegistered, CallsiteRegistered, Asked, HintAsked, SpanMade, Recorded, FollowsRecorded, EventAsked, EventDispatched, Entered, Exited, Cloned, Dropped, CloseTried, CurrentAsked}
@@ -24,9 +24,9 @@ use Rattle.span_tracing_outputs.specs.TraceFollows.{IsReady}
 use Rattle.span_tracing_outputs.specs.TraceStacks.{LeavesSinks, ThenHandsOver, TraceMoves, TraceStackValue}
 use Rattle.span_tracing_outputs.specs.TraceSteadiness.{trace_stays}
 use Rattle.span_tracing_outputs.specs.Turns.{AreDistinct, Lined, Lines, keys_of}
-use Rattle.span_tracing_outputs.proofs.Paired.{moves_keys}
+use Rattle.span_tracing_outputs.proofs.Paired.{hands_paired, moves_keys, moves_length}
 use Rattle.span_tracing_outputs.proofs.Quiet.{dispatch_same}
-use Rattle.span_tracing_outputs.proofs.Resting.{keys_cleared, none_kept}
+use Rattle.span_tracing_outputs.proofs.Resting.{keys_cleared}
 
 equal_self : (a : ℕ) → (a == a) ≡ true
 equal_self a = grind (arith, nat_tests)
@@ -53,7 +53,7 @@ module _ {N E F S : Type 0} (n : Ghosts N) (line_of : E → Settings → PlainCo
           valid = (trace_stays g h takes x c r y moves ready.valid).0;
           sound = subst (λ (s : LinedStack N E F). IsSound s.registry) left (sound x.stack c r w.0 w.1 ready.sound);
           keys = subst (λ (s : LinedStack N E F). AreDistinct (keys_of s.rows)) left (subst AreDistinct (sym keys) ready.keys);
-          lines = subst (λ (s : LinedStack N E F). NoLines s.rows) left (none_kept w.0.rows);
+          rest = hands_paired takes at w.0 x.sinks y.stack y.sinks w.2 (ready.rest.0 ∙ sym (moves_length g h x.stack c r w.0 w.1));
         }
 
     left_ready : (x : TraceStackValue N E F S) (c : Call) (r : ReplyTo c) (y : TraceStackValue N E F S) → IsReady g x → TraceMoves g h takes x c r y → LeavesSinks g h takes x c r y → y.stack.rows ≡ x.stack.rows → IsReady g y
@@ -61,7 +61,7 @@ module _ {N E F S : Type 0} (n : Ghosts N) (line_of : E → Settings → PlainCo
       valid = (trace_stays g h takes x c r y moves ready.valid).0;
       sound = sound x.stack c r y.stack w.0 ready.sound;
       keys = subst (λ (ls : List (Lined N E F)). AreDistinct (keys_of ls)) (sym rows) ready.keys;
-      lines = subst NoLines (sym rows) ready.lines;
+      rest = (ap length w.1 ∙ ready.rest.0 ∙ sym (ap length rows), subst NoLines (sym rows) ready.rest.1);
     }
 
     pub stays_ready : (x : TraceStackValue N E F S) (c : Call) (r : ReplyTo c) (y : TraceStackValue N E F S) → IsReady g x → TraceMoves g h takes x c r y → IsReady g y

@@ -31,7 +31,8 @@ use Rattle.span_tracing_outputs.specs.TraceStacks.{NewGives, TraceStackValue}
 use Rattle.span_tracing_outputs.specs.TraceStarts.{HasOwnKey, out_of}
 use Rattle.span_tracing_outputs.specs.TraceSteadiness.{same_filters}
 use Rattle.span_tracing_outputs.specs.Turns.{AreDistinct, Lined, Lines, keys_of}
-use Rattle.span_tracing_outputs.proofs.Resting.{keys_cleared, none_kept}
+use Rattle.span_tracing_outputs.proofs.Paired.{cleared_rest}
+use Rattle.span_tracing_outputs.proofs.Resting.{keys_cleared}
 
 neither : (a b : Bool) → (a || b) ≡ false → (a ≡ false) × (b ≡ false)
 neither true b e = absurd (cc)
@@ -72,7 +73,7 @@ module _ {N E F : Type 0} (n : Ghosts N) (line_of : E → Settings → PlainCont
         valid = subst (λ (fs : List F). CacheIsValidFor g fs s.sites s.hint) (sym (same_filters s.rows)) valid;
         sound = sound outputs s new.1;
         keys = subst AreDistinct (sym keys) (keys_distinct (stacks.keys_of outputs) unequal);
-        lines = none_kept s.rows;
+        rest = cleared_rest s (record s { rows = map cleared_row s.rows }) sinks made.0 refl;
       })
 
   -- without a span nothing is kept

@@ -48,6 +48,10 @@ taken_by : {A : Type 0} (o : Option RequestError) (x y left : RegistryValue) (an
 taken_by None x y left answer given gives = refl
 taken_by (Some refusal) x y left answer given gives = let same = gives.0 in absurd (cc)
 
+marked_twice : {N E F : Type 0} (rows : List (Lined N E F)) → map (marked false) (map (marked false) rows) ≡ map (marked false) rows
+marked_twice [] = refl
+marked_twice (row ∷ rows) = ap (λ (ls : List (Lined _ _ _)). marked false row ∷ ls) (marked_twice rows)
+
 none_marked : {N E F : Type 0} (rows : List (Lined N E F)) → NoLines rows → NoLines (map (marked false) rows)
 none_marked [] none = tt
 none_marked (row ∷ rows) none = (none.0, none_marked rows none.1)
@@ -63,6 +67,7 @@ module _ {N E F S : Type 0} (n : Ghosts N) (line_of : E → Settings → PlainCo
   rests_by : (x y : TraceStackValue N E F S) → y.stack.registry ≡ x.stack.registry → y.stack.rows ≡ x.stack.rows → y.sinks ≡ x.sinks → Rests n line_of g takes x y
   rests_by x y registry rows sinks = record {
     sinks = sinks;
+    rows = ap (λ (ls : List (Lined N E F)). map (marked false) ls) rows;
     agreed = λ outs agrees.
         subst (λ (ls : List (Lined N E F)). EachAgrees n line_of g y.stack.registry ls outs) (sym rows)
         (subst (λ (z : RegistryValue). EachAgrees n line_of g z x.stack.rows outs) (sym registry) agrees);
@@ -104,6 +109,7 @@ module _ {N E F S : Type 0} (n : Ghosts N) (line_of : E → Settings → PlainCo
               stack,
               record {
                 sinks = both.1;
+                rows = ap (λ (s : LinedStack N E F). map (marked false) s.rows) stack ∙ marked_twice x.stack.rows;
                 agreed = λ outs agrees. subst (λ (s : LinedStack N E F). EachAgrees n line_of g s.registry s.rows outs) (sym stack) (agrees_marked x.stack.registry x.stack.rows outs agrees);
               },
             )
@@ -141,24 +147,24 @@ module _ {N E F S : Type 0} (n : Ghosts N) (line_of : E → Settings → PlainCo
     goes x (Asked m at) r y ready w = (passes_is_asked g x.stack m at r ready.valid w.0.0, same_value x y w.0.1 w.1)
     goes x HintAsked r y ready w = (w.0.0, w.0.1, rests_by x y (ap (λ (s : LinedStack N E F). s.registry) w.0.1) (ap (λ (s : LinedStack N E F). s.rows) w.0.1) w.1)
     goes x (SpanMade a at) r y ready w =
-        span_by at x y w.0 ready.lines w.2 h follow unnumbered ready (knows x.stack.registry (explicit_parent a.parent)) a r refl (span_is_asked g h a at x.stack r w.0 ready.valid w.1)
+        span_by at x y w.0 ready.rest.1 w.2 h follow unnumbered ready (knows x.stack.registry (explicit_parent a.parent)) a r refl (span_is_asked g h a at x.stack r w.0 ready.valid w.1)
     goes x (Recorded id values at) r y ready w =
         let k = bare x.stack.registry in
-        (w.1.0, taken at x y w.0 ready.lines w.2 r (span_told k at (calls.Recorded values) id) k (follow.values x.stack w.0 id values at r ready.keys w.1))
-    goes x (FollowsRecorded id follows at) r y ready w = (w.1.0, stays at x y w.0 ready.lines w.2 (follows_same n line_of g h says id follows at x.stack w.0 r w.1.1))
+        (w.1.0, taken at x y w.0 ready.rest.1 w.2 r (span_told k at (calls.Recorded values) id) k (follow.values x.stack w.0 id values at r ready.keys w.1))
+    goes x (FollowsRecorded id follows at) r y ready w = (w.1.0, stays at x y w.0 ready.rest.1 w.2 (follows_same n line_of g h says id follows at x.stack w.0 r w.1.1))
     goes x (EventAsked e at) r y ready w = (w.0.0, same_value x y w.0.1 w.1)
     goes x (EventDispatched e at) r y ready w =
-        event_if at x y w.0 ready.lines w.2 (knows x.stack.registry (explicit_parent e.parent)) e r
+        event_if at x y w.0 ready.rest.1 w.2 (knows x.stack.registry (explicit_parent e.parent)) e r
         (follow.event x.stack w.0 e at r ready.keys (event_is_asked g h e at x.stack r w.0 ready.valid w.1))
     goes x (Entered id at) r y ready w =
         let k = bare x.stack.registry in
-        entered at x y w.0 ready.lines w.2 (open_refusal x.stack.registry id) r (enter_told k at id) (with_entry k at.lane id) x.stack.registry w.1.0 (with_entry x.stack.registry at.lane id) tt w.1.1 (follow.entry x.stack w.0 id at r ready.keys w.1)
+        entered at x y w.0 ready.rest.1 w.2 (open_refusal x.stack.registry id) r (enter_told k at id) (with_entry k at.lane id) x.stack.registry w.1.0 (with_entry x.stack.registry at.lane id) tt w.1.1 (follow.entry x.stack w.0 id at r ready.keys w.1)
     goes x (Exited id at) r y ready w =
         let k = bare x.stack.registry in
         step_goes n line_of g takes at (exit_told k at id) (swept (without_entry k at.lane id)) x y w.0 (follow.exit x.stack w.0 id at ready.sound ready.keys w.1) w.2
-    goes x (Cloned id at) r y ready w = (w.0.0, w.0.1, record { sinks = w.1; agreed = λ outs agrees. clones_agree n line_of g id x.stack y.stack r w.0 outs agrees })
+    goes x (Cloned id at) r y ready w = (w.0.0, w.0.1, record { sinks = w.1; rows = ap (λ (s : LinedStack N E F). map (marked false) s.rows) w.0.1; agreed = λ outs agrees. clones_agree n line_of g id x.stack y.stack r w.0 outs agrees })
     goes x (Dropped id at) r y ready w =
-        (w.1.0, close_if at x y w.0 ready.lines w.2 h (close_refusal x.stack.registry id) id w.1.0 w.1.1 (follow.close x.stack w.0 id at w.1.0 ready.sound ready.keys w.1.1))
+        (w.1.0, close_if at x y w.0 ready.rest.1 w.2 h (close_refusal x.stack.registry id) id w.1.0 w.1.1 (follow.close x.stack w.0 id at w.1.0 ready.sound ready.keys w.1.1))
     goes x (CloseTried id at) r y ready w =
-        close_if at x y w.0 ready.lines w.2 h (close_refusal x.stack.registry id) id r w.1 (follow.close x.stack w.0 id at r ready.sound ready.keys w.1)
+        close_if at x y w.0 ready.rest.1 w.2 h (close_refusal x.stack.registry id) id r w.1 (follow.close x.stack w.0 id at r ready.sound ready.keys w.1)
     goes x (CurrentAsked at) r y ready w = (w.0.0, same_value x y w.0.1 w.1)

@@ -20,18 +20,18 @@ use Rattle.span_registry_layers_layers.specs.declared.layer.Layer.{Ghosts as Lay
 use Rattle.span_registry_layers_stack.specs.Asked.{CommonInterest, common_hint}
 use Rattle.span_registry_layers_stack.specs.CacheValidity.{CacheIsValid}
 use Rattle.span_registry_layers_stack.specs.Calls.{AllRefuse, current_in, over}
-use Rattle.span_registry_layers_stack.specs.Rows.{Afresh, filters_of, view_of}
+use Rattle.span_registry_layers_stack.specs.Rows.{Afresh, filters_of, marked, view_of}
 use Rattle.span_registry_layers_stack.specs.Stacks.{PassesAsked, Registers, cleared, with_hint}
 use Rattle.event_formatter_text.specs.declared.format_fields.FormatFields.{Ghosts}
 use Rattle.event_formatter_text.specs.declared.settings.Settings.{Settings}
 use Rattle.event_formatter_formats.specs.Contexts.{PlainContext}
-use Rattle.span_tracing_outputs.specs.Hands.{NoLines, TakesLists}
+use Rattle.span_tracing_outputs.specs.Hands.{TakesLists}
 use Rattle.span_tracing_outputs.specs.Heards.{Notice, close_told, enter_told, exit_told, span_told}
 use Rattle.span_tracing_outputs.specs.Outs as calls
 use Rattle.span_tracing_outputs.specs.Outs.{PlainLine, rested}
 use Rattle.span_tracing_outputs.specs.Plain.{EachAgrees, EachGoes, Fates, Numbered, call_lists, event_lists, outs_told}
 use Rattle.span_tracing_outputs.specs.StackFollows.{IfTaken, made_in}
-use Rattle.span_tracing_outputs.specs.TraceStacks.{TraceMoves, TraceStackValue}
+use Rattle.span_tracing_outputs.specs.TraceStacks.{IsAtRest, TraceMoves, TraceStackValue}
 use Rattle.span_tracing_outputs.specs.Turns.{AreDistinct, Lined, Lines, keys_of}
 
 -- an output machine whose lines were handed on
@@ -42,6 +42,10 @@ at_rest o = record o { out = rested o.out }
 abbrev pub lines_offered : {N : Type 0} → List (Numbered N) → List (List PlainLine)
 lines_offered [] = []
 lines_offered (o ∷ outs) = o.out.lines ∷ lines_offered outs
+
+-- no notices
+abbrev pub untold : ℕ → List Notice
+untold number = []
 
 -- the numbers of the outputs' filters, in order
 abbrev pub numbers_in : {N E F : Type 0} → List (Lined N E F) → List ℕ
@@ -79,12 +83,12 @@ module _ {N E F : Type 0} (g : FilterGhosts F) where
   EachAsked e at x rows passed told = ⊥
 
 module _ {N E F S : Type 0} (g : FilterGhosts F) where
-  -- what is kept of the filters' answers is right, the registry is sound, no two layers have the same key, and no output keeps a line
+  -- what is kept of the filters' answers is right, the registry is sound, no two layers have the same key, each output has its sink, and none keeps a line
   pub record IsReady (x : TraceStackValue N E F S) : Type 0 where
     pub valid : CacheIsValid g x.stack
     pub sound : IsSound x.stack.registry
     pub keys : AreDistinct (keys_of x.stack.rows)
-    pub lines : NoLines x.stack.rows
+    pub rest : IsAtRest x.stack x.sinks
 
 module _ {N E F S : Type 0} (n : Ghosts N) (line_of : E → Settings → PlainContext → PlainEvent → Option (List ℕ)) (g : FilterGhosts F) (takes : S → At → PlainLine → S → Type 0) where
   -- the outputs go on as these machines do, which are told this with these fates, and each sink took the lines of its machine
@@ -99,9 +103,10 @@ module _ {N E F S : Type 0} (n : Ghosts N) (line_of : E → Settings → PlainCo
     pub skeleton : bare y.stack.registry ≡ left
     pub outputs : (outs : List (Numbered N)) → EachAgrees n line_of g x.stack.registry x.stack.rows outs → OutputsGo at (lists outs) fates outs x y
 
-  -- no output is told anything, and no sink takes anything
+  -- no output is told anything, but for marks, and no sink takes anything
   pub record Rests (x y : TraceStackValue N E F S) : Type 0 where
     pub sinks : y.sinks ≡ x.sinks
+    pub rows : map (marked false) y.stack.rows ≡ map (marked false) x.stack.rows
     pub agreed : (outs : List (Numbered N)) → EachAgrees n line_of g x.stack.registry x.stack.rows outs → EachAgrees n line_of g y.stack.registry y.stack.rows outs
 
   -- the filters answer, and those outputs are told of the event whose filter passed it
@@ -164,8 +169,10 @@ module _ {N E F S : Type 0} (n : Ghosts N) (line_of : E → Settings → PlainCo
     TraceGoes x (CloseTried id at) r y = CloseIf (close_refusal x.stack.registry id) id at x r y
     TraceGoes x (CurrentAsked at) r y = (r ≡ current_in x.stack at.lane) × (y ≡ x)
 
-    -- so it is of each call, which leaves a stack that is ready as ready
+    -- so it is of each call, which leaves a stack that is ready as ready. Where no output is told anything, each goes through no notices
     pub record TraceFollows : Type 0 where
       pub goes : (x : TraceStackValue N E F S) (c : Call) (r : ReplyTo c) (y : TraceStackValue N E F S) → IsReady g x → TraceMoves g h takes x c r y → TraceGoes x c r y
       pub ready : (x : TraceStackValue N E F S) (c : Call) (r : ReplyTo c) (y : TraceStackValue N E F S) → IsReady g x → TraceMoves g h takes x c r y → IsReady g y
+      pub same : (x : TraceStackValue N E F S) → Rests x x
+      pub rests : (at : At) (x y : TraceStackValue N E F S) → IsReady g x → Rests x y → StepGoes at (call_lists untold) (bare y.stack.registry) x y
       pub numbers : (x : RegistryValue) (rows : List (Lined N E F)) (outs : List (Numbered N)) → EachAgrees n line_of g x rows outs → map (λ o. o.number) outs ≡ numbers_in rows

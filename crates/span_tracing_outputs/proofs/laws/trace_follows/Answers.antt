@@ -2,6 +2,7 @@ use Rattle.std.proofs.Common.{refl}
 use Rattle.event_formatter_layer.specs.contracts.told.LayerLayer.TheImpl.{ghosts, no_dict}
 use Rattle.span_tracing_outputs.specs.contracts.pending.PendingLines.{the_row as pending_row}
 use Rattle.span_tracing_outputs.specs.contracts.pending.PendingLinesMakeWriter.TheImpl.{ghosts as writer_ghosts}
+use Rattle.span_tracing_outputs.proofs.Idle.{rests_step}
 use Rattle.span_tracing_outputs.proofs.Readying.{stays_ready}
 use Rattle.span_tracing_outputs.proofs.Resting.{numbers_agree}
 use Rattle.span_tracing_outputs.proofs.Tracing.{goes}
@@ -17,5 +18,7 @@ returns g c =
     record {
       goes = goes n line_of f takes h c.stack_follows.ensures (λ layer t later told. told) (λ layer. refl);
       ready = stays_ready n line_of f takes h (λ layer key. refl) (λ layer t later told. told) c.stack_registry_stays_sound.ensures.call;
+      same = λ x. record { sinks = refl; rows = refl; agreed = λ outs agrees. agrees };
+      rests = rests_step n line_of f takes;
       numbers = numbers_agree n line_of f;
     }
