@@ -3,6 +3,7 @@
 #![tactic(auto)]
 
 mod hand;
+mod has_registry;
 mod laws;
 mod pending;
 mod sink;

@@ -57,7 +57,7 @@ module _ {N E F S : Type 0} (n : Ghosts N) (line_of : E → Settings → PlainCo
   Goes v step reply w = Follows n line_of g takes h v step reply w × StackIsReady g h w.stack
 
   rests_same : (x : Stack) → Rests n line_of g takes x x
-  rests_same x = record { sinks = refl; agreed = λ outs a. a }
+  rests_same x = record { rows = refl; sinks = refl; agreed = λ outs a. a }
 
   rest_same : (fates : Fates) (o : Option Stack) → OutputsFollow n line_of g takes None fates o o
   rest_same fates None = tt
