@@ -28,7 +28,7 @@ use Rattle.span_tracing_outputs.specs.Pending.{TakesLine}
 use Rattle.span_tracing_outputs.specs.Plain.{EachAgrees, Numbered, call_lists}
 use Rattle.span_tracing_outputs.specs.StackFollows.{CloseGoes, EventGoes, Goes, IfMade, IfTaken, LinedStack, StackFollows, made_in}
 use Rattle.span_tracing_outputs.specs.StackFollows as stacks
-use Rattle.span_tracing_outputs.specs.TraceFollows.{CloseIf, EventIf, IsReady, RefusedBy, Rests, SpanGoes, StepGoes, TakenUnless, TraceGoes, numbers_in, verdicts_from}
+use Rattle.span_tracing_outputs.specs.TraceFollows.{CloseIf, EventIf, IsReady, RefusedBy, Rests, NewSpanGoes, StepGoes, TakenUnless, TraceGoes, numbers_in, verdicts_from}
 use Rattle.span_tracing_outputs.specs.TraceStacks.{TraceMoves, TraceStackValue}
 use Rattle.span_tracing_outputs.specs.Turns.{Lined, Lines}
 use Rattle.span_tracing_outputs.proofs.Answering.{asks_answer}
@@ -99,11 +99,11 @@ module _ {N E F S : Type 0} (n : Ghosts N) (line_of : E → Settings → PlainCo
       close_if (Some refusal) id r gives same = (gives.0, stays same)
 
       module _ (follow : StackFollows n line_of g h) (unnumbered : (layer : Lines N E) → h.numbers layer ≡ []) (ready : IsReady g x) where
-        span_afresh : (a : PlainAttributes) (r : Result (Option ℕ) RequestError) → knows x.stack.registry (explicit_parent a.parent) ≡ true → SpanAfresh g h a at x.stack r mid → SpanGoes n line_of g takes h a at x r y
+        span_afresh : (a : PlainAttributes) (r : Result (Option ℕ) RequestError) → knows x.stack.registry (explicit_parent a.parent) ≡ true → SpanAfresh g h a at x.stack r mid → NewSpanGoes n line_of g takes h a at x r y
         span_afresh a r known (inl w) =
             let both = hands_same takes at x y mid (subst (λ (s : LinedStack N E F). NoLines s.rows) (sym w.2) (none_marked x.stack.rows none)) over in
             let stack : y.stack ≡ cleared x.stack = both.0 ∙ w.2 in
-            subst (λ (q : Result (Option ℕ) RequestError). SpanGoes n line_of g takes h a at x q y) (sym w.1) (
+            subst (λ (q : Result (Option ℕ) RequestError). NewSpanGoes n line_of g takes h a at x q y) (sym w.1) (
               known,
               w.0,
               stack,
@@ -115,7 +115,7 @@ module _ {N E F S : Type 0} (n : Ghosts N) (line_of : E → Settings → PlainCo
             )
         span_afresh a r known (inr w) = made w.2
           where
-            made : Rattle.span_registry_layers_stack.specs.Calls.MakesSpan g h a at w.0 x.stack r mid → SpanGoes n line_of g takes h a at x r y
+            made : Rattle.span_registry_layers_stack.specs.Calls.MakesSpan g h a at w.0 x.stack r mid → NewSpanGoes n line_of g takes h a at x r y
             made (Ok id, z, gives, rest) =
                 let goes : stacks.SpanGoes n line_of g a at w.0 x.stack id mid =
                 subst (λ (q : Result (Option ℕ) RequestError). IfMade q x.stack (λ id. stacks.SpanGoes n line_of g a at w.0 x.stack id mid) mid) rest.0 (follow.span x.stack mid a at w.0 r ready.keys w.2) in
@@ -124,18 +124,18 @@ module _ {N E F S : Type 0} (n : Ghosts N) (line_of : E → Settings → PlainCo
                 let passed = verdicts_from all_pass (numbers_in x.stack.rows) answer.0 in
                 let wide = made_in n line_of g k a at passed in
                 let goes_so = subst (λ (bs : List Bool). stacks.SpanGoes n line_of g a at bs x.stack id mid) answer.2 goes in
-                subst (λ (q : Result (Option ℕ) RequestError). SpanGoes n line_of g takes h a at x q y) (sym rest.0)
+                subst (λ (q : Result (Option ℕ) RequestError). NewSpanGoes n line_of g takes h a at x q y) (sym rest.0)
                 (answer.0, answer.1, sym answer.3, goes_so.0, goes_so.1, step_goes n line_of g takes at (span_told wide at (Made a) k.next_id) wide x y mid goes_so.2 over)
             made (Err e, z, gives, rest) =
-                subst (λ (q : Result (Option ℕ) RequestError). SpanGoes n line_of g takes h a at x q y) (sym rest.0) (
+                subst (λ (q : Result (Option ℕ) RequestError). NewSpanGoes n line_of g takes h a at x q y) (sym rest.0) (
                   refused_by (span_refusal x.stack.registry a.parent) x.stack.registry z (with_span x.stack.registry a.metadata (under x.stack.registry at.lane a.parent) w.0) x.stack.registry.next_id e gives,
                   stays rest.1,
                 )
 
-        span_by : (b : Bool) (a : PlainAttributes) (r : Result (Option ℕ) RequestError) → knows x.stack.registry (explicit_parent a.parent) ≡ b → SpanKnown g h b x.stack (SpanAfresh g h a at x.stack) r mid → SpanGoes n line_of g takes h a at x r y
+        span_by : (b : Bool) (a : PlainAttributes) (r : Result (Option ℕ) RequestError) → knows x.stack.registry (explicit_parent a.parent) ≡ b → SpanKnown g h b x.stack (SpanAfresh g h a at x.stack) r mid → NewSpanGoes n line_of g takes h a at x r y
         span_by true a r known gives = span_afresh a r known gives
         span_by false a r known gives =
-            subst (λ (q : Result (Option ℕ) RequestError). SpanGoes n line_of g takes h a at x q y) (sym gives.0)
+            subst (λ (q : Result (Option ℕ) RequestError). NewSpanGoes n line_of g takes h a at x q y) (sym gives.0)
             (unknown_refused (knows x.stack.registry (explicit_parent a.parent)) _ known, stays gives.1)
 
   module _ (h : LayerGhosts (Lines N E)) (follow : StackFollows n line_of g h) (says : (layer : Lines N E) (t : notices.Notice) (later : Lines N E) → h.told layer t later → LayerTold n line_of TakesLine layer t later)

@@ -141,11 +141,11 @@ module _ {N E F S : Type 0} (n : Ghosts N) (line_of : E → Settings → PlainCo
 
   module _ (h : LayerGhosts (Lines N E)) where
     -- a span that each filter refuses, asked again, is dropped: marks alone change
-    abbrev pub SpanGoes : PlainAttributes → At → TraceStackValue N E F S → Result (Option ℕ) RequestError → TraceStackValue N E F S → Type 0
-    SpanGoes a at x (Ok None) y =
+    abbrev pub NewSpanGoes : PlainAttributes → At → TraceStackValue N E F S → Result (Option ℕ) RequestError → TraceStackValue N E F S → Type 0
+    NewSpanGoes a at x (Ok None) y =
         (knows x.stack.registry (explicit_parent a.parent) ≡ true) × AllRefuse g h a.metadata at x.stack × (y.stack ≡ cleared x.stack) × Rests x y
-    SpanGoes a at x (Ok (Some id)) y = MadeGoes a at x id y
-    SpanGoes a at x (Err e) y = RefusedBy (span_refusal x.stack.registry a.parent) e × (y ≡ x)
+    NewSpanGoes a at x (Ok (Some id)) y = MadeGoes a at x id y
+    NewSpanGoes a at x (Err e) y = RefusedBy (span_refusal x.stack.registry a.parent) e × (y ≡ x)
 
     -- what a call answers, and what it makes of the outputs and of the sinks
     abbrev pub TraceGoes : TraceStackValue N E F S → (c : Call) → ReplyTo c → TraceStackValue N E F S → Type 0
@@ -153,7 +153,7 @@ module _ {N E F S : Type 0} (n : Ghosts N) (line_of : E → Settings → PlainCo
     TraceGoes x (CallsiteRegistered m) r y = CommonInterest g m (filters_of x.stack.rows) r × Registers m r x.stack y.stack × Rests x y
     TraceGoes x (Asked m at) r y = PassesAsked g x.stack m at r × (y ≡ x)
     TraceGoes x HintAsked r y = (r ≡ common_hint g (Some 0) (filters_of x.stack.rows)) × (y.stack ≡ with_hint r x.stack) × Rests x y
-    TraceGoes x (SpanMade a at) r y = SpanGoes a at x r y
+    TraceGoes x (SpanMade a at) r y = NewSpanGoes a at x r y
     TraceGoes x (Recorded id values at) r y =
         let k = bare x.stack.registry in
         (r ≡ or_refused (open_refusal x.stack.registry id) tt) × IfTaken r x (StepGoes at (call_lists (span_told k at (calls.Recorded values) id)) k x y) y
