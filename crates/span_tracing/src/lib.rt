@@ -19,6 +19,7 @@ pub use trace::Trace;
 pub use tracing_appender_folders::{
     Entry, FileEntry, FileNumber, Folder, FolderError, FolderFault, MemoryFolder, Moment,
 };
-pub use tracing_appender_rolling::{BuildError, BuildRefusal, Builder, RollingFileAppender, Rotation};
+pub use tracing_appender_rolling::{
+    BuildError, BuildRefusal, Builder, RollingFileAppender, Rotation,
+};
 pub use tracing_core_fields::{FieldValue, OwnedValue};
-

@@ -2,52 +2,40 @@
 ghost use Rattle.std.specs.Prelude.{◌≡◌, ◌++◌, ◌∷◌, [], IfErr, IfOk, None, OnErr, OnOk, is_some, length, string_bytes};
 ghost use Rattle.std.specs.Option.{option_copied, option_map};
 ghost use Rattle.tracing_core_fields.specs.Metadata.{plain_metadata};
-ghost use Rattle.span_tracing_outputs.specs.TraceFollows.{IsReady};
-ghost use Rattle.span_tracing.specs.Sound.{AddsStack};
+ghost use Rattle.span_tracing.specs.Setup.{AddsStack};
 ghost use Rattle.span_tracing_steps.specs.Setup.{RegisterGives, own_at};
 ghost use Rattle.span_tracing_steps.specs.States.{new_state};
 
-use event_formatter_formats::FormatEvent;
-use event_formatter_layer::Layer;
-use event_formatter_text::FormatFields;
-use span_registry_layers_layers::Filter;
-use span_tracing_outputs::{PendingLines, TraceStack};
-use span_tracing_sinks::RollingSink;
 use span_tracing_skeleton::Refusal;
 use span_tracing_steps::TraceParts;
 use std::alloc::{AllocError, Global};
 use std::marker::Model;
-use tracing_appender_folders::Folder;
 use tracing_core_fields::{Identifier, Metadata};
 use tracing_core_requests::{Interest, Subscriber};
 
-/// Takes calls of events and spans, answers replies, and writes lines to log files over folders `D`: one output's lines
-/// are those of the events that its filter `F` passes, in its format `E`, with the texts of fields by `N`.
+/// Takes calls of events and spans and answers replies, over one stack `T`: a
+/// [`TraceStack`](crate::TraceStack) of outputs, each with a sink that takes its lines.
 ///
 /// A contract sees a trace as its callsites, threads, whether the stack is the global default, and the stack.
 #[derive(Drop)]
-pub struct Trace<N: FormatFields + Drop, E: FormatEvent, F: Filter, D: Folder> {
-    pub(crate) parts: TraceParts<TraceStack<N, E, F, RollingSink<D>>>,
+pub struct Trace<T: Subscriber> {
+    pub(crate) parts: TraceParts<T>,
 }
 
-impl<N: FormatFields + Drop, E: FormatEvent, F: Filter, D: Folder> Model for Trace<N, E, F, D> {
-    ghost use Rattle.span_tracing_runs.specs.Follows.{Traced};
-    ghost use Rattle.span_tracing_sinks.specs.declared.sink.RollingSink.{RollingSink};
-    ghost use Rattle.span_tracing_steps.specs.States.{value_in};
-    ghost use Rattle.span_tracing.specs.Sound.{IsSoundTrace};
+impl<T: Subscriber> Model for Trace<T> {
+    ghost use Rattle.span_tracing_steps.specs.Sound.{IsSound};
+    ghost use Rattle.span_tracing_steps.specs.States.{StateValue, value_in};
 
-    ghost Value = { Traced N E F (RollingSink D) };
+    ghost Value = { StateValue T };
 
     ghost view = { λ t. value_in t.parts };
 
-    ghost invariant = { λ t. IsSoundTrace ⟦<F as Filter>⟧
-        ⟦<Layer<N, E, PendingLines> as span_registry_layers_layers::Layer>⟧
-        ⟦<TraceStack<N, E, F, RollingSink<D>> as Subscriber>⟧ t.parts };
+    ghost invariant = { λ t. IsSound ⟦<T as Subscriber>⟧ t.parts };
 }
 
-impl<N: FormatFields + Drop, E: FormatEvent, F: Filter, D: Folder> Trace<N, E, F, D> {
+impl<T: Subscriber> Trace<T> {
     /// A trace with no stack, no lane and no callsite.
-    pub fn new(alloc: Global) -> Trace<N, E, F, D>
+    pub fn new(alloc: Global) -> Trace<T>
         ensures { result ≡ new_state }
     {
         Trace {
@@ -62,8 +50,8 @@ impl<N: FormatFields + Drop, E: FormatEvent, F: Filter, D: Folder> Trace<N, E, F
         self.parts.stack().is_some()
     }
 
-    /// The stack with its sinks, where there is one.
-    pub fn stack(&self) -> Option<&TraceStack<N, E, F, RollingSink<D>>>
+    /// The stack, where there is one.
+    pub fn stack(&self) -> Option<&T>
         ensures { option_copied result ≡ self.now.stack }
     {
         self.parts.stack()
@@ -96,26 +84,23 @@ impl<N: FormatFields + Drop, E: FormatEvent, F: Filter, D: Folder> Trace<N, E, F
         identifier: Identifier,
         metadata: &Metadata<'_>,
     ) -> Result<Interest, Refusal>
-        ensures { RegisterGives ⟦<TraceStack<N, E, F, RollingSink<D>> as Subscriber>⟧ self.old
+        ensures { RegisterGives ⟦<T as Subscriber>⟧ self.old
             (own_at identifier.0 (plain_metadata metadata.now)) result self.new }
     {
         self.parts.register(identifier, metadata)
     }
 
-    /// Takes the stack of outputs with their sinks, and answers its handle, which is 0. A trace has one stack. The stack is
-    /// told of its handle, and asked of each callsite.
+    /// Takes a stack, and answers its handle, which is 0. A trace has one stack. The stack is told of its handle, and asked
+    /// of each callsite.
     ///
     /// # Errors
     ///
     /// Want of memory, which leaves the trace as it was and gives the stack back.
-    pub fn add_stack(
-        &mut self,
-        stack: TraceStack<N, E, F, RollingSink<D>>,
-    ) -> Result<usize, TraceStack<N, E, F, RollingSink<D>>>
+    pub fn add_stack(&mut self, stack: T) -> Result<usize, T>
         requires none { self.old.stack ≡ None }
-        requires ready { IsReady ⟦<F as Filter>⟧ stack }
+        requires steady { T.steady stack }
         ensures handle { IfOk result (λ handle. handle ≡ 0) }
-        ensures ok { OnOk result (AddsStack ⟦<TraceStack<N, E, F, RollingSink<D>> as Subscriber>⟧ self.old stack self.new) }
+        ensures ok { OnOk result (AddsStack ⟦<T as Subscriber>⟧ self.old stack self.new) }
         ensures err { OnErr result (self.new ≡ self.old) }
         ensures back { IfErr result (λ back. back ≡ stack) }
     {

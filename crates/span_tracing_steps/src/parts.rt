@@ -30,6 +30,13 @@ pub struct TraceParts<T> {
 impl<T: Subscriber> TraceParts<T> {
     ghost use Rattle.span_tracing_steps.specs.States.{stack_in};
 
+    /// The allocator that was given at first.
+    pub fn alloc(&self) -> Global
+        ensures { result ≡ self.now.alloc }
+    {
+        self.alloc
+    }
+
     /// The stack, where there is one.
     pub fn stack(&self) -> Option<&T>
         ensures { option_copied result ≡ stack_in self.now }
