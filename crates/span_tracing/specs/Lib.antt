@@ -1,2 +1,16 @@
+pub mod Masks
+pub mod Actions
+pub mod Skeletons
+pub mod Sound
+pub mod Telling
+pub mod Stored
+pub mod Matching
+pub mod Done
+pub mod Left
+pub mod Headline
+pub mod Went
+pub mod Agreement
+pub mod Routes
+pub mod Outputs
 pub mod Setup
-pub mod Ready
+pub mod Laws

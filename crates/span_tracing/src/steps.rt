@@ -1,236 +1,254 @@
-//! Steps of a trace, one at a time and in runs.
-ghost use Rattle.std.specs.Prelude.{◌≡◌, IfOk, OnErr};
-ghost use Rattle.tracing_core_fields.specs.OwnedValues.{owned_entries};
-ghost use Rattle.span_tracing.specs.Ready.{FollowsReady, RunsReady};
-ghost use Rattle.span_tracing_runs.specs.Runs.{RunGives};
-ghost use Rattle.span_tracing_sinks.specs.Takes.{TakesLine};
-ghost use Rattle.span_tracing_skeleton.specs.PlainData.{CloneStep, CloseStep, EnabledStep, EnterStep, EventStep, ExitStep, FollowsFromStep, GlobalStep, RecordStep, SpanStep, plain_step, plain_steps};
-ghost use Rattle.span_tracing_steps.specs.Steps.{StepGives};
+//! Steps that are not refused.
 
-use crate::trace::Trace;
-use event_formatter_formats::FormatEvent;
-use event_formatter_layer::Layer;
-use event_formatter_text::FormatFields;
-use span_registry_layers_layers::Filter;
-use span_tracing_outputs::{LineSink, PendingLines, TraceStack};
-use span_tracing_runs::{files_follow, runs_follow, steps_follow};
-use span_tracing_sinks::RollingSink;
-use span_tracing_skeleton::{
-    EnabledCall, FollowsCall, HasRegistry, Parent, Reply, SpanCall, SpanName, Step,
-};
-use span_tracing_steps::{RecordRequest, Request};
+ghost use Rattle.std.specs.Prelude.{◌≡◌, ◌∷◌, [], true, false, IfErr, IfOk, IsSome, None, OnErr, OnOk, Some};
+ghost use Rattle.span_tracing_machine.specs.Machine.{answered, call_refusal, refusal_of};
+ghost use Rattle.span_tracing_machine.specs.Missed.{handed_lines};
+ghost use Rattle.span_tracing_machine.specs.PlainData.{on_span, EventStep, EnabledStep, SpanStep, RecordStep, FollowsFromStep, EnterStep, ExitStep, CloneStep, CloseStep};
+ghost use Rattle.span_tracing_machine.specs.State.{offer_of};
+ghost use Rattle.span_tracing.specs.Actions.{plain_record, plain_request, named_as};
+ghost use Rattle.span_tracing.specs.Done.{SpanDone, SpanRefused};
+ghost use Rattle.span_tracing.specs.Masks.{IsMask};
+ghost use Rattle.span_tracing.specs.Skeletons.{skeleton_of, texts_of, time_in, value_in};
+ghost use Rattle.span_tracing.specs.Stored.{Acted, TakesLines, count_by, mask_by};
+
+use crate::action::{RecordRequest, Request};
+use crate::checks::known_place;
+use crate::parts::TraceParts;
+use crate::requests::SpanError;
+use span_registry_layers::Filter;
+use span_tracing_machine::{EnabledCall, Fate, FollowsCall, Reply, SpanCall, SpanName};
 use std::alloc::AllocError;
-use tracing_appender_folders::{Folder, Moment};
-use tracing_core_fields::{FieldValue, Identifier};
-use tracing_core_requests::Subscriber;
+use tracing_appender_rolling::{Folder, RollingFileAppender};
+use tracing_core::Id;
 
-impl<T: Subscriber + HasRegistry> Trace<T> {
-    // A step, as its parts take it.
-    fn act(&mut self, step: &Step) -> Reply
-        ensures { StepGives ⟦<T as Subscriber>⟧ T.registry_of self.old (plain_step step.now) result self.new }
-    {
-        match step {
-            Step::SetGlobalDefault(handle) => self.parts.set_global_default(*handle),
-            Step::Event(event) => self.parts.event(&Request {
-                lane: event.lane,
-                moment: event.moment,
-                callsite: event.callsite.0,
-                parent: event.parent,
-                values: event.values.as_slice(),
-            }),
-            Step::Enabled(call) => self.parts.enabled(call),
-            Step::NewSpan(span) => self.parts.new_span(&Request {
-                lane: span.lane,
-                moment: span.moment,
-                callsite: span.callsite.0,
-                parent: span.parent,
-                values: span.values.as_slice(),
-            }),
-            Step::Record(record) => self.parts.record(&RecordRequest {
-                lane: record.lane,
-                moment: record.moment,
-                span: record.span,
-                values: record.values.as_slice(),
-            }),
-            Step::RecordFollowsFrom(call) => self.parts.record_follows_from(call),
-            Step::Enter(call) => self.parts.enter(call),
-            Step::Exit(call) => self.parts.exit(call),
-            Step::CloneSpan(call) => self.parts.clone_span(call),
-            Step::TryClose(call) => self.parts.try_close(call),
-        }
+/// What became of an event's line, and what the stack's filter answered of it, where it was asked.
+#[derive(Clone, Copy, Debug)]
+pub(crate) struct EventDone {
+    pub(crate) fate: Fate,
+    pub(crate) answer: Option<bool>,
+}
+
+/// A made span's name, if it was made, what became of its text, and what the stack's filter answered of it,
+/// where it was asked.
+#[derive(Clone, Copy, Debug)]
+pub(crate) struct MadeSpan {
+    pub(crate) name: Option<SpanName>,
+    pub(crate) fate: Fate,
+    pub(crate) answer: Option<bool>,
+}
+
+// The name of the span that was made.
+fn name_of(id: Option<Id>) -> Option<SpanName>
+    ensures { result ≡ named_as id }
+{
+    match id {
+        None => None,
+        Some(id) => Some(SpanName { stack: 0, id }),
     }
 }
 
-impl<N: FormatFields + Drop, E: FormatEvent, F: Filter, S: LineSink> Trace<TraceStack<N, E, F, S>> {
-    /// Makes the stack with this handle the one that lanes reach. Takes no memory.
-    pub fn set_global_default(&mut self, handle: usize) -> Reply
-        ensures { FollowsReady ⟦<N as FormatFields>⟧ E.line_of ⟦<F as Filter>⟧ S.takes ⟦<Layer<N, E, PendingLines> as span_registry_layers_layers::Layer>⟧ self.old (GlobalStep handle) result self.new }
-    {
-        steps_follow::<N, E, F, S>();
-        self.parts.set_global_default(handle)
-    }
+impl<F: Filter> TraceParts<F> {
+    ghost use Rattle.span_tracing.specs.Sound.{IsSound};
 
-    /// An event on a lane. A line that finds no memory is missing alone, and counted.
-    pub fn event(
-        &mut self,
-        lane: usize,
-        moment: Moment,
-        callsite: Identifier,
-        parent: Parent,
-        values: &[FieldValue],
-    ) -> Reply
-        ensures { FollowsReady ⟦<N as FormatFields>⟧ E.line_of ⟦<F as Filter>⟧ S.takes ⟦<Layer<N, E, PendingLines> as span_registry_layers_layers::Layer>⟧ self.old (EventStep (record { lane = lane; moment = moment; callsite = callsite.0; parent = parent; values = owned_entries values.now })) result self.new }
+    /// Counts a text or line that found no memory.
+    fn count(&mut self, fate: Fate)
+        requires { IsSound ⟦<F as Filter>⟧ self.old }
+        ensures sound { IsSound ⟦<F as Filter>⟧ self.new }
+        ensures counted { value_in self.new ≡ record (value_in self.old) {
+          starved = count_by (value_in self.old).starved fate;
+        } }
     {
-        steps_follow::<N, E, F, S>();
-        self.parts.event(&Request {
-            lane,
-            moment,
-            callsite: callsite.0,
-            parent,
-            values,
-        })
-    }
-
-    /// Asks whether some output's filter passes a callsite on a lane: by it a new span would be made, and an event unless the filters refuse the event itself. Asking leaves no mark, and takes no memory.
-    pub fn enabled(&mut self, lane: usize, moment: Moment, callsite: Identifier) -> Reply
-        ensures { FollowsReady ⟦<N as FormatFields>⟧ E.line_of ⟦<F as Filter>⟧ S.takes ⟦<Layer<N, E, PendingLines> as span_registry_layers_layers::Layer>⟧ self.old (EnabledStep (record { lane = lane; moment = moment; callsite = callsite })) result self.new }
-    {
-        steps_follow::<N, E, F, S>();
-        self.parts.enabled(&EnabledCall {
-            lane,
-            moment,
-            callsite,
-        })
-    }
-
-    /// A new span on a lane; answers its name, or none where it is dropped. A text that finds no memory is missing alone, and counted.
-    pub fn new_span(
-        &mut self,
-        lane: usize,
-        moment: Moment,
-        callsite: Identifier,
-        parent: Parent,
-        values: &[FieldValue],
-    ) -> Reply
-        ensures { FollowsReady ⟦<N as FormatFields>⟧ E.line_of ⟦<F as Filter>⟧ S.takes ⟦<Layer<N, E, PendingLines> as span_registry_layers_layers::Layer>⟧ self.old (SpanStep (record { lane = lane; moment = moment; callsite = callsite.0; parent = parent; values = owned_entries values.now })) result self.new }
-    {
-        steps_follow::<N, E, F, S>();
-        self.parts.new_span(&Request {
-            lane,
-            moment,
-            callsite: callsite.0,
-            parent,
-            values,
-        })
-    }
-
-    /// Adds values to a span's. A field is told by its place among those of the span's callsite; one that the callsite lacks is passed over.
-    pub fn record(
-        &mut self,
-        lane: usize,
-        moment: Moment,
-        span: Option<SpanName>,
-        values: &[FieldValue],
-    ) -> Reply
-        ensures { FollowsReady ⟦<N as FormatFields>⟧ E.line_of ⟦<F as Filter>⟧ S.takes ⟦<Layer<N, E, PendingLines> as span_registry_layers_layers::Layer>⟧ self.old (RecordStep (record { lane = lane; moment = moment; span = span; values = owned_entries values.now })) result self.new }
-    {
-        steps_follow::<N, E, F, S>();
-        self.parts.record(&RecordRequest {
-            lane,
-            moment,
-            span,
-            values,
-        })
-    }
-
-    /// Records that a span follows from another one. Nothing shows it yet.
-    pub fn record_follows_from(
-        &mut self,
-        lane: usize,
-        moment: Moment,
-        span: Option<SpanName>,
-        follows: Option<SpanName>,
-    ) -> Reply
-        ensures { FollowsReady ⟦<N as FormatFields>⟧ E.line_of ⟦<F as Filter>⟧ S.takes ⟦<Layer<N, E, PendingLines> as span_registry_layers_layers::Layer>⟧ self.old (FollowsFromStep (record { lane = lane; moment = moment; span = span; follows = follows })) result self.new }
-    {
-        steps_follow::<N, E, F, S>();
-        self.parts.record_follows_from(&FollowsCall {
-            lane,
-            moment,
-            span,
-            follows,
-        })
-    }
-
-    /// Enters a span on a lane.
-    pub fn enter(&mut self, lane: usize, moment: Moment, span: Option<SpanName>) -> Reply
-        ensures { FollowsReady ⟦<N as FormatFields>⟧ E.line_of ⟦<F as Filter>⟧ S.takes ⟦<Layer<N, E, PendingLines> as span_registry_layers_layers::Layer>⟧ self.old (EnterStep (record { lane = lane; moment = moment; span = span })) result self.new }
-    {
-        steps_follow::<N, E, F, S>();
-        self.parts.enter(&SpanCall { lane, moment, span })
-    }
-
-    /// Leaves a span on a lane: its last entry there goes.
-    pub fn exit(&mut self, lane: usize, moment: Moment, span: Option<SpanName>) -> Reply
-        ensures { FollowsReady ⟦<N as FormatFields>⟧ E.line_of ⟦<F as Filter>⟧ S.takes ⟦<Layer<N, E, PendingLines> as span_registry_layers_layers::Layer>⟧ self.old (ExitStep (record { lane = lane; moment = moment; span = span })) result self.new }
-    {
-        steps_follow::<N, E, F, S>();
-        self.parts.exit(&SpanCall { lane, moment, span })
-    }
-
-    /// Takes one more handle of a span. Takes no memory.
-    pub fn clone_span(&mut self, lane: usize, moment: Moment, span: Option<SpanName>) -> Reply
-        ensures { FollowsReady ⟦<N as FormatFields>⟧ E.line_of ⟦<F as Filter>⟧ S.takes ⟦<Layer<N, E, PendingLines> as span_registry_layers_layers::Layer>⟧ self.old (CloneStep (record { lane = lane; moment = moment; span = span })) result self.new }
-    {
-        steps_follow::<N, E, F, S>();
-        self.parts.clone_span(&SpanCall { lane, moment, span })
-    }
-
-    /// Gives up one handle of a span; answers whether the span closed.
-    pub fn try_close(&mut self, lane: usize, moment: Moment, span: Option<SpanName>) -> Reply
-        ensures { FollowsReady ⟦<N as FormatFields>⟧ E.line_of ⟦<F as Filter>⟧ S.takes ⟦<Layer<N, E, PendingLines> as span_registry_layers_layers::Layer>⟧ self.old (CloseStep (record { lane = lane; moment = moment; span = span })) result self.new }
-    {
-        steps_follow::<N, E, F, S>();
-        self.parts.try_close(&SpanCall { lane, moment, span })
-    }
-
-    /// A step.
-    pub fn step(&mut self, step: &Step) -> Reply
-        ensures { FollowsReady ⟦<N as FormatFields>⟧ E.line_of ⟦<F as Filter>⟧ S.takes ⟦<Layer<N, E, PendingLines> as span_registry_layers_layers::Layer>⟧ self.old (plain_step step.now) result self.new }
-    {
-        steps_follow::<N, E, F, S>();
-        self.act(step)
-    }
-
-    // Steps in order, as the trace's parts take them.
-    fn run_all(&mut self, steps: &[Step]) -> Result<Vec<Reply>, AllocError>
-        ensures run { IfOk result (λ replies. RunGives ⟦<TraceStack<N, E, F, S> as Subscriber>⟧ self.old (plain_steps steps.now) replies.items self.new) }
-        ensures err { OnErr result (self.new ≡ self.old) }
-    {
-        let mut replies = Vec::with_capacity(self.parts.alloc(), steps.len())?;
-        for step in steps {
-            replies.push_reserved(self.act(step));
+        match fate {
+            Fate::Whole => {}
+            Fate::Missed => self.count_one(),
+            Fate::Unwritten => self.count_one(),
         }
-        Ok(replies)
     }
-}
 
-impl<N: FormatFields + Drop, E: FormatEvent, F: Filter, D: Folder> Trace<
-    TraceStack<N, E, F, RollingSink<D>>,
-> {
-    /// Steps in order, with a reply to each. A step that is refused for want of memory does nothing, and the others run.
-    /// Where no line of an output found no memory and its folder's contents are known, the output's files hold exactly the
-    /// lines of its machine.
-    ///
-    /// # Errors
-    ///
-    /// Want of memory for the replies, whose room is made first: then nothing was done.
-    pub fn run(&mut self, steps: &[Step]) -> Result<Vec<Reply>, AllocError>
-        ensures run { IfOk result (λ replies. RunsReady D.contents D.failed ⟦<N as FormatFields>⟧ E.line_of ⟦<F as Filter>⟧ ⟦<Layer<N, E, PendingLines> as span_registry_layers_layers::Layer>⟧ self.old (plain_steps steps.now) replies.items self.new) }
-        ensures err { OnErr result (self.new ≡ self.old) }
+    fn count_one(&mut self)
+        requires { IsSound ⟦<F as Filter>⟧ self.old }
+        ensures sound { IsSound ⟦<F as Filter>⟧ self.new }
+        ensures counted { value_in self.new ≡ record (value_in self.old) {
+          starved = count_by (value_in self.old).starved Fate.Missed;
+        } }
     {
-        runs_follow::<N, E, F, RollingSink<D>>();
-        files_follow::<N, E, F, D>();
-        self.run_all(steps)
+        if self.starved < usize::MAX {
+            self.starved += 1;
+        }
+    }
+
+    /// An event.
+    #[inline(always)]
+    pub(crate) fn event<D: Folder>(
+        &mut self,
+        event: &Request<'_>,
+        sink: &mut Option<RollingFileAppender<D>>,
+    ) -> EventDone
+        requires sound { IsSound ⟦<F as Filter>⟧ self.old }
+        requires unrefused { refusal_of (skeleton_of (value_in self.old)) (EventStep (plain_request event.now)) []
+            ≡ None }
+        ensures sound { IsSound ⟦<F as Filter>⟧ self.new }
+        ensures asked { IsMask ⟦<F as Filter>⟧ (value_in self.old).filter (skeleton_of (value_in self.old))
+            (EventStep (plain_request event.now)) (mask_by result.answer) }
+        ensures acted { Acted ⟦<F as Filter>⟧ (value_in self.old) (value_in self.new)
+            (EventStep (plain_request event.now)) (mask_by result.answer) result.fate }
+        ensures takes { TakesLines D.contents sink.old sink.new
+            (handed_lines (result.fate ∷ []) (offer_of (skeleton_of (value_in self.old))
+            (texts_of (value_in self.old)) (time_in (value_in self.old).output) (EventStep (plain_request event.now))
+            (mask_by result.answer))) }
+    {
+        let Some(place) = known_place(self.callsites.as_slice(), event.callsite, false) else {
+            unreachable!()
+        };
+        let answer = self.ask(event.lane, event.moment, event.callsite);
+        if !answer.unwrap_or(false) {
+            return EventDone {
+                fate: Fate::Whole,
+                answer,
+            };
+        }
+        self.tell(event, place);
+        let done = self.write_told(sink, event.moment);
+        self.count(done.fate);
+        done
+    }
+
+    /// A question; answers what the stack's filter answers, where it is asked.
+    pub(crate) fn enabled(&mut self, call: &EnabledCall) -> Option<bool>
+        requires sound { IsSound ⟦<F as Filter>⟧ self.old }
+        requires unrefused { refusal_of (skeleton_of (value_in self.old)) (EnabledStep call.now) [] ≡ None }
+        ensures asked { IsMask ⟦<F as Filter>⟧ (value_in self.old).filter (skeleton_of (value_in self.old))
+            (EnabledStep call.now) (mask_by result) }
+        ensures kept { self.new ≡ self.old }
+    {
+        self.ask(call.lane, call.moment, call.callsite.0)
+    }
+
+    /// A new span; answers its name where it is made.
+    pub(crate) fn new_span(&mut self, span: &Request<'_>) -> Result<MadeSpan, SpanError>
+        requires sound { IsSound ⟦<F as Filter>⟧ self.old }
+        requires unrefused { refusal_of (skeleton_of (value_in self.old)) (SpanStep (plain_request span.now)) []
+            ≡ None }
+        ensures sound { IsSound ⟦<F as Filter>⟧ self.new }
+        ensures made { IfOk result (λ made. SpanDone ⟦<F as Filter>⟧ (value_in self.old) (value_in self.new)
+            (plain_request span.now) made) }
+        ensures refused { IfErr result (λ error. SpanRefused ⟦<F as Filter>⟧ (value_in self.old)
+            (plain_request span.now) error) }
+        ensures err { OnErr result (value_in self.new ≡ value_in self.old) }
+    {
+        let Some(place) = known_place(self.callsites.as_slice(), span.callsite, true) else {
+            unreachable!()
+        };
+        let answer = self.ask(span.lane, span.moment, span.callsite);
+        if !answer.unwrap_or(false) {
+            return Ok(MadeSpan {
+                name: None,
+                fate: Fate::Whole,
+                answer,
+            });
+        }
+        let id = self.make_span(span, place)?;
+        let fate = self.text_fate();
+        self.count(fate);
+        Ok(MadeSpan {
+            name: name_of(id),
+            fate,
+            answer: Some(id.is_some()),
+        })
+    }
+
+    /// An entry.
+    #[tactic(auto, unfolding(span_tracing_machine::specs::Machine::acted, span_tracing_machine::specs::Machine::answered, span_tracing_machine::specs::Missed::wanted, crate::specs::Stored::texts_acted))]
+    pub(crate) fn enter(&mut self, call: &SpanCall) -> Result<(), AllocError>
+        requires sound { IsSound ⟦<F as Filter>⟧ self.old }
+        requires unrefused { call_refusal (skeleton_of (value_in self.old)) call.now ≡ None }
+        ensures sound { IsSound ⟦<F as Filter>⟧ self.new }
+        ensures ok { OnOk result (Acted ⟦<F as Filter>⟧ (value_in self.old) (value_in self.new) (EnterStep call.now)
+            [] Fate.Whole) }
+        ensures given { OnErr result (IsSome call.now.span) }
+        ensures err { OnErr result (value_in self.new ≡ value_in self.old) }
+    {
+        match call.span {
+            None => Ok(()),
+            Some(name) => self.push_entry(name.id, call.lane, call.moment),
+        }
+    }
+
+    /// An exit.
+    #[tactic(auto, unfolding(span_tracing_machine::specs::Machine::acted, span_tracing_machine::specs::Machine::answered, span_tracing_machine::specs::Missed::wanted, crate::specs::Stored::texts_acted))]
+    pub(crate) fn exit(&mut self, call: &SpanCall)
+        requires sound { IsSound ⟦<F as Filter>⟧ self.old }
+        requires unrefused { call_refusal (skeleton_of (value_in self.old)) call.now ≡ None }
+        ensures sound { IsSound ⟦<F as Filter>⟧ self.new }
+        ensures acted { Acted ⟦<F as Filter>⟧ (value_in self.old) (value_in self.new) (ExitStep call.now) []
+            Fate.Whole }
+    {
+        if let Some(name) = call.span {
+            self.drop_entry(name.id, call.lane, call.moment);
+        }
+    }
+
+    /// Values for a span; answers what became of its text.
+    #[tactic(auto, unfolding(span_tracing_machine::specs::Machine::acted, span_tracing_machine::specs::Machine::answered, span_tracing_machine::specs::Missed::wanted, crate::specs::Stored::texts_acted))]
+    pub(crate) fn record(&mut self, call: &RecordRequest<'_>) -> Fate
+        requires sound { IsSound ⟦<F as Filter>⟧ self.old }
+        requires unrefused { call_refusal (skeleton_of (value_in self.old)) (on_span (plain_record call.now)) ≡ None }
+        ensures sound { IsSound ⟦<F as Filter>⟧ self.new }
+        ensures acted { Acted ⟦<F as Filter>⟧ (value_in self.old) (value_in self.new)
+            (RecordStep (plain_record call.now)) [] result }
+    {
+        let Some(name) = call.span else {
+            return Fate::Whole;
+        };
+        let Some(place) = self.span_place(name.id) else {
+            return Fate::Whole;
+        };
+        self.add_values(name.id, place, call);
+        let fate = self.text_fate();
+        self.count(fate);
+        fate
+    }
+
+    /// That a span follows from another one.
+    #[tactic(auto, unfolding(span_tracing_machine::specs::Machine::acted, span_tracing_machine::specs::Machine::answered, span_tracing_machine::specs::Missed::wanted, crate::specs::Stored::texts_acted))]
+    pub(crate) fn record_follows_from(&mut self, call: &FollowsCall)
+        requires sound { IsSound ⟦<F as Filter>⟧ self.old }
+        ensures sound { IsSound ⟦<F as Filter>⟧ self.new }
+        ensures acted { Acted ⟦<F as Filter>⟧ (value_in self.old) (value_in self.new) (FollowsFromStep call.now) []
+            Fate.Whole }
+    {
+        if let (Some(span), Some(follows)) = (call.span, call.follows) {
+            self.tell_follows(span.id, follows.id, call.lane, call.moment);
+        }
+    }
+
+    /// A handle taken.
+    #[tactic(auto, unfolding(span_tracing_machine::specs::Machine::acted, span_tracing_machine::specs::Machine::answered, span_tracing_machine::specs::Missed::wanted, crate::specs::Stored::texts_acted))]
+    pub(crate) fn clone_span(&mut self, call: &SpanCall)
+        requires sound { IsSound ⟦<F as Filter>⟧ self.old }
+        requires unrefused { refusal_of (skeleton_of (value_in self.old)) (CloneStep call.now) [] ≡ None }
+        ensures sound { IsSound ⟦<F as Filter>⟧ self.new }
+        ensures acted { Acted ⟦<F as Filter>⟧ (value_in self.old) (value_in self.new) (CloneStep call.now) []
+            Fate.Whole }
+    {
+        if let Some(name) = call.span {
+            self.take_one(name.id, call.lane, call.moment);
+        }
+    }
+
+    /// A handle given up; answers whether the span closed.
+    #[tactic(auto, unfolding(span_tracing_machine::specs::Machine::acted, span_tracing_machine::specs::Machine::answered, span_tracing_machine::specs::Missed::wanted, crate::specs::Stored::texts_acted))]
+    pub(crate) fn try_close(&mut self, call: &SpanCall) -> bool
+        requires sound { IsSound ⟦<F as Filter>⟧ self.old }
+        requires unrefused { refusal_of (skeleton_of (value_in self.old)) (CloseStep call.now) [] ≡ None }
+        ensures sound { IsSound ⟦<F as Filter>⟧ self.new }
+        ensures closed { Reply.Closed result ≡ answered (skeleton_of (value_in self.old)) (CloseStep call.now) [] }
+        ensures acted { Acted ⟦<F as Filter>⟧ (value_in self.old) (value_in self.new) (CloseStep call.now) []
+            Fate.Whole }
+    {
+        match call.span {
+            None => false,
+            Some(name) => self.let_go(name.id, call.lane, call.moment),
+        }
     }
 }

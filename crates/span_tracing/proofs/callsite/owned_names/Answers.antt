@@ -1,0 +1,11 @@
+use Rattle.std.proofs.Common.{map, ap, ◌∙◌}
+use Rattle.tracing_core.specs.FieldSet.{field_names, set_callsite}
+use Rattle.tracing_core.specs.Iter.{fields_left}
+use Rattle.tracing_core.specs.PlainField.{PlainField}
+use Rattle.span_tracing.proofs.FieldNames.{names_named}
+use Rattle.span_tracing.proofs.callsite.owned_names.Goals as goal
+
+pub loop-field-init : goal.loop-field-init
+loop-field-init c =
+    let left = ap fields_left c.into_iter-field-iterator.ensures.into_iter_gives ∙ c.iter-field-items.ensures in
+    rw (c.new-names.ensures.items) (ap (map (λ (f : PlainField). f.name)) left ∙ names_named (set_callsite c.args.fields.now) 0 (field_names c.args.fields.now))

@@ -1,0 +1,12 @@
+pub mod Refusals
+pub mod PlainData
+pub mod FieldTexts
+pub mod Lines
+pub mod Skeleton
+pub mod Machine
+pub mod Missed
+pub mod State
+pub mod Levels
+pub mod Laws
+pub mod Rows
+pub mod Parents

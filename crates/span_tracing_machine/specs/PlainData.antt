@@ -1,0 +1,71 @@
+-- Calls as plain data: numbers and lists, without where they lie in memory.
+use Rattle.std.specs.Prelude.{ℕ, List, map, Option}
+use Rattle.tracing_core.specs.OwnedValues.{owned_entries}
+use Rattle.tracing_core.specs.PlainValue.{PlainValue}
+use Rattle.tracing_appender_rolling.specs.Moment.{Moment}
+use Rattle.span_tracing_machine.specs.declared.call.Parent.{Parent}
+use Rattle.span_tracing_machine.specs.declared.call.SpanCall.{SpanCall}
+use Rattle.span_tracing_machine.specs.declared.call.SpanName.{SpanName}
+use Rattle.span_tracing_machine.specs.declared.call.EventCall.{EventCall}
+use Rattle.span_tracing_machine.specs.declared.call.EnabledCall.{EnabledCall}
+use Rattle.span_tracing_machine.specs.declared.call.FollowsCall.{FollowsCall}
+use Rattle.span_tracing_machine.specs.declared.call.NewSpanCall.{NewSpanCall}
+use Rattle.span_tracing_machine.specs.declared.call.RecordCall.{RecordCall}
+use Rattle.span_tracing_machine.specs.declared.call.Step.{Step}
+use Rattle.span_tracing_machine.specs.declared.call.Step.TheVariants as steps
+
+-- a request on metadata: lane, moment, callsite, parent, and the indices of fields with their values
+pub record Request : Type 0 where
+  pub lane : ℕ
+  pub moment : Moment
+  pub callsite : ℕ
+  pub parent : Parent
+  pub values : List (ℕ × PlainValue)
+
+-- values for a span: the indices of its callsite's fields with their values
+pub record RecordRequest : Type 0 where
+  pub lane : ℕ
+  pub moment : Moment
+  pub span : Option SpanName
+  pub values : List (ℕ × PlainValue)
+
+-- the span that it is a call on
+abbrev pub on_span : RecordRequest → SpanCall
+on_span r = record { lane = r.lane; moment = r.moment; span = r.span }
+
+-- a step
+pub data PlainStep : Type 0 where
+  GlobalStep : ℕ → PlainStep
+  EventStep : Request → PlainStep
+  EnabledStep : EnabledCall → PlainStep
+  SpanStep : Request → PlainStep
+  RecordStep : RecordRequest → PlainStep
+  FollowsFromStep : FollowsCall → PlainStep
+  EnterStep : SpanCall → PlainStep
+  ExitStep : SpanCall → PlainStep
+  CloneStep : SpanCall → PlainStep
+  CloseStep : SpanCall → PlainStep
+
+abbrev pub event_request : EventCall → Request
+event_request e = record { lane = e.lane; moment = e.moment; callsite = e.callsite.0; parent = e.parent; values = owned_entries e.values.items }
+
+abbrev pub span_request : NewSpanCall → Request
+span_request n = record { lane = n.lane; moment = n.moment; callsite = n.callsite.0; parent = n.parent; values = owned_entries n.values.items }
+
+abbrev pub record_request : RecordCall → RecordRequest
+record_request r = record { lane = r.lane; moment = r.moment; span = r.span; values = owned_entries r.values.items }
+
+abbrev pub plain_step : Step → PlainStep
+plain_step (steps.SetGlobalDefault handle) = GlobalStep handle
+plain_step (steps.Event e) = EventStep (event_request e)
+plain_step (steps.Enabled call) = EnabledStep call
+plain_step (steps.NewSpan n) = SpanStep (span_request n)
+plain_step (steps.Record r) = RecordStep (record_request r)
+plain_step (steps.RecordFollowsFrom call) = FollowsFromStep call
+plain_step (steps.Enter call) = EnterStep call
+plain_step (steps.Exit call) = ExitStep call
+plain_step (steps.CloneSpan call) = CloneStep call
+plain_step (steps.TryClose call) = CloseStep call
+
+abbrev pub plain_steps : List Step → List PlainStep
+plain_steps ss = map plain_step ss

@@ -1,0 +1,67 @@
+//! Why a call is refused.
+
+ghost use Rattle.std.specs.Prelude.{◌≡◌};
+
+use thiserror::Error;
+
+/// A refusal of a call. It leaves the trace as it was.
+#[derive(Clone, Copy, Debug, PartialEq, Eq, Error)]
+pub enum Refusal {
+    #[error("the callsite isn't registered, or is of the other kind")]
+    UnknownCallsite,
+    #[error("no such stack")]
+    UnknownStack,
+    #[error("the span isn't open, or has no handle to give up")]
+    UnknownSpan,
+    #[error("the parent stands in another stack than the one that the lane reaches")]
+    ForeignParent,
+    #[error("a stack of no outputs")]
+    NoOutput,
+    #[error("a part of a file name has a slash or a NUL")]
+    BadName,
+    #[error("a folder refused to open a file")]
+    FolderRefused,
+    #[error("the moment is out of range")]
+    BadMoment,
+    #[error("out of memory")]
+    OutOfMemory,
+    #[error("the route names a sink that the output lacks")]
+    BadRoute,
+    #[error("no such lane")]
+    UnknownLane,
+    #[error("the global default is set already")]
+    GlobalSet,
+    #[error("the identifier is taken by other metadata")]
+    Taken,
+    #[error("the span has as many handles as can be counted")]
+    TooManyHandles,
+    #[error("all span ids are given")]
+    IdsSpent,
+}
+
+impl Refusal {
+    ghost use Rattle.span_tracing_machine.specs.Refusals.{refusal_number};
+
+    /// The number under which programs tell the refusal.
+    pub fn number(self) -> u64
+        ensures { result ≡ refusal_number self }
+    {
+        match self {
+            Refusal::UnknownCallsite => 1,
+            Refusal::UnknownStack => 2,
+            Refusal::UnknownSpan => 4,
+            Refusal::ForeignParent => 5,
+            Refusal::NoOutput => 6,
+            Refusal::BadName => 11,
+            Refusal::FolderRefused => 12,
+            Refusal::BadMoment => 13,
+            Refusal::OutOfMemory => 14,
+            Refusal::BadRoute => 21,
+            Refusal::UnknownLane => 23,
+            Refusal::GlobalSet => 24,
+            Refusal::Taken => 25,
+            Refusal::TooManyHandles => 26,
+            Refusal::IdsSpent => 27,
+        }
+    }
+}

@@ -1,0 +1,10 @@
+pub mod Lists
+pub mod Texts
+pub mod Rising
+pub mod Adding
+pub mod Showing
+pub mod Writing
+pub mod Idle
+pub mod Giving
+pub mod Moving
+pub mod Keeping

@@ -1,0 +1,21 @@
+use Rattle.span_registry_layers.below.span_registry_layers_layers.specs.contracts.layer.identity.IdentityLayer.TheImpl.{ghosts}
+use Rattle.std.proofs.Common.{map, string_bytes, ap, sym, ◌∙◌, Ok, Err, subst, [], ◌∷◌, ◌++◌, refl, true, false}
+use Rattle.span_tracing_stack.proofs.Idle.{idle}
+use Rattle.span_tracing_stack.specs.Stacks.{plain_text, plain_told}
+use Rattle.span_tracing_stack.proofs.Moving.{cloned}
+use Rattle.span_tracing_stack.proofs.Keeping.{cloned_right}
+use Rattle.span_tracing_stack.proofs.subscriber.StackSubscriber.clone_span.Goals as goal
+
+pub returns : goal.returns
+returns g c =
+    let inside = c.self.inside in
+    let s = inside.state.outputs in
+    let texts = map plain_text inside.state.texts.items in
+    rw (← c.self.view_is) (cloned g.F.Filter ghosts idle inside.state.setting texts (plain_told inside.told (string_bytes inside.line)) s c.clone_span.new.self c.args.span.now c.args._at c.clone_span.result c.clone_span.ensures.gives)
+
+pub invariant_of-self : goal.invariant_of-self
+invariant_of-self g c =
+    let inside = c.self.inside in
+    let s = inside.state.outputs in
+    let texts = map plain_text inside.state.texts.items in
+    cloned_right g.F.Filter ghosts idle s c.clone_span.new.self texts c.self.invariant c.args.span.now c.args._at c.clone_span.result c.clone_span.ensures.gives c.clone_span.ensures.kept

@@ -1,0 +1,11 @@
+pub mod Shown
+pub mod Stacks
+pub mod Recording
+pub mod Rising
+pub mod Answers
+pub mod Right
+pub mod Outputs
+pub mod New
+pub mod Moves
+pub mod Steadiness
+pub mod Written
