@@ -2,12 +2,15 @@
 #![tactic(auto)]
 
 mod fault;
+mod output;
 mod program;
 mod read;
 mod run;
 mod script;
 mod setup;
+mod today;
 
+pub use output::{OutputLayer, layer_of};
 pub use program::main_with;
 
 #[cfg(test)]

@@ -19,7 +19,7 @@ use tracing_core::LevelFilter;
 struct Answer {
     replies: Vec<Reply>,
     trace: Trace<MemoryFolder, LevelFilter>,
-    folder: Option<String>,
+    folders: Vec<String>,
 }
 
 impl Answer {
@@ -31,8 +31,10 @@ impl Answer {
 
     fn write<W: Write>(&self, alloc: Global, output: &mut W) -> Result<(), PrintFault> {
         write_replies(alloc, self.replies.as_slice(), output)?;
-        if let (Some(name), Some(folder)) = (&self.folder, self.trace.folder(0)) {
-            write_files(alloc, name.as_str(), folder, output)?;
+        for (sink, name) in self.folders.iter().enumerate() {
+            if let Some(folder) = self.trace.folder(sink) {
+                write_files(alloc, name.as_str(), folder, output)?;
+            }
         }
         Ok(())
     }
@@ -55,13 +57,13 @@ fn replay<R: Read>(alloc: Global, input: &mut R) -> Result<Answer, Stop> {
     let Stage {
         mut trace,
         callsites,
-        folder,
+        folders,
     } = Stage::set_up(alloc, setup)?;
     let replies = run_steps(alloc, &mut trace, callsites.as_slice(), steps)?;
     Ok(Answer {
         replies,
         trace,
-        folder,
+        folders,
     })
 }
 

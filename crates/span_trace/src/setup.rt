@@ -3,20 +3,20 @@
 ghost use Rattle.std.specs.Prelude.{◌≤◌, IfOk, vec_len};
 
 use crate::fault::{Fault, Stop};
+use crate::today::format_of;
 use span_trace_lines::{CallsiteLine, LaneLine, LineFault, OutputLine, Setup, SinkLine, StackLine};
 use span_tracing::{
-    Builder, Fields, LineFormat, MemoryFolder, Output, OutputKey, Refusal, Rotation, Route,
-    SinkSpec, Timer, Trace,
+    Builder, MemoryFolder, Output, OutputKey, Refusal, Rotation, Route, SinkSpec, Trace,
 };
 use std::alloc::{AllocError, Global};
 use tracing_core::{FieldSet, Identifier, LevelFilter, Metadata};
 
-/// A trace that is set up, its callsites' lines, and the name under which the files of its sink are shown.
+/// A trace that is set up, its callsites' lines, and for each sink the name under which its files are shown.
 #[derive(Drop)]
 pub(crate) struct Stage {
     pub(crate) trace: Trace<MemoryFolder, LevelFilter>,
     pub(crate) callsites: Vec<CallsiteLine>,
-    pub(crate) folder: Option<String>,
+    pub(crate) folders: Vec<String>,
 }
 
 impl Stage {
@@ -29,7 +29,7 @@ impl Stage {
         let mut stage = Stage {
             trace: Trace::new(alloc),
             callsites: Vec::new(alloc),
-            folder: None,
+            folders: Vec::new(alloc),
         };
         let mut number: u64 = 0;
         for call in setup {
@@ -49,9 +49,13 @@ impl Stage {
         }
     }
 
+    /// The trace as it is today takes one output of one sink.
     fn add_stack(&mut self, alloc: Global, line: StackLine) -> Result<(), Fault> {
-        let StackLine { moment, output } = line;
-        let made = match output {
+        let StackLine {
+            moment,
+            mut outputs,
+        } = line;
+        let made = match outputs.pop() {
             None => None,
             Some(output) => Some(self.make_output(alloc, output).map_err(Fault::Refused)?),
         };
@@ -75,22 +79,18 @@ impl Stage {
             filter,
             route,
             time,
-            sink,
+            mut sinks,
+            ..
         } = line;
-        let timer = match time {
-            Some(text) => Timer::FixedText(text),
-            None => Timer::Absent,
-        };
-        let spec = match sink {
+        let spec = match sinks.pop() {
             None => None,
-            Some(line) => Some(self.make_sink(alloc, line)),
+            Some(line) => Some(self.make_sink(alloc, line).or(Err(Refusal::OutOfMemory))?),
         };
         let sinks = list_of(alloc, spec).or(Err(Refusal::OutOfMemory))?;
-        let format = LineFormat::full(timer, Fields::Default);
         match Output::new(
             alloc,
             filter,
-            format,
+            format_of(time),
             Route::Sink(route),
             sinks,
             OutputKey(key),
@@ -100,13 +100,17 @@ impl Stage {
         }
     }
 
-    fn make_sink(&mut self, alloc: Global, line: SinkLine) -> SinkSpec<MemoryFolder> {
+    fn make_sink(
+        &mut self,
+        alloc: Global,
+        line: SinkLine,
+    ) -> Result<SinkSpec<MemoryFolder>, AllocError> {
         let SinkLine {
             folder,
             prefix,
             suffix,
         } = line;
-        self.folder = Some(folder);
+        self.folders.push(folder)?;
         let mut builder = Builder::new().rotation(Rotation::DAILY);
         if let Some(text) = prefix {
             builder = builder.filename_prefix(text);
@@ -114,7 +118,7 @@ impl Stage {
         if let Some(text) = suffix {
             builder = builder.filename_suffix(text);
         }
-        SinkSpec::Direct(builder, MemoryFolder::new(alloc))
+        Ok(SinkSpec::Direct(builder, MemoryFolder::new(alloc)))
     }
 
     fn add_callsite(&mut self, alloc: Global, line: CallsiteLine) -> Result<(), Fault> {

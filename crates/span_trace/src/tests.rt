@@ -1,5 +1,6 @@
 //! The program over memory.
 
+mod layers;
 mod readable;
 mod refusals;
 mod streams;

@@ -9,13 +9,16 @@ ghost use Rattle.serde_json.specs.Written.{has_float};
 
 mod members;
 mod setup;
+mod stack;
 mod step;
 
 use crate::fault::LineFault;
 use members::Members;
 use serde_json::Value as Json;
-pub use setup::{CallsiteLine, LaneLine, OutputLine, Setup, SinkLine, StackLine};
-use setup::{callsite_line, lane_line, stack_line};
+pub use setup::{CallsiteLine, LaneLine, Setup};
+use setup::{callsite_line, lane_line};
+use stack::stack_line;
+pub use stack::{FormatName, OutputLine, SinkLine, SpanEvent, StackLine, TimeLine};
 use std::alloc::Global;
 use step::step_line;
 pub use step::{NamedValue, RecordLine, StepLine};

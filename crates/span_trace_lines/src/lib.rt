@@ -6,8 +6,8 @@ mod fault;
 mod print;
 
 pub use decode::{
-    CallsiteLine, LaneLine, Line, NamedValue, OutputLine, RecordLine, Setup, SinkLine, StackLine,
-    StepLine, decode_line,
+    CallsiteLine, FormatName, LaneLine, Line, NamedValue, OutputLine, RecordLine, Setup, SinkLine,
+    SpanEvent, StackLine, StepLine, TimeLine, decode_line,
 };
 pub use fault::LineFault;
 pub use print::{PrintFault, write_files, write_replies};

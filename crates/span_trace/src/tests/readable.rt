@@ -7,7 +7,7 @@ use crate::tests::{
 use std::test::Fail;
 
 /// What may replace a part of a setup line.
-const STACK_FORMS: [(&str, &str, &str); 14] = [
+const STACK_FORMS: [(&str, &str, &str); 15] = [
     (r#""filter":"info""#, r#""filter":"TRACE""#, "hi"),
     (r#""filter":"info""#, r#""filter":"+3""#, "hi"),
     (r#""filter":"info""#, r#""filter":"5""#, "hi"),
@@ -31,6 +31,11 @@ const STACK_FORMS: [(&str, &str, &str); 14] = [
     (
         r#""format":"full""#,
         r#""format":"json","format":"full""#,
+        "hi",
+    ),
+    (
+        r#""show_level":false"#,
+        r#""span_events":[],"show_level":false"#,
         "hi",
     ),
     ("}]}]}", "}]}]} \t\r", "hi"),

@@ -43,7 +43,7 @@ const LINES: [&str; 31] = [
 ];
 
 /// What replaces a part of a line that is readable.
-const STACK_EDITS: [(&str, &str); 40] = [
+const STACK_EDITS: [(&str, &str); 43] = [
     (r#","outputs""#, r#","more":1,"outputs""#),
     (r#""moment":[1739786460,0],"#, ""),
     ("[1739786460,0]", "null"),
@@ -61,20 +61,23 @@ const STACK_EDITS: [(&str, &str); 40] = [
     (r#""filter":"info""#, r#""filter":"loud""#),
     (r#""filter":"info""#, r#""filter":"6""#),
     (r#""filter":"info""#, r#""filter":3"#),
-    (r#""format":"full""#, r#""format":"compact""#),
+    (r#""format":"full""#, r#""format":"Full""#),
+    (r#""format":"full""#, r#""format":null"#),
     (r#""format":"full","#, ""),
     (r#""route":0"#, r#""route":{"max":["INFO",0]}"#),
     (r#""route":0"#, r#""route":-1"#),
     (r#""route":0,"#, ""),
-    (r#""time":"fake time","#, ""),
-    (r#""time":"fake time""#, r#""time":"system""#),
     (r#""time":"fake time""#, r#""time":0"#),
-    (r#""show_level":false,"#, ""),
-    (r#""show_level":false"#, r#""show_level":true"#),
+    (r#""time":"fake time""#, r#""time":["fake time"]"#),
     (r#""show_level":false"#, r#""show_level":null"#),
-    (r#""show_level""#, r#""span_events":[],"show_level""#),
+    (r#""show_level":false"#, r#""show_level":"false""#),
+    (r#""show_level""#, r#""span_events":null,"show_level""#),
+    (r#""show_level""#, r#""span_events":"new","show_level""#),
+    (r#""show_level""#, r#""span_events":["open"],"show_level""#),
+    (r#""show_level""#, r#""span_events":["new",1],"show_level""#),
     (r#""sinks":[{"#, r#""sinks":[{},{"#),
     (r#""sinks":["#, r#""sinks":[[],"#),
+    (r#""sinks":["#, r#""sinks":null,"sink":["#),
     (r#"{"memory":"A"}"#, r#"{"disk":"A"}"#),
     (r#"{"memory":"A"}"#, r#"{"memory":"A","disk":"A"}"#),
     (r#"{"memory":"A"}"#, "{}"),
@@ -86,6 +89,26 @@ const STACK_EDITS: [(&str, &str); 40] = [
     (
         r#""suffix":"log""#,
         r#""suffix":"log","queue":{"limit":1,"lossy":true}"#,
+    ),
+];
+
+/// What the trace can't do today, and so isn't readable.
+const LATER_EDITS: [(&str, &str); 10] = [
+    (r#""format":"full""#, r#""format":"compact""#),
+    (r#""format":"full""#, r#""format":"pretty""#),
+    (r#""format":"full""#, r#""format":"json""#),
+    (r#""time":"fake time","#, ""),
+    (r#""time":"fake time""#, r#""time":"system""#),
+    (r#""show_level":false,"#, ""),
+    (r#""show_level":false"#, r#""show_level":true"#),
+    (r#""show_level""#, r#""span_events":["close"],"show_level""#),
+    (
+        r#""outputs":[{"#,
+        r#""outputs":[{"key":1,"filter":"warn","format":"full","route":0,"time":null,"show_level":false,"sinks":[]},{"#,
+    ),
+    (
+        r#""sinks":[{"#,
+        r#""sinks":[{"folder":{"memory":"B"},"rotation":"daily"},{"#,
     ),
 ];
 
@@ -208,6 +231,7 @@ fn unreadable_lines(rt: HostRuntime) -> Result<(), Fail> {
 fn unreadable_setup(rt: HostRuntime) -> Result<(), Fail> {
     let alloc = rt.alloc();
     edited(&rt, alloc, STACK, &STACK_EDITS)?;
+    edited(&rt, alloc, STACK, &LATER_EDITS)?;
     edited(&rt, alloc, LANE, &LANE_EDITS)?;
     edited(&rt, alloc, OUTER, &CALLSITE_EDITS)
 }

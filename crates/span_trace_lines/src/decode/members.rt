@@ -68,12 +68,11 @@ impl<'a> Members<'a> {
         Ok(items.as_slice())
     }
 
-    /// The one item of a list, or none of an empty list.
-    pub(crate) fn item_if_given(self, key: &str) -> Result<Option<&'a Json>, LineFault> {
-        match self.list(key)? {
-            [] => Ok(None),
-            [item] => Ok(Some(item)),
-            _ => Err(LineFault::NotReadable),
+    /// A bool, or the default where the key is absent.
+    pub(crate) fn flag_or(self, key: &str, default: bool) -> Result<bool, LineFault> {
+        match self.find(key) {
+            None => Ok(default),
+            Some(value) => value.as_bool().ok_or(LineFault::NotReadable),
         }
     }
 
