@@ -24,6 +24,7 @@ import time
 
 sys.dont_write_bytecode = True
 sys.path.insert(0, os.path.dirname(os.path.realpath(__file__)))
+import cases  # noqa: E402
 import edits  # noqa: E402
 import lanes  # noqa: E402
 import ledger  # noqa: E402
@@ -127,6 +128,9 @@ class Gate:
             found[it.name, "proof"] = lanes.Task([(below.name, "proof") for below in it.below()], lines, lambda jobs, it=it: proof(it, jobs))
             if it.is_program:
                 found[it.name, "program"] = lanes.Task(after, lines // 4, lambda jobs, it=it: program(it))
+            if it.name == cases.PROGRAM:
+                call = lambda jobs, it=it: cases.tried(cases.built(it), cases.sorted_out()[0])
+                found[it.name, "cases"] = lanes.Task([(it.name, "program")], lines // 40, call)
             if it.has_tests():
                 call = tests_proved if self.how.tests == "prove" else tests_run
                 found[it.name, "tests"] = lanes.Task(after, lines // 4, lambda jobs, it=it, call=call: call(it))
@@ -165,7 +169,11 @@ class Gate:
                 print(f"gate: must-fail {name}/{edit}: {text}")
                 self.count(is_refused, f"{name}/{edit}")
                 self.refused |= {f"{name}/{edit}"} if is_refused else set()
-        if part not in ("plan", "edits") or not it.is_well:
+        elif part == "cases" and it.is_well:
+            for case, text in it.gave.items():
+                print(f"gate: case {case}: {text or 'as its files say'}")
+                self.count(not text, f"case {case}")
+        if part not in ("plan", "edits", "cases") or not it.is_well:
             self.count(it.is_well, " ".join(key))
         self.open[name] += len(follow) - 1
         if not self.open[name]:
@@ -244,6 +252,7 @@ def run(how, top):
     with tempfile.TemporaryDirectory(prefix="gate-") as room:
         gate = Gate(crates, room, how, top)
         gate.failed += refused + [f"{it} (an edit's name ends in .edit)" for it in misnamed]
+        gate.failed += [f"case file {it} (a case has a file .in and a file .out)" for it in cases.sorted_out()[1]]
         if not refused:
             lanes.run(gate.tasks(), processors(), gate.ended)
         if how.edits != "drawn":

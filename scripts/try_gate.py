@@ -89,12 +89,24 @@ pub fn doubled(x: u32) -> Pair
     }
 }"""
 
+# A program with a case.
+CASE = {
+    "crates.txt": "low:\napp: low\nspan_trace: low\n",
+    "crates/span_trace/src/main.rt": FILES[MAIN],
+    "crates/span_trace/stdout": "42\n",
+    "cases/a_number.in": "",
+    "cases/a_number.out": "42\n",
+}
+
 # The name of each fault, the files that it changes or adds, the crate that the gate is asked for, and what the gate has to say.
 FAULTS = [
     ("nothing is wrong", {}, "app", "0 failed"),
     ("a proof is wrong", instead(LIB, "x + 1 }\n{\n    x + 1", "x + 1 }\n{\n    x"), "low", "low proof"),
     ("a test fails", instead(LIB, "assert_eq!(rt; next(1), 2)", "assert_eq!(rt; next(1), 3)"), "low", "FAILED: low tests"),
     ("a stored output is changed", {"crates/app/stdout": "43\n"}, "app", "FAILED: app program"),
+    ("a case prints something else", {**CASE, "cases/a_number.out": "43\n"}, "span_trace", "FAILED: case a_number"),
+    ("a case ends with another status", {**CASE, "cases/a_number.status": "1\n"}, "span_trace", "its status is '0', and not '1'"),
+    ("a case has no output", {**CASE, "cases/another.in": ""}, "span_trace", "FAILED: case file another.in"),
     ("harmless edits stand among edits", {
         f"{EDITS}/harmless.edit": "file: src/lib.rt\nold:     x + 1\nnew:     1 + x\n",
         f"{EDITS}/harmless_too.edit": "file: src/lib.rt\nold: pub fn same(x: u32) -> u32\nnew: pub fn same(mut x: u32) -> u32\n",
