@@ -100,3 +100,7 @@ module _ {N E F : Type 0} (n : Ghosts N) (line_of : E → Settings → PlainCont
   starts_agreed {S = S} outputs s sinks x gives made =
       let new = is_new (new_refusal h outputs) outputs s gives in
       nothing_agrees x.stack.registry x.stack.rows (ap (λ (z : TraceStackValue N E F S). z.stack.registry.spans) made.1 ∙ ap (λ (z : LinedStack N E F). z.registry.spans) new.1.1)
+
+-- forgetting lines leaves what is kept of the filters' answers
+pub valid_rested : {N E F : Type 0} (g : FilterGhosts F) (s t : LinedStack N E F) → t ≡ record s { rows = map cleared_row s.rows } → CacheIsValid g s → CacheIsValid g t
+valid_rested {N} {E} {F} g s t is valid = subst (λ (u : LinedStack N E F). CacheIsValid g u) (sym is) (subst (λ (fs : List F). CacheIsValidFor g fs s.sites s.hint) (sym (same_filters s.rows)) valid)

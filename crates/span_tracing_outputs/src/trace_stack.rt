@@ -1,5 +1,6 @@
 //! A stack whose outputs have sinks, as a subscriber.
-ghost use Rattle.std.specs.Prelude.{◌≡◌, length, nat_eq};
+ghost use Rattle.std.specs.Prelude.{◌≡◌, IfOk, length, nat_eq};
+ghost use Rattle.span_registry_layers_stack.specs.CacheValidity.{CacheIsValid};
 ghost use Rattle.span_tracing_outputs.specs.TraceStacks.{NewGives};
 
 use crate::hand::{clear_lines, hand_over};
@@ -68,7 +69,10 @@ impl<N: FormatFields + Drop, E: FormatEvent, F: Filter, S> TraceStack<N, E, F, S
         stack: Stack<Filtered<Layer<N, E, PendingLines>, F>>,
         sinks: Vec<S>,
     ) -> Result<TraceStack<N, E, F, S>, UnpairedSinks<N, E, F, S>>
-        ensures { NewGives stack sinks.items result }
+        ensures gives { NewGives stack sinks.items result }
+        // What the stack keeps of its filters' answers stays right.
+        ensures valid { CacheIsValid ⟦<F as Filter>⟧ stack → IfOk result (λ made. CacheIsValid ⟦<F as Filter>⟧
+            made.stack) }
     {
         if !has_exactly(&stack, sinks.len()) {
             return Err(UnpairedSinks { stack, sinks });
