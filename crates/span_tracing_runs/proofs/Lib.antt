@@ -2,3 +2,4 @@ pub mod Reading
 pub mod Stepping
 pub mod Running
 pub mod Standing
+pub mod Setting

@@ -1,6 +1,6 @@
 //! Laws of steps and runs.
 ghost use Rattle.span_tracing_runs.specs.Files.{FilesFollow};
-ghost use Rattle.span_tracing_runs.specs.Laws.{RunsFollow, StepsFollow};
+ghost use Rattle.span_tracing_runs.specs.Laws.{RunsFollow, SetupFollows, StepsFollow};
 
 use event_formatter_formats::FormatEvent;
 use event_formatter_layer::Layer;
@@ -12,6 +12,15 @@ use span_tracing_sinks::{
 };
 use tracing_appender_rolling::Folder;
 use tracing_core_requests::Subscriber;
+
+/// Setup calls leave a stack ready for steps, and its outputs agree with the machines that they agreed with.
+pub fn setup_follows<N: FormatFields + Drop, E: FormatEvent, F: Filter, S: LineSink>()
+    ensures { SetupFollows ⟦<N as FormatFields>⟧ E.line_of ⟦<F as Filter>⟧ S.takes
+        ⟦<Layer<N, E, PendingLines> as span_registry_layers_layers::Layer>⟧
+        ⟦<TraceStack<N, E, F, S> as Subscriber>⟧ }
+{
+    trace_follows::<N, E, F, S>();
+}
 
 /// A step of a trace over a stack of outputs with sinks goes as the skeleton and the output machines do.
 pub fn steps_follow<N: FormatFields + Drop, E: FormatEvent, F: Filter, S: LineSink>()
