@@ -23,3 +23,6 @@ pub use tracing_appender_rolling::{
     BuildError, BuildRefusal, Builder, RollingFileAppender, Rotation,
 };
 pub use tracing_core_fields::{FieldValue, OwnedValue};
+
+#[cfg(test)]
+mod tests;
