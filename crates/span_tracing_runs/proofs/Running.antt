@@ -111,7 +111,7 @@ module _ {N E F S : Type 0} (n : Ghosts N) (line_of : E → Settings → PlainCo
   turn_agrees : (v : Traced N E F S) (t : Turn) (reply : Reply) (w : Traced N E F S) (p : Plain N) → TurnGoes n line_of g takes h v t reply w → AgreesPlain n line_of g v p → TurnAgrees v t reply w p
   turn_agrees v (Went step a fates) reply w p (f, answers, fated) agrees =
       subst (λ (b : Answers). TurnAgrees v (Went step b fates) reply w p) answers (subst (λ (fs : Fates). TurnAgrees v (Went step f.answers fs) reply w p) fated (went_agrees v step reply w f p.skeleton p.outs agrees.0 agrees.1))
-  turn_agrees v (Starved step) reply w p (told, none, same) agrees =
+  turn_agrees v (Starved step) reply w p (told, none, takes, same) agrees =
       subst (λ (u : Traced N E F S). TurnAgrees v (Starved step) reply u p) (sym same) (told, agrees, stays v.stack p.outs agrees.1)
 
   append : (o p q : Option Stack) (ones twos : List (List (At × PlainLine))) → SinksTake n line_of g takes o p ones → SinksTake n line_of g takes p q twos → SinksTake n line_of g takes o q (joined ones twos)

@@ -1,5 +1,6 @@
 -- Each step follows the skeleton and the output machines.
 use Rattle.std.proofs.Common.{◌≡◌, ◌⊎◌, inl, inr, ℕ, Bool, true, false, not, nat_lt, List, [], ◌∷◌, Option, Some, None, is_some, Result, Ok, Err, refl, sym, ap, ◌∙◌, subst}
+use Rattle.std.specs.Prelude.{IsSome}
 use Rattle.tracing_core_fields.specs.PlainMetadata.{PlainMetadata}
 use Rattle.tracing_core_requests.specs.Calls.{Call, ReplyTo, Asked, SpanMade, FollowsRecorded, EventDispatched, Entered, Exited, Cloned, CloseTried}
 use Rattle.tracing_core_requests.specs.Calls as calls
@@ -198,7 +199,7 @@ module _ {N E F S : Type 0} (n : Ghosts N) (line_of : E → Settings → PlainCo
         let asked = first_none (request_refusal s q.lane q.moment q.callsite true q.parent) (ids_refusal s) none in
         let same : w ≡ v = call.3 ∙ ap (λ (y : Stack). record v { stack = Some y }) call.1.1 in
         (
-          inr (told ∙ span_refused s x q.parent error refl refl (parent_passed s q.lane q.moment (known s q.callsite true) q.parent asked) (second_none (request_refusal s q.lane q.moment q.callsite true q.parent) (ids_refusal s) none) call.1.0, none, same),
+          inr (told ∙ span_refused s x q.parent error refl refl (parent_passed s q.lane q.moment (known s q.callsite true) q.parent asked) (second_none (request_refusal s q.lane q.moment q.callsite true q.parent) (ids_refusal s) none) call.1.0, none, refl, same),
           subst (λ (u : Traced N E F S). StackIsReady g h u.stack) (sym same) ready,
         )
     span_goes cs ts true (Some x) q reply w (Some m) is ready none (Ok None, goes, told) =
@@ -290,7 +291,7 @@ module _ {N E F S : Type 0} (n : Ghosts N) (line_of : E → Settings → PlainCo
     enter_goes v (Some x) ask (Some name) reply w stack on ready none (Err error, goes, told) =
         let call = called x (Entered name.id (place_at ask.lane ask.moment)) (Err error) v w (subst (StackIsReady g h) stack ready) (subst (λ (o : Option Stack). CallGoesIn sg o v (Entered name.id (place_at ask.lane ask.moment)) (Err error) w) stack goes) in
         let same : w ≡ v = call.3 ∙ ap (λ (y : Stack). record v { stack = Some y }) call.1.1 ∙ ap (λ (o : Option Stack). record v { stack = o }) (sym stack) in
-        (inr (told, none, same), subst (λ (u : Traced N E F S). StackIsReady g h u.stack) (sym same) ready)
+        (inr (told, none, subst (λ (span : Option SpanName). IsSome span) (sym on) refl, same), subst (λ (u : Traced N E F S). StackIsReady g h u.stack) (sym same) ready)
 
     -- an exit
     exit_goes : (v : Traced N E F S) (o : Option Stack) (ask : SpanCall) (span : Option SpanName) (reply : Reply) (w : Traced N E F S) → v.stack ≡ o → ask.span ≡ span → StackIsReady g h v.stack → refusal_of (skeleton_of v) (ExitStep ask) ≡ None → reply ≡ Done → ExitGoes sg span v ask w → Goes v (ExitStep ask) reply w

@@ -15,9 +15,10 @@ use Rattle.event_formatter_formats.specs.Contexts.{PlainContext}
 use Rattle.span_tracing_outputs.specs.Outs.{PlainLine}
 use Rattle.span_tracing_outputs.specs.TraceStacks.{TraceStackValue}
 use Rattle.span_tracing_outputs.specs.Turns.{Lines}
-use Rattle.span_tracing_sinks.specs.Fates.{NoneDropped}
+use Rattle.tracing_appender_rolling.specs.Remaining.{AgreesLeft, PrunedSink}
+use Rattle.span_tracing_sinks.specs.Fates.{LeftBy, NoneDropped}
 use Rattle.span_tracing_sinks.specs.Runs.{TakesRun}
-use Rattle.span_tracing_sinks.specs.Standing.{LinesStand}
+use Rattle.span_tracing_sinks.specs.Standing.{LeftLinesStand, LinesStand}
 use Rattle.span_tracing_sinks.specs.Takes.{TakesLine}
 use Rattle.span_tracing_sinks.specs.declared.sink.RollingSink.{RollingSink}
 use Rattle.span_tracing_skeleton.specs.PlainData.{PlainStep}
@@ -51,12 +52,20 @@ module _ {N E F D : Type 0} (contents : D → Option Contents) (failed : D → �
       (s : PlainSink) → AgreesSink contents old.appender s → IsInRange s → (c : Contents) → contents new.appender.folder ≡ Some c →
       (run : List (At × PlainLine)) × (slice_get (lines_of n p turns) place ≡ Some run) × LinesStand run s c
 
+  -- the same with retention or a link, of the files that retention left
+  abbrev pub LeftFilesStand : Traced N E F (RollingSink D) → List Turn → Traced N E F (RollingSink D) → Type 0
+  LeftFilesStand v turns w =
+      (p : Plain N) → AgreesPlain n line_of g v p → (place : ℕ) (old new : RollingSink D) → sink_at v.stack place ≡ Some old → sink_at w.stack place ≡ Some new → NoneDropped old new →
+      (s : PrunedSink) → AgreesLeft contents old.appender s → (c : Contents) → contents new.appender.folder ≡ Some c →
+      (run : List (At × PlainLine)) × (slice_get (lines_of n p turns) place ≡ Some run) × ((led : LeftBy contents run s old.appender new.appender) × LeftLinesStand led.last c)
+
   module _ (h : LayerGhosts (Lines N E)) where
     -- a run, what its sinks took, and what their files hold
     pub record RunsToFiles (v : Traced N E F (RollingSink D)) (steps : List PlainStep) (replies : List Reply) (w : Traced N E F (RollingSink D)) : Type 0 where
       pub run : RunFollows n line_of g (TakesLine contents failed) h v steps replies w
       pub sinks : SinksTakeTheirs v run.turns w
       pub files : FilesStand v run.turns w
+      pub left : LeftFilesStand v run.turns w
 
     abbrev pub FilesFollow : Type 0
     FilesFollow = (v : Traced N E F (RollingSink D)) (steps : List PlainStep) (replies : List Reply) (w : Traced N E F (RollingSink D)) → RunFollows n line_of g (TakesLine contents failed) h v steps replies w → RunsToFiles v steps replies w

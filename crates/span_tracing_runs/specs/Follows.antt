@@ -1,5 +1,5 @@
 -- What a step makes of a trace over a stack of outputs with sinks.
-use Rattle.std.specs.Prelude.{◌≡◌, ◌⊎◌, ℕ, Bool, true, false, List, [], map, Option, Some, None}
+use Rattle.std.specs.Prelude.{◌≡◌, ◌⊎◌, ℕ, Bool, true, false, List, [], map, Option, Some, None, IsSome}
 use Rattle.tracing_core_fields.specs.PlainMetadata.{PlainMetadata}
 use Rattle.tracing_core_requests.specs.declared.at.At.{At}
 use Rattle.span_registry_layers_store.specs.Registries.{RegistryValue}
@@ -112,9 +112,22 @@ module _ {N E F S : Type 0} (n : Ghosts N) (line_of : E → Settings → PlainCo
       pub skeleton : skeleton_of w ≡ after (skeleton_of v) step answers
       pub outputs : OutputsFollow (told_of N (skeleton_of v) step answers) fates v.stack w.stack
 
-    -- a step finds no memory where nothing else stands in its way, and then changes nothing
+    -- what takes room of its own: a new span of the reached stack, and an entry of a span
+    abbrev pub TakesRoom : Traced N E F S → PlainStep → Type 0
+    TakesRoom v (GlobalStep handle) = ⊥
+    TakesRoom v (EventStep e) = ⊥
+    TakesRoom v (EnabledStep call) = ⊥
+    TakesRoom v (SpanStep n) = v.is_global ≡ true
+    TakesRoom v (RecordStep r) = ⊥
+    TakesRoom v (FollowsFromStep call) = ⊥
+    TakesRoom v (EnterStep call) = IsSome call.span
+    TakesRoom v (ExitStep call) = ⊥
+    TakesRoom v (CloneStep call) = ⊥
+    TakesRoom v (CloseStep call) = ⊥
+
+    -- a step that takes room finds no memory where nothing else stands in its way, and then changes nothing
     abbrev pub FindsNoMemory : Traced N E F S → PlainStep → Reply → Traced N E F S → Type 0
-    FindsNoMemory v step reply w = (reply ≡ Refused OutOfMemory) × (refusal_of (skeleton_of v) step ≡ None) × (w ≡ v)
+    FindsNoMemory v step reply w = (reply ≡ Refused OutOfMemory) × (refusal_of (skeleton_of v) step ≡ None) × TakesRoom v step × (w ≡ v)
 
     abbrev pub Follows : Traced N E F S → PlainStep → Reply → Traced N E F S → Type 0
     Follows v step reply w = FollowsStep v step reply w ⊎ FindsNoMemory v step reply w

@@ -2,6 +2,7 @@
 ghost use Rattle.std.specs.Prelude.{◌≡◌, IfOk, OnErr};
 ghost use Rattle.tracing_core_fields.specs.OwnedValues.{owned_entries};
 ghost use Rattle.span_tracing_trace.specs.Ready.{FollowsReady, RunsReady};
+ghost use Rattle.span_tracing_runs.specs.Follows.{registry_of};
 ghost use Rattle.span_tracing_runs.specs.Runs.{RunGives};
 ghost use Rattle.span_tracing_sinks.specs.Takes.{TakesLine};
 ghost use Rattle.span_tracing_skeleton.specs.PlainData.{CloneStep, CloseStep, EnabledStep, EnterStep, EventStep, ExitStep, FollowsFromStep, GlobalStep, RecordStep, SpanStep, plain_step, plain_steps};
@@ -64,7 +65,8 @@ impl<T: Subscriber + HasRegistry> Trace<T> {
 impl<N: FormatFields + Drop, E: FormatEvent, F: Filter, S: LineSink> Trace<TraceStack<N, E, F, S>> {
     /// Makes the stack with this handle the one that lanes reach. Takes no memory.
     pub fn set_global_default(&mut self, handle: usize) -> Reply
-        ensures { FollowsReady ⟦<N as FormatFields>⟧ E.line_of ⟦<F as Filter>⟧ S.takes ⟦<Layer<N, E, PendingLines> as span_registry_layers_layers::Layer>⟧ self.old (GlobalStep handle) result self.new }
+        ensures gives { StepGives ⟦<TraceStack<N, E, F, S> as Subscriber>⟧ registry_of self.old (GlobalStep handle) result self.new }
+        ensures follows { FollowsReady ⟦<N as FormatFields>⟧ E.line_of ⟦<F as Filter>⟧ S.takes ⟦<Layer<N, E, PendingLines> as span_registry_layers_layers::Layer>⟧ self.old (GlobalStep handle) result self.new }
     {
         steps_follow::<N, E, F, S>();
         self.parts.set_global_default(handle)
@@ -79,7 +81,8 @@ impl<N: FormatFields + Drop, E: FormatEvent, F: Filter, S: LineSink> Trace<Trace
         parent: Parent,
         values: &[FieldValue],
     ) -> Reply
-        ensures { FollowsReady ⟦<N as FormatFields>⟧ E.line_of ⟦<F as Filter>⟧ S.takes ⟦<Layer<N, E, PendingLines> as span_registry_layers_layers::Layer>⟧ self.old (EventStep (record { lane = lane; moment = moment; callsite = callsite.0; parent = parent; values = owned_entries values.now })) result self.new }
+        ensures gives { StepGives ⟦<TraceStack<N, E, F, S> as Subscriber>⟧ registry_of self.old (EventStep (record { lane = lane; moment = moment; callsite = callsite.0; parent = parent; values = owned_entries values.now })) result self.new }
+        ensures follows { FollowsReady ⟦<N as FormatFields>⟧ E.line_of ⟦<F as Filter>⟧ S.takes ⟦<Layer<N, E, PendingLines> as span_registry_layers_layers::Layer>⟧ self.old (EventStep (record { lane = lane; moment = moment; callsite = callsite.0; parent = parent; values = owned_entries values.now })) result self.new }
     {
         steps_follow::<N, E, F, S>();
         self.parts.event(&Request {
@@ -93,7 +96,8 @@ impl<N: FormatFields + Drop, E: FormatEvent, F: Filter, S: LineSink> Trace<Trace
 
     /// Asks whether some output's filter passes a callsite on a lane: by it a new span would be made, and an event unless the filters refuse the event itself. Asking leaves no mark, and takes no memory.
     pub fn enabled(&mut self, lane: usize, moment: Moment, callsite: Identifier) -> Reply
-        ensures { FollowsReady ⟦<N as FormatFields>⟧ E.line_of ⟦<F as Filter>⟧ S.takes ⟦<Layer<N, E, PendingLines> as span_registry_layers_layers::Layer>⟧ self.old (EnabledStep (record { lane = lane; moment = moment; callsite = callsite })) result self.new }
+        ensures gives { StepGives ⟦<TraceStack<N, E, F, S> as Subscriber>⟧ registry_of self.old (EnabledStep (record { lane = lane; moment = moment; callsite = callsite })) result self.new }
+        ensures follows { FollowsReady ⟦<N as FormatFields>⟧ E.line_of ⟦<F as Filter>⟧ S.takes ⟦<Layer<N, E, PendingLines> as span_registry_layers_layers::Layer>⟧ self.old (EnabledStep (record { lane = lane; moment = moment; callsite = callsite })) result self.new }
     {
         steps_follow::<N, E, F, S>();
         self.parts.enabled(&EnabledCall {
@@ -112,7 +116,8 @@ impl<N: FormatFields + Drop, E: FormatEvent, F: Filter, S: LineSink> Trace<Trace
         parent: Parent,
         values: &[FieldValue],
     ) -> Reply
-        ensures { FollowsReady ⟦<N as FormatFields>⟧ E.line_of ⟦<F as Filter>⟧ S.takes ⟦<Layer<N, E, PendingLines> as span_registry_layers_layers::Layer>⟧ self.old (SpanStep (record { lane = lane; moment = moment; callsite = callsite.0; parent = parent; values = owned_entries values.now })) result self.new }
+        ensures gives { StepGives ⟦<TraceStack<N, E, F, S> as Subscriber>⟧ registry_of self.old (SpanStep (record { lane = lane; moment = moment; callsite = callsite.0; parent = parent; values = owned_entries values.now })) result self.new }
+        ensures follows { FollowsReady ⟦<N as FormatFields>⟧ E.line_of ⟦<F as Filter>⟧ S.takes ⟦<Layer<N, E, PendingLines> as span_registry_layers_layers::Layer>⟧ self.old (SpanStep (record { lane = lane; moment = moment; callsite = callsite.0; parent = parent; values = owned_entries values.now })) result self.new }
     {
         steps_follow::<N, E, F, S>();
         self.parts.new_span(&Request {
@@ -132,7 +137,8 @@ impl<N: FormatFields + Drop, E: FormatEvent, F: Filter, S: LineSink> Trace<Trace
         span: Option<SpanName>,
         values: &[FieldValue],
     ) -> Reply
-        ensures { FollowsReady ⟦<N as FormatFields>⟧ E.line_of ⟦<F as Filter>⟧ S.takes ⟦<Layer<N, E, PendingLines> as span_registry_layers_layers::Layer>⟧ self.old (RecordStep (record { lane = lane; moment = moment; span = span; values = owned_entries values.now })) result self.new }
+        ensures gives { StepGives ⟦<TraceStack<N, E, F, S> as Subscriber>⟧ registry_of self.old (RecordStep (record { lane = lane; moment = moment; span = span; values = owned_entries values.now })) result self.new }
+        ensures follows { FollowsReady ⟦<N as FormatFields>⟧ E.line_of ⟦<F as Filter>⟧ S.takes ⟦<Layer<N, E, PendingLines> as span_registry_layers_layers::Layer>⟧ self.old (RecordStep (record { lane = lane; moment = moment; span = span; values = owned_entries values.now })) result self.new }
     {
         steps_follow::<N, E, F, S>();
         self.parts.record(&RecordRequest {
@@ -151,7 +157,8 @@ impl<N: FormatFields + Drop, E: FormatEvent, F: Filter, S: LineSink> Trace<Trace
         span: Option<SpanName>,
         follows: Option<SpanName>,
     ) -> Reply
-        ensures { FollowsReady ⟦<N as FormatFields>⟧ E.line_of ⟦<F as Filter>⟧ S.takes ⟦<Layer<N, E, PendingLines> as span_registry_layers_layers::Layer>⟧ self.old (FollowsFromStep (record { lane = lane; moment = moment; span = span; follows = follows })) result self.new }
+        ensures gives { StepGives ⟦<TraceStack<N, E, F, S> as Subscriber>⟧ registry_of self.old (FollowsFromStep (record { lane = lane; moment = moment; span = span; follows = follows })) result self.new }
+        ensures follows { FollowsReady ⟦<N as FormatFields>⟧ E.line_of ⟦<F as Filter>⟧ S.takes ⟦<Layer<N, E, PendingLines> as span_registry_layers_layers::Layer>⟧ self.old (FollowsFromStep (record { lane = lane; moment = moment; span = span; follows = follows })) result self.new }
     {
         steps_follow::<N, E, F, S>();
         self.parts.record_follows_from(&FollowsCall {
@@ -164,7 +171,8 @@ impl<N: FormatFields + Drop, E: FormatEvent, F: Filter, S: LineSink> Trace<Trace
 
     /// Enters a span on a lane.
     pub fn enter(&mut self, lane: usize, moment: Moment, span: Option<SpanName>) -> Reply
-        ensures { FollowsReady ⟦<N as FormatFields>⟧ E.line_of ⟦<F as Filter>⟧ S.takes ⟦<Layer<N, E, PendingLines> as span_registry_layers_layers::Layer>⟧ self.old (EnterStep (record { lane = lane; moment = moment; span = span })) result self.new }
+        ensures gives { StepGives ⟦<TraceStack<N, E, F, S> as Subscriber>⟧ registry_of self.old (EnterStep (record { lane = lane; moment = moment; span = span })) result self.new }
+        ensures follows { FollowsReady ⟦<N as FormatFields>⟧ E.line_of ⟦<F as Filter>⟧ S.takes ⟦<Layer<N, E, PendingLines> as span_registry_layers_layers::Layer>⟧ self.old (EnterStep (record { lane = lane; moment = moment; span = span })) result self.new }
     {
         steps_follow::<N, E, F, S>();
         self.parts.enter(&SpanCall { lane, moment, span })
@@ -172,7 +180,8 @@ impl<N: FormatFields + Drop, E: FormatEvent, F: Filter, S: LineSink> Trace<Trace
 
     /// Leaves a span on a lane: its last entry there goes.
     pub fn exit(&mut self, lane: usize, moment: Moment, span: Option<SpanName>) -> Reply
-        ensures { FollowsReady ⟦<N as FormatFields>⟧ E.line_of ⟦<F as Filter>⟧ S.takes ⟦<Layer<N, E, PendingLines> as span_registry_layers_layers::Layer>⟧ self.old (ExitStep (record { lane = lane; moment = moment; span = span })) result self.new }
+        ensures gives { StepGives ⟦<TraceStack<N, E, F, S> as Subscriber>⟧ registry_of self.old (ExitStep (record { lane = lane; moment = moment; span = span })) result self.new }
+        ensures follows { FollowsReady ⟦<N as FormatFields>⟧ E.line_of ⟦<F as Filter>⟧ S.takes ⟦<Layer<N, E, PendingLines> as span_registry_layers_layers::Layer>⟧ self.old (ExitStep (record { lane = lane; moment = moment; span = span })) result self.new }
     {
         steps_follow::<N, E, F, S>();
         self.parts.exit(&SpanCall { lane, moment, span })
@@ -180,7 +189,8 @@ impl<N: FormatFields + Drop, E: FormatEvent, F: Filter, S: LineSink> Trace<Trace
 
     /// Takes one more handle of a span. Takes no memory.
     pub fn clone_span(&mut self, lane: usize, moment: Moment, span: Option<SpanName>) -> Reply
-        ensures { FollowsReady ⟦<N as FormatFields>⟧ E.line_of ⟦<F as Filter>⟧ S.takes ⟦<Layer<N, E, PendingLines> as span_registry_layers_layers::Layer>⟧ self.old (CloneStep (record { lane = lane; moment = moment; span = span })) result self.new }
+        ensures gives { StepGives ⟦<TraceStack<N, E, F, S> as Subscriber>⟧ registry_of self.old (CloneStep (record { lane = lane; moment = moment; span = span })) result self.new }
+        ensures follows { FollowsReady ⟦<N as FormatFields>⟧ E.line_of ⟦<F as Filter>⟧ S.takes ⟦<Layer<N, E, PendingLines> as span_registry_layers_layers::Layer>⟧ self.old (CloneStep (record { lane = lane; moment = moment; span = span })) result self.new }
     {
         steps_follow::<N, E, F, S>();
         self.parts.clone_span(&SpanCall { lane, moment, span })
@@ -188,7 +198,8 @@ impl<N: FormatFields + Drop, E: FormatEvent, F: Filter, S: LineSink> Trace<Trace
 
     /// Gives up one handle of a span; answers whether the span closed.
     pub fn try_close(&mut self, lane: usize, moment: Moment, span: Option<SpanName>) -> Reply
-        ensures { FollowsReady ⟦<N as FormatFields>⟧ E.line_of ⟦<F as Filter>⟧ S.takes ⟦<Layer<N, E, PendingLines> as span_registry_layers_layers::Layer>⟧ self.old (CloseStep (record { lane = lane; moment = moment; span = span })) result self.new }
+        ensures gives { StepGives ⟦<TraceStack<N, E, F, S> as Subscriber>⟧ registry_of self.old (CloseStep (record { lane = lane; moment = moment; span = span })) result self.new }
+        ensures follows { FollowsReady ⟦<N as FormatFields>⟧ E.line_of ⟦<F as Filter>⟧ S.takes ⟦<Layer<N, E, PendingLines> as span_registry_layers_layers::Layer>⟧ self.old (CloseStep (record { lane = lane; moment = moment; span = span })) result self.new }
     {
         steps_follow::<N, E, F, S>();
         self.parts.try_close(&SpanCall { lane, moment, span })
@@ -196,7 +207,8 @@ impl<N: FormatFields + Drop, E: FormatEvent, F: Filter, S: LineSink> Trace<Trace
 
     /// A step.
     pub fn step(&mut self, step: &Step) -> Reply
-        ensures { FollowsReady ⟦<N as FormatFields>⟧ E.line_of ⟦<F as Filter>⟧ S.takes ⟦<Layer<N, E, PendingLines> as span_registry_layers_layers::Layer>⟧ self.old (plain_step step.now) result self.new }
+        ensures gives { StepGives ⟦<TraceStack<N, E, F, S> as Subscriber>⟧ registry_of self.old (plain_step step.now) result self.new }
+        ensures follows { FollowsReady ⟦<N as FormatFields>⟧ E.line_of ⟦<F as Filter>⟧ S.takes ⟦<Layer<N, E, PendingLines> as span_registry_layers_layers::Layer>⟧ self.old (plain_step step.now) result self.new }
     {
         steps_follow::<N, E, F, S>();
         self.act(step)
@@ -226,6 +238,8 @@ impl<N: FormatFields + Drop, E: FormatEvent, F: Filter, D: Folder> Trace<
     ///
     /// Want of memory for the replies, whose room is made first: then nothing was done.
     pub fn run(&mut self, steps: &[Step]) -> Result<Vec<Reply>, AllocError>
+        ensures gives { IfOk result (λ replies. RunGives ⟦<TraceStack<N, E, F, RollingSink<D>> as Subscriber>⟧ self.old
+            (plain_steps steps.now) replies.items self.new) }
         ensures run { IfOk result (λ replies. RunsReady D.contents D.failed ⟦<N as FormatFields>⟧ E.line_of ⟦<F as Filter>⟧ ⟦<Layer<N, E, PendingLines> as span_registry_layers_layers::Layer>⟧ self.old (plain_steps steps.now) replies.items self.new) }
         ensures err { OnErr result (self.new ≡ self.old) }
     {
