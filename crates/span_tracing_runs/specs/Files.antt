@@ -44,7 +44,7 @@ module _ {N E F D : Type 0} (contents : D → Option Contents) (failed : D → �
       (p : Plain N) → AgreesPlain n line_of g v p → (place : ℕ) (old : RollingSink D) → sink_at v.stack place ≡ Some old →
       (run : List (At × PlainLine)) × (new : RollingSink D) × (slice_get (lines_of n p turns) place ≡ Some run) × (sink_at w.stack place ≡ Some new) × TakesRun (TakesLine contents failed) run old new
 
-  -- Where no line of an output found no memory and its folder's contents are known, exactly the lines of the output's machine stand in its files: behind what was
+  -- Where an output's sink dropped no line and its folder's contents are known, exactly the lines that the output's machine offers stand in its files: behind what was
   -- found there and was handed over before, whole and in order, each in the file of the period in which the greatest moment so far lay.
   abbrev pub FilesStand : Traced N E F (RollingSink D) → List Turn → Traced N E F (RollingSink D) → Type 0
   FilesStand v turns w =

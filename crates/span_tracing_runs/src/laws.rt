@@ -7,9 +7,7 @@ use event_formatter_layer::Layer;
 use event_formatter_text::FormatFields;
 use span_registry_layers_layers::Filter;
 use span_tracing_outputs::{LineSink, PendingLines, TraceStack, trace_follows};
-use span_tracing_sinks::{
-    RollingSink, each_sink_has_its_run, lines_stand_in_files, runs_compose,
-};
+use span_tracing_sinks::{RollingSink, each_sink_has_its_run, lines_stand_in_files, runs_compose};
 use tracing_appender_rolling::Folder;
 use tracing_core_requests::Subscriber;
 
@@ -44,10 +42,11 @@ pub fn runs_follow<N: FormatFields + Drop, E: FormatEvent, F: Filter, S: LineSin
     each_sink_has_its_run::<N, E, F, S>();
 }
 
-/// Which bytes stand in which file after a run over sinks of rolling files: where no line of an output found no memory
-/// and its folder's contents are known, exactly the lines of the output's machine stand in its files, whole and in order.
-/// Over any other folder each sink took just these lines, of which the laws of sinks say which looks, openings and writes
-/// they come to.
+/// Which bytes stand in which file after a run over sinks of rolling files: where an output's sink dropped no line and its
+/// folder's contents are known, exactly the lines that the output's machine offers stand in its files, whole and in order;
+/// with retention or a link, in those that retention left. Over any other folder each sink took just these lines, of
+/// which the laws of sinks say which looks, openings and writes they come to. A machine offers no line that found no memory
+/// before it came to the sink.
 pub fn files_follow<N: FormatFields + Drop, E: FormatEvent, F: Filter, D: Folder>()
     ensures { FilesFollow D.contents D.failed ⟦<N as FormatFields>⟧ E.line_of ⟦<F as Filter>⟧
         ⟦<Layer<N, E, PendingLines> as span_registry_layers_layers::Layer>⟧ }

@@ -231,8 +231,8 @@ impl<N: FormatFields + Drop, E: FormatEvent, F: Filter, D: Folder> Trace<
     TraceStack<N, E, F, RollingSink<D>>,
 > {
     /// Steps in order, with a reply to each. A step that is refused for want of memory does nothing, and the others run.
-    /// Where no line of an output found no memory and its folder's contents are known, the output's files hold exactly the
-    /// lines of its machine.
+    /// Where an output's sink dropped no line and its folder's contents are known, the output's files hold exactly the lines
+    /// that its machine offers.
     ///
     /// # Errors
     ///

@@ -57,7 +57,8 @@ impl<T: Subscriber> Trace<T> {
         self.parts.stack()
     }
 
-    /// Adds a lane, and answers its number: lanes are numbered from 0.
+    /// Adds a lane, and answers its number: lanes are numbered from 0. No layer is told of its thread yet, so that lines show
+    /// only the threads that their layer was told of.
     ///
     /// # Errors
     ///
@@ -90,7 +91,7 @@ impl<T: Subscriber> Trace<T> {
         self.parts.register(identifier, metadata)
     }
 
-    /// Takes a stack, and answers its handle, which is 0. A trace has one stack. The stack is told of its handle, and asked
+    /// Takes a stack of honest filters, and answers its handle, which is 0. A trace has one stack. The stack is told of its handle, and asked
     /// of each callsite.
     ///
     /// # Errors
