@@ -1,6 +1,9 @@
 //! Each call once, and each refusal of a step. A span has fewer handles than can be counted and a registry gives
 //! fewer ids than there are, so that too many handles are met by no test, and spent ids by the subscriber's answer.
 
+ghost use Rattle.std.specs.Prelude.{◌≡◌, IfOk};
+ghost use Rattle.span_tracing_steps.specs.Sound.{IsSound};
+
 mod keeper;
 mod refusing;
 mod setups;
@@ -15,7 +18,7 @@ use tracing_appender_folders::Moment;
 use tracing_core_fields::{
     FieldSet, FieldValue, Id, Identifier, Kind, Level, Metadata, OwnedValue,
 };
-use tracing_core_requests::RequestError;
+use tracing_core_requests::{RequestError, Subscriber};
 
 /// 2025-02-17T10:01:00Z.
 const OPENED: Moment = Moment {
@@ -40,10 +43,14 @@ const HINT: u64 = 5;
 
 const NAMES: [&str; 2] = ["n", "m"];
 
-/// Metadata with two fields.
-fn metadata_of<'a>(name: &'a str, kind: Kind) -> Metadata<'a> {
-    let (fields, level) = (FieldSet::new(&NAMES, Identifier(0)), Level::INFO);
-    Metadata::new(name, "app", level, None, None, None, fields, kind)
+/// Two fields of no callsite yet.
+fn two_fields<'a>() -> FieldSet<'a> {
+    FieldSet::new(&NAMES, Identifier(0))
+}
+
+/// Metadata with these fields.
+fn metadata_of<'a>(name: &'a str, kind: Kind, fields: FieldSet<'a>) -> Metadata<'a> {
+    Metadata::new(name, "app", Level::INFO, None, None, None, fields, kind)
 }
 
 /// A value of the field at the place.
@@ -59,8 +66,11 @@ fn span_name(stack: usize, id: u64) -> Result<SpanName, Fail> {
     Ok(SpanName { stack, id })
 }
 
-fn register(parts: &mut TraceParts<Keeper>, number: u64, kind: Kind) -> Result<(), Fail> {
-    let metadata = metadata_of("made", kind);
+fn register(parts: &mut TraceParts<Keeper>, number: u64, kind: Kind) -> Result<(), Fail>
+    requires { IsSound ⟦<Keeper as Subscriber>⟧ parts.old }
+    ensures { IsSound ⟦<Keeper as Subscriber>⟧ parts.new }
+{
+    let metadata = metadata_of("made", kind, two_fields());
     let _interest = parts
         .register(Identifier(number), &metadata)
         .ok()
@@ -69,7 +79,10 @@ fn register(parts: &mut TraceParts<Keeper>, number: u64, kind: Kind) -> Result<(
 }
 
 /// Two lanes, three callsites, and a stack that no lane reaches.
-fn parts_of(alloc: Global, failure: Option<RequestError>) -> Result<TraceParts<Keeper>, Fail> {
+#[tactic(auto, using(crate::proofs::Stackless::no_handle))]
+fn parts_of(alloc: Global, failure: Option<RequestError>) -> Result<TraceParts<Keeper>, Fail>
+    ensures { IfOk result (λ p. IsSound ⟦<Keeper as Subscriber>⟧ p) }
+{
     let mut parts = TraceParts::new(alloc);
     parts
         .add_stack(Keeper::new(alloc, failure))
@@ -84,7 +97,9 @@ fn parts_of(alloc: Global, failure: Option<RequestError>) -> Result<TraceParts<K
 }
 
 /// The same, and each lane reaches the stack.
-fn set_parts(alloc: Global, failure: Option<RequestError>) -> Result<TraceParts<Keeper>, Fail> {
+fn set_parts(alloc: Global, failure: Option<RequestError>) -> Result<TraceParts<Keeper>, Fail>
+    ensures { IfOk result (λ p. IsSound ⟦<Keeper as Subscriber>⟧ p) }
+{
     let mut parts = parts_of(alloc, failure)?;
     if parts.set_global_default(0) == Reply::Done {
         Ok(parts)
@@ -118,7 +133,10 @@ fn call_on(span: Option<SpanName>) -> SpanCall {
 }
 
 /// A span of the second lane.
-fn made(parts: &mut TraceParts<Keeper>) -> Result<SpanName, Fail> {
+fn made(parts: &mut TraceParts<Keeper>) -> Result<SpanName, Fail>
+    requires { IsSound ⟦<Keeper as Subscriber>⟧ parts.old }
+    ensures { IsSound ⟦<Keeper as Subscriber>⟧ parts.new }
+{
     match parts.new_span(&request(OUTER, Parent::Root, &[])) {
         Reply::Span(Some(name)) => Ok(name),
         _ => Err("a span".into()),

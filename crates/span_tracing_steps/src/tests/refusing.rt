@@ -1,35 +1,80 @@
 // Refusals, each in its order.
+ghost use Rattle.span_tracing_steps.specs.Sound.{IsSound};
+
 use super::*;
 
 fn refused(refusal: Refusal) -> Reply {
     Reply::Refused(refusal)
 }
 
+/// What an event and a new span answer.
+fn made_at(parts: &mut TraceParts<Keeper>, event: &Request<'_>, span_at: u64) -> (Reply, Reply)
+    requires { IsSound ⟦<Keeper as Subscriber>⟧ parts.old }
+    ensures { IsSound ⟦<Keeper as Subscriber>⟧ parts.new }
+{
+    let told = parts.event(event);
+    let span = Request {
+        lane: event.lane,
+        moment: event.moment,
+        callsite: span_at,
+        parent: event.parent,
+        values: event.values,
+    };
+    (told, parts.new_span(&span))
+}
+
+/// Both are refused so.
+fn both(refusal: Refusal) -> (Reply, Reply) {
+    (refused(refusal), refused(refusal))
+}
+
 #[test]
-fn requests_are_refused_in_order(rt: HostRuntime) -> Result<(), Fail> {
+fn lanes_and_moments_are_looked_at_before_callsites(rt: HostRuntime) -> Result<(), Fail> {
     let mut parts = parts_of(rt.alloc(), None)?;
     let foreign = Parent::Explicit(span_name(1, 1)?);
-    let unreached = Parent::Explicit(span_name(0, 1)?);
-    for (lane, moment, event_at, span_at, parent, refusal) in [
-        (2, TOO_EARLY, 9, 9, foreign, Refusal::UnknownLane),
-        (1, TOO_EARLY, 9, 9, foreign, Refusal::BadMoment),
-        (1, OPENED, 9, 9, foreign, Refusal::UnknownCallsite),
-        (1, OPENED, OUTER, EVENT, foreign, Refusal::UnknownCallsite),
-        (1, OPENED, HINT, HINT, foreign, Refusal::UnknownCallsite),
-        (1, OPENED, EVENT, OUTER, foreign, Refusal::UnknownStack),
-        (1, OPENED, EVENT, OUTER, unreached, Refusal::ForeignParent),
-    ] {
-        let mut asked = request(event_at, parent, &[]);
-        asked.lane = lane;
-        asked.moment = moment;
-        assert_eq!(rt; parts.event(&asked), refused(refusal));
-        asked.callsite = span_at;
-        assert_eq!(rt; parts.new_span(&asked), refused(refusal));
-    }
+    let mut asked = request(9, foreign, &[]);
+    asked.lane = 2;
+    asked.moment = TOO_EARLY;
+    assert_eq!(rt; made_at(&mut parts, &asked, 9), both(Refusal::UnknownLane));
+    asked.lane = 1;
+    assert_eq!(rt; made_at(&mut parts, &asked, 9), both(Refusal::BadMoment));
+    asked.moment = OPENED;
+    let unknown = both(Refusal::UnknownCallsite);
+    assert_eq!(rt; made_at(&mut parts, &asked, 9), unknown);
+    assert_eq!(rt; heard(&parts)?, (0, Told::Nothing, 0));
+    Ok(())
+}
+
+#[test]
+fn callsites_are_looked_at_before_parents(rt: HostRuntime) -> Result<(), Fail> {
+    let mut parts = parts_of(rt.alloc(), None)?;
+    let foreign = Parent::Explicit(span_name(1, 1)?);
+    let unknown = both(Refusal::UnknownCallsite);
+    let asked = request(OUTER, foreign, &[]);
+    assert_eq!(rt; made_at(&mut parts, &asked, EVENT), unknown);
+    let asked = request(HINT, foreign, &[]);
+    assert_eq!(rt; made_at(&mut parts, &asked, HINT), unknown);
+    let asked = request(EVENT, foreign, &[]);
+    assert_eq!(rt;
+        made_at(&mut parts, &asked, OUTER),
+        both(Refusal::UnknownStack)
+    );
+    Ok(())
+}
+
+#[test]
+fn parents_are_open_spans_of_the_reached_stack(rt: HostRuntime) -> Result<(), Fail> {
+    let mut parts = parts_of(rt.alloc(), None)?;
+    let asked = request(EVENT, Parent::Explicit(span_name(0, 1)?), &[]);
+    assert_eq!(rt;
+        made_at(&mut parts, &asked, OUTER),
+        both(Refusal::ForeignParent)
+    );
     assert_eq!(rt; parts.set_global_default(0), Reply::Done);
-    let closed = refused(Refusal::UnknownSpan);
-    assert_eq!(rt; parts.event(&request(EVENT, unreached, &[])), closed);
-    assert_eq!(rt; parts.new_span(&request(OUTER, unreached, &[])), closed);
+    assert_eq!(rt;
+        made_at(&mut parts, &asked, OUTER),
+        both(Refusal::UnknownSpan)
+    );
     assert_eq!(rt; heard(&parts)?, (0, Told::Nothing, 0));
     Ok(())
 }
@@ -37,74 +82,101 @@ fn requests_are_refused_in_order(rt: HostRuntime) -> Result<(), Fail> {
 #[test]
 fn questions_are_refused_in_order(rt: HostRuntime) -> Result<(), Fail> {
     let mut parts = set_parts(rt.alloc(), None)?;
-    for (lane, moment, refusal) in [
-        (2, TOO_EARLY, Refusal::UnknownLane),
-        (1, TOO_EARLY, Refusal::BadMoment),
-        (1, OPENED, Refusal::UnknownCallsite),
-    ] {
-        let callsite = Identifier(9);
-        let call = EnabledCall {
-            lane,
-            moment,
-            callsite,
-        };
-        assert_eq!(rt; parts.enabled(&call), refused(refusal));
-    }
+    let mut call = EnabledCall {
+        lane: 2,
+        moment: TOO_EARLY,
+        callsite: Identifier(9),
+    };
+    assert_eq!(rt; parts.enabled(&call), refused(Refusal::UnknownLane));
+    call.lane = 1;
+    assert_eq!(rt; parts.enabled(&call), refused(Refusal::BadMoment));
+    call.moment = OPENED;
+    assert_eq!(rt; parts.enabled(&call), refused(Refusal::UnknownCallsite));
     assert_eq!(rt; heard(&parts)?, (0, Told::Nothing, 0));
     Ok(())
+}
+
+/// What the calls on a span answer.
+fn answers(parts: &mut TraceParts<Keeper>, call: &SpanCall) -> [Reply; 5]
+    requires { IsSound ⟦<Keeper as Subscriber>⟧ parts.old }
+    ensures { IsSound ⟦<Keeper as Subscriber>⟧ parts.new }
+{
+    let record = RecordRequest {
+        lane: call.lane,
+        moment: call.moment,
+        span: call.span,
+        values: &[],
+    };
+    [
+        parts.record(&record),
+        parts.enter(call),
+        parts.exit(call),
+        parts.clone_span(call),
+        parts.try_close(call),
+    ]
+}
+
+/// All are refused so.
+fn all(refusal: Refusal) -> [Reply; 5] {
+    let reply = refused(refusal);
+    [reply, reply, reply, reply, reply]
 }
 
 #[test]
 fn calls_on_spans_are_refused_in_order(rt: HostRuntime) -> Result<(), Fail> {
     let mut parts = set_parts(rt.alloc(), None)?;
-    let foreign = Some(span_name(1, 1)?);
-    let closed = Some(span_name(0, 1)?);
-    for (lane, moment, span, refusal) in [
-        (2, TOO_EARLY, foreign, Refusal::UnknownLane),
-        (1, TOO_EARLY, foreign, Refusal::BadMoment),
-        (1, OPENED, foreign, Refusal::UnknownStack),
-        (1, OPENED, closed, Refusal::UnknownSpan),
-    ] {
-        let call = SpanCall { lane, moment, span };
-        let values = &[];
-        let record = RecordRequest {
-            lane,
-            moment,
-            span,
-            values,
-        };
-        assert_eq!(rt; parts.record(&record), refused(refusal));
-        assert_eq!(rt; parts.enter(&call), refused(refusal));
-        assert_eq!(rt; parts.exit(&call), refused(refusal));
-        assert_eq!(rt; parts.clone_span(&call), refused(refusal));
-        assert_eq!(rt; parts.try_close(&call), refused(refusal));
-    }
+    let mut call = call_on(Some(span_name(1, 1)?));
+    call.lane = 2;
+    call.moment = TOO_EARLY;
+    assert_eq!(rt; answers(&mut parts, &call), all(Refusal::UnknownLane));
+    call.lane = 1;
+    assert_eq!(rt; answers(&mut parts, &call), all(Refusal::BadMoment));
+    call.moment = OPENED;
+    assert_eq!(rt; answers(&mut parts, &call), all(Refusal::UnknownStack));
+    let call = call_on(Some(span_name(0, 1)?));
+    assert_eq!(rt; answers(&mut parts, &call), all(Refusal::UnknownSpan));
     assert_eq!(rt; heard(&parts)?, (0, Told::Nothing, 0));
     Ok(())
 }
 
 #[test]
+fn links_are_refused_for_their_lane_and_moment(rt: HostRuntime) -> Result<(), Fail> {
+    let mut parts = set_parts(rt.alloc(), None)?;
+    let foreign = Some(span_name(1, 1)?);
+    let mut call = link(foreign, foreign);
+    call.lane = 2;
+    call.moment = TOO_EARLY;
+    let reply = parts.record_follows_from(&call);
+    assert_eq!(rt; reply, refused(Refusal::UnknownLane));
+    call.lane = 1;
+    let reply = parts.record_follows_from(&call);
+    assert_eq!(rt; reply, refused(Refusal::BadMoment));
+    Ok(())
+}
+
+fn link(span: Option<SpanName>, follows: Option<SpanName>) -> FollowsCall {
+    FollowsCall {
+        lane: 1,
+        moment: OPENED,
+        span,
+        follows,
+    }
+}
+
+#[test]
 fn both_stacks_are_looked_at_before_the_spans(rt: HostRuntime) -> Result<(), Fail> {
     let mut parts = set_parts(rt.alloc(), None)?;
-    let open = Some(made(&mut parts)?);
+    let open = made(&mut parts)?;
     let closed = Some(span_name(0, 9)?);
     let foreign = Some(span_name(1, 1)?);
-    for (lane, moment, span, follows, refusal) in [
-        (2, TOO_EARLY, foreign, foreign, Refusal::UnknownLane),
-        (0, TOO_EARLY, foreign, foreign, Refusal::BadMoment),
-        (0, OPENED, closed, foreign, Refusal::UnknownStack),
-        (0, OPENED, None, foreign, Refusal::UnknownStack),
-        (0, OPENED, closed, open, Refusal::UnknownSpan),
-        (0, OPENED, open, closed, Refusal::UnknownSpan),
-    ] {
-        let call = FollowsCall {
-            lane,
-            moment,
-            span,
-            follows,
-        };
-        assert_eq!(rt; parts.record_follows_from(&call), refused(refusal));
-    }
+    let reply = parts.record_follows_from(&link(closed, foreign));
+    assert_eq!(rt; reply, refused(Refusal::UnknownStack));
+    let reply = parts.record_follows_from(&link(None, foreign));
+    assert_eq!(rt; reply, refused(Refusal::UnknownStack));
+    let reply = parts.record_follows_from(&link(closed, Some(open)));
+    assert_eq!(rt; reply, refused(Refusal::UnknownSpan));
+    let reply = parts.record_follows_from(&link(Some(open), closed));
+    assert_eq!(rt; reply, refused(Refusal::UnknownSpan));
     assert_eq!(rt; heard(&parts)?, (1, Told::Span(0), 1));
     Ok(())
 }

@@ -15,7 +15,7 @@ fn lanes_are_numbered_from_zero(rt: HostRuntime) -> Result<(), Fail> {
 fn nobody_is_interested_before_there_is_a_stack(rt: HostRuntime) -> Result<(), Fail> {
     let alloc = rt.alloc();
     let mut parts: TraceParts<Keeper> = TraceParts::new(alloc);
-    let metadata = metadata_of("made", Kind::SPAN);
+    let metadata = metadata_of("made", Kind::SPAN, two_fields());
     let taken = parts.register(Identifier(OUTER), &metadata);
     assert!(rt; matches!(taken, Ok(interest) if interest.is_never()));
     assert!(rt; parts.add_stack(Keeper::new(alloc, None)).is_ok());
@@ -27,8 +27,8 @@ fn nobody_is_interested_before_there_is_a_stack(rt: HostRuntime) -> Result<(), F
 #[test]
 fn an_identifier_is_taken_once(rt: HostRuntime) -> Result<(), Fail> {
     let mut parts = parts_of(rt.alloc(), None)?;
-    let same = metadata_of("made", Kind::SPAN);
-    let other = metadata_of("other", Kind::SPAN);
+    let same = metadata_of("made", Kind::SPAN, two_fields());
+    let other = metadata_of("other", Kind::SPAN, two_fields());
     let again = parts.register(Identifier(OUTER), &same);
     assert_eq!(rt; again, Ok(Interest::sometimes()));
     let taken = parts.register(Identifier(OUTER), &other);
