@@ -118,8 +118,13 @@ fn answers(parts: &mut TraceParts<Keeper>, call: &SpanCall) -> [Reply; 5]
 
 /// All are refused so.
 fn all(refusal: Refusal) -> [Reply; 5] {
-    let reply = refused(refusal);
-    [reply, reply, reply, reply, reply]
+    [
+        refused(refusal),
+        refused(refusal),
+        refused(refusal),
+        refused(refusal),
+        refused(refusal),
+    ]
 }
 
 #[test]
