@@ -5,3 +5,4 @@ pub mod Indexed
 pub mod Going
 pub mod Anew
 pub mod Registering
+pub mod Stackless

@@ -97,8 +97,7 @@ module _ {T : Type 0} (g : Ghosts T) where
     new_none m k none sound keeps global fs never rows =
         let only : HasOnly None p.hub.global p.hub.subscribers = subst (λ h. HasOnly h p.hub.global p.hub.subscribers) none sound.only in
         let no_stack : stack_in p ≡ None = ap (λ h. stack_of h p.hub.subscribers) none in
-        let still : stack_in later ≡ None = ap (λ h. stack_of h u.subscribers) none in
-        (
+        let still : stack_in later ≡ None = ap (λ h. stack_of h u.subscribers) none in (
           record {
             only = subst (λ h. HasOnly h u.global u.subscribers) (sym none) (fs, global ∙ only.1);
             hub = keeps.sound sound.hub;
@@ -107,8 +106,8 @@ module _ {T : Type 0} (g : Ghosts T) where
           subst (λ s. StackRegisters g s (value_in p) m k (value_in later)) (sym no_stack) (
             never,
             ap (λ (ms : List PlainMetadata). record (value_in later) { callsites = ms }) rows
-            ∙ ap (λ (s : Option T). record (value_in later) { callsites = callsites_of p.hub.callsites ++ m ∷ []; stack = s }) (still ∙ sym no_stack)
-            ∙ ap (λ (d : LaneDefault). record (with_callsite (value_in p) m) { is_global = Rattle.tracing_core_hub.specs.Defaults.was_set d }) global
+                ∙ ap (λ (s : Option T). record (value_in later) { callsites = callsites_of p.hub.callsites ++ m ∷ []; stack = s }) (still ∙ sym no_stack)
+                ∙ ap (λ (d : LaneDefault). record (with_callsite (value_in p) m) { is_global = Rattle.tracing_core_hub.specs.Defaults.was_set d }) global,
           ),
         )
 
@@ -122,18 +121,19 @@ module _ {T : Type 0} (g : Ghosts T) where
         let after : stack_in later ≡ Some f.subscriber = stack_is p.handle dispatch u.subscribers f handle (only.2 ∙ ap (λ (n : ℕ). Some n) (sym serial)) asked.1 in
         let valid : HasValidCache g ghosts p.hub e = (subst (Every (λ (x : KeptSubscriber T). HasValidCache g ghosts p.hub x)) only.1 sound.right).0 in
         let kept = keeps.right_of e valid in
-        let same : kept.0 ≡ f = found_by kept.0.serial f kept.0 (ap (subscriber_with kept.0.serial) (sym asked.1) ∙ kept.2.stands) (kept.1 ∙ sym serial) in
-        (
+        let same : kept.0 ≡ f = found_by kept.0.serial f kept.0 (ap (subscriber_with kept.0.serial) (sym asked.1) ∙ kept.2.stands) (kept.1 ∙ sym serial) in (
           record {
             only = subst (λ h. HasOnly h u.global u.subscribers) (sym handle) (f, asked.1, only.2 ∙ ap (λ (n : ℕ). Some n) (sym serial), λ unset. handles ∙ only.3 (sym global ∙ unset), subst (λ (d : LaneDefault). LeadsTo d f.serial) (sym global) (subst (LeadsTo p.hub.global) (sym serial) only.4));
             hub = keeps.sound sound.hub;
             right = subst (Every (λ (x : KeptSubscriber T). HasValidCache g ghosts u x)) (sym asked.1) (subst (HasValidCache g ghosts u) same kept.2, tt);
           },
           subst (λ s. StackRegisters g s (value_in p) m k (value_in later)) (sym before) (
-            f.subscriber, asked.2, asked.3,
+            f.subscriber,
+            asked.2,
+            asked.3,
             ap (λ (ms : List PlainMetadata). record (value_in later) { callsites = ms }) rows
-            ∙ ap (λ (s : Option T). record (value_in later) { callsites = callsites_of p.hub.callsites ++ m ∷ []; stack = s }) after
-            ∙ ap (λ (d : LaneDefault). record (with_callsite (value_in p) m) { is_global = Rattle.tracing_core_hub.specs.Defaults.was_set d; stack = Some f.subscriber }) global
+                ∙ ap (λ (s : Option T). record (value_in later) { callsites = callsites_of p.hub.callsites ++ m ∷ []; stack = s }) after
+                ∙ ap (λ (d : LaneDefault). record (with_callsite (value_in p) m) { is_global = Rattle.tracing_core_hub.specs.Defaults.was_set d; stack = Some f.subscriber }) global,
           ),
         )
       where
@@ -191,9 +191,11 @@ module _ {T : Type 0} (g : Ghosts T) where
   rows_asked e es (row ∷ rows) [] fs one w = absurd w
   rows_asked e es (row ∷ rows) (next ∷ laters) fs one (mid, asked, rest) =
       let first = asked_one (own_metadata row.callsite) e mid next.interest (subst (λ (xs : List (KeptSubscriber T)). AskedAll g (own_metadata row.callsite) xs mid next.interest) one asked.0) in
-      let others = rows_asked first.0 mid rows laters fs first.1 rest in
-      (
-        others.0, others.1, (next.interest, first.0.subscriber, first.2, first.3, others.2), others.3 ∙ ap (λ (x : KeptSubscriber T). record x { subscriber = others.0.subscriber }) first.4,
+      let others = rows_asked first.0 mid rows laters fs first.1 rest in (
+        others.0,
+        others.1,
+        (next.interest, first.0.subscriber, first.2, first.3, others.2),
+        others.3 ∙ ap (λ (x : KeptSubscriber T). record x { subscriber = others.0.subscriber }) first.4,
         ap (λ (m : PlainMetadata). m ∷ callsites_of laters) asked.1 ∙ ap (λ (ms : List PlainMetadata). own_metadata row.callsite ∷ ms) others.4,
       )
 
@@ -225,18 +227,23 @@ module _ {T : Type 0} (g : Ghosts T) where
         let global : u.global ≡ p.hub.global = ap (λ (t : Table T TraceCallsite). t.global) rebuilt.rest in
         let leads : dispatch ≡ Some f.serial = led ∙ ap (λ (n : ℕ). Some n) (sym serial) in
         let alike : known.serial ≡ f.serial = (let both : Some known.serial ≡ Some f.serial = sym known_led ∙ leads in cc) in
-        let same : known ≡ f = found_by known.serial f known (ap (subscriber_with known.serial) (sym hint.1) ∙ valid.stands) alike in
-        (
+        let same : known ≡ f = found_by known.serial f known (ap (subscriber_with known.serial) (sym hint.1) ∙ valid.stands) alike in (
           record {
             only = (f, hint.1, leads, λ unset. handles, subst (λ (d : LaneDefault). LeadsTo d f.serial) (sym (global ∙ only.1)) tt);
             hub = keeps.sound sound.hub;
             right = subst (Every (λ (e : KeptSubscriber T). HasValidCache g ghosts u e)) (sym hint.1) (subst (HasValidCache g ghosts u) same valid, tt);
           },
           (
-            p.hub.next, z, rows.0.subscriber, f.subscriber, registered, rows.2, hint.2,
+            p.hub.next,
+            z,
+            rows.0.subscriber,
+            f.subscriber,
+            registered,
+            rows.2,
+            hint.2,
             ap (λ (ms : List PlainMetadata). record (value_in taken) { callsites = ms }) rows.4
-            ∙ ap (λ (d : LaneDefault). record (value_in p) { is_global = Rattle.tracing_core_hub.specs.Defaults.was_set d; stack = stack_in taken }) global
-            ∙ ap (λ (s : Option T). record (value_in p) { stack = s }) (stack_is f leads hint.1)
+                ∙ ap (λ (d : LaneDefault). record (value_in p) { is_global = Rattle.tracing_core_hub.specs.Defaults.was_set d; stack = stack_in taken }) global
+                ∙ ap (λ (s : Option T). record (value_in p) { stack = s }) (stack_is f leads hint.1),
           ),
         )
       where

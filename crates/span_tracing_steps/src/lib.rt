@@ -12,3 +12,6 @@ mod spans;
 pub use action::{RecordRequest, Request};
 pub use callsite::TraceCallsite;
 pub use parts::{Thread, TraceParts};
+
+#[cfg(test)]
+mod tests;

@@ -4,6 +4,8 @@ use std::test::Fail;
 use tracing_core_fields::{FieldSet, Id, Identifier, Kind, Level, LevelFilter, Metadata};
 
 mod everything;
+mod indexed;
+mod listener;
 mod owned_callsite;
 mod reaching;
 mod registering;

@@ -98,12 +98,7 @@ fn tell_values<S: Subscriber>(
 impl<S: Subscriber, C: Callsite> Hub<S, C> {
     /// Whether the subscriber of the handle wants a span or an event of the callsite of the index, or `None` where no
     /// callsite stands there.
-    pub fn enabled_at(
-        &mut self,
-        dispatch: &Dispatch,
-        index: CallsiteIndex,
-        at: At,
-    ) -> Option<bool>
+    pub fn enabled_at(&mut self, dispatch: &Dispatch, index: CallsiteIndex, at: At) -> Option<bool>
         ensures gives { AskAtGives ⟦<S as Subscriber>⟧ ⟦<C as Callsite>⟧ (slice_get self.old.callsites index.0) at
             dispatch.now self.old result self.new }
         ensures keeps { PreservesCaches ⟦<S as Subscriber>⟧ ⟦<C as Callsite>⟧ self.old self.new }
