@@ -82,15 +82,13 @@ module _ {N E F S : Type 0} (n : Ghosts N) (line_of : E → Settings → PlainCo
   by_told told fates None None outs w a = no_stack told fates outs a
   by_told told fates None (Some y) outs w a = absurd w
   by_told told fates (Some x) None outs w a = absurd w
-  by_told None fates (Some x) (Some y) outs w a =
-      (
-        (w.agreed outs a.0, ap length w.sinks ∙ a.1),
-        subst (λ (runs : List (List (At × PlainLine))). RunsEach takes runs x.sinks y.sinks) (sym (none_same takes outs x.sinks a.1)) (subst (RunsEach takes (no_lines x.sinks) x.sinks) (sym w.sinks) (each.stays x.sinks)),
-      )
+  by_told None fates (Some x) (Some y) outs w a = (
+    (w.agreed outs a.0, ap length w.sinks ∙ a.1),
+    subst (λ (runs : List (List (At × PlainLine))). RunsEach takes runs x.sinks y.sinks) (sym (none_same takes outs x.sinks a.1)) (subst (RunsEach takes (no_lines x.sinks) x.sinks) (sym w.sinks) (each.stays x.sinks)),
+  )
   by_told (Some told) fates (Some x) (Some y) outs w a =
       let go = w outs a.0 in
-      let later = outs_told n (told.lists outs) outs fates in
-      (
+      let later = outs_told n (told.lists outs) outs fates in (
         (go.agreed, sinks_count takes told.at (lines_offered later) x.sinks y.sinks go.sinks ∙ a.1 ∙ sym (length_map at_rest later ∙ outs_count n (told.lists outs) outs fates)),
         lists_run takes compose told.at (lines_offered later) x.sinks y.sinks go.sinks,
       )

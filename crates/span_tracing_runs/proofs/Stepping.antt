@@ -92,8 +92,8 @@ module _ {N E F S : Type 0} (n : Ghosts N) (line_of : E → Settings → PlainCo
   rested : (v : Traced N E F S) (step : PlainStep) (reply : Reply) (w : Traced N E F S) (a : Answers) → refusal_of (skeleton_of v) step ≡ None → IsAnswered g h v step a → reply ≡ answered (skeleton_of v) step a → acted (skeleton_of v) step a ≡ skeleton_of v → told_by N (skeleton_of v) step a ≡ None → w ≡ v → StackIsReady g h v.stack → Goes v step reply w
   rested v step reply w a none asked replied still untold same ready = (
     made v step reply w a [] none asked replied (ap skeleton_of same ∙ sym still)
-    (subst (λ (u : Traced N E F S). OutputsFollow n line_of g takes (told_by N (skeleton_of v) step a) [] v.stack u.stack) (sym same)
-    (subst (λ (told : Option (Told N)). OutputsFollow n line_of g takes told [] v.stack v.stack) (sym untold) (rest_same [] v.stack))),
+        (subst (λ (u : Traced N E F S). OutputsFollow n line_of g takes (told_by N (skeleton_of v) step a) [] v.stack u.stack) (sym same)
+        (subst (λ (told : Option (Told N)). OutputsFollow n line_of g takes told [] v.stack v.stack) (sym untold) (rest_same [] v.stack))),
     subst (λ (u : Traced N E F S). StackIsReady g h u.stack) (sym same) ready,
   )
 
@@ -148,13 +148,12 @@ module _ {N E F S : Type 0} (n : Ghosts N) (line_of : E → Settings → PlainCo
         let q = request_of m e in
         let call = called x (EventDispatched q at) goes.0 v w ready goes.1 in
         let parent = parent_passed s e.lane e.moment (known s e.callsite false) e.parent none in
-        let told = (subst (λ (b : Bool). EventIf n line_of g takes b q at x goes.0 call.0) (parent_known s x.stack.registry e.parent refl parent) call.1).1 in
-        (
+        let told = (subst (λ (b : Bool). EventIf n line_of g takes b q at x goes.0 call.0) (parent_known s x.stack.registry e.parent refl parent) call.1).1 in (
           made v (EventStep e) reply w (Heard told.0 told.1) told.3.fates none
-          (subst (λ (c : Option PlainMetadata). AskedWhere true c (λ (d : PlainMetadata) (a : Answers). AnswersEvent g h (Some x) (request_of d e) at a) (Heard told.0 told.1)) (sym is) told.2) done
-          (ap skeleton_of call.3 ∙ ap (λ (y : RegistryValue). record s { registry = y }) told.3.skeleton)
-          (subst (λ (u : Traced N E F S). OutputsFollow n line_of g takes (event_told_by N s e (known s e.callsite false) (Heard told.0 told.1)) told.3.fates (Some x) u.stack) (sym call.3)
-          (subst (λ (c : Option PlainMetadata). StackFollows n line_of g takes (event_told_by N s e c (Heard told.0 told.1)) told.3.fates x call.0) (sym is) told.3.outputs)),
+              (subst (λ (c : Option PlainMetadata). AskedWhere true c (λ (d : PlainMetadata) (a : Answers). AnswersEvent g h (Some x) (request_of d e) at a) (Heard told.0 told.1)) (sym is) told.2) done
+              (ap skeleton_of call.3 ∙ ap (λ (y : RegistryValue). record s { registry = y }) told.3.skeleton)
+              (subst (λ (u : Traced N E F S). OutputsFollow n line_of g takes (event_told_by N s e (known s e.callsite false) (Heard told.0 told.1)) told.3.fates (Some x) u.stack) (sym call.3)
+              (subst (λ (c : Option PlainMetadata). StackFollows n line_of g takes (event_told_by N s e c (Heard told.0 told.1)) told.3.fates x call.0) (sym is) told.3.outputs)),
           ready_after v w call.0 call.2 call.3,
         )
 
@@ -196,21 +195,19 @@ module _ {N E F S : Type 0} (n : Ghosts N) (line_of : E → Settings → PlainCo
         let s = skeleton_of v in
         let call = called x (SpanMade (request_of m q) (place_at q.lane q.moment)) (Err error) v w ready goes in
         let asked = first_none (request_refusal s q.lane q.moment q.callsite true q.parent) (ids_refusal s) none in
-        let same : w ≡ v = call.3 ∙ ap (λ (y : Stack). record v { stack = Some y }) call.1.1 in
-        (
+        let same : w ≡ v = call.3 ∙ ap (λ (y : Stack). record v { stack = Some y }) call.1.1 in (
           inr (told ∙ span_refused s x q.parent error refl refl (parent_passed s q.lane q.moment (known s q.callsite true) q.parent asked) (second_none (request_refusal s q.lane q.moment q.callsite true q.parent) (ids_refusal s) none) call.1.0, none, same),
           subst (λ (u : Traced N E F S). StackIsReady g h u.stack) (sym same) ready,
         )
     span_goes cs ts true (Some x) q reply w (Some m) is ready none (Ok None, goes, told) =
         let v : Traced N E F S = record { callsites = cs; threads = ts; is_global = true; stack = Some x } in
         let s = skeleton_of v in
-        let call = called x (SpanMade (request_of m q) (place_at q.lane q.moment)) (Ok None) v w ready goes in
-        (
+        let call = called x (SpanMade (request_of m q) (place_at q.lane q.moment)) (Ok None) v w ready goes in (
           made v (SpanStep q) reply w Dropped [] none
-          (subst (λ (c : Option PlainMetadata). AskedWhere true c (λ (d : PlainMetadata) (a : Answers). AnswersSpan g h (Some x) d (place_at q.lane q.moment) a) Dropped) (sym is) call.1.1) told
-          (ap skeleton_of call.3 ∙ ap (λ (z : StackValue (Filtered (Lines N E) F)). record s { registry = bare z.registry }) call.1.2)
-          (subst (λ (u : Traced N E F S). OutputsFollow n line_of g takes (span_told_by N s q (known s q.callsite true) Dropped) [] (Some x) u.stack) (sym call.3)
-          (subst (λ (t : Option (Told N)). StackFollows n line_of g takes t [] x call.0) (sym (dropped_untold s q (known s q.callsite true))) call.1.3)),
+              (subst (λ (c : Option PlainMetadata). AskedWhere true c (λ (d : PlainMetadata) (a : Answers). AnswersSpan g h (Some x) d (place_at q.lane q.moment) a) Dropped) (sym is) call.1.1) told
+              (ap skeleton_of call.3 ∙ ap (λ (z : StackValue (Filtered (Lines N E) F)). record s { registry = bare z.registry }) call.1.2)
+              (subst (λ (u : Traced N E F S). OutputsFollow n line_of g takes (span_told_by N s q (known s q.callsite true) Dropped) [] (Some x) u.stack) (sym call.3)
+              (subst (λ (t : Option (Told N)). StackFollows n line_of g takes t [] x call.0) (sym (dropped_untold s q (known s q.callsite true))) call.1.3)),
           ready_after v w call.0 call.2 call.3,
         )
     span_goes cs ts true (Some x) q reply w (Some m) is ready none (Ok (Some id), goes, told) =
@@ -218,14 +215,13 @@ module _ {N E F S : Type 0} (n : Ghosts N) (line_of : E → Settings → PlainCo
         let s = skeleton_of v in
         let call = called x (SpanMade (request_of m q) (place_at q.lane q.moment)) (Ok (Some id)) v w ready goes in
         let passed = verdicts_from all_pass (numbers_in x.stack.rows) call.1.0 in
-        let outs = call.1.5 in
-        (
+        let outs = call.1.5 in (
           made v (SpanStep q) reply w (Passed passed) outs.fates none
-          (subst (λ (c : Option PlainMetadata). AskedWhere true c (λ (d : PlainMetadata) (a : Answers). AnswersSpan g h (Some x) d (place_at q.lane q.moment) a) (Passed passed)) (sym is) (call.1.0, call.1.1, call.1.2, refl))
-          (told ∙ ap (λ (k : ℕ). Span (Some (record { stack = 0; id = k }))) call.1.4)
-          (ap skeleton_of call.3 ∙ ap (λ (y : RegistryValue). record s { registry = y }) outs.skeleton ∙ ap (λ (c : Option PlainMetadata). Rattle.span_tracing_skeleton.specs.Machine.with_made s q c passed) (sym is))
-          (subst (λ (u : Traced N E F S). OutputsFollow n line_of g takes (span_told_by N s q (known s q.callsite true) (Passed passed)) outs.fates (Some x) u.stack) (sym call.3)
-          (subst (λ (c : Option PlainMetadata). StackFollows n line_of g takes (span_told_by N s q c (Passed passed)) outs.fates x call.0) (sym is) outs.outputs)),
+              (subst (λ (c : Option PlainMetadata). AskedWhere true c (λ (d : PlainMetadata) (a : Answers). AnswersSpan g h (Some x) d (place_at q.lane q.moment) a) (Passed passed)) (sym is) (call.1.0, call.1.1, call.1.2, refl))
+              (told ∙ ap (λ (k : ℕ). Span (Some (record { stack = 0; id = k }))) call.1.4)
+              (ap skeleton_of call.3 ∙ ap (λ (y : RegistryValue). record s { registry = y }) outs.skeleton ∙ ap (λ (c : Option PlainMetadata). Rattle.span_tracing_skeleton.specs.Machine.with_made s q c passed) (sym is))
+              (subst (λ (u : Traced N E F S). OutputsFollow n line_of g takes (span_told_by N s q (known s q.callsite true) (Passed passed)) outs.fates (Some x) u.stack) (sym call.3)
+              (subst (λ (c : Option PlainMetadata). StackFollows n line_of g takes (span_told_by N s q c (Passed passed)) outs.fates x call.0) (sym is) outs.outputs)),
           ready_after v w call.0 call.2 call.3,
         )
 
@@ -244,13 +240,12 @@ module _ {N E F S : Type 0} (n : Ghosts N) (line_of : E → Settings → PlainCo
         let answer : goes.0 ≡ Ok tt = call.1.0 ∙ ap (λ (o : Option RequestError). or_error o tt) opened in
         let kept = bare x.stack.registry in
         let outs : OutputsStep n line_of g takes at (call_lists (span_told kept at (Recorded (own_values m r.values)) name.id)) kept x call.0 =
-        subst (λ (a : Result (Unit {0}) RequestError). IfTaken a x (OutputsStep n line_of g takes at (call_lists (span_told kept at (Recorded (own_values m r.values)) name.id)) kept x call.0) call.0) answer call.1.1 in
-        (
+        subst (λ (a : Result (Unit {0}) RequestError). IfTaken a x (OutputsStep n line_of g takes at (call_lists (span_told kept at (Recorded (own_values m r.values)) name.id)) kept x call.0) call.0) answer call.1.1 in (
           made v (RecordStep r) reply w Unasked outs.fates none refl done
-          (skeleton_after v w call.0 call.3 ∙ ap (λ (y : RegistryValue). record s { registry = y; has_stack = true }) (outs.skeleton ∙ sym bared) ∙ ap (λ (b : Bool). record s { has_stack = b }) (sym (ap is_some stack)))
-          (outputs_after v w x call.0 (record_told_by N s r r.span) outs.fates stack call.3
-          (subst (λ (t : Option (Told N)). StackFollows n line_of g takes t outs.fates x call.0)
-          (sym (ap (record_told_by N s r) on ∙ ap (values_told_by N s r name.id) is ∙ ap (λ (y : RegistryValue). Some (record { at = at; lists = call_lists (span_told y at (Recorded (own_values m r.values)) name.id) })) bared)) outs.outputs)),
+              (skeleton_after v w call.0 call.3 ∙ ap (λ (y : RegistryValue). record s { registry = y; has_stack = true }) (outs.skeleton ∙ sym bared) ∙ ap (λ (b : Bool). record s { has_stack = b }) (sym (ap is_some stack)))
+              (outputs_after v w x call.0 (record_told_by N s r r.span) outs.fates stack call.3
+              (subst (λ (t : Option (Told N)). StackFollows n line_of g takes t outs.fates x call.0)
+              (sym (ap (record_told_by N s r) on ∙ ap (values_told_by N s r name.id) is ∙ ap (λ (y : RegistryValue). Some (record { at = at; lists = call_lists (span_told y at (Recorded (own_values m r.values)) name.id) })) bared)) outs.outputs)),
           ready_after v w call.0 call.2 call.3,
         )
 
@@ -278,13 +273,12 @@ module _ {N E F S : Type 0} (n : Ghosts N) (line_of : E → Settings → PlainCo
         let kept = bare x.stack.registry in
         let bared : s.registry ≡ kept = ap (registry_in registry_of) stack in
         let call = called x (Entered name.id at) (Ok done) v w (subst (StackIsReady g h) stack ready) (subst (λ (o : Option Stack). CallGoesIn sg o v (Entered name.id at) (Ok done) w) stack goes) in
-        let outs = call.1.1 in
-        (
+        let outs = call.1.1 in (
           made v (EnterStep ask) reply w Unasked outs.fates none refl told
-          (skeleton_after v w call.0 call.3 ∙ ap (λ (y : RegistryValue). record s { registry = y; has_stack = true }) (outs.skeleton ∙ ap (λ (y : RegistryValue). with_entry y ask.lane name.id) (sym bared)) ∙ ap (λ (b : Bool). record s { registry = with_entry s.registry ask.lane name.id; has_stack = b }) (sym (ap is_some stack)) ∙ ap (entered s ask.lane) (sym on))
-          (outputs_after v w x call.0 (enter_told_by N s ask ask.span) outs.fates stack call.3
-          (subst (λ (t : Option (Told N)). StackFollows n line_of g takes t outs.fates x call.0)
-          (sym (ap (enter_told_by N s ask) on ∙ ap (λ (y : RegistryValue). Some (record { at = at; lists = call_lists (enter_told y at name.id) })) bared)) outs.outputs)),
+              (skeleton_after v w call.0 call.3 ∙ ap (λ (y : RegistryValue). record s { registry = y; has_stack = true }) (outs.skeleton ∙ ap (λ (y : RegistryValue). with_entry y ask.lane name.id) (sym bared)) ∙ ap (λ (b : Bool). record s { registry = with_entry s.registry ask.lane name.id; has_stack = b }) (sym (ap is_some stack)) ∙ ap (entered s ask.lane) (sym on))
+              (outputs_after v w x call.0 (enter_told_by N s ask ask.span) outs.fates stack call.3
+              (subst (λ (t : Option (Told N)). StackFollows n line_of g takes t outs.fates x call.0)
+              (sym (ap (enter_told_by N s ask) on ∙ ap (λ (y : RegistryValue). Some (record { at = at; lists = call_lists (enter_told y at name.id) })) bared)) outs.outputs)),
           ready_after v w call.0 call.2 call.3,
         )
     enter_goes v (Some x) ask (Some name) reply w stack on ready none (Err error, goes, told) =
@@ -303,13 +297,12 @@ module _ {N E F S : Type 0} (n : Ghosts N) (line_of : E → Settings → PlainCo
         let kept = bare x.stack.registry in
         let bared : s.registry ≡ kept = ap (registry_in registry_of) stack in
         let call = called x (Exited name.id at) tt v w (subst (StackIsReady g h) stack ready) (subst (λ (o : Option Stack). CallGoesIn sg o v (Exited name.id at) tt w) stack goes) in
-        let outs = call.1 in
-        (
+        let outs = call.1 in (
           made v (ExitStep ask) reply w Unasked outs.fates none refl done
-          (skeleton_after v w call.0 call.3 ∙ ap (λ (y : RegistryValue). record s { registry = y; has_stack = true }) (outs.skeleton ∙ ap (λ (y : RegistryValue). swept (without_entry y ask.lane name.id)) (sym bared)) ∙ ap (λ (b : Bool). record s { registry = swept (without_entry s.registry ask.lane name.id); has_stack = b }) (sym (ap is_some stack)) ∙ ap (left s ask.lane) (sym on))
-          (outputs_after v w x call.0 (exit_told_by N s ask ask.span) outs.fates stack call.3
-          (subst (λ (t : Option (Told N)). StackFollows n line_of g takes t outs.fates x call.0)
-          (sym (ap (exit_told_by N s ask) on ∙ ap (λ (y : RegistryValue). Some (record { at = at; lists = call_lists (exit_told y at name.id) })) bared)) outs.outputs)),
+              (skeleton_after v w call.0 call.3 ∙ ap (λ (y : RegistryValue). record s { registry = y; has_stack = true }) (outs.skeleton ∙ ap (λ (y : RegistryValue). swept (without_entry y ask.lane name.id)) (sym bared)) ∙ ap (λ (b : Bool). record s { registry = swept (without_entry s.registry ask.lane name.id); has_stack = b }) (sym (ap is_some stack)) ∙ ap (left s ask.lane) (sym on))
+              (outputs_after v w x call.0 (exit_told_by N s ask ask.span) outs.fates stack call.3
+              (subst (λ (t : Option (Told N)). StackFollows n line_of g takes t outs.fates x call.0)
+              (sym (ap (exit_told_by N s ask) on ∙ ap (λ (y : RegistryValue). Some (record { at = at; lists = call_lists (exit_told y at name.id) })) bared)) outs.outputs)),
           ready_after v w call.0 call.2 call.3,
         )
 
@@ -325,11 +318,10 @@ module _ {N E F S : Type 0} (n : Ghosts N) (line_of : E → Settings → PlainCo
         let call = called x (Cloned name.id at) goes.0 v w (subst (StackIsReady g h) stack ready) (subst (λ (o : Option Stack). CallGoesIn sg o v (Cloned name.id at) goes.0 w) stack goes.1) in
         let opened = call_open s x.stack.registry ask name bared on (first_none (call_refusal s ask) (count_refusal s ask.span) none) in
         let free = clone_none s x.stack.registry name.id name.stack bared opened (ap (count_refusal s) (sym on) ∙ second_none (call_refusal s ask) (count_refusal s ask.span) none) in
-        let registry : call.0.stack.registry ≡ with_handle x.stack.registry name.id = ap (λ (p : Result ℕ RequestError × RegistryValue). p.1) call.1.0 ∙ ap (λ (o : Option RequestError). refusals.or_same o x.stack.registry (with_handle x.stack.registry name.id)) free in
-        (
+        let registry : call.0.stack.registry ≡ with_handle x.stack.registry name.id = ap (λ (p : Result ℕ RequestError × RegistryValue). p.1) call.1.0 ∙ ap (λ (o : Option RequestError). refusals.or_same o x.stack.registry (with_handle x.stack.registry name.id)) free in (
           made v (CloneStep ask) reply w Unasked [] none refl done
-          (skeleton_after v w call.0 call.3 ∙ ap (λ (y : RegistryValue). record s { registry = y; has_stack = true }) (ap bare registry ∙ handle_bare x.stack.registry name.id ∙ ap (λ (y : RegistryValue). with_handle y name.id) (sym bared)) ∙ ap (λ (b : Bool). record s { registry = with_handle s.registry name.id; has_stack = b }) (sym (ap is_some stack)) ∙ ap (cloned s) (sym on))
-          (outputs_after v w x call.0 None [] stack call.3 call.1.2),
+              (skeleton_after v w call.0 call.3 ∙ ap (λ (y : RegistryValue). record s { registry = y; has_stack = true }) (ap bare registry ∙ handle_bare x.stack.registry name.id ∙ ap (λ (y : RegistryValue). with_handle y name.id) (sym bared)) ∙ ap (λ (b : Bool). record s { registry = with_handle s.registry name.id; has_stack = b }) (sym (ap is_some stack)) ∙ ap (cloned s) (sym on))
+              (outputs_after v w x call.0 None [] stack call.3 call.1.2),
           ready_after v w call.0 call.2 call.3,
         )
 
@@ -346,14 +338,13 @@ module _ {N E F S : Type 0} (n : Ghosts N) (line_of : E → Settings → PlainCo
         let held = close_none s x.stack.registry name.id bared (ap (handle_refusal s) (sym on) ∙ second_none (call_refusal s ask) (handle_refusal s ask.span) none) in
         let closed = subst (λ (o : Option RequestError). CloseIf n line_of g takes o name.id at x goes.0 call.0) held call.1 in
         let outs = closed.1 in
-        let registry : bare call.0.stack.registry ≡ swept (without_handle s.registry name.id) = outs.skeleton ∙ ap (λ (y : RegistryValue). swept (without_handle y name.id)) (sym bared) in
-        (
+        let registry : bare call.0.stack.registry ≡ swept (without_handle s.registry name.id) = outs.skeleton ∙ ap (λ (y : RegistryValue). swept (without_handle y name.id)) (sym bared) in (
           made v (CloseStep ask) reply w Unasked outs.fates none refl
-          (goes.2 ∙ ap (λ (b : Bool). Closed b) (closed.0 ∙ ap not (sym (open_bare call.0.stack.registry.spans name.id) ∙ ap (λ (y : RegistryValue). is_open kin_in y.spans name.id) registry)) ∙ ap (λ (span : Option SpanName). Closed (is_closed s span)) (sym on))
-          (skeleton_after v w call.0 call.3 ∙ ap (λ (y : RegistryValue). record s { registry = y; has_stack = true }) registry ∙ ap (λ (b : Bool). record s { registry = swept (without_handle s.registry name.id); has_stack = b }) (sym (ap is_some stack)) ∙ ap (given_up s) (sym on))
-          (outputs_after v w x call.0 (close_told_by N s ask ask.span) outs.fates stack call.3
-          (subst (λ (t : Option (Told N)). StackFollows n line_of g takes t outs.fates x call.0)
-          (sym (ap (close_told_by N s ask) on ∙ ap (λ (y : RegistryValue). Some (record { at = at; lists = call_lists (close_told y at name.id) })) bared)) outs.outputs)),
+              (goes.2 ∙ ap (λ (b : Bool). Closed b) (closed.0 ∙ ap not (sym (open_bare call.0.stack.registry.spans name.id) ∙ ap (λ (y : RegistryValue). is_open kin_in y.spans name.id) registry)) ∙ ap (λ (span : Option SpanName). Closed (is_closed s span)) (sym on))
+              (skeleton_after v w call.0 call.3 ∙ ap (λ (y : RegistryValue). record s { registry = y; has_stack = true }) registry ∙ ap (λ (b : Bool). record s { registry = swept (without_handle s.registry name.id); has_stack = b }) (sym (ap is_some stack)) ∙ ap (given_up s) (sym on))
+              (outputs_after v w x call.0 (close_told_by N s ask ask.span) outs.fates stack call.3
+              (subst (λ (t : Option (Told N)). StackFollows n line_of g takes t outs.fates x call.0)
+              (sym (ap (close_told_by N s ask) on ∙ ap (λ (y : RegistryValue). Some (record { at = at; lists = call_lists (close_told y at name.id) })) bared)) outs.outputs)),
           ready_after v w call.0 call.2 call.3,
         )
 

@@ -7,9 +7,7 @@ use event_formatter_layer::Layer;
 use event_formatter_text::FormatFields;
 use span_registry_layers_layers::Filter;
 use span_tracing_outputs::{LineSink, PendingLines, TraceStack, trace_follows};
-use span_tracing_sinks::{
-    RollingSink, each_sink_has_its_run, lines_stand_in_files, runs_compose,
-};
+use span_tracing_sinks::{RollingSink, each_sink_has_its_run, lines_stand_in_files, runs_compose};
 use tracing_appender_rolling::Folder;
 use tracing_core_requests::Subscriber;
 
