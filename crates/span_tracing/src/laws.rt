@@ -1,13 +1,16 @@
-//! A level as the filter of a trace's stack.
+//! Filters by level.
+ghost use Rattle.std.specs.Prelude.{List};
+ghost use Rattle.tracing_core_requests.specs.Lists.{Every};
+ghost use Rattle.span_registry_layers_layers.specs.declared.filtered.Filtered.{Filtered};
+ghost use Rattle.span_registry_layers_stack.specs.declared.output.Output.{Output};
 
-ghost use Rattle.span_tracing.specs.Laws.{GivesLevelMasks, StaysLevel};
+use span_registry_layers_layers::{Filter, Layer};
+use tracing_core_fields::LevelFilter;
 
-use span_registry_layers::Filter;
-use tracing_core::LevelFilter;
-
-/// Where the stack's filter is a level, a step's mask is the one that the plain machine computes from the
-/// level, and each step leaves the level as it is.
-pub fn levels_give_masks()
-    ensures masks { GivesLevelMasks ⟦<LevelFilter as Filter>⟧ }
-    ensures stays { StaysLevel ⟦<LevelFilter as Filter>⟧ }
+/// Levels are honest filters, so that what a stack of outputs under levels keeps of its filters' answers is right, and a
+/// trace takes it.
+#[tactic(auto, using(crate::proofs::Levels::every_of_all))]
+pub fn levels_are_honest<L: Layer>()
+    ensures { (outputs : List (Output (Filtered L LevelFilter))) →
+        Every (λ (o : Output (Filtered L LevelFilter)). ⟦<LevelFilter as Filter>⟧.honest o.output.filter) outputs }
 {}

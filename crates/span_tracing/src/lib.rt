@@ -1,39 +1,37 @@
 //! From calls of events and spans to lines in log files.
 #![tactic(auto)]
 
-mod action;
-mod callsite;
-mod checks;
-mod entries;
-mod hand;
-mod hub_callsite;
 mod laws;
-mod output;
-mod parts;
-mod requests;
-mod run;
-mod setup;
-mod sink;
-mod stacks;
-mod state;
-mod steps;
-mod trace;
 
-pub use laws::levels_give_masks;
-pub use output::{Output, OutputRefusal, Route, SinkSpec};
-pub use setup::StackRefusal;
-pub use span_registry_layers::OutputKey;
-pub use span_tracing_machine::{
+pub use event_formatter_formats::{
+    Compact, Fields, Format, Full, Json, LineFormat, Pretty, Timer,
+};
+pub use event_formatter_layer::Layer;
+pub use event_formatter_lines::FmtSpan;
+pub use event_formatter_times::{FixedText, SystemTime, Uptime};
+pub use laws::levels_are_honest;
+pub use span_registry_layers_layers::{Filter, Filtered};
+pub use span_registry_layers_stack::{Output, Stack, StackError, StackRefusal};
+pub use span_registry_layers_store::OutputKey;
+pub use span_tracing_outputs::{LineSink, PendingLines, TraceStack, UnpairedSinks, trace_starts};
+pub use span_tracing_runs::{files_follow, runs_follow, setup_follows, steps_follow};
+pub use span_tracing_sinks::{
+    RollingSink, drops_are_counted, lines_reach_files, lines_stand_in_files, runs_are_told,
+};
+pub use span_tracing_skeleton::{
     EnabledCall, EventCall, FollowsCall, NewSpanCall, Parent, RecordCall, Refusal, Reply, SpanCall,
     SpanName, Step,
 };
-pub use span_tracing_stack::{Fields, LineFormat, Timer};
-pub use trace::Trace;
-pub use tracing_appender_rolling::{
-    Builder, Entry, FileEntry, FileNumber, Folder, FolderError, FolderFault, MemoryFolder, Moment,
-    Rotation,
+pub use span_tracing_trace::Trace;
+pub use tracing_appender_folders::{
+    Entry, FileEntry, FileNumber, Folder, FolderError, FolderFault, MemoryFolder, Moment,
 };
-pub use tracing_core::{FieldValue, OwnedValue};
+pub use tracing_appender_rolling::{
+    BuildError, BuildRefusal, Builder, RollingFileAppender, Rotation,
+};
+pub use tracing_core_fields::{FieldValue, OwnedValue};
 
-#[cfg(test)]
-mod tests;
+/// A stack whose outputs have lines of any format, under filters `F`, and whose lines go to rolling files in
+/// folders `D`.
+pub type FileStack<F, D> = TraceStack<Fields, Format<LineFormat, Timer>, F, RollingSink<D>>;
+
