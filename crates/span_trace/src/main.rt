@@ -8,9 +8,8 @@ mod read;
 mod run;
 mod script;
 mod setup;
-mod today;
+mod stack;
 
-pub use output::{OutputLayer, layer_of};
 pub use program::main_with;
 
 #[cfg(test)]

@@ -3,13 +3,12 @@
 use event_formatter::{
     Fields, FixedText, FmtSpan, Format, Json, Layer, LineFormat, Pretty, SystemTime, Timer,
 };
-use span_registry_layers::OutputKey;
 use span_trace_lines::{FormatName, OutputLine, SpanEvent, TimeLine};
-use span_tracing_outputs::PendingLines;
+use span_tracing::{OutputKey, PendingLines};
 use std::alloc::{AllocError, Global};
 
 /// The layer of an output of any format.
-pub type OutputLayer = Layer<Fields, Format<LineFormat, Timer>, PendingLines>;
+pub(crate) type OutputLayer = Layer<Fields, Format<LineFormat, Timer>, PendingLines>;
 
 /// The layer that writes the lines of the output. It shows no threads, and no styles; the place in the source
 /// stands in the pretty format alone.
@@ -17,7 +16,7 @@ pub type OutputLayer = Layer<Fields, Format<LineFormat, Timer>, PendingLines>;
 /// # Errors
 ///
 /// Want of memory for the text of the time.
-pub fn layer_of(alloc: Global, line: &OutputLine) -> Result<OutputLayer, AllocError> {
+pub(crate) fn layer_of(alloc: Global, line: &OutputLine) -> Result<OutputLayer, AllocError> {
     let plain = Layer::new(alloc, OutputKey(line.key), PendingLines::new(alloc));
     let timed = match &line.time {
         TimeLine::System => plain.with_timer(Timer::System(SystemTime::new())),

@@ -8,17 +8,17 @@ use crate::read::Input;
 use crate::run::run_steps;
 use crate::script::Script;
 use crate::setup::Stage;
+use crate::stack::MemoryStack;
 use span_trace_lines::{PrintFault, write_files, write_replies};
-use span_tracing::{MemoryFolder, Reply, Trace};
+use span_tracing::{Reply, Trace};
 use std::alloc::Global;
 use std::io::{Read, Write};
-use tracing_core::LevelFilter;
 
 /// A trace whose steps have run, with the replies.
 #[derive(Drop)]
 struct Answer {
     replies: Vec<Reply>,
-    trace: Trace<MemoryFolder, LevelFilter>,
+    trace: Trace<MemoryStack>,
     folders: Vec<String>,
 }
 
@@ -31,9 +31,9 @@ impl Answer {
 
     fn write<W: Write>(&self, alloc: Global, output: &mut W) -> Result<(), PrintFault> {
         write_replies(alloc, self.replies.as_slice(), output)?;
-        for (sink, name) in self.folders.iter().enumerate() {
-            if let Some(folder) = self.trace.folder(sink) {
-                write_files(alloc, name.as_str(), folder, output)?;
+        if let Some(stack) = self.trace.stack() {
+            for (sink, name) in stack.sinks().iter().zip(self.folders.iter()) {
+                write_files(alloc, name.as_str(), sink.appender().folder(), output)?;
             }
         }
         Ok(())

@@ -1,9 +1,9 @@
 //! The steps of a script, run on a trace.
 
+use crate::stack::MemoryStack;
 use span_trace_lines::{CallsiteLine, NamedValue, RecordLine, StepLine};
-use span_tracing::{FieldValue, MemoryFolder, RecordCall, Reply, SpanName, Step, Trace};
+use span_tracing::{FieldValue, RecordCall, Reply, SpanName, Step, Trace};
 use std::alloc::{AllocError, Global};
-use tracing_core::LevelFilter;
 
 /// The replies so far, and which callsite each span is of.
 #[derive(Debug, Drop)]
@@ -18,7 +18,7 @@ impl Replies {
     /// Runs the steps, which are then done.
     fn run(
         &mut self,
-        trace: &mut Trace<MemoryFolder, LevelFilter>,
+        trace: &mut Trace<MemoryStack>,
         steps: &mut Vec<Step>,
     ) -> Result<(), AllocError> {
         let replies = trace.run(steps.as_slice())?;
@@ -42,7 +42,7 @@ impl Replies {
 /// Runs the steps in order. Before a record those so far are run, since their replies tell the callsite of its span.
 pub(crate) fn run_steps(
     alloc: Global,
-    trace: &mut Trace<MemoryFolder, LevelFilter>,
+    trace: &mut Trace<MemoryStack>,
     callsites: &[CallsiteLine],
     lines: Vec<StepLine>,
 ) -> Result<Vec<Reply>, AllocError> {

@@ -2,7 +2,6 @@
 
 use crate::fault::{Fault, Stop};
 use crate::read::Input;
-use crate::today::can_do;
 use span_trace_lines::{Line, LineFault, Setup, StepLine, decode_line};
 use std::alloc::Global;
 
@@ -47,9 +46,6 @@ impl Script {
 
     fn add(&mut self, alloc: Global, bytes: &[u8]) -> Result<(), LineFault> {
         let line = decode_line(alloc, self.setup.as_slice(), bytes)?;
-        if !can_do(&line) {
-            return Err(LineFault::NotReadable);
-        }
         match line {
             Line::Setup(setup) => {
                 if !self.steps.is_empty() || self.has_stack_already(&setup) {

@@ -1,20 +1,16 @@
 //! The setup calls of a script, made on a new trace.
 
-ghost use Rattle.std.specs.Prelude.{◌≤◌, IfOk, vec_len};
-
 use crate::fault::{Fault, Stop};
-use crate::today::format_of;
-use span_trace_lines::{CallsiteLine, LaneLine, LineFault, OutputLine, Setup, SinkLine, StackLine};
-use span_tracing::{
-    Builder, MemoryFolder, Output, OutputKey, Refusal, Rotation, Route, SinkSpec, Trace,
-};
+use crate::stack::{MemoryStack, output_of, stack_of};
+use span_trace_lines::{CallsiteLine, LaneLine, LineFault, Setup, StackLine};
+use span_tracing::{Refusal, Trace};
 use std::alloc::{AllocError, Global};
-use tracing_core::{FieldSet, Identifier, LevelFilter, Metadata};
+use tracing_core::{FieldSet, Identifier, Metadata};
 
 /// A trace that is set up, its callsites' lines, and for each sink the name under which its files are shown.
 #[derive(Drop)]
 pub(crate) struct Stage {
-    pub(crate) trace: Trace<MemoryFolder, LevelFilter>,
+    pub(crate) trace: Trace<MemoryStack>,
     pub(crate) callsites: Vec<CallsiteLine>,
     pub(crate) folders: Vec<String>,
 }
@@ -45,80 +41,27 @@ impl Stage {
         match call {
             Setup::Stack(line) => self.add_stack(alloc, line),
             Setup::Callsite(line) => self.add_callsite(alloc, line),
-            Setup::Lane(line) => self.add_lane(&line).map_err(Fault::Refused),
+            Setup::Lane(line) => self.add_lane(line).map_err(Fault::Refused),
         }
     }
 
-    /// The trace as it is today takes one output of one sink.
     fn add_stack(&mut self, alloc: Global, line: StackLine) -> Result<(), Fault> {
-        let StackLine {
-            moment,
-            mut outputs,
-        } = line;
-        let made = match outputs.pop() {
-            None => None,
-            Some(output) => Some(self.make_output(alloc, output).map_err(Fault::Refused)?),
-        };
-        let outputs = list_of(alloc, made).map_err(refused_memory)?;
+        let mut outputs = Vec::new(alloc);
+        let mut builders = Vec::new(alloc);
+        for output in line.outputs {
+            let made = output_of(alloc, output).map_err(Fault::Refused)?;
+            self.folders.push(made.folder)?;
+            outputs.push(made.output)?;
+            builders.push(made.builder)?;
+        }
+        let stack = stack_of(alloc, outputs, builders, line.moment).map_err(Fault::Refused)?;
         if self.trace.has_stack() {
             return Err(Fault::Unread(LineFault::NotReadable));
         }
-        match self.trace.add_stack(outputs, moment) {
+        match self.trace.add_stack(stack) {
             Ok(_) => Ok(()),
-            Err(refused) => Err(Fault::Refused(refused.refusal)),
+            Err(_) => Err(Fault::Refused(Refusal::OutOfMemory)),
         }
-    }
-
-    fn make_output(
-        &mut self,
-        alloc: Global,
-        line: OutputLine,
-    ) -> Result<Output<MemoryFolder, LevelFilter>, Refusal> {
-        let OutputLine {
-            key,
-            filter,
-            route,
-            time,
-            mut sinks,
-            ..
-        } = line;
-        let spec = match sinks.pop() {
-            None => None,
-            Some(line) => Some(self.make_sink(alloc, line).or(Err(Refusal::OutOfMemory))?),
-        };
-        let sinks = list_of(alloc, spec).or(Err(Refusal::OutOfMemory))?;
-        match Output::new(
-            alloc,
-            filter,
-            format_of(time),
-            Route::Sink(route),
-            sinks,
-            OutputKey(key),
-        ) {
-            Ok(output) => Ok(output),
-            Err(refused) => Err(refused.refusal),
-        }
-    }
-
-    fn make_sink(
-        &mut self,
-        alloc: Global,
-        line: SinkLine,
-    ) -> Result<SinkSpec<MemoryFolder>, AllocError> {
-        let SinkLine {
-            folder,
-            prefix,
-            suffix,
-        } = line;
-        self.folders.push(folder)?;
-        let mut builder = Builder::new().rotation(Rotation::DAILY);
-        if let Some(text) = prefix {
-            builder = builder.filename_prefix(text);
-        }
-        if let Some(text) = suffix {
-            builder = builder.filename_suffix(text);
-        }
-        Ok(SinkSpec::Direct(builder, MemoryFolder::new(alloc)))
     }
 
     fn add_callsite(&mut self, alloc: Global, line: CallsiteLine) -> Result<(), Fault> {
@@ -145,27 +88,12 @@ impl Stage {
         }
     }
 
-    fn add_lane(&mut self, line: &LaneLine) -> Result<(), Refusal> {
-        match self.trace.thread(text_of(&line.name), line.thread) {
+    fn add_lane(&mut self, line: LaneLine) -> Result<(), Refusal> {
+        match self.trace.thread(line.name, line.thread) {
             Ok(_) => Ok(()),
             Err(_) => Err(Refusal::OutOfMemory),
         }
     }
-}
-
-fn refused_memory(_: AllocError) -> Fault {
-    Fault::Refused(Refusal::OutOfMemory)
-}
-
-/// A list of the item, or an empty one.
-fn list_of<T: Drop>(alloc: Global, item: Option<T>) -> Result<Vec<T>, AllocError>
-    ensures { IfOk result (λ list. vec_len list ≤ 1) }
-{
-    let mut list = Vec::new(alloc);
-    if let Some(value) = item {
-        list.push(value)?;
-    }
-    Ok(list)
 }
 
 fn text_of(text: &Option<String>) -> Option<&str> {

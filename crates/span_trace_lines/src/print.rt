@@ -6,7 +6,7 @@ ghost use Rattle.serde_json.specs.View.{view};
 ghost use Rattle.serde_json.specs.Written.{has_float, compact_text};
 
 use serde_json::{Value as Json, json};
-use span_tracing_machine::Reply;
+use span_tracing_skeleton::Reply;
 use std::alloc::{AllocError, Global};
 use std::io::Write;
 use tracing_appender_rolling::{FileEntry, MemoryFolder};

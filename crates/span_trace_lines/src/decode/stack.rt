@@ -159,6 +159,10 @@ fn span_event(value: &Json) -> Result<SpanEvent, LineFault> {
 }
 
 fn sink_lines(alloc: Global, list: &[Json]) -> Result<Vec<SinkLine>, LineFault> {
+    // The trace gives an output one sink.
+    if list.len() > 1 {
+        return Err(LineFault::NotReadable);
+    }
     let mut sinks = Vec::new(alloc);
     for value in list {
         sinks.push(sink_line(alloc, Members::of(value)?)?)?;

@@ -4,7 +4,7 @@ use crate::decode::members::{Members, owned_text, pair};
 use crate::decode::setup::{CallsiteLine, Setup};
 use crate::fault::LineFault;
 use serde_json::Value as Json;
-use span_tracing_machine::{
+use span_tracing_skeleton::{
     EnabledCall, EventCall, FollowsCall, NewSpanCall, Parent, SpanCall, SpanName, Step,
 };
 use std::alloc::Global;
