@@ -1,9 +1,11 @@
-//! Filters by level.
+//! Laws over what a trace does.
 ghost use Rattle.std.specs.Prelude.{List};
 ghost use Rattle.tracing_core_requests.specs.Lists.{Every};
+ghost use Rattle.span_tracing.specs.Alone.{OutputsGoAlone};
 ghost use Rattle.span_registry_layers_layers.specs.declared.filtered.Filtered.{Filtered};
 ghost use Rattle.span_registry_layers_stack.specs.declared.output.Output.{Output};
 
+use event_formatter_text::FormatFields;
 use span_registry_layers_layers::{Filter, Layer};
 use tracing_core_fields::LevelFilter;
 
@@ -13,4 +15,12 @@ use tracing_core_fields::LevelFilter;
 pub fn levels_are_honest<L: Layer>()
     ensures { (outputs : List (Output (Filtered L LevelFilter))) →
         Every (λ (o : Output (Filtered L LevelFilter)). ⟦<LevelFilter as Filter>⟧.honest o.output.filter) outputs }
+{}
+
+/// Each output goes its own way: two runs of the same steps with the same answers of the filters leave an output's machine the
+/// same, and it offers the same lines to its sink, whatever the other outputs are, and whatever becomes of their texts and
+/// lines.
+#[tactic(auto, using(crate::proofs::Alone::outputs_go_alone))]
+pub fn outputs_go_alone<N: FormatFields>()
+    ensures { OutputsGoAlone ⟦<N as FormatFields>⟧ }
 {}
