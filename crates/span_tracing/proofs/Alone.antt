@@ -193,9 +193,10 @@ module _ {N : Type 0} (n : Ghosts N) (place : ℕ) where
 
   went : (s : Skeleton) (outs others : List (Numbered N)) (step : PlainStep) (a : Answers) (fates other_fates : Fates) → slice_get outs place ≡ slice_get others place → list_at fates place ≡ list_at other_fates place →
       TurnsAlike (record { skeleton = s; outs = outs }) (record { skeleton = s; outs = others }) (Went step a fates) (Went step a other_fates)
-  went s outs others step a fates other_fates same fated =
-      (record { skeleton = refl; out = outs_alike n place outs others fates other_fates same fated (told_of N s step a) (told_is_local place s step a) },
-      lines_alike n place outs others fates other_fates same fated (told_of N s step a) (told_is_local place s step a))
+  went s outs others step a fates other_fates same fated = (
+    record { skeleton = refl; out = outs_alike n place outs others fates other_fates same fated (told_of N s step a) (told_is_local place s step a) },
+    lines_alike n place outs others fates other_fates same fated (told_of N s step a) (told_is_local place s step a),
+  )
 
   turn_alike : (p q : Plain N) (t u : Turn) → AreAlikeAt place p q → GoAlikeAt place t u → TurnsAlike p q t u
   turn_alike p q (Went step a fates) (Went other b others) alike (same_step, same_answers, fated) =
@@ -214,12 +215,13 @@ module _ {N : Type 0} (n : Ghosts N) (place : ℕ) where
   alone p q (t ∷ ts) [] alike all = absurd all
   alone p q (t ∷ ts) (u ∷ us) alike (first, later) =
       let next = turn_alike p q t u alike first in
-      let rest = alone (plain_after n p t) (plain_after n q u) ts us next.0 later in
-      (rest.0,
-      joined_at (turn_lines n p t) (lines_of n (plain_after n p t) ts) place
-      ∙ ap (λ xs. both xs (slice_get (lines_of n (plain_after n p t) ts) place)) next.1
-      ∙ ap (both (slice_get (turn_lines n q u) place)) rest.1
-      ∙ sym (joined_at (turn_lines n q u) (lines_of n (plain_after n q u) us) place))
+      let rest = alone (plain_after n p t) (plain_after n q u) ts us next.0 later in (
+        rest.0,
+        joined_at (turn_lines n p t) (lines_of n (plain_after n p t) ts) place
+            ∙ ap (λ xs. both xs (slice_get (lines_of n (plain_after n p t) ts) place)) next.1
+            ∙ ap (both (slice_get (turn_lines n q u) place)) rest.1
+            ∙ sym (joined_at (turn_lines n q u) (lines_of n (plain_after n q u) us) place),
+      )
 
 pub outputs_go_alone : {N : Type 0} (n : Ghosts N) → OutputsGoAlone n
 outputs_go_alone n place p q ts us alike all = alone n place p q ts us alike all

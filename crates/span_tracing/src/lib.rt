@@ -3,9 +3,7 @@
 
 mod laws;
 
-pub use event_formatter_formats::{
-    Compact, Fields, Format, Full, Json, LineFormat, Pretty, Timer,
-};
+pub use event_formatter_formats::{Compact, Fields, Format, Full, Json, LineFormat, Pretty, Timer};
 pub use event_formatter_layer::Layer;
 pub use event_formatter_lines::FmtSpan;
 pub use event_formatter_times::{FixedText, SystemTime, Uptime};
@@ -35,3 +33,5 @@ pub use tracing_core_fields::{FieldValue, OwnedValue};
 /// folders `D`.
 pub type FileStack<F, D> = TraceStack<Fields, Format<LineFormat, Timer>, F, RollingSink<D>>;
 
+#[cfg(test)]
+mod tests;

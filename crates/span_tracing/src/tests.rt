@@ -1,0 +1,4 @@
+//! Random runs over four outputs, beside a slow model of them.
+
+mod model;
+mod random;
