@@ -186,10 +186,17 @@ class Gate:
         self.failed += [] if is_well else [label]
 
     def write_ledger(self):
-        """Writes the ledger: what was refused in this run, what rests on the ledger still, and what it had of crates whose edits weren't looked at."""
-        left_out = {it: its for it, its in self.known.items() if it.partition("/")[0] not in self.seen}
+        """Writes the ledger: what was refused in this run, what rests on the ledger still, and what it had of crates whose edits weren't looked at, as
+        far as there are such files."""
+        left_out = {it: its for it, its in self.known.items() if it.partition("/")[0] not in self.seen and os.path.isfile(edit_file(it))}
         rests = {it: its for it, its in self.sums.items() if it not in self.failed and self.known.get(it) == its}
         ledger.write(f"{self.top}/{LEDGER}", {**left_out, **rests, **{it: self.sums[it] for it in self.refused}})
+
+
+def edit_file(label):
+    """Returns where the edit CRATE/EDIT stands."""
+    crate, _, edit = label.partition("/")
+    return f"crates/{crate}/must-fail/{edit}"
 
 
 def seed(top):

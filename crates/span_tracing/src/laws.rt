@@ -2,11 +2,14 @@
 ghost use Rattle.std.specs.Prelude.{List};
 ghost use Rattle.tracing_core_requests.specs.Lists.{Every};
 ghost use Rattle.span_tracing.specs.Alone.{OutputsGoAlone};
+ghost use Rattle.span_tracing.specs.Levels.{LevelsAnswer};
 ghost use Rattle.span_registry_layers_layers.specs.declared.filtered.Filtered.{Filtered};
 ghost use Rattle.span_registry_layers_stack.specs.declared.output.Output.{Output};
 
+use event_formatter_formats::FormatEvent;
 use event_formatter_text::FormatFields;
 use span_registry_layers_layers::{Filter, Layer};
+use span_tracing_outputs::PendingLines;
 use tracing_core_fields::LevelFilter;
 
 /// Levels are honest filters, so that what a stack of outputs under levels keeps of its filters' answers is right, and a
@@ -23,4 +26,12 @@ pub fn levels_are_honest<L: Layer>()
 #[tactic(auto, using(crate::proofs::Alone::outputs_go_alone))]
 pub fn outputs_go_alone<N: FormatFields>()
     ensures { OutputsGoAlone ⟦<N as FormatFields>⟧ }
+{}
+
+/// Where the filters are levels, what they answer of a step is read off the levels and the callsite, and a level stays as it
+/// is whatever its output is told. So a run's replies and lines follow from the levels by reading alone.
+#[tactic(auto, using(crate::proofs::Answers::levels_answer))]
+pub fn levels_give_masks<N: FormatFields + Drop, E: FormatEvent, S>()
+    ensures { LevelsAnswer S ⟦<N as FormatFields>⟧ E.line_of ⟦<LevelFilter as Filter>⟧
+        ⟦<event_formatter_layer::Layer<N, E, PendingLines> as Layer>⟧ }
 {}

@@ -7,7 +7,7 @@ pub use event_formatter_formats::{Compact, Fields, Format, Full, Json, LineForma
 pub use event_formatter_layer::Layer;
 pub use event_formatter_lines::FmtSpan;
 pub use event_formatter_times::{FixedText, SystemTime, Uptime};
-pub use laws::{levels_are_honest, outputs_go_alone};
+pub use laws::{levels_are_honest, levels_give_masks, outputs_go_alone};
 pub use span_registry_layers_layers::{Filter, Filtered};
 pub use span_registry_layers_stack::{Output, Stack, StackError, StackRefusal};
 pub use span_registry_layers_store::OutputKey;

@@ -1,4 +1,5 @@
-//! Random runs over four outputs, beside a slow model of them.
+//! One output, and random runs over four outputs beside a slow model of them.
 
 mod model;
 mod random;
+mod single;
