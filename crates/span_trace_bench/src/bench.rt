@@ -16,6 +16,10 @@ pub enum Bench {
     DirectMemory,
     /// Events in a span, to a folder of the system.
     DirectFile,
+    /// Events in a span, through two outputs in the full format, each to a folder that only counts.
+    TwoOutputs,
+    /// Events in a span, in JSON, to a folder that only counts.
+    JsonMemory,
     /// Events of a callsite in which nobody is interested.
     Never,
     /// Events of a callsite that the filter refuses.
@@ -41,8 +45,10 @@ pub enum Bench {
 }
 
 /// The benches that need no folder of the system.
-pub(crate) const IN_MEMORY: [Bench; 12] = [
+pub(crate) const IN_MEMORY: [Bench; 14] = [
     Bench::DirectMemory,
+    Bench::TwoOutputs,
+    Bench::JsonMemory,
     Bench::Never,
     Bench::Refused,
     Bench::Depth64,
@@ -64,6 +70,8 @@ impl Bench {
         match name {
             "direct_memory" => Some(Bench::DirectMemory),
             "direct_file" => Some(Bench::DirectFile),
+            "two_outputs" => Some(Bench::TwoOutputs),
+            "json_memory" => Some(Bench::JsonMemory),
             "never" => Some(Bench::Never),
             "refused" => Some(Bench::Refused),
             "depth64" => Some(Bench::Depth64),
@@ -86,6 +94,8 @@ impl Bench {
         match self {
             Bench::DirectMemory => "direct_memory",
             Bench::DirectFile => "direct_file",
+            Bench::TwoOutputs => "two_outputs",
+            Bench::JsonMemory => "json_memory",
             Bench::Never => "never",
             Bench::Refused => "refused",
             Bench::Depth64 => "depth64",
@@ -108,6 +118,22 @@ impl Bench {
             Bench::FormatPretty => Some(LineFormat::Pretty(Pretty::new())),
             Bench::FormatJson => Some(LineFormat::Json(Json::new())),
             _ => None,
+        }
+    }
+
+    /// The format of a trace's lines.
+    pub(crate) fn trace_format(self) -> LineFormat {
+        match self {
+            Bench::JsonMemory => LineFormat::Json(Json::new()),
+            _ => LineFormat::Full,
+        }
+    }
+
+    /// How many outputs a trace has.
+    pub(crate) fn output_count(self) -> u64 {
+        match self {
+            Bench::TwoOutputs => 2,
+            _ => 1,
         }
     }
 

@@ -3,7 +3,7 @@
 ghost use Rattle.std.specs.Prelude.{◌≡◌, ◌≤◌};
 
 use span_tracing::Refusal;
-use std::alloc::AllocError;
+use std::alloc::{AllocError, AllocFailed};
 use std::io::{Error, Write};
 
 /// Why the program ends without a time.
@@ -22,6 +22,12 @@ pub(crate) enum Fault {
 
 impl From<AllocError> for Fault {
     fn from(_: AllocError) -> Fault {
+        Fault::OutOfMemory
+    }
+}
+
+impl<T: Drop> From<AllocFailed<T>> for Fault {
+    fn from(_: AllocFailed<T>) -> Fault {
         Fault::OutOfMemory
     }
 }

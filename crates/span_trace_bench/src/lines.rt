@@ -54,7 +54,7 @@ fn place(i: u64) -> At {
 }
 
 /// The field formatter that goes with the format.
-fn fields_of(shape: LineFormat) -> Fields {
+pub(crate) fn fields_of(shape: LineFormat) -> Fields {
     match shape {
         LineFormat::Pretty(_) => Fields::Pretty,
         LineFormat::Json(_) => Fields::Json,

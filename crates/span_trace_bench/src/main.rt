@@ -6,6 +6,7 @@ mod counting;
 mod fault;
 mod lines;
 mod program;
+mod stack;
 mod stage;
 
 pub use bench::Bench;

@@ -34,16 +34,25 @@ fn parts_of(path: &str) -> (&str, &str) {
     }
 }
 
+/// A folder that only counts for each output of the bench.
+fn counting_folders(alloc: Global, bench: Bench) -> Result<Vec<CountingFolder>, Fault> {
+    let mut folders = Vec::new(alloc);
+    for _ in 0..bench.output_count() {
+        folders.push(CountingFolder::new(alloc))?;
+    }
+    Ok(folders)
+}
+
 /// The nanoseconds that a bench's calls take.
 fn time_over<R: Clock, D: Folder>(
     rt: &R,
     alloc: Global,
     bench: Bench,
     count: u64,
-    folder: D,
+    folders: Vec<D>,
     prefix: &str,
 ) -> Result<u128, Fault> {
-    let mut stage = Stage::new(alloc, folder, prefix)?;
+    let mut stage = Stage::new(alloc, bench.trace_format(), folders, prefix)?;
     bench.prepare(&mut stage, MANY)?;
     let start = Instant::now(rt)?;
     bench.run(&mut stage, count)?;
@@ -74,13 +83,14 @@ fn write_time<R: Files + Clock + AllocGlobal + Clone + Drop, W: Write>(
     let alloc = rt.alloc();
     let (path, prefix) = parts_of(file);
     let nanoseconds = if bench == Bench::DirectFile {
-        let folder = DiskFolder::new(rt.clone()?, String::from_str(alloc, path)?);
-        time_over(rt, alloc, bench, count, folder, prefix)?
+        let mut folders = Vec::new(alloc);
+        folders.push(DiskFolder::new(rt.clone()?, String::from_str(alloc, path)?))?;
+        time_over(rt, alloc, bench, count, folders, prefix)?
     } else if let Some(shape) = bench.line_format() {
         time_lines(rt, alloc, shape, count)?
     } else {
-        let folder = CountingFolder::new(alloc);
-        time_over(rt, alloc, bench, count, folder, prefix)?
+        let folders = counting_folders(alloc, bench)?;
+        time_over(rt, alloc, bench, count, folders, prefix)?
     };
     let name = bench.name();
     writeln!(output, "{name} {count} {nanoseconds} {nanoseconds}")?;
@@ -90,16 +100,14 @@ fn write_time<R: Files + Clock + AllocGlobal + Clone + Drop, W: Write>(
 /// Makes a bench's calls a few times, and writes its name, the bytes and the lines that were handed over, and how many
 /// spans were made.
 fn write_sum<W: Write>(alloc: Global, bench: Bench, output: &mut W) -> Result<(), Fault> {
-    let folder = CountingFolder::new(alloc);
-    let mut stage = Stage::new(alloc, folder, "sums")?;
+    let folders = counting_folders(alloc, bench)?;
+    let mut stage = Stage::new(alloc, bench.trace_format(), folders, "sums")?;
     bench.prepare(&mut stage, FEW)?;
     bench.run(&mut stage, SMALL)?;
-    let Some(counted) = stage.trace.folder(0) else {
-        return Err(Fault::OddReply);
-    };
+    let counted = stage.counted()?;
     let name = bench.name();
     let bytes = counted.bytes;
-    let lines = counted.writes;
+    let lines = counted.lines;
     let spans = stage.spans;
     writeln!(output, "{name} {bytes} {lines} {spans}")?;
     Ok(())

@@ -1,13 +1,15 @@
 //! A trace whose calls are timed.
 
-ghost use Rattle.std.specs.Prelude.{◌≤◌, IfOk, vec_len};
+ghost use Rattle.span_registry_layers_stack.specs.CacheValidity.{CacheIsValid};
 
+use crate::counting::CountingFolder;
 use crate::fault::Fault;
+use crate::lines::Counter;
+use crate::stack::{LevelStack, OPENED, stack_over};
 use span_tracing::{
-    Builder, FieldValue, Fields, Folder, LineFormat, Moment, Output, OutputKey, OwnedValue, Parent,
-    Reply, Rotation, Route, SinkSpec, SpanName, Timer, Trace,
+    FieldValue, Filter, Folder, LineFormat, Moment, OwnedValue, Parent, Reply, SpanName, Trace,
 };
-use std::alloc::{AllocError, Global};
+use std::alloc::Global;
 use tracing_core::{FieldSet, Identifier, Kind, Level, LevelFilter, Metadata};
 
 /// Makes spans `outer` with a field `x`.
@@ -28,19 +30,10 @@ const EVENT_FIELDS: [&str; 2] = ["message", "n"];
 
 const LANE: usize = 0;
 
-/// 2025-02-17T10:01:00Z.
-const OPENED: Moment = Moment {
-    seconds: 1_739_786_460,
-    nanoseconds: 0,
-};
-
-/// What stands before the spans of each line. Only the fraction of the moment moves, and lines don't show it yet.
-const TIME: &str = "2025-02-17T10:01:00.000000Z  INFO";
-
-/// A trace with one output, the values of its requests, and how many spans it made.
+/// A trace, the values of its requests, and how many spans it made.
 #[derive(Drop)]
-pub(crate) struct Stage<D> {
-    pub(crate) trace: Trace<D, LevelFilter>,
+pub(crate) struct Stage<D: Folder> {
+    trace: Trace<LevelStack<D>>,
     event_values: [FieldValue; 2],
     span_values: [FieldValue; 1],
     pub(crate) spans: u64,
@@ -89,39 +82,14 @@ fn metadata<'a>(
     Metadata::new(name, "app", level, None, None, None, fields, kind)
 }
 
-/// The output of the folder, whose files begin with the prefix.
-fn outputs_over<D: Folder>(
-    alloc: Global,
-    folder: D,
-    prefix: &str,
-) -> Result<Vec<Output<D, LevelFilter>>, Fault>
-    ensures { IfOk result (λ outputs. vec_len outputs ≤ 1) }
-{
-    let timer = Timer::FixedText(String::from_str(alloc, TIME)?);
-    let builder = Builder::new()
-        .rotation(Rotation::DAILY)
-        .filename_prefix(String::from_str(alloc, prefix)?);
-    let mut sinks = Vec::with_capacity(alloc, 1)?;
-    sinks.push_reserved(SinkSpec::Direct(builder, folder));
-    let mut outputs = Vec::with_capacity(alloc, 1)?;
-    let format = LineFormat::full(timer, Fields::Default);
-    match Output::new(
-        alloc,
-        LevelFilter::INFO,
-        format,
-        Route::Sink(0),
-        sinks,
-        OutputKey(0),
-    ) {
-        Ok(output) => outputs.push_reserved(output),
-        Err(refused) => return Err(Fault::Refused(refused.refusal)),
-    }
-    Ok(outputs)
-}
-
 impl<D: Folder> Stage<D> {
-    /// A trace with one lane that reaches one output into the folder, all levels to INFO.
-    pub(crate) fn new(alloc: Global, folder: D, prefix: &str) -> Result<Stage<D>, Fault> {
+    /// A trace with one lane that reaches an output into each folder, in this format, all levels to INFO.
+    pub(crate) fn new(
+        alloc: Global,
+        shape: LineFormat,
+        folders: Vec<D>,
+        prefix: &str,
+    ) -> Result<Stage<D>, Fault> {
         let message = OwnedValue::Text(String::from_str(alloc, "hi")?);
         let mut stage = Stage {
             trace: Trace::new(alloc),
@@ -141,21 +109,22 @@ impl<D: Folder> Stage<D> {
             }],
             spans: 0,
         };
-        stage.add_output(alloc, folder, prefix)?;
+        stage.add_stack(stack_over(alloc, shape, folders, prefix)?)?;
         stage.register()?;
         stage.trace.thread(None, 1)?;
         done(stage.trace.set_global_default(0))?;
         Ok(stage)
     }
 
-    fn add_output(&mut self, alloc: Global, folder: D, prefix: &str) -> Result<(), Fault> {
-        let outputs = outputs_over(alloc, folder, prefix)?;
+    fn add_stack(&mut self, stack: LevelStack<D>) -> Result<(), Fault>
+        requires { CacheIsValid ⟦<LevelFilter as Filter>⟧ stack.stack }
+    {
         if self.trace.has_stack() {
             return Err(Fault::OddReply);
         }
-        match self.trace.add_stack(outputs, OPENED) {
+        match self.trace.add_stack(stack) {
             Ok(_) => Ok(()),
-            Err(refused) => Err(Fault::Refused(refused.refusal)),
+            Err(_) => Err(Fault::OutOfMemory),
         }
     }
 
@@ -223,5 +192,21 @@ impl<D: Folder> Stage<D> {
             closed(self.trace.try_close(LANE, moment_at(i), name))?;
         }
         Ok(())
+    }
+}
+
+impl Stage<CountingFolder> {
+    /// What was handed over to all folders.
+    pub(crate) fn counted(&self) -> Result<Counter, Fault> {
+        let Some(stack) = self.trace.stack() else {
+            return Err(Fault::OddReply);
+        };
+        let mut counted = Counter { bytes: 0, lines: 0 };
+        for sink in stack.sinks() {
+            let folder = sink.appender().folder();
+            counted.bytes = counted.bytes.saturating_add(folder.bytes);
+            counted.lines = counted.lines.saturating_add(folder.writes);
+        }
+        Ok(counted)
     }
 }

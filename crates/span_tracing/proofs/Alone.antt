@@ -1,5 +1,5 @@
 -- Each output goes its own way.
-use Rattle.std.proofs.Common.{◌≡◌, ℕ, zero, suc, Bool, List, [], ◌∷◌, ◌++◌, map, Option, Some, None, slice_get, refl, ap, sym, ◌∙◌, subst}
+use Rattle.std.proofs.Common.{◌≡◌, ℕ, zero, suc, Bool, true, false, List, [], ◌∷◌, ◌++◌, map, Option, Some, None, slice_get, refl, ap, sym, ◌∙◌, subst}
 use Rattle.std.specs.Option.{option_map}
 use Rattle.std.proofs.lemmas.Option.{slice_get-map}
 use Rattle.tracing_core_fields.specs.PlainMetadata.{PlainMetadata}
@@ -23,7 +23,7 @@ use Rattle.span_tracing_runs.specs.Told.{Told, event_told_by, span_told_by, valu
 use Rattle.span_tracing.specs.Alone.{AllGoAlikeAt, AreAlikeAt, GoAlikeAt, OutputsGoAlone, list_at}
 
 -- an output's two lines of text, one behind the other
-both : {A : Type 0} → Option (List A) → Option (List A) → Option (List A)
+abbrev both : {A : Type 0} → Option (List A) → Option (List A) → Option (List A)
 both (Some xs) (Some ys) = Some (xs ++ ys)
 both (Some xs) None = None
 both None ys = None
@@ -47,10 +47,10 @@ list_at_nothing zero = refl
 list_at_nothing (suc place) = list_at_nothing place
 
 -- what an output is told stands at its place, and depends on that output alone
-IsLocal : {N : Type 0} → ℕ → (List (Numbered N) → List (List Notice)) → Type 0
+abbrev IsLocal : {N : Type 0} → ℕ → (List (Numbered N) → List (List Notice)) → Type 0
 IsLocal {N = N} place lists = (outs others : List (Numbered N)) → slice_get outs place ≡ slice_get others place → list_at (lists outs) place ≡ list_at (lists others) place
 
-notices_or_none : {N : Type 0} → (Numbered N → List Notice) → Option (Numbered N) → List Notice
+abbrev notices_or_none : {N : Type 0} → (Numbered N → List Notice) → Option (Numbered N) → List Notice
 notices_or_none ns None = []
 notices_or_none ns (Some o) = ns o
 
@@ -59,10 +59,10 @@ mapped_at ns [] place = list_at_nothing place
 mapped_at ns (o ∷ outs) zero = refl
 mapped_at ns (o ∷ outs) (suc place) = mapped_at ns outs place
 
-call_local : {N : Type 0} (place : ℕ) (ns : ℕ → List Notice) → IsLocal {N = N} place (call_lists ns)
-call_local place ns outs others e = mapped_at (λ o. ns o.number) outs place ∙ ap (notices_or_none (λ o. ns o.number)) e ∙ sym (mapped_at (λ o. ns o.number) others place)
+call_local : (N : Type 0) (place : ℕ) (ns : ℕ → List Notice) → IsLocal {N = N} place (call_lists ns)
+call_local N place ns outs others e = mapped_at (λ o. ns o.number) outs place ∙ ap (notices_or_none (λ o. ns o.number)) e ∙ sym (mapped_at (λ o. ns o.number) others place)
 
-event_or_none : {N : Type 0} → (Bool → Numbered N → List Notice) → Option Bool → Option (Numbered N) → List Notice
+abbrev event_or_none : {N : Type 0} → (Bool → Numbered N → List Notice) → Option Bool → Option (Numbered N) → List Notice
 event_or_none ns None o = []
 event_or_none ns (Some told) None = []
 event_or_none ns (Some told) (Some o) = ns told o
@@ -78,34 +78,34 @@ event_at x at e (told ∷ mask) [] place = list_at_nothing place ∙ sym (event_
 event_at x at e (told ∷ mask) (o ∷ outs) zero = refl
 event_at x at e (told ∷ mask) (o ∷ outs) (suc place) = event_at x at e mask outs place
 
-event_local : {N : Type 0} (place : ℕ) (x : RegistryValue) (at : At) (e : PlainEvent) (mask : List Bool) → IsLocal {N = N} place (event_lists x at e mask)
-event_local place x at e mask outs others same =
+event_local : (N : Type 0) (place : ℕ) (x : RegistryValue) (at : At) (e : PlainEvent) (mask : List Bool) → IsLocal {N = N} place (event_lists x at e mask)
+event_local N place x at e mask outs others same =
     event_at x at e mask outs place ∙ ap (event_or_none (λ told o. event_told x at e told o.number) (slice_get mask place)) same ∙ sym (event_at x at e mask others place)
 
-IsLocalIf : {N : Type 0} → ℕ → Option (Told N) → Type 0
+abbrev IsLocalIf : {N : Type 0} → ℕ → Option (Told N) → Type 0
 IsLocalIf place None = Unit {0}
 IsLocalIf place (Some told) = IsLocal place told.lists
 
-module _ {N : Type 0} (place : ℕ) where
+module _ (N : Type 0) (place : ℕ) where
   event_is_local : (s : Skeleton) (e : Request) (m : Option PlainMetadata) (a : Answers) → IsLocalIf place (event_told_by N s e m a)
   event_is_local s e None a = tt
   event_is_local s e (Some m) Unasked = tt
   event_is_local s e (Some m) (Wanted b) = tt
   event_is_local s e (Some m) Dropped = tt
   event_is_local s e (Some m) (Passed passed) = tt
-  event_is_local s e (Some m) (Heard passed told) = λ outs others same. event_local place s.registry _ _ told outs others same
+  event_is_local s e (Some m) (Heard passed told) = λ outs others same. event_local N place s.registry _ _ told outs others same
 
   span_is_local : (s : Skeleton) (e : Request) (m : Option PlainMetadata) (a : Answers) → IsLocalIf place (span_told_by N s e m a)
   span_is_local s e None a = tt
   span_is_local s e (Some m) Unasked = tt
   span_is_local s e (Some m) (Wanted b) = tt
   span_is_local s e (Some m) Dropped = tt
-  span_is_local s e (Some m) (Passed passed) = λ outs others same. call_local place _ outs others same
+  span_is_local s e (Some m) (Passed passed) = λ outs others same. call_local N place _ outs others same
   span_is_local s e (Some m) (Heard passed told) = tt
 
   values_are_local : (s : Skeleton) (r : RecordRequest) (id : ℕ) (m : Option PlainMetadata) → IsLocalIf place (values_told_by N s r id m)
   values_are_local s r id None = tt
-  values_are_local s r id (Some m) = λ outs others same. call_local place _ outs others same
+  values_are_local s r id (Some m) = λ outs others same. call_local N place _ outs others same
 
   step_is_local : (s : Skeleton) (step : PlainStep) (a : Answers) → IsLocalIf place (told_by N s step a)
   step_is_local s (GlobalStep handle) a = tt
@@ -116,24 +116,24 @@ module _ {N : Type 0} (place : ℕ) where
     where
       by_span : (span : Option SpanName) → IsLocalIf place (told_by N s (RecordStep (record r { span = span })) a)
       by_span None = tt
-      by_span (Some name) = values_are_local s _ name.id (callsite_of s name.id)
+      by_span (Some name) = values_are_local s (record r { span = Some name }) name.id (callsite_of s name.id)
   step_is_local s (FollowsFromStep call) a = tt
   step_is_local s (EnterStep call) a = by_span call.span
     where
       by_span : (span : Option SpanName) → IsLocalIf place (told_by N s (EnterStep (record call { span = span })) a)
       by_span None = tt
-      by_span (Some name) = λ outs others same. call_local place _ outs others same
+      by_span (Some name) = λ outs others same. call_local N place _ outs others same
   step_is_local s (ExitStep call) a = by_span call.span
     where
       by_span : (span : Option SpanName) → IsLocalIf place (told_by N s (ExitStep (record call { span = span })) a)
       by_span None = tt
-      by_span (Some name) = λ outs others same. call_local place _ outs others same
+      by_span (Some name) = λ outs others same. call_local N place _ outs others same
   step_is_local s (CloneStep call) a = tt
   step_is_local s (CloseStep call) a = by_span call.span
     where
       by_span : (span : Option SpanName) → IsLocalIf place (told_by N s (CloseStep (record call { span = span })) a)
       by_span None = tt
-      by_span (Some name) = λ outs others same. call_local place _ outs others same
+      by_span (Some name) = λ outs others same. call_local N place _ outs others same
 
   told_unless : (refusal : Option Refusal) (told : Option (Told N)) → IsLocalIf place told → IsLocalIf place (or_same refusal None told)
   told_unless None told w = w
@@ -143,7 +143,7 @@ module _ {N : Type 0} (place : ℕ) where
   told_is_local s step a = told_unless (refusal_of s step) (told_by N s step a) (step_is_local s step a)
 
 module _ {N : Type 0} (n : Ghosts N) where
-  told_or_none : List Notice → List Fate → Option (Numbered N) → Option (Numbered N)
+  abbrev told_or_none : List Notice → List Fate → Option (Numbered N) → Option (Numbered N)
   told_or_none ns fates None = None
   told_or_none ns fates (Some o) = Some (out_told n o ns fates)
 
@@ -188,14 +188,14 @@ module _ {N : Type 0} (n : Ghosts N) (place : ℕ) (outs others : List (Numbered
 
 module _ {N : Type 0} (n : Ghosts N) (place : ℕ) where
   -- a turn leaves the output at the place alike, and it offers the same lines
-  TurnsAlike : Plain N → Plain N → Turn → Turn → Type 0
+  abbrev TurnsAlike : Plain N → Plain N → Turn → Turn → Type 0
   TurnsAlike p q t u = AreAlikeAt place (plain_after n p t) (plain_after n q u) × (slice_get (turn_lines n p t) place ≡ slice_get (turn_lines n q u) place)
 
   went : (s : Skeleton) (outs others : List (Numbered N)) (step : PlainStep) (a : Answers) (fates other_fates : Fates) → slice_get outs place ≡ slice_get others place → list_at fates place ≡ list_at other_fates place →
       TurnsAlike (record { skeleton = s; outs = outs }) (record { skeleton = s; outs = others }) (Went step a fates) (Went step a other_fates)
   went s outs others step a fates other_fates same fated = (
-    record { skeleton = refl; out = outs_alike n place outs others fates other_fates same fated (told_of N s step a) (told_is_local place s step a) },
-    lines_alike n place outs others fates other_fates same fated (told_of N s step a) (told_is_local place s step a),
+    record { skeleton = refl; out = outs_alike n place outs others fates other_fates same fated (told_of N s step a) (told_is_local N place s step a) },
+    lines_alike n place outs others fates other_fates same fated (told_of N s step a) (told_is_local N place s step a),
   )
 
   turn_alike : (p q : Plain N) (t u : Turn) → AreAlikeAt place p q → GoAlikeAt place t u → TurnsAlike p q t u

@@ -1,5 +1,5 @@
 -- What levels answer.
-use Rattle.std.proofs.Common.{◌≡◌, ◌⊎◌, ℕ, Bool, true, false, ◌||◌, List, [], ◌∷◌, map, nat_le, Option, Some, None, refl, ap, sym, ◌∙◌, subst, left, right}
+use Rattle.std.proofs.Common.{◌≡◌, ◌⊎◌, ℕ, Bool, true, false, ◌||◌, List, [], ◌∷◌, map, nat_le, Option, Some, None, refl, ap, sym, ◌∙◌, inl, inr}
 use Rattle.std.specs.List.{list_any}
 use Rattle.tracing_core_fields.specs.PlainMetadata.{PlainMetadata}
 use Rattle.tracing_core_requests.specs.Lists.{Every}
@@ -32,24 +32,41 @@ where_asked false callsite asked f a each w = w
 where_asked true None asked f a each w = w
 where_asked true (Some m) asked f a each w = each m w
 
+two : (a b : Bool) (xs ys : List Bool) → a ≡ b → xs ≡ ys → a ∷ xs ≡ b ∷ ys
+two a b xs ys e es = ap (λ x. x ∷ xs) e ∙ ap (λ zs. b ∷ zs) es
+
+or_false : (a b : Bool) → a ≡ false → b ≡ false → (a || b) ≡ false
+or_false a b e f = ap (λ x. x || b) e ∙ f
+
+module _ {N E : Type 0} where
+  dropped : (rows : List (Lined N E ℕ)) (passed : List Bool) (b : Bool) → b ≡ false → Dropped ≡ made_if b rows passed
+  dropped rows passed b e = sym (ap (λ c. made_if c rows passed) e)
+
+  made : (rows : List (Lined N E ℕ)) (passed given : List Bool) (b : Bool) → b ≡ true → given ≡ passed → Passed (verdicts_from all_pass (numbers_in rows) given) ≡ made_if b rows passed
+  made rows passed given b e same = ap (λ xs. Passed (verdicts_from all_pass (numbers_in rows) xs)) same ∙ sym (ap (λ c. made_if c rows passed) e)
+
 -- filters whose answer is read off their value and the metadata, and that no call changes
-module _ {N E : Type 0} (g : FilterGhosts ℕ)
+module _ (g : FilterGhosts ℕ)
     (answers : (f : ℕ) (m : PlainMetadata) (v : View) (b : Bool) → g.answers f m v b → b ≡ nat_le m.level f)
     (may : (f : ℕ) (m : PlainMetadata) (v : View) → g.answers f m v (nat_le m.level f))
     (event_answers : (f : ℕ) (e : PlainEvent) (v : View) (b : Bool) → g.event_answers f e v b → b ≡ true)
     (after : (f : ℕ) (hook : Hook) → g.after f hook ≡ f) where
   fresh : (f : ℕ) (m : PlainMetadata) (v : View) (b : Bool) → Afresh g f m v b → b ≡ nat_le m.level f
-  fresh f m v b (left w) = answers f m v b w
-  fresh f m v b (right (e, all)) = e ∙ sym (all (nat_le m.level f) (may f m v))
+  fresh f m v b (inl w) = answers f m v b w
+  fresh f m v b (inr (e, all)) = e ∙ sym (all (nat_le m.level f) (may f m v))
 
   then_same : (f : ℕ) (e : PlainEvent) (v : View) (p t : Bool) → Then (g.event_answers f e v) p t → t ≡ p
   then_same f e v true t w = event_answers f e v t w
   then_same f e v false t w = w
 
-  two : (a b : Bool) (xs ys : List Bool) → a ≡ b → xs ≡ ys → a ∷ xs ≡ b ∷ ys
-  two a b xs ys e es = ap (λ x. x ∷ xs) e ∙ ap (λ zs. b ∷ zs) es
+  either_same : (f : ℕ) (m : PlainMetadata) (v : View) (Q : Bool → Type 0) (rest b : Bool) → ((c : Bool) → Q c → c ≡ rest) → Either (Afresh g f m v) Q b → b ≡ (nat_le m.level f || rest)
+  either_same f m v Q rest b later (p, one, more) = by_first p b (fresh f m v p one) more
+    where
+      by_first : (p b : Bool) → p ≡ nat_le m.level f → Else Q p b → b ≡ (nat_le m.level f || rest)
+      by_first true b e w = w ∙ ap (λ x. x || rest) e
+      by_first false b e w = later b w ∙ ap (λ x. x || rest) e
 
-  each_asked : (e : PlainEvent) (at : At) (x : RegistryValue) (rows : List (Lined N E ℕ)) (passed told : List Bool) → EachAsked g e at x rows passed told →
+  each_asked : {N E : Type 0} (e : PlainEvent) (at : At) (x : RegistryValue) (rows : List (Lined N E ℕ)) (passed told : List Bool) → EachAsked g e at x rows passed told →
       (passed ≡ passing e.metadata rows) × (told ≡ passing e.metadata rows)
   each_asked e at x [] [] [] w = (refl, refl)
   each_asked e at x [] [] (t ∷ told) w = absurd w
@@ -63,34 +80,24 @@ module _ {N E : Type 0} (g : FilterGhosts ℕ)
         two t (nat_le e.metadata.level row.output.filter) told (passing e.metadata rows) (then_same row.output.filter e (view_of at x row) p t then ∙ own) rest.1,
       )
 
-  each_answers : (m : PlainMetadata) (at : At) (x : RegistryValue) (rows : List (Lined N E ℕ)) (given : List Bool) → EachAnswers g.answers m at x rows given → given ≡ passing m rows
+  each_answers : {N E : Type 0} (m : PlainMetadata) (at : At) (x : RegistryValue) (rows : List (Lined N E ℕ)) (given : List Bool) → EachAnswers g.answers m at x rows given → given ≡ passing m rows
   each_answers m at x [] [] w = refl
   each_answers m at x [] (p ∷ given) w = absurd w
   each_answers m at x (row ∷ rows) [] w = absurd w
   each_answers m at x (row ∷ rows) (p ∷ given) (one, more) =
       two p (nat_le m.level row.output.filter) given (passing m rows) (answers row.output.filter m (view_of at x row) p one) (each_answers m at x rows given more)
 
-  or_false : (a b : Bool) → a ≡ false → b ≡ false → (a || b) ≡ false
-  or_false a b e f = ap (λ x. x || b) e ∙ f
-
-  nobody : (m : PlainMetadata) (at : At) (x : RegistryValue) (rows : List (Lined N E ℕ)) → Every (λ (row : Lined N E ℕ). Afresh g row.output.filter m (view_of at x row) false) rows → some_passes (passing m rows) ≡ false
+  nobody : {N E : Type 0} (m : PlainMetadata) (at : At) (x : RegistryValue) (rows : List (Lined N E ℕ)) → Every (λ (row : Lined N E ℕ). Afresh g row.output.filter m (view_of at x row) false) rows → some_passes (passing m rows) ≡ false
   nobody m at x [] w = refl
   nobody m at x (row ∷ rows) (one, more) =
       or_false (nat_le m.level row.output.filter) (some_passes (passing m rows)) (sym (fresh row.output.filter m (view_of at x row) false one)) (nobody m at x rows more)
 
-  either_same : (f : ℕ) (m : PlainMetadata) (v : View) (Q : Bool → Type 0) (rest b : Bool) → ((c : Bool) → Q c → c ≡ rest) → Either (Afresh g f m v) Q b → b ≡ (nat_le m.level f || rest)
-  either_same f m v Q rest b later (p, one, more) = by_first p b (fresh f m v p one) more
-    where
-      by_first : (p b : Bool) → p ≡ nat_le m.level f → Else Q p b → b ≡ (nat_le m.level f || rest)
-      by_first true b e w = w ∙ ap (λ x. x || rest) e
-      by_first false b e w = later b w ∙ ap (λ x. x || rest) e
-
-  some : (m : PlainMetadata) (at : At) (x : RegistryValue) (rows : List (Lined N E ℕ)) (b : Bool) → SomePassesBy (Afresh g) m at x rows b → b ≡ some_passes (passing m rows)
+  some : {N E : Type 0} (m : PlainMetadata) (at : At) (x : RegistryValue) (rows : List (Lined N E ℕ)) (b : Bool) → SomePassesBy (Afresh g) m at x rows b → b ≡ some_passes (passing m rows)
   some m at x [] b w = w
   some m at x (row ∷ rows) b w =
       either_same row.output.filter m (view_of at x row) (SomePassesBy (Afresh g) m at x rows) (some_passes (passing m rows)) b (some m at x rows) w
 
-  module _ {S : Type 0} (h : LayerGhosts (Lines N E)) where
+  module _ {N E S : Type 0} (h : LayerGhosts (Lines N E)) where
     event : (stack : Option (TraceStackValue N E ℕ S)) (e : PlainEvent) (at : At) (a : Answers) → AnswersEvent g h stack e at a → a ≡ heard_by stack e.metadata
     event None e at a w = absurd w
     event (Some x) e at Unasked w = absurd w
@@ -108,12 +115,6 @@ module _ {N E : Type 0} (g : FilterGhosts ℕ)
     question (Some x) m at Dropped w = absurd w
     question (Some x) m at (Passed passed) w = absurd w
     question (Some x) m at (Heard passed told) w = absurd w
-
-    dropped : (rows : List (Lined N E ℕ)) (passed : List Bool) (b : Bool) → b ≡ false → Dropped ≡ made_if b rows passed
-    dropped rows passed b e = sym (ap (λ c. made_if c rows passed) e)
-
-    made : (rows : List (Lined N E ℕ)) (passed given : List Bool) (b : Bool) → b ≡ true → given ≡ passed → Passed (verdicts_from all_pass (numbers_in rows) given) ≡ made_if b rows passed
-    made rows passed given b e same = ap (λ xs. Passed (verdicts_from all_pass (numbers_in rows) xs)) same ∙ sym (ap (λ c. made_if c rows passed) e)
 
     span : (stack : Option (TraceStackValue N E ℕ S)) (m : PlainMetadata) (at : At) (a : Answers) → AnswersSpan g h stack m at a → a ≡ made_by stack m
     span None m at a w = absurd w
@@ -143,7 +144,7 @@ module _ {N E : Type 0} (g : FilterGhosts ℕ)
     step_answers v (CloneStep call) a w = w
     step_answers v (CloseStep call) a w = w
 
-  module _ (n : Ghosts N) (line_of : E → Settings → PlainContext → PlainEvent → Option (List ℕ)) where
+  module _ {N E : Type 0} (n : Ghosts N) (line_of : E → Settings → PlainContext → PlainEvent → Option (List ℕ)) where
     after_none : (f : ℕ) (hook : Option Hook) → filter_after n line_of g f hook ≡ f
     after_none f None = refl
     after_none f (Some hook) = after f hook

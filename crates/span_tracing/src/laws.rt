@@ -23,7 +23,6 @@ pub fn levels_are_honest<L: Layer>()
 /// Each output goes its own way: two runs of the same steps with the same answers of the filters leave an output's machine the
 /// same, and it offers the same lines to its sink, whatever the other outputs are, and whatever becomes of their texts and
 /// lines.
-#[tactic(auto, using(crate::proofs::Alone::outputs_go_alone))]
 pub fn outputs_go_alone<N: FormatFields>()
     ensures { OutputsGoAlone ⟦<N as FormatFields>⟧ }
 {}
