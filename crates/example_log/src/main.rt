@@ -56,6 +56,21 @@ fn do_job(rt: &HostRuntime, trace: &mut MemoryTrace) -> bool {
     log(rt, trace, &job) && trace.try_close(0, NOW, job.span) == Reply::Closed(true)
 }
 
+/// Prints each file of the output, by its name.
+fn print_files(rt: &HostRuntime, trace: &MemoryTrace) -> Result<bool, std::io::Error> {
+    let Some(stack) = trace.stack() else {
+        return Ok(false);
+    };
+    let Some(sink) = stack.sinks().first() else {
+        return Ok(false);
+    };
+    for file in &sink.appender().folder().files()? {
+        let text = str::from_utf8(file.bytes).ok().unwrap_or("not UTF-8");
+        println!(rt; "{}: {text}", file.name)?;
+    }
+    Ok(true)
+}
+
 fn run(rt: &HostRuntime) -> Result<bool, std::io::Error> {
     let Ok(mut trace) = open_trace(rt.alloc(), "app", LevelFilter::INFO, NOW) else {
         return Ok(false);
@@ -63,14 +78,7 @@ fn run(rt: &HostRuntime) -> Result<bool, std::io::Error> {
     if !register(&mut trace) || !do_job(rt, &mut trace) {
         return Ok(false);
     }
-    let Some(folder) = trace.folder(0) else {
-        return Ok(false);
-    };
-    for file in &folder.files()? {
-        let text = str::from_utf8(file.bytes).ok().unwrap_or("not UTF-8");
-        println!(rt; "{}: {text}", file.name)?;
-    }
-    Ok(true)
+    print_files(rt, &trace)
 }
 
 fn main(rt: HostRuntime) -> ExitCode {

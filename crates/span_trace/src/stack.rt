@@ -1,7 +1,7 @@
 //! A stack of outputs, each with daily files in a folder in memory.
 
 ghost use Rattle.std.specs.Prelude.{◌≡◌, true, IfOk};
-ghost use Rattle.span_registry_layers_stack.specs.CacheValidity.{CacheIsValid};
+ghost use Rattle.span_registry_layers.specs.CacheValidity.{CacheIsValid};
 ghost use Rattle.tracing_appender_rolling.specs.Moments.{is_moment};
 
 use crate::output::{OutputLayer, layer_of};

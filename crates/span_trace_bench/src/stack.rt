@@ -1,7 +1,7 @@
 //! The stack of a trace whose calls are timed.
 
 ghost use Rattle.std.specs.Prelude.{◌≡◌, IfOk};
-ghost use Rattle.span_registry_layers_stack.specs.CacheValidity.{CacheIsValid};
+ghost use Rattle.span_registry_layers.specs.CacheValidity.{CacheIsValid};
 
 use crate::fault::Fault;
 use crate::lines::fields_of;

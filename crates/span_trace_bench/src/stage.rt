@@ -1,6 +1,6 @@
 //! A trace whose calls are timed.
 
-ghost use Rattle.span_registry_layers_stack.specs.CacheValidity.{CacheIsValid};
+ghost use Rattle.span_registry_layers.specs.CacheValidity.{CacheIsValid};
 
 use crate::counting::CountingFolder;
 use crate::fault::Fault;

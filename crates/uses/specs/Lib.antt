@@ -2,3 +2,4 @@ pub mod Choices
 pub mod Tallies
 pub mod CountsKept
 pub mod Letters
+pub mod Programs

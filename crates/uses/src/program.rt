@@ -1,80 +1,165 @@
 //! Events and spans of a program, written as lines to a log file.
 
-ghost use Rattle.std.specs.Prelude.{◌≡◌, ◌∷◌, [], Some, IfOk, vec_len};
-ghost use Rattle.span_tracing.specs.Agreement.{value_of};
+ghost use Rattle.std.specs.Prelude.{◌≡◌, ◌∷◌, [], IfOk, OnErr, Some, None, length, true, false, Err};
+ghost use Rattle.tracing_appender_rolling.specs.Memory.{memory_contents, nothing_there};
+ghost use Rattle.tracing_appender_rolling.specs.Moments.{is_moment};
+ghost use Rattle.tracing_appender_rolling.specs.Appenders.{AgreesSink, fresh_sink};
+ghost use Rattle.event_formatter_formats.specs.Parts.{default_parts};
+ghost use Rattle.span_registry_layers.specs.CacheValidity.{CacheIsValid};
+ghost use Rattle.span_tracing_steps.specs.Steps.{StepGives};
+ghost use Rattle.span_tracing_runs.specs.Follows.{registry_of};
+ghost use Rattle.uses.specs.Programs.{daily_names, file_refusal, message_step, stack_refusal};
 
+use span_registry_layers::Filter;
 use span_tracing::{
-    Builder, FieldValue, Fields, LineFormat, MemoryFolder, Moment, Output, OutputKey, OwnedValue,
-    Parent, Refusal, Reply, Rotation, Route, SinkSpec, Timer, Trace,
+    BuildError, Builder, FieldValue, Fields, FileStack, Filtered, Format, Layer, LineFormat,
+    MemoryFolder, Moment, Output, OutputKey, OwnedValue, Parent, PendingLines, Refusal, Reply,
+    RollingSink, Rotation, Stack, StackError, Timer, Trace, TraceStack, levels_are_honest,
 };
 use std::alloc::{AllocError, Global};
-use tracing_core::{Identifier, LevelFilter};
+use tracing_core::{Identifier, LevelFilter, Subscriber};
+
+/// Lines of any format.
+type Shape = Format<LineFormat, Timer>;
+
+/// A layer that writes such lines.
+type Lines = Layer<Fields, Shape, PendingLines>;
 
 /// A trace over a folder in memory, under a level.
-pub type MemoryTrace = Trace<MemoryFolder, LevelFilter>;
+pub type MemoryTrace = Trace<FileStack<LevelFilter, MemoryFolder>>;
 
-/// One output at a level: lines of the full format, without a time, go to a file for each day, `prefix.DAY.log`.
-///
-/// # Errors
-///
-/// Want of memory.
-pub fn daily_output(
+// Writes lines of the full format, without a time.
+fn full_lines(alloc: Global, key: OutputKey) -> Lines
+    ensures key { result.config.key ≡ key }
+    ensures shape { result.format.shape ≡ LineFormat.Full }
+    ensures parts { result.format.parts ≡ record default_parts { timestamp = false } }
+{
+    Layer::new(alloc, key, PendingLines::new(alloc))
+        .without_time()
+        .with_timer(Timer::Empty)
+        .map_event_format(|format| format.with_shape(LineFormat::Full))
+        .fmt_fields(Fields::Default)
+}
+
+// A stack of one output, which writes such lines of what a level passes, and the sink that takes them. What it keeps of
+// the level's answers is right, so that a trace takes it.
+fn stack_of_one(
+    alloc: Global,
+    level: LevelFilter,
+    sink: RollingSink<MemoryFolder>,
+) -> Result<FileStack<LevelFilter, MemoryFolder>, StackError>
+    ensures { IfOk result (λ made. CacheIsValid ⟦<LevelFilter as Filter>⟧ made.stack) }
+{
+    let key = OutputKey(1);
+    let output = Filtered::new(full_lines(alloc, key), level);
+    let mut outputs = Vec::with_capacity(alloc, 1).map_err(|_| StackError::OutOfMemory)?;
+    outputs.push_reserved(Output { key, output });
+    let mut sinks = Vec::with_capacity(alloc, 1).map_err(|_| StackError::OutOfMemory)?;
+    sinks.push_reserved(sink);
+    levels_are_honest::<Lines>();
+    match Stack::new(alloc, outputs) {
+        // There is a sink for the output.
+        Ok(stack) => TraceStack::new(stack, sinks).or(Err(StackError::NoOutput)),
+        Err(refused) => Err(refused.error),
+    }
+}
+
+// A sink whose lines go to a file for each day, `prefix.DAY.log`, in an empty folder in memory.
+fn daily_sink(
     alloc: Global,
     prefix: &str,
-    level: LevelFilter,
-) -> Result<Vec<Output<MemoryFolder, LevelFilter>>, Refusal>
-    ensures one { IfOk result (λ outputs. vec_len outputs ≡ 1) }
-    ensures level { IfOk result (λ outputs. (output : Output MemoryFolder LevelFilter) → outputs.items ≡ output ∷ [] →
-        output.filter ≡ level) }
+    moment: Moment,
+) -> Result<RollingSink<MemoryFolder>, BuildError>
+    requires { is_moment moment ≡ true }
+    ensures { IfOk result (λ sink. AgreesSink (λ folder. Some (memory_contents folder)) sink.appender
+        (fresh_sink (daily_names prefix.now) moment (Some nothing_there))) }
 {
-    let prefix = String::from_str(alloc, prefix).map_err(|_| Refusal::OutOfMemory)?;
-    let suffix = String::from_str(alloc, "log").map_err(|_| Refusal::OutOfMemory)?;
+    let prefix = String::from_str(alloc, prefix).map_err(|_| BuildError::OutOfMemory)?;
+    let suffix = String::from_str(alloc, "log").map_err(|_| BuildError::OutOfMemory)?;
     let builder = Builder::new()
         .rotation(Rotation::DAILY)
         .filename_prefix(prefix)
         .filename_suffix(suffix);
-    let mut sinks = Vec::with_capacity(alloc, 1).map_err(|_| Refusal::OutOfMemory)?;
-    sinks.push_reserved(SinkSpec::Direct(builder, MemoryFolder::new(alloc)));
-    let mut outputs = Vec::with_capacity(alloc, 1).map_err(|_| Refusal::OutOfMemory)?;
-    let format = LineFormat::full(Timer::Absent, Fields::Default);
-    match Output::new(alloc, level, format, Route::Sink(0), sinks, OutputKey(1)) {
-        Ok(output) => outputs.push_reserved(output),
-        Err(refused) => return Err(refused.refusal),
+    match builder.build(alloc, MemoryFolder::new(alloc), moment) {
+        Ok(appender) => Ok(RollingSink::new(appender)),
+        Err(refused) => Err(refused.error),
     }
-    Ok(outputs)
 }
 
-/// A trace with one output at a level and one lane, number 0, whose events reach the output.
-///
-/// # Errors
-///
-/// `BadMoment` or `BadName`, else want of memory.
-pub fn open_trace(
-    alloc: Global,
-    prefix: &str,
-    level: LevelFilter,
-    moment: Moment,
-) -> Result<MemoryTrace, Refusal>
-    ensures level { IfOk result (λ trace. trace.state.filter ≡ Some level) }
+// How a trace tells that a file could not be opened.
+fn file_refusal(error: BuildError) -> Refusal
+    ensures { result ≡ file_refusal error }
 {
-    let outputs = daily_output(alloc, prefix, level)?;
+    match error {
+        BuildError::BadName => Refusal::BadName,
+        BuildError::BadLinkName => Refusal::BadLinkName,
+        BuildError::Init(_) => Refusal::FolderRefused,
+        BuildError::OutOfMemory => Refusal::OutOfMemory,
+    }
+}
+
+// How a trace tells that a stack was not made.
+fn stack_refusal(error: StackError) -> Refusal
+    ensures { result ≡ stack_refusal error }
+{
+    match error {
+        StackError::OutOfMemory => Refusal::OutOfMemory,
+        StackError::NoOutput => Refusal::NoOutput,
+        StackError::TooManyFilters => Refusal::TooManyFilters,
+        StackError::EqualKeys => Refusal::EqualKeys,
+    }
+}
+
+// A trace with this stack and one lane, which reaches the stack.
+fn trace_over(
+    alloc: Global,
+    stack: FileStack<LevelFilter, MemoryFolder>,
+) -> Result<MemoryTrace, Refusal>
+    requires { CacheIsValid ⟦<LevelFilter as Filter>⟧ stack.stack }
+    ensures reached { IfOk result (λ trace. trace.is_global ≡ true) }
+    ensures lane { IfOk result (λ trace. length trace.threads ≡ 1) }
+{
     let mut trace = Trace::new(alloc);
-    if trace.thread(None, 1).is_err() {
+    let Ok(_lane) = trace.thread(None, 1) else {
         return Err(Refusal::OutOfMemory);
-    }
-    match trace.add_stack(outputs, moment) {
-        Ok(_) => {}
-        Err(refused) => return Err(refused.refusal),
-    }
-    match trace.set_global_default(0) {
+    };
+    let Ok(handle) = trace.add_stack(stack) else {
+        return Err(Refusal::OutOfMemory);
+    };
+    match trace.set_global_default(handle) {
         Reply::Done => Ok(trace),
         Reply::Refused(refusal) => Err(refusal),
         _ => Err(Refusal::UnknownStack),
     }
 }
 
-/// Logs a text as an event at a callsite whose first field is the message, on lane 0. A refusal leaves the
-/// trace as it was.
+/// A trace with one output at a level, whose lines of the full format, without a time, go to a file for each day,
+/// `prefix.DAY.log`. It has one lane, number 0, whose events reach the output.
+///
+/// # Errors
+///
+/// `BadMoment` where the moment is out of range, then `BadName` where the prefix can't stand in a file's name, else want
+/// of memory.
+pub fn open_trace(
+    alloc: Global,
+    prefix: &str,
+    level: LevelFilter,
+    moment: Moment,
+) -> Result<MemoryTrace, Refusal>
+    ensures moment { is_moment moment ≡ false → result ≡ Err Refusal.BadMoment }
+    ensures reached { IfOk result (λ trace. trace.is_global ≡ true) }
+    ensures lane { IfOk result (λ trace. length trace.threads ≡ 1) }
+{
+    if !moment.is_in_range() {
+        return Err(Refusal::BadMoment);
+    }
+    let sink = daily_sink(alloc, prefix, moment).map_err(file_refusal)?;
+    let stack = stack_of_one(alloc, level, sink).map_err(stack_refusal)?;
+    trace_over(alloc, stack)
+}
+
+/// Logs a text as an event at a callsite whose first field is the message, on lane 0: the step that `message_step` tells.
+/// A refused step leaves the trace as it was.
 ///
 /// # Errors
 ///
@@ -86,8 +171,9 @@ pub fn log_text(
     callsite: Identifier,
     text: &str,
 ) -> Result<Reply, AllocError>
-    ensures refused { IfOk result (λ reply. (refusal : Refusal) → reply ≡ Reply.Refused refusal →
-        value_of trace.new ≡ value_of trace.old) }
+    ensures gives { IfOk result (λ reply. StepGives ⟦<FileStack<LevelFilter, MemoryFolder> as Subscriber>⟧ registry_of
+        trace.old (message_step moment callsite.0 text.now) reply trace.new) }
+    ensures err { OnErr result (trace.new ≡ trace.old) }
 {
     let message = FieldValue {
         field: 0,

@@ -9,7 +9,7 @@ use crate::choice::{by_closure, by_level, under_choice};
 use crate::filter::{hand, under_closure, under_level, under_verbosity};
 use crate::hub::{Tally, events_of, hub_of, log_event, reach_by_default};
 use crate::layer::Counts;
-use crate::program::{daily_output, log_text, open_trace};
+use crate::program::{log_text, open_trace};
 use crate::queue::{close_behind, dropping_queue, next_line, offer_text, two_in_order};
 use crate::rolling::{files_of, open_daily, write_line};
 use crate::visitor::{kinds_of, texts_of};
@@ -205,10 +205,6 @@ fn a_tally_counts_what_its_lane_logs(rt: HostRuntime) -> Result<(), Fail> {
 #[test]
 fn a_program_logs_a_line(rt: HostRuntime) -> Result<(), Fail> {
     let alloc = rt.alloc();
-    let outputs = daily_output(alloc, "app", LevelFilter::INFO)
-        .ok()
-        .ok_or("room")?;
-    assert_eq!(rt; outputs.len(), 1);
     let mut trace = open_trace(alloc, "app", LevelFilter::INFO, MONDAY)
         .ok()
         .ok_or("a trace")?;
@@ -226,11 +222,12 @@ fn a_program_logs_a_line(rt: HostRuntime) -> Result<(), Fail> {
     assert!(rt; trace.register(Identifier(2), &done).is_ok());
     let reply = log_text(alloc, &mut trace, MONDAY, Identifier(2), "finished")?;
     assert!(rt; reply == Reply::Done);
-    let folder = trace.folder(0).ok_or("a folder")?;
-    let files = folder.files()?;
+    let stack = trace.stack().ok_or("a stack")?;
+    let sink = stack.sinks().first().ok_or("a sink")?;
+    let files = sink.appender().folder().files()?;
     let file = files.first().ok_or("no file")?;
     assert_eq!(rt; file.name, "app.2025-02-17.log");
-    assert_eq!(rt; file.bytes, b"app: finished\n".as_slice());
+    assert_eq!(rt; file.bytes, b" INFO app: finished\n".as_slice());
     Ok(())
 }
 
