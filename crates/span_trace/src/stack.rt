@@ -90,8 +90,11 @@ pub(crate) fn stack_of(
         Err(refused) => return Err(stack_refusal(refused.error)),
     };
     let sinks = sinks_of(alloc, builders, moment)?;
-    // There is a sink for each output.
-    TraceStack::new(stack, sinks).or(Err(Refusal::BadRoute))
+    match TraceStack::new(stack, sinks) {
+        Ok(made) => Ok(made),
+        // There is a sink for each output.
+        Err(_) => Err(Refusal::BadRoute),
+    }
 }
 
 fn stack_refusal(error: StackError) -> Refusal {

@@ -72,6 +72,26 @@ fn stack_fault(error: StackError) -> Fault {
     }
 }
 
+/// A stack of these outputs, each with its sink.
+fn stack_of<D: Folder>(
+    alloc: Global,
+    outputs: Vec<Output<Filtered<LineLayer, LevelFilter>>>,
+    sinks: Vec<RollingSink<D>>,
+) -> Result<LevelStack<D>, Fault>
+    ensures { IfOk result (λ made. CacheIsValid ⟦<LevelFilter as Filter>⟧ made.stack) }
+{
+    levels_are_honest::<LineLayer>();
+    let stack = match Stack::new(alloc, outputs) {
+        Ok(stack) => stack,
+        Err(refused) => return Err(stack_fault(refused.error)),
+    };
+    match TraceStack::new(stack, sinks) {
+        Ok(made) => Ok(made),
+        // There is a sink for each output.
+        Err(_) => Err(Fault::OddReply),
+    }
+}
+
 /// A stack with an output in this format for each folder, under a key of its own.
 pub(crate) fn stack_over<D: Folder>(
     alloc: Global,
@@ -89,11 +109,5 @@ pub(crate) fn stack_over<D: Folder>(
         sinks.push(sink_of(alloc, folder, prefix)?)?;
         key = key.saturating_add(1);
     }
-    levels_are_honest::<LineLayer>();
-    let stack = match Stack::new(alloc, outputs) {
-        Ok(stack) => stack,
-        Err(refused) => return Err(stack_fault(refused.error)),
-    };
-    // There is a sink for each output.
-    TraceStack::new(stack, sinks).or(Err(Fault::OddReply))
+    stack_of(alloc, outputs, sinks)
 }

@@ -82,6 +82,17 @@ fn metadata<'a>(
     Metadata::new(name, "app", level, None, None, None, fields, kind)
 }
 
+/// A trace with this stack.
+fn trace_over<D: Folder>(alloc: Global, stack: LevelStack<D>) -> Result<Trace<LevelStack<D>>, Fault>
+    requires { CacheIsValid ⟦<LevelFilter as Filter>⟧ stack.stack }
+{
+    let mut trace = Trace::new(alloc);
+    match trace.add_stack(stack) {
+        Ok(_) => Ok(trace),
+        Err(_) => Err(Fault::OutOfMemory),
+    }
+}
+
 impl<D: Folder> Stage<D> {
     /// A trace with one lane that reaches an output into each folder, in this format, all levels to INFO.
     pub(crate) fn new(
@@ -92,7 +103,7 @@ impl<D: Folder> Stage<D> {
     ) -> Result<Stage<D>, Fault> {
         let message = OwnedValue::Text(String::from_str(alloc, "hi")?);
         let mut stage = Stage {
-            trace: Trace::new(alloc),
+            trace: trace_over(alloc, stack_over(alloc, shape, folders, prefix)?)?,
             event_values: [
                 FieldValue {
                     field: 0,
@@ -109,23 +120,10 @@ impl<D: Folder> Stage<D> {
             }],
             spans: 0,
         };
-        stage.add_stack(stack_over(alloc, shape, folders, prefix)?)?;
         stage.register()?;
         stage.trace.thread(None, 1)?;
         done(stage.trace.set_global_default(0))?;
         Ok(stage)
-    }
-
-    fn add_stack(&mut self, stack: LevelStack<D>) -> Result<(), Fault>
-        requires { CacheIsValid ⟦<LevelFilter as Filter>⟧ stack.stack }
-    {
-        if self.trace.has_stack() {
-            return Err(Fault::OddReply);
-        }
-        match self.trace.add_stack(stack) {
-            Ok(_) => Ok(()),
-            Err(_) => Err(Fault::OutOfMemory),
-        }
     }
 
     fn register(&mut self) -> Result<(), Fault> {

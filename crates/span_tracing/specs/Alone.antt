@@ -1,16 +1,16 @@
--- Each output goes its own way, whatever the other outputs are and whatever becomes of their texts and lines.
+-- Each output goes its own way while all filters answer the same, whatever the other outputs' formats and kept texts are, and whatever becomes of their texts and lines.
 use Rattle.std.specs.Prelude.{◌≡◌, ℕ, zero, suc, List, [], ◌∷◌, slice_get}
 use Rattle.event_formatter_text.specs.declared.format_fields.FormatFields.{Ghosts}
 use Rattle.span_tracing_outputs.specs.Outs.{Fate}
 use Rattle.span_tracing_outputs.specs.Plain.{Fates, Numbered, first_of, rest_of}
 use Rattle.span_tracing_runs.specs.Runs.{Plain, Turn, Went, Starved, lines_of, plain_run}
 
--- of lists for each output, that of the output at a place
+-- of lists for each output, that of the output at a place; nothing where there is none
 abbrev pub list_at : {A : Type 0} → List (List A) → ℕ → List A
 list_at lists zero = first_of lists
 list_at lists (suc place) = list_at (rest_of lists) place
 
--- two machines of one skeleton, with the same output at a place, whatever their other outputs are
+-- two plain states with one skeleton and the same output machine at a place, whatever their other machines are
 pub record AreAlikeAt {N : Type 0} (place : ℕ) (p q : Plain N) : Type 0 where
   pub skeleton : p.skeleton ≡ q.skeleton
   pub out : slice_get p.outs place ≡ slice_get q.outs place

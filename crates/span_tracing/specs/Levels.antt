@@ -47,7 +47,7 @@ module _ {N E : Type 0} where
     made_by None m = Unasked
     made_by (Some x) m = made_if (some_passes (passing m x.stack.rows)) x.stack.rows (passing m x.stack.rows)
 
-    -- what the levels of a trace answer of a step
+    -- what the levels of a trace answer of a step that isn't refused
     abbrev pub level_answers : Traced N E ℕ S → PlainStep → Answers
     level_answers v (GlobalStep handle) = Unasked
     level_answers v (EventStep e) = if_asked v.is_global (known (skeleton_of v) e.callsite false) (heard_by v.stack)
@@ -60,7 +60,7 @@ module _ {N E : Type 0} where
     level_answers v (CloneStep call) = Unasked
     level_answers v (CloseStep call) = Unasked
 
--- Of each step levels answer just that, and whatever they are told they stay.
+-- Asked of a step, levels answer just that, and whatever they are told they stay.
 pub record LevelsAnswer {N E : Type 0} (S : Type 0) (n : Ghosts N) (line_of : E → Settings → PlainContext → PlainEvent → Option (List ℕ)) (g : FilterGhosts ℕ) (h : LayerGhosts (Lines N E)) : Type 0 where
   pub answers : (v : Traced N E ℕ S) (step : PlainStep) (a : Answers) → IsAnswered g h v step a → a ≡ level_answers v step
   pub stays : (number level : ℕ) (notices : List Notice) (later : ℕ) → FilterHears n line_of g number level notices later → later ≡ level

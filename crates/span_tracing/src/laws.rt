@@ -20,17 +20,17 @@ pub fn levels_are_honest<L: Layer>()
         Every (λ (o : Output (Filtered L LevelFilter)). ⟦<LevelFilter as Filter>⟧.honest o.output.filter) outputs }
 {}
 
-/// Each output goes its own way: two runs of the same steps with the same answers of the filters leave an output's machine the
-/// same, and it offers the same lines to its sink, whatever the other outputs are, and whatever becomes of their texts and
-/// lines.
+/// Each output goes its own way: two runs of the same steps, in which all filters answer the same, leave an output's machine the
+/// same, and it offers the same lines to its sink, whatever the other outputs' formats and kept texts are, and whatever becomes of
+/// their texts and lines.
 pub fn outputs_go_alone<N: FormatFields>()
     ensures { OutputsGoAlone ⟦<N as FormatFields>⟧ }
 {}
 
-/// Where the filters are levels, what they answer of a step is read off the levels and the callsite, and a level stays as it
-/// is whatever its output is told. So a run's replies and lines follow from the levels by reading alone.
+/// Where the filters are levels, what they answer of a step that isn't refused is read off the levels and the callsite, and a
+/// level stays as it is whatever its output is told.
 #[tactic(auto, using(crate::proofs::Answers::levels_answer))]
-pub fn levels_give_masks<N: FormatFields + Drop, E: FormatEvent, S>()
+pub fn levels_answer<N: FormatFields + Drop, E: FormatEvent, S>()
     ensures { LevelsAnswer S ⟦<N as FormatFields>⟧ E.line_of ⟦<LevelFilter as Filter>⟧
         ⟦<event_formatter_layer::Layer<N, E, PendingLines> as Layer>⟧ }
 {}

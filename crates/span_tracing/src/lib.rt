@@ -7,7 +7,7 @@ pub use event_formatter_formats::{Compact, Fields, Format, Full, Json, LineForma
 pub use event_formatter_layer::Layer;
 pub use event_formatter_lines::FmtSpan;
 pub use event_formatter_times::{FixedText, SystemTime, Uptime};
-pub use laws::{levels_are_honest, levels_give_masks, outputs_go_alone};
+pub use laws::{levels_answer, levels_are_honest, outputs_go_alone};
 pub use span_registry_layers_layers::{Filter, Filtered};
 pub use span_registry_layers_stack::{Output, Stack, StackError, StackRefusal};
 pub use span_registry_layers_store::OutputKey;
@@ -25,7 +25,8 @@ pub use tracing_appender_folders::{
     Entry, FileEntry, FileNumber, Folder, FolderError, FolderFault, MemoryFolder, Moment,
 };
 pub use tracing_appender_rolling::{
-    BuildError, BuildRefusal, Builder, RollingFileAppender, Rotation,
+    BuildError, BuildRefusal, Builder, DiskFolder, Faults, FaultyFolder, InitContext, InitError,
+    RollingFileAppender, Rotation,
 };
 pub use tracing_core_fields::{FieldValue, OwnedValue};
 
