@@ -5,9 +5,9 @@ ghost use Rattle.tracing_appender_rolling.specs.Memory.{memory_contents, nothing
 ghost use Rattle.tracing_appender_rolling.specs.Moments.{is_moment};
 ghost use Rattle.tracing_appender_rolling.specs.Appenders.{AgreesSink, fresh_sink};
 ghost use Rattle.event_formatter_formats.specs.Parts.{default_parts};
-ghost use Rattle.span_registry_layers.specs.CacheValidity.{CacheIsValid};
+ghost use Rattle.span_tracing_outputs.specs.TraceFollows.{IsReady};
 ghost use Rattle.span_tracing_steps.specs.Steps.{StepGives};
-ghost use Rattle.span_tracing_runs.specs.Follows.{registry_of};
+ghost use Rattle.span_tracing_runs.specs.Follows.{StackIsReady, registry_of};
 ghost use Rattle.uses.specs.Programs.{daily_names, file_refusal, message_step, stack_refusal};
 
 use span_registry_layers::Filter;
@@ -15,6 +15,7 @@ use span_tracing::{
     BuildError, Builder, FieldValue, Fields, FileStack, Filtered, Format, Layer, LineFormat,
     MemoryFolder, Moment, Output, OutputKey, OwnedValue, Parent, PendingLines, Refusal, Reply,
     RollingSink, Rotation, Stack, StackError, Timer, Trace, TraceStack, levels_are_honest,
+    setup_follows, trace_starts,
 };
 use std::alloc::{AllocError, Global};
 use tracing_core::{Identifier, LevelFilter, Subscriber};
@@ -41,25 +42,33 @@ fn full_lines(alloc: Global, key: OutputKey) -> Lines
         .fmt_fields(Fields::Default)
 }
 
-// A stack of one output, which writes such lines of what a level passes, and the sink that takes them. What it keeps of
-// the level's answers is right, so that a trace takes it.
+// A stack of one output, which writes such lines of what a level passes, and the sink that takes them. It is ready for
+// its first call.
 fn stack_of_one(
     alloc: Global,
     level: LevelFilter,
     sink: RollingSink<MemoryFolder>,
 ) -> Result<FileStack<LevelFilter, MemoryFolder>, StackError>
-    ensures { IfOk result (λ made. CacheIsValid ⟦<LevelFilter as Filter>⟧ made.stack) }
+    ensures { IfOk result (λ made. IsReady ⟦<LevelFilter as Filter>⟧ made) }
 {
     let key = OutputKey(1);
     let output = Filtered::new(full_lines(alloc, key), level);
-    let mut outputs = Vec::with_capacity(alloc, 1).map_err(|_| StackError::OutOfMemory)?;
+    let Ok(mut outputs) = Vec::with_capacity(alloc, 1) else {
+        return Err(StackError::OutOfMemory);
+    };
     outputs.push_reserved(Output { key, output });
-    let mut sinks = Vec::with_capacity(alloc, 1).map_err(|_| StackError::OutOfMemory)?;
+    let Ok(mut sinks) = Vec::with_capacity(alloc, 1) else {
+        return Err(StackError::OutOfMemory);
+    };
     sinks.push_reserved(sink);
     levels_are_honest::<Lines>();
+    trace_starts::<Fields, Shape, LevelFilter, RollingSink<MemoryFolder>>();
     match Stack::new(alloc, outputs) {
-        // There is a sink for the output.
-        Ok(stack) => TraceStack::new(stack, sinks).or(Err(StackError::NoOutput)),
+        Ok(stack) => match TraceStack::new(stack, sinks) {
+            Ok(made) => Ok(made),
+            // There is a sink for the output.
+            Err(_) => Err(StackError::NoOutput),
+        },
         Err(refused) => Err(refused.error),
     }
 }
@@ -115,10 +124,13 @@ fn trace_over(
     alloc: Global,
     stack: FileStack<LevelFilter, MemoryFolder>,
 ) -> Result<MemoryTrace, Refusal>
-    requires { CacheIsValid ⟦<LevelFilter as Filter>⟧ stack.stack }
+    requires { IsReady ⟦<LevelFilter as Filter>⟧ stack }
+    ensures ready { IfOk result (λ trace. StackIsReady ⟦<LevelFilter as Filter>⟧ ⟦<Lines as span_registry_layers::Layer>⟧
+        trace.stack) }
     ensures reached { IfOk result (λ trace. trace.is_global ≡ true) }
     ensures lane { IfOk result (λ trace. length trace.threads ≡ 1) }
 {
+    setup_follows::<Fields, Shape, LevelFilter, RollingSink<MemoryFolder>>();
     let mut trace = Trace::new(alloc);
     let Ok(_lane) = trace.thread(None, 1) else {
         return Err(Refusal::OutOfMemory);
@@ -147,6 +159,8 @@ pub fn open_trace(
     moment: Moment,
 ) -> Result<MemoryTrace, Refusal>
     ensures moment { is_moment moment ≡ false → result ≡ Err Refusal.BadMoment }
+    ensures ready { IfOk result (λ trace. StackIsReady ⟦<LevelFilter as Filter>⟧ ⟦<Lines as span_registry_layers::Layer>⟧
+        trace.stack) }
     ensures reached { IfOk result (λ trace. trace.is_global ≡ true) }
     ensures lane { IfOk result (λ trace. length trace.threads ≡ 1) }
 {
