@@ -222,6 +222,13 @@ fn a_program_logs_a_line(rt: HostRuntime) -> Result<(), Fail> {
     assert!(rt; trace.register(Identifier(2), &done).is_ok());
     let reply = log_text(alloc, &mut trace, MONDAY, Identifier(2), "finished")?;
     assert!(rt; reply == Reply::Done);
+    // The level leaves out what is more verbose.
+    let names = FieldSet::new(&["message"], Identifier(3));
+    let level = Level::DEBUG;
+    let detail = Metadata::new("detail", "app", level, None, None, None, names, Kind::EVENT);
+    assert!(rt; trace.register(Identifier(3), &detail).is_ok());
+    let reply = log_text(alloc, &mut trace, MONDAY, Identifier(3), "a detail")?;
+    assert!(rt; reply == Reply::Done);
     let stack = trace.stack().ok_or("a stack")?;
     let sink = stack.sinks().first().ok_or("a sink")?;
     let files = sink.appender().folder().files()?;
