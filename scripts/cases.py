@@ -4,8 +4,7 @@
 usage: scripts/cases.py PROGRAM [CASE..]     runs a built program on all cases, or on these
 
 A case NAME is a file NAME.in, which the program reads, and a file NAME.out, which it has to print. Where they aren't nothing, 0 and the one word
-`replay`, NAME.err has what it tells as errors, NAME.status its status, and NAME.args its arguments, a word on each line.
-Those in the folder `later` are what the program can't do yet, and nobody runs them."""
+`replay`, NAME.err has what it tells as errors, NAME.status its status, and NAME.args its arguments, a word on each line."""
 import os
 import shutil
 import subprocess
@@ -16,14 +15,12 @@ from kit import rt
 
 # The program that the cases are run on.
 PROGRAM = "span_trace"
-# The folder of cases that it can't do yet.
-LATER = "later"
 ENDINGS = {".in", ".out", ".err", ".status", ".args"}
 
 
 def sorted_out():
     """Returns the names of the cases, and the files that belong to none: a case has an input and an output."""
-    files, endings = sorted(it for it in os.listdir("cases") if it != LATER) if os.path.isdir("cases") else [], {}
+    files, endings = sorted(os.listdir("cases")) if os.path.isdir("cases") else [], {}
     for it in files:
         endings.setdefault(os.path.splitext(it)[0], set()).add(os.path.splitext(it)[1])
     whole = [it for it, its in endings.items() if {".in", ".out"} <= its <= ENDINGS]

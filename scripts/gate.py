@@ -31,6 +31,8 @@ import ledger  # noqa: E402
 from kit import Crate, rt, rtlib  # noqa: E402
 
 LEDGER = "docs/edits.ledger"
+# The program that the README shows a part of.
+EXAMPLE = "crates/example_log/src/main.rt"
 # What a proof was seen to take at most, in bytes, with what the system needs beside it.
 MEMORY = 3_500_000_000
 
@@ -50,6 +52,17 @@ def refusal_of_text(crate):
     if rtlib.fmt(crate.folder, "--check", sys.stdout):
         return "its files are not in the layout of rt fmt: run rt fmt in the crate's folder"
     return None
+
+
+def shows_its_example():
+    """Returns whether each piece of code that the README shows stands so in the example program."""
+    blocks = re.findall(r"^```rust\n(.*?)^```", text_of("README.md"), re.DOTALL | re.MULTILINE)
+    return all(it in text_of(EXAMPLE) for it in blocks)
+
+
+def text_of(file):
+    """Returns a file's text, and none of a file that isn't there."""
+    return rtlib.text_of(file) if os.path.isfile(file) else ""
 
 
 def is_well_written(crate, crates):
@@ -260,6 +273,7 @@ def run(how, top):
         gate = Gate(crates, room, how, top)
         gate.failed += refused + [f"{it} (an edit's name ends in .edit)" for it in misnamed]
         gate.failed += [f"case file {it} (a case has a file .in and a file .out)" for it in cases.sorted_out()[1]]
+        gate.count(shows_its_example(), f"README.md shows what doesn't stand in {EXAMPLE}")
         if not refused:
             lanes.run(gate.tasks(), processors(), gate.ended)
         if how.edits != "drawn":

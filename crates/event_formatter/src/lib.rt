@@ -9,7 +9,7 @@ pub use event_formatter_formats::{
 };
 pub use event_formatter_layer::Layer;
 pub use event_formatter_lines::{
-    FmtSpan, Head, JsonShape, Place, ShownSpans, Thread, json_fields_keep_objects,
+    FmtSpan, Head, JsonShape, Place, ShownSpan, ShownSpans, Thread, json_fields_keep_objects,
     json_lines_end_once, lines_are_json, push_compact_line, push_full_line, push_json_line,
     push_pretty_line, spans_extend_objects,
 };

@@ -117,6 +117,7 @@ fn pretty_place<'a>(
 /// # Errors
 ///
 /// A value that can't be formatted, or want of memory. What was appended before is to be dropped.
+#[inline(always)]
 pub(crate) fn push_line<N: FormatFields>(
     alloc: Global,
     out: &mut String,

@@ -4,13 +4,15 @@ ghost use Rattle.std.specs.Option.{is_some, option_map};
 ghost use Rattle.tracing_core_requests.specs.PlainRequests.{plain_event};
 ghost use Rattle.span_registry_layers_layers.specs.Contexts.{event_span, lane_span, span_in};
 ghost use Rattle.span_registry_layers_layers.specs.Looks.{view};
-ghost use Rattle.event_formatter_formats.specs.Scopes.{refs_from, target_or_none};
+ghost use Rattle.span_registry_layers_store.specs.References.{plain_ref};
+ghost use Rattle.event_formatter_lines.specs.Shown.{plain_shown};
+ghost use Rattle.event_formatter_formats.specs.Scopes.{refs_from, shown_span, target_or_none};
 ghost use Rattle.event_formatter_formats.specs.Walks.{FillsScope, HasNumber, ShowsScope, first_id, id_of, id_of_ref, ids_from};
 
-use event_formatter_lines::ShownSpans;
+use event_formatter_lines::{ShownSpan, ShownSpans};
 use event_formatter_slots::kept_text;
 use span_registry_layers_layers::Context;
-use span_registry_layers_store::OutputKey;
+use span_registry_layers_store::{OutputKey, SpanRef};
 use std::alloc::AllocError;
 use tracing_core_fields::Id;
 use tracing_core_requests::Event;
@@ -31,6 +33,21 @@ fn target_in<'a>(context: &'a Context<'_>, id: &Id) -> &'a str
     match context.metadata(id) {
         Some(metadata) => metadata.target(),
         None => "",
+    }
+}
+
+// A span as a line shows it.
+#[inline(always)]
+fn shown_span<'a>(span: &SpanRef<'a>, key: OutputKey) -> ShownSpan<'a>
+    ensures { plain_shown result ≡ shown_span key.0 (plain_ref span.now).span }
+{
+    let metadata = span.metadata();
+    // The proof's borrow checker knows the type of the fields by a call alone.
+    let _fields = metadata.fields();
+    ShownSpan {
+        name: metadata.name(),
+        target: metadata.target(),
+        text: kept_text(span, key),
     }
 }
 
@@ -58,6 +75,18 @@ impl ShownSpans for ScopedSpans<'_, '_> {
         match self.context.span(&self.ids[index]) {
             Some(span) => kept_text(&span, self.key),
             None => "",
+        }
+    }
+
+    #[inline(always)]
+    fn span(&self, index: usize) -> ShownSpan<'_> {
+        match self.context.span(&self.ids[index]) {
+            Some(span) => shown_span(&span, self.key),
+            None => ShownSpan {
+                name: "",
+                target: "",
+                text: "",
+            },
         }
     }
 }

@@ -2,7 +2,7 @@
 use Rattle.std.proofs.Common.{arith, ◌≡◌, ◌<◌, ◌+◌, ◌-◌, ℕ, zero, suc, Bool, true, nat_eq, List, [], ◌∷◌, ◌++◌, length, take, get_or, Some, None, refl, sym, ap, ◌∙◌, append_assoc, add-one}
 use Rattle.std.proofs.Math.Seq.{take-suc}
 use Rattle.std.proofs.lemmas.Bool.Decides.{nat_tests}
-use Rattle.std.proofs.lemmas.List.{append-nil}
+use Rattle.std.proofs.lemmas.List.{append-nil, take_all}
 use Rattle.std.proofs.lemmas.Grind.{flat_map-append}
 use Rattle.std.specs.List.{flat_map, join_by, last_or}
 use Rattle.event_formatter_text.specs.Chains.{is_still_first}
@@ -37,3 +37,16 @@ last_is x (y ∷ ys) d = last_is y ys d
 pub last_at : {X : Type 0} (xs : List X) (count : ℕ) (d : X) → count ≡ length xs → 0 < count → last_or None xs ≡ Some (get_or xs (count - 1) d)
 last_at [] count d is some = absurd (omega arith)
 last_at (x ∷ xs) count d is some = last_is x xs d ∙ ap (λ (j : ℕ). Some (get_or (x ∷ xs) j d)) (omega arith)
+
+-- the same with elements that come by themselves
+module _ {X : Type 0} (f : X → List ℕ) (separator : List ℕ) where
+  pub turned_with : (xs : List X) (index : ℕ) (d x : X) (old mid new : List ℕ) → index < length xs → x ≡ get_or xs index d → mid ≡ old ++ join_by f separator (take index xs) →
+      new ≡ mid ++ further separator (nat_eq index 0) (f x) → new ≡ old ++ join_by f separator (take (index + 1) xs)
+  turned_with xs index d x old mid new below is m n =
+      turned f separator xs index d old mid new below m (n ∙ ap (λ (y : X). mid ++ further separator (nat_eq index 0) (f y)) is)
+
+  -- up to the last one
+  pub all_turned : (xs : List X) (place : ℕ) (d x : X) (old mid new : List ℕ) → place + 1 ≡ length xs → x ≡ get_or xs place d → mid ≡ old ++ join_by f separator (take place xs) →
+      new ≡ mid ++ further separator (nat_eq place 0) (f x) → new ≡ old ++ join_by f separator xs
+  all_turned xs place d x old mid new count is m n =
+      turned_with xs place d x old mid new (omega arith) is m n ∙ ap (λ (ys : List X). old ++ join_by f separator ys) (take_all (place + 1) xs (omega arith))

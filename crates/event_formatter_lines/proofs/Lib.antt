@@ -1,8 +1,10 @@
 mod Framing
 mod LeafFirst
 mod Members
+mod Levels
 mod Braces
 mod Joining
+mod LastSpan
 mod Lines
 mod SpanObjects
 mod Moments

@@ -4,6 +4,7 @@ use Rattle.std.proofs.lemmas.List.{append-nil}
 use Rattle.std.proofs.lemmas.Grind.{flat_map-append}
 use Rattle.std.specs.List.{flat_map}
 use Rattle.event_formatter_text.specs.Chains.{Extends, is_still_first}
+use Rattle.event_formatter_text.specs.Escapes.{escaped, json_char, json_string}
 use Rattle.event_formatter_text.specs.Lists.{further, joined}
 use Rattle.event_formatter_lines.specs.Json.{object_of}
 
@@ -24,6 +25,14 @@ one key value is_first old mid new m n = record {
   text = n ∙ ap (λ (t : List ℕ). t ++ value) m ∙ append_assoc old (further (codes ",") is_first key) value ∙ ap (λ (t : List ℕ). old ++ t) (further_joined is_first key value);
   first = refl;
 }
+
+-- a key with the quote that begins its text, and then the text
+pub one_text : (key text : List ℕ) (is_first : Bool) (old begun new : List ℕ) → begun ≡ old ++ further (codes ",") is_first (key ++ codes "\"") → new ≡ begun ++ (escaped json_char text ++ codes "\"") →
+    Extends ((key ++ json_string text) ∷ []) is_first old false new
+unfolding json_string
+one_text key text is_first old begun new b n =
+    let rest : List ℕ = escaped json_char text ++ codes "\"" in
+    rw (sym (append_assoc key (codes "\"") rest)) (one (key ++ codes "\"") rest is_first old begun new b n)
 
 still_chained : (xs ys : List (List ℕ)) (f : Bool) → is_still_first (is_still_first f xs) ys ≡ is_still_first f (xs ++ ys)
 still_chained [] ys f = refl

@@ -5,5 +5,6 @@ pub mod Full
 pub mod Compact
 pub mod Pretty
 pub mod Json
+pub mod Keys
 pub mod JsonLaws
 pub mod FmtSpans

@@ -6,6 +6,7 @@ use event_formatter_text::{FormatError, FormatFields, RecordFields, Settings, Wr
 use std::alloc::Global;
 
 /// Appends the text of the fields.
+#[inline(always)]
 pub(crate) fn push_fields<F: FormatFields, R: RecordFields>(
     alloc: Global,
     out: &mut String,

@@ -30,6 +30,26 @@ fn push_braced(out: &mut String, settings: Settings, text: &str) -> Result<(), A
     push_bold(out, settings, "}")
 }
 
+// Appends a span's text between braces, where it isn't empty, and a colon. Without styles the last brace and the colon are
+// one text.
+#[inline(always)]
+#[tactic(auto, unfolding(event_formatter_text::specs::Styles::styled))]
+fn push_text(out: &mut String, settings: Settings, text: &str) -> Result<(), AllocError>
+    ensures { OnOk result (string_bytes out.new ≡ string_bytes out.old
+        ++ (braced settings text.now ++ dimmed settings (codes ":"))) }
+{
+    if settings.styles {
+        push_braced(out, settings, text)?;
+        return push_dimmed(out, settings, ":");
+    }
+    if text.is_empty() {
+        return out.push(':');
+    }
+    out.push('{')?;
+    out.push_str(text)?;
+    out.push_str("}:")
+}
+
 // Appends a span: its name, its text and a colon.
 #[tactic(auto, unfolding(crate::specs::Full::span_piece))]
 fn push_span<S: ShownSpans>(
@@ -42,9 +62,9 @@ fn push_span<S: ShownSpans>(
     ensures { OnOk result (string_bytes out.new ≡ string_bytes out.old
         ++ span_piece settings (span_at (S.spans spans.now) index)) }
 {
-    push_bold(out, settings, spans.name(index))?;
-    push_braced(out, settings, spans.text(index))?;
-    push_dimmed(out, settings, ":")
+    let span = spans.span(index);
+    push_bold(out, settings, span.name)?;
+    push_text(out, settings, span.text)
 }
 
 // Appends each of the spans.
@@ -77,7 +97,21 @@ fn push_spans<S: ShownSpans>(
     out.push(' ')
 }
 
+// Appends a colon and a space, as one text where styles are off.
+#[inline(always)]
+#[tactic(auto, unfolding(event_formatter_text::specs::Styles::styled))]
+fn push_colon(out: &mut String, settings: Settings) -> Result<(), AllocError>
+    ensures { OnOk result (string_bytes out.new ≡ string_bytes out.old ++ (dimmed settings (codes ":") ++ codes " ")) }
+{
+    if !settings.styles {
+        return out.push_str(": ");
+    }
+    push_dimmed(out, settings, ":")?;
+    out.push(' ')
+}
+
 // Appends the target, and a colon.
+#[inline(always)]
 fn push_target(out: &mut String, settings: Settings, target: Option<&str>) -> Result<(), AllocError>
     ensures { OnOk result (string_bytes out.new ≡ string_bytes out.old
         ++ target_piece settings (option_map (λ text. text.now) target.entry)) }
@@ -86,11 +120,11 @@ fn push_target(out: &mut String, settings: Settings, target: Option<&str>) -> Re
         return Ok(());
     };
     push_dimmed(out, settings, target)?;
-    push_dimmed(out, settings, ":")?;
-    out.push(' ')
+    push_colon(out, settings)
 }
 
 // Appends the file, and a space where no line's number follows.
+#[inline(always)]
 fn push_file(
     out: &mut String,
     settings: Settings,
@@ -135,6 +169,7 @@ fn push_dimmed_number(out: &mut String, settings: Settings, line: u32) -> Result
 }
 
 // Appends the line's number, where it is known, and a space.
+#[inline(always)]
 fn push_line(out: &mut String, settings: Settings, line: Option<u32>) -> Result<(), AllocError>
     ensures { OnOk result (string_bytes out.new ≡ string_bytes out.old ++ line_piece settings line) }
 {

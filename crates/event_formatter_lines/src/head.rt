@@ -1,5 +1,5 @@
 //! What is known of an event beside its fields and spans.
-ghost use Rattle.std.specs.Prelude.{◌≡◌, ◌++◌, OnOk, string_bytes};
+ghost use Rattle.std.specs.Prelude.{◌≡◌, ◌++◌, OnOk, codes, string_bytes};
 ghost use Rattle.std.specs.Option.{option_map};
 ghost use Rattle.tracing_core_fields.specs.Level.{level_name};
 ghost use Rattle.event_formatter_lines.specs.Heads.{in_five_places, level_piece, level_start, level_text, plain_piece, time_piece};
@@ -53,7 +53,29 @@ pub(crate) fn in_five_places(level: Level) -> &'static str
     }
 }
 
+// Appends the level without a style and a space: most levels as one text of a length that the compiler knows.
+#[inline(always)]
+#[tactic(auto, unfolding(crate::specs::Heads::in_five_places))]
+fn push_plain_level(out: &mut String, level: Level) -> Result<(), AllocError>
+    ensures { OnOk result (string_bytes out.new ≡ string_bytes out.old
+        ++ (in_five_places (level_name level) ++ codes " ")) }
+{
+    if level == Level::INFO {
+        out.push_str(" INFO ")
+    } else if level == Level::WARN {
+        out.push_str(" WARN ")
+    } else if level == Level::ERROR {
+        out.push_str("ERROR ")
+    } else if level == Level::DEBUG {
+        out.push_str("DEBUG ")
+    } else {
+        out.push_str(in_five_places(level))?;
+        out.push(' ')
+    }
+}
+
 /// Appends the level, where there is one, and a space.
+#[inline(always)]
 #[tactic(auto, unfolding(event_formatter_text::specs::Styles::styled))]
 pub(crate) fn push_level(
     out: &mut String,
@@ -72,13 +94,13 @@ pub(crate) fn push_level(
             level_start(level.as_str()),
             in_five_places(level),
         )?;
-    } else {
-        out.push_str(in_five_places(level))?;
+        return out.push(' ');
     }
-    out.push(' ')
+    push_plain_level(out, level)
 }
 
 /// Appends the time, dimmed, where there is one, and a space.
+#[inline(always)]
 pub(crate) fn push_time(
     out: &mut String,
     settings: Settings,
@@ -95,6 +117,7 @@ pub(crate) fn push_time(
 }
 
 /// Appends the text as it is, where there is one, and a space.
+#[inline(always)]
 pub(crate) fn push_plain(out: &mut String, text: Option<&str>) -> Result<(), AllocError>
     ensures { OnOk result (string_bytes out.new ≡ string_bytes out.old
         ++ plain_piece (option_map (λ text. text.now) text.entry)) }

@@ -1,5 +1,6 @@
 //! The JSON format: an event as an object on a line of its own.
 
+mod key;
 mod members;
 mod spans;
 
@@ -12,6 +13,7 @@ ghost use Rattle.event_formatter_lines.specs.Json.{field_members, json_line, las
 use crate::head::Head;
 use crate::shown::ShownSpans;
 use event_formatter_text::{FormatError, RecordFields, push_json_members};
+use key::Key;
 use members::{push_first_members, push_key, push_place_members, push_thread_members};
 use spans::push_span_members;
 use std::alloc::AllocError;
@@ -55,7 +57,7 @@ fn push_field_members<R: RecordFields>(
     if flatten_event {
         return push_json_members(out, is_first, fields);
     }
-    push_key(out, is_first, "fields")?;
+    push_key(out, is_first, Key::Fields)?;
     out.push('{')?;
     push_json_members(out, true, fields)?;
     out.push('}')?;

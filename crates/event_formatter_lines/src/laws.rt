@@ -35,8 +35,7 @@ pub fn json_fields_keep_objects()
     values_are_json();
 }
 
-/// No control character stands in JSON as it is written here, and in a line of the JSON format none but the newline at
-/// its end.
+/// No byte below 32 stands in JSON as it is written here, and in a line of the JSON format none but the newline at its end.
 #[tactic(auto, using(crate::proofs::Printed::json_is_printed, crate::proofs::Printed::lines_end_once))]
 pub fn json_lines_end_once()
     ensures printed { JsonIsPrinted }

@@ -22,7 +22,7 @@ pub use laws::{
 };
 pub use place::{Place, Thread};
 pub use pretty::push_pretty_line;
-pub use shown::ShownSpans;
+pub use shown::{ShownSpan, ShownSpans};
 
 #[cfg(test)]
 mod tests;

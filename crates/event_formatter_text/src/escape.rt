@@ -2,7 +2,7 @@
 //!
 //! Most texts have no such character. So their bytes are looked at first, in a loop without branches, and a text that
 //! has none is appended as it is.
-ghost use Rattle.std.specs.Prelude.{◌≡◌, ◌++◌, OnOk, string_bytes};
+ghost use Rattle.std.specs.Prelude.{◌≡◌, ◌++◌, OnOk, codes, string_bytes};
 ghost use Rattle.std.specs.List.{list_any};
 ghost use Rattle.tracing_core_fields.specs.Quoted.{quoted, quoted_char};
 ghost use Rattle.event_formatter_text.specs.Escapes.{escaped, is_special, json_char, json_string, sanitized, sanitized_char, written_char};
@@ -20,6 +20,9 @@ pub(crate) enum Escape {
     Quoted,
 }
 
+// Below so many bytes a text is looked at byte by byte.
+const SHORT: usize = 16;
+
 // Whether a byte may be part of a character that is written out.
 #[inline(always)]
 fn is_special(escape: Escape, byte: u8) -> bool
@@ -34,9 +37,36 @@ fn is_special(escape: Escape, byte: u8) -> bool
     }
 }
 
-// Whether some byte may be part of a character that is written out.
+// The same by as few questions as most bytes need, for a loop that looks at one byte after the other.
 #[inline(always)]
-fn has_special(escape: Escape, bytes: &[u8]) -> bool
+fn is_special_byte(escape: Escape, byte: u8) -> bool
+    ensures { result ≡ is_special escape byte }
+{
+    match escape {
+        Escape::Sanitized if byte < 0x7f => byte < 0x20,
+        Escape::Sanitized => byte == 0x7f || byte == 0xc2,
+        Escape::Json | Escape::Quoted if byte <= b'"' => byte < 0x20 || byte == b'"',
+        Escape::Json => byte == b'\\',
+        Escape::Quoted => byte == b'\\' || byte == 0x7f || byte == 0xc2,
+    }
+}
+
+// The same of a short text, up to the first such byte.
+#[inline(always)]
+fn has_special_near(escape: Escape, bytes: &[u8]) -> bool
+    ensures { result ≡ list_any (is_special escape) bytes.now }
+{
+    for byte in bytes {
+        if is_special_byte(escape, *byte) {
+            return true;
+        }
+    }
+    false
+}
+
+// The same of a long text, without branches, so that the compiler looks at many bytes at once.
+#[inline(always)]
+fn has_special_far(escape: Escape, bytes: &[u8]) -> bool
     ensures { result ≡ list_any (is_special escape) bytes.now }
 {
     let mut found = false;
@@ -44,6 +74,18 @@ fn has_special(escape: Escape, bytes: &[u8]) -> bool
         found |= is_special(escape, *byte);
     }
     found
+}
+
+// Whether some byte may be part of a character that is written out.
+#[inline(always)]
+fn has_special(escape: Escape, bytes: &[u8]) -> bool
+    ensures { result ≡ list_any (is_special escape) bytes.now }
+{
+    if bytes.len() < SHORT {
+        has_special_near(escape, bytes)
+    } else {
+        has_special_far(escape, bytes)
+    }
 }
 
 #[tactic(auto, unfolding(crate::specs::Escapes::sanitized_char))]
@@ -145,6 +187,19 @@ pub(crate) fn push_sanitized(out: &mut String, text: &str) -> Result<(), AllocEr
     push_escaped(out, Escape::Sanitized, text)
 }
 
+/// Appends what stands behind the first quote of the text as a JSON string, up to the last quote.
+///
+/// # Errors
+///
+/// Want of memory. What was appended before is to be dropped.
+pub fn push_json_rest(out: &mut String, text: &str) -> Result<(), AllocError>
+    ensures { OnOk result (string_bytes out.new ≡ string_bytes out.old
+        ++ (escaped json_char text.now ++ codes "\"")) }
+{
+    push_escaped(out, Escape::Json, text)?;
+    out.push('"')
+}
+
 /// Appends the text as a JSON string.
 ///
 /// # Errors
@@ -155,8 +210,7 @@ pub fn push_json_string(out: &mut String, text: &str) -> Result<(), AllocError>
     ensures { OnOk result (string_bytes out.new ≡ string_bytes out.old ++ json_string text.now) }
 {
     out.push('"')?;
-    push_escaped(out, Escape::Json, text)?;
-    out.push('"')
+    push_json_rest(out, text)
 }
 
 /// Appends the text between quotes, as debug text shows it.

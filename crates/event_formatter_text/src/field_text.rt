@@ -4,8 +4,10 @@ ghost use Rattle.tracing_core_fields.specs.DebugText.{plain_debug};
 ghost use Rattle.tracing_core_fields.specs.ErrorText.{error_text, source_texts};
 ghost use Rattle.tracing_core_fields.specs.PlainDebug.{bytes_text};
 ghost use Rattle.tracing_core_fields.specs.Quoted.{quoted};
+ghost use Rattle.tracing_core_fields.specs.Texts.{texts_in};
+ghost use Rattle.std.specs.Fmt.{decimal};
 ghost use Rattle.std.specs.Option.{option_map};
-ghost use Rattle.event_formatter_text.specs.FieldTexts.{field_piece, is_message, label, mark, own_text, plain_name, separator, shown, shown_later, shown_list, sources_label, sources_text, truth_text, value_text};
+ghost use Rattle.event_formatter_text.specs.FieldTexts.{field_piece, is_message, label, mark, plain_name, separator, shown, shown_later, shown_list, sources_label, sources_text, truth_text, value_text};
 ghost use Rattle.event_formatter_text.specs.Lists.{Formats, further};
 ghost use Rattle.event_formatter_text.specs.Styles.{dimmed};
 
@@ -15,7 +17,8 @@ use crate::settings::Settings;
 use crate::style::{push_dimmed, push_italic};
 use itoa::{Buffer, Integer};
 use std::alloc::AllocError;
-use tracing_core_fields::{DebugText, ErrorText};
+use std::convert::AsStr;
+use tracing_core_fields::{DebugText, ErrorText, Texts};
 
 /// How fields are told apart in a text.
 #[derive(Clone, Copy, Debug, PartialEq, Eq)]
@@ -79,6 +82,17 @@ pub(crate) fn push_number<I: Integer>(out: &mut String, number: I) -> Result<(),
     out.push_str(buffer.format(number))
 }
 
+/// Appends a number in decimal digits. One that is a single digit is pushed as that.
+#[inline(always)]
+pub(crate) fn push_unsigned(out: &mut String, number: u64) -> Result<(), AllocError>
+    ensures { OnOk result (string_bytes out.new ≡ string_bytes out.old ++ decimal number) }
+{
+    if number < 10 {
+        return out.push((b'0' + number as u8) as char);
+    }
+    push_number(out, number)
+}
+
 /// Appends `true` or `false`.
 pub(crate) fn push_bool(out: &mut String, truth: bool) -> Result<(), AllocError>
     ensures { OnOk result (string_bytes out.new ≡ string_bytes out.old ++ truth_text truth) }
@@ -99,39 +113,64 @@ pub(crate) fn push_shown(out: &mut String, settings: Settings, text: &str) -> Re
 }
 
 // Appends the texts, `, ` before each.
-fn push_shown_later(out: &mut String, settings: Settings, texts: &[&str]) -> Result<(), AllocError>
+fn push_shown_later<S: AsStr>(
+    out: &mut String,
+    settings: Settings,
+    texts: &[S],
+) -> Result<(), AllocError>
     ensures { OnOk result (string_bytes out.new ≡ string_bytes out.old
-        ++ shown_later settings (map (λ text. text.now) texts.now)) }
+        ++ shown_later settings (map S.text texts.now)) }
 {
     for text in texts {
         out.push_str(", ")?;
-        push_shown(out, settings, text)?;
+        push_shown(out, settings, text.as_str())?;
     }
     Ok(())
 }
 
 // Appends the texts, `, ` between each two.
-fn push_shown_list(out: &mut String, settings: Settings, texts: &[&str]) -> Result<(), AllocError>
+fn push_shown_list<S: AsStr>(
+    out: &mut String,
+    settings: Settings,
+    texts: &[S],
+) -> Result<(), AllocError>
     ensures { OnOk result (string_bytes out.new ≡ string_bytes out.old
-        ++ shown_list settings (map (λ text. text.now) texts.now)) }
+        ++ shown_list settings (map S.text texts.now)) }
 {
     let [first, later @ ..] = texts else {
         return Ok(());
     };
-    push_shown(out, settings, first)?;
+    push_shown(out, settings, first.as_str())?;
     push_shown_later(out, settings, later)
 }
 
-/// Appends what stands before a field's value.
-pub(crate) fn push_label(
+// Appends the texts, `, ` between each two, however they are lent.
+fn push_shown_texts(
+    out: &mut String,
+    settings: Settings,
+    texts: &Texts<'_>,
+) -> Result<(), AllocError>
+    ensures { OnOk result (string_bytes out.new ≡ string_bytes out.old ++ shown_list settings (texts_in texts.now)) }
+{
+    match texts {
+        Texts::Lent(texts) => push_shown_list(out, settings, texts),
+        Texts::Owned(texts) => push_shown_list(out, settings, texts),
+    }
+}
+
+// Appends what stands before a field's value. Whether the field is the message is asked once, by whoever calls.
+#[inline(always)]
+fn push_label(
     out: &mut String,
     settings: Settings,
     punctuation: Punctuation,
+    in_message: bool,
     name: &str,
 ) -> Result<(), AllocError>
+    requires { in_message ≡ is_message name.now }
     ensures { OnOk result (string_bytes out.new ≡ string_bytes out.old ++ label settings punctuation name.now) }
 {
-    if is_message(name) {
+    if in_message {
         return Ok(());
     }
     push_italic(out, settings, plain_name(name))?;
@@ -139,27 +178,33 @@ pub(crate) fn push_label(
 }
 
 // Appends a text that was written before.
-fn push_own(out: &mut String, settings: Settings, name: &str, text: &str) -> Result<(), AllocError>
-    ensures { OnOk result (string_bytes out.new ≡ string_bytes out.old ++ own_text settings name.now text.now) }
+fn push_own(
+    out: &mut String,
+    settings: Settings,
+    in_message: bool,
+    text: &str,
+) -> Result<(), AllocError>
+    ensures { OnOk result (string_bytes out.new ≡ string_bytes out.old
+        ++ (if in_message then shown settings text.now else text.now)) }
 {
-    if is_message(name) {
+    if in_message {
         push_shown(out, settings, text)
     } else {
         out.push_str(text)
     }
 }
 
-/// Appends a text: itself in a message, else between quotes.
-pub(crate) fn push_text(
+// Appends a text: itself in a message, else between quotes.
+fn push_text(
     out: &mut String,
     settings: Settings,
-    name: &str,
+    in_message: bool,
     text: &str,
 ) -> Result<(), AllocError>
     ensures { OnOk result (string_bytes out.new ≡ string_bytes out.old
-        ++ (if is_message name.now then shown settings text.now else quoted text.now)) }
+        ++ (if in_message then shown settings text.now else quoted text.now)) }
 {
-    if is_message(name) {
+    if in_message {
         push_shown(out, settings, text)
     } else {
         push_quoted(out, text)
@@ -187,18 +232,18 @@ fn push_sources(
     settings: Settings,
     punctuation: Punctuation,
     name: &str,
-    sources: &[&str],
+    sources: &Texts<'_>,
 ) -> Result<(), AllocError>
     ensures { OnOk result (string_bytes out.new ≡ string_bytes out.old
-        ++ sources_text settings punctuation name.now (map (λ source. source.now) sources.now)) }
+        ++ sources_text settings punctuation name.now (texts_in sources.now)) }
 {
-    let [_, ..] = sources else {
+    if sources.is_empty() {
         return Ok(());
-    };
+    }
     push_separator(out, punctuation)?;
     push_sources_label(out, settings, punctuation, name)?;
     out.push('[')?;
-    push_shown_list(out, settings, sources)?;
+    push_shown_texts(out, settings, sources)?;
     out.push(']')
 }
 
@@ -214,7 +259,7 @@ fn push_error(
         ++ sources_text settings punctuation name.now (source_texts error.now))) }
 {
     push_shown(out, settings, error.text())?;
-    push_sources(out, settings, punctuation, name, error.sources())
+    push_sources(out, settings, punctuation, name, &error.sources())
 }
 
 // Appends bytes in brackets.
@@ -224,26 +269,28 @@ fn push_bytes(out: &mut String, bytes: &[u8]) -> Result<(), AllocError>
     write!(out, "{:?}", DebugText::Bytes(bytes))
 }
 
-/// Appends what stands for a value; nothing for one that can't be formatted.
-pub(crate) fn push_value(
+// Appends what stands for a value; nothing for one that can't be formatted.
+fn push_value(
     out: &mut String,
     settings: Settings,
     punctuation: Punctuation,
+    in_message: bool,
     name: &str,
     value: &DebugText<'_>,
 ) -> Result<(), AllocError>
+    requires { in_message ≡ is_message name.now }
     ensures { OnOk result (string_bytes out.new ≡ string_bytes out.old
         ++ unwrap_or (value_text settings punctuation name.now (plain_debug value.now)) []) }
 {
     match value {
-        DebugText::Texts { plain, .. } => push_own(out, settings, name, plain),
+        DebugText::Texts { plain, .. } => push_own(out, settings, in_message, plain),
         DebugText::Failing => Ok(()),
         DebugText::I64(number) => push_number(out, *number),
-        DebugText::U64(number) => push_number(out, *number),
+        DebugText::U64(number) => push_unsigned(out, *number),
         DebugText::I128(number) => push_number(out, *number),
         DebugText::U128(number) => push_number(out, *number),
         DebugText::Bool(truth) => push_bool(out, *truth),
-        DebugText::Str(text) => push_text(out, settings, name, text),
+        DebugText::Str(text) => push_text(out, settings, in_message, text),
         DebugText::Bytes(bytes) => push_bytes(out, bytes),
         DebugText::Error(error) => push_error(out, settings, punctuation, name, error),
     }
@@ -268,7 +315,8 @@ pub(crate) fn push_field(
     if !is_first {
         push_separator(out, punctuation)?;
     }
-    push_label(out, settings, punctuation, name)?;
-    push_value(out, settings, punctuation, name, value)?;
+    let in_message = is_message(name);
+    push_label(out, settings, punctuation, in_message, name)?;
+    push_value(out, settings, punctuation, in_message, name, value)?;
     Ok(())
 }

@@ -2,12 +2,13 @@
 ghost use Rattle.std.specs.Prelude.{◌≡◌, ◌++◌, [], OnOk, codes, string_bytes, unwrap_or};
 ghost use Rattle.std.specs.Option.{option_map};
 ghost use Rattle.tracing_core_fields.specs.DebugText.{plain_debug};
+ghost use Rattle.event_formatter_text.specs.Escapes.{json_string};
 ghost use Rattle.event_formatter_text.specs.JsonTexts.{json_piece, json_value, later_numbers, numbers_inside};
 ghost use Rattle.event_formatter_text.specs.Lists.{Formats, further};
 
 use crate::error::FormatError;
-use crate::escape::push_json_string;
-use crate::field_text::{plain_name, push_bool, push_number};
+use crate::escape::{push_json_rest, push_json_string};
+use crate::field_text::{plain_name, push_bool, push_number, push_unsigned};
 use itoa::Integer;
 use std::alloc::AllocError;
 use tracing_core_fields::DebugText;
@@ -63,7 +64,7 @@ pub(crate) fn push_json_value(out: &mut String, value: &DebugText<'_>) -> Result
         DebugText::Texts { plain, .. } => push_json_string(out, plain),
         DebugText::Failing => Ok(()),
         DebugText::I64(number) => push_number(out, *number),
-        DebugText::U64(number) => push_number(out, *number),
+        DebugText::U64(number) => push_unsigned(out, *number),
         DebugText::I128(number) => push_quoted_number(out, *number),
         DebugText::U128(number) => push_quoted_number(out, *number),
         DebugText::Bool(truth) => push_bool(out, *truth),
@@ -71,6 +72,22 @@ pub(crate) fn push_json_value(out: &mut String, value: &DebugText<'_>) -> Result
         DebugText::Bytes(bytes) => push_array(out, bytes),
         DebugText::Error(error) => push_json_string(out, error.text()),
     }
+}
+
+// Appends a key and a colon, behind a comma unless it is the first.
+#[inline(always)]
+#[tactic(auto, unfolding(crate::specs::Escapes::json_string))]
+fn push_key(out: &mut String, is_first: bool, key: &str) -> Result<(), AllocError>
+    ensures { OnOk result (string_bytes out.new ≡ string_bytes out.old
+        ++ further (codes ",") is_first (json_string key.now ++ codes ":")) }
+{
+    if is_first {
+        out.push('"')?;
+    } else {
+        out.push_str(",\"")?;
+    }
+    push_json_rest(out, key)?;
+    out.push(':')
 }
 
 /// Appends a field as a member, behind a comma unless it is the first; nothing of one that can't be formatted.
@@ -86,11 +103,7 @@ pub(crate) fn push_member(
     if matches!(value, DebugText::Failing) {
         return Err(FormatError::Failed);
     }
-    if !is_first {
-        out.push(',')?;
-    }
-    push_json_string(out, plain_name(name))?;
-    out.push(':')?;
+    push_key(out, is_first, plain_name(name))?;
     push_json_value(out, value)?;
     Ok(())
 }

@@ -15,6 +15,7 @@ pub(crate) fn push_digit(out: &mut String, number: u32) -> Result<(), AllocError
 }
 
 /// Appends a number below 100 in two digits.
+#[inline(always)]
 pub(crate) fn push_two(out: &mut String, number: u32) -> Result<(), AllocError>
     requires { number < 100 }
     ensures { OnOk result (string_bytes out.new ≡ string_bytes out.old ++ two_digits number) }
@@ -24,6 +25,7 @@ pub(crate) fn push_two(out: &mut String, number: u32) -> Result<(), AllocError>
 }
 
 /// Appends a number below 1,000 in three digits.
+#[inline(always)]
 pub(crate) fn push_three(out: &mut String, number: u32) -> Result<(), AllocError>
     requires { number < 1000 }
     ensures { OnOk result (string_bytes out.new ≡ string_bytes out.old ++ three_digits number) }
@@ -33,6 +35,7 @@ pub(crate) fn push_three(out: &mut String, number: u32) -> Result<(), AllocError
 }
 
 /// Appends a number below 1,000,000 in six digits.
+#[inline(always)]
 pub(crate) fn push_six(out: &mut String, number: u32) -> Result<(), AllocError>
     requires { number < 1000000 }
     ensures { OnOk result (string_bytes out.new ≡ string_bytes out.old ++ six_digits number) }

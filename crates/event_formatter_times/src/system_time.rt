@@ -59,6 +59,7 @@ fn clock_of(second: i64) -> u32
 
 // The second with its text.
 #[tactic(auto, unfolding(crate::specs::Times::second_text))]
+#[inline(never)]
 fn second_with_text(alloc: Global, second: i64) -> Result<LastSecond, AllocError>
     requires { is_date (day_at second) ≡ true }
     ensures { IfOk result (λ last. last.second ≡ second) }
@@ -85,15 +86,25 @@ impl SystemTime {
         SystemTime { last: None }
     }
 
-    // The second with its text, the last one where it is the same.
-    fn take(&mut self, alloc: Global, second: i64) -> Result<LastSecond, AllocError>
+    // Appends the text of the second, the last one where it is the same.
+    fn push_second(
+        &mut self,
+        alloc: Global,
+        out: &mut String,
+        second: i64,
+    ) -> Result<(), AllocError>
         requires { is_date (day_at second) ≡ true }
-        ensures { IfOk result (λ last. last.second ≡ second) }
+        ensures { OnOk result (string_bytes out.new ≡ string_bytes out.old ++ second_text second) }
     {
-        match self.last.take() {
-            Some(last) if last.second == second => Ok(last),
-            _ => second_with_text(alloc, second),
+        if let Some(last) = &self.last {
+            if last.second == second {
+                return out.push_str(last.text.as_str());
+            }
         }
+        let last = second_with_text(alloc, second)?;
+        out.push_str(last.text.as_str())?;
+        self.last = Some(last);
+        Ok(())
     }
 }
 
@@ -110,9 +121,7 @@ impl FormatTime for SystemTime {
         if nanoseconds >= 1_000_000_000 || !is_date_day(seconds.div_euclid(86_400)) {
             return Err(FormatError::Failed);
         }
-        let last = self.take(alloc, seconds)?;
-        out.push_str(last.text.as_str())?;
-        self.last = Some(last);
+        self.push_second(alloc, out, seconds)?;
         push_fraction(out, nanoseconds)?;
         Ok(())
     }

@@ -1,10 +1,14 @@
 //! Logs one event inside a span, and prints the log file.
 #![tactic(auto)]
 
-use span_tracing::{FieldValue, Moment, OwnedValue, Parent, Reply, SpanName};
+use span_tracing::{
+    Builder, FieldValue, Fields, FileStack, Filtered, Format, Layer, LineFormat, MemoryFolder,
+    Moment, Output, OutputKey, OwnedValue, Parent, PendingLines, Reply, RollingSink, Rotation,
+    SpanName, Stack, Timer, Trace, TraceStack,
+};
+use std::alloc::Global;
 use std::process::ExitCode;
 use tracing_core::{FieldSet, Identifier, Kind, Level, LevelFilter, Metadata};
-use uses::program::{MemoryTrace, log_text, open_trace};
 
 const WORK: Identifier = Identifier(1);
 
@@ -16,8 +20,56 @@ const NOW: Moment = Moment {
     nanoseconds: 0,
 };
 
+/// A layer that writes lines of any format.
+type Lines = Layer<Fields, Format<LineFormat, Timer>, PendingLines>;
+
+/// A trace whose outputs stand under levels and write to files in memory.
+type FileTrace = Trace<FileStack<LevelFilter, MemoryFolder>>;
+
+/// A trace with one output, which writes what is at least of the level INFO to `app.DAY.log`.
+fn open(alloc: Global) -> Option<FileTrace> {
+    let layer: Lines = Layer::new(alloc, OutputKey(1), PendingLines::new(alloc))
+        .without_time()
+        .with_timer(Timer::Empty)
+        .map_event_format(|format| format.with_shape(LineFormat::Full))
+        .fmt_fields(Fields::Default);
+    let output = Filtered::new(layer, LevelFilter::INFO);
+    let mut outputs = Vec::new(alloc);
+    outputs
+        .push(Output {
+            key: OutputKey(1),
+            output,
+        })
+        .ok()?;
+    let stack = Stack::new(alloc, outputs).ok()?;
+    let prefix = String::from_str(alloc, "app").ok()?;
+    let suffix = String::from_str(alloc, "log").ok()?;
+    let files = Builder::new()
+        .rotation(Rotation::DAILY)
+        .filename_prefix(prefix)
+        .filename_suffix(suffix);
+    let file = files.build(alloc, MemoryFolder::new(alloc), NOW).ok()?;
+    let mut sinks = Vec::new(alloc);
+    sinks.push(RollingSink::new(file)).ok()?;
+    let stack = TraceStack::new(stack, sinks).ok()?;
+    let mut trace = Trace::new(alloc);
+    let handle = trace.add_stack(stack).ok()?;
+    let _lane = trace.thread(None, 1).ok()?;
+    match trace.set_global_default(handle) {
+        Reply::Done => Some(trace),
+        _ => None,
+    }
+}
+
+/// Logs an event on lane 0, in the span that the lane is in.
+fn log_finished(alloc: Global, trace: &mut FileTrace) -> Option<Reply> {
+    let value = OwnedValue::Text(String::from_str(alloc, "finished").ok()?);
+    let message = FieldValue { field: 0, value };
+    Some(trace.event(0, NOW, DONE, Parent::Contextual, &[message]))
+}
+
 /// Registers where the program's spans and events come from.
-fn register(trace: &mut MemoryTrace) -> bool {
+fn register(trace: &mut FileTrace) -> bool {
     let names = FieldSet::new(&["job"], WORK);
     let level = Level::INFO;
     let work = Metadata::new("work", "app", level, None, None, None, names, Kind::SPAN);
@@ -36,15 +88,15 @@ struct Job {
 }
 
 /// Logs an event inside the span of a job, on lane 0.
-fn log(rt: &HostRuntime, trace: &mut MemoryTrace, job: &Job) -> bool {
+fn log(rt: &HostRuntime, trace: &mut FileTrace, job: &Job) -> bool {
     let entered = trace.enter(0, NOW, job.span);
-    let logged = log_text(rt.alloc(), trace, NOW, DONE, "finished");
+    let logged = log_finished(rt.alloc(), trace);
     let exited = trace.exit(0, NOW, job.span);
-    entered == Reply::Done && logged == Ok(Reply::Done) && exited == Reply::Done
+    entered == Reply::Done && logged == Some(Reply::Done) && exited == Reply::Done
 }
 
 /// Does job 7.
-fn do_job(rt: &HostRuntime, trace: &mut MemoryTrace) -> bool {
+fn do_job(rt: &HostRuntime, trace: &mut FileTrace) -> bool {
     let number = FieldValue {
         field: 0,
         value: OwnedValue::U64(7),
@@ -57,7 +109,7 @@ fn do_job(rt: &HostRuntime, trace: &mut MemoryTrace) -> bool {
 }
 
 /// Prints each file of the output, by its name.
-fn print_files(rt: &HostRuntime, trace: &MemoryTrace) -> Result<bool, std::io::Error> {
+fn print_files(rt: &HostRuntime, trace: &FileTrace) -> Result<bool, std::io::Error> {
     let Some(stack) = trace.stack() else {
         return Ok(false);
     };
@@ -72,7 +124,7 @@ fn print_files(rt: &HostRuntime, trace: &MemoryTrace) -> Result<bool, std::io::E
 }
 
 fn run(rt: &HostRuntime) -> Result<bool, std::io::Error> {
-    let Ok(mut trace) = open_trace(rt.alloc(), "app", LevelFilter::INFO, NOW) else {
+    let Some(mut trace) = open(rt.alloc()) else {
         return Ok(false);
     };
     if !register(&mut trace) || !do_job(rt, &mut trace) {

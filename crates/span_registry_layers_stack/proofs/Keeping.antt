@@ -7,7 +7,7 @@ use Rattle.span_registry_layers_stack.specs.Rows.{EachBecomes}
 use Rattle.span_registry_layers_stack.specs.Sites.{KeepsInterest, KeptIf, Renews, is_of, plain_cached_interest, renewed}
 use Rattle.span_registry_layers_stack.specs.declared.cached_interest.CachedInterest.{CachedInterest}
 
-renewed_all : (m : PlainMetadata) (k : PlainInterest) (sites later : List CachedInterest) → EachBecomes (Renews m k) sites later → map plain_cached_interest later ≡ map (renewed m k) (map plain_cached_interest sites)
+pub renewed_all : (m : PlainMetadata) (k : PlainInterest) (sites later : List CachedInterest) → EachBecomes (Renews m k) sites later → map plain_cached_interest later ≡ map (renewed m k) (map plain_cached_interest sites)
 renewed_all m k [] [] w = refl
 renewed_all m k [] (t ∷ ts) w = absurd w
 renewed_all m k (s ∷ ss) [] w = absurd w

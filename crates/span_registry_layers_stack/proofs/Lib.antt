@@ -1,6 +1,7 @@
 pub mod Telling
 pub mod Loops
 pub mod Keeping
+mod Refusing
 pub mod OnStack
 pub mod Written
 pub mod Closing

@@ -1,5 +1,6 @@
 pub mod Rows
 pub mod Sites
+pub mod Refusals
 pub mod Asked
 pub mod Stacks
 pub mod CacheValidity

@@ -15,7 +15,7 @@ use Rattle.span_registry_layers_layers.specs.declared.filtered.Filtered.{Filtere
 use Rattle.span_registry_layers_layers.specs.declared.layer.Layer.{Ghosts as LayerGhosts}
 use Rattle.span_registry_layers_stack.specs.Asked.{SomePasses, SomePassesBy}
 use Rattle.span_registry_layers_stack.specs.Rows.{Afresh, AsksEventBy, EachBecomes, TellsEvent, marked}
-use Rattle.span_registry_layers_stack.specs.Sites.{CachesInterest, PlainCachedInterest, is_refused_by, plain_cached_interest}
+use Rattle.span_registry_layers_stack.specs.Sites.{CachesInterest, PlainCachedInterest, is_refused_by}
 use Rattle.span_registry_layers_stack.specs.declared.parts.StackParts.{StackParts}
 use Rattle.span_registry_layers_stack.specs.declared.row.Row.{Row}
 
@@ -27,7 +27,7 @@ pub record StackValue (O : Type 0) : Type 0 where
   pub hint : Option ℕ
 
 abbrev pub plain_stack : {O : Type 0} → StackParts O → StackValue O
-plain_stack s = record { registry = s.registry; rows = s.rows.items; sites = map plain_cached_interest s.sites.items; hint = s.hint }
+plain_stack s = record { registry = s.registry; rows = s.rows.items; sites = s.sites; hint = s.hint }
 
 -- a level is above the hint, where there is one
 abbrev pub is_above : Option ℕ → ℕ → Bool

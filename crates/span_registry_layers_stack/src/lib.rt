@@ -5,6 +5,7 @@ mod cached_interest;
 mod laws;
 mod output;
 mod parts;
+mod refusals;
 mod row;
 mod rows;
 mod sites;

@@ -1,12 +1,11 @@
 //! The state of a stack.
-ghost use Rattle.std.specs.Prelude.{◌≡◌, Some, map};
+ghost use Rattle.std.specs.Prelude.{◌≡◌, Some};
 ghost use Rattle.std.specs.Option.{option_copied};
 ghost use Rattle.tracing_core_fields.specs.Metadata.{plain_metadata};
 ghost use Rattle.tracing_core_requests.specs.PlainRequests.{plain_event};
 ghost use Rattle.span_registry_layers_store.specs.Registries.{knows};
 ghost use Rattle.span_registry_layers_stack.specs.Asked.{CommonInterest, common_hint};
 ghost use Rattle.span_registry_layers_stack.specs.Rows.{filters_of};
-ghost use Rattle.span_registry_layers_stack.specs.Sites.{KeepsInterest, plain_cached_interest};
 ghost use Rattle.span_registry_layers_stack.specs.Stacks.{EventCached, EventUnless, PassesCached, PassesUnless, Registers, TellsAll, cleared, is_above, is_refused, plain_stack, with_hint};
 
 mod new;
@@ -14,14 +13,13 @@ mod spans;
 mod swapping;
 mod telling;
 
-use crate::cached_interest::CachedInterest;
 use crate::row::Row;
 use crate::rows::{any_passes, ask_hint, ask_interest, clear_marks};
-use crate::sites::{is_kept, refuse, renew};
+use crate::sites::Sites;
 use span_registry_layers_layers::{Filter, Filtered, Layer};
 use span_registry_layers_store::Registry;
 use std::alloc::Global;
-use tracing_core_fields::{Id, Level, LevelFilter, Metadata, OwnedMetadata};
+use tracing_core_fields::{Id, Level, LevelFilter, Metadata};
 use tracing_core_requests::{At, Event, Interest, RequestError};
 
 /// The outputs in order, the registry of their spans, and what is kept of their filters' answers.
@@ -30,7 +28,7 @@ pub(crate) struct StackParts<O> {
     pub(crate) alloc: Global,
     pub(crate) registry: Registry,
     pub(crate) rows: Vec<Row<O>>,
-    pub(crate) sites: Vec<CachedInterest>,
+    pub(crate) sites: Sites,
     pub(crate) hint: Option<LevelFilter>,
 }
 
@@ -58,28 +56,7 @@ impl<O> StackParts<O> {
     pub(crate) fn refuses(&self, metadata: &Metadata<'_>) -> bool
         ensures { result ≡ is_refused (plain_stack self.now) (plain_metadata metadata.now) }
     {
-        is_above(self.hint, *metadata.level()) || refuse(&self.sites, metadata)
-    }
-
-    // Keeps the interest, where there is room, and answers whether it is kept.
-    fn keep(&mut self, metadata: &Metadata<'_>, interest: Interest) -> bool
-        ensures sites { KeepsInterest result (plain_metadata metadata.now) interest
-            (map plain_cached_interest self.old.sites.items) (map plain_cached_interest self.new.sites.items) }
-        ensures rest { plain_stack self.new ≡ record (plain_stack self.old) {
-          sites = map plain_cached_interest self.new.sites.items;
-        } }
-    {
-        if is_kept(&self.sites, metadata) {
-            renew(&mut self.sites, metadata, interest);
-            return true;
-        }
-        let Ok(metadata) = OwnedMetadata::new(self.alloc, metadata) else {
-            return false;
-        };
-        match self.sites.push(CachedInterest { metadata, interest }) {
-            Ok(()) => true,
-            Err(_) => false,
-        }
+        is_above(self.hint, *metadata.level()) || self.sites.refuse(metadata)
     }
 
     // No filter passed the last request.
@@ -98,7 +75,7 @@ impl<L: Layer, F: Filter> StackParts<Filtered<L, F>> {
         ensures state { Registers (plain_metadata metadata.now) result (plain_stack self.old) (plain_stack self.new) }
     {
         let interest = ask_interest(&self.rows, metadata);
-        let _kept = self.keep(metadata, interest);
+        let _kept = self.sites.keep(self.alloc, metadata, interest);
         interest
     }
 

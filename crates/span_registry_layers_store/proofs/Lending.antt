@@ -6,10 +6,9 @@ use Rattle.std.proofs.lemmas.Option.{none-some, slice_get_past}
 use Rattle.span_registry_layers_store.specs.Keeping.{with_places}
 use Rattle.span_registry_layers_store.specs.SlotLoans.{IsSlotToLend, IsSpanToLend, slots_of}
 use Rattle.span_registry_layers_store.specs.Places.{IsPlace, kin_of}
-use Rattle.span_registry_layers_store.specs.Registries.{kin_in, plain_registry, plain_span}
+use Rattle.span_registry_layers_store.specs.Registries.{kin_in, plain_span}
 use Rattle.span_registry_layers_store.specs.Slots.{IsSlotPlace, PlainPlace, plain_place, plain_slot}
 use Rattle.span_registry_layers_store.specs.Spans.{changed, found, is_open}
-use Rattle.span_registry_layers_store.specs.declared.parts.RegistryParts.{RegistryParts}
 use Rattle.span_registry_layers_store.specs.declared.slot.Place.{Place}
 use Rattle.span_registry_layers_store.specs.declared.slot.Tag.{Tag}
 use Rattle.span_registry_layers_store.specs.declared.span.Span.{Span}
@@ -52,18 +51,18 @@ no_span_to_lend spans id none = (
 )
 
 -- the slots of the span that stands there
-pub some_lent : (r : RegistryParts) (slice : List Span) (id place : ℕ) (s : Span) → slice ≡ r.spans.items → IsSpanToLend slice id place → slice_get r.spans.items place ≡ Some s → Some s.slots ≡ option_map slots_of (found kin_in (plain_registry r).spans id)
-some_lent r slice id place s same lends here =
+pub some_lent : (xs slice : List Span) (id place : ℕ) (s : Span) → slice ≡ xs → IsSpanToLend slice id place → slice_get xs place ≡ Some s → Some s.slots ≡ option_map slots_of (found kin_in (map plain_span xs) id)
+some_lent xs slice id place s same lends here =
     ap (option_map (λ (x : Span). x.slots)) (sym here) ∙ ap (λ ss. option_map (λ (x : Span). x.slots) (slice_get ss place)) (sym same) ∙ lends.0
     ∙ ap (λ ss. option_map slots_of (found kin_in (map plain_span ss) id)) same
 
-pub none_lent : (r : RegistryParts) (slice : List Span) (id place : ℕ) → slice ≡ r.spans.items → IsSpanToLend slice id place → slice_get r.spans.items place ≡ None → None ≡ option_map slots_of (found kin_in (plain_registry r).spans id)
-none_lent r slice id place same lends past =
+pub none_lent : (xs slice : List Span) (id place : ℕ) → slice ≡ xs → IsSpanToLend slice id place → slice_get xs place ≡ None → None ≡ option_map slots_of (found kin_in (map plain_span xs) id)
+none_lent xs slice id place same lends past =
     ap (option_map (λ (x : Span). x.slots)) (sym past) ∙ ap (λ ss. option_map (λ (x : Span). x.slots) (slice_get ss place)) (sym same) ∙ lends.0
     ∙ ap (λ ss. option_map slots_of (found kin_in (map plain_span ss) id)) same
 
 -- and what is left with others in their place
-pub slots_put : (r : RegistryParts) (slice : List Span) (id place : ℕ) (s : Span) (w : List PlainPlace) → slice ≡ r.spans.items → IsSpanToLend slice id place → slice_get r.spans.items place ≡ Some s →
-    map plain_span (set r.spans.items place (record s { slots = w })) ≡ changed kin_in (with_places w) (map plain_span r.spans.items) id
-slots_put r slice id place s w same lends here =
+pub slots_put : (xs slice : List Span) (id place : ℕ) (s : Span) (w : List PlainPlace) → slice ≡ xs → IsSpanToLend slice id place → slice_get xs place ≡ Some s →
+    map plain_span (set xs place (record s { slots = w })) ≡ changed kin_in (with_places w) (map plain_span xs) id
+slots_put xs slice id place s w same lends here =
     sym (subst (λ ss. changed kin_in (with_places w) (map plain_span ss) id ≡ map plain_span (set ss place (record s { slots = w }))) same (lends.1 w s (ap (λ ss. slice_get ss place) same ∙ here)))

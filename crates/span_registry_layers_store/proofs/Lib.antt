@@ -26,3 +26,6 @@ pub mod Sound
 pub mod Lending
 pub mod Aside
 pub mod Keyed
+pub mod Staying
+pub mod Settling
+pub mod Whole

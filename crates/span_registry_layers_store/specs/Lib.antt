@@ -4,7 +4,9 @@ pub mod Verdicts
 pub mod Places
 pub mod KeptMetadatas
 pub mod Registries
+pub mod Parts
 pub mod Rising
+pub mod Settled
 pub mod Gives
 pub mod Slots
 pub mod Keeping

@@ -12,6 +12,7 @@ use Rattle.span_registry_layers_store.specs.declared.slot.Tag.{Tag}
 use Rattle.span_registry_layers_store.specs.declared.span.Span.{Span}
 use Rattle.span_registry_layers_store.specs.contracts.registry.Registry as registry
 use Rattle.span_registry_layers_store.specs.contracts.slot.Slot as slot
+use Rattle.span_registry_layers_store.specs.contracts.spans.Spans as spans
 use Rattle.span_registry_layers_store.specs.contracts.extensions.Extensions as extensions
 
 -- the slot of an output under a tag stands there, or past the end where there is none
@@ -29,9 +30,13 @@ slots_of s = s.slots
 
 -- the span of an id stands there, or past the end where it isn't open
 abbrev pub IsSpanToLend : List Span → ℕ → ℕ → Type 0
-IsSpanToLend spans id place =
-    (option_map (λ (s : Span). s.slots) (slice_get spans place) ≡ option_map slots_of (found kin_in (map plain_span spans) id))
-    × ((w : List PlainPlace) (s : Span) → slice_get spans place ≡ Some s → changed kin_in (with_places w) (map plain_span spans) id ≡ map plain_span (slice_set spans place (record s { slots = w })))
+IsSpanToLend ss id place =
+    (option_map (λ (s : Span). s.slots) (slice_get ss place) ≡ option_map slots_of (found kin_in (map plain_span ss) id))
+    × ((w : List PlainPlace) (s : Span) → slice_get ss place ≡ Some s → changed kin_in (with_places w) (map plain_span ss) id ≡ map plain_span (slice_set ss place (record s { slots = w })))
+
+-- the spans end with the last value behind r as the slots of that span
+abbrev pub LendsSlotsOf : MutBor (List PlainSpan) → ℕ → Option (MutBor (List PlainPlace)) → Fml
+LendsSlotsOf ss id r = LendsIf spans.the_row extensions.the_row ss r (λ w. changed kin_in (with_places w) ss.now id) ss.now
 
 -- the registry ends with the last value behind r as the slots of that span
 abbrev pub LendsSlots : MutBor RegistryValue → ℕ → Option (MutBor (List PlainPlace)) → Fml

@@ -9,14 +9,15 @@ mod lanes;
 mod laws;
 mod lookup;
 mod parts;
-mod plain;
 mod record;
 mod registry;
 mod scope;
 mod slot;
 mod span;
 mod span_ref;
+mod spans;
 mod table;
+mod unsettled;
 
 pub use extensions::{Extensions, ExtensionsMut};
 pub use filter_map::{FilterId, FilterMap, TooManyFilters};

@@ -1,29 +1,32 @@
 //! What a registry keeps.
 
-ghost use Rattle.std.specs.Prelude.{◌≡◌, ◌<◌, ◌≤◌, ◌+◌, IfOk, IfSome, MatchOption, None, OnErr, OnOk, Some, false, get_or, length, map, reverse, take, true};
+ghost use Rattle.std.specs.Prelude.{◌≡◌, ◌<◌, ◌≤◌, ◌+◌, IfOk, None, OnErr, OnOk, Some, get_or, length, reverse, take, true};
 ghost use Rattle.std.specs.Option.{option_map};
 ghost use Rattle.tracing_core_requests.specs.Refusals.{or_refused};
 ghost use Rattle.tracing_core_fields.specs.Metadata.{plain_metadata};
 ghost use Rattle.tracing_core_requests.specs.PlainRequests.{explicit_parent, plain_attributes};
 ghost use Rattle.span_registry_layers_store.specs.Copies.{CopyOf};
-ghost use Rattle.span_registry_layers_store.specs.Gives.{EntryGives, FilterGives, ForgetGives, IsNext, IsSettled, SpanGives, clone_gives, close_gives, follow_refusal, give_up_gives, open_refusal};
+ghost use Rattle.span_registry_layers_store.specs.Gives.{EntryGives, FilterGives, SpanGives, clone_gives, follow_refusal, open_refusal};
 ghost use Rattle.span_registry_layers_store.specs.Lanes.{lane_at};
-ghost use Rattle.span_registry_layers_store.specs.SlotLoans.{IsSpanToLend};
-ghost use Rattle.span_registry_layers_store.specs.Places.{kin_of};
-ghost use Rattle.span_registry_layers_store.specs.Rising.{IsRising, Rises};
-ghost use Rattle.span_registry_layers_store.specs.Registries.{current_on, kin_in, knows, next_number, plain_registry, plain_span, swept, under, with_span, without_entry};
-ghost use Rattle.span_registry_layers_store.specs.Spans.{found, handles_of, is_open, parent_of};
-ghost use Rattle.span_registry_layers_store.specs.Views.{IsFoundAt, current_under, entry_seen, latest_seen, mask_of, seen, sees};
+ghost use Rattle.span_registry_layers_store.specs.Rising.{IsBelow};
+ghost use Rattle.span_registry_layers_store.specs.Settled.{IsWhole};
+ghost use Rattle.span_registry_layers_store.specs.Parts.{next_number, plain_registry};
+ghost use Rattle.span_registry_layers_store.specs.Registries.{current_on, kin_in, knows, plain_span, under, with_span};
+ghost use Rattle.span_registry_layers_store.specs.Spans.{handles_of, is_open, parent_of};
+ghost use Rattle.span_registry_layers_store.specs.Views.{current_under, entry_seen, latest_seen, mask_of, seen, sees};
+
+mod closing;
 
 use crate::extensions::Extensions;
 use crate::filter_count::FilterCount;
 use crate::filter_map::{FilterId, FilterMap, TooManyFilters};
 use crate::kept_metadata::KeptMetadata;
-use crate::lanes::{drop_entry, lane_at, push_entry};
-use crate::plain::{closing, current, handles_of, is_member, is_open, parent_of, place_of};
+use crate::lanes::{current, is_member, lane_at, push_entry};
 use crate::record::SpanRecord;
 use crate::span::Span;
-use crate::table::{RegistryTable, copy_lanes, copy_spans};
+use crate::spans::Spans;
+use crate::table::{RegistryTable, copy_lanes};
+use crate::unsettled::Unsettled;
 use std::alloc::{AllocError, Global};
 use tracing_core_fields::{Id, Metadata};
 use tracing_core_requests::{Attributes, RequestError};
@@ -33,7 +36,9 @@ use tracing_core_requests::{Attributes, RequestError};
 pub(crate) struct RegistryParts {
     pub(crate) alloc: Global,
     pub(crate) lanes: Vec<Vec<Id>>,
-    pub(crate) spans: Vec<Span>,
+    pub(crate) spans: Spans,
+    /// Which of the spans may not stay.
+    pub(crate) unsettled: Unsettled,
     /// The next span's id; none where all are given.
     pub(crate) next_id: Option<Id>,
     pub(crate) callsites: KeptMetadata,
@@ -61,24 +66,13 @@ fn is_seen(span: &Span, filter: Option<FilterId>) -> bool
     }
 }
 
-// The place of the span of an id, and the end where it is not open.
-pub(crate) fn place_to_lend(spans: &[Span], id: Id) -> usize
-    requires { Rises kin_of 0 spans.now }
-    ensures { IsSpanToLend spans.now id result }
-{
-    match place_of(spans, id) {
-        None => spans.len(),
-        Some(place) => place,
-    }
-}
-
 impl RegistryParts {
     /// A copy of the spans and lanes.
     pub(crate) fn table(&self) -> Result<RegistryTable, AllocError>
         ensures { IfOk result (λ copy. CopyOf (plain_registry self.now) copy) }
     {
         Ok(RegistryTable {
-            spans: copy_spans(self.alloc, self.spans.as_slice())?,
+            spans: self.spans.rows(self.alloc)?,
             lanes: copy_lanes(self.alloc, self.lanes.as_slice())?,
         })
     }
@@ -98,40 +92,26 @@ impl RegistryParts {
     }
 
     /// Whether a span is open.
-    #[tactic(auto, using(crate::proofs::Mapped::open_mapped))]
     pub(crate) fn is_open(&self, id: Id) -> bool
-        requires { IsRising (plain_registry self.now) }
         ensures { result ≡ is_open kin_in (plain_registry self.now).spans id }
     {
-        is_open(self.spans.as_slice(), id)
+        self.spans.is_open(id)
     }
 
     /// How many handles a span has, and 0 where it is not open.
-    #[tactic(auto, using(crate::proofs::Mapped::handles_mapped))]
     pub(crate) fn handles_of(&self, id: Id) -> usize
-        requires { IsRising (plain_registry self.now) }
         ensures { result ≡ handles_of kin_in (plain_registry self.now).spans id }
     {
-        handles_of(self.spans.as_slice(), id)
-    }
-
-    fn place_of(&self, id: Id) -> Option<usize>
-        requires { IsRising (plain_registry self.now) }
-        ensures { MatchOption result (found kin_in (plain_registry self.now).spans id ≡ None) (λ place.
-            IsFoundAt self.now.spans.items id place) }
-    {
-        place_of(self.spans.as_slice(), id)
+        self.spans.handles_of(id)
     }
 
     /// The span of an id, where it is open and the filter passed it.
     pub(crate) fn find(&self, id: Id, filter: Option<FilterId>) -> Option<&Span>
-        requires { IsRising (plain_registry self.now) }
         ensures { option_map (λ s. plain_span s.now) result ≡ seen (plain_registry self.now) (mask_of filter) id }
     {
-        match self.place_of(id) {
+        match self.spans.find(id) {
             None => None,
-            Some(place) => {
-                let span = &self.spans[place];
+            Some(span) => {
                 if is_seen(span, filter) {
                     Some(span)
                 } else {
@@ -143,8 +123,7 @@ impl RegistryParts {
 
     // The span of the entry at the place, where it is seen and no earlier entry has its id.
     fn entry_seen(&self, lane: &[Id], place: usize, filter: Option<FilterId>) -> Option<&Span>
-        requires rising { IsRising (plain_registry self.now) }
-        requires within { place < length lane.now }
+        requires { place < length lane.now }
         ensures { option_map (λ s. plain_span s.now) result
             ≡ entry_seen (plain_registry self.now) (mask_of filter) (take place lane.now) (get_or lane.now place 0) }
     {
@@ -157,7 +136,6 @@ impl RegistryParts {
 
     // The span of the last such entry.
     fn latest_seen(&self, lane: &[Id], filter: Option<FilterId>) -> Option<&Span>
-        requires { IsRising (plain_registry self.now) }
         ensures { option_map (λ s. plain_span s.now) result
             ≡ latest_seen (plain_registry self.now) (mask_of filter) (reverse lane.now) }
     {
@@ -173,7 +151,6 @@ impl RegistryParts {
 
     /// The span that a lane is in, as the filter sees it.
     pub(crate) fn current_under(&self, lane: u64, filter: Option<FilterId>) -> Option<&Span>
-        requires { IsRising (plain_registry self.now) }
         ensures { option_map (λ s. plain_span s.now) result
             ≡ current_under (plain_registry self.now) (mask_of filter) lane }
     {
@@ -181,17 +158,14 @@ impl RegistryParts {
     }
 
     /// The parent of a span, where it is open and has one.
-    #[tactic(auto, using(crate::proofs::Mapped::parent_mapped))]
     pub(crate) fn above(&self, id: Id) -> Option<Id>
-        requires { IsRising (plain_registry self.now) }
         ensures { result ≡ parent_of kin_in (plain_registry self.now).spans id }
     {
-        parent_of(self.spans.as_slice(), id)
+        self.spans.parent_of(id)
     }
 
     // Whether the parent is open, where one is named.
     fn knows_parent(&self, attributes: &Attributes<'_, '_>) -> bool
-        requires { IsRising (plain_registry self.now) }
         ensures { result ≡ knows (plain_registry self.now) (explicit_parent (plain_attributes attributes.now).parent) }
     {
         match attributes.parent() {
@@ -222,10 +196,12 @@ impl RegistryParts {
         metadata: &Metadata<'_>,
         passed: FilterMap,
     ) -> Result<(), AllocError>
-        requires { self.old.next_id ≡ Some id }
+        requires next { self.old.next_id ≡ Some id }
+        requires below { IsBelow (plain_registry self.old) }
         ensures ok { OnOk result (plain_registry self.new
             ≡ with_span (plain_registry self.old) (plain_metadata metadata.now) parent passed.passed) }
         ensures err { OnErr result (plain_registry self.new ≡ plain_registry self.old) }
+        ensures same { self.new.unsettled ≡ self.old.unsettled }
         ensures fits { id ≤ 18446744073709551615 }
     {
         let metadata = self.callsites.share(metadata)?;
@@ -251,10 +227,11 @@ impl RegistryParts {
         lane: u64,
         passed: FilterMap,
     ) -> Result<Id, RequestError>
-        requires { IsRising (plain_registry self.old) }
-        ensures { let a = plain_attributes attributes.now in
+        requires { IsWhole self.old.unsettled (plain_registry self.old) }
+        ensures gives { let a = plain_attributes attributes.now in
             SpanGives (plain_registry self.old) a.metadata a.parent lane passed.passed result
             (plain_registry self.new) }
+        ensures whole { IsWhole self.new.unsettled (plain_registry self.new) }
     {
         if !self.knows_parent(attributes) {
             return Err(RequestError::UnknownParent);
@@ -271,7 +248,6 @@ impl RegistryParts {
 
     /// Whether a span is open.
     pub(crate) fn record(&self, id: Id) -> Result<(), RequestError>
-        requires { IsRising (plain_registry self.now) }
         ensures { result ≡ or_refused (open_refusal (plain_registry self.now) id) tt }
     {
         if self.is_open(id) {
@@ -283,7 +259,6 @@ impl RegistryParts {
 
     /// Whether both spans are open.
     pub(crate) fn record_follows_from(&self, id: Id, follows: Id) -> Result<(), RequestError>
-        requires { IsRising (plain_registry self.now) }
         ensures { result ≡ or_refused (follow_refusal (plain_registry self.now) id follows) tt }
     {
         if self.is_open(id) && self.is_open(follows) {
@@ -295,7 +270,9 @@ impl RegistryParts {
 
     /// Counts one more filter.
     pub(crate) fn register_filter(&mut self) -> Result<FilterId, TooManyFilters>
-        ensures { FilterGives (plain_registry self.old) result (plain_registry self.new) }
+        requires { IsWhole self.old.unsettled (plain_registry self.old) }
+        ensures gives { FilterGives (plain_registry self.old) result (plain_registry self.new) }
+        ensures whole { IsWhole self.new.unsettled (plain_registry self.new) }
     {
         let filter = self.filters.next()?;
         Ok(filter)
@@ -303,8 +280,9 @@ impl RegistryParts {
 
     /// Adds an entry of a span on a lane.
     pub(crate) fn enter(&mut self, id: Id, lane: u64) -> Result<(), RequestError>
-        requires { IsRising (plain_registry self.old) }
-        ensures { EntryGives (plain_registry self.old) lane id result (plain_registry self.new) }
+        requires { IsWhole self.old.unsettled (plain_registry self.old) }
+        ensures gives { EntryGives (plain_registry self.old) lane id result (plain_registry self.new) }
+        ensures whole { IsWhole self.new.unsettled (plain_registry self.new) }
     {
         if !self.is_open(id) {
             return Err(RequestError::UnknownSpan);
@@ -315,90 +293,12 @@ impl RegistryParts {
         }
     }
 
-    /// Takes out the last entry of a span on a lane, if there is one.
-    pub(crate) fn leave(&mut self, id: Id, lane: u64)
-        ensures { plain_registry self.new ≡ without_entry (plain_registry self.old) lane id }
-    {
-        drop_entry(&mut self.lanes, lane, id);
-    }
-
     /// Counts one more handle of a span.
     pub(crate) fn take_one(&mut self, id: Id) -> Result<Id, RequestError>
-        requires { IsRising (plain_registry self.old) }
-        ensures { (result, plain_registry self.new) ≡ clone_gives (plain_registry self.old) id }
+        requires { IsWhole self.old.unsettled (plain_registry self.old) }
+        ensures gives { (result, plain_registry self.new) ≡ clone_gives (plain_registry self.old) id }
+        ensures whole { IsWhole self.new.unsettled (plain_registry self.new) }
     {
-        let Some(place) = place_of(self.spans.as_slice(), id) else {
-            return Err(RequestError::UnknownSpan);
-        };
-        if self.spans[place].kin.handles == usize::MAX {
-            return Err(RequestError::TooManyHandles);
-        }
-        self.spans[place].kin.handles += 1;
-        Ok(id)
-    }
-
-    /// Counts one handle of a span less.
-    pub(crate) fn give_up(&mut self, id: Id) -> Result<(), RequestError>
-        requires { IsRising (plain_registry self.old) }
-        ensures { (result, plain_registry self.new) ≡ give_up_gives (plain_registry self.old) id }
-    {
-        let Some(place) = place_of(self.spans.as_slice(), id) else {
-            return Err(RequestError::UnknownSpan);
-        };
-        if self.spans[place].kin.handles == 0 {
-            return Err(RequestError::UnknownSpan);
-        }
-        self.spans[place].kin.handles -= 1;
-        Ok(())
-    }
-
-    /// The span that closes next, where one does: the latest that nothing keeps open.
-    pub(crate) fn closing(&self) -> Option<Id>
-        ensures { MatchOption result (IsSettled (plain_registry self.now)) (λ id. IsNext (plain_registry self.now) id) }
-    {
-        match closing(self.spans.as_slice(), self.lanes.as_slice()) {
-            None => None,
-            Some(place) => Some(self.spans[place].kin.id),
-        }
-    }
-
-    /// Forgets the span that closes next, where one does.
-    pub(crate) fn forget(&mut self) -> Option<Id>
-        ensures gives { ForgetGives (plain_registry self.old) result (plain_registry self.new) }
-        ensures fewer { IfSome result (λ _. length self.new.spans.items < length self.old.spans.items) }
-        ensures rising { IsRising (plain_registry self.old) → IsRising (plain_registry self.new) }
-    {
-        match closing(self.spans.as_slice(), self.lanes.as_slice()) {
-            None => None,
-            Some(place) => {
-                let span = self.spans.remove(place);
-                Some(span.kin.id)
-            }
-        }
-    }
-
-    /// Forgets the spans that close.
-    fn sweep(&mut self)
-        ensures { plain_registry self.new ≡ swept (plain_registry self.old) }
-    {
-        while self.forget().is_some() {}
-    }
-
-    /// Takes out the last entry of a span on a lane, and forgets the spans that close.
-    pub(crate) fn exit(&mut self, id: Id, lane: u64)
-        ensures { plain_registry self.new ≡ swept (without_entry (plain_registry self.old) lane id) }
-    {
-        self.leave(id, lane);
-        self.sweep();
-    }
-
-    /// Gives up one handle of a span, and answers whether it closed.
-    pub(crate) fn try_close(&mut self, id: Id) -> Result<bool, RequestError>
-        requires { IsRising (plain_registry self.old) }
-        ensures { (result, plain_registry self.new) ≡ close_gives (plain_registry self.old) id }
-    {
-        self.give_up(id)?;
-        self.sweep();
-        Ok(!self.is_open(id))
+        self.spans.take_one(id)
     }
 }

@@ -22,10 +22,12 @@ use crate::filter_count::FilterCount;
 use crate::filter_map::{FilterId, FilterMap, TooManyFilters};
 use crate::kept_metadata::KeptMetadata;
 use crate::lookup::Data;
-use crate::parts::{RegistryParts, place_to_lend};
+use crate::parts::RegistryParts;
 use crate::slot::{InsertError, OutputKey, Slot, Tag};
 use crate::span_ref::SpanRef;
+use crate::spans::Spans;
 use crate::table::RegistryTable;
+use crate::unsettled::Unsettled;
 use std::alloc::{AllocError, Global};
 use std::marker::Model;
 use tracing_core_fields::Id;
@@ -43,16 +45,17 @@ pub struct Registry {
 }
 
 impl Model for Registry {
-    ghost use Rattle.span_registry_layers_store.specs.Registries.{RegistryValue, plain_registry};
-    ghost use Rattle.span_registry_layers_store.specs.Rising.{IsRising};
+    ghost use Rattle.span_registry_layers_store.specs.Parts.{plain_registry};
+    ghost use Rattle.span_registry_layers_store.specs.Registries.{RegistryValue};
+    ghost use Rattle.span_registry_layers_store.specs.Settled.{IsWhole};
 
     ghost Value = { RegistryValue };
 
     ghost view = { λ r. plain_registry r.parts };
 
-    // Ids are given in order, and the spans that close leave the others where they are. That there are at most 64
-    // filters is true of the count of filters.
-    ghost invariant = { λ r. IsRising (plain_registry r.parts) };
+    // Ids are given in order, and each span stays but those that are noted. That the spans' ids rise is true of the
+    // spans, and that there are at most 64 filters of the count of filters.
+    ghost invariant = { λ r. IsWhole r.parts.unsettled (plain_registry r.parts) };
 }
 
 impl Registry {
@@ -64,7 +67,8 @@ impl Registry {
             parts: RegistryParts {
                 alloc,
                 lanes: Vec::new(alloc),
-                spans: Vec::new(alloc),
+                spans: Spans::new(alloc),
+                unsettled: Unsettled::Nobody,
                 next_id: Id::from_u64(1),
                 callsites: KeptMetadata::new(alloc),
                 filters: FilterCount::new(),
@@ -294,12 +298,7 @@ impl Registry {
         ensures lent { option_map (λ s. s.now) result ≡ option_map slots_of (found kin_in self.old.spans span.now) }
         ensures* ends { sem 𝓛 (LendsSlots self.entry span.now result) }
     {
-        let parts = &mut self.parts;
-        let place = place_to_lend(parts.spans.as_slice(), *span);
-        match parts.spans.get_mut(place) {
-            None => None,
-            Some(span) => Some(&mut span.slots),
-        }
+        self.parts.spans.slots_mut(*span)
     }
 
     /// Puts a slot of an output with a span. All else stays as it was.

@@ -28,6 +28,8 @@ pub enum Bench {
     Depth64,
     /// Events in a span, with 10,000 other spans open, or fewer where no time is taken.
     Open10k,
+    /// Events in a span, with 1,000 other callsites registered, or fewer where no time is taken.
+    Callsites1k,
     /// A span opened, entered, left and closed.
     SpanCycle,
     /// The same with 10,000 other spans open.
@@ -45,7 +47,7 @@ pub enum Bench {
 }
 
 /// The benches that need no folder of the system.
-pub(crate) const IN_MEMORY: [Bench; 14] = [
+pub(crate) const IN_MEMORY: [Bench; 15] = [
     Bench::DirectMemory,
     Bench::TwoOutputs,
     Bench::JsonMemory,
@@ -53,6 +55,7 @@ pub(crate) const IN_MEMORY: [Bench; 14] = [
     Bench::Refused,
     Bench::Depth64,
     Bench::Open10k,
+    Bench::Callsites1k,
     Bench::SpanCycle,
     Bench::SpanCycle10k,
     Bench::Open,
@@ -76,6 +79,7 @@ impl Bench {
             "refused" => Some(Bench::Refused),
             "depth64" => Some(Bench::Depth64),
             "open10k" => Some(Bench::Open10k),
+            "callsites1k" => Some(Bench::Callsites1k),
             "span_cycle" => Some(Bench::SpanCycle),
             "span_cycle10k" => Some(Bench::SpanCycle10k),
             "open" => Some(Bench::Open),
@@ -100,6 +104,7 @@ impl Bench {
             Bench::Refused => "refused",
             Bench::Depth64 => "depth64",
             Bench::Open10k => "open10k",
+            Bench::Callsites1k => "callsites1k",
             Bench::SpanCycle => "span_cycle",
             Bench::SpanCycle10k => "span_cycle10k",
             Bench::Open => "open",
@@ -143,6 +148,10 @@ impl Bench {
             Bench::Depth64 => stage.nest(64),
             Bench::Open10k => {
                 stage.scatter(many)?;
+                stage.nest(1)
+            }
+            Bench::Callsites1k => {
+                stage.register_others(many / 10)?;
                 stage.nest(1)
             }
             Bench::SpanCycle10k => stage.scatter(many),

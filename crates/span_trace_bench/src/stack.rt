@@ -1,14 +1,11 @@
 //! The stack of a trace whose calls are timed.
 
-ghost use Rattle.std.specs.Prelude.{◌≡◌, IfOk};
-ghost use Rattle.span_registry_layers.specs.CacheValidity.{CacheIsValid};
-
 use crate::fault::Fault;
 use crate::lines::fields_of;
 use span_tracing::{
-    BuildError, Builder, Fields, FileStack, Filter, Filtered, Folder, Format, Layer, LineFormat,
-    Moment, Output, OutputKey, PendingLines, Refusal, RollingSink, Rotation, Stack, StackError,
-    SystemTime, Timer, TraceStack, levels_are_honest,
+    BuildError, Builder, Fields, FileStack, Filtered, Folder, Format, Layer, LineFormat, Moment,
+    Output, OutputKey, PendingLines, Refusal, RollingSink, Rotation, Stack, StackError, SystemTime,
+    Timer, TraceStack,
 };
 use std::alloc::Global;
 use tracing_core::LevelFilter;
@@ -77,10 +74,7 @@ fn stack_of<D: Folder>(
     alloc: Global,
     outputs: Vec<Output<Filtered<LineLayer, LevelFilter>>>,
     sinks: Vec<RollingSink<D>>,
-) -> Result<LevelStack<D>, Fault>
-    ensures { IfOk result (λ made. CacheIsValid ⟦<LevelFilter as Filter>⟧ made.stack) }
-{
-    levels_are_honest::<LineLayer>();
+) -> Result<LevelStack<D>, Fault> {
     let stack = match Stack::new(alloc, outputs) {
         Ok(stack) => stack,
         Err(refused) => return Err(stack_fault(refused.error)),
@@ -98,9 +92,7 @@ pub(crate) fn stack_over<D: Folder>(
     shape: LineFormat,
     folders: Vec<D>,
     prefix: &str,
-) -> Result<LevelStack<D>, Fault>
-    ensures { IfOk result (λ made. CacheIsValid ⟦<LevelFilter as Filter>⟧ made.stack) }
-{
+) -> Result<LevelStack<D>, Fault> {
     let mut outputs = Vec::new(alloc);
     let mut sinks = Vec::new(alloc);
     let mut key: u32 = 0;

@@ -1,13 +1,11 @@
 //! A trace whose calls are timed.
 
-ghost use Rattle.span_registry_layers.specs.CacheValidity.{CacheIsValid};
-
 use crate::counting::CountingFolder;
 use crate::fault::Fault;
 use crate::lines::Counter;
 use crate::stack::{LevelStack, OPENED, stack_over};
 use span_tracing::{
-    FieldValue, Filter, Folder, LineFormat, Moment, OwnedValue, Parent, Reply, SpanName, Trace,
+    FieldValue, Folder, LineFormat, Moment, OwnedValue, Parent, Reply, SpanName, Trace,
 };
 use std::alloc::Global;
 use tracing_core::{FieldSet, Identifier, Kind, Level, LevelFilter, Metadata};
@@ -83,9 +81,10 @@ fn metadata<'a>(
 }
 
 /// A trace with this stack.
-fn trace_over<D: Folder>(alloc: Global, stack: LevelStack<D>) -> Result<Trace<LevelStack<D>>, Fault>
-    requires { CacheIsValid ⟦<LevelFilter as Filter>⟧ stack.stack }
-{
+fn trace_over<D: Folder>(
+    alloc: Global,
+    stack: LevelStack<D>,
+) -> Result<Trace<LevelStack<D>>, Fault> {
     let mut trace = Trace::new(alloc);
     match trace.add_stack(stack) {
         Ok(_) => Ok(trace),
@@ -135,6 +134,21 @@ impl<D: Folder> Stage<D> {
         self.trace.register(EVENT, &event)?;
         self.trace.register(DETAIL, &detail)?;
         self.trace.register(NOISE, &noise)?;
+        Ok(())
+    }
+
+    /// Registers callsites of events, each under an identifier of its own, half of them of no interest to anyone.
+    pub(crate) fn register_others(&mut self, count: u64) -> Result<(), Fault> {
+        for i in 0..count {
+            let identifier = Identifier(NOISE.0.saturating_add(i + 1));
+            let level = if i % 2 == 0 {
+                Level::DEBUG
+            } else {
+                Level::INFO
+            };
+            let other = metadata("other", level, &EVENT_FIELDS, identifier, Kind::EVENT);
+            self.trace.register(identifier, &other)?;
+        }
         Ok(())
     }
 

@@ -11,6 +11,7 @@ mod members;
 mod setup;
 mod stack;
 mod step;
+mod value;
 
 use crate::fault::LineFault;
 use members::Members;

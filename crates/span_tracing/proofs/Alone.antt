@@ -18,7 +18,7 @@ use Rattle.span_tracing_skeleton.specs.PlainData.{PlainStep, Request, RecordRequ
 use Rattle.span_tracing_skeleton.specs.Skeleton.{Skeleton, Answers, Unasked, Wanted, Dropped, Passed, Heard}
 use Rattle.span_tracing_skeleton.specs.declared.call.SpanName.{SpanName}
 use Rattle.span_tracing_skeleton.specs.declared.refusal.Refusal.{Refusal}
-use Rattle.span_tracing_runs.specs.Runs.{Plain, Turn, Went, Starved, lines_left, lines_of, none_for, outs_left, plain_after, plain_run, turn_lines}
+use Rattle.span_tracing_runs.specs.Runs.{Plain, StepWithMask, Went, Starved, lines_left, lines_of, none_for, outs_left, plain_after, plain_run, turn_lines}
 use Rattle.span_tracing_runs.specs.Told.{Told, event_told_by, span_told_by, values_told_by, told_by, told_of}
 use Rattle.span_tracing.specs.Alone.{AllGoAlikeAt, AreAlikeAt, GoAlikeAt, OutputsGoAlone, list_at}
 
@@ -188,7 +188,7 @@ module _ {N : Type 0} (n : Ghosts N) (place : ℕ) (outs others : List (Numbered
 
 module _ {N : Type 0} (n : Ghosts N) (place : ℕ) where
   -- a turn leaves the output at the place alike, and it offers the same lines
-  abbrev TurnsAlike : Plain N → Plain N → Turn → Turn → Type 0
+  abbrev TurnsAlike : Plain N → Plain N → StepWithMask → StepWithMask → Type 0
   TurnsAlike p q t u = AreAlikeAt place (plain_after n p t) (plain_after n q u) × (slice_get (turn_lines n p t) place ≡ slice_get (turn_lines n q u) place)
 
   went : (s : Skeleton) (outs others : List (Numbered N)) (step : PlainStep) (a : Answers) (fates other_fates : Fates) → slice_get outs place ≡ slice_get others place → list_at fates place ≡ list_at other_fates place →
@@ -198,7 +198,7 @@ module _ {N : Type 0} (n : Ghosts N) (place : ℕ) where
     lines_alike n place outs others fates other_fates same fated (told_of N s step a) (told_is_local N place s step a),
   )
 
-  turn_alike : (p q : Plain N) (t u : Turn) → AreAlikeAt place p q → GoAlikeAt place t u → TurnsAlike p q t u
+  turn_alike : (p q : Plain N) (t u : StepWithMask) → AreAlikeAt place p q → GoAlikeAt place t u → TurnsAlike p q t u
   turn_alike p q (Went step a fates) (Went other b others) alike (same_step, same_answers, fated) =
       subst (λ k. TurnsAlike p (record { skeleton = k; outs = q.outs }) (Went step a fates) (Went other b others)) alike.skeleton
       (subst (λ st. TurnsAlike p (record { skeleton = p.skeleton; outs = q.outs }) (Went step a fates) (Went st b others)) same_step
@@ -208,7 +208,7 @@ module _ {N : Type 0} (n : Ghosts N) (place : ℕ) where
   turn_alike p q (Starved step) (Went other b others) alike w = absurd w
   turn_alike p q (Starved step) (Starved other) alike w = (alike, none_alike n place p.outs q.outs [] [] alike.out refl)
 
-  alone : (p q : Plain N) (ts us : List Turn) → AreAlikeAt place p q → AllGoAlikeAt place ts us →
+  alone : (p q : Plain N) (ts us : List StepWithMask) → AreAlikeAt place p q → AllGoAlikeAt place ts us →
       AreAlikeAt place (plain_run n p ts) (plain_run n q us) × (slice_get (lines_of n p ts) place ≡ slice_get (lines_of n q us) place)
   alone p q [] [] alike all = (alike, none_alike n place p.outs q.outs [] [] alike.out refl)
   alone p q [] (u ∷ us) alike all = absurd all

@@ -3,7 +3,7 @@ use Rattle.std.specs.Prelude.{◌≡◌, ℕ, zero, suc, List, [], ◌∷◌, sl
 use Rattle.event_formatter_text.specs.declared.format_fields.FormatFields.{Ghosts}
 use Rattle.span_tracing_outputs.specs.Outs.{Fate}
 use Rattle.span_tracing_outputs.specs.Plain.{Fates, Numbered, first_of, rest_of}
-use Rattle.span_tracing_runs.specs.Runs.{Plain, Turn, Went, Starved, lines_of, plain_run}
+use Rattle.span_tracing_runs.specs.Runs.{Plain, StepWithMask, Went, Starved, lines_of, plain_run}
 
 -- of lists for each output, that of the output at a place; nothing where there is none
 abbrev pub list_at : {A : Type 0} → List (List A) → ℕ → List A
@@ -16,13 +16,13 @@ pub record AreAlikeAt {N : Type 0} (place : ℕ) (p q : Plain N) : Type 0 where
   pub out : slice_get p.outs place ≡ slice_get q.outs place
 
 -- the same step with the same answers, and the same fates of the texts and lines of the output at a place, whatever became of the others'
-abbrev pub GoAlikeAt : ℕ → Turn → Turn → Type 0
+abbrev pub GoAlikeAt : ℕ → StepWithMask → StepWithMask → Type 0
 GoAlikeAt place (Went step a fates) (Went other b others) = (step ≡ other) × (a ≡ b) × (list_at fates place ≡ list_at others place)
 GoAlikeAt place (Went step a fates) (Starved other) = ⊥
 GoAlikeAt place (Starved step) (Went other b others) = ⊥
 GoAlikeAt place (Starved step) (Starved other) = step ≡ other
 
-abbrev pub AllGoAlikeAt : ℕ → List Turn → List Turn → Type 0
+abbrev pub AllGoAlikeAt : ℕ → List StepWithMask → List StepWithMask → Type 0
 AllGoAlikeAt place [] [] = Unit {0}
 AllGoAlikeAt place [] (u ∷ us) = ⊥
 AllGoAlikeAt place (t ∷ ts) [] = ⊥
@@ -31,5 +31,5 @@ AllGoAlikeAt place (t ∷ ts) (u ∷ us) = GoAlikeAt place t u × AllGoAlikeAt p
 -- then the output at that place is the same afterwards, and offers the same lines
 abbrev pub OutputsGoAlone : {N : Type 0} → Ghosts N → Type 0
 OutputsGoAlone {N = N} n =
-    (place : ℕ) (p q : Plain N) (ts us : List Turn) → AreAlikeAt place p q → AllGoAlikeAt place ts us →
+    (place : ℕ) (p q : Plain N) (ts us : List StepWithMask) → AreAlikeAt place p q → AllGoAlikeAt place ts us →
     AreAlikeAt place (plain_run n p ts) (plain_run n q us) × (slice_get (lines_of n p ts) place ≡ slice_get (lines_of n q us) place)

@@ -12,8 +12,8 @@ use span_registry_layers_layers::{Filter, Layer};
 use span_tracing_outputs::PendingLines;
 use tracing_core_fields::LevelFilter;
 
-/// Levels are honest filters, so that what a stack of outputs under levels keeps of its filters' answers is right, and a
-/// trace takes it.
+/// Levels are honest filters, in outputs with any layers. So a new stack of them is right in what it keeps of their answers
+/// (`Stack::new`).
 #[tactic(auto, using(crate::proofs::Levels::every_of_all))]
 pub fn levels_are_honest<L: Layer>()
     ensures { (outputs : List (Output (Filtered L LevelFilter))) →

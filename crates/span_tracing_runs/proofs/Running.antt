@@ -24,7 +24,7 @@ use Rattle.span_tracing_skeleton.specs.declared.call.Reply.{Reply}
 use Rattle.span_tracing_steps.specs.Steps.{StepGives}
 use Rattle.span_tracing_runs.specs.Follows.{FindsNoMemory, Follows, FollowsStep, OutputsFollow, StackIsReady, Traced, registry_of, skeleton_of}
 use Rattle.span_tracing_runs.specs.Laws.{StepsFollow}
-use Rattle.span_tracing_runs.specs.Runs.{AgreesPlain, OutsAgree, Plain, RunFollows, RunGives, SinksTake, Starved, Turn, TurnGoes, TurnsGo, Went, lines_left, lines_of, none_for, outs_left, plain_after, plain_reply, plain_run, replies_of, step_of, steps_of, turn_lines}
+use Rattle.span_tracing_runs.specs.Runs.{AgreesPlain, OutsAgree, Plain, RunFollows, RunGives, SinksTake, Starved, StepWithMask, TurnGoes, TurnsGo, Went, lines_left, lines_of, none_for, outs_left, plain_after, plain_reply, plain_run, replies_of, step_of, steps_of, turn_lines}
 use Rattle.span_tracing_runs.specs.Told.{Told, told_of}
 
 length_map : {A B : Type 0} (f : A → B) (xs : List A) → length (map f xs) ≡ length xs
@@ -93,7 +93,7 @@ module _ {N E F S : Type 0} (n : Ghosts N) (line_of : E → Settings → PlainCo
         lists_run takes compose told.at (lines_offered later) x.sinks y.sinks go.sinks,
       )
 
-  abbrev TurnAgrees : Traced N E F S → Turn → Reply → Traced N E F S → Plain N → Type 0
+  abbrev TurnAgrees : Traced N E F S → StepWithMask → Reply → Traced N E F S → Plain N → Type 0
   TurnAgrees v t reply w p = (reply ≡ plain_reply n p t) × AgreesPlain n line_of g w (plain_after n p t) × SinksTake n line_of g takes v.stack w.stack (turn_lines n p t)
 
   went_agrees : (v : Traced N E F S) (step : PlainStep) (reply : Reply) (w : Traced N E F S) (f : FollowsStep n line_of g takes h v step reply w) (k : Skeleton) (outs : List (Numbered N)) → skeleton_of v ≡ k → OutsAgree n line_of g v.stack outs →
@@ -106,7 +106,7 @@ module _ {N E F S : Type 0} (n : Ghosts N) (line_of : E → Settings → PlainCo
   stays None outs a = ap none_for a
   stays (Some x) outs a = subst (λ (runs : List (List (At × PlainLine))). RunsEach takes runs x.sinks x.sinks) (sym (none_same takes outs x.sinks a.1)) (each.stays x.sinks)
 
-  turn_agrees : (v : Traced N E F S) (t : Turn) (reply : Reply) (w : Traced N E F S) (p : Plain N) → TurnGoes n line_of g takes h v t reply w → AgreesPlain n line_of g v p → TurnAgrees v t reply w p
+  turn_agrees : (v : Traced N E F S) (t : StepWithMask) (reply : Reply) (w : Traced N E F S) (p : Plain N) → TurnGoes n line_of g takes h v t reply w → AgreesPlain n line_of g v p → TurnAgrees v t reply w p
   turn_agrees v (Went step a fates) reply w p (f, answers, fated) agrees =
       subst (λ (b : Answers). TurnAgrees v (Went step b fates) reply w p) answers (subst (λ (fs : Fates). TurnAgrees v (Went step f.answers fs) reply w p) fated (went_agrees v step reply w f p.skeleton p.outs agrees.0 agrees.1))
   turn_agrees v (Starved step) reply w p (told, none, takes, same) agrees =
@@ -120,10 +120,10 @@ module _ {N E F S : Type 0} (n : Ghosts N) (line_of : E → Settings → PlainCo
   append (Some x) (Some y) None ones twos a b = absurd b
   append (Some x) (Some y) (Some z) ones twos a b = each.append ones twos x.sinks y.sinks z.sinks a b
 
-  abbrev RunAgrees : Traced N E F S → List Turn → List Reply → Traced N E F S → Plain N → Type 0
+  abbrev RunAgrees : Traced N E F S → List StepWithMask → List Reply → Traced N E F S → Plain N → Type 0
   RunAgrees v turns replies w p = (replies ≡ replies_of n p turns) × AgreesPlain n line_of g w (plain_run n p turns) × SinksTake n line_of g takes v.stack w.stack (lines_of n p turns)
 
-  run_agrees : (v : Traced N E F S) (turns : List Turn) (replies : List Reply) (w : Traced N E F S) (p : Plain N) → TurnsGo n line_of g takes h v turns replies w → AgreesPlain n line_of g v p → RunAgrees v turns replies w p
+  run_agrees : (v : Traced N E F S) (turns : List StepWithMask) (replies : List Reply) (w : Traced N E F S) (p : Plain N) → TurnsGo n line_of g takes h v turns replies w → AgreesPlain n line_of g v p → RunAgrees v turns replies w p
   run_agrees v [] [] w p same agrees = subst (λ (u : Traced N E F S). RunAgrees v [] [] u p) (sym same) (refl, agrees, stays v.stack p.outs agrees.1)
   run_agrees v [] (reply ∷ replies) w p goes agrees = absurd goes
   run_agrees v (t ∷ ts) [] w p goes agrees = absurd goes
@@ -134,7 +134,7 @@ module _ {N E F S : Type 0} (n : Ghosts N) (line_of : E → Settings → PlainCo
 
   module _ (sg : SubscriberGhosts Stack) (law : StepsFollow n line_of g takes h sg) where
     abbrev Run : Traced N E F S → List PlainStep → List Reply → Traced N E F S → Type 0
-    Run v steps replies w = (turns : List Turn) × (steps_of turns ≡ steps) × TurnsGo n line_of g takes h v turns replies w × StackIsReady g h w.stack
+    Run v steps replies w = (turns : List StepWithMask) × (steps_of turns ≡ steps) × TurnsGo n line_of g takes h v turns replies w × StackIsReady g h w.stack
 
     more : (v : Traced N E F S) (step : PlainStep) (steps : List PlainStep) (reply : Reply) (replies : List Reply) (mid w : Traced N E F S) → Follows n line_of g takes h v step reply mid → Run mid steps replies w → Run v (step ∷ steps) (reply ∷ replies) w
     more v step steps reply replies mid w (inl f) rest = (Went step f.answers f.fates ∷ rest.0, ap (λ (ss : List PlainStep). step ∷ ss) rest.1, (mid, (f, refl, refl), rest.2), rest.3)

@@ -20,7 +20,7 @@ use Rattle.span_tracing_skeleton.specs.Machine.{named}
 use Rattle.span_tracing_skeleton.specs.declared.refusal.Refusal.{Refusal}
 use Rattle.span_tracing_steps.specs.Setup.{AskedInTurn, RegisterGives, RegisterGivesAt, StackRegisters}
 use Rattle.span_tracing_runs.specs.Follows.{StackIsReady, Traced}
-use Rattle.span_tracing_runs.specs.Laws.{SetupFollows}
+use Rattle.span_tracing_runs.specs.Laws.{OutputsStay, SetupFollows, StackStays}
 use Rattle.span_tracing_runs.specs.Runs.{OutsAgree}
 
 module _ {N E F S : Type 0} (n : Ghosts N) (line_of : E → Settings → PlainContext → PlainEvent → Option (List ℕ)) (g : FilterGhosts F) (takes : S → At → PlainLine → S → Type 0) (h : LayerGhosts (Lines N E)) (sg : SubscriberGhosts (TraceStackValue N E F S))
@@ -28,21 +28,24 @@ module _ {N E F S : Type 0} (n : Ghosts N) (line_of : E → Settings → PlainCo
   abbrev Stack : Type 0
   Stack = TraceStackValue N E F S
 
-  -- ready, and its outputs agree as they did
+  -- ready, its outputs agree as they did, and they stay with their sinks
   abbrev Kept : Stack → Stack → Type 0
-  Kept x y = IsReady g y × ((outs : List (Numbered N)) → OutsAgree n line_of g (Some x) outs → OutsAgree n line_of g (Some y) outs)
+  Kept x y = IsReady g y × ((outs : List (Numbered N)) → OutsAgree n line_of g (Some x) outs → OutsAgree n line_of g (Some y) outs) × OutputsStay x y
+
+  same_stays : (x : Stack) → OutputsStay x x
+  same_stays x = record { sinks = refl; rows = refl }
 
   rested : (x y : Stack) → IsReady g y → Rests n line_of g takes x y → Kept x y
-  rested x y ready rests = (ready, λ outs a. (rests.agreed outs a.0, ap length rests.sinks ∙ a.1))
+  rested x y ready rests = (ready, λ outs a. (rests.agreed outs a.0, ap length rests.sinks ∙ a.1), record { sinks = rests.sinks; rows = rests.rows })
 
   then : (x y z : Stack) → Kept x y → Kept y z → Kept x z
-  then x y z one two = (two.0, λ outs a. two.1 outs (one.1 outs a))
+  then x y z one two = (two.0, λ outs a. two.1 outs (one.1 outs a), record { sinks = two.2.sinks ∙ one.2.sinks; rows = two.2.rows ∙ one.2.rows })
 
   asked : (x : Stack) (m : PlainMetadata) (k : PlainInterest) (y : Stack) → IsReady g x → sg.moves x (CallsiteRegistered m) k y → Kept x y
   asked x m k y ready moves = rested x y (law.ready x (CallsiteRegistered m) k y ready (moved x (CallsiteRegistered m) k y moves)) (law.goes x (CallsiteRegistered m) k y ready (moved x (CallsiteRegistered m) k y moves)).2
 
   in_turn : (ms : List PlainMetadata) (x y : Stack) → IsReady g x → AskedInTurn sg ms x y → Kept x y
-  in_turn [] x y ready same = subst (Kept x) (sym same) (ready, λ outs a. a)
+  in_turn [] x y ready same = subst (Kept x) (sym same) (ready, λ outs a. a, same_stays x)
   in_turn (m ∷ ms) x y ready (k, z, says, moves, rest) =
       let one = asked x m k z ready moves in
       then x z y one (in_turn ms z y one.0 rest)
@@ -51,17 +54,21 @@ module _ {N E F S : Type 0} (n : Ghosts N) (line_of : E → Settings → PlainCo
   hinted x y hint ready moves = rested x y (law.ready x HintAsked hint y ready (moved x HintAsked hint y moves)) (law.goes x HintAsked hint y ready (moved x HintAsked hint y moves)).2
 
   handled : (x y : Stack) (number : ℕ) → IsReady g x → sg.moves x (DispatchRegistered (Some number)) tt y → Kept x y
-  handled x y number ready moves = subst (Kept x) (sym (law.goes x (DispatchRegistered (Some number)) tt y ready (moved x (DispatchRegistered (Some number)) tt y moves))) (ready, λ outs a. a)
+  handled x y number ready moves = subst (Kept x) (sym (law.goes x (DispatchRegistered (Some number)) tt y ready (moved x (DispatchRegistered (Some number)) tt y moves))) (ready, λ outs a. a, same_stays x)
 
   -- what a trace is left with
   abbrev KeptIn : Option Stack → Traced N E F S → Type 0
-  KeptIn o w = StackIsReady g h w.stack × ((outs : List (Numbered N)) → OutsAgree n line_of g o outs → OutsAgree n line_of g w.stack outs)
+  KeptIn o w = StackIsReady g h w.stack × ((outs : List (Numbered N)) → OutsAgree n line_of g o outs → OutsAgree n line_of g w.stack outs) × StackStays o w.stack
+
+  stays_so : (o : Option Stack) → StackStays o o
+  stays_so None = tt
+  stays_so (Some x) = same_stays x
 
   same_in : (v w : Traced N E F S) → StackIsReady g h v.stack → w ≡ v → KeptIn v.stack w
-  same_in v w ready same = subst (KeptIn v.stack) (sym same) (ready, λ outs a. a)
+  same_in v w ready same = subst (KeptIn v.stack) (sym same) (ready, λ outs a. a, stays_so v.stack)
 
   none_in : (w : Traced N E F S) → w.stack ≡ None → KeptIn None w
-  none_in w none = (subst (StackIsReady g h) (sym none) tt, λ outs a. subst (λ (o : Option Stack). OutsAgree n line_of g o outs) (sym none) a)
+  none_in w none = (subst (StackIsReady g h) (sym none) tt, λ outs a. subst (λ (o : Option Stack). OutsAgree n line_of g o outs) (sym none) a, subst (StackStays None) (sym none) tt)
 
   new_in : (v : Traced N E F S) (o : Option Stack) (m : PlainMetadata) (k : PlainInterest) (w : Traced N E F S) → v.stack ≡ o → StackIsReady g h o → StackRegisters sg o v m k w → KeptIn o w
   new_in v None m k w stack ready goes = none_in w (ap (λ (u : Traced N E F S). u.stack) goes.1 ∙ stack)

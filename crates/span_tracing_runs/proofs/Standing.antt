@@ -1,5 +1,5 @@
 -- What files hold after a run.
-use Rattle.std.proofs.Common.{◌≡◌, ℕ, List, Option, Some, None, refl, sym, ap, ◌∙◌, subst}
+use Rattle.std.proofs.Common.{◌≡◌, ℕ, List, Option, Some, None, sym, ◌∙◌, subst}
 use Rattle.std.specs.Prelude.{slice_get}
 use Rattle.tracing_core_requests.specs.PlainRequests.{PlainEvent}
 use Rattle.tracing_core_requests.specs.declared.at.At.{At}
@@ -12,18 +12,18 @@ use Rattle.event_formatter_formats.specs.Contexts.{PlainContext}
 use Rattle.span_tracing_outputs.specs.Outs.{PlainLine}
 use Rattle.span_tracing_outputs.specs.TraceStacks.{TraceStackValue}
 use Rattle.span_tracing_outputs.specs.Turns.{Lines}
-use Rattle.span_tracing_sinks.specs.Each.{EachComposes, RunsEach}
+use Rattle.span_tracing_sinks.specs.Each.{EachComposes}
 use Rattle.span_tracing_sinks.specs.Runs.{TakesRun}
-use Rattle.span_tracing_sinks.specs.Standing.{LinesStandInFiles, LinesStandInLeftFiles}
+use Rattle.span_tracing_sinks.specs.Standing.{LinesStandInFiles}
 use Rattle.span_tracing_sinks.specs.Takes.{TakesLine}
 use Rattle.span_tracing_sinks.specs.declared.sink.RollingSink.{RollingSink}
 use Rattle.span_tracing_skeleton.specs.PlainData.{PlainStep}
 use Rattle.span_tracing_skeleton.specs.declared.call.Reply.{Reply}
-use Rattle.span_tracing_runs.specs.Files.{FilesFollow, FilesStand, LeftFilesStand, RunsToFiles, SinksTakeTheirs, sink_at}
+use Rattle.span_tracing_runs.specs.Files.{FilesFollow, FilesStand, SinksTakeTheirs, sink_at}
 use Rattle.span_tracing_runs.specs.Follows.{Traced}
-use Rattle.span_tracing_runs.specs.Runs.{RunFollows, SinksTake, Turn, lines_of}
+use Rattle.span_tracing_runs.specs.Runs.{RunFollows, SinksTake, StepWithMask, lines_of}
 
-module _ {N E F D : Type 0} (contents : D → Option Contents) (failed : D → ℕ) (n : Ghosts N) (line_of : E → Settings → PlainContext → PlainEvent → Option (List ℕ)) (g : FilterGhosts F) (h : LayerGhosts (Lines N E)) (each : EachComposes N E F (TakesLine contents failed)) (stand : LinesStandInFiles contents failed) (stand_left : LinesStandInLeftFiles contents failed) where
+module _ {N E F D : Type 0} (contents : D → Option Contents) (failed : D → ℕ) (n : Ghosts N) (line_of : E → Settings → PlainContext → PlainEvent → Option (List ℕ)) (g : FilterGhosts F) (h : LayerGhosts (Lines N E)) (each : EachComposes N E F (TakesLine contents failed)) (stand : LinesStandInFiles contents failed) where
   abbrev Sink : Type 0
   Sink = RollingSink D
 
@@ -39,22 +39,15 @@ module _ {N E F D : Type 0} (contents : D → Option Contents) (failed : D → �
   sinks_take : (v : Traced N E F Sink) (steps : List PlainStep) (replies : List Reply) (w : Traced N E F Sink) (run : RunFollows n line_of g (TakesLine contents failed) h v steps replies w) → SinksTakeTheirs contents failed n line_of g v run.turns w
   sinks_take v steps replies w run p agrees place old at = taken_by v.stack w.stack place old (lines_of n p run.turns) (run.agreed p agrees).2 at
 
-  files_stand : (v : Traced N E F Sink) (turns : List Turn) (w : Traced N E F Sink) → SinksTakeTheirs contents failed n line_of g v turns w → FilesStand contents failed n line_of g v turns w
-  files_stand v turns w takes p agrees place old new at later none s keeps fits c known =
+  files_stand : (v : Traced N E F Sink) (turns : List StepWithMask) (w : Traced N E F Sink) → SinksTakeTheirs contents failed n line_of g v turns w → FilesStand contents failed n line_of g v turns w
+  files_stand v turns w takes p agrees place old new at later none s keeps c known =
       let taken = takes p agrees place old at in
       let same : taken.1 ≡ new = (let both : Some taken.1 ≡ Some new = sym taken.3 ∙ later in cc) in
-      (taken.0, taken.2, stand taken.0 old new (subst (TakesRun (TakesLine contents failed) taken.0 old) same taken.4) none s keeps fits.opened fits.handed c known)
-
-  left_files_stand : (v : Traced N E F Sink) (turns : List Turn) (w : Traced N E F Sink) → SinksTakeTheirs contents failed n line_of g v turns w → LeftFilesStand contents failed n line_of g v turns w
-  left_files_stand v turns w takes p agrees place old new at later none s keeps c known =
-      let taken = takes p agrees place old at in
-      let same : taken.1 ≡ new = (let both : Some taken.1 ≡ Some new = sym taken.3 ∙ later in cc) in
-      (taken.0, taken.2, stand_left taken.0 old new (subst (TakesRun (TakesLine contents failed) taken.0 old) same taken.4) none s keeps c known)
+      (taken.0, taken.2, stand taken.0 old new (subst (TakesRun (TakesLine contents failed) taken.0 old) same taken.4) none s keeps c known)
 
   pub files_follow : FilesFollow contents failed n line_of g h
   files_follow v steps replies w run = record {
     run = run;
     sinks = sinks_take v steps replies w run;
     files = files_stand v run.turns w (sinks_take v steps replies w run);
-    left = left_files_stand v run.turns w (sinks_take v steps replies w run);
   }

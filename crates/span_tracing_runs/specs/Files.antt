@@ -1,12 +1,8 @@
 -- Which bytes stand in which file after a run.
-use Rattle.std.specs.Prelude.{◌≡◌, ℕ, List, true, Option, Some, None, slice_get}
-use Rattle.std.specs.List.{AllByRecursion}
+use Rattle.std.specs.Prelude.{◌≡◌, ℕ, List, Option, Some, None, slice_get}
 use Rattle.tracing_core_requests.specs.PlainRequests.{PlainEvent}
 use Rattle.tracing_core_requests.specs.declared.at.At.{At}
 use Rattle.tracing_appender_folders.specs.Contents.{Contents}
-use Rattle.tracing_appender_folders.specs.Moments.{is_moment}
-use Rattle.tracing_appender_rolling.specs.Appenders.{AgreesSink}
-use Rattle.tracing_appender_rolling.specs.Sinks.{Handed, PlainSink}
 use Rattle.span_registry_layers_layers.specs.declared.filter.Filter.{Ghosts as FilterGhosts}
 use Rattle.span_registry_layers_layers.specs.declared.layer.Layer.{Ghosts as LayerGhosts}
 use Rattle.event_formatter_text.specs.declared.format_fields.FormatFields.{Ghosts}
@@ -15,49 +11,38 @@ use Rattle.event_formatter_formats.specs.Contexts.{PlainContext}
 use Rattle.span_tracing_outputs.specs.Outs.{PlainLine}
 use Rattle.span_tracing_outputs.specs.TraceStacks.{TraceStackValue}
 use Rattle.span_tracing_outputs.specs.Turns.{Lines}
-use Rattle.tracing_appender_rolling.specs.Remaining.{AgreesLeft, PrunedSink}
+use Rattle.tracing_appender_rolling.specs.Remaining.{AgreesSink, PrunedSink}
 use Rattle.span_tracing_sinks.specs.Fates.{LeftBy, NoneDropped}
 use Rattle.span_tracing_sinks.specs.Runs.{TakesRun}
-use Rattle.span_tracing_sinks.specs.Standing.{LeftLinesStand, LinesStand}
+use Rattle.span_tracing_sinks.specs.Standing.{LinesStand}
 use Rattle.span_tracing_sinks.specs.Takes.{TakesLine}
 use Rattle.span_tracing_sinks.specs.declared.sink.RollingSink.{RollingSink}
 use Rattle.span_tracing_skeleton.specs.PlainData.{PlainStep}
 use Rattle.span_tracing_skeleton.specs.declared.call.Reply.{Reply}
 use Rattle.span_tracing_runs.specs.Follows.{Traced}
-use Rattle.span_tracing_runs.specs.Runs.{AgreesPlain, Plain, RunFollows, Turn, lines_of}
+use Rattle.span_tracing_runs.specs.Runs.{AgreesPlain, Plain, RunFollows, StepWithMask, lines_of}
 
 -- the sink of the output at a place
 abbrev pub sink_at : {N E F S : Type 0} → Option (TraceStackValue N E F S) → ℕ → Option S
 sink_at None place = None
 sink_at (Some x) place = slice_get x.sinks place
 
--- the moments of a sink's opening and of its handed lines are in range
-pub record IsInRange (s : PlainSink) : Type 0 where
-  pub opened : is_moment s.opened ≡ true
-  pub handed : AllByRecursion (λ (h : Handed). is_moment h.moment ≡ true) s.handed
-
 module _ {N E F D : Type 0} (contents : D → Option Contents) (failed : D → ℕ) (n : Ghosts N) (line_of : E → Settings → PlainContext → PlainEvent → Option (List ℕ)) (g : FilterGhosts F) where
   -- each output's sink took the lines of the output's machine in order, each at its own moment; what that says of looks, openings and writes over any folder the
   -- laws of sinks tell
-  abbrev pub SinksTakeTheirs : Traced N E F (RollingSink D) → List Turn → Traced N E F (RollingSink D) → Type 0
+  abbrev pub SinksTakeTheirs : Traced N E F (RollingSink D) → List StepWithMask → Traced N E F (RollingSink D) → Type 0
   SinksTakeTheirs v turns w =
       (p : Plain N) → AgreesPlain n line_of g v p → (place : ℕ) (old : RollingSink D) → sink_at v.stack place ≡ Some old →
       (run : List (At × PlainLine)) × (new : RollingSink D) × (slice_get (lines_of n p turns) place ≡ Some run) × (sink_at w.stack place ≡ Some new) × TakesRun (TakesLine contents failed) run old new
 
-  -- Where an output's sink dropped no line and its folder's contents are known, exactly the lines that the output's machine offers stand in its files: behind what was
-  -- found there and was handed over before, whole and in order, each in the file of the period in which the greatest moment so far lay.
-  abbrev pub FilesStand : Traced N E F (RollingSink D) → List Turn → Traced N E F (RollingSink D) → Type 0
+  -- Where an output's sink dropped no line and its folder's contents are known, exactly the lines that the output's machine offers stand in its files, but in those
+  -- that retention removed: behind what was found there and was handed over before, whole and in order, each in the file of the period in which the greatest moment
+  -- so far lay.
+  abbrev pub FilesStand : Traced N E F (RollingSink D) → List StepWithMask → Traced N E F (RollingSink D) → Type 0
   FilesStand v turns w =
       (p : Plain N) → AgreesPlain n line_of g v p → (place : ℕ) (old new : RollingSink D) → sink_at v.stack place ≡ Some old → sink_at w.stack place ≡ Some new → NoneDropped old new →
-      (s : PlainSink) → AgreesSink contents old.appender s → IsInRange s → (c : Contents) → contents new.appender.folder ≡ Some c →
-      (run : List (At × PlainLine)) × (slice_get (lines_of n p turns) place ≡ Some run) × LinesStand run s c
-
-  -- the same with retention or a link, of the files that retention left
-  abbrev pub LeftFilesStand : Traced N E F (RollingSink D) → List Turn → Traced N E F (RollingSink D) → Type 0
-  LeftFilesStand v turns w =
-      (p : Plain N) → AgreesPlain n line_of g v p → (place : ℕ) (old new : RollingSink D) → sink_at v.stack place ≡ Some old → sink_at w.stack place ≡ Some new → NoneDropped old new →
-      (s : PrunedSink) → AgreesLeft contents old.appender s → (c : Contents) → contents new.appender.folder ≡ Some c →
-      (run : List (At × PlainLine)) × (slice_get (lines_of n p turns) place ≡ Some run) × ((led : LeftBy contents run s old.appender new.appender) × LeftLinesStand led.last c)
+      (s : PrunedSink) → AgreesSink contents old.appender s → (c : Contents) → contents new.appender.folder ≡ Some c →
+      (run : List (At × PlainLine)) × (slice_get (lines_of n p turns) place ≡ Some run) × ((led : LeftBy contents run s old.appender new.appender) × LinesStand led.last c)
 
   module _ (h : LayerGhosts (Lines N E)) where
     -- a run, what its sinks took, and what their files hold
@@ -65,7 +50,6 @@ module _ {N E F D : Type 0} (contents : D → Option Contents) (failed : D → �
       pub run : RunFollows n line_of g (TakesLine contents failed) h v steps replies w
       pub sinks : SinksTakeTheirs v run.turns w
       pub files : FilesStand v run.turns w
-      pub left : LeftFilesStand v run.turns w
 
     abbrev pub FilesFollow : Type 0
     FilesFollow = (v : Traced N E F (RollingSink D)) (steps : List PlainStep) (replies : List Reply) (w : Traced N E F (RollingSink D)) → RunFollows n line_of g (TakesLine contents failed) h v steps replies w → RunsToFiles v steps replies w

@@ -31,15 +31,15 @@ pub record Plain (N : Type 0) : Type 0 where
   pub outs : List (Numbered N)
 
 -- a step as it went: with these answers of filters, and these fates of texts and lines; or it found no memory, and did nothing
-pub data Turn : Type 0 where
-  Went : PlainStep → Answers → Fates → Turn
-  Starved : PlainStep → Turn
+pub data StepWithMask : Type 0 where
+  Went : PlainStep → Answers → Fates → StepWithMask
+  Starved : PlainStep → StepWithMask
 
-abbrev pub step_of : Turn → PlainStep
+abbrev pub step_of : StepWithMask → PlainStep
 step_of (Went step a fates) = step
 step_of (Starved step) = step
 
-abbrev pub steps_of : List Turn → List PlainStep
+abbrev pub steps_of : List StepWithMask → List PlainStep
 steps_of turns = map step_of turns
 
 -- no lines for any output
@@ -56,29 +56,29 @@ module _ {N : Type 0} (n : Ghosts N) where
   lines_left None outs fates = none_for outs
   lines_left (Some told) outs fates = map (lines_at told.at) (lines_offered (outs_told n (told.lists outs) outs fates))
 
-  abbrev pub plain_after : Plain N → Turn → Plain N
+  abbrev pub plain_after : Plain N → StepWithMask → Plain N
   plain_after p (Went step a fates) = record { skeleton = after p.skeleton step a; outs = outs_left (told_of N p.skeleton step a) p.outs fates }
   plain_after p (Starved step) = p
 
-  abbrev pub plain_reply : Plain N → Turn → Reply
+  abbrev pub plain_reply : Plain N → StepWithMask → Reply
   plain_reply p (Went step a fates) = reply_of p.skeleton step a
   plain_reply p (Starved step) = Refused OutOfMemory
 
-  abbrev pub turn_lines : Plain N → Turn → List (List (At × PlainLine))
+  abbrev pub turn_lines : Plain N → StepWithMask → List (List (At × PlainLine))
   turn_lines p (Went step a fates) = lines_left (told_of N p.skeleton step a) p.outs fates
   turn_lines p (Starved step) = none_for p.outs
 
   -- turns in order
-  abbrev pub plain_run : Plain N → List Turn → Plain N
+  abbrev pub plain_run : Plain N → List StepWithMask → Plain N
   plain_run p [] = p
   plain_run p (t ∷ ts) = plain_run (plain_after p t) ts
 
-  abbrev pub replies_of : Plain N → List Turn → List Reply
+  abbrev pub replies_of : Plain N → List StepWithMask → List Reply
   replies_of p [] = []
   replies_of p (t ∷ ts) = plain_reply p t ∷ replies_of (plain_after p t) ts
 
   -- for each output all lines that go to its sink, in order, each with where and when it is handed over
-  abbrev pub lines_of : Plain N → List Turn → List (List (At × PlainLine))
+  abbrev pub lines_of : Plain N → List StepWithMask → List (List (At × PlainLine))
   lines_of p [] = none_for p.outs
   lines_of p (t ∷ ts) = joined (turn_lines p t) (lines_of (plain_after p t) ts)
 
@@ -101,11 +101,11 @@ module _ {N E F S : Type 0} (n : Ghosts N) (line_of : E → Settings → PlainCo
     SinksTake (Some x) (Some y) runs = RunsEach takes runs x.sinks y.sinks
 
     module _ (h : LayerGhosts (Lines N E)) where
-      abbrev pub TurnGoes : Traced N E F S → Turn → Reply → Traced N E F S → Type 0
+      abbrev pub TurnGoes : Traced N E F S → StepWithMask → Reply → Traced N E F S → Type 0
       TurnGoes v (Went step a fates) reply w = (f : FollowsStep n line_of g takes h v step reply w) × (f.answers ≡ a) × (f.fates ≡ fates)
       TurnGoes v (Starved step) reply w = FindsNoMemory n line_of g takes h v step reply w
 
-      abbrev pub TurnsGo : Traced N E F S → List Turn → List Reply → Traced N E F S → Type 0
+      abbrev pub TurnsGo : Traced N E F S → List StepWithMask → List Reply → Traced N E F S → Type 0
       TurnsGo v [] [] w = w ≡ v
       TurnsGo v [] (reply ∷ replies) w = ⊥
       TurnsGo v (t ∷ ts) [] w = ⊥
@@ -114,7 +114,7 @@ module _ {N E F S : Type 0} (n : Ghosts N) (line_of : E → Settings → PlainCo
       -- a run: with turns of these steps, each of which goes there and then, from each plain state that the trace agrees with the replies are the plain ones, the
       -- trace agrees with the plain state afterwards, and each sink took the lines of its output's machine
       pub record RunFollows (v : Traced N E F S) (steps : List PlainStep) (replies : List Reply) (w : Traced N E F S) : Type 0 where
-        pub turns : List Turn
+        pub turns : List StepWithMask
         pub each : steps_of turns ≡ steps
         pub goes : TurnsGo v turns replies w
         pub agreed : (p : Plain N) → AgreesPlain v p → (replies ≡ replies_of n p turns) × AgreesPlain w (plain_run n p turns) × SinksTake v.stack w.stack (lines_of n p turns)

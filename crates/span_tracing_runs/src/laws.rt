@@ -11,7 +11,8 @@ use span_tracing_sinks::{RollingSink, each_sink_has_its_run, lines_stand_in_file
 use tracing_appender_rolling::Folder;
 use tracing_core_requests::Subscriber;
 
-/// Setup calls leave a stack ready for steps, and its outputs agree with the machines that they agreed with.
+/// Setup calls leave a stack ready for steps. Its outputs agree with the machines that they agreed with, and its filters, layers and
+/// sinks are as they were.
 pub fn setup_follows<N: FormatFields + Drop, E: FormatEvent, F: Filter, S: LineSink>()
     ensures { SetupFollows ⟦<N as FormatFields>⟧ E.line_of ⟦<F as Filter>⟧ S.takes
         ⟦<Layer<N, E, PendingLines> as span_registry_layers_layers::Layer>⟧
@@ -43,8 +44,8 @@ pub fn runs_follow<N: FormatFields + Drop, E: FormatEvent, F: Filter, S: LineSin
 }
 
 /// Which bytes stand in which file after a run over sinks of rolling files: where an output's sink dropped no line and its
-/// folder's contents are known, exactly the lines that the output's machine offers stand in its files, whole and in order;
-/// with retention or a link, in those that retention left. Over any other folder each sink took just these lines, of
+/// folder's contents are known, exactly the lines that the output's machine offers stand in its files, whole and in order,
+/// where retention left them. Over any other folder each sink took just these lines, of
 /// which the laws of sinks say which looks, openings and writes they come to. A machine offers no line that found no memory
 /// before it came to the sink.
 pub fn files_follow<N: FormatFields + Drop, E: FormatEvent, F: Filter, D: Folder>()

@@ -1,6 +1,5 @@
 -- What is known of a run of lines.
 use Rattle.std.proofs.Common.{◌≡◌, ◌≤◌, ◌+◌, ℕ, ℤ, suc, Bool, true, false, List, [], ◌∷◌, length, inl, inr, refl, ap, sym, ◌∙◌, subst, append_assoc, Option, Some, Result, Ok, Err}
-use Rattle.std.specs.Prelude.{OnOk, IfErr}
 use Rattle.std.specs.List.{AllByRecursion}
 use Rattle.std.proofs.lemmas.List.{append-nil}
 use Rattle.tracing_core_requests.specs.declared.at.At.{At}
@@ -16,16 +15,18 @@ use Rattle.tracing_appender_rolling.specs.Names.{FileNames}
 use Rattle.tracing_appender_rolling.specs.Builders.{builder_names}
 use Rattle.tracing_appender_rolling.specs.Looks.{Held}
 use Rattle.tracing_appender_rolling.specs.Sinks.{Handed, PlainSink, with_handed}
-use Rattle.tracing_appender_rolling.specs.Appenders.{AgreesSink, Holds}
+use Rattle.tracing_appender_rolling.specs.Appenders.{Holds}
 use Rattle.tracing_appender_rolling.specs.Handing.{HandsLine, HandsTo, is_starved}
 use Rattle.tracing_appender_rolling.specs.Anywhere.{Seen, seen_of}
-use Rattle.tracing_appender_rolling.specs.Remaining.{PrunedSink, AgreesLeft, HandsLeft, with_line, without}
+use Rattle.tracing_appender_rolling.specs.Remaining.{PrunedSink, AgreesSink, HandsSink, LeavesSink, with_line, pruned_at}
+use Rattle.tracing_appender_rolling.proofs.Lasting.{pruned_none}
+use Rattle.tracing_appender_rolling.proofs.Handover.{known_in}
 use Rattle.tracing_appender_rolling.proofs.Starving.{starved_known}
 use Rattle.span_tracing_outputs.specs.Outs.{PlainLine}
 use Rattle.span_tracing_sinks.specs.declared.sink.RollingSink.{RollingSink}
 use Rattle.span_tracing_sinks.specs.Runs.{handed_in, handed_of}
 use Rattle.span_tracing_sinks.specs.Takes.{TakesIf, dropped_after, moment_of}
-use Rattle.span_tracing_sinks.specs.Fates.{AllKept, DropsAreCounted, HandsAll, HandsOne, KeptLinesGoInTurn, LeadsTo, LeftBy, LineFate, OutOfRange, Answered, LinesReachFiles, LinesReachLeftFiles, NoneDropped, RunTold, RunsAreTold, SeesAll, SeesOne, dropped_by, is_dropped, with_all}
+use Rattle.span_tracing_sinks.specs.Fates.{AllKept, DropsAreCounted, HandsAll, HandsOne, KeptLinesGoInTurn, LeadsTo, LeftBy, WriteOutcome, OutOfRange, Answered, LinesReachFiles, NoneDropped, RunTold, RunsAreTold, SeesAll, SeesOne, dropped_by, is_dropped, with_all}
 use Rattle.span_tracing_sinks.proofs.Counting.{all_kept, counts_few, counts_rise, counts_stop}
 
 -- a line that was handed over leaves known contents
@@ -39,20 +40,16 @@ hands_known names m h line (Err OutOfMemory) b f l after (inr over) = (over.writ
 with_more : (s : PlainSink) (h : Handed) (hs : List Handed) → with_all (with_handed s h) hs ≡ with_all s (h ∷ hs)
 with_more s h hs = ap (λ (all : List Handed). record s { handed = all }) (append_assoc s.handed (h ∷ []) hs)
 
-with_none : (s : PlainSink) → s ≡ with_all s []
-with_none s = ap (λ (all : List Handed). record s { handed = all }) (sym (append-nil s.handed))
-
 module _ {D : Type 0} (contents : D → Option Contents) (failed : D → ℕ) where
   -- what is known of one line
   record OneTold (x : At × PlainLine) (old new : RollingSink D) : Type 0 where
-    pub fate : LineFate
+    pub fate : WriteOutcome
     pub counted : new.dropped ≡ dropped_after (is_dropped fate) old.dropped
     pub names : builder_names new.appender.builder ≡ builder_names old.appender.builder
     pub held : (h : Held) → Holds contents old.appender h → (next : Held) × HandsOne (builder_names old.appender.builder) (moment_of x.0) h x.1.bytes fate next × Holds contents new.appender next
     pub seen : SeesOne (builder_names old.appender.builder) (moment_of x.0) (seen_of failed old.appender) x.1.bytes fate (seen_of failed new.appender)
     pub in_range : is_dropped fate ≡ false → is_moment (moment_of x.0) ≡ true
-    pub agrees : is_dropped fate ≡ false → (s : PlainSink) → AgreesSink contents old.appender s → AgreesSink contents new.appender (with_handed s (handed_of x))
-    pub left : is_dropped fate ≡ false → (c : Contents) (p : PrunedSink) → contents old.appender.folder ≡ Some c → AgreesLeft contents old.appender p → HandsLeft contents p x.1.bytes (moment_of x.0) c old.appender new.appender
+    pub left : is_dropped fate ≡ false → (c : Contents) (p : PrunedSink) → contents old.appender.folder ≡ Some c → AgreesSink contents old.appender p → HandsSink contents p x.1.bytes (moment_of x.0) c old.appender new.appender
 
   hands_on : (names : FileNames) (m : Moment) (h : Held) (bytes : List ℕ) (r : Result (Unit {0}) FolderError) (a : RollingFileAppender D) → is_moment m ≡ true → HandsLine contents names m h bytes r a → (next : Held) × HandsOne names m h bytes (Answered r) next × Holds contents a next
   hands_on names m h bytes r a is over =
@@ -64,12 +61,11 @@ module _ {D : Type 0} (contents : D → Option Contents) (failed : D → ℕ) wh
 
   -- where memory was found and the folder refuses nothing the line was written
   written : (x : At × PlainLine) (old new : RollingSink D) (r : Result (Unit {0}) FolderError) →
-      OnOk r ((c : Contents) (p : PrunedSink) → contents old.appender.folder ≡ Some c → AgreesLeft contents old.appender p → HandsLeft contents p x.1.bytes (moment_of x.0) c old.appender new.appender) →
-      IfErr r (λ e. (p : PrunedSink) → AgreesLeft contents old.appender p → e ≡ OutOfMemory) → is_starved r ≡ false →
-      (c : Contents) (p : PrunedSink) → contents old.appender.folder ≡ Some c → AgreesLeft contents old.appender p → HandsLeft contents p x.1.bytes (moment_of x.0) c old.appender new.appender
-  written x old new (Ok done) wrote starved fed = wrote
-  written x old new (Err OutOfMemory) wrote starved fed = cc
-  written x old new (Err (Fault fault)) wrote starved fed = λ c p at left. let e : Fault fault ≡ OutOfMemory = starved p left in cc
+      ((c : Contents) (p : PrunedSink) → contents old.appender.folder ≡ Some c → AgreesSink contents old.appender p → LeavesSink contents p (λ done. x.1.bytes) (moment_of x.0) c old.appender r new.appender) → is_starved r ≡ false →
+      (c : Contents) (p : PrunedSink) → contents old.appender.folder ≡ Some c → AgreesSink contents old.appender p → HandsSink contents p x.1.bytes (moment_of x.0) c old.appender new.appender
+  written x old new (Ok done) leaves fed = leaves
+  written x old new (Err OutOfMemory) leaves fed = cc
+  written x old new (Err (Fault fault)) leaves fed = λ c p at agrees. absurd (leaves c p at agrees)
 
   one_told : (x : At × PlainLine) (old new : RollingSink D) (b : Bool) → is_moment (moment_of x.0) ≡ b → TakesIf contents failed b (moment_of x.0) x.1.bytes old new → OneTold x old new
   one_told x old new false out same = record {
@@ -79,7 +75,6 @@ module _ {D : Type 0} (contents : D → Option Contents) (failed : D → ℕ) wh
     held = λ h holds. (h, (out, refl), subst (λ (s : RollingSink D). Holds contents s.appender h) (sym same) holds);
     seen = (out, ap (λ (s : RollingSink D). seen_of failed s.appender) same);
     in_range = λ kept. cc;
-    agrees = λ kept. cc;
     left = λ kept. cc;
   }
   one_told x old new true is took = record {
@@ -89,29 +84,33 @@ module _ {D : Type 0} (contents : D → Option Contents) (failed : D → ℕ) wh
     held = λ h holds. hands_on (builder_names old.appender.builder) (moment_of x.0) h x.1.bytes took.result new.appender is (took.handed h holds);
     seen = (is, took.anywhere);
     in_range = λ kept. is;
-    agrees = took.ok;
-    left = written x old new took.result took.state took.starved;
+    left = written x old new took.result took.state;
   }
 
   -- a line, and then the others
-  held_on : (x : At × PlainLine) (xs : List (At × PlainLine)) (old mid new : RollingSink D) (fate : LineFate) (fates : List LineFate) → builder_names mid.appender.builder ≡ builder_names old.appender.builder → (h : Held) →
+  held_on : (x : At × PlainLine) (xs : List (At × PlainLine)) (old mid new : RollingSink D) (fate : WriteOutcome) (fates : List WriteOutcome) → builder_names mid.appender.builder ≡ builder_names old.appender.builder → (h : Held) →
       (next : Held) × HandsOne (builder_names old.appender.builder) (moment_of x.0) h x.1.bytes fate next × Holds contents mid.appender next →
       ((k : Held) → Holds contents mid.appender k → LeadsTo contents (builder_names mid.appender.builder) k xs fates new.appender) → LeadsTo contents (builder_names old.appender.builder) h (x ∷ xs) (fate ∷ fates) new.appender
   held_on x xs old mid new fate fates same h (next, one, holds) later =
       let more = later next holds in (more.0, (next, one, subst (λ (n : FileNames). HandsAll n next xs fates more.0) same more.1), more.2)
 
-  left_on : (x : At × PlainLine) (xs : List (At × PlainLine)) (a b c : RollingFileAppender D) (p : PrunedSink) (left : AgreesLeft contents a p) → HandsLeft contents p x.1.bytes (moment_of x.0) left.0 a b →
-      ((q : PrunedSink) → AgreesLeft contents b q → LeftBy contents xs q b c) → LeftBy contents (x ∷ xs) p a c
-  left_on x xs a b c p left hands later =
-      let more = later (with_line (without hands.0 p) x.1.bytes (moment_of x.0)) hands.2 in
+  left_on : (x : At × PlainLine) (xs : List (At × PlainLine)) (a b c : RollingFileAppender D) (p : PrunedSink) (d : Contents) → contents a.folder ≡ Some d → HandsSink contents p x.1.bytes (moment_of x.0) d a b →
+      ((q : PrunedSink) → AgreesSink contents b q → LeftBy contents xs q b c) → LeftBy contents (x ∷ xs) p a c
+  left_on x xs a b c p d at hands later =
+      let m = moment_of x.0 in
+      let more = later (with_line (pruned_at p m d) x.1.bytes m) hands.agrees in
       record {
         last = more.last;
-        leaves = (left.0, b, left.1, hands, more.leaves);
+        leaves = (d, b, at, hands, more.leaves);
         agrees = more.agrees;
         names = more.names;
         opened = more.opened;
         handed = more.handed ∙ append_assoc p.sink.handed (handed_of x ∷ []) (handed_in xs);
-        faults = more.faults ∙ hands.3;
+        whole = λ all.
+            more.whole all
+            ∙ ap (λ (q : PrunedSink). record q { sink = with_all (with_handed q.sink (handed_of x)) (handed_in xs) }) (pruned_none p m d all)
+            ∙ ap (λ (s : PlainSink). record p { sink = s }) (with_more p.sink (handed_of x) (handed_in xs));
+        faults = more.faults ∙ hands.counts;
       }
 
   pub told : RunsAreTold contents failed
@@ -121,14 +120,14 @@ module _ {D : Type 0} (contents : D → Option Contents) (failed : D → ℕ) wh
     names = ap (λ (s : RollingSink D). builder_names s.appender.builder) same;
     held = λ h holds. (h, refl, subst (λ (s : RollingSink D). Holds contents s.appender h) (sym same) holds);
     seen = ap (λ (s : RollingSink D). seen_of failed s.appender) same;
-    agrees = λ kept s agrees. subst (λ (t : PlainSink). AgreesSink contents new.appender t) (with_none s) (subst (λ (z : RollingSink D). AgreesSink contents z.appender s) (sym same) agrees);
     left = λ kept p left. record {
       last = p;
       leaves = (ap (λ (s : RollingSink D). s.appender) same, refl);
-      agrees = subst (λ (z : RollingSink D). AgreesLeft contents z.appender p) (sym same) left;
+      agrees = subst (λ (z : RollingSink D). AgreesSink contents z.appender p) (sym same) left;
       names = refl;
       opened = refl;
       handed = sym (append-nil p.sink.handed);
+      whole = λ all. ap (λ (handed : List Handed). record p { sink = record p.sink { handed = handed } }) (sym (append-nil p.sink.handed));
       faults = ap (λ (s : RollingSink D). s.appender.faults) same;
     };
   }
@@ -141,33 +140,28 @@ module _ {D : Type 0} (contents : D → Option Contents) (failed : D → ℕ) wh
         names = more.names ∙ one.names;
         held = λ h holds. held_on x xs old mid new one.fate more.fates one.names h (one.held h holds) more.held;
         seen = (seen_of failed mid.appender, one.seen, subst (λ (n : FileNames). SeesAll n (seen_of failed mid.appender) xs more.fates (seen_of failed new.appender)) one.names more.seen);
-        agrees = λ kept s agrees.
-            subst (λ (t : PlainSink). AgreesSink contents new.appender t) (with_more s (handed_of x) (handed_in xs)) (more.agrees kept.1 (with_handed s (handed_of x)) (one.agrees kept.0 s agrees));
-        left = λ kept p left. left_on x xs old.appender mid.appender new.appender p left (one.left kept.0 left.0 p left.1 left) (more.left kept.1);
+        left = λ kept p left.
+            let at = known_in (contents old.appender.folder) (builder_names old.appender.builder) old.appender.boundary old.appender.current p left in
+            left_on x xs old.appender mid.appender new.appender p at.0 at.1 (one.left kept.0 at.0 p at.1 left) (more.left kept.1);
       }
 
   -- where none was dropped each moment is in range
-  all_in_range : (lines : List (At × PlainLine)) (names : FileNames) (s t : Seen) (fates : List LineFate) → AllKept fates → SeesAll names s lines fates t → AllByRecursion (λ (h : Handed). is_moment h.moment ≡ true) (handed_in lines)
+  all_in_range : (lines : List (At × PlainLine)) (names : FileNames) (s t : Seen) (fates : List WriteOutcome) → AllKept fates → SeesAll names s lines fates t → AllByRecursion (λ (h : Handed). is_moment h.moment ≡ true) (handed_in lines)
   all_in_range [] names s t fates kept sees = tt
   all_in_range (x ∷ xs) names s t [] kept sees = absurd sees
   all_in_range (x ∷ xs) names s t (OutOfRange ∷ fates) kept sees = let no : true ≡ false = kept.0 in cc
   all_in_range (x ∷ xs) names s t (Answered r ∷ fates) kept (next, one, rest) = (one.0, all_in_range xs names next t fates kept.1 rest)
 
-  none_dropped : (old new : RollingSink D) (fates : List LineFate) → new.dropped ≡ dropped_by fates old.dropped → NoneDropped old new → AllKept fates
+  none_dropped : (old new : RollingSink D) (fates : List WriteOutcome) → new.dropped ≡ dropped_by fates old.dropped → NoneDropped old new → AllKept fates
   none_dropped old new fates counted none = all_kept fates old.dropped none.not_full (sym counted ∙ none.stayed)
 
   pub lines_reach : LinesReachFiles contents failed
   lines_reach lines old new run none =
       let run_told : RunTold contents failed lines old new = told lines old new run in
       let kept = none_dropped old new run_told.fates run_told.counted none in
-      (run_told.agrees kept, all_in_range lines (builder_names old.appender.builder) (seen_of failed old.appender) (seen_of failed new.appender) run_told.fates kept run_told.seen)
+      (all_in_range lines (builder_names old.appender.builder) (seen_of failed old.appender) (seen_of failed new.appender) run_told.fates kept run_told.seen, run_told.left kept)
 
-  pub lines_reach_left : LinesReachLeftFiles contents failed
-  lines_reach_left lines old new run none =
-      let run_told : RunTold contents failed lines old new = told lines old new run in
-      run_told.left (none_dropped old new run_told.fates run_told.counted none)
-
-  sees_each : (lines : List (At × PlainLine)) (names : FileNames) (s t : Seen) (fates : List LineFate) → SeesAll names s lines fates t → length fates ≡ length lines
+  sees_each : (lines : List (At × PlainLine)) (names : FileNames) (s t : Seen) (fates : List WriteOutcome) → SeesAll names s lines fates t → length fates ≡ length lines
   sees_each [] names s t [] sees = refl
   sees_each [] names s t (f ∷ fs) sees = absurd sees
   sees_each (x ∷ xs) names s t [] sees = absurd sees

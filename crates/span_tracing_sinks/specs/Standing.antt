@@ -1,39 +1,26 @@
 -- What the files of a folder hold after lines of which none was dropped.
 use Rattle.std.specs.Prelude.{◌≡◌, ℕ, true, false, List, Option, Some}
-use Rattle.std.specs.List.{AllByRecursion}
 use Rattle.tracing_core_requests.specs.declared.at.At.{At}
 use Rattle.tracing_appender_rolling.specs.Moment.{Moment}
 use Rattle.tracing_appender_rolling.specs.Moments.{is_moment}
 use Rattle.tracing_appender_rolling.specs.Contents.{Contents, bytes_at}
-use Rattle.tracing_appender_rolling.specs.Sinks.{Handed, PlainSink, file_text, period_in, period_name, period_text}
-use Rattle.tracing_appender_rolling.specs.Appenders.{AgreesSink}
-use Rattle.tracing_appender_rolling.specs.Remaining.{PrunedSink, AgreesLeft, pruned_text}
+use Rattle.tracing_appender_rolling.specs.Sinks.{period_in, period_name, period_text}
+use Rattle.tracing_appender_rolling.specs.Remaining.{PrunedSink, AgreesSink, pruned_text}
 use Rattle.span_tracing_outputs.specs.Outs.{PlainLine}
 use Rattle.span_tracing_sinks.specs.declared.sink.RollingSink.{RollingSink}
-use Rattle.span_tracing_sinks.specs.Runs.{TakesRun, handed_in}
+use Rattle.span_tracing_sinks.specs.Runs.{TakesRun}
 use Rattle.span_tracing_sinks.specs.Takes.{TakesLine}
-use Rattle.span_tracing_sinks.specs.Fates.{LeftBy, NoneDropped, with_all}
+use Rattle.span_tracing_sinks.specs.Fates.{LeftBy, NoneDropped}
 
--- exactly these lines stand in the files: each file holds what was found in it and then, in order, the lines whose running moment lies in its period, and no
--- other file has changed
-pub record LinesStand (lines : List (At × PlainLine)) (s : PlainSink) (c : Contents) : Type 0 where
-  pub files : (name : List ℕ) → bytes_at c.files name ≡ file_text (with_all s (handed_in lines)) name
-  pub periods : (m : Moment) → is_moment m ≡ true →
-      bytes_at c.files (period_name s (period_in s m)) ≡ period_text (with_all s (handed_in lines)) (period_in s m) (s.found (period_name s (period_in s m)))
-
--- the same with retention or a link, of the files that retention left
-pub record LeftLinesStand (last : PrunedSink) (c : Contents) : Type 0 where
+-- each file that retention left holds what its opening found and then, in order, the lines whose running moment lies in its period, and no other file has changed
+pub record LinesStand (last : PrunedSink) (c : Contents) : Type 0 where
   pub files : (name : List ℕ) → bytes_at c.files name ≡ pruned_text last name
   pub periods : (m : Moment) → is_moment m ≡ true → last.gone (period_name last.sink (period_in last.sink m)) ≡ false →
       bytes_at c.files (period_name last.sink (period_in last.sink m)) ≡ period_text last.sink (period_in last.sink m) (last.sink.found (period_name last.sink (period_in last.sink m)))
 
 module _ {D : Type 0} (contents : D → Option Contents) (failed : D → ℕ) where
+  -- exactly these lines stand in the files
   abbrev pub LinesStandInFiles : Type 0
   LinesStandInFiles = (lines : List (At × PlainLine)) (old new : RollingSink D) → TakesRun (TakesLine contents failed) lines old new → NoneDropped old new →
-      (s : PlainSink) → AgreesSink contents old.appender s → is_moment s.opened ≡ true → AllByRecursion (λ (h : Handed). is_moment h.moment ≡ true) s.handed →
-      (c : Contents) → contents new.appender.folder ≡ Some c → LinesStand lines s c
-
-  abbrev pub LinesStandInLeftFiles : Type 0
-  LinesStandInLeftFiles = (lines : List (At × PlainLine)) (old new : RollingSink D) → TakesRun (TakesLine contents failed) lines old new → NoneDropped old new →
-      (p : PrunedSink) → AgreesLeft contents old.appender p → (c : Contents) → contents new.appender.folder ≡ Some c →
-      (led : LeftBy contents lines p old.appender new.appender) × LeftLinesStand led.last c
+      (p : PrunedSink) → AgreesSink contents old.appender p → (c : Contents) → contents new.appender.folder ≡ Some c →
+      (led : LeftBy contents lines p old.appender new.appender) × LinesStand led.last c

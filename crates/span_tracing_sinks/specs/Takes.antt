@@ -1,19 +1,17 @@
 -- What a sink over a rolling file makes of a line.
-use Rattle.std.specs.Prelude.{◌≡◌, ◌+◌, ℕ, min, Bool, true, false, List, length, Option, Some, Result, OnOk, OnErr, IfErr}
+use Rattle.std.specs.Prelude.{◌≡◌, ◌+◌, ℕ, min, Bool, true, false, List, length, Option, Some, Result}
 use Rattle.tracing_core_requests.specs.declared.at.At.{At}
 use Rattle.tracing_appender_rolling.specs.Moment.{Moment}
 use Rattle.tracing_appender_rolling.specs.Moments.{is_moment}
 use Rattle.tracing_appender_rolling.specs.FolderError.{FolderError}
-use Rattle.tracing_appender_rolling.specs.FolderError.TheVariants.{OutOfMemory}
 use Rattle.tracing_appender_rolling.specs.Contents.{Contents}
 use Rattle.tracing_appender_rolling.specs.Builders.{builder_names}
 use Rattle.tracing_appender_rolling.specs.Telling.{ReportsWrites}
 use Rattle.tracing_appender_rolling.specs.Looks.{Held}
-use Rattle.tracing_appender_rolling.specs.Sinks.{PlainSink, with_handed}
-use Rattle.tracing_appender_rolling.specs.Appenders.{AgreesSink, Holds}
-use Rattle.tracing_appender_rolling.specs.Handing.{HandsLine, Misses, is_starved}
+use Rattle.tracing_appender_rolling.specs.Appenders.{Holds}
+use Rattle.tracing_appender_rolling.specs.Handing.{HandsLine, is_starved}
 use Rattle.tracing_appender_rolling.specs.Anywhere.{LineAnywhere}
-use Rattle.tracing_appender_rolling.specs.Remaining.{PrunedSink, AgreesLeft, HandsLeft}
+use Rattle.tracing_appender_rolling.specs.Remaining.{PrunedSink, AgreesSink, LeavesSink}
 use Rattle.span_tracing_outputs.specs.Outs.{PlainLine}
 use Rattle.span_tracing_sinks.specs.declared.sink.RollingSink.{RollingSink}
 
@@ -30,11 +28,8 @@ module _ {D : Type 0} (contents : D → Option Contents) (failed : D → ℕ) wh
   -- memory is counted
   pub record TookLine (m : Moment) (bytes : List ℕ) (old new : RollingSink D) : Type 0 where
     pub result : Result (Unit {0}) FolderError
-    pub ok : is_starved result ≡ false → (s : PlainSink) → AgreesSink contents old.appender s → AgreesSink contents new.appender (with_handed s (record { line = bytes; moment = m }))
-    pub err : OnErr result ((s : PlainSink) → AgreesSink contents old.appender s → Misses contents old.appender.boundary s m new.appender)
     pub handed : (h : Held) → Holds contents old.appender h → HandsLine contents (builder_names old.appender.builder) m h bytes result new.appender
-    pub state : OnOk result ((c : Contents) (p : PrunedSink) → contents old.appender.folder ≡ Some c → AgreesLeft contents old.appender p → HandsLeft contents p bytes m c old.appender new.appender)
-    pub starved : IfErr result (λ e. (p : PrunedSink) → AgreesLeft contents old.appender p → e ≡ OutOfMemory)
+    pub state : (c : Contents) (p : PrunedSink) → contents old.appender.folder ≡ Some c → AgreesSink contents old.appender p → LeavesSink contents p (λ done. bytes) m c old.appender result new.appender
     pub names : builder_names new.appender.builder ≡ builder_names old.appender.builder
     pub error : ReportsWrites (failed old.appender.folder) result (length bytes) (failed new.appender.folder)
     pub anywhere : LineAnywhere failed m (length bytes) result old.appender new.appender

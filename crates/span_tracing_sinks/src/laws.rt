@@ -1,8 +1,8 @@
 //! Laws of lines that are taken one after another.
-ghost use Rattle.span_tracing_sinks.specs.Fates.{CountsAreExact, DropsAreCounted, KeptLinesGoInTurn, LinesReachFiles, LinesReachLeftFiles, RunsAreTold};
+ghost use Rattle.span_tracing_sinks.specs.Fates.{CountsAreExact, DropsAreCounted, KeptLinesGoInTurn, LinesReachFiles, RunsAreTold};
 ghost use Rattle.span_tracing_sinks.specs.Each.{EachComposes};
 ghost use Rattle.span_tracing_sinks.specs.Runs.{RunsCompose};
-ghost use Rattle.span_tracing_sinks.specs.Standing.{LinesStandInFiles, LinesStandInLeftFiles};
+ghost use Rattle.span_tracing_sinks.specs.Standing.{LinesStandInFiles};
 
 use span_tracing_outputs::LineSink;
 use tracing_appender_rolling::Folder;
@@ -26,18 +26,14 @@ pub fn runs_are_told<D: Folder>()
 {}
 
 /// Where the count of dropped lines stayed, exactly the lines of a run were handed to the files, in order, each at
-/// its own moment.
+/// its own moment and behind what retention removed before it.
 pub fn lines_reach_files<D: Folder>()
-    ensures all { LinesReachFiles D.contents D.failed }
-    // with retention or a link too
-    ensures left { LinesReachLeftFiles D.contents D.failed }
+    ensures { LinesReachFiles D.contents D.failed }
 {}
 
-/// The same by the folder: exactly a run's lines stand in its files, behind what was found there.
+/// The same by the folder: exactly a run's lines stand in the files that retention left, behind what was found there.
 pub fn lines_stand_in_files<D: Folder>()
-    ensures all { LinesStandInFiles D.contents D.failed }
-    // with retention or a link too
-    ensures left { LinesStandInLeftFiles D.contents D.failed }
+    ensures { LinesStandInFiles D.contents D.failed }
 {}
 
 /// The count of dropped lines never falls, and rises by at most one a line. The names of the files stay.

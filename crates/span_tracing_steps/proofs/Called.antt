@@ -16,7 +16,6 @@ use Rattle.tracing_core_hub.specs.Keeping.{PreservesCaches}
 use Rattle.tracing_core_hub.specs.Kept.{KeptCallsite, KeptSubscriber}
 use Rattle.tracing_core_hub.specs.Lent.{living_of, living_changed}
 use Rattle.tracing_core_hub.specs.Table.{Table}
-use Rattle.tracing_core_hub.specs.ValidCaches.{HasValidCache}
 use Rattle.tracing_core_hub.specs.declared.hub.parts.LaneDefault.{LaneDefault}
 use Rattle.tracing_core_hub.specs.declared.hub.parts.LaneDefault.TheVariants as hub
 use Rattle.tracing_core_hub.specs.declared.refusal.HandleError.{HandleError}
@@ -81,27 +80,20 @@ module _ {T : Type 0} (g : Ghosts T) where
   ask_is m at None es fs b w = w
   ask_is m at (Some serial) es fs b w = ask_at_is m at serial es fs (subscriber_with serial es) b w
 
-  module _ (p : TraceParts T) (u : Table T TraceCallsite) (dispatch : Option ℕ) (handle : p.handle ≡ Some dispatch) (sound : IsSound g p) where
+  module _ (p : TraceParts T) (u : Table T TraceCallsite) (dispatch : Option ℕ) (handle : p.handle ≡ Some dispatch) (sound : IsSound p) where
     abbrev later : TraceParts T
     later = record p { hub = u }
 
     has_only : HasOnly (Some dispatch) p.hub.global p.hub.subscribers
     has_only = subst (λ h. HasOnly h p.hub.global p.hub.subscribers) handle sound.only
 
-    right_one : (e f : KeptSubscriber T) → f.serial ≡ e.serial → u.subscribers ≡ f ∷ [] → HasValidCache g ghosts p.hub e → PreservesCaches g ghosts p.hub u → Every (λ (x : KeptSubscriber T). HasValidCache g ghosts u x) u.subscribers
-    right_one e f alike stands valid keeps =
-        let kept = keeps.right_of e valid in
-        let same : kept.0 ≡ f = found_by kept.0.serial f kept.0 (ap (subscriber_with kept.0.serial) (sym stands) ∙ kept.2.stands) (kept.1 ∙ sym alike) in
-        subst (Every (λ (f : KeptSubscriber T). HasValidCache g ghosts u f)) (sym stands) (subst (HasValidCache g ghosts u) same kept.2, tt)
-
     -- what a handed call leaves is sound, and the stack took the call
-    pub called_sound : (c : Call) (reply : ReplyTo c) → HubGives g c dispatch p.hub reply u → PreservesCaches g ghosts p.hub u → IsSound g later
+    pub called_sound : (c : Call) (reply : ReplyTo c) → HubGives g c dispatch p.hub reply u → PreservesCaches g ghosts p.hub u → IsSound later
     called_sound c reply gives keeps =
         let one = one_call g c dispatch p.hub.global p.hub.subscribers u.subscribers reply has_only gives.0 in
         record {
           only = subst (λ h. HasOnly h u.global u.subscribers) (sym handle) (subst (λ (t : Table T TraceCallsite). HasOnly (Some dispatch) t.global u.subscribers) (sym gives.1) one.only);
           hub = keeps.sound sound.hub;
-          right = right_one one.entry (becomes one.after one.entry) refl one.stands (subst (Every (λ (e : KeptSubscriber T). HasValidCache g ghosts p.hub e)) one.stood sound.right).0 keeps;
         }
 
     stack_before : (e : KeptSubscriber T) → p.hub.subscribers ≡ e ∷ [] → dispatch ≡ Some e.serial → stack_in p ≡ Some e.subscriber
@@ -137,7 +129,7 @@ module _ {T : Type 0} (g : Ghosts T) where
     taken d t v unset free state = state ∙ ap (λ (b : Bool). or_same (if b then Some AlreadySet else option_map Handle (hold_refusal d t.subscribers)) t (globally t d)) unset ∙ ap (λ (o : Option HandleError). or_same (option_map Handle o) t (globally t d)) free
 
     -- the stack becomes the global default
-    pub set_sound : was_set p.hub.global ≡ false → u ≡ or_same (global_refusal p.hub dispatch) p.hub (globally p.hub dispatch) → PreservesCaches g ghosts p.hub u → IsSound g later
+    pub set_sound : was_set p.hub.global ≡ false → u ≡ or_same (global_refusal p.hub dispatch) p.hub (globally p.hub dispatch) → PreservesCaches g ghosts p.hub u → IsSound later
     set_sound unset state keeps =
         let e = has_only.0 in
         let free : hold_refusal dispatch p.hub.subscribers ≡ None = ap (λ (d : Option ℕ). hold_refusal d p.hub.subscribers) has_only.2 ∙ ap (hold_refusal (Some e.serial)) has_only.1 ∙ no_refusal e (has_only.3 (unset_by p.hub.global unset)) in
@@ -147,5 +139,4 @@ module _ {T : Type 0} (g : Ghosts T) where
         record {
           only = subst (λ h. HasOnly h u.global u.subscribers) (sym handle) (one_more e, stands, has_only.2, λ none. absurd (let clash : hub.To e.serial ≡ hub.Unset = sym global ∙ none in cc), subst (λ (d : LaneDefault). LeadsTo d e.serial) (sym global) refl);
           hub = keeps.sound sound.hub;
-          right = right_one e (one_more e) refl stands (subst (Every (λ (x : KeptSubscriber T). HasValidCache g ghosts p.hub x)) has_only.1 sound.right).0 keeps;
         }

@@ -31,7 +31,7 @@ use Rattle.span_tracing_steps.specs.declared.callsite.TraceCallsite.{TraceCallsi
 use Rattle.span_tracing_steps.specs.declared.parts.TraceParts.{TraceParts}
 use Rattle.span_tracing_steps.proofs.Indexed.{event_at_row, question_at_row, row_at, span_at_row, values_at_row}
 
-module _ {T : Type 0} (g : Ghosts T) (registry_of : T → RegistryValue) (p : TraceParts T) (u : Table T TraceCallsite) (dispatch : Option ℕ) (handle : p.handle ≡ Some dispatch) (sound : IsSound g p) (keeps : PreservesCaches g ghosts p.hub u) where
+module _ {T : Type 0} (g : Ghosts T) (registry_of : T → RegistryValue) (p : TraceParts T) (u : Table T TraceCallsite) (dispatch : Option ℕ) (handle : p.handle ≡ Some dispatch) (sound : IsSound p) (keeps : PreservesCaches g ghosts p.hub u) where
   abbrev later : TraceParts T
   later = record p { hub = u }
 
@@ -42,7 +42,7 @@ module _ {T : Type 0} (g : Ghosts T) (registry_of : T → RegistryValue) (p : Tr
   pub event_given : (r : Request) (found : Option CallsiteIndex) (index : CallsiteIndex) (parent : RequestParent) (result : Option (Result (Unit {0}) RequestError)) → plain_parent parent ≡ told_parent r.parent → found ≡ Some index →
       at_index (value_in p).callsites found ≡ known (skeleton_of registry_of (value_in p)) r.callsite false → is_some found ≡ is_some (known (skeleton_of registry_of (value_in p)) r.callsite false) →
       refusal_of (skeleton_of registry_of (value_in p)) (EventStep (plain_request r)) ≡ None → (value_in p).is_global ≡ true →
-      EventAtGives g ghosts (slice_get p.hub.callsites index.0) r.values.now parent (place_at r.lane r.moment) dispatch p.hub result u → IsSound g later × StepGives g registry_of (value_in p) (EventStep (plain_request r)) Done (value_in later)
+      EventAtGives g ghosts (slice_get p.hub.callsites index.0) r.values.now parent (place_at r.lane r.moment) dispatch p.hub result u → IsSound later × StepGives g registry_of (value_in p) (EventStep (plain_request r)) Done (value_in later)
   event_given r found index parent result pe is names there none global w =
       let m = known (skeleton_of registry_of (value_in p)) r.callsite false in
       let goes = event_at_row g p u dispatch handle sound keeps (slice_get p.hub.callsites index.0) m r parent result pe (row_at p.hub.callsites index.0 ∙ ap (at_index (value_in p).callsites) (sym is) ∙ names) (sym there ∙ ap is_some is) w in
@@ -51,7 +51,7 @@ module _ {T : Type 0} (g : Ghosts T) (registry_of : T → RegistryValue) (p : Tr
   pub span_given : (r : Request) (found : Option CallsiteIndex) (index : CallsiteIndex) (parent : RequestParent) (result : Option (Result (Option ℕ) RequestError)) (made : Result (Option ℕ) RequestError) (reply : Reply) → plain_parent parent ≡ told_parent r.parent → found ≡ Some index →
       at_index (value_in p).callsites found ≡ known (skeleton_of registry_of (value_in p)) r.callsite true → is_some found ≡ is_some (known (skeleton_of registry_of (value_in p)) r.callsite true) →
       refusal_of (skeleton_of registry_of (value_in p)) (SpanStep (plain_request r)) ≡ None → (value_in p).is_global ≡ true → result ≡ Some made → reply ≡ span_reply made →
-      SpanAtGives g ghosts (slice_get p.hub.callsites index.0) r.values.now parent (place_at r.lane r.moment) dispatch p.hub result u → IsSound g later × StepGives g registry_of (value_in p) (SpanStep (plain_request r)) reply (value_in later)
+      SpanAtGives g ghosts (slice_get p.hub.callsites index.0) r.values.now parent (place_at r.lane r.moment) dispatch p.hub result u → IsSound later × StepGives g registry_of (value_in p) (SpanStep (plain_request r)) reply (value_in later)
   span_given r found index parent result made reply pe is names there none global answered told w =
       let m = known (skeleton_of registry_of (value_in p)) r.callsite true in
       let goes = span_at_row g p u dispatch handle sound keeps (slice_get p.hub.callsites index.0) m r parent result made reply pe (row_at p.hub.callsites index.0 ∙ ap (at_index (value_in p).callsites) (sym is) ∙ names) (sym there ∙ ap is_some is) answered told w in
@@ -60,7 +60,7 @@ module _ {T : Type 0} (g : Ghosts T) (registry_of : T → RegistryValue) (p : Tr
   pub question_given : (call : EnabledCall) (found : Option CallsiteIndex) (index : CallsiteIndex) (result : Option Bool) (wanted : Bool) → found ≡ Some index →
       at_index (value_in p).callsites found ≡ named (value_in p).callsites call.callsite.0 → is_some found ≡ is_some (named (value_in p).callsites call.callsite.0) →
       refusal_of (skeleton_of registry_of (value_in p)) (EnabledStep call) ≡ None → (value_in p).is_global ≡ true → result ≡ Some wanted →
-      AskAtGives g ghosts (slice_get p.hub.callsites index.0) (place_at call.lane call.moment) dispatch p.hub result u → IsSound g later × StepGives g registry_of (value_in p) (EnabledStep call) (Enabled wanted) (value_in later)
+      AskAtGives g ghosts (slice_get p.hub.callsites index.0) (place_at call.lane call.moment) dispatch p.hub result u → IsSound later × StepGives g registry_of (value_in p) (EnabledStep call) (Enabled wanted) (value_in later)
   question_given call found index result wanted is names there none global answered w =
       let m = named (value_in p).callsites call.callsite.0 in
       let goes = question_at_row g p u dispatch handle sound keeps (slice_get p.hub.callsites index.0) m call result wanted (row_at p.hub.callsites index.0 ∙ ap (at_index (value_in p).callsites) (sym is) ∙ names) (sym there ∙ ap is_some is) answered w in
@@ -70,7 +70,7 @@ module _ {T : Type 0} (g : Ghosts T) (registry_of : T → RegistryValue) (p : Tr
   pub values_given : (r : RecordRequest) (name : SpanName) (found : Option CallsiteIndex) (index : CallsiteIndex) (result : Option (Result (Unit {0}) RequestError)) → r.span ≡ Some name → found ≡ Some index →
       at_index (value_in p).callsites found ≡ callsite_of (skeleton_of registry_of (value_in p)) name.id → is_some found ≡ is_some (callsite_of (skeleton_of registry_of (value_in p)) name.id) →
       refusal_of (skeleton_of registry_of (value_in p)) (RecordStep (plain_record r)) ≡ None →
-      RecordAtGives g ghosts (slice_get p.hub.callsites index.0) name.id r.values.now (place_at r.lane r.moment) dispatch p.hub result u → IsSound g later × StepGives g registry_of (value_in p) (RecordStep (plain_record r)) Done (value_in later)
+      RecordAtGives g ghosts (slice_get p.hub.callsites index.0) name.id r.values.now (place_at r.lane r.moment) dispatch p.hub result u → IsSound later × StepGives g registry_of (value_in p) (RecordStep (plain_record r)) Done (value_in later)
   values_given r name found index result on is names there none w =
       let m = callsite_of (skeleton_of registry_of (value_in p)) name.id in
       let goes = values_at_row g p u dispatch handle sound keeps (slice_get p.hub.callsites index.0) m name.id r result (row_at p.hub.callsites index.0 ∙ ap (at_index (value_in p).callsites) (sym is) ∙ names) (sym there ∙ ap is_some is) w in

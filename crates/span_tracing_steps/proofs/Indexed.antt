@@ -63,13 +63,13 @@ row_at [] n = refl
 row_at (row ∷ rows) zero = refl
 row_at (row ∷ rows) (suc n) = row_at rows n
 
-module _ {T : Type 0} (g : Ghosts T) (p : TraceParts T) (u : Table T TraceCallsite) (dispatch : Option ℕ) (handle : p.handle ≡ Some dispatch) (sound : IsSound g p) (keeps : PreservesCaches g ghosts p.hub u) where
+module _ {T : Type 0} (g : Ghosts T) (p : TraceParts T) (u : Table T TraceCallsite) (dispatch : Option ℕ) (handle : p.handle ≡ Some dispatch) (sound : IsSound p) (keeps : PreservesCaches g ghosts p.hub u) where
   abbrev later : TraceParts T
   later = record p { hub = u }
 
   -- an event at a row
   pub event_at_row : (o : Option (KeptCallsite TraceCallsite)) (m : Option PlainMetadata) (r : Request) (parent : RequestParent) (result : Option (Result (Unit {0}) RequestError)) → plain_parent parent ≡ told_parent r.parent → option_map (λ (row : KeptCallsite TraceCallsite). own_metadata row.callsite) o ≡ m → is_some m ≡ true →
-      EventAtGives g ghosts o r.values.now parent (place_at r.lane r.moment) dispatch p.hub result u → IsSound g later × EventGoes g true m (value_in p) (plain_request r) (value_in later)
+      EventAtGives g ghosts o r.values.now parent (place_at r.lane r.moment) dispatch p.hub result u → IsSound later × EventGoes g true m (value_in p) (plain_request r) (value_in later)
   event_at_row None None r parent result pe e there w = absurd (cc)
   event_at_row None (Some m) r parent result pe e there w = absurd (cc)
   event_at_row (Some row) None r parent result pe e there w = absurd (cc)
@@ -84,7 +84,7 @@ module _ {T : Type 0} (g : Ghosts T) (p : TraceParts T) (u : Table T TraceCallsi
 
   -- a new span at a row
   pub span_at_row : (o : Option (KeptCallsite TraceCallsite)) (m : Option PlainMetadata) (r : Request) (parent : RequestParent) (result : Option (Result (Option ℕ) RequestError)) (made : Result (Option ℕ) RequestError) (reply : Reply) → plain_parent parent ≡ told_parent r.parent → option_map (λ (row : KeptCallsite TraceCallsite). own_metadata row.callsite) o ≡ m → is_some m ≡ true →
-      result ≡ Some made → reply ≡ span_reply made → SpanAtGives g ghosts o r.values.now parent (place_at r.lane r.moment) dispatch p.hub result u → IsSound g later × SpanGoes g true m (value_in p) (plain_request r) reply (value_in later)
+      result ≡ Some made → reply ≡ span_reply made → SpanAtGives g ghosts o r.values.now parent (place_at r.lane r.moment) dispatch p.hub result u → IsSound later × SpanGoes g true m (value_in p) (plain_request r) reply (value_in later)
   span_at_row None None r parent result made reply pe e there is told w = absurd (cc)
   span_at_row None (Some m) r parent result made reply pe e there is told w = absurd (cc)
   span_at_row (Some row) None r parent result made reply pe e there is told w = absurd (cc)
@@ -99,7 +99,7 @@ module _ {T : Type 0} (g : Ghosts T) (p : TraceParts T) (u : Table T TraceCallsi
 
   -- values for a span of a row
   pub values_at_row : (o : Option (KeptCallsite TraceCallsite)) (m : Option PlainMetadata) (id : ℕ) (r : RecordRequest) (result : Option (Result (Unit {0}) RequestError)) → option_map (λ (row : KeptCallsite TraceCallsite). own_metadata row.callsite) o ≡ m → is_some m ≡ true →
-      RecordAtGives g ghosts o id r.values.now (place_at r.lane r.moment) dispatch p.hub result u → IsSound g later × ValuesGo g id m (value_in p) (plain_record r) (value_in later)
+      RecordAtGives g ghosts o id r.values.now (place_at r.lane r.moment) dispatch p.hub result u → IsSound later × ValuesGo g id m (value_in p) (plain_record r) (value_in later)
   values_at_row None None id r result e there w = absurd (cc)
   values_at_row None (Some m) id r result e there w = absurd (cc)
   values_at_row (Some row) None id r result e there w = absurd (cc)
@@ -113,7 +113,7 @@ module _ {T : Type 0} (g : Ghosts T) (p : TraceParts T) (u : Table T TraceCallsi
 
   -- a question about a row
   pub question_at_row : (o : Option (KeptCallsite TraceCallsite)) (m : Option PlainMetadata) (call : EnabledCall) (result : Option Bool) (wanted : Bool) → option_map (λ (row : KeptCallsite TraceCallsite). own_metadata row.callsite) o ≡ m → is_some m ≡ true → result ≡ Some wanted →
-      AskAtGives g ghosts o (place_at call.lane call.moment) dispatch p.hub result u → IsSound g later × QuestionGoes g true m (value_in p) call (Enabled wanted) (value_in later)
+      AskAtGives g ghosts o (place_at call.lane call.moment) dispatch p.hub result u → IsSound later × QuestionGoes g true m (value_in p) call (Enabled wanted) (value_in later)
   question_at_row None None call result wanted e there is w = absurd (cc)
   question_at_row None (Some m) call result wanted e there is w = absurd (cc)
   question_at_row (Some row) None call result wanted e there is w = absurd (cc)

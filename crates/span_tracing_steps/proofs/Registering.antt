@@ -17,7 +17,7 @@ use Rattle.tracing_core_hub.specs.Keeping.{PreservesCaches}
 use Rattle.tracing_core_hub.specs.Kept.{KeptCallsite, KeptSubscriber}
 use Rattle.tracing_core_hub.specs.Sound.{IsSound as IsSoundHub}
 use Rattle.tracing_core_hub.specs.Table.{Table}
-use Rattle.tracing_core_hub.specs.ValidCaches.{HasValidCache, IsTrueCallsite}
+use Rattle.tracing_core_hub.specs.ValidCaches.{IsTrueCallsite}
 use Rattle.tracing_core_hub.specs.declared.hub.parts.LaneDefault.{LaneDefault}
 use Rattle.tracing_core_hub.specs.declared.hub.parts.LaneDefault.TheVariants.{Unset}
 use Rattle.tracing_core_hub.specs.declared.refusal.RegisterError.{RegisterError}
@@ -86,14 +86,14 @@ module _ {T : Type 0} (g : Ghosts T) where
     same_value : u ≡ p.hub → value_in later ≡ value_in p
     same_value is = ap (λ (t : Table T TraceCallsite). value_in (record p { hub = t })) is
 
-    same_sound : u ≡ p.hub → IsSound g p → IsSound g later
-    same_sound is sound = subst (λ (t : Table T TraceCallsite). IsSound g (record p { hub = t })) (sym is) sound
+    same_sound : u ≡ p.hub → IsSound p → IsSound later
+    same_sound is sound = subst (λ (t : Table T TraceCallsite). IsSound (record p { hub = t })) (sym is) sound
 
     -- one that wasn't known stands behind the others
     abbrev NewCallsite : PlainMetadata → PlainInterest → Type 0
-    NewCallsite m k = IsSound g later × StackRegisters g (stack_in p) (value_in p) m k (value_in later)
+    NewCallsite m k = IsSound later × StackRegisters g (stack_in p) (value_in p) m k (value_in later)
 
-    new_none : (m : PlainMetadata) (k : PlainInterest) → p.handle ≡ None → IsSound g p → PreservesCaches g ghosts p.hub u → u.global ≡ p.hub.global → u.subscribers ≡ [] → k ≡ Never → callsites_of u.callsites ≡ callsites_of p.hub.callsites ++ m ∷ [] → NewCallsite m k
+    new_none : (m : PlainMetadata) (k : PlainInterest) → p.handle ≡ None → IsSound p → PreservesCaches g ghosts p.hub u → u.global ≡ p.hub.global → u.subscribers ≡ [] → k ≡ Never → callsites_of u.callsites ≡ callsites_of p.hub.callsites ++ m ∷ [] → NewCallsite m k
     new_none m k none sound keeps global fs never rows =
         let only : HasOnly None p.hub.global p.hub.subscribers = subst (λ h. HasOnly h p.hub.global p.hub.subscribers) none sound.only in
         let no_stack : stack_in p ≡ None = ap (λ h. stack_of h p.hub.subscribers) none in
@@ -101,7 +101,6 @@ module _ {T : Type 0} (g : Ghosts T) where
           record {
             only = subst (λ h. HasOnly h u.global u.subscribers) (sym none) (fs, global ∙ only.1);
             hub = keeps.sound sound.hub;
-            right = subst (Every (λ (e : KeptSubscriber T). HasValidCache g ghosts u e)) (sym fs) tt;
           },
           subst (λ s. StackRegisters g s (value_in p) m k (value_in later)) (sym no_stack) (
             never,
@@ -111,21 +110,17 @@ module _ {T : Type 0} (g : Ghosts T) where
           ),
         )
 
-    new_some : (m : PlainMetadata) (k : PlainInterest) (dispatch : Option ℕ) (handle : p.handle ≡ Some dispatch) (only : HasOnly (Some dispatch) p.hub.global p.hub.subscribers) → IsSound g p → PreservesCaches g ghosts p.hub u → u.global ≡ p.hub.global → AskedOne m only.0 u.subscribers k → callsites_of u.callsites ≡ callsites_of p.hub.callsites ++ m ∷ [] → NewCallsite m k
+    new_some : (m : PlainMetadata) (k : PlainInterest) (dispatch : Option ℕ) (handle : p.handle ≡ Some dispatch) (only : HasOnly (Some dispatch) p.hub.global p.hub.subscribers) → IsSound p → PreservesCaches g ghosts p.hub u → u.global ≡ p.hub.global → AskedOne m only.0 u.subscribers k → callsites_of u.callsites ≡ callsites_of p.hub.callsites ++ m ∷ [] → NewCallsite m k
     new_some m k dispatch handle only sound keeps global asked rows =
         let e = only.0 in
         let f = asked.0 in
         let serial : f.serial ≡ e.serial = ap (λ (x : KeptSubscriber T). x.serial) asked.4 in
         let handles : f.handles ≡ e.handles = ap (λ (x : KeptSubscriber T). x.handles) asked.4 in
         let before : stack_in p ≡ Some e.subscriber = stack_is p.handle dispatch p.hub.subscribers e handle only.2 only.1 in
-        let after : stack_in later ≡ Some f.subscriber = stack_is p.handle dispatch u.subscribers f handle (only.2 ∙ ap (λ (n : ℕ). Some n) (sym serial)) asked.1 in
-        let valid : HasValidCache g ghosts p.hub e = (subst (Every (λ (x : KeptSubscriber T). HasValidCache g ghosts p.hub x)) only.1 sound.right).0 in
-        let kept = keeps.right_of e valid in
-        let same : kept.0 ≡ f = found_by kept.0.serial f kept.0 (ap (subscriber_with kept.0.serial) (sym asked.1) ∙ kept.2.stands) (kept.1 ∙ sym serial) in (
+        let after : stack_in later ≡ Some f.subscriber = stack_is p.handle dispatch u.subscribers f handle (only.2 ∙ ap (λ (n : ℕ). Some n) (sym serial)) asked.1 in (
           record {
             only = subst (λ h. HasOnly h u.global u.subscribers) (sym handle) (f, asked.1, only.2 ∙ ap (λ (n : ℕ). Some n) (sym serial), λ unset. handles ∙ only.3 (sym global ∙ unset), subst (λ (d : LaneDefault). LeadsTo d f.serial) (sym global) (subst (LeadsTo p.hub.global) (sym serial) only.4));
             hub = keeps.sound sound.hub;
-            right = subst (Every (λ (x : KeptSubscriber T). HasValidCache g ghosts u x)) (sym asked.1) (subst (HasValidCache g ghosts u) same kept.2, tt);
           },
           subst (λ s. StackRegisters g s (value_in p) m k (value_in later)) (sym before) (
             f.subscriber,
@@ -142,7 +137,7 @@ module _ {T : Type 0} (g : Ghosts T) where
             ap (λ h. stack_of h es) (is ∙ ap (λ (d : Option ℕ). Some d) led) ∙ ap (λ (xs : List (KeptSubscriber T)). option_map (λ (x : KeptSubscriber T). x.subscriber) (subscriber_with e.serial xs)) one
             ∙ ap (option_map (λ (x : KeptSubscriber T). x.subscriber)) (found_one e)
 
-    new_by : (handle : Option (Option ℕ)) → p.handle ≡ handle → (site : TraceCallsite) (k : PlainInterest) → IsSound g p → PreservesCaches g ghosts p.hub u → Registered g ghosts p.hub site k u → NewCallsite (own_metadata site) k
+    new_by : (handle : Option (Option ℕ)) → p.handle ≡ handle → (site : TraceCallsite) (k : PlainInterest) → IsSound p → PreservesCaches g ghosts p.hub u → Registered g ghosts p.hub site k u → NewCallsite (own_metadata site) k
     new_by None is site k sound keeps w =
         let only : HasOnly None p.hub.global p.hub.subscribers = subst (λ h. HasOnly h p.hub.global p.hub.subscribers) is sound.only in
         let nobody = nobody_asked (own_metadata site) u.subscribers w.row.interest (subst (λ (es : List (KeptSubscriber T)). AskedAll g (own_metadata site) es u.subscribers w.row.interest) only.0 w.asked.0) in
@@ -155,9 +150,9 @@ module _ {T : Type 0} (g : Ghosts T) where
         (ap (λ (t : Table T TraceCallsite). callsites_of t.callsites) w.kept ∙ map_more (λ (row : KeptCallsite TraceCallsite). own_metadata row.callsite) p.hub.callsites w.row ∙ ap (λ (n : PlainMetadata). callsites_of p.hub.callsites ++ n ∷ []) w.asked.1)
 
     abbrev Goes : Option PlainMetadata → TraceCallsite → Result PlainInterest (RegisterError TraceCallsite) → Type 0
-    Goes o site r = IsSound g later × RegisterGivesAt g o (value_in p) (own_metadata site) (told r) (value_in later)
+    Goes o site r = IsSound later × RegisterGivesAt g o (value_in p) (own_metadata site) (told r) (value_in later)
 
-    known_goes : (b : Bool) (row : KeptCallsite TraceCallsite) (m : PlainMetadata) (site : TraceCallsite) (r : Result PlainInterest (RegisterError TraceCallsite)) → own_metadata row.callsite ≡ m → is_same_metadata m (own_metadata site) ≡ b → IsSound g p →
+    known_goes : (b : Bool) (row : KeptCallsite TraceCallsite) (m : PlainMetadata) (site : TraceCallsite) (r : Result PlainInterest (RegisterError TraceCallsite)) → own_metadata row.callsite ≡ m → is_same_metadata m (own_metadata site) ≡ b → IsSound p →
         commands.RegisterGivesAt g ghosts p.hub site (Some (if b then Some row.interest else None)) r u → Goes (Some m) site r
     known_goes true row m site (Ok k) e same sound w = (same_sound w.1 sound, (subst (λ (b : Bool). KnownGives b (Ok k)) (sym same) tt, same_value w.1))
     known_goes true row m site (Err error) e same sound w = absurd (let clash = w.0 in cc)
@@ -165,7 +160,7 @@ module _ {T : Type 0} (g : Ghosts T) where
     known_goes false row m site (Err (errors.Taken back)) e same sound w = (same_sound w.1 sound, (subst (λ (b : Bool). KnownGives b (Err Taken)) (sym same) (inl refl), same_value w.1))
     known_goes false row m site (Err (errors.OutOfMemory back)) e same sound w = absurd (let clash = w.0 in cc)
 
-    by_row : (o : Option (KeptCallsite TraceCallsite)) (m : Option PlainMetadata) (site : TraceCallsite) (r : Result PlainInterest (RegisterError TraceCallsite)) → option_map (λ (row : KeptCallsite TraceCallsite). own_metadata row.callsite) o ≡ m → IsSound g p → PreservesCaches g ghosts p.hub u →
+    by_row : (o : Option (KeptCallsite TraceCallsite)) (m : Option PlainMetadata) (site : TraceCallsite) (r : Result PlainInterest (RegisterError TraceCallsite)) → option_map (λ (row : KeptCallsite TraceCallsite). own_metadata row.callsite) o ≡ m → IsSound p → PreservesCaches g ghosts p.hub u →
         commands.RegisterGivesAt g ghosts p.hub site (kept_alike ghosts (own_metadata site) o) r u → Goes m site r
     by_row None None site (Ok k) e sound keeps w = new_by p.handle refl site k sound keeps w
     by_row None None site (Err (errors.Taken back)) e sound keeps w = absurd w
@@ -176,8 +171,8 @@ module _ {T : Type 0} (g : Ghosts T) where
         let same : own_metadata row.callsite ≡ m = cc in
         known_goes (is_same_metadata (own_metadata row.callsite) (own_metadata site)) row m site r same (ap (λ (n : PlainMetadata). is_same_metadata n (own_metadata site)) (sym same)) sound w
 
-    pub registers : (site : TraceCallsite) (r : Result PlainInterest (RegisterError TraceCallsite)) → IsSound g p → PreservesCaches g ghosts p.hub u → commands.RegisterGives g ghosts p.hub site r u →
-        IsSound g later × RegisterGives g (value_in p) (own_metadata site) (told r) (value_in later)
+    pub registers : (site : TraceCallsite) (r : Result PlainInterest (RegisterError TraceCallsite)) → IsSound p → PreservesCaches g ghosts p.hub u → commands.RegisterGives g ghosts p.hub site r u →
+        IsSound later × RegisterGives g (value_in p) (own_metadata site) (told r) (value_in later)
     registers site r sound keeps w =
         by_row (callsite_with (own_metadata site).callsite p.hub.callsites) (named (callsites_of p.hub.callsites) (own_metadata site).callsite) site r (row_named p.hub.callsites (own_metadata site).callsite sound.hub.sites) sound keeps w
 
@@ -211,9 +206,9 @@ module _ {T : Type 0} (g : Ghosts T) where
     abbrev taken : TraceParts T
     taken = record p { handle = Some dispatch; hub = u }
 
-    pub adds : p.handle ≡ None → IsSound g p → commands.AddGives g ghosts p.hub x (Ok dispatch) u → PreservesCaches g ghosts p.hub u → ((e : KeptSubscriber T) × (dispatch ≡ Some e.serial) × HasValidCache g ghosts u e) →
-        IsSound g taken × AddGives g (value_in p) x (Ok tt) (value_in taken)
-    adds none sound (led, (z, registered, refreshed)) keeps (known, known_led, valid) =
+    pub adds : p.handle ≡ None → IsSound p → commands.AddGives g ghosts p.hub x (Ok dispatch) u → PreservesCaches g ghosts p.hub u →
+        IsSound taken × AddGives g (value_in p) x (Ok tt) (value_in taken)
+    adds none sound (led, (z, registered, refreshed)) keeps =
         let only : HasOnly None p.hub.global p.hub.subscribers = subst (λ h. HasOnly h p.hub.global p.hub.subscribers) none sound.only in
         let new = living p.hub.next z in
         let begun : Table T TraceCallsite = record p.hub { subscribers = p.hub.subscribers ++ new ∷ []; next = p.hub.next + 1 } in
@@ -225,13 +220,10 @@ module _ {T : Type 0} (g : Ghosts T) where
         let serial : f.serial ≡ p.hub.next = ap (λ (e : KeptSubscriber T). e.serial) hint.3 ∙ ap (λ (e : KeptSubscriber T). e.serial) rows.3 in
         let handles : f.handles ≡ 1 = ap (λ (e : KeptSubscriber T). e.handles) hint.3 ∙ ap (λ (e : KeptSubscriber T). e.handles) rows.3 in
         let global : u.global ≡ p.hub.global = ap (λ (t : Table T TraceCallsite). t.global) rebuilt.rest in
-        let leads : dispatch ≡ Some f.serial = led ∙ ap (λ (n : ℕ). Some n) (sym serial) in
-        let alike : known.serial ≡ f.serial = (let both : Some known.serial ≡ Some f.serial = sym known_led ∙ leads in cc) in
-        let same : known ≡ f = found_by known.serial f known (ap (subscriber_with known.serial) (sym hint.1) ∙ valid.stands) alike in (
+        let leads : dispatch ≡ Some f.serial = led ∙ ap (λ (n : ℕ). Some n) (sym serial) in (
           record {
             only = (f, hint.1, leads, λ unset. handles, subst (λ (d : LaneDefault). LeadsTo d f.serial) (sym (global ∙ only.1)) tt);
             hub = keeps.sound sound.hub;
-            right = subst (Every (λ (e : KeptSubscriber T). HasValidCache g ghosts u e)) (sym hint.1) (subst (HasValidCache g ghosts u) same valid, tt);
           },
           (
             p.hub.next,

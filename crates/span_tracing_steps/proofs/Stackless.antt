@@ -1,7 +1,6 @@
 -- Parts that have no stack have no handle.
 use Rattle.std.proofs.Common.{◌≡◌, ℕ, List, [], ◌∷◌, Option, Some, None, is_some, true≢false, refl, sym, ap, ◌∙◌}
 use Rattle.std.specs.Option.{option_map}
-use Rattle.tracing_core_requests.specs.declared.subscriber.Subscriber.{Ghosts}
 use Rattle.tracing_core_hub.specs.Handles.{subscriber_with}
 use Rattle.tracing_core_hub.specs.Kept.{KeptSubscriber}
 use Rattle.tracing_core_hub.specs.declared.hub.parts.LaneDefault.{LaneDefault}
@@ -20,5 +19,5 @@ module _ {T : Type 0} where
   none_by None global es only none = refl
   none_by (Some dispatch) global es (e, one, is, once, leads) none = absurd (true≢false (ap is_some (sym (led dispatch es e one is) ∙ none)))
 
-  pub no_handle : (g : Ghosts T) (p : TraceParts T) → IsSound g p → (value_in p).stack ≡ None → p.handle ≡ None
-  no_handle g p sound none = none_by p.handle p.hub.global p.hub.subscribers sound.only none
+  pub no_handle : (p : TraceParts T) → IsSound p → (value_in p).stack ≡ None → p.handle ≡ None
+  no_handle p sound none = none_by p.handle p.hub.global p.hub.subscribers sound.only none

@@ -1,10 +1,7 @@
 -- What is true of the parts of each trace.
 use Rattle.std.specs.Prelude.{◌≡◌, ℕ, List, [], ◌∷◌, Option, Some, None}
-use Rattle.tracing_core_requests.specs.Lists.{Every}
-use Rattle.tracing_core_requests.specs.declared.subscriber.Subscriber.{Ghosts}
 use Rattle.tracing_core_hub.specs.Kept.{KeptSubscriber}
 use Rattle.tracing_core_hub.specs.Sound.{IsSound as IsSoundHub}
-use Rattle.tracing_core_hub.specs.ValidCaches.{HasValidCache}
 use Rattle.tracing_core_hub.specs.declared.hub.parts.LaneDefault.{LaneDefault}
 use Rattle.tracing_core_hub.specs.declared.hub.parts.LaneDefault.TheVariants.{Unset, Nothing, To}
 use Rattle.span_tracing_steps.specs.contracts.callsite.TraceCallsiteCallsite.TheImpl.{ghosts}
@@ -22,8 +19,7 @@ HasOnly None global subscribers = (subscribers ≡ []) × (global ≡ Unset)
 HasOnly {T = T} (Some dispatch) global subscribers =
     (e : KeptSubscriber T) × (subscribers ≡ e ∷ []) × (dispatch ≡ Some e.serial) × (global ≡ Unset → e.handles ≡ 1) × LeadsTo global e.serial
 
--- the hub has one stack at most, is sound, and what it keeps is right of the stack, which is consistent
-pub record IsSound {T : Type 0} (g : Ghosts T) (p : TraceParts T) : Type 0 where
+-- the hub has one stack at most, and is sound
+pub record IsSound {T : Type 0} (p : TraceParts T) : Type 0 where
   pub only : HasOnly p.handle p.hub.global p.hub.subscribers
   pub hub : IsSoundHub ghosts p.hub
-  pub right : Every (λ (e : KeptSubscriber T). HasValidCache g ghosts p.hub e) p.hub.subscribers

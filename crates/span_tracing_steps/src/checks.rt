@@ -25,7 +25,7 @@ impl<T: Subscriber + HasRegistry> TraceParts<T> {
     /// Where the callsite with the identifier stands.
     #[tactic(auto, using(crate::proofs::Callsites::index_names, crate::proofs::Callsites::index_there))]
     pub(crate) fn find(&self, number: u64) -> Option<CallsiteIndex>
-        requires { IsSound ⟦<T as Subscriber>⟧ self.now }
+        requires { IsSound self.now }
         ensures names { at_index (value_in self.now).callsites result ≡ named (value_in self.now).callsites number }
         ensures there { is_some result ≡ is_some (named (value_in self.now).callsites number) }
     {
@@ -34,7 +34,7 @@ impl<T: Subscriber + HasRegistry> TraceParts<T> {
 
     /// Where the callsite of this kind with the identifier stands.
     pub(crate) fn known(&self, number: u64, is_span: bool) -> Option<CallsiteIndex>
-        requires { IsSound ⟦<T as Subscriber>⟧ self.now }
+        requires { IsSound self.now }
         ensures names { at_index (value_in self.now).callsites result
             ≡ known (skeleton_of T.registry_of (value_in self.now)) number is_span }
         ensures there { is_some result ≡ is_some (known (skeleton_of T.registry_of (value_in self.now)) number is_span) }
@@ -91,7 +91,7 @@ impl<T: Subscriber + HasRegistry> TraceParts<T> {
     /// Where the callsite of an open span stands.
     #[tactic(auto, using(crate::proofs::Bare::callsite_bare))]
     pub(crate) fn callsite_of(&self, id: Id) -> Option<CallsiteIndex>
-        requires { IsSound ⟦<T as Subscriber>⟧ self.now }
+        requires { IsSound self.now }
         ensures names { at_index (value_in self.now).callsites result
             ≡ callsite_of (skeleton_of T.registry_of (value_in self.now)) id }
         ensures there { is_some result ≡ is_some (callsite_of (skeleton_of T.registry_of (value_in self.now)) id) }

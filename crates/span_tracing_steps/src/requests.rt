@@ -65,8 +65,8 @@ impl<T: Subscriber + HasRegistry> TraceParts<T> {
 
     /// An event on a lane.
     pub fn event(&mut self, event: &Request<'_>) -> Reply
-        requires { IsSound ⟦<T as Subscriber>⟧ self.old }
-        ensures sound { IsSound ⟦<T as Subscriber>⟧ self.new }
+        requires { IsSound self.old }
+        ensures sound { IsSound self.new }
         ensures gives { StepGives ⟦<T as Subscriber>⟧ T.registry_of (value_in self.old) (EventStep
             (plain_request event.now)) result (value_in self.new) }
     {
@@ -90,8 +90,8 @@ impl<T: Subscriber + HasRegistry> TraceParts<T> {
 
     /// A new span on a lane.
     pub fn new_span(&mut self, span: &Request<'_>) -> Reply
-        requires { IsSound ⟦<T as Subscriber>⟧ self.old }
-        ensures sound { IsSound ⟦<T as Subscriber>⟧ self.new }
+        requires { IsSound self.old }
+        ensures sound { IsSound self.new }
         ensures gives { StepGives ⟦<T as Subscriber>⟧ T.registry_of (value_in self.old) (SpanStep
             (plain_request span.now)) result (value_in self.new) }
     {
@@ -119,8 +119,8 @@ impl<T: Subscriber + HasRegistry> TraceParts<T> {
 
     /// Asks whether a request at a callsite would be made.
     pub fn enabled(&mut self, call: &EnabledCall) -> Reply
-        requires { IsSound ⟦<T as Subscriber>⟧ self.old }
-        ensures sound { IsSound ⟦<T as Subscriber>⟧ self.new }
+        requires { IsSound self.old }
+        ensures sound { IsSound self.new }
         ensures gives { StepGives ⟦<T as Subscriber>⟧ T.registry_of (value_in self.old) (EnabledStep
             call.now) result (value_in self.new) }
     {

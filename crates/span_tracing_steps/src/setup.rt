@@ -18,7 +18,7 @@ impl<T: Subscriber> TraceParts<T> {
 
     /// No stack, no lane and no callsite.
     pub fn new(alloc: Global) -> TraceParts<T>
-        ensures sound { IsSound ⟦<T as Subscriber>⟧ result }
+        ensures sound { IsSound result }
         ensures value { value_in result ≡ new_state }
     {
         TraceParts {
@@ -36,8 +36,8 @@ impl<T: Subscriber> TraceParts<T> {
     /// Want of memory, which changes nothing.
     #[tactic(auto, using(crate::proofs::Bare::length_map, crate::proofs::Bare::map_more))]
     pub fn thread(&mut self, name: Option<String>, thread_id: u64) -> Result<usize, AllocError>
-        requires { IsSound ⟦<T as Subscriber>⟧ self.old }
-        ensures sound { IsSound ⟦<T as Subscriber>⟧ self.new }
+        requires { IsSound self.old }
+        ensures sound { IsSound self.new }
         ensures number { IfOk result (λ lane. lane ≡ length (value_in self.old).threads) }
         ensures ok { OnOk result (value_in self.new ≡ record (value_in self.old) {
           threads = (value_in self.old).threads ++ (record { name = option_map string_bytes name; number = thread_id }) ∷ [];
@@ -61,8 +61,8 @@ impl<T: Subscriber> TraceParts<T> {
         identifier: Identifier,
         metadata: &Metadata<'_>,
     ) -> Result<Interest, Refusal>
-        requires { IsSound ⟦<T as Subscriber>⟧ self.old }
-        ensures sound { IsSound ⟦<T as Subscriber>⟧ self.new }
+        requires { IsSound self.old }
+        ensures sound { IsSound self.new }
         ensures gives { RegisterGives ⟦<T as Subscriber>⟧ (value_in self.old)
             (own_at identifier.0 (plain_metadata metadata.now)) result (value_in self.new) }
     {
@@ -82,10 +82,9 @@ impl<T: Subscriber> TraceParts<T> {
     ///
     /// Want of memory, which changes nothing and gives the stack back.
     pub fn add_stack(&mut self, stack: T) -> Result<(), T>
-        requires sound { IsSound ⟦<T as Subscriber>⟧ self.old }
-        requires none { self.old.handle ≡ None }
-        requires steady { T.steady stack }
-        ensures sound { IsSound ⟦<T as Subscriber>⟧ self.new }
+        requires sound { IsSound self.old }
+        requires none { (value_in self.old).stack ≡ None }
+        ensures sound { IsSound self.new }
         ensures gives { AddGives ⟦<T as Subscriber>⟧ (value_in self.old) stack result (value_in self.new) }
     {
         match self.hub.add(stack) {

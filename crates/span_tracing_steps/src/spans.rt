@@ -16,8 +16,8 @@ impl<T: Subscriber + HasRegistry> TraceParts<T> {
 
     /// Makes the stack with this handle the one that lanes reach.
     pub fn set_global_default(&mut self, handle: usize) -> Reply
-        requires { IsSound ⟦<T as Subscriber>⟧ self.old }
-        ensures sound { IsSound ⟦<T as Subscriber>⟧ self.new }
+        requires { IsSound self.old }
+        ensures sound { IsSound self.new }
         ensures gives { StepGives ⟦<T as Subscriber>⟧ T.registry_of (value_in self.old) (GlobalStep handle) result
             (value_in self.new) }
     {
@@ -34,8 +34,8 @@ impl<T: Subscriber + HasRegistry> TraceParts<T> {
 
     /// Adds values to a span's.
     pub fn record(&mut self, request: &RecordRequest<'_>) -> Reply
-        requires { IsSound ⟦<T as Subscriber>⟧ self.old }
-        ensures sound { IsSound ⟦<T as Subscriber>⟧ self.new }
+        requires { IsSound self.old }
+        ensures sound { IsSound self.new }
         ensures gives { StepGives ⟦<T as Subscriber>⟧ T.registry_of (value_in self.old) (RecordStep
             (plain_record request.now)) result (value_in self.new) }
     {
@@ -60,8 +60,8 @@ impl<T: Subscriber + HasRegistry> TraceParts<T> {
 
     /// Records that a span follows from another one.
     pub fn record_follows_from(&mut self, call: &FollowsCall) -> Reply
-        requires { IsSound ⟦<T as Subscriber>⟧ self.old }
-        ensures sound { IsSound ⟦<T as Subscriber>⟧ self.new }
+        requires { IsSound self.old }
+        ensures sound { IsSound self.new }
         ensures gives { StepGives ⟦<T as Subscriber>⟧ T.registry_of (value_in self.old) (FollowsFromStep
             call.now) result (value_in self.new) }
     {
@@ -86,8 +86,8 @@ impl<T: Subscriber + HasRegistry> TraceParts<T> {
 
     /// Enters a span on a lane.
     pub fn enter(&mut self, call: &SpanCall) -> Reply
-        requires { IsSound ⟦<T as Subscriber>⟧ self.old }
-        ensures sound { IsSound ⟦<T as Subscriber>⟧ self.new }
+        requires { IsSound self.old }
+        ensures sound { IsSound self.new }
         ensures gives { StepGives ⟦<T as Subscriber>⟧ T.registry_of (value_in self.old) (EnterStep call.now)
             result (value_in self.new) }
     {
@@ -111,8 +111,8 @@ impl<T: Subscriber + HasRegistry> TraceParts<T> {
 
     /// Leaves a span on a lane.
     pub fn exit(&mut self, call: &SpanCall) -> Reply
-        requires { IsSound ⟦<T as Subscriber>⟧ self.old }
-        ensures sound { IsSound ⟦<T as Subscriber>⟧ self.new }
+        requires { IsSound self.old }
+        ensures sound { IsSound self.new }
         ensures gives { StepGives ⟦<T as Subscriber>⟧ T.registry_of (value_in self.old) (ExitStep call.now)
             result (value_in self.new) }
     {
@@ -132,8 +132,8 @@ impl<T: Subscriber + HasRegistry> TraceParts<T> {
 
     /// Takes one more handle of a span.
     pub fn clone_span(&mut self, call: &SpanCall) -> Reply
-        requires { IsSound ⟦<T as Subscriber>⟧ self.old }
-        ensures sound { IsSound ⟦<T as Subscriber>⟧ self.new }
+        requires { IsSound self.old }
+        ensures sound { IsSound self.new }
         ensures gives { StepGives ⟦<T as Subscriber>⟧ T.registry_of (value_in self.old) (CloneStep call.now)
             result (value_in self.new) }
     {
@@ -154,8 +154,8 @@ impl<T: Subscriber + HasRegistry> TraceParts<T> {
 
     /// Gives up one handle of a span; answers whether the span closed.
     pub fn try_close(&mut self, call: &SpanCall) -> Reply
-        requires { IsSound ⟦<T as Subscriber>⟧ self.old }
-        ensures sound { IsSound ⟦<T as Subscriber>⟧ self.new }
+        requires { IsSound self.old }
+        ensures sound { IsSound self.new }
         ensures gives { StepGives ⟦<T as Subscriber>⟧ T.registry_of (value_in self.old) (CloseStep call.now)
             result (value_in self.new) }
     {

@@ -67,8 +67,8 @@ fn span_name(stack: usize, id: u64) -> Result<SpanName, Fail> {
 }
 
 fn register(parts: &mut TraceParts<Keeper>, number: u64, kind: Kind) -> Result<(), Fail>
-    requires { IsSound ⟦<Keeper as Subscriber>⟧ parts.old }
-    ensures { IsSound ⟦<Keeper as Subscriber>⟧ parts.new }
+    requires { IsSound parts.old }
+    ensures { IsSound parts.new }
 {
     let metadata = metadata_of("made", kind, two_fields());
     let _interest = parts
@@ -81,7 +81,7 @@ fn register(parts: &mut TraceParts<Keeper>, number: u64, kind: Kind) -> Result<(
 /// Two lanes, three callsites, and a stack that no lane reaches.
 #[tactic(auto, using(crate::proofs::Stackless::no_handle))]
 fn parts_of(alloc: Global, failure: Option<RequestError>) -> Result<TraceParts<Keeper>, Fail>
-    ensures { IfOk result (λ p. IsSound ⟦<Keeper as Subscriber>⟧ p) }
+    ensures { IfOk result (λ p. IsSound p) }
 {
     let mut parts = TraceParts::new(alloc);
     parts
@@ -98,7 +98,7 @@ fn parts_of(alloc: Global, failure: Option<RequestError>) -> Result<TraceParts<K
 
 /// The same, and each lane reaches the stack.
 fn set_parts(alloc: Global, failure: Option<RequestError>) -> Result<TraceParts<Keeper>, Fail>
-    ensures { IfOk result (λ p. IsSound ⟦<Keeper as Subscriber>⟧ p) }
+    ensures { IfOk result (λ p. IsSound p) }
 {
     let mut parts = parts_of(alloc, failure)?;
     if parts.set_global_default(0) == Reply::Done {
@@ -134,8 +134,8 @@ fn call_on(span: Option<SpanName>) -> SpanCall {
 
 /// A span of the second lane.
 fn made(parts: &mut TraceParts<Keeper>) -> Result<SpanName, Fail>
-    requires { IsSound ⟦<Keeper as Subscriber>⟧ parts.old }
-    ensures { IsSound ⟦<Keeper as Subscriber>⟧ parts.new }
+    requires { IsSound parts.old }
+    ensures { IsSound parts.new }
 {
     match parts.new_span(&request(OUTER, Parent::Root, &[])) {
         Reply::Span(Some(name)) => Ok(name),

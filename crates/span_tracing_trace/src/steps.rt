@@ -231,8 +231,10 @@ impl<N: FormatFields + Drop, E: FormatEvent, F: Filter, D: Folder> Trace<
     TraceStack<N, E, F, RollingSink<D>>,
 > {
     /// Steps in order, with a reply to each. A step that is refused for want of memory does nothing, and the others run.
-    /// Where an output's sink dropped no line and its folder's contents are known, the output's files hold exactly the lines
-    /// that its machine offers.
+    ///
+    /// Where the stack is ready, each output's sink takes exactly the lines that the output's machine offers. Where the sink dropped none,
+    /// its folder's contents are known, and its appender agreed with a sink before (`AgreesSink`), these lines stand in its files behind
+    /// what was found and handed over before, as far as retention left the files.
     ///
     /// # Errors
     ///

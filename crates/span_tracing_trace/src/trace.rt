@@ -30,7 +30,7 @@ impl<T: Subscriber> Model for Trace<T> {
 
     ghost view = { λ t. value_in t.parts };
 
-    ghost invariant = { λ t. IsSound ⟦<T as Subscriber>⟧ t.parts };
+    ghost invariant = { λ t. IsSound t.parts };
 }
 
 impl<T: Subscriber> Trace<T> {
@@ -91,7 +91,7 @@ impl<T: Subscriber> Trace<T> {
         self.parts.register(identifier, metadata)
     }
 
-    /// Takes a stack of honest filters, and answers its handle, which is 0. A trace has one stack. The stack is told of its handle, and asked
+    /// Takes a stack, and answers its handle, which is 0. A trace has one stack. The stack is told of its handle, and asked
     /// of each callsite.
     ///
     /// # Errors
@@ -99,7 +99,6 @@ impl<T: Subscriber> Trace<T> {
     /// Want of memory, which leaves the trace as it was and gives the stack back.
     pub fn add_stack(&mut self, stack: T) -> Result<usize, T>
         requires none { self.old.stack ≡ None }
-        requires steady { T.steady stack }
         ensures handle { IfOk result (λ handle. handle ≡ 0) }
         ensures ok { OnOk result (AddsStack ⟦<T as Subscriber>⟧ self.old stack self.new) }
         ensures err { OnErr result (self.new ≡ self.old) }

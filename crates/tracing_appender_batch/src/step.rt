@@ -5,12 +5,11 @@ ghost use Rattle.tracing_appender_rolling.specs.Contents.{Contents};
 ghost use Rattle.tracing_appender_rolling.specs.Moments.{is_moment};
 ghost use Rattle.tracing_appender_rolling.specs.Builders.{builder_names};
 ghost use Rattle.tracing_appender_rolling.specs.Looks.{Held};
-ghost use Rattle.tracing_appender_rolling.specs.Sinks.{PlainSink, with_handed};
-ghost use Rattle.tracing_appender_rolling.specs.Appenders.{AgreesSink, Holds};
-ghost use Rattle.tracing_appender_rolling.specs.Remaining.{PrunedSink, AgreesLeft, HandsLeft, IsOpenIn};
+ghost use Rattle.tracing_appender_rolling.specs.Appenders.{Holds};
+ghost use Rattle.tracing_appender_rolling.specs.Remaining.{PrunedSink, AgreesSink, HandsSink, IsOpenIn};
 ghost use Rattle.tracing_appender_rolling.specs.Anywhere.{LineAnywhere, seen_of};
 ghost use Rattle.tracing_appender_batch.specs.Batches.{lines_in, queue_in, close_if, Next};
-ghost use Rattle.tracing_appender_batch.specs.Steps.{with_lines, answer_of, is_missed, is_whole, FlushedAt, HandsOne, HandsAll, HoldsFlushed, LinesLeft, LinesAnywhere};
+ghost use Rattle.tracing_appender_batch.specs.Steps.{answer_of, is_missed, is_whole, FlushedAt, HandsOne, HandsAll, HoldsFlushed, LinesSink, LinesAnywhere};
 
 use tracing_appender_queue::{QueueState, Taken};
 use tracing_appender_rolling::{Folder, FolderError, FolderFault, Moment, RollingFileAppender};
@@ -78,13 +77,11 @@ fn write_line<D: Folder>(
     moment: Moment,
 ) -> Written
     requires { is_moment moment ≡ true }
-    ensures agrees { is_missed result ≡ false → (s : PlainSink) → AgreesSink D.contents appender.old s →
-        AgreesSink D.contents appender.new (with_handed s (record { line = line.now; moment = moment })) }
     ensures handed { (h : Held) → Holds D.contents appender.old h →
         HandsOne D.contents (builder_names appender.old.builder) moment h line.now result appender.new }
     ensures state { is_missed result ≡ false → (c : Contents) (p : PrunedSink) →
-        D.contents appender.old.folder ≡ Some c → AgreesLeft D.contents appender.old p →
-        HandsLeft D.contents p line.now moment c appender.old appender.new }
+        D.contents appender.old.folder ≡ Some c → AgreesSink D.contents appender.old p →
+        HandsSink D.contents p line.now moment c appender.old appender.new }
     ensures anywhere { LineAnywhere D.failed moment (length line.now) (answer_of result) appender.old appender.new }
     ensures names { builder_names appender.new.builder ≡ builder_names appender.old.builder }
 {
@@ -96,8 +93,7 @@ fn write_line<D: Folder>(
 }
 
 fn flush_if<D: Folder>(appender: &mut RollingFileAppender<D>, whole: bool)
-    ensures agrees { (s : PlainSink) → AgreesSink D.contents appender.old s → AgreesSink D.contents appender.new s }
-    ensures state { (p : PrunedSink) → AgreesLeft D.contents appender.old p → AgreesLeft D.contents appender.new p }
+    ensures state { (p : PrunedSink) → AgreesSink D.contents appender.old p → AgreesSink D.contents appender.new p }
     ensures faults { appender.new.faults ≡ appender.old.faults }
     ensures current { appender.new.current ≡ appender.old.current }
     ensures anywhere { FlushedAt (seen_of D.failed appender.old) (seen_of D.failed appender.new) }
@@ -125,14 +121,12 @@ pub fn batch<D: Folder>(
     ensures taken { result.taken ≡ length (lines_in k queue.old) }
     ensures missed { result.missed ≤ result.taken }
     ensures names { builder_names appender.new.builder ≡ builder_names appender.old.builder }
-    ensures agrees { (s : PlainSink) → AgreesSink D.contents appender.old s → result.missed ≡ 0 →
-        AgreesSink D.contents appender.new (with_lines s (lines_in k queue.old) moment) }
     ensures handed { (h : Held) → Holds D.contents appender.old h →
         HandsAll D.contents (builder_names appender.old.builder) moment h (lines_in k queue.old) result.missed
         appender.new }
-    // over a folder that refuses nothing, with retention or a link too
+    // over a folder that refuses nothing
     ensures state { result.missed ≡ 0 → (c : Contents) (p : PrunedSink) → D.contents appender.old.folder ≡ Some c →
-        AgreesLeft D.contents appender.old p → LinesLeft D.contents p (lines_in k queue.old) moment c appender.old
+        AgreesSink D.contents appender.old p → LinesSink D.contents p (lines_in k queue.old) moment c appender.old
         appender.new }
     // over any folder
     ensures anywhere { LinesAnywhere D.failed moment (lines_in k queue.old) result.missed appender.old appender.new }

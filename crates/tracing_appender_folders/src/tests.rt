@@ -73,6 +73,22 @@ fn moments_are_in_range(rt: HostRuntime) -> Result<(), Fail> {
 }
 
 #[test]
+fn faults_have_texts(rt: HostRuntime) -> Result<(), Fail> {
+    let alloc = rt.alloc();
+    let texts = format!(in alloc;
+        "{REFUSED}, {NOT_FOUND}, {}, {}, {}, {BadMoment}",
+        FolderFault::Unsupported,
+        FolderFault::WriteZero,
+        FolderError::OutOfMemory
+    )?;
+    assert_eq!(rt;
+        texts.as_str(),
+        "refused, not found, unsupported, write took no bytes, out of memory, moment out of range"
+    );
+    Ok(())
+}
+
+#[test]
 fn a_file_outlives_its_name(rt: HostRuntime) -> Result<(), Fail> {
     let alloc = rt.alloc();
     let mut folder = MemoryFolder::new(alloc);

@@ -8,7 +8,7 @@ use Rattle.std.proofs.lemmas.Slice.Eq.{bytes_eq-Decides}
 use Rattle.tracing_appender_folders.specs.declared.moment.Moment.{Moment}
 use Rattle.tracing_appender_folders.specs.Moments.{is_moment, is_earlier, latest_of, period_at}
 use Rattle.tracing_appender_rolling.specs.Names.{FileNames, file_name}
-use Rattle.tracing_appender_rolling.specs.Sinks.{Handed, Placed, placed, lies_in, is_in, period_in, period_name, file_text, FilesByPeriod}
+use Rattle.tracing_appender_rolling.specs.Sinks.{Handed, Placed, placed, lies_in, is_in, period_in, period_name, period_text, PlainSink, file_text}
 use Rattle.tracing_appender_rolling.proofs.Apart.{names_apart}
 
 same_bool : (a b : Bool) → (a ≡ true → b ≡ true) → (b ≡ true → a ≡ true) → a ≡ b
@@ -45,7 +45,8 @@ all_placed seen (h ∷ hs) is all =
     let next = later_is seen h.moment (is_earlier seen h.moment) is all.0 in
     (next, all_placed (latest_of seen h.moment) hs next all.1)
 
-pub by_period : FilesByPeriod
+pub by_period : (s : PlainSink) (m : Moment) → is_moment m ≡ true → is_moment s.opened ≡ true → AllByRecursion (λ (h : Handed). is_moment h.moment ≡ true) s.handed →
+    file_text s (period_name s (period_in s m)) ≡ period_text s (period_in s m) (s.found (period_name s (period_in s m)))
 unfolding file_text
 by_period s m is_m is_o all =
     let p = period_in s m in

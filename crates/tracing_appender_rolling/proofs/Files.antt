@@ -9,7 +9,7 @@ use Rattle.std.proofs.lemmas.List.Concat.{flat_map-append}
 use Rattle.tracing_appender_folders.specs.declared.moment.Moment.{Moment}
 use Rattle.tracing_appender_folders.specs.Moments.{latest_of, period_at}
 use Rattle.tracing_appender_rolling.specs.Names.{FileNames, file_name}
-use Rattle.tracing_appender_rolling.specs.Sinks.{PlainSink, Handed, Placed, placed, running_moment, with_handed, lies_in, period_in, period_name, file_text}
+use Rattle.tracing_appender_rolling.specs.Sinks.{PlainSink, Handed, Placed, placed, running_moment, with_handed, lies_in, period_in, period_name, was_opened, file_text}
 use Rattle.tracing_appender_folders.proofs.Content.{after_line}
 
 pub running_more : (seen : Moment) (hs : List Handed) (h : Handed) → running_moment seen (hs ++ h ∷ []) ≡ latest_of (running_moment seen hs) h.moment
@@ -89,6 +89,20 @@ file_more s h name =
     ∙ ap (λ bs. text_in (start || (list_any f before || bytes_eq mine name)) (s.found name) bs) kept
     ∙ one_more (bytes_eq mine name) start (list_any f before) (s.found name) (flat_map line_in (filter f before)) h.line (flat_map line_in (filter f (x ∷ []))) (file_text s name)
     (λ e. ap (flat_map line_in) (filter_none f before e)) refl (extra_yes (bytes_eq mine name) x) (extra_no (bytes_eq mine name) x)
+
+-- which files were opened, behind one more line, whatever bytes it has
+or_last : (a b c : Bool) → (a || (b || (c || false))) ≡ ((a || b) || c)
+or_last true b c = refl
+or_last false true c = refl
+or_last false false true = refl
+or_last false false false = refl
+
+pub opened_is : (s : PlainSink) (h : Handed) (name : List ℕ) → was_opened (with_handed s h) name ≡ (was_opened s name || bytes_eq (name_at s h.moment) name)
+opened_is s h name =
+    let f : Placed → Bool = lies_in s.names s.opened name in
+    let before = placed s.opened s.handed in
+    let start = bytes_eq (period_name s (period_in s s.opened)) name in
+    ap (λ b. start || b) (ap (list_any f) (placed_more s.opened s.handed h) ∙ list_any-append f before (placed_at (running_moment s.opened s.handed) h ∷ [])) ∙ or_last start (list_any f before) (bytes_eq (name_at s h.moment) name)
 
 -- a sink to which nothing was handed over
 pub file_fresh : (names : FileNames) (m : Moment) (found : List ℕ → Option (List ℕ)) (name : List ℕ) → file_text (record { names = names; opened = m; found = found; handed = [] }) name ≡ after_line (bytes_eq (file_name names m.seconds (period_at names.kind m)) name) (found name) []

@@ -11,7 +11,7 @@ use Rattle.tracing_appender_folders.specs.Contents.{Contents, Outcome, IsSound, 
 use Rattle.tracing_appender_folders.specs.Memory.{target_at}
 use Rattle.tracing_appender_folders.proofs.Content.{after_line}
 use Rattle.tracing_appender_rolling.specs.Tries.{Tried, opened_linked, after_file, after_link}
-use Rattle.tracing_appender_rolling.specs.Remaining.{StandOnce, Leads}
+use Rattle.tracing_appender_rolling.specs.Remaining.{StandOnce, Leads, LinkFree}
 use Rattle.tracing_appender_rolling.proofs.Retaining.{named_none}
 use Rattle.tracing_appender_rolling.proofs.Keeping.{sound_try}
 
@@ -105,18 +105,15 @@ pub record LinkedTry (latest : Option (List ℕ)) (c : Contents) (name : List �
   pub is : t ≡ (Ok file, left)
   pub stands : file_named name left.files ≡ Some file.index
   pub sound : IsSound left
-  pub once : StandOnce left.files
+  pub once : StandOnce c.files → StandOnce left.files
   pub bytes : (other : List ℕ) → bytes_at left.files other ≡ after_line (bytes_eq name other) (bytes_at c.files other) []
   pub free : (other : List ℕ) → latest ≢ Some other → link_named other c.links ≡ false → link_named other left.links ≡ false
   pub leads : Leads latest name left
   pub open_files : left.open_files ≡ c.open_files ++ file.index ∷ []
 
-abbrev LinkFree : Option (List ℕ) → List ℕ → Contents → Type 0
-LinkFree None name c = Unit {0}
-LinkFree (Some link) name c = (bytes_at c.files link ≡ None) × (bytes_eq name link ≡ false)
-
-linked_try : (latest : Option (List ℕ)) (c : Contents) (name : List ℕ) → IsSound c → StandOnce c.files → link_named name c.links ≡ false → LinkFree latest name c → LinkedTry latest c name (opened_linked latest name c)
-linked_try None c name sound once free link =
+-- from what a sink knows of its link
+pub latest_try : (latest : Option (List ℕ)) (c : Contents) (name : List ℕ) → IsSound c → link_named name c.links ≡ false → latest ≢ Some name → LinkFree latest c → LinkedTry latest c name (opened_linked latest name c)
+latest_try None c name sound free differs none =
     let t = sound_try c name sound free in
     record {
       file = t.file;
@@ -124,14 +121,15 @@ linked_try None c name sound once free link =
       is = t.is;
       stands = t.opens.stands;
       sound = t.opens.sound;
-      once = t.opens.once once;
+      once = t.opens.once;
       bytes = t.opens.bytes;
       free = λ other apart no. ap (link_named other) t.opens.links ∙ no;
       leads = tt;
       open_files = t.opens.open_files;
     }
-linked_try (Some link) c name sound once free (none, apart) =
+latest_try (Some link) c name sound free differs none =
     let t = sound_try c name sound free in
+    let apart = false_from_ne_true (bytes_eq name link) (λ same. differs (ap (λ (q : List ℕ). Some q) (sym ((bytes_eq-Decides name link).0 same)))) in
     let bare : bytes_at t.left.files link ≡ None = t.opens.bytes link ∙ ap (λ b. after_line b (bytes_at c.files link) []) apart ∙ none in
     let made = linked_is t.left link name t.opens.sound bare in
     let left : Contents = record (called t.left) { links = links_with t.left.links (link_place link t.left.links) (link, name) } in
@@ -141,15 +139,9 @@ linked_try (Some link) c name sound once free (none, apart) =
       is = ap (after_file link name) t.is ∙ ap (after_link t.file) made;
       stands = t.opens.stands;
       sound = λ k. t.opens.sound (suc k);
-      once = t.opens.once once;
+      once = t.opens.once;
       bytes = t.opens.bytes;
-      free = λ other differs no. others_free link other name t.left.links (λ same. differs (ap (λ (q : List ℕ). Some q) same)) (ap (link_named other) t.opens.links ∙ no);
+      free = λ other others no. others_free link other name t.left.links (λ same. others (ap (λ (q : List ℕ). Some q) same)) (ap (link_named other) t.opens.links ∙ no);
       leads = (bare, leads_there link name t.left.links);
       open_files = t.opens.open_files;
     }
-
--- the same from what a sink knows of its link
-pub latest_try : (latest : Option (List ℕ)) (c : Contents) (name : List ℕ) → IsSound c → StandOnce c.files → link_named name c.links ≡ false → latest ≢ Some name → ((link : List ℕ) → latest ≡ Some link → bytes_at c.files link ≡ None) → LinkedTry latest c name (opened_linked latest name c)
-latest_try None c name sound once free apart none = linked_try None c name sound once free tt
-latest_try (Some link) c name sound once free apart none =
-    linked_try (Some link) c name sound once free (none link refl, false_from_ne_true (bytes_eq name link) (λ same. apart (ap (λ (q : List ℕ). Some q) (sym ((bytes_eq-Decides name link).0 same)))))

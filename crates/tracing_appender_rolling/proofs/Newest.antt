@@ -1,5 +1,5 @@
 -- A later period's file was not opened before, and no link has its name.
-use Rattle.std.proofs.Common.{◌≡◌, ◌≢◌, ℕ, ℤ, ◌≤ℤ◌, ◌<ℤ◌, List, [], ◌∷◌, true, false, ◌||◌, refl, ap, ◌∙◌, arith, Option, Some}
+use Rattle.std.proofs.Common.{◌≡◌, ◌≢◌, ℕ, ℤ, ◌≤ℤ◌, List, [], ◌∷◌, true, false, ◌||◌, refl, ap, ◌∙◌, arith, Option, Some}
 use Rattle.std.specs.List.{list_any, AllByRecursion}
 use Rattle.std.specs.Str.{bytes_eq}
 use Rattle.std.proofs.lemmas.Bool.{false_from_ne_true}
@@ -7,24 +7,16 @@ use Rattle.std.proofs.lemmas.Slice.Eq.{bytes_eq-Decides}
 use Rattle.jiff_core.proofs.SignedLemmas.{signed_arith}
 use Rattle.tracing_appender_dates.specs.declared.period.PeriodKind.{PeriodKind}
 use Rattle.tracing_appender_dates.specs.declared.period.PeriodKind.TheVariants.{Minute, Hour, Day, Week, Whole}
-use Rattle.tracing_appender_dates.specs.Periods.{period_of, first_second}
+use Rattle.tracing_appender_dates.specs.Periods.{first_second}
 use Rattle.tracing_appender_dates.specs.Stamps.{stamp, or_itself}
 use Rattle.tracing_appender_folders.specs.declared.moment.Moment.{Moment}
 use Rattle.tracing_appender_folders.specs.Moments.{is_moment, is_earlier, latest_of, period_at, end_of, is_due}
 use Rattle.tracing_appender_rolling.specs.Names.{FileNames, joined, file_name, HasGoodLink}
-use Rattle.tracing_appender_rolling.specs.Sinks.{Handed, Placed, PlainSink, placed, placed_lines, running_moment, period_in, period_name, lies_in, was_opened}
-use Rattle.tracing_appender_rolling.specs.Appenders.{running_period}
+use Rattle.tracing_appender_rolling.specs.Sinks.{Handed, Placed, PlainSink, placed, placed_lines, running_moment, running_period, period_in, period_name, lies_in, was_opened}
+use Rattle.tracing_appender_rolling.proofs.PeriodFacts.{later_due}
 use Rattle.tracing_appender_rolling.proofs.Apart.{names_apart}
 use Rattle.tracing_appender_rolling.proofs.ByPeriod.{later_is}
 use Rattle.tracing_appender_rolling.proofs.InOrder.{monotone, later_seconds}
-
--- a second from the end of another's period on lies in a later period
-past_period : (kind : PeriodKind) (r s : ℤ) → is_due (end_of kind (period_of kind r)) s ≡ true → period_of kind r <ℤ period_of kind s
-past_period Minute r s e = omega (arith, signed_arith, e)
-past_period Hour r s e = omega (arith, signed_arith, e)
-past_period Day r s e = omega (arith, signed_arith, e)
-past_period Week r s e = omega (arith, signed_arith, e)
-past_period Whole r s e = cc
 
 pub seen_before : (seen : Moment) (hs : List Handed) → seen.seconds ≤ℤ (running_moment seen hs).seconds
 seen_before seen [] = omega (arith, signed_arith)
@@ -52,7 +44,7 @@ module _ (s : PlainSink) (m : Moment) (is_m : is_moment m ≡ true) (is_o : is_m
       never : period_at s.names.kind r ≡ period_at s.names.kind m → ⊥
       never same =
           let up = monotone s.names.kind r.seconds (running_moment s.opened s.handed).seconds le in
-          let past = past_period s.names.kind (running_moment s.opened s.handed).seconds m.seconds due in
+          let past = (later_due s.names.kind (running_moment s.opened s.handed).seconds m.seconds).0 due in
           omega (arith, signed_arith, same, up, past)
 
   none_lies : (xs : List Placed) → AllByRecursion (IsBefore (running_moment s.opened s.handed).seconds) xs → list_any (lies_in s.names s.opened (period_name s (period_in s m))) xs ≡ false

@@ -1,19 +1,20 @@
 -- What a look leaves of a folder, whatever is refused: each file has its bytes, and no file is lost. Where nothing is refused before, nothing is after.
 use Rattle.std.specs.Prelude.{is_some}
-use Rattle.std.proofs.Common.{◌≡◌, ◌≤◌, ℕ, ℤ, zero, suc, Bool, true, false, cond, List, [], ◌∷◌, ◌++◌, length, refl, ap, subst, sym, ◌∙◌, arith, Option, Some, None, Result, Ok, Err}
+use Rattle.std.specs.List.{position_from}
+use Rattle.std.proofs.Common.{◌≡◌, ◌≤◌, ◌<◌, ◌+◌, ℕ, ℤ, zero, suc, Bool, true, false, cond, List, [], ◌∷◌, ◌++◌, length, refl, ap, subst, sym, ◌∙◌, arith, Option, Some, None, Ok, Err}
 use Rattle.tracing_appender_folders.specs.declared.moment.Moment.{Moment}
 use Rattle.tracing_appender_folders.specs.declared.fault.FileNumber.{FileNumber}
 use Rattle.tracing_appender_folders.specs.declared.fault.FolderFault.TheVariants.{Refused}
 use Rattle.tracing_appender_folders.specs.declared.fault.FolderError.{FolderError}
 use Rattle.tracing_appender_folders.specs.declared.fault.FolderError.TheVariants.{Fault, OutOfMemory}
-use Rattle.tracing_appender_folders.specs.Contents.{Contents, StoredFile, Listed, Answer, Outcome, Done, Refuses, Short, IsSound, called, fresh, unnamed, refusal, if_refused, on_file, file_named, link_named, link_place, links_with, open_at, open_plain, opened, make_plain, dirs_made, link_plain, linked, remove_at, remove_plain, removed, list_plain, names_listed, close_plain, closed}
+use Rattle.tracing_appender_folders.specs.Moments.{is_due}
+use Rattle.tracing_appender_folders.specs.Contents.{Contents, StoredFile, Listed, Answer, Outcome, Done, Refuses, Short, IsSound, called, fresh, has_name, unnamed, refusal, if_refused, on_file, file_named, link_named, link_place, links_with, open_at, open_plain, opened, make_plain, dirs_made, link_plain, linked, remove_at, remove_plain, removed, list_plain, names_listed, close_plain, closed}
 use Rattle.tracing_appender_rolling.specs.declared.faults.Faults.{Faults}
 use Rattle.tracing_appender_rolling.specs.Names.{FileNames}
-use Rattle.tracing_appender_rolling.specs.Retention.{asked_prefix}
-use Rattle.tracing_appender_rolling.specs.Pruning.{doomed, after_removal, removed_all, PrunedBy, PrunedAfter}
+use Rattle.tracing_appender_rolling.specs.Retention.{asked_prefix, candidates_in}
+use Rattle.tracing_appender_rolling.specs.Pruning.{doomed, after_removal, removed_all, pruned_after, pruned_by, pruned}
 use Rattle.tracing_appender_rolling.specs.Tries.{Tried, last_opening, after_dirs, after_opening, opened_twice, after_link, after_file, opened_linked}
-use Rattle.tracing_appender_rolling.specs.Looks.{Held, IsHeld, LookedTo, failed_by, tried, try_at, end_at}
-use Rattle.tracing_appender_rolling.specs.Writes.{WroteAll}
+use Rattle.tracing_appender_rolling.specs.Looks.{Held, failed_by, tried, name_at, try_at, end_at, look_if}
 use Rattle.tracing_appender_rolling.specs.Handing.{HandsTo}
 use Rattle.tracing_appender_rolling.specs.Pieces.{bytes_of}
 use Rattle.tracing_appender_rolling.proofs.Writing.{still_sound}
@@ -80,9 +81,6 @@ linked_on : (c : Contents) (name target : List ℕ) → Onward c (linked c name 
 linked_on c name target =
     by_outcome c (link_plain name target c) (link_free c (links_with c.links (link_place name c.links) (name, target)) (is_some (file_named name c.files))) (c.coming 0)
 
-pub linked_grows : (c : Contents) (name target : List ℕ) → length c.files ≤ length (linked c name target).1.files
-linked_grows c name target = (linked_on c name target).grows
-
 remove_found : (c : Contents) (found : Option ℕ) → Onward c (remove_at c found).1
 remove_found c None = kept c (called c) refl (λ n. refl)
 remove_found c (Some place) = record { sound = λ s n. s (suc n); bytes = bytes_unnamed c.files place; grows = omega (arith, length_unnamed c.files place) }
@@ -96,6 +94,39 @@ listed_on c prefix = by_outcome c (list_plain prefix c) (kept c (called c) refl 
 pub closed_on : (c : Contents) (file : FileNumber) → Onward c (closed c file).1
 closed_on c file = by_outcome c (close_plain file c) (kept c (close_plain file c).1 refl (λ n. refl)) (on_file file c 0)
 
+-- an answered file is there
+abbrev InAnswer : Answer FileNumber → Type 0
+InAnswer (Ok file, c) = file.index < length c.files
+InAnswer (Err e, c) = Unit {0}
+
+abbrev pub Within : Tried → Type 0
+Within (Ok file, c) = file.index < length c.files
+Within (Err f, c) = Unit {0}
+
+place_first : {X : Type 0} (p : X → Bool) (x : X) (xs : List X) (k i : ℕ) → ((j : ℕ) → position_from p (k + 1) xs ≡ Some j → j < (k + 1) + length xs) → (b : Bool) → cond b (Some k) (position_from p (k + 1) xs) ≡ Some i → i < k + suc (length xs)
+place_first p x xs k i rest true is = let same : k ≡ i = cc in omega (arith, same)
+place_first p x xs k i rest false is = let within = rest i is in omega (arith, within)
+
+place_within : {X : Type 0} (p : X → Bool) (xs : List X) (k i : ℕ) → position_from p k xs ≡ Some i → i < k + length xs
+place_within p [] k i is = cc
+place_within p (x ∷ xs) k i is = place_first p x xs k i (λ j e. place_within p xs (k + 1) j e) (p x) is
+
+in_found : (c : Contents) (name : List ℕ) (found : Option ℕ) → file_named name c.files ≡ found → InAnswer (open_at c name found)
+in_found c name None is = omega (arith, one_longer c.files (fresh name))
+in_found c name (Some place) is = let within = place_within (has_name name) c.files 0 place is in omega (arith, within)
+
+in_free : (c : Contents) (name : List ℕ) (taken : Bool) → InAnswer (cond taken (refusal Refused c) (open_at c name (file_named name c.files)))
+in_free c name true = tt
+in_free c name false = in_found c name (file_named name c.files) refl
+
+in_outcome : (c : Contents) (answer : Answer FileNumber) → InAnswer answer → (o : Outcome) → InAnswer (if_refused o (λ f. refusal f c) answer)
+in_outcome c answer is Done = is
+in_outcome c answer is (Refuses f) = tt
+in_outcome c answer is (Short most) = is
+
+in_opened : (c : Contents) (name : List ℕ) → InAnswer (opened c name)
+in_opened c name = in_outcome c (open_plain name c) (in_free c name (link_named name c.links)) (c.coming 0)
+
 module _ (start : Contents) where
   -- retention
   removal_on : (f : Faults) (a : Answer (Unit {0})) → Onward start a.1 → Onward start (after_removal f a).1
@@ -108,31 +139,36 @@ module _ (start : Contents) where
   removals_on (name ∷ names) at on =
       removals_on names (after_removal at.0 (removed at.1 name)) (removal_on at.0 (removed at.1 name) (onward_then start at.1 (removed at.1 name).1 on (removed_on at.1 name)))
 
-  pruned_after : (names : FileNames) (limit : ℕ) (f l : Faults) (a : Answer (List Listed)) (d : Contents) → Onward start a.1 → PrunedAfter names limit f a l d → Onward start d
-  pruned_after names limit f l (Ok listing, c) d on (cs, are, is) = subst (λ (at : Faults × Contents). Onward start at.1) is (removals_on (doomed limit cs) (f, c) on)
-  pruned_after names limit f l (Err (Fault fault), c) d on (counts, same) = subst (Onward start) (sym same) on
-  pruned_after names limit f l (Err OutOfMemory, c) d on none = absurd none
+  listing_on : (names : FileNames) (limit : ℕ) (f : Faults) (a : Answer (List Listed)) → Onward start a.1 → Onward start (pruned_after names limit f a).1
+  listing_on names limit f (Ok listing, c) on = removals_on (doomed limit (candidates_in names listing)) (f, c) on
+  listing_on names limit f (Err (Fault fault), c) on = on
+  listing_on names limit f (Err OutOfMemory, c) on = on
 
-  -- a try
-  last_on : (a : Answer FileNumber) → Onward start a.1 → Onward start (last_opening a).1
-  last_on (Ok file, c) on = on
-  last_on (Err e, c) on = on
+  -- a try, whose file is there
+  abbrev Tries : Tried → Type 0
+  Tries t = Onward start t.1 × Within t
 
-  dirs_on : (name : List ℕ) (a : Answer (Unit {0})) → Onward start a.1 → Onward start (after_dirs name a).1
-  dirs_on name (Ok done, c) on = last_on (opened c name) (onward_then start c (opened c name).1 on (opened_on c name))
-  dirs_on name (Err e, c) on = on
+  last_on : (a : Answer FileNumber) → Onward start a.1 → InAnswer a → Tries (last_opening a)
+  last_on (Ok file, c) on within = (on, within)
+  last_on (Err e, c) on within = (on, tt)
 
-  opening_on : (name : List ℕ) (a : Answer FileNumber) → Onward start a.1 → Onward start (after_opening name a).1
-  opening_on name (Ok file, c) on = on
-  opening_on name (Err e, c) on = dirs_on name (dirs_made c) (onward_then start c (dirs_made c).1 on (made_on c))
+  dirs_on : (name : List ℕ) (a : Answer (Unit {0})) → Onward start a.1 → Tries (after_dirs name a)
+  dirs_on name (Ok done, c) on = last_on (opened c name) (onward_then start c (opened c name).1 on (opened_on c name)) (in_opened c name)
+  dirs_on name (Err e, c) on = (on, tt)
 
-  link_on : (file : FileNumber) (a : Answer (Unit {0})) → Onward start a.1 → Onward start (after_link file a).1
-  link_on file (Ok done, c) on = on
-  link_on file (Err e, c) on = onward_then start c (closed c file).1 on (closed_on c file)
+  opening_on : (name : List ℕ) (a : Answer FileNumber) → Onward start a.1 → InAnswer a → Tries (after_opening name a)
+  opening_on name (Ok file, c) on within = (on, within)
+  opening_on name (Err e, c) on within = dirs_on name (dirs_made c) (onward_then start c (dirs_made c).1 on (made_on c))
 
-  file_on : (link name : List ℕ) (t : Tried) → Onward start t.1 → Onward start (after_file link name t).1
-  file_on link name (Ok file, c) on = link_on file (linked c link name) (onward_then start c (linked c link name).1 on (linked_on c link name))
-  file_on link name (Err f, c) on = on
+  link_on : (file : FileNumber) (a : Answer (Unit {0})) → Onward start a.1 → file.index < length a.1.files → Tries (after_link file a)
+  link_on file (Ok done, c) on within = (on, within)
+  link_on file (Err e, c) on within = (onward_then start c (closed c file).1 on (closed_on c file), tt)
+
+  file_on : (link name : List ℕ) (t : Tried) → Tries t → Tries (after_file link name t)
+  file_on link name (Ok file, c) (on, within) =
+      let linking = linked_on c link name in
+      link_on file (linked c link name) (onward_then start c (linked c link name).1 on linking) (omega (arith, within, linking.grows))
+  file_on link name (Err f, c) tries = tries
 
   failed_on : (h : Held) (c : Contents) (e : FolderError) → Onward start c → Onward start (failed_by h c e).contents
   failed_on h c (Fault fault) on = on
@@ -142,33 +178,30 @@ module _ (start : Contents) where
   tried_on h (Ok file, c) on = onward_then start c (closed c h.current).1 on (closed_on c h.current)
   tried_on h (Err f, c) on = failed_on h c f.error on
 
-pruned_by : (limit : Option ℕ) (names : FileNames) (f l : Faults) (c d : Contents) → PrunedBy limit names f c l d → Onward c d
-pruned_by None names f l c d (counts, same) = subst (Onward c) (sym same) (record { sound = λ s. s; bytes = λ n. refl; grows = omega arith })
-pruned_by (Some limit) names f l c d pruned = pruned_after c names limit f l (names_listed c (asked_prefix names)) d (listed_on c (asked_prefix names)) pruned
+on_itself : (c : Contents) → Onward c c
+on_itself c = record { sound = λ s. s; bytes = λ n. refl; grows = omega arith }
 
-twice_on : (c : Contents) (name : List ℕ) → Onward c (opened_twice name c).1
-twice_on c name = opening_on c name (opened c name) (opened_on c name)
+pruned_on : (limit : Option ℕ) (names : FileNames) (f : Faults) (c : Contents) → Onward c (pruned_by limit names f c).1
+pruned_on None names f c = on_itself c
+pruned_on (Some limit) names f c = listing_on c names limit f (names_listed c (asked_prefix names)) (listed_on c (asked_prefix names))
 
-try_on : (latest : Option (List ℕ)) (name : List ℕ) (c : Contents) → Onward c (opened_linked latest name c).1
+twice_on : (c : Contents) (name : List ℕ) → Tries c (opened_twice name c)
+twice_on c name = opening_on c name (opened c name) (opened_on c name) (in_opened c name)
+
+pub try_on : (latest : Option (List ℕ)) (name : List ℕ) (c : Contents) → Tries c (opened_linked latest name c)
 try_on None name c = twice_on c name
 try_on (Some link) name c = file_on c link name (opened_twice name c) (twice_on c name)
 
 -- a look
-held_on : (start c : Contents) (boundary : Option ℤ) (current : FileNumber) (f : Faults) (h : Held) → IsHeld (Some c) boundary current f h → Onward start h.contents → Onward start c
-held_on start c boundary current f h held on = let same : c ≡ h.contents = cc (held.folder) in subst (Onward start) (sym same) on
-
-pub looked_on : (due : Bool) (names : FileNames) (m : Moment) (h seen : Held) → LookedTo due names m h seen.boundary seen.current seen.faults (Some seen.contents) → Onward h.contents seen.contents
-looked_on true names m h seen looked =
-    let middle = looked.pruned in
-    let before : Held = record { boundary = end_at names m; current = h.current; faults = looked.counted; contents = middle } in
-    let pruned = pruned_by names.limit names h.faults looked.counted h.contents middle looked.retention in
-    held_on h.contents seen.contents seen.boundary seen.current seen.faults (tried before (try_at names m middle)) looked.held
-    (tried_on h.contents before (try_at names m middle) (onward_then h.contents middle (try_at names m middle).1 pruned (try_on names.latest _ middle)))
-looked_on false names m h seen held = held_on h.contents seen.contents seen.boundary seen.current seen.faults h held (record { sound = λ s. s; bytes = λ n. refl; grows = omega arith })
+pub look_on : (due : Bool) (names : FileNames) (m : Moment) (h : Held) → Onward h.contents (look_if due names m h).contents
+look_on false names m h = on_itself h.contents
+look_on true names m h =
+    let at = pruned names h.faults h.contents in
+    tried_on h.contents (record { boundary = end_at names m; current = h.current; faults = at.0; contents = at.1 }) (try_at names m at.1)
+    (onward_then h.contents at.1 (try_at names m at.1).1 (pruned_on names.limit names h.faults h.contents) (try_on names.latest (name_at names m) at.1).0)
 
 pub line_sound : (names : FileNames) (m : Moment) (h : Held) (bytes : List ℕ) (boundary : Option ℤ) (current : FileNumber) (f : Faults) (d : Contents) → IsSound h.contents → HandsTo names m h bytes (Ok tt) boundary current f (Some d) → IsSound d
 line_sound names m h bytes boundary current f d sound over =
-    let seen = (looked_on _ names m h over.seen over.looked).sound sound in
-    let w : WroteAll over.seen.contents over.seen.current bytes (Some d) = over.writes in
+    let w = over.writes in
     let same : d ≡ w.left.contents = cc (w.left.is) in
-    subst IsSound (sym same) (still_sound w.left seen)
+    subst IsSound (sym same) (still_sound w.left ((look_on (is_due h.boundary m.seconds) names m h).sound sound))

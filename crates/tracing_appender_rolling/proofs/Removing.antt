@@ -1,5 +1,5 @@
 -- Candidates one after another, and removals one after another.
-use Rattle.std.proofs.Common.{◌≡◌, ℕ, ◌+◌, ◌<◌, ℤ, Bool, List, [], ◌∷◌, ◌++◌, length, map, take, drop, get_or, append_assoc, refl, ap, subst, sym, ◌∙◌, Option, Some, None, Result, Ok, Err}
+use Rattle.std.proofs.Common.{◌≡◌, ℕ, ◌+◌, ◌<◌, Bool, List, [], ◌∷◌, ◌++◌, length, map, take, drop, get_or, append_assoc, refl, ap, subst, sym, ◌∙◌, Option, Some, None, Result, Ok, Err}
 use Rattle.std.specs.List.{filter}
 use Rattle.std.proofs.lemmas.List.{take_more, map-append, take-append-drop}
 use Rattle.std.proofs.lemmas.List.Elements.{filter-append}
@@ -11,29 +11,23 @@ use Rattle.tracing_appender_rolling.specs.Names.{FileNames}
 use Rattle.tracing_appender_folders.specs.Contents.{Contents, Gives, Listed, called, removed}
 use Rattle.tracing_appender_folders.specs.declared.fault.FolderError.TheVariants.{OutOfMemory}
 use Rattle.tracing_appender_folders.specs.Listings.{listed_of}
-use Rattle.tracing_appender_rolling.specs.Retention.{PlainCandidate, candidate_of, with_candidate, made_of, Tells, IsAdded, IsCandidates}
+use Rattle.tracing_appender_rolling.specs.Retention.{PlainCandidate, candidate_of, with_candidate, made_of, date_in, candidate_first, candidates_in}
 use Rattle.tracing_appender_rolling.specs.Pruning.{names_by, removed_all, Removes, LeftAt}
 
 added_behind : (name : List ℕ) (made : Option Moment) (rest more : List PlainCandidate) → with_candidate name made rest ++ more ≡ with_candidate name made (rest ++ more)
 added_behind name None rest more = refl
 added_behind name (Some m) rest more = refl
 
-one_more : (names : FileNames) (ls : List Listed) (cs : List PlainCandidate) (l : Listed) (date : Option ℤ) → IsCandidates names ls cs → Tells names l.name date → IsCandidates names (ls ++ l ∷ []) (cs ++ with_candidate l.name (made_of names l date) [])
-one_more names [] cs l date h tells = (date, [], tells, refl, ap (λ (xs : List PlainCandidate). xs ++ with_candidate l.name (made_of names l date) []) h)
-one_more names (k ∷ ks) cs l date (first, rest, told, more, is) tells = (
-  first,
-  rest ++ with_candidate l.name (made_of names l date) [],
-  told,
-  one_more names ks rest l date more tells,
-  ap (λ (xs : List PlainCandidate). xs ++ with_candidate l.name (made_of names l date) []) is ∙ added_behind k.name (made_of names k first) rest (with_candidate l.name (made_of names l date) []),
-)
+one_more : (names : FileNames) (ls : List Listed) (l : Listed) → candidates_in names (ls ++ l ∷ []) ≡ candidates_in names ls ++ candidate_first names l []
+one_more names [] l = refl
+one_more names (k ∷ ks) l =
+    ap (candidate_first names k) (one_more names ks l) ∙ sym (added_behind k.name (made_of names k (date_in names k.name)) (candidates_in names ks) (candidate_first names l []))
 
-pub candidates_more : (names : FileNames) (entries : List Entry) (i : ℕ) (e : Entry) (old new : List PlainCandidate) → i < length entries → e ≡ get_or entries i e → IsCandidates names (map listed_of (take i entries)) old → IsAdded names (listed_of e) old new → IsCandidates names (map listed_of (take (i + 1) entries)) new
-candidates_more names entries i e old new lt is h (date, tells, added) =
+pub candidates_more : (names : FileNames) (entries : List Entry) (i : ℕ) (e : Entry) (old new : List PlainCandidate) → i < length entries → e ≡ get_or entries i e → old ≡ candidates_in names (map listed_of (take i entries)) → new ≡ old ++ candidate_first names (listed_of e) [] → new ≡ candidates_in names (map listed_of (take (i + 1) entries))
+candidates_more names entries i e old new lt is so added =
     let grown : map listed_of (take (i + 1) entries) ≡ map listed_of (take i entries) ++ listed_of e ∷ [] =
     ap (map listed_of) (take_more entries i e lt ∙ ap (λ (x : Entry). take i entries ++ x ∷ []) (sym is)) ∙ map-append listed_of (take i entries) (e ∷ []) in
-    subst (λ (xs : List PlainCandidate). IsCandidates names (map listed_of (take (i + 1) entries)) xs) (sym added)
-    (subst (λ (ls : List Listed). IsCandidates names ls (old ++ with_candidate (listed_of e).name (made_of names (listed_of e) date) [])) (sym grown) (one_more names (map listed_of (take i entries)) old (listed_of e) date h tells))
+    added ∙ ap (λ (cs : List PlainCandidate). cs ++ candidate_first names (listed_of e) []) so ∙ sym (one_more names (map listed_of (take i entries)) (listed_of e)) ∙ sym (ap (candidates_in names) grown)
 
 removed_both : (xs ys : List (List ℕ)) (at : Faults × Contents) → removed_all (xs ++ ys) at ≡ removed_all ys (removed_all xs at)
 removed_both [] ys at = refl

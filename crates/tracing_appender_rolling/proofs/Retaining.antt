@@ -6,13 +6,13 @@ use Rattle.std.specs.Str.{bytes_eq}
 use Rattle.std.proofs.lemmas.Bool.{false≢true, false_from_ne_true}
 use Rattle.std.proofs.lemmas.Slice.Eq.{bytes_eq-Decides}
 use Rattle.tracing_appender_folders.specs.declared.moment.Moment.{Moment}
-use Rattle.tracing_appender_folders.specs.Contents.{Contents, StoredFile, Listed, Answer, Outcome, IsSound, called, has_name, file_named, bytes_at, unnamed, fresh, if_refused, refusal, remove_at, remove_plain, removed, listing, listed_file, listed_link, list_plain, names_listed, begins_with}
+use Rattle.tracing_appender_folders.specs.Contents.{Contents, StoredFile, Outcome, IsSound, called, has_name, file_named, bytes_at, unnamed, fresh, if_refused, refusal, remove_at, remove_plain, removed, listing, listed_file, listed_link, list_plain, names_listed, begins_with}
 use Rattle.tracing_appender_folders.proofs.Content.{StandsAt, stands_from, none_step, added_other}
 use Rattle.tracing_appender_rolling.specs.declared.faults.Faults.{Faults}
 use Rattle.tracing_appender_rolling.specs.Names.{FileNames}
-use Rattle.tracing_appender_rolling.specs.Retention.{PlainCandidate, IsCandidates, with_candidate, made_of, asked_prefix, goes}
-use Rattle.tracing_appender_rolling.specs.Pruning.{doomed, after_removal, removed_all, Pruned, PrunedBy, PrunedAfter}
-use Rattle.tracing_appender_rolling.specs.Remaining.{is_named, IsRemoved, StandOnce}
+use Rattle.tracing_appender_rolling.specs.Retention.{PlainCandidate, date_in, with_candidate, candidates_in, made_of, asked_prefix, goes}
+use Rattle.tracing_appender_rolling.specs.Pruning.{doomed, after_removal, removed_all, pruned_after, pruned_by}
+use Rattle.tracing_appender_rolling.specs.Remaining.{is_named, doomed_in, StandOnce, OnceIf}
 use Rattle.tracing_appender_rolling.proofs.Sparing.{bytes_unnamed}
 use Rattle.tracing_appender_rolling.proofs.Asking.{asked_candidates}
 
@@ -96,7 +96,7 @@ AllStand fs names = AllByRecursion (λ n. is_some (bytes_at fs n) ≡ true) name
 pub record Removal (c d : Contents) (gone : List (List ℕ)) : Type 0 where
   pub sound : IsSound d
   pub links : d.links ≡ c.links
-  pub once : StandOnce d.files
+  pub once : StandOnce c.files → StandOnce d.files
   pub bytes : (q : List ℕ) → bytes_at d.files q ≡ cond (is_named q gone) None (bytes_at c.files q)
   pub open_stay : d.open_files ≡ c.open_files
 
@@ -120,7 +120,7 @@ more_gone n q ns fs i h once = by_case (bytes_eq n q) refl
     by_case false miss = ap (cond (is_named q ns) None) (bytes_unnamed n q fs i h (apart_by n q miss))
 
 pub removes_all : (ns : List (List ℕ)) (f : Faults) (c : Contents) → IsSound c → StandOnce c.files → Distinct ns → AllStand c.files ns → ((removed_all ns (f, c)).0 ≡ f) × Removal c (removed_all ns (f, c)).1 ns
-removes_all [] f c sound once distinct all = (refl, record { sound = sound; links = refl; once = once; bytes = λ q. refl; open_stay = refl })
+removes_all [] f c sound once distinct all = (refl, record { sound = sound; links = refl; once = λ o. o; bytes = λ q. refl; open_stay = refl })
 removes_all (n ∷ ns) f c sound once distinct all =
     let place = named_some n c.files all.0 in
     let stands = stands_from n c.files place.0 place.1 in
@@ -128,15 +128,15 @@ removes_all (n ∷ ns) f c sound once distinct all =
     let rest = removes_all ns f d (λ k. sound (suc k)) (once_unnamed c.files place.0 once) distinct.1 (still_stand n c.files place.0 stands ns distinct.0 all.1) in
     let is = removed_one f c n place.0 sound place.1 in
     subst (λ (at : Faults × Contents). ((removed_all ns at).0 ≡ f) × Removal c (removed_all ns at).1 (n ∷ ns)) (sym is)
-    (rest.0, record { sound = rest.1.sound; links = rest.1.links; once = rest.1.once; bytes = λ q. rest.1.bytes q ∙ more_gone n q ns c.files place.0 stands once; open_stay = rest.1.open_stay })
+    (rest.0, record { sound = rest.1.sound; links = rest.1.links; once = λ o. rest.1.once (once_unnamed c.files place.0 o); bytes = λ q. rest.1.bytes q ∙ more_gone n q ns c.files place.0 stands once; open_stay = rest.1.open_stay })
 
 -- the candidates of a listing stand, and each once
 abbrev name_in : PlainCandidate → List ℕ
 name_in c = c.name
 
-no_links : (names : FileNames) (links : List (List ℕ × List ℕ)) (cs : List PlainCandidate) → IsCandidates names (map listed_link links) cs → cs ≡ []
-no_links names [] cs is = is
-no_links names (l ∷ ls) cs (date, rest, tells, more, is) = is ∙ no_links names ls rest more
+no_links : (names : FileNames) (links : List (List ℕ × List ℕ)) → candidates_in names (map listed_link links) ≡ []
+no_links names [] = refl
+no_links names (l ∷ ls) = no_links names ls
 
 stand_more : (f : StoredFile) (fs : List StoredFile) (ns : List (List ℕ)) → AllStand fs ns → AllStand (f ∷ fs) ns
 stand_more f fs [] all = tt
@@ -159,14 +159,14 @@ fine_more f fs None rest stands none fine = (fine.0, stand_more f fs (map name_i
 fine_more f fs (Some m) rest stands none fine =
     ((all_apart f.name fs none (map name_in rest) fine.1, fine.0), (ap (λ b. is_some (cond b (Some f.bytes) (bytes_at fs f.name))) (has_own f stands), stand_more f fs (map name_in rest) fine.1))
 
-fine_first : (names : FileNames) (f : StoredFile) (fs : List StoredFile) (links : List (List ℕ × List ℕ)) (cs : List PlainCandidate) → StandOnce (f ∷ fs) → ((ds : List PlainCandidate) → IsCandidates names (map listed_file (filter (λ f. f.stands) fs) ++ map listed_link links) ds → Fine fs ds) → (b : Bool) → f.stands ≡ b → IsCandidates names (map listed_file (cond b (f ∷ filter (λ f. f.stands) fs) (filter (λ f. f.stands) fs)) ++ map listed_link links) cs → Fine (f ∷ fs) cs
-fine_first names f fs links cs once rests true stands (date, rest, tells, more, e) =
-    subst (Fine (f ∷ fs)) (sym e) (fine_more f fs (made_of names (listed_file f) date) rest stands (once.0 stands) (rests rest more))
-fine_first names f fs links cs once rests false stands more = let fine = rests cs more in (fine.0, stand_more f fs (map name_in cs) fine.1)
+fine_first : (names : FileNames) (f : StoredFile) (fs : List StoredFile) (links : List (List ℕ × List ℕ)) → StandOnce (f ∷ fs) → Fine fs (candidates_in names (map listed_file (filter (λ f. f.stands) fs) ++ map listed_link links)) → (b : Bool) → f.stands ≡ b → Fine (f ∷ fs) (candidates_in names (map listed_file (cond b (f ∷ filter (λ f. f.stands) fs) (filter (λ f. f.stands) fs)) ++ map listed_link links))
+fine_first names f fs links once fine true stands =
+    fine_more f fs (made_of names (listed_file f) (date_in names f.name)) (candidates_in names (map listed_file (filter (λ f. f.stands) fs) ++ map listed_link links)) stands (once.0 stands) fine
+fine_first names f fs links once fine false stands = (fine.0, stand_more f fs (map name_in (candidates_in names (map listed_file (filter (λ f. f.stands) fs) ++ map listed_link links))) fine.1)
 
-fine_by : (names : FileNames) (fs : List StoredFile) (links : List (List ℕ × List ℕ)) (cs : List PlainCandidate) → StandOnce fs → IsCandidates names (map listed_file (filter (λ f. f.stands) fs) ++ map listed_link links) cs → Fine fs cs
-fine_by names [] links cs once is = subst (Fine []) (sym (no_links names links cs is)) (tt, tt)
-fine_by names (f ∷ fs) links cs once is = fine_first names f fs links cs once (λ ds more. fine_by names fs links ds once.1 more) f.stands refl is
+fine_by : (names : FileNames) (fs : List StoredFile) (links : List (List ℕ × List ℕ)) → StandOnce fs → Fine fs (candidates_in names (map listed_file (filter (λ f. f.stands) fs) ++ map listed_link links))
+fine_by names [] links once = subst (Fine []) (sym (no_links names links)) (tt, tt)
+fine_by names (f ∷ fs) links once = fine_first names f fs links once (fine_by names fs links once.1) f.stands refl
 
 -- those that go are among them
 apart_first : (q : List ℕ) (c : PlainCandidate) (some : List PlainCandidate) → bytes_eq q c.name ≡ false → AllByRecursion (λ m. bytes_eq q m ≡ false) (map name_in some) → (b : Bool) → AllByRecursion (λ m. bytes_eq q m ≡ false) (map name_in (cond b (c ∷ some) some))
@@ -186,28 +186,20 @@ fine_some fs g [] fine = (tt, tt)
 fine_some fs g (c ∷ cs) fine = fine_first_of fs c (filter g cs) (apart_some c.name g cs fine.0.0) fine.1.0 (fine_some fs g cs (fine.0.1, fine.1.1)) (g c)
 
 -- retention as a whole
-pub record Retention (names : FileNames) (f l : Faults) (c d : Contents) : Type 0 where
-  pub removed : List (List ℕ)
-  pub is_removed : IsRemoved names.limit names (listing c) removed
-  pub counts : l ≡ f
-  pub leaves : Removal c d removed
-
 listed_sound : (prefix : List ℕ) (c : Contents) → IsSound c → names_listed c prefix ≡ (Ok (filter (begins_with prefix) (listing c)), called c)
 listed_sound prefix c sound = ap (λ (o : Outcome). if_refused o (λ e. refusal e c) (list_plain prefix c)) (sound 0)
 
-retained_by : (limit : Option ℕ) (names : FileNames) (f l : Faults) (c d : Contents) → IsSound c → StandOnce c.files → PrunedBy limit names f c l d → (removed : List (List ℕ)) × IsRemoved limit names (listing c) removed × (l ≡ f) × Removal c d removed
-retained_by None names f l c d sound once (counts, same) =
-    ([], refl, counts, subst (λ (x : Contents). Removal c x []) (sym same) (record { sound = sound; links = refl; once = once; bytes = λ q. refl; open_stay = refl }))
-retained_by (Some limit) names f l c d sound once pruned =
-    let after = subst (λ (a : Answer (List Listed)). PrunedAfter names limit f a l d) (listed_sound (asked_prefix names) c sound) pruned in
-    let cs = after.0 in
-    let are = asked_candidates names (listing c) cs after.1 in
-    let fine = fine_some c.files (goes limit cs) cs (fine_by names c.files c.links cs once are) in
+pub retained : (limit : Option ℕ) (names : FileNames) (f : Faults) (c : Contents) → IsSound c → OnceIf limit c.files → ((pruned_by limit names f c).0 ≡ f) × Removal c (pruned_by limit names f c).1 (doomed_in limit names (listing c))
+retained None names f c sound once = (refl, record { sound = sound; links = refl; once = λ o. o; bytes = λ q. refl; open_stay = refl })
+retained (Some limit) names f c sound once =
+    let cs = candidates_in names (listing c) in
+    let fine = fine_some c.files (goes limit cs) cs (fine_by names c.files c.links once) in
     let all = removes_all (doomed limit cs) f (called c) (λ k. sound (suc k)) once fine.0 fine.1 in
-    let e = after.2 in
-    let left = subst (λ (x : Contents). Removal (called c) x (doomed limit cs)) (ap (λ (at : Faults × Contents). at.1) e) all.1 in
-    (doomed limit cs, (cs, are, refl), sym (ap (λ (at : Faults × Contents). at.0) e) ∙ all.0, record { sound = left.sound; links = left.links; once = left.once; bytes = left.bytes; open_stay = left.open_stay })
+    let same : pruned_after names limit f (names_listed c (asked_prefix names)) ≡ removed_all (doomed limit cs) (f, called c) =
+    ap (pruned_after names limit f) (listed_sound (asked_prefix names) c sound) ∙ ap (λ (xs : List PlainCandidate). removed_all (doomed limit xs) (f, called c)) (asked_candidates names (listing c)) in
+    subst (λ (at : Faults × Contents). (at.0 ≡ f) × Removal c at.1 (doomed limit cs)) (sym same)
+    (all.0, record { sound = all.1.sound; links = all.1.links; once = all.1.once; bytes = all.1.bytes; open_stay = all.1.open_stay })
 
-pub retained : (names : FileNames) (f l : Faults) (c d : Contents) → IsSound c → StandOnce c.files → Pruned names f c l d → Retention names f l c d
-retained names f l c d sound once pruned =
-    let r = retained_by names.limit names f l c d sound once pruned in record { removed = r.0; is_removed = r.1; counts = r.2; leaves = r.3 }
+pub once_if : (limit : Option ℕ) (fs gs : List StoredFile) → (StandOnce fs → StandOnce gs) → OnceIf limit fs → OnceIf limit gs
+once_if None fs gs more once = tt
+once_if (Some limit) fs gs more once = more once

@@ -1,10 +1,10 @@
 -- Counts of faults over calls in turn.
-use Rattle.std.proofs.Common.{ℕ, ◌+◌, ◌-◌, ◌^◌, refl, ◌∙◌, arith}
+use Rattle.std.proofs.Common.{◌≡◌, ℕ, zero, suc, ◌+◌, ◌-◌, ◌^◌, refl, ap, sym, ◌∙◌, arith}
 use Rattle.std.specs.Prelude.{min}
 use Rattle.tracing_appender_folders.specs.declared.fault.FolderFault.{FolderFault}
 use Rattle.tracing_appender_rolling.specs.declared.faults.Faults.{Faults}
 use Rattle.tracing_appender_rolling.specs.Faults.{after_retention, after_switch}
-use Rattle.tracing_appender_rolling.specs.Telling.{DoesNotFall, Rises, RoseBy, CountsFaults, CountsRetention}
+use Rattle.tracing_appender_rolling.specs.Telling.{DoesNotFall, Rises, RoseBy, CountsFaults, CountsOnly, failed_more}
 
 rose_none : (x : ℕ) → RoseBy 0 x x
 rose_none x = (omega arith, omega arith)
@@ -27,16 +27,20 @@ faults_then s t r q n m k f g h a b = record {
   folder_rose = omega (arith, a.folder_rose, b.folder_rose);
 }
 
--- retention
-pub retention_kept : (n m : ℕ) (f : Faults) → DoesNotFall n m → CountsRetention n f f m
-retention_kept n m f kept = (0, faults_kept n m f kept)
+-- retention alone
+pub only_kept : (n m : ℕ) (f : Faults) → m ≡ n → CountsOnly n f f m
+only_kept n m f same = (0, faults_kept n m f (omega (arith, same)), same)
 
-pub retention_one : (n m : ℕ) (f : Faults) (fault : FolderFault) → Rises n m → CountsRetention n f (after_retention f fault) m
-retention_one n m f fault rose =
-    (1, record { switches_rose = rose_none f.switches; retentions_rose = rose_one f.retentions; writes_stay = refl; none_changed = λ e. absurd (omega (arith, e)); folder_rose = omega (arith, rose) })
+pub only_one : (n m : ℕ) (f : Faults) (fault : FolderFault) → m ≡ min (n + 1) (2 ^ 64 - 1) → CountsOnly n f (after_retention f fault) m
+only_one n m f fault rose =
+    (1, record { switches_rose = rose_none f.switches; retentions_rose = rose_one f.retentions; writes_stay = refl; none_changed = λ e. absurd (omega (arith, e)); folder_rose = omega (arith, rose) }, rose)
 
-pub retention_then : (n m k : ℕ) (f g h : Faults) → CountsRetention n f g m → CountsRetention m g h k → CountsRetention n f h k
-retention_then n m k f g h a b = (a.0 + b.0, faults_then 0 0 a.0 b.0 n m k f g h a.1 b.1)
+more_both : (j k n : ℕ) → failed_more (j + k) n ≡ failed_more k (failed_more j n)
+more_both zero k n = ap (λ i. failed_more i n) (let e : 0 + k ≡ k = omega arith in e)
+more_both (suc j) k n = ap (λ i. failed_more i n) (let e : suc j + k ≡ suc (j + k) = omega arith in e) ∙ more_both j k (min (n + 1) (2 ^ 64 - 1))
+
+pub only_then : (n m k : ℕ) (f g h : Faults) → CountsOnly n f g m → CountsOnly m g h k → CountsOnly n f h k
+only_then n m k f g h a b = (a.0 + b.0, faults_then 0 0 a.0 b.0 n m k f g h a.1 b.1, b.2 ∙ ap (failed_more b.0) a.2 ∙ sym (more_both a.0 b.0 n))
 
 -- and the opening behind it
 pub switch_failed : (r n m k : ℕ) (f g : Faults) (fault : FolderFault) → CountsFaults 0 r n f g m → Rises m k → CountsFaults 1 r n f (after_switch g fault) k

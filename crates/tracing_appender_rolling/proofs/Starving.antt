@@ -13,7 +13,7 @@ use Rattle.tracing_appender_rolling.specs.declared.init.InitFailure.{InitFailure
 use Rattle.tracing_appender_rolling.specs.Names.{FileNames}
 use Rattle.tracing_appender_rolling.specs.Writes.{Fruitless}
 use Rattle.tracing_appender_rolling.specs.Retention.{asked_prefix}
-use Rattle.tracing_appender_rolling.specs.Pruning.{UnprunedAfter, UnprunedBy}
+use Rattle.tracing_appender_rolling.specs.Pruning.{UnprunedAfter, UnprunedBy, pruned}
 use Rattle.tracing_appender_rolling.specs.Tries.{Tried, Tries, MissedFile, MissesOr, Gave, failure, after_dirs, made_again, after_opening, last_opening, opened_twice}
 use Rattle.tracing_appender_rolling.specs.Looks.{Starved, name_at}
 
@@ -138,16 +138,16 @@ starved_known names m f l c after (inl same) = (c, same.1)
 starved_known names m f l c after (inr (inl u)) = by_limit names.limit u
   where
     by_listing : (limit : ℕ) (a : Answer (List Listed)) → UnprunedAfter names limit f a l after → (d : Contents) × (after ≡ Some d)
-    by_listing limit (Ok listing, x) (cs, are, stops) = (_, stops.folder)
+    by_listing limit (Ok listing, x) stops = (_, stops.folder)
     by_listing limit (Err e, x) u = absurd u
 
     by_limit : (limit : Option ℕ) → UnprunedBy limit names f c l after → (d : Contents) × (after ≡ Some d)
     by_limit None u = absurd u
     by_limit (Some limit) (inl left) = (called c, left.1)
     by_limit (Some limit) (inr u) = by_listing limit (names_listed c (asked_prefix names)) u
-starved_known names m f l c after (inr (inr t)) = by_latest names.latest t.missed
+starved_known names m f l c after (inr (inr t)) = by_latest names.latest t.1
   where
-    by_latest : (latest : Option (List ℕ)) → MissedFile latest (name_at names m) t.pruned after → (d : Contents) × (after ≡ Some d)
+    by_latest : (latest : Option (List ℕ)) → MissedFile latest (name_at names m) (pruned names f c).1 after → (d : Contents) × (after ≡ Some d)
     by_latest None (u, some) = (u.left.contents, u.left.is)
     by_latest (Some link) (inl (u, some)) = (u.left.contents, u.left.is)
     by_latest (Some link) (inr u) = (_, u.left)

@@ -8,7 +8,7 @@ use Rattle.tracing_appender_folders.specs.declared.fault.FileNumber.{FileNumber}
 use Rattle.tracing_appender_folders.specs.declared.fault.FolderError.{FolderError}
 use Rattle.tracing_appender_rolling.specs.Names.{FileNames}
 use Rattle.tracing_appender_folders.specs.Contents.{Contents, Gives, closed}
-use Rattle.tracing_appender_rolling.specs.Pruning.{Prunes}
+use Rattle.tracing_appender_rolling.specs.Pruning.{Prunes, pruned}
 use Rattle.tracing_appender_rolling.specs.Tries.{Tried, TriesFile}
 use Rattle.tracing_appender_rolling.specs.Looks.{Held, IsHeld, Switches, tried, try_at, name_at, end_at}
 use Rattle.tracing_appender_folders.proofs.Openings.{fed_leaves, stays_unknown}
@@ -26,8 +26,10 @@ module _ (E : Type 0) (names : FileNames) (m : Moment) (boundary : Option ℤ) (
       (record { folder = gone; until = ends; open_file = refl; counts = refl })
 
   pub switch_opens : (known middle after left : Option Contents) (r : Result (Unit {0}) FolderError) → Prunes {E = E} names f known (Ok tt) l middle → TriesFile names.latest name middle (Ok file) after → IfErr r (λ e. e ≢ OutOfMemory) → Gives (λ x. closed x current) after r left → Switches {E = E} names m boundary current f known (Ok tt) end file l left
-  switch_opens None middle after left r pruned tries fed closes =
-      let none = (subst (λ (o : Option Contents). TriesFile names.latest name o (Ok file) after) pruned tries) in
+  switch_opens None middle after left r gone tries fed closes =
+      let none = (subst (λ (o : Option Contents). TriesFile names.latest name o (Ok file) after) gone tries) in
       stays_unknown (λ x. closed x current) r left (subst (λ (o : Option Contents). Gives (λ x. closed x current) o r left) none closes)
-  switch_opens (Some c) middle after left r (d, pruned, there) tries fed closes =
-      record { counted = l; pruned = d; retention = pruned; held = held_by d after left (subst (λ (o : Option Contents). TriesFile names.latest name o (Ok file) after) there tries) r fed closes }
+  switch_opens (Some c) middle after left r (counts, there) tries fed closes =
+      let at = pruned names f c in
+      subst (λ (x : Faults). IsHeld left end file l (tried (record { boundary = end_at names m; current = current; faults = x; contents = at.1 }) (try_at names m at.1))) counts
+      (held_by at.1 after left (subst (λ (o : Option Contents). TriesFile names.latest name o (Ok file) after) there tries) r fed closes)

@@ -1,91 +1,28 @@
 -- Lines whose files go by a list of tries.
-use Rattle.std.specs.Prelude.{is_some}
-use Rattle.std.specs.List.{position_from}
-use Rattle.std.proofs.Common.{◌≡◌, ◌≢◌, ◌<◌, ◌≤◌, ◌+◌, ◌==◌, ℕ, ℤ, ◌<ℤ◌, zero, suc, Bool, true, false, not, ◌&&◌, int_le, cond, List, [], ◌∷◌, ◌++◌, length, take, refl, ap, subst, sym, ◌∙◌, arith, append_assoc, Option, Some, None, Result, Ok, Err}
-use Rattle.std.proofs.lemmas.Bool.{eq-eqb, eqb-true, ne_eqb, false≢true, false_from_ne_true}
+use Rattle.std.proofs.Common.{◌≡◌, ◌≢◌, ◌<◌, ◌≤◌, ◌+◌, ◌==◌, ℕ, ℤ, ◌<ℤ◌, zero, suc, Bool, true, false, not, ◌&&◌, int_le, cond, List, [], ◌∷◌, ◌++◌, length, take, refl, ap, subst, sym, ◌∙◌, arith, append_assoc, Option, Some, Result, Ok, Err}
+use Rattle.std.proofs.lemmas.Bool.{eq-eqb, eqb-true, false≢true, false_from_ne_true}
 use Rattle.std.proofs.lemmas.List.{append-nil, take_all}
 use Rattle.jiff_core.proofs.SignedLemmas.{signed_arith}
 use Rattle.tracing_appender_dates.specs.declared.period.PeriodKind.{PeriodKind}
 use Rattle.tracing_appender_folders.specs.declared.moment.Moment.{Moment}
 use Rattle.tracing_appender_folders.specs.declared.fault.FileNumber.{FileNumber}
-use Rattle.tracing_appender_folders.specs.declared.fault.FolderFault.TheVariants.{Refused}
 use Rattle.tracing_appender_folders.specs.declared.fault.FolderError.{FolderError}
 use Rattle.tracing_appender_folders.specs.declared.fault.FolderError.TheVariants.{Fault, OutOfMemory}
 use Rattle.tracing_appender_folders.specs.Moments.{period_at, is_due}
-use Rattle.tracing_appender_folders.specs.Contents.{Contents, StoredFile, Answer, Outcome, Done, Refuses, Short, called, fresh, appended, has_name, file_named, link_named, open_at, open_plain, opened, dirs_made, linked, refusal, if_refused, closed}
-use Rattle.tracing_appender_rolling.specs.declared.faults.Faults.{Faults}
+use Rattle.tracing_appender_folders.specs.Contents.{Contents, StoredFile, appended, opened}
 use Rattle.tracing_appender_rolling.specs.Names.{FileNames}
-use Rattle.tracing_appender_rolling.specs.Tries.{Tried, last_opening, after_dirs, after_opening, opened_twice, after_link, after_file, opened_linked}
-use Rattle.tracing_appender_rolling.specs.Looks.{Held, IsHeld, LookedTo, failed_by, tried, try_at, end_at}
-use Rattle.tracing_appender_rolling.specs.Writes.{Left, WroteAll, WroteSome, WritesAll}
+use Rattle.tracing_appender_rolling.specs.Faults.{no_faults}
+use Rattle.tracing_appender_rolling.specs.Pruning.{pruned}
+use Rattle.tracing_appender_rolling.specs.Tries.{Tried}
+use Rattle.tracing_appender_rolling.specs.Looks.{Held, failed_by, tried, name_at, try_at, end_at, look_if, look_at}
+use Rattle.tracing_appender_rolling.specs.Writes.{Left, WritesAll}
 use Rattle.tracing_appender_rolling.specs.Handing.{HandedOver, HandsTo, is_starved}
 use Rattle.tracing_appender_rolling.specs.Sinks.{Handed}
 use Rattle.tracing_appender_rolling.specs.Pieces.{Try, is_later, or_before, current_of, file_of, left_by, TriedIf, Piece, TakenTo, GoesBy, bytes_of, pieces_of, HandedInTurn, FilesGoByTries}
 use Rattle.tracing_appender_rolling.proofs.PeriodFacts.{later_due}
-use Rattle.tracing_appender_rolling.proofs.Onward.{Onward, closed_on, linked_grows, looked_on}
+use Rattle.tracing_appender_rolling.proofs.Onward.{Within, closed_on, try_on, look_on}
 
--- an answer's file is there
-abbrev InAnswer : Answer FileNumber → Type 0
-InAnswer (Ok file, c) = file.index < length c.files
-InAnswer (Err e, c) = Unit {0}
-
-abbrev InTry : Tried → Type 0
-InTry (Ok file, c) = file.index < length c.files
-InTry (Err f, c) = Unit {0}
-
-place_first : {X : Type 0} (p : X → Bool) (x : X) (xs : List X) (k i : ℕ) → ((j : ℕ) → position_from p (k + 1) xs ≡ Some j → j < (k + 1) + length xs) → (b : Bool) → cond b (Some k) (position_from p (k + 1) xs) ≡ Some i → i < k + suc (length xs)
-place_first p x xs k i rest true is = let same : k ≡ i = cc in omega (arith, same)
-place_first p x xs k i rest false is = let within = rest i is in omega (arith, within)
-
-place_within : {X : Type 0} (p : X → Bool) (xs : List X) (k i : ℕ) → position_from p k xs ≡ Some i → i < k + length xs
-place_within p [] k i is = cc
-place_within p (x ∷ xs) k i is = place_first p x xs k i (λ j e. place_within p xs (k + 1) j e) (p x) is
-
-longer : (fs : List StoredFile) (f : StoredFile) → length fs < length (fs ++ f ∷ [])
-longer [] f = omega arith
-longer (g ∷ fs) f = let more = longer fs f in omega (arith, more)
-
-in_found : (c : Contents) (name : List ℕ) (found : Option ℕ) → file_named name c.files ≡ found → InAnswer (open_at c name found)
-in_found c name None is = longer c.files (fresh name)
-in_found c name (Some place) is = let within = place_within (has_name name) c.files 0 place is in omega (arith, within)
-
-in_free : (c : Contents) (name : List ℕ) (taken : Bool) → InAnswer (cond taken (refusal Refused c) (open_at c name (file_named name c.files)))
-in_free c name true = tt
-in_free c name false = in_found c name (file_named name c.files) refl
-
-in_outcome : (c : Contents) (answer : Answer FileNumber) → InAnswer answer → (o : Outcome) → InAnswer (if_refused o (λ f. refusal f c) answer)
-in_outcome c answer is Done = is
-in_outcome c answer is (Refuses f) = tt
-in_outcome c answer is (Short most) = is
-
-in_opened : (c : Contents) (name : List ℕ) → InAnswer (opened c name)
-in_opened c name = in_outcome c (open_plain name c) (in_free c name (link_named name c.links)) (c.coming 0)
-
-in_last : (a : Answer FileNumber) → InAnswer a → InTry (last_opening a)
-in_last (Ok file, c) is = is
-in_last (Err e, c) is = tt
-
-in_dirs : (name : List ℕ) (a : Answer (Unit {0})) → InTry (after_dirs name a)
-in_dirs name (Ok done, c) = in_last (opened c name) (in_opened c name)
-in_dirs name (Err e, c) = tt
-
-in_opening : (name : List ℕ) (a : Answer FileNumber) → InAnswer a → InTry (after_opening name a)
-in_opening name (Ok file, c) is = is
-in_opening name (Err e, c) is = in_dirs name (dirs_made c)
-
-in_link : (file : FileNumber) (n : ℕ) (a : Answer (Unit {0})) → file.index < n → n ≤ length a.1.files → InTry (after_link file a)
-in_link file n (Ok done, c) within grows = omega (arith, within, grows)
-in_link file n (Err e, c) within grows = tt
-
-in_file : (link name : List ℕ) (t : Tried) → InTry t → InTry (after_file link name t)
-in_file link name (Ok file, c) within = in_link file (length c.files) (linked c link name) within (linked_grows c link name)
-in_file link name (Err f, c) within = tt
-
-in_try : (latest : Option (List ℕ)) (name : List ℕ) (c : Contents) → InTry (opened_linked latest name c)
-in_try None name c = in_opening name (opened c name) (in_opened c name)
-in_try (Some link) name c = in_file link name (opened_twice name c) (in_opening name (opened c name) (in_opened c name))
-
-tried_within : (t : Tried) (file : FileNumber) → InTry t → t.0 ≡ Ok file → file.index < length t.1.files
+tried_within : (t : Tried) (file : FileNumber) → Within t → t.0 ≡ Ok file → file.index < length t.1.files
 tried_within (Ok other, c) file within is = let same : other ≡ file = cc in subst (λ (f : FileNumber). f.index < length c.files) same within
 tried_within (Err f, c) file within is = cc
 
@@ -147,59 +84,32 @@ tried_file h (Ok file, c) = refl
 tried_file h (Err f, c) = ap Some (sym (failed_stays h c f.error).1)
 
 -- the file that a try leaves is there: its own, or the one before it
-file_within : (h : Held) (t : Tried) (n : ℕ) → InTry t → h.current.index < n → n ≤ length (tried h t).contents.files → (tried h t).current.index < length (tried h t).contents.files
+file_within : (h : Held) (t : Tried) (n : ℕ) → Within t → h.current.index < n → n ≤ length (tried h t).contents.files → (tried h t).current.index < length (tried h t).contents.files
 file_within h (Ok file, c) n within before grows = let more = (closed_on c h.current).grows in omega (arith, within, more)
 file_within h (Err f, c) n within before grows =
     subst (λ (x : FileNumber). x.index < length (failed_by h c f.error).contents.files) (sym (failed_stays h c f.error).1) (omega (arith, before, grows))
 
-record Looked (names : FileNames) (m : Moment) (t : Try) (ts : List Try) (h seen : Held) (due : Bool) : Type 0 where
+record Looked (names : FileNames) (m : Moment) (t : Try) (ts : List Try) (h : Held) (due : Bool) : Type 0 where
   pub latest : Try
   pub before : List Try
-  pub tries : TriedIf due names m (t ∷ ts) h.contents (latest ∷ before) seen.contents
-  pub stands : Stands names latest before seen
+  pub tries : TriedIf due names m (t ∷ ts) h.contents (latest ∷ before) (look_if due names m h).contents
+  pub stands : Stands names latest before (look_if due names m h)
 
-look_tries : (names : FileNames) (m : Moment) (t : Try) (ts : List Try) (h seen : Held) (due : Bool) → due ≡ is_later names.kind (t ∷ ts) m → Stands names t ts h → LookedTo due names m h seen.boundary seen.current seen.faults (Some seen.contents) → Looked names m t ts h seen due
-look_tries names m t ts h seen false is st held =
-    let same : seen.contents ≡ h.contents = cc (held.folder) in
-    record {
-      latest = t;
-      before = ts;
-      tries = (refl, same);
-      stands = record {
-        until = held.until ∙ st.until;
-        rises = st.rises;
-        file = st.file ∙ ap Some (sym held.open_file);
-        within =
-            subst (λ (x : FileNumber). x.index < length seen.contents.files) (sym held.open_file)
-            (subst (λ (c : Contents). h.current.index < length c.files) (sym same) st.within);
-      };
-    }
-look_tries names m t ts h seen true is st looked =
-    let start : Held = record { boundary = end_at names m; current = h.current; faults = looked.counted; contents = looked.pruned } in
-    let try = try_at names m looked.pruned in
-    let end = tried start try in
-    let held = looked.held in
-    let same : seen.contents ≡ end.contents = cc (held.folder) in
-    let grows = (looked_on true names m h seen looked).grows in
+look_tries : (names : FileNames) (m : Moment) (t : Try) (ts : List Try) (h : Held) (due : Bool) → due ≡ is_later names.kind (t ∷ ts) m → Stands names t ts h → Looked names m t ts h due
+look_tries names m t ts h false is st = record { latest = t; before = ts; tries = (refl, refl); stands = st }
+look_tries names m t ts h true is st =
+    let at = pruned names h.faults h.contents in
+    let start : Held = record { boundary = end_at names m; current = h.current; faults = at.0; contents = at.1 } in
+    let try = try_at names m at.1 in
     record {
       latest = record { moment = m; file = file_of try };
       before = t ∷ ts;
-      tries = record {
-        counts = h.faults;
-        counted = looked.counted;
-        pruned = looked.pruned;
-        retention = looked.retention;
-        one_more = refl;
-        left = same ∙ tried_leaves start try ∙ ap (λ (o : Option FileNumber). left_by o try) (sym st.file);
-      };
+      tries = record { counts = h.faults; one_more = refl; left = tried_leaves start try ∙ ap (λ (o : Option FileNumber). left_by o try) (sym st.file) };
       stands = record {
-        until = held.until ∙ tried_until start try;
+        until = tried_until start try;
         rises = sym is;
-        file = ap (or_before (file_of try)) st.file ∙ tried_file start try ∙ ap Some (sym held.open_file);
-        within =
-            subst (λ (x : FileNumber). x.index < length seen.contents.files) (sym held.open_file)
-            (subst (λ (c : Contents). end.current.index < length c.files) (sym same)
-            (file_within start try (length h.contents.files) (in_try names.latest _ looked.pruned) st.within (subst (λ (c : Contents). length h.contents.files ≤ length c.files) same grows)));
+        file = ap (or_before (file_of try)) st.file ∙ tried_file start try;
+        within = file_within start try (length h.contents.files) (try_on names.latest (name_at names m) at.1).1 st.within (look_on true names m h).grows;
       };
     }
 
@@ -267,27 +177,24 @@ left_files {d = d} l = let same : d ≡ l.contents = cc (l.is) in ap (λ (x : Co
 
 -- a line
 record Line (names : FileNames) (t : Try) (ts : List Try) (h next : Held) (handed : Handed) : Type 0 where
-  pub seen : Held
-  pub look : Looked names handed.moment t ts h seen (is_later names.kind (t ∷ ts) handed.moment)
-  pub onward : Onward h.contents seen.contents
-  pub taken : Taken seen.current handed.line seen.contents next.contents
+  pub look : Looked names handed.moment t ts h (is_later names.kind (t ∷ ts) handed.moment)
+  pub taken : Taken (look_if (is_later names.kind (t ∷ ts) handed.moment) names handed.moment h).current handed.line (look_if (is_later names.kind (t ∷ ts) handed.moment) names handed.moment h).contents next.contents
   pub stands : Stands names look.latest look.before next
 
 module _ (names : FileNames) (t : Try) (ts : List Try) (h next : Held) (handed : Handed) (st : Stands names t ts h) where
-  over_line : (answer : Result (Unit {0}) FolderError) → HandedOver names handed.moment h handed.line answer next.boundary next.current next.faults (Some next.contents) → Line names t ts h next handed
-  over_line answer over =
+  over_line : (answer : Result (Unit {0}) FolderError) → HandedOver (look_at names handed.moment h) handed.line answer next.boundary next.current next.faults (Some next.contents) → Line names t ts h next handed
+  over_line answer was =
       let m = handed.moment in
       let due = later_due names.kind t.moment.seconds m.seconds in
       let is : is_due h.boundary m.seconds ≡ is_later names.kind (t ∷ ts) m =
       ap (λ (b : Option ℤ). is_due b m.seconds) st.until ∙ due_by names.kind m t ts st.rises (is_due (end_at names t.moment) m.seconds) due.0 due.1 in
-      let looked = subst (λ d. LookedTo d names m h over.seen.boundary over.seen.current over.seen.faults (Some over.seen.contents)) is over.looked in
-      let look = look_tries names m t ts h over.seen (is_later names.kind (t ∷ ts) m) refl st looked in
-      let taken = writes_take over.seen.current handed.line over.seen.contents next.contents answer over.writes in
+      let over = subst (λ d. HandedOver (look_if d names m h) handed.line answer next.boundary next.current next.faults (Some next.contents)) is was in
+      let seen = look_if (is_later names.kind (t ∷ ts) m) names m h in
+      let look = look_tries names m t ts h (is_later names.kind (t ∷ ts) m) refl st in
+      let taken = writes_take seen.current handed.line seen.contents next.contents answer over.writes in
       let files = left_files taken.to.left in
       record {
-        seen = over.seen;
         look = look;
-        onward = looked_on (is_later names.kind (t ∷ ts) m) names m h over.seen looked;
         taken = taken;
         stands = record {
           until = over.boundary_same ∙ look.stands.until;
@@ -295,7 +202,7 @@ module _ (names : FileNames) (t : Try) (ts : List Try) (h next : Held) (handed :
           file = look.stands.file ∙ ap Some (sym over.current_same);
           within =
               subst (λ (x : FileNumber). x.index < length next.contents.files) (sym over.current_same)
-              (let size = ap length files ∙ length_appended over.seen.contents.files over.seen.current.index taken.piece.bytes in omega (arith, size, look.stands.within));
+              (let size = ap length files ∙ length_appended seen.contents.files seen.current.index taken.piece.bytes in omega (arith, size, look.stands.within));
         };
       }
 
@@ -325,24 +232,27 @@ gone_by names t ts h last (l ∷ ls) st (next, answer, fed, over, more) =
     let rest = gone_by names line.look.latest line.look.before next last ls line.stands more in
     let taken = line.taken in
     let files = left_files taken.to.left in
+    let due = is_later names.kind (t ∷ ts) l.moment in
+    let seen = look_if due names l.moment h in
     record {
       tries = rest.tries;
       pieces = taken.piece ∷ rest.pieces;
-      goes = (line.look.latest ∷ line.look.before, line.seen.contents, line.seen.current, next.contents, line.look.tries, line.look.stands.file, taken.to, rest.goes);
+      goes = (line.look.latest ∷ line.look.before, seen.contents, seen.current, next.contents, line.look.tries, line.look.stands.file, taken.to, rest.goes);
       current = rest.current;
       bytes = λ n.
           let file = ap (λ (p : Piece). p.file) taken.to.first_bytes in
-          let place : taken.piece.file.index ≡ line.seen.current.index = ap (λ (f : FileNumber). f.index) file in
-          with_piece line.seen.contents.files last.contents.files taken.piece rest.pieces n (omega (arith, place, line.look.stands.within))
-          (rest.bytes n ∙ ap (λ (fs : List StoredFile). bytes_of fs n ++ pieces_of rest.pieces n) (files ∙ ap (λ i. appended line.seen.contents.files i taken.piece.bytes) (sym place)))
-          ∙ ap (λ (xs : List ℕ). xs ++ pieces_of (taken.piece ∷ rest.pieces) n) (line.onward.bytes n);
+          let place : taken.piece.file.index ≡ seen.current.index = ap (λ (f : FileNumber). f.index) file in
+          with_piece seen.contents.files last.contents.files taken.piece rest.pieces n (omega (arith, place, line.look.stands.within))
+          (rest.bytes n ∙ ap (λ (fs : List StoredFile). bytes_of fs n ++ pieces_of rest.pieces n) (files ∙ ap (λ i. appended seen.contents.files i taken.piece.bytes) (sym place)))
+          ∙ ap (λ (xs : List ℕ). xs ++ pieces_of (taken.piece ∷ rest.pieces) n) ((look_on due names l.moment h).bytes n);
     }
 
 pub files_by_tries : FilesGoByTries
 files_by_tries names m c opened last lines is handed =
     let first : Try = record { moment = m; file = Some opened.current } in
-    let try = try_at names m is.pruned in
+    let c_left = (pruned names no_faults c).1 in
+    let try = try_at names m c_left in
     let same : opened.contents ≡ try.1 = cc (is.left) in
-    let within = subst (λ (x : Contents). opened.current.index < length x.files) (sym same) (tried_within try opened.current (in_try names.latest _ is.pruned) is.answered) in
+    let within = subst (λ (x : Contents). opened.current.index < length x.files) (sym same) (tried_within try opened.current (try_on names.latest (name_at names m) c_left).1 is.answered) in
     let gone = gone_by names first [] opened last lines (record { until = is.until; rises = refl; file = refl; within = within }) handed in
     (gone.tries, gone.pieces, gone.goes, gone.current, gone.bytes)

@@ -1,77 +1,27 @@
 -- From one state a line has one answer and one end, where no memory is refused.
-use Rattle.std.proofs.Common.{◌≡◌, ℕ, ℤ, suc, ◌+◌, ◌-◌, ◌<◌, ◌≤◌, Bool, true, false, List, [], ◌∷◌, length, take, inl, inr, refl, ap, subst, sym, ◌∙◌, arith, Option, Some, None, Result, Ok, Err}
+use Rattle.std.proofs.Common.{◌≡◌, ℕ, ℤ, suc, ◌+◌, ◌-◌, ◌<◌, ◌≤◌, Bool, false, List, length, take, inl, inr, refl, ap, subst, sym, ◌∙◌, arith, Option, Some, Result, Ok, Err}
 use Rattle.std.specs.Prelude.{◌⊎◌}
 use Rattle.std.proofs.Math.Path.{fun_ext}
 use Rattle.std.proofs.lemmas.Bool.{cases_lt}
-use Rattle.tracing_appender_dates.specs.Stamps.{stamp}
-use Rattle.tracing_appender_dates.proofs.Naming.{around_same}
-use Rattle.tracing_appender_dates.proofs.Stamping.{stamps_apart}
 use Rattle.tracing_appender_folders.specs.declared.moment.Moment.{Moment}
 use Rattle.tracing_appender_folders.specs.declared.fault.FileNumber.{FileNumber}
 use Rattle.tracing_appender_folders.specs.declared.fault.FolderFault.{FolderFault}
 use Rattle.tracing_appender_folders.specs.declared.fault.FolderError.{FolderError}
 use Rattle.tracing_appender_folders.specs.declared.fault.FolderError.TheVariants.{Fault, OutOfMemory}
-use Rattle.tracing_appender_folders.specs.Moments.{is_due}
-use Rattle.tracing_appender_folders.specs.Contents.{Contents, StoredFile, Answer, Outcome, Done, Refuses, Short, Listed, appended, on_file, taken, names_listed}
+use Rattle.tracing_appender_folders.specs.Contents.{Contents, StoredFile, Outcome, Done, Refuses, Short, appended, on_file, taken}
 use Rattle.tracing_appender_rolling.specs.declared.faults.Faults.{Faults}
 use Rattle.tracing_appender_rolling.specs.Names.{FileNames}
 use Rattle.tracing_appender_rolling.specs.Faults.{after_write}
-use Rattle.tracing_appender_rolling.specs.Retention.{PlainCandidate, Tells, IsCandidates, asked_prefix, made_of, with_candidate}
-use Rattle.tracing_appender_rolling.specs.Pruning.{PrunedAfter, PrunedBy, doomed, removed_all}
-use Rattle.tracing_appender_rolling.specs.Looks.{Held, IsHeld, LookedTo, tried, try_at, end_at}
-use Rattle.tracing_appender_rolling.specs.Writes.{Left, for_file, taken_by, Takes, FailsWith, WroteAll, WroteSome, Wrote, WritesAll}
+use Rattle.tracing_appender_rolling.specs.Looks.{Held, look_at}
+use Rattle.tracing_appender_rolling.specs.Writes.{Left, for_file, taken_by, Takes, FailsWith, WroteAll, WroteSome, Wrote}
 use Rattle.tracing_appender_rolling.specs.Handing.{HandedOver, HandsTo, LinesHaveOneEnd, is_starved}
 
--- a name tells one date, and a listing has one list of candidates
-tells_once : (names : FileNames) (name : List ℕ) (a b : Option ℤ) → Tells names name a → Tells names name b → a ≡ b
-tells_once names name (Some s) (Some t) x y =
-    let stamps = around_same names.prefix names.suffix (stamp names.kind s) (stamp names.kind t) (sym x.some.2 ∙ y.some.2) in
-    ap Some (sym x.some.1 ∙ stamps_apart names.kind s t x.some.0 y.some.0 stamps ∙ y.some.1)
-tells_once names name (Some s) None x y = absurd (y.none s x.some.0 x.some.2)
-tells_once names name None (Some t) x y = absurd (x.none t y.some.0 y.some.2)
-tells_once names name None None x y = refl
-
-candidates_once : (names : FileNames) (ls : List Listed) (cs ds : List PlainCandidate) → IsCandidates names ls cs → IsCandidates names ls ds → cs ≡ ds
-candidates_once names [] cs ds one two = one ∙ sym two
-candidates_once names (l ∷ ls) cs ds (date, rest, tells, more, is) (other, others, told, again, so) =
-    is
-    ∙ ap (λ (d : Option ℤ). with_candidate l.name (made_of names l d) rest) (tells_once names l.name date other tells told)
-    ∙ ap (with_candidate l.name (made_of names l other)) (candidates_once names ls rest others more again)
-    ∙ sym so
-
--- retention
-pair_same : (l k : Faults) (d e : Contents) → l ≡ k → d ≡ e → ◌≡◌ {A = Faults × Contents} (l, d) (k, e)
-pair_same l k d e counts left = ap (λ (x : Faults). (x, d)) counts ∙ ap (λ (x : Contents). (k, x)) left
-
-module _ (names : FileNames) (f l k : Faults) (d e : Contents) where
-  after_once : (limit : ℕ) (a : Answer (List Listed)) → PrunedAfter names limit f a l d → PrunedAfter names limit f a k e → ◌≡◌ {A = Faults × Contents} (l, d) (k, e)
-  after_once limit (Ok listing, c) (cs, are, left) (ds, too, also) =
-      sym left ∙ ap (λ (xs : List PlainCandidate). removed_all (doomed limit xs) (f, c)) (candidates_once names listing cs ds are too) ∙ also
-  after_once limit (Err (Fault fault), c) (counts, left) (also, again) = pair_same l k d e (counts ∙ sym also) (left ∙ sym again)
-  after_once limit (Err OutOfMemory, c) none also = absurd none
-
-  pruned_once : (limit : Option ℕ) (c : Contents) → PrunedBy limit names f c l d → PrunedBy limit names f c k e → ◌≡◌ {A = Faults × Contents} (l, d) (k, e)
-  pruned_once None c (counts, left) (also, again) = pair_same l k d e (counts ∙ sym also) (left ∙ sym again)
-  pruned_once (Some limit) c one two = after_once limit (names_listed c (asked_prefix names)) one two
-
--- a look
 held_same : (a b : Held) → a.boundary ≡ b.boundary → a.current ≡ b.current → a.faults ≡ b.faults → a.contents ≡ b.contents → a ≡ b
 held_same a b until file counts left =
     ap (λ (x : Option ℤ). record { boundary = x; current = a.current; faults = a.faults; contents = a.contents }) until
     ∙ ap (λ (x : FileNumber). record { boundary = b.boundary; current = x; faults = a.faults; contents = a.contents }) file
     ∙ ap (λ (x : Faults). record { boundary = b.boundary; current = b.current; faults = x; contents = a.contents }) counts
     ∙ ap (λ (x : Contents). record { boundary = b.boundary; current = b.current; faults = b.faults; contents = x }) left
-
-held_is : (seen h : Held) → IsHeld (Some seen.contents) seen.boundary seen.current seen.faults h → seen ≡ h
-held_is seen h is = let left : seen.contents ≡ h.contents = cc (is.folder) in held_same seen h is.until is.open_file is.counts left
-
-looked_once : (b : Bool) (names : FileNames) (m : Moment) (h one two : Held) → LookedTo b names m h one.boundary one.current one.faults (Some one.contents) → LookedTo b names m h two.boundary two.current two.faults (Some two.contents) → one ≡ two
-looked_once false names m h one two x y = held_is one h x ∙ sym (held_is two h y)
-looked_once true names m h one two x y =
-    let after : Faults × Contents → Held = λ p. tried (record { boundary = end_at names m; current = h.current; faults = p.0; contents = p.1 }) (try_at names m p.1) in
-    held_is one (after (x.counted, x.pruned)) x.held
-    ∙ ap after (pruned_once names h.faults x.counted y.counted x.pruned y.pruned names.limit h.contents x.retention y.retention)
-    ∙ sym (held_is two (after (y.counted, y.pruned)) y.held)
 
 takes_none : (o : Outcome) → taken o 0 ≡ 0
 takes_none Done = refl
@@ -159,17 +109,14 @@ wrote_once c file bytes (Err OutOfMemory) s p q fed too x y = cc
 
 -- a line
 module _ (names : FileNames) (m : Moment) (h one two : Held) (bytes : List ℕ) (r s : Result (Unit {0}) FolderError) (fed : is_starved r ≡ false) (too : is_starved s ≡ false) where
-  handed_once : HandedOver names m h bytes r one.boundary one.current one.faults (Some one.contents) → HandedOver names m h bytes s two.boundary two.current two.faults (Some two.contents) → (r ≡ s) × (one ≡ two)
+  handed_once : HandedOver (look_at names m h) bytes r one.boundary one.current one.faults (Some one.contents) → HandedOver (look_at names m h) bytes s two.boundary two.current two.faults (Some two.contents) → (r ≡ s) × (one ≡ two)
   handed_once x y =
-      let seen = looked_once (is_due h.boundary m.seconds) names m h x.seen y.seen x.looked y.looked in
-      let wrote = wrote_once y.seen.contents y.seen.current bytes r s (Some one.contents) (Some two.contents) fed too (subst (λ (k : Held). WritesAll (Some k.contents) k.current bytes r (Some one.contents)) seen x.writes) y.writes in
-      let left : one.contents ≡ two.contents = cc (wrote.1) in (
-        wrote.0,
-        held_same one two (x.boundary_same ∙ ap (λ (k : Held). k.boundary) seen ∙ sym y.boundary_same) (x.current_same ∙ ap (λ (k : Held). k.current) seen ∙ sym y.current_same)
-            (x.counted ∙ ap (λ (k : Held). after_write k.faults r) seen ∙ ap (after_write y.seen.faults) wrote.0 ∙ sym y.counted) left,
-      )
+      let seen = look_at names m h in
+      let wrote = wrote_once seen.contents seen.current bytes r s (Some one.contents) (Some two.contents) fed too x.writes y.writes in
+      let left : one.contents ≡ two.contents = cc (wrote.1) in
+      (wrote.0, held_same one two (x.boundary_same ∙ sym y.boundary_same) (x.current_same ∙ sym y.current_same) (x.counted ∙ ap (after_write seen.faults) wrote.0 ∙ sym y.counted) left)
 
-over_of : (names : FileNames) (m : Moment) (h : Held) (bytes : List ℕ) (r : Result (Unit {0}) FolderError) (b : Option ℤ) (f : FileNumber) (l : Faults) (after : Option Contents) → is_starved r ≡ false → HandsTo names m h bytes r b f l after → HandedOver names m h bytes r b f l after
+over_of : (names : FileNames) (m : Moment) (h : Held) (bytes : List ℕ) (r : Result (Unit {0}) FolderError) (b : Option ℤ) (f : FileNumber) (l : Faults) (after : Option Contents) → is_starved r ≡ false → HandsTo names m h bytes r b f l after → HandedOver (look_at names m h) bytes r b f l after
 over_of names m h bytes (Ok done) b f l after fed over = over
 over_of names m h bytes (Err (Fault fault)) b f l after fed over = over
 over_of names m h bytes (Err OutOfMemory) b f l after fed over = cc

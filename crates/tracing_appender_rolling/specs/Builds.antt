@@ -5,6 +5,7 @@ use Rattle.tracing_appender_folders.specs.declared.fault.FolderError.{FolderErro
 use Rattle.tracing_appender_folders.specs.declared.fault.FolderError.TheVariants.{Fault}
 use Rattle.tracing_appender_folders.specs.declared.fault.FolderError.TheVariants as errors
 use Rattle.tracing_appender_rolling.specs.declared.init.InitContext.{InitContext}
+use Rattle.tracing_appender_rolling.specs.declared.init.InitError.{InitError}
 use Rattle.tracing_appender_rolling.specs.declared.build.BuildError.{BuildError}
 use Rattle.tracing_appender_rolling.specs.declared.build.BuildError.TheVariants.{BadName, BadLinkName, Init, OutOfMemory}
 use Rattle.tracing_appender_rolling.specs.declared.build.BuildRefusal.{BuildRefusal}
@@ -12,39 +13,41 @@ use Rattle.tracing_appender_rolling.specs.declared.appender.RollingFileAppender.
 use Rattle.tracing_appender_rolling.specs.Names.{FileNames, is_bad_name, HasBadLink, HasGoodLink}
 use Rattle.tracing_appender_rolling.specs.Builders.{builder_names}
 use Rattle.tracing_appender_folders.specs.Contents.{Contents}
-use Rattle.tracing_appender_rolling.specs.Remaining.{MayOpenSink, OpensLeft}
+use Rattle.tracing_appender_rolling.specs.Remaining.{KeepsEveryFile, MayOpen, HandsBack, OpensSink}
 use Rattle.tracing_appender_rolling.specs.declared.faults.Faults.{Faults}
 use Rattle.tracing_appender_rolling.specs.Faults.{no_faults}
 use Rattle.tracing_appender_rolling.specs.Telling.{DoesNotFall, Rises, CountsRetention}
 use Rattle.tracing_appender_rolling.specs.Looks.{Starved}
-use Rattle.tracing_appender_rolling.specs.Appenders.{AgreesSink, IsOpened, FailedAt, MayOpen, HandsBack, fresh_sink}
+use Rattle.tracing_appender_rolling.specs.Appenders.{IsOpened, FailedAt}
 
 abbrev pub build_error : InitContext → FolderError → BuildError
 build_error context (Fault fault) = Init (record { context = context; source = fault })
 build_error context errors.OutOfMemory = OutOfMemory
 
--- names are good, the appender stands where retention and the try at the moment left the folder, and it keeps its sink where the folder allows that,
--- with retention or a link too
+-- names are good, the appender stands where retention and the try at the moment left the folder, and it keeps its sink where the folder allows that
 pub record IsBuilt {D : Type 0} (contents : D → Option Contents) (failed : D → ℕ) (names : FileNames) (folder : D) (m : Moment) (a : RollingFileAppender D) : Type 0 where
   pub good_name : is_bad_name names ≡ false
   pub good_link : HasGoodLink names
   pub names_same : builder_names a.builder ≡ names
-  pub agrees : MayOpen (contents folder) names → AgreesSink contents a (fresh_sink names m (contents folder))
   pub opened : (c : Contents) → contents folder ≡ Some c → IsOpened contents names m c a
-  pub left : (c : Contents) → contents folder ≡ Some c → MayOpenSink c names → OpensLeft contents names m c a
+  pub sink : (c : Contents) → contents folder ≡ Some c → MayOpen c names → OpensSink contents names m c a
   pub counted : CountsRetention (failed folder) no_faults a.faults (failed a.folder)
 
 -- there was no memory: what the folder has then, which is the same bytes under each name where it refuses nothing and the sink keeps all files
 pub record IsStarved {D : Type 0} (contents : D → Option Contents) (names : FileNames) (folder : D) (m : Moment) (back : D) : Type 0 where
   pub left : (c : Contents) → contents folder ≡ Some c → (counted : Faults) × Starved names m no_faults c counted (contents back)
-  pub handed_back : (c : Contents) → contents folder ≡ Some c → MayOpen (Some c) names → HandsBack c names (contents back)
+  pub handed_back : (c : Contents) → contents folder ≡ Some c → MayOpen c names → KeepsEveryFile names → HandsBack c names (contents back)
 
--- bad names are told before the folder is asked; a fault is that of the try
+-- a fault is that of the try, which fails over no folder that refuses nothing
+pub record IsFailed {D : Type 0} (contents : D → Option Contents) (names : FileNames) (folder : D) (m : Moment) (e : InitError) (back : D) : Type 0 where
+  pub failed : (c : Contents) → contents folder ≡ Some c → FailedAt names m c e.context (Fault e.source) (contents back)
+  pub refused : (c : Contents) → contents folder ≡ Some c → MayOpen c names → ⊥
+
+-- bad names are told before the folder is asked
 abbrev pub Explains : {D : Type 0} → (D → Option Contents) → FileNames → D → Moment → BuildError → D → Type 0
 Explains contents names folder m BadName back = (is_bad_name names ≡ true) × (back ≡ folder)
 Explains contents names folder m BadLinkName back = (is_bad_name names ≡ false) × HasBadLink names × (back ≡ folder)
-Explains contents names folder m (Init e) back =
-    (is_bad_name names ≡ false) × HasGoodLink names × ((c : Contents) → contents folder ≡ Some c → FailedAt names m c e.context (Fault e.source) (contents back))
+Explains contents names folder m (Init e) back = (is_bad_name names ≡ false) × HasGoodLink names × IsFailed contents names folder m e back
 Explains contents names folder m OutOfMemory back = (is_bad_name names ≡ false) × HasGoodLink names × IsStarved contents names folder m back
 
 -- a fault is told only where the folder's count rose, and names are told of a folder that was asked nothing

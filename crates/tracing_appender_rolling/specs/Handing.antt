@@ -1,24 +1,19 @@
 -- A line that is handed over at a moment: a look, then writes.
-use Rattle.std.specs.Prelude.{◌≡◌, ℕ, ℤ, Bool, true, false, List, [], ◌⊎◌, Option, Some, Result, Ok, Err}
+use Rattle.std.specs.Prelude.{◌≡◌, ℕ, ℤ, Bool, true, false, List, ◌⊎◌, Option, Some, Result, Ok, Err}
 use Rattle.tracing_appender_folders.specs.declared.moment.Moment.{Moment}
 use Rattle.tracing_appender_rolling.specs.declared.faults.Faults.{Faults}
 use Rattle.tracing_appender_folders.specs.declared.fault.FileNumber.{FileNumber}
 use Rattle.tracing_appender_folders.specs.declared.fault.FolderError.{FolderError}
 use Rattle.tracing_appender_folders.specs.declared.fault.FolderError.TheVariants.{Fault, OutOfMemory}
 use Rattle.tracing_appender_rolling.specs.declared.appender.RollingFileAppender.{RollingFileAppender}
-use Rattle.tracing_appender_folders.specs.Moments.{is_due}
 use Rattle.tracing_appender_rolling.specs.Names.{FileNames}
 use Rattle.tracing_appender_folders.specs.Contents.{Contents, called, written}
 use Rattle.tracing_appender_rolling.specs.Faults.{after_write, unit_of}
-use Rattle.tracing_appender_rolling.specs.Looks.{Held, LookedTo, LookMissed}
+use Rattle.tracing_appender_rolling.specs.Looks.{Held, IsHeld, look_at, LookMissed}
 use Rattle.tracing_appender_rolling.specs.Writes.{WritesAll}
-use Rattle.tracing_appender_rolling.specs.Sinks.{PlainSink, with_handed}
-use Rattle.tracing_appender_rolling.specs.Appenders.{AgreesSink, MissedAt}
 
--- a look led there, and then writes answered so and left that
-pub record HandedOver (names : FileNames) (m : Moment) (h : Held) (bytes : List ℕ) (result : Result (Unit {0}) FolderError) (boundary : Option ℤ) (current : FileNumber) (faults : Faults) (after : Option Contents) : Type 0 where
-  pub seen : Held
-  pub looked : LookedTo (is_due h.boundary m.seconds) names m h seen.boundary seen.current seen.faults (Some seen.contents)
+-- behind a look that led there, writes answered so and left that
+pub record HandedOver (seen : Held) (bytes : List ℕ) (result : Result (Unit {0}) FolderError) (boundary : Option ℤ) (current : FileNumber) (faults : Faults) (after : Option Contents) : Type 0 where
   pub boundary_same : boundary ≡ seen.boundary
   pub current_same : current ≡ seen.current
   pub counted : faults ≡ after_write seen.faults result
@@ -26,10 +21,10 @@ pub record HandedOver (names : FileNames) (m : Moment) (h : Held) (bytes : List 
 
 -- where there was no memory the look found none, or a write behind it
 abbrev pub HandsTo : FileNames → Moment → Held → List ℕ → Result (Unit {0}) FolderError → Option ℤ → FileNumber → Faults → Option Contents → Type 0
-HandsTo names m h bytes (Ok done) boundary current faults after = HandedOver names m h bytes (Ok done) boundary current faults after
-HandsTo names m h bytes (Err (Fault fault)) boundary current faults after = HandedOver names m h bytes (Err (Fault fault)) boundary current faults after
+HandsTo names m h bytes (Ok done) boundary current faults after = HandedOver (look_at names m h) bytes (Ok done) boundary current faults after
+HandsTo names m h bytes (Err (Fault fault)) boundary current faults after = HandedOver (look_at names m h) bytes (Err (Fault fault)) boundary current faults after
 HandsTo names m h bytes (Err OutOfMemory) boundary current faults after =
-    LookMissed names m h boundary current faults after ⊎ HandedOver names m h bytes (Err OutOfMemory) boundary current faults after
+    LookMissed names m h boundary current faults after ⊎ HandedOver (look_at names m h) bytes (Err OutOfMemory) boundary current faults after
 
 abbrev pub HandsLine : {D : Type 0} → (D → Option Contents) → FileNames → Moment → Held → List ℕ → Result (Unit {0}) FolderError → RollingFileAppender D → Type 0
 HandsLine contents names m h bytes result a = HandsTo names m h bytes result a.boundary a.current a.faults (contents a.folder)
@@ -46,31 +41,20 @@ LinesHaveOneEnd = (names : FileNames) (m : Moment) (h one two : Held) (bytes : L
     HandsTo names m h bytes r one.boundary one.current one.faults (Some one.contents) → HandsTo names m h bytes s two.boundary two.current two.faults (Some two.contents) →
     (r ≡ s) × (one ≡ two)
 
--- but for the end of the period, which was this, the sink is as it was; or it has a line without bytes more
-abbrev pub Misses : {D : Type 0} → (D → Option Contents) → Option ℤ → PlainSink → Moment → RollingFileAppender D → Type 0
-Misses contents boundary s m a = MissedAt contents boundary s m a ⊎ AgreesSink contents a (with_handed s (record { line = []; moment = m }))
-
--- a look led there, and then one write of the folder answered so and left that
-pub record WrittenOnce (names : FileNames) (m : Moment) (h : Held) (bytes : List ℕ) (result : Result ℕ FolderError) (boundary : Option ℤ) (current : FileNumber) (faults : Faults) (after : Option Contents) : Type 0 where
-  pub seen : Held
-  pub looked : LookedTo (is_due h.boundary m.seconds) names m h seen.boundary seen.current seen.faults (Some seen.contents)
+-- behind a look that led there, one write of the folder answered so and left that
+pub record WrittenOnce (seen : Held) (bytes : List ℕ) (result : Result ℕ FolderError) (boundary : Option ℤ) (current : FileNumber) (faults : Faults) (after : Option Contents) : Type 0 where
   pub boundary_same : boundary ≡ seen.boundary
   pub current_same : current ≡ seen.current
   pub counted : faults ≡ after_write seen.faults (unit_of result)
   pub answered : (written seen.contents seen.current bytes).0 ≡ result
   pub left : after ≡ Some (written seen.contents seen.current bytes).1
 
--- a look led there, and then the write found no memory
-pub record WriteMissed (names : FileNames) (m : Moment) (h : Held) (boundary : Option ℤ) (current : FileNumber) (faults : Faults) (after : Option Contents) : Type 0 where
-  pub seen : Held
-  pub looked : LookedTo (is_due h.boundary m.seconds) names m h seen.boundary seen.current seen.faults (Some seen.contents)
-  pub boundary_same : boundary ≡ seen.boundary
-  pub current_same : current ≡ seen.current
-  pub counted : faults ≡ seen.faults
-  pub left : after ≡ Some (called seen.contents)
+-- or it found no memory
+abbrev pub WriteMissed : Held → Option ℤ → FileNumber → Faults → Option Contents → Type 0
+WriteMissed seen boundary current faults after = IsHeld after boundary current faults (record seen { contents = called seen.contents })
 
 abbrev pub WritesOnce : {D : Type 0} → (D → Option Contents) → FileNames → Moment → Held → List ℕ → Result ℕ FolderError → RollingFileAppender D → Type 0
-WritesOnce contents names m h bytes (Ok n) a = WrittenOnce names m h bytes (Ok n) a.boundary a.current a.faults (contents a.folder)
-WritesOnce contents names m h bytes (Err (Fault fault)) a = WrittenOnce names m h bytes (Err (Fault fault)) a.boundary a.current a.faults (contents a.folder)
+WritesOnce contents names m h bytes (Ok n) a = WrittenOnce (look_at names m h) bytes (Ok n) a.boundary a.current a.faults (contents a.folder)
+WritesOnce contents names m h bytes (Err (Fault fault)) a = WrittenOnce (look_at names m h) bytes (Err (Fault fault)) a.boundary a.current a.faults (contents a.folder)
 WritesOnce contents names m h bytes (Err OutOfMemory) a =
-    LookMissed names m h a.boundary a.current a.faults (contents a.folder) ⊎ WriteMissed names m h a.boundary a.current a.faults (contents a.folder)
+    LookMissed names m h a.boundary a.current a.faults (contents a.folder) ⊎ WriteMissed (look_at names m h) a.boundary a.current a.faults (contents a.folder)

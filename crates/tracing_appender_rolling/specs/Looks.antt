@@ -11,7 +11,7 @@ use Rattle.tracing_appender_folders.specs.Moments.{period_at, end_of, is_due}
 use Rattle.tracing_appender_rolling.specs.Names.{FileNames, file_name}
 use Rattle.tracing_appender_folders.specs.Contents.{Contents, closed}
 use Rattle.tracing_appender_rolling.specs.Faults.{after_switch}
-use Rattle.tracing_appender_rolling.specs.Pruning.{Pruned, Unpruned}
+use Rattle.tracing_appender_rolling.specs.Pruning.{pruned, Unpruned}
 use Rattle.tracing_appender_rolling.specs.Tries.{Tried, MissedFile, opened_linked}
 
 -- an appender over a folder whose contents are known
@@ -56,23 +56,24 @@ abbrev pub tried : Held → Tried → Held
 tried h (Ok file, c) = record h { current = file; contents = (closed c h.current).1 }
 tried h (Err f, c) = failed_by h c f.error
 
--- Retention leaves a count of faults and contents; then the moment's period is tried, and is the last one that was.
-pub record SwitchedTo (names : FileNames) (m : Moment) (h : Held) (boundary : Option ℤ) (current : FileNumber) (faults : Faults) (after : Option Contents) : Type 0 where
-  pub counted : Faults
-  pub pruned : Contents
-  pub retention : Pruned names h.faults h.contents counted pruned
-  pub held : IsHeld after boundary current faults (tried (record { boundary = end_at names m; current = h.current; faults = counted; contents = pruned }) (try_at names m pruned))
+-- after retention the moment's period is tried, and is the last one that was
+abbrev pub after_pruning : FileNames → Moment → Held → Faults × Contents → Held
+after_pruning names m h at = tried (record { boundary = end_at names m; current = h.current; faults = at.0; contents = at.1 }) (try_at names m at.1)
 
--- from the boundary on the moment's period is tried, and before it nothing changes
-abbrev pub LookedTo : Bool → FileNames → Moment → Held → Option ℤ → FileNumber → Faults → Option Contents → Type 0
-LookedTo true names m h boundary current faults after = SwitchedTo names m h boundary current faults after
-LookedTo false names m h boundary current faults after = IsHeld after boundary current faults h
+abbrev pub switch_at : FileNames → Moment → Held → Held
+switch_at names m h = after_pruning names m h (pruned names h.faults h.contents)
+
+-- what a look leaves where memory is found: from the boundary on the moment's period is tried, and before it nothing changes
+abbrev pub look_if : Bool → FileNames → Moment → Held → Held
+look_if true names m h = switch_at names m h
+look_if false names m h = h
+
+abbrev pub look_at : FileNames → Moment → Held → Held
+look_at names m h = look_if (is_due h.boundary m.seconds) names m h
 
 -- retention came to its end, with its faults counted, and then the try found no memory
-pub record StarvedTry (names : FileNames) (m : Moment) (f : Faults) (c : Contents) (left : Faults) (after : Option Contents) : Type 0 where
-  pub pruned : Contents
-  pub retention : Pruned names f c left pruned
-  pub missed : MissedFile names.latest (name_at names m) pruned after
+abbrev pub StarvedTry : FileNames → Moment → Faults → Contents → Faults → Option Contents → Type 0
+StarvedTry names m f c left after = (left ≡ (pruned names f c).0) × MissedFile names.latest (name_at names m) (pruned names f c).1 after
 
 -- what is left where there was no memory: the name found none, and the folder wasn't asked; or retention, or the try
 abbrev pub Starved : FileNames → Moment → Faults → Contents → Faults → Option Contents → Type 0
@@ -80,7 +81,7 @@ Starved names m f c left after = ((left ≡ f) × (after ≡ Some c)) ⊎ (Unpru
 
 -- the switch left the one or the other
 abbrev pub SwitchedKnown : {E : Type 0} → FileNames → Moment → Held → Result (Unit {0}) E → Option ℤ → FileNumber → Faults → Option Contents → Type 0
-SwitchedKnown names m h (Ok done) boundary current faults after = SwitchedTo names m h boundary current faults after
+SwitchedKnown names m h (Ok done) boundary current faults after = IsHeld after boundary current faults (switch_at names m h)
 SwitchedKnown names m h (Err e) boundary current faults after = Starved names m h.faults h.contents faults after
 
 -- contents that aren't known stay so

@@ -1,5 +1,5 @@
 -- A sink's files by its list of tries, whatever the folder refuses: each file has the pieces of lines that were written while it was the current one.
-use Rattle.std.specs.Prelude.{◌≡◌, ℕ, ℤ, zero, suc, Bool, true, false, not, ◌&&◌, ◌==◌, int_le, if◌then◌else◌, List, [], ◌∷◌, ◌++◌, length, take, Option, Some, None, Result, Ok, Err}
+use Rattle.std.specs.Prelude.{◌≡◌, ℕ, zero, suc, Bool, true, false, not, ◌&&◌, ◌==◌, int_le, if◌then◌else◌, List, [], ◌∷◌, ◌++◌, length, take, Option, Some, None, Result, Ok, Err}
 use Rattle.tracing_appender_dates.specs.declared.period.PeriodKind.{PeriodKind}
 use Rattle.tracing_appender_folders.specs.declared.moment.Moment.{Moment}
 use Rattle.tracing_appender_folders.specs.declared.fault.FileNumber.{FileNumber}
@@ -8,9 +8,9 @@ use Rattle.tracing_appender_folders.specs.Moments.{period_at}
 use Rattle.tracing_appender_folders.specs.Contents.{Contents, StoredFile, appended, closed}
 use Rattle.tracing_appender_rolling.specs.declared.faults.Faults.{Faults}
 use Rattle.tracing_appender_rolling.specs.Names.{FileNames}
-use Rattle.tracing_appender_rolling.specs.Pruning.{Pruned}
+use Rattle.tracing_appender_rolling.specs.Pruning.{pruned}
 use Rattle.tracing_appender_rolling.specs.Tries.{Tried}
-use Rattle.tracing_appender_rolling.specs.Looks.{Held, try_at, end_at}
+use Rattle.tracing_appender_rolling.specs.Looks.{Held, try_at}
 use Rattle.tracing_appender_rolling.specs.Writes.{Left, Takes, for_file}
 use Rattle.tracing_appender_rolling.specs.Handing.{HandsTo, is_starved}
 use Rattle.tracing_appender_rolling.specs.Sinks.{Handed}
@@ -45,14 +45,11 @@ left_by (Some old) (Ok file, c) = (closed c old).1
 left_by None (Ok file, c) = c
 left_by old (Err f, c) = c
 
--- retention ran, whatever it counted, and then the moment's period was tried
+-- retention ran, whatever was counted before it, and then the moment's period was tried
 pub record TriedAt (names : FileNames) (m : Moment) (tries : List Try) (c : Contents) (after : List Try) (d : Contents) : Type 0 where
   pub counts : Faults
-  pub counted : Faults
-  pub pruned : Contents
-  pub retention : Pruned names counts c counted pruned
-  pub one_more : after ≡ record { moment = m; file = file_of (try_at names m pruned) } ∷ tries
-  pub left : d ≡ left_by (current_of tries) (try_at names m pruned)
+  pub one_more : after ≡ record { moment = m; file = file_of (try_at names m (pruned names counts c).1) } ∷ tries
+  pub left : d ≡ left_by (current_of tries) (try_at names m (pruned names counts c).1)
 
 -- a write whose period is later than that of every try before is tried, and no other is
 abbrev pub TriedIf : Bool → FileNames → Moment → List Try → Contents → List Try → Contents → Type 0

@@ -6,7 +6,7 @@ use Rattle.tracing_appender_folders.specs.declared.fault.FolderError.TheVariants
 use Rattle.tracing_appender_rolling.specs.Names.{FileNames}
 use Rattle.tracing_appender_folders.specs.Contents.{Contents, Answer, Listed, called, removed, names_listed}
 use Rattle.tracing_appender_rolling.specs.Faults.{after_retention}
-use Rattle.tracing_appender_rolling.specs.Retention.{PlainCandidate, IsCandidates, asked_prefix, goes}
+use Rattle.tracing_appender_rolling.specs.Retention.{PlainCandidate, candidates_in, asked_prefix, goes}
 
 -- the names of those candidates that pass a test
 abbrev pub names_by : (PlainCandidate → Bool) → List PlainCandidate → List (List ℕ)
@@ -53,23 +53,23 @@ RemovesDoomed limit cs f (Some c) (Ok done) left after = LeftAt (removed_all (do
 RemovesDoomed limit cs f (Some c) (Err e) left after = LeftAt (f, c) left after ⊎ Stops (doomed limit cs) f c left after
 
 -- a listing that was refused is counted, and nothing goes; after one that wasn't go the candidates that retention says
-abbrev pub PrunedAfter : FileNames → ℕ → Faults → Answer (List Listed) → Faults → Contents → Type 0
-PrunedAfter names limit f (Ok listing, c) left d =
-    (cs : List PlainCandidate) × IsCandidates names listing cs × (removed_all (doomed limit cs) (f, c) ≡ (left, d))
-PrunedAfter names limit f (Err (Fault fault), c) left d = (left ≡ after_retention f fault) × (d ≡ c)
-PrunedAfter names limit f (Err OutOfMemory, c) left d = ⊥
+abbrev pub pruned_after : FileNames → ℕ → Faults → Answer (List Listed) → Faults × Contents
+pruned_after names limit f (Ok listing, c) = removed_all (doomed limit (candidates_in names listing)) (f, c)
+pruned_after names limit f (Err (Fault fault), c) = (after_retention f fault, c)
+pruned_after names limit f (Err OutOfMemory, c) = (f, c)
 
 -- without a limit nothing is asked
-abbrev pub PrunedBy : Option ℕ → FileNames → Faults → Contents → Faults → Contents → Type 0
-PrunedBy None names f c left d = (left ≡ f) × (d ≡ c)
-PrunedBy (Some limit) names f c left d = PrunedAfter names limit f (names_listed c (asked_prefix names)) left d
+abbrev pub pruned_by : Option ℕ → FileNames → Faults → Contents → Faults × Contents
+pruned_by None names f c = (f, c)
+pruned_by (Some limit) names f c = pruned_after names limit f (names_listed c (asked_prefix names))
 
-abbrev pub Pruned : FileNames → Faults → Contents → Faults → Contents → Type 0
-Pruned names f c left d = PrunedBy names.limit names f c left d
+-- the count of faults and the contents that retention leaves where memory is found
+abbrev pub pruned : FileNames → Faults → Contents → Faults × Contents
+pruned names f c = pruned_by names.limit names f c
 
 -- what is left where there was no memory: without a limit nothing wants any; with one the listing found none, or what it is read with, or one of the removals
 abbrev pub UnprunedAfter : FileNames → ℕ → Faults → Answer (List Listed) → Faults → Option Contents → Type 0
-UnprunedAfter names limit f (Ok listing, c) left after = (cs : List PlainCandidate) × IsCandidates names listing cs × Stops (doomed limit cs) f c left after
+UnprunedAfter names limit f (Ok listing, c) left after = Stops (doomed limit (candidates_in names listing)) f c left after
 UnprunedAfter names limit f (Err e, c) left after = ⊥
 
 abbrev pub UnprunedBy : Option ℕ → FileNames → Faults → Contents → Faults → Option Contents → Type 0
@@ -81,5 +81,5 @@ Unpruned names f c left after = UnprunedBy names.limit names f c left after
 
 abbrev pub Prunes : {E : Type 0} → FileNames → Faults → Option Contents → Result (Unit {0}) E → Faults → Option Contents → Type 0
 Prunes names f None result left after = after ≡ None
-Prunes names f (Some c) (Ok done) left after = (d : Contents) × Pruned names f c left d × (after ≡ Some d)
+Prunes names f (Some c) (Ok done) left after = LeftAt (pruned names f c) left after
 Prunes names f (Some c) (Err e) left after = Unpruned names f c left after

@@ -1,10 +1,9 @@
 -- Which files retention may remove, and which of them go.
-use Rattle.std.specs.Prelude.{◌≡◌, ◌≢◌, ℕ, suc, ◌+◌, ◌-◌, ℤ, Bool, true, not, ◌&&◌, ◌||◌, nat_lt, if◌then◌else◌, List, [], ◌∷◌, ◌++◌, length, take, drop, is_some, Option, Some, None, IfSome, IfNone}
+use Rattle.std.specs.Prelude.{◌≡◌, ℕ, zero, suc, ◌+◌, ◌-◌, ℤ, pos, negsuc, ◌+ℤ◌, Bool, true, not, ◌&&◌, ◌||◌, nat_lt, if◌then◌else◌, List, [], ◌∷◌, length, take, drop, is_some, Option, Some, None}
 use Rattle.std.specs.Str.{bytes_eq}
 use Rattle.std.specs.Cmp.Lexicographic.{slice_cmp}
 use Rattle.std.specs.Ordering.{nat_cmp, is_lt}
-use Rattle.tracing_appender_dates.specs.Days.{is_date, day_at}
-use Rattle.tracing_appender_dates.specs.Stamps.{stamp, stamped}
+use Rattle.tracing_appender_dates.specs.Stamps.{stamp}
 use Rattle.tracing_appender_dates.specs.Names.{around}
 use Rattle.tracing_appender_folders.specs.declared.moment.Moment.{Moment}
 use Rattle.tracing_appender_rolling.specs.declared.retention.Candidate.{Candidate}
@@ -28,10 +27,14 @@ ends (Some suffix) name = bytes_eq suffix (drop (length name - length suffix) na
 abbrev pub asked_prefix : FileNames → List ℕ
 asked_prefix names = text_or_empty names.prefix
 
--- the second that the date in a name tells, where it is prefix, date and suffix with a point between two
-pub record Tells (names : FileNames) (name : List ℕ) (date : Option ℤ) : Type 0 where
-  pub some : IfSome date (λ s. (is_date (day_at s) ≡ true) × (stamped names.kind s ≡ s) × (name ≡ around names.prefix (stamp names.kind s) names.suffix))
-  pub none : IfNone date ((s : ℤ) → is_date (day_at s) ≡ true → name ≢ around names.prefix (stamp names.kind s) names.suffix)
+-- the least second, from one on and among so many, whose stamp stands in the name between prefix and suffix, with a point between two
+abbrev pub dated_from : FileNames → List ℕ → ℕ → ℤ → Option ℤ
+dated_from names name zero s = None
+dated_from names name (suc n) s = if bytes_eq name (around names.prefix (stamp names.kind s) names.suffix) then Some s else dated_from names name n (s +ℤ pos 1)
+
+-- the second that the date in a name tells, where it has one: the least of the years 0 to 9999 with that stamp
+unfoldable pub date_in : FileNames → List ℕ → Option ℤ
+date_in names name = dated_from names name 315569520000 (negsuc 62167219199)
 
 -- the moment from which a file counts: that of its making, else its date
 abbrev pub counted_from : Option Moment → Option ℤ → Option Moment
@@ -58,15 +61,14 @@ abbrev pub with_candidate : List ℕ → Option Moment → List PlainCandidate �
 with_candidate name None cs = cs
 with_candidate name (Some made) cs = record { name = name; made = made } ∷ cs
 
--- one more entry of a listing, which is a candidate or not
-abbrev pub IsAdded : FileNames → Listed → List PlainCandidate → List PlainCandidate → Type 0
-IsAdded names l old new = (date : Option ℤ) × Tells names l.name date × (new ≡ old ++ with_candidate l.name (made_of names l date) [])
+-- an entry of a listing before others, as a candidate or not at all
+abbrev pub candidate_first : FileNames → Listed → List PlainCandidate → List PlainCandidate
+candidate_first names l cs = with_candidate l.name (made_of names l (date_in names l.name)) cs
 
 -- the candidates of a listing, in its order
-abbrev pub IsCandidates : FileNames → List Listed → List PlainCandidate → Type 0
-IsCandidates names [] cs = cs ≡ []
-IsCandidates names (l ∷ ls) cs =
-    (date : Option ℤ) × (rest : List PlainCandidate) × Tells names l.name date × IsCandidates names ls rest × (cs ≡ with_candidate l.name (made_of names l date) rest)
+abbrev pub candidates_in : FileNames → List Listed → List PlainCandidate
+candidates_in names [] = []
+candidates_in names (l ∷ ls) = candidate_first names l (candidates_in names ls)
 
 -- one counts from an earlier moment than the other, or from an equal one and has the smaller name in byte order
 abbrev pub is_before : PlainCandidate → PlainCandidate → Bool

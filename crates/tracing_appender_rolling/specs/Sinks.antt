@@ -1,11 +1,11 @@
 -- What is handed to a sink, and what its files hold.
-use Rattle.std.specs.Prelude.{◌≡◌, ℕ, ℤ, List, [], ◌∷◌, ◌++◌, Bool, true, ◌||◌, if◌then◌else◌, Option, Some, unwrap_or}
-use Rattle.std.specs.List.{filter, flat_map, list_any, AllByRecursion}
+use Rattle.std.specs.Prelude.{ℕ, ℤ, List, [], ◌∷◌, ◌++◌, Bool, ◌||◌, if◌then◌else◌, Option, Some, unwrap_or}
+use Rattle.std.specs.List.{filter, flat_map, list_any}
 use Rattle.std.specs.Ordering.{int_eq}
 use Rattle.std.specs.Str.{bytes_eq}
 use Rattle.tracing_appender_dates.specs.declared.period.PeriodKind.{PeriodKind}
 use Rattle.tracing_appender_folders.specs.declared.moment.Moment.{Moment}
-use Rattle.tracing_appender_folders.specs.Moments.{is_moment, latest_of, period_at}
+use Rattle.tracing_appender_folders.specs.Moments.{latest_of, period_at, end_of, is_due}
 use Rattle.tracing_appender_rolling.specs.Names.{FileNames, file_name}
 
 -- a handed line, with the moment at which it was handed over; a line that was looked at and then found no memory has no bytes
@@ -45,6 +45,14 @@ placed_lines s = placed s.opened s.handed
 abbrev pub period_in : PlainSink → Moment → ℤ
 period_in s m = period_at s.names.kind m
 
+-- the period of the latest moment seen
+abbrev pub running_period : PlainSink → ℤ
+running_period s = period_in s (running_moment s.opened s.handed)
+
+-- a moment lies past it
+abbrev pub is_past : PlainSink → Moment → Bool
+is_past s m = is_due (end_of s.names.kind (running_period s)) m.seconds
+
 -- the name of a period's file
 abbrev pub period_name : PlainSink → ℤ → List ℕ
 period_name s period = file_name s.names s.opened.seconds period
@@ -73,9 +81,3 @@ period_text s period found =
     if int_eq (period_in s s.opened) period || list_any (is_in s.names.kind period) (placed_lines s)
     then Some (unwrap_or found [] ++ flat_map (λ (x : Placed). x.line) (filter (is_in s.names.kind period) (placed_lines s)))
     else found
-
--- the file of each moment's period holds what was found in it and then that period's lines, where all moments are in range
-abbrev pub FilesByPeriod : Type 0
-FilesByPeriod = (s : PlainSink) (m : Moment) → is_moment m ≡ true → is_moment s.opened ≡ true →
-    AllByRecursion (λ (h : Handed). is_moment h.moment ≡ true) s.handed →
-    file_text s (period_name s (period_in s m)) ≡ period_text s (period_in s m) (s.found (period_name s (period_in s m)))

@@ -1,5 +1,5 @@
 -- When a fault is told or counted: only where the folder's count rose, or a write of some bytes took none.
-use Rattle.std.specs.Prelude.{◌≡◌, ℕ, ◌+◌, ◌-◌, ◌^◌, ◌<◌, ◌≤◌, min, ◌⊎◌, Result, Ok, Err}
+use Rattle.std.specs.Prelude.{◌≡◌, ℕ, zero, suc, ◌+◌, ◌-◌, ◌^◌, ◌<◌, ◌≤◌, min, ◌⊎◌, Result, Ok, Err}
 use Rattle.tracing_appender_rolling.specs.declared.faults.Faults.{Faults}
 use Rattle.tracing_appender_folders.specs.declared.fault.FolderError.{FolderError}
 use Rattle.tracing_appender_folders.specs.declared.fault.FolderError.TheVariants.{Fault, OutOfMemory}
@@ -39,6 +39,15 @@ pub record CountsFaults (switches retentions n : ℕ) (old new : Faults) (m : �
 -- some listings and removals failed
 abbrev pub CountsRetention : ℕ → Faults → Faults → ℕ → Type 0
 CountsRetention n old new m = (retentions : ℕ) × CountsFaults 0 retentions n old new m
+
+-- a folder's count after so many faults more
+abbrev pub failed_more : ℕ → ℕ → ℕ
+failed_more zero n = n
+failed_more (suc k) n = failed_more k (min (n + 1) (2 ^ 64 - 1))
+
+-- the same where the folder told no other faults than these
+abbrev pub CountsOnly : ℕ → Faults → Faults → ℕ → Type 0
+CountsOnly n old new m = (retentions : ℕ) × CountsFaults 0 retentions n old new m × (m ≡ failed_more retentions n)
 
 -- an answer of one write of the folder
 abbrev pub ReportsCall : {T : Type 0} → ℕ → Result T FolderError → ℕ → Type 0

@@ -4,16 +4,15 @@ ghost use Rattle.std.specs.Prelude.{◌≡◌, ◌≤◌, List, [], Option, Some
 ghost use Rattle.std.specs.Option.{option_map};
 ghost use Rattle.tracing_appender_folders.specs.Moments.{is_moment, period_at, end_of, is_due};
 ghost use Rattle.tracing_appender_folders.specs.Contents.{Contents};
-ghost use Rattle.tracing_appender_rolling.specs.Names.{file_name};
+ghost use Rattle.tracing_appender_rolling.specs.Names.{HasGoodLink};
 ghost use Rattle.tracing_appender_rolling.specs.Builders.{builder_names};
-ghost use Rattle.tracing_appender_rolling.specs.Sinks.{PlainSink, with_handed};
 ghost use Rattle.tracing_appender_rolling.specs.Tries.{TriesFile};
 ghost use Rattle.tracing_appender_rolling.specs.Writes.{WritesAll};
 ghost use Rattle.tracing_appender_rolling.specs.Telling.{CountsRetention, ReportsAll, ReportsError, ReportsTry};
 ghost use Rattle.tracing_appender_rolling.specs.Faults.{no_faults};
 ghost use Rattle.tracing_appender_rolling.specs.Anywhere.{Rolls};
 ghost use Rattle.tracing_appender_rolling.specs.Appenders.{Begins};
-ghost use Rattle.tracing_appender_rolling.specs.Remaining.{MayOpenSink, OpensLeft};
+ghost use Rattle.tracing_appender_rolling.specs.Remaining.{MayOpen, OpensSink};
 
 use crate::builder::Builder;
 use crate::faults::Faults;
@@ -25,11 +24,11 @@ use tracing_appender_folders::{FileNumber, Folder, FolderError, FolderFault, Mom
 
 /// Why a file could not be opened, with what was handed in: the folder as the calls until then left it.
 #[derive(Drop)]
-pub struct OpenRefusal<D> {
-    pub context: InitContext,
-    pub error: FolderError,
-    pub builder: Builder,
-    pub folder: D,
+pub(crate) struct OpenRefusal<D> {
+    pub(crate) context: InitContext,
+    pub(crate) error: FolderError,
+    pub(crate) builder: Builder,
+    pub(crate) folder: D,
 }
 
 /// A file that was opened after retention, and what retention lost.
@@ -52,28 +51,24 @@ pub struct RollingFileAppender<D> {
 }
 
 impl<D: Folder> RollingFileAppender<D> {
-    ghost use Rattle.tracing_appender_rolling.specs.Appenders.{AgreesSink, Holds, LooksAt, MissesAt, MissedAt, IsOpened, FailedAt, MayOpen, HandsBack, fresh_sink};
+    ghost use Rattle.tracing_appender_rolling.specs.Appenders.{Holds, LooksAt, MissesAt, IsOpened, FailedAt};
     ghost use Rattle.tracing_appender_rolling.specs.Looks.{Held, Switches, end_at};
     ghost use Rattle.tracing_appender_rolling.specs.Anywhere.{RollsAt};
     ghost use Rattle.tracing_appender_rolling.specs.Faults.{after_write};
-    ghost use Rattle.tracing_appender_rolling.specs.Remaining.{PrunedSink, AgreesLeft, HandsLeft, with_line};
+    ghost use Rattle.tracing_appender_rolling.specs.Remaining.{PrunedSink, AgreesSink, RollsSink, WritesSink};
 
     /// Opens the file of the moment's period, after retention. Names are not looked at.
     ///
     /// # Errors
     ///
     /// The folder's fault, or `OutOfMemory`, with the builder and the folder.
-    pub fn open(
+    pub(crate) fn open(
         alloc: Global,
         builder: Builder,
         mut folder: D,
         moment: Moment,
     ) -> Result<Self, OpenRefusal<D>>
         requires { is_moment moment ≡ true }
-        ensures opens { MayOpen (D.contents folder) (builder_names builder) →
-            IfOk result (λ appender. AgreesSink D.contents appender
-            (fresh_sink (builder_names builder) moment (D.contents folder))) }
-        ensures faults { (builder_names builder).limit ≡ None → IfOk result (λ appender. appender.faults ≡ no_faults) }
         ensures names { IfOk result (λ appender. builder_names appender.builder ≡ builder_names builder) }
         // whatever the folder refuses
         ensures held { (c : Contents) → D.contents folder ≡ Some c →
@@ -81,15 +76,12 @@ impl<D: Folder> RollingFileAppender<D> {
         ensures failed { (c : Contents) → D.contents folder ≡ Some c →
             IfErr result (λ refusal. FailedAt (builder_names builder) moment c refusal.context refusal.error
             (D.contents refusal.folder)) }
-        // without a fault of the folder only want of memory is told
-        ensures known { (c : Contents) → D.contents folder ≡ Some c → MayOpen (Some c) (builder_names builder) →
-            IfErr result (λ refusal. (refusal.error ≡ FolderError.OutOfMemory) ×
-            HandsBack c (builder_names builder) (D.contents refusal.folder)) }
-        // over a folder that refuses nothing, with retention or a link too
-        ensures state { (c : Contents) → D.contents folder ≡ Some c → MayOpenSink c (builder_names builder) →
-            IfOk result (λ appender. OpensLeft D.contents (builder_names builder) moment c appender) }
-        ensures starved { (c : Contents) → D.contents folder ≡ Some c → MayOpenSink c (builder_names builder) →
-            IfErr result (λ refusal. refusal.error ≡ FolderError.OutOfMemory) }
+        // over a folder that refuses nothing
+        ensures state { (c : Contents) → D.contents folder ≡ Some c → HasGoodLink (builder_names builder) →
+            MayOpen c (builder_names builder) →
+            IfOk result (λ appender. OpensSink D.contents (builder_names builder) moment c appender) }
+        ensures starved { (c : Contents) → D.contents folder ≡ Some c → HasGoodLink (builder_names builder) →
+            MayOpen c (builder_names builder) → IfErr result (λ refusal. refusal.error ≡ FolderError.OutOfMemory) }
         ensures back { IfErr result (λ refusal. builder_names refusal.builder ≡ builder_names builder) }
         ensures counted { IfOk result (λ appender. CountsRetention (D.failed folder) no_faults appender.faults
             (D.failed appender.folder)) }
@@ -124,56 +116,18 @@ impl<D: Folder> RollingFileAppender<D> {
         }
     }
 
-    /// Looks at a moment as `write_all_at` does, for a caller that tells this from the write. Where there is no
-    /// memory the end of the period and the counts are as they were, so that the next line looks again.
-    ///
-    /// # Errors
-    ///
-    /// Want of memory; what retention removed until then is gone.
-    pub fn look(&mut self, moment: Moment) -> Result<(), AllocError>
-        requires { is_moment moment ≡ true }
-        ensures ok { OnOk result ((s : PlainSink) → AgreesSink D.contents self.old s →
-            AgreesSink D.contents self.new (with_handed s (record { line = []; moment = moment }))) }
-        ensures err { OnErr result ((s : PlainSink) → AgreesSink D.contents self.old s →
-            AgreesSink D.contents self.new s) }
-        ensures looked { (h : Held) → Holds D.contents self.old h →
-            OnOk result (LooksAt D.contents (builder_names self.old.builder) moment h self.new) }
-        ensures early { is_due self.old.boundary moment.seconds ≡ false → (result ≡ Ok tt) × (self.new ≡ self.old) }
-        ensures still { OnErr result (record self.new { folder = self.old.folder } ≡ self.old) }
-        // over a folder that refuses nothing, with retention or a link too
-        ensures state { OnOk result ((c : Contents) (p : PrunedSink) → D.contents self.old.folder ≡ Some c →
-            AgreesLeft D.contents self.old p → HandsLeft D.contents p [] moment c self.old self.new) }
-        ensures names { builder_names self.new.builder ≡ builder_names self.old.builder }
-    {
-        let boundary = self.boundary;
-        let faults = self.faults;
-        match self.roll(moment) {
-            Ok(()) => Ok(()),
-            Err(error) => {
-                self.boundary = boundary;
-                self.faults = faults;
-                Err(error)
-            }
-        }
-    }
-
     /// Looks at a moment before a line is written: from the end of the file's period on that end moves, retention
     /// runs, and the file of the moment's period is opened. A folder's fault keeps the old file until the moment's
     /// period ends, and is counted. Want of memory keeps it too, and is not counted.
     pub(crate) fn roll(&mut self, moment: Moment) -> Result<(), AllocError>
         requires { is_moment moment ≡ true }
-        ensures ok { OnOk result ((s : PlainSink) → AgreesSink D.contents self.old s →
-            AgreesSink D.contents self.new (with_handed s (record { line = []; moment = moment }))) }
-        ensures err { OnErr result ((s : PlainSink) → AgreesSink D.contents self.old s →
-            MissedAt D.contents self.old.boundary s moment self.new) }
         ensures looked { (h : Held) → Holds D.contents self.old h →
             OnOk result (LooksAt D.contents (builder_names self.old.builder) moment h self.new) }
         ensures missed { (h : Held) → Holds D.contents self.old h →
             OnErr result (MissesAt D.contents (builder_names self.old.builder) moment h self.new) }
-        ensures early { is_due self.old.boundary moment.seconds ≡ false → (result ≡ Ok tt) × (self.new ≡ self.old) }
-        // over a folder that refuses nothing, with retention or a link too
-        ensures state { OnOk result ((c : Contents) (p : PrunedSink) → D.contents self.old.folder ≡ Some c →
-            AgreesLeft D.contents self.old p → HandsLeft D.contents p [] moment c self.old self.new) }
+        // over a folder that refuses nothing
+        ensures state { (c : Contents) (p : PrunedSink) → D.contents self.old.folder ≡ Some c →
+            AgreesSink D.contents self.old p → RollsSink D.contents p moment c self.old result self.new }
         // over any folder
         ensures anywhere { RollsAt D.failed moment self.old self.new }
         ensures stays { OnErr result (self.new.current ≡ self.old.current) }
@@ -187,6 +141,9 @@ impl<D: Folder> RollingFileAppender<D> {
     }
 
     /// Moves the end of the period, runs retention and opens the file of the moment's period.
+    // Out of line: taken into the loop of a caller, its calendar arithmetic is moved in front of the test of the
+    // period, and each request pays for it, also one that has no line. That was measured.
+    #[inline(never)]
     fn refresh_writer(&mut self, moment: Moment) -> Result<(), AllocError>
         requires { is_moment moment ≡ true }
         ensures switched { Switches (builder_names self.old.builder) moment self.old.boundary self.old.current
@@ -225,24 +182,14 @@ impl<D: Folder> RollingFileAppender<D> {
     /// # Errors
     ///
     /// The fault, or want of memory, which is no fault.
-    pub fn push(&mut self, bytes: &[u8]) -> Result<(), FolderError>
-        ensures ok { OnOk result ((s : PlainSink) (m : Moment) →
-            AgreesSink D.contents self.old (with_handed s (record { line = []; moment = m })) →
-            AgreesSink D.contents self.new (with_handed s (record { line = bytes.now; moment = m }))) }
-        ensures err { OnErr result ((s : PlainSink) → AgreesSink D.contents self.old s →
-            AgreesSink D.contents self.new s) }
+    pub(crate) fn push(&mut self, bytes: &[u8]) -> Result<(), FolderError>
         ensures written { WritesAll (D.contents self.old.folder) self.old.current bytes.now result
             (D.contents self.new.folder) }
         ensures faults { self.new.faults ≡ after_write self.old.faults result }
         ensures still { self.new ≡ record self.old { folder = self.new.folder; faults = self.new.faults } }
-        ensures unfaulted { (c : Contents) (s : PlainSink) → D.contents self.old.folder ≡ Some c →
-            AgreesSink D.contents self.old s → (self.new.faults ≡ self.old.faults) ×
-            IfErr result (λ e. e ≡ FolderError.OutOfMemory) }
-        ensures state { OnOk result ((p : PrunedSink) (m : Moment) →
-            AgreesLeft D.contents self.old (with_line p [] m) →
-            AgreesLeft D.contents self.new (with_line p bytes.now m)) }
-        ensures starved { IfErr result (λ e. (p : PrunedSink) → AgreesLeft D.contents self.old p →
-            (e ≡ FolderError.OutOfMemory) × AgreesLeft D.contents self.new p) }
+        // over a folder that refuses nothing
+        ensures state { WritesSink (builder_names self.old.builder) self.old.boundary self.old.current
+            (λ done. bytes.now) result (D.contents self.old.folder) (D.contents self.new.folder) }
         ensures names { builder_names self.new.builder ≡ builder_names self.old.builder }
         ensures error { ReportsAll (D.failed self.old.folder) result (length bytes.now) (D.failed self.new.folder) }
     {
@@ -271,6 +218,13 @@ impl<D: Folder> RollingFileAppender<D> {
     {
         self.folder
     }
+
+    /// The builder and the folder, for whoever hands back what the appender was built of.
+    pub fn into_parts(self) -> (Builder, D)
+        ensures { result ≡ (self.builder, self.folder) }
+    {
+        (self.builder, self.folder)
+    }
 }
 
 /// The file of the moment's period, opened after retention.
@@ -282,7 +236,6 @@ fn open_first<D: Folder>(
 ) -> Result<Opened, InitFailure>
     requires { is_moment moment ≡ true }
     ensures begins { Begins (builder_names builder.now) moment (D.contents folder.old) result (D.contents folder.new) }
-    ensures faults { (builder_names builder.now).limit ≡ None → IfOk result (λ opened. opened.faults ≡ no_faults) }
     ensures counted { IfOk result (λ opened. CountsRetention (D.failed folder.old) no_faults opened.faults
         (D.failed folder.new)) }
     ensures error { ReportsTry (D.failed folder.old) result (D.failed folder.new) }

@@ -3,9 +3,8 @@
 ghost use Rattle.tracing_appender_rolling.specs.Handing.{LinesHaveOneEnd};
 ghost use Rattle.tracing_appender_rolling.specs.Looks.{LaterPeriodsAreDue};
 ghost use Rattle.tracing_appender_rolling.specs.Names.{NamesDiffer};
-ghost use Rattle.tracing_appender_rolling.specs.Sinks.{FilesByPeriod};
 ghost use Rattle.tracing_appender_rolling.specs.Reading.{LinesStandWhole, FilesReadInOrder, OwnFilesReadInOrder, RetentionSpares};
-ghost use Rattle.tracing_appender_rolling.specs.Remaining.{LeftByPeriod};
+ghost use Rattle.tracing_appender_rolling.specs.Remaining.{FilesByPeriod};
 ghost use Rattle.tracing_appender_rolling.specs.Pieces.{FilesGoByTries};
 
 /// Different periods have different file names.
@@ -18,7 +17,7 @@ pub fn later_periods_are_due()
     ensures { LaterPeriodsAreDue }
 {}
 
-/// Each period's file holds what was found in it and then that period's lines.
+/// Each period's file that retention left holds what its opening found and then that period's lines.
 pub fn files_by_period()
     ensures { FilesByPeriod }
 {}
@@ -43,12 +42,6 @@ pub fn files_read_in_order()
 /// Whatever a folder refuses, retention leaves the bytes of every file that it doesn't remove.
 pub fn retention_spares_others()
     ensures { RetentionSpares }
-{}
-
-/// Where files are removed or a link is kept, each period's file that retention left holds what its opening
-/// found and then that period's lines.
-pub fn left_files_by_period()
-    ensures { LeftByPeriod }
 {}
 
 /// Whatever a folder refuses, the files go by a list of tries: the building's, and one for each line whose period

@@ -12,15 +12,14 @@ mod opening;
 mod retention;
 mod rotation;
 
-pub use appender::{OpenRefusal, RollingFileAppender};
+pub use appender::RollingFileAppender;
 pub use build::{BuildError, BuildRefusal, daily, hourly, minutely, never, weekly};
 pub use builder::Builder;
 pub use faults::Faults;
 pub use init::{InitContext, InitError};
 pub use laws::{
     files_by_period, files_go_by_tries, files_read_in_order, later_periods_are_due,
-    left_files_by_period, lines_have_one_end, lines_stand_whole, names_differ,
-    retention_spares_others,
+    lines_have_one_end, lines_stand_whole, names_differ, retention_spares_others,
 };
 pub use rotation::Rotation;
 pub use tracing_appender_dates::{date_text, dates_count_days, names_rise, worked_dates};

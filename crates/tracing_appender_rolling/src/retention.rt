@@ -1,14 +1,15 @@
 //! Which files go where one more is to be opened.
 
-ghost use Rattle.std.specs.Prelude.{◌≡◌, ◌≤◌, [], ◌∷◌, None, Ok, IfOk, OnOk, OnErr, map, length, string_bytes};
+ghost use Rattle.std.specs.Prelude.{◌≡◌, ◌≤◌, [], ◌∷◌, ◌++◌, IfOk, OnOk, map, length, string_bytes};
 ghost use Rattle.std.specs.Option.{option_map};
 ghost use Rattle.std.specs.Ordering.{is_lt};
 ghost use Rattle.std.specs.List.Sorted.{IsPermutation, IsSortedBy};
 ghost use Rattle.tracing_appender_rolling.specs.Builders.{builder_names};
 ghost use Rattle.tracing_appender_folders.specs.Listings.{listed_of};
-ghost use Rattle.tracing_appender_rolling.specs.Retention.{Tells, made_of, begins, ends, is_before, goes_by, GoesBy, IsAdded, IsCandidates, candidate_of, asked_prefix};
+ghost use Rattle.tracing_appender_rolling.specs.Retention.{date_in, made_of, begins, ends, is_before, goes_by};
+ghost use Rattle.tracing_appender_rolling.specs.Retention.{GoesBy, candidate_first, candidates_in, candidate_of, asked_prefix};
 ghost use Rattle.tracing_appender_rolling.specs.Pruning.{Removes, RemovesDoomed, Prunes, names_by};
-ghost use Rattle.tracing_appender_rolling.specs.Telling.{CountsRetention};
+ghost use Rattle.tracing_appender_rolling.specs.Telling.{CountsOnly};
 
 use crate::builder::Builder;
 use crate::faults::Faults;
@@ -65,7 +66,7 @@ fn made_at(builder: &Builder, entry: &Entry, date: Option<i64>) -> Option<Moment
 
 /// The date in an entry's name.
 fn date_of(builder: &Builder, entry: &Entry) -> Option<i64>
-    ensures { Tells (builder_names builder.now) (listed_of entry.now).name result }
+    ensures { result ≡ date_in (builder_names builder.now) (listed_of entry.now).name }
 {
     let name = entry.name.as_bytes();
     read_name(builder.rotation.0, &builder.prefix, &builder.suffix, name)
@@ -77,8 +78,8 @@ fn add_candidate<'a>(
     all: &mut Vec<Candidate<'a>>,
     entry: &'a Entry,
 ) -> Result<(), AllocError>
-    ensures { OnOk result (IsAdded (builder_names builder.now) (listed_of entry.now) (map candidate_of all.old.items)
-        (map candidate_of all.new.items)) }
+    ensures { OnOk result (map candidate_of all.new.items ≡ map candidate_of all.old.items ++
+        candidate_first (builder_names builder.now) (listed_of entry.now) []) }
 {
     let date = date_of(builder, entry);
     if let Some(made) = made_at(builder, entry, date) {
@@ -94,8 +95,8 @@ fn candidates<'a>(
     builder: &Builder,
     entries: &'a [Entry],
 ) -> Result<Vec<Candidate<'a>>, AllocError>
-    ensures { IfOk result (λ all. IsCandidates (builder_names builder.now) (map listed_of entries.now)
-        (map candidate_of all.items)) }
+    ensures { IfOk result (λ all. map candidate_of all.items ≡
+        candidates_in (builder_names builder.now) (map listed_of entries.now)) }
 {
     let mut all = Vec::new(alloc);
     for entry in entries {
@@ -164,9 +165,8 @@ fn is_doomed(last: &Option<Candidate<'_>>, candidate: &Candidate<'_>) -> bool
 fn remove_file<D: Folder>(folder: &mut D, name: &str, faults: &mut Faults) -> Result<(), AllocError>
     ensures removes { Removes (name.now ∷ []) faults.old (D.contents folder.old) result faults.new
         (D.contents folder.new) }
-    // a refusal is not told as want of memory
-    ensures fed { OnErr result (D.failed folder.new ≡ D.failed folder.old) }
-    ensures counts { CountsRetention (D.failed folder.old) faults.old faults.new (D.failed folder.new) }
+    // exactly, so that a refusal is not told as want of memory
+    ensures counts { CountsOnly (D.failed folder.old) faults.old faults.new (D.failed folder.new) }
 {
     match folder.remove(name) {
         Ok(()) => Ok(()),
@@ -187,7 +187,7 @@ fn remove_if_doomed<D: Folder>(
 ) -> Result<(), AllocError>
     ensures removes { Removes (names_by (goes_by (option_map candidate_of last.now)) (candidate_of candidate.now ∷ []))
         faults.old (D.contents folder.old) result faults.new (D.contents folder.new) }
-    ensures counts { CountsRetention (D.failed folder.old) faults.old faults.new (D.failed folder.new) }
+    ensures counts { CountsOnly (D.failed folder.old) faults.old faults.new (D.failed folder.new) }
 {
     if !is_doomed(last, candidate) {
         return Ok(());
@@ -205,7 +205,7 @@ fn remove_up_to<D: Folder>(
 ) -> Result<(), AllocError>
     ensures removes { Removes (names_by (goes_by (option_map candidate_of last.now)) (map candidate_of all.now))
         faults.old (D.contents folder.old) result faults.new (D.contents folder.new) }
-    ensures counts { CountsRetention (D.failed folder.old) faults.old faults.new (D.failed folder.new) }
+    ensures counts { CountsOnly (D.failed folder.old) faults.old faults.new (D.failed folder.new) }
 {
     for candidate in all {
         remove_if_doomed(folder, last, candidate, faults)?;
@@ -223,7 +223,7 @@ fn remove_doomed<D: Folder>(
 ) -> Result<(), AllocError>
     ensures removes { RemovesDoomed limit (map candidate_of all.now) faults.old (D.contents folder.old) result
         faults.new (D.contents folder.new) }
-    ensures counts { CountsRetention (D.failed folder.old) faults.old faults.new (D.failed folder.new) }
+    ensures counts { CountsOnly (D.failed folder.old) faults.old faults.new (D.failed folder.new) }
 {
     if all.len() < limit {
         return Ok(());
@@ -253,9 +253,8 @@ pub(crate) fn prune_old_logs<D: Folder>(
 ) -> Result<(), AllocError>
     ensures pruned { Prunes (builder_names builder.now) faults.old (D.contents folder.old) result faults.new
         (D.contents folder.new) }
-    ensures counts { CountsRetention (D.failed folder.old) faults.old faults.new (D.failed folder.new) }
-    ensures unlimited { (builder_names builder.now).limit ≡ None →
-        (result ≡ Ok tt) × (faults.new ≡ faults.old) × (folder.new ≡ folder.old) }
+    // exactly, so that a refused listing is not told as want of memory
+    ensures counts { CountsOnly (D.failed folder.old) faults.old faults.new (D.failed folder.new) }
 {
     let Some(limit) = builder.limit else {
         return Ok(());

@@ -199,6 +199,19 @@ fn a_late_line_stays_with_the_later_day(rt: HostRuntime) -> Result<(), Fail> {
 }
 
 #[test]
+fn an_appender_comes_apart(rt: HostRuntime) -> Result<(), Fail> {
+    let alloc = rt.alloc();
+    let appender = builder(alloc, "app", "")?
+        .build(alloc, MemoryFolder::new(alloc), MONDAY_MIDNIGHT)
+        .map_err(|refusal| refusal.error)?;
+    let (builder, folder) = appender.into_parts();
+    assert_eq!(rt; folder.files()?[0].name, "app.2025-02-17");
+    let link = String::from_str(alloc, "app.2025-02-18")?;
+    assert!(rt; builder.latest_symlink(link).has_bad_link());
+    Ok(())
+}
+
+#[test]
 fn files_are_in_order(rt: HostRuntime) -> Result<(), Fail> {
     let alloc = rt.alloc();
     let mut folder = MemoryFolder::new(alloc);

@@ -5,7 +5,7 @@ pub use Rattle.tracing_core_fields.specs.FilterInner
 pub use Rattle.tracing_core_fields.specs.LevelFilter
 pub use Rattle.tracing_core_fields.specs.PlainKind
 pub use Rattle.tracing_core_fields.specs.Equality
-pub use Rattle.tracing_core_fields.specs.Names
+pub use Rattle.tracing_core_fields.specs.Texts
 pub use Rattle.tracing_core_fields.specs.PlainField
 pub use Rattle.tracing_core_fields.specs.FieldSet
 pub use Rattle.tracing_core_fields.specs.Field

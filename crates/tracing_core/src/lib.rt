@@ -6,8 +6,8 @@ mod macros;
 pub use tracing_core_fields::{
     AnyValue, DebugText, ErrorText, Field, FieldSet, FieldValue, Id, Identifier, Iter, Kind, Level,
     LevelFilter, Metadata, OwnedMetadata, OwnedValue, ParseLevelError, ParseLevelFilterError,
-    ValueSet, Visit, VisitKinds, constant_kinds, filters_read_their_names, levels_read_their_names,
-    numbers_are_read_as_usize,
+    Texts, ValueSet, Visit, VisitKinds, constant_kinds, filters_read_their_names,
+    levels_read_their_names, numbers_are_read_as_usize,
 };
 pub use tracing_core_hub::{
     AddError, Book, CallsiteIndex, Command, CommandError, CommandReply, DefaultCallsite,

@@ -13,10 +13,12 @@ pub same_refusal : {E : Type 0} (answer : Result (Unit {0}) E) (error : E) → I
 same_refusal (Ok x) error is = absurd is
 same_refusal (Err e) error is = ap Err is
 
--- the entries from a place on
-pub placed_more : (values : List (Option AnyValue)) (i : ℕ) → i < length values →
-    filter_map placed_entry (enumerate_from i (drop i values)) ≡ cons_option (placed_entry (i, get_or values i None)) (filter_map placed_entry (enumerate_from (i + 1) (drop (i + 1) values)))
-placed_more values i below = ap (λ left. filter_map placed_entry (enumerate_from i left)) (drop_more values i None below)
+-- the entries from a place on, where this value stands
+pub placed_more : (values : List (Option AnyValue)) (i : ℕ) (value : Option AnyValue) → value ≡ get_or values i value → i < length values →
+    filter_map placed_entry (enumerate_from i (drop i values)) ≡ cons_option (placed_entry (i, value)) (filter_map placed_entry (enumerate_from (i + 1) (drop (i + 1) values)))
+placed_more values i value is below =
+    ap (λ left. filter_map placed_entry (enumerate_from i left)) (drop_more values i value below)
+    ∙ ap (λ it. cons_option (placed_entry (i, it)) (filter_map placed_entry (enumerate_from (i + 1) (drop (i + 1) values)))) (sym is)
 
 pub placed_none : (values : List (Option AnyValue)) (i : ℕ) → length values ≤ i → filter_map placed_entry (enumerate_from i (drop i values)) ≡ []
 placed_none values i past = ap (λ left. filter_map placed_entry (enumerate_from i left)) (drop_all i values past)

@@ -9,13 +9,13 @@ use Rattle.std.specs.List.{join_by, position_from}
 use Rattle.std.specs.Str.{bytes_eq}
 use Rattle.std.proofs.lemmas.Bool.{and_parts, and_from, eqb-true, eq-eqb}
 use Rattle.tracing_core_fields.specs.Equality.{equivalence_by}
-use Rattle.tracing_core_fields.specs.Names.{names_in}
+use Rattle.tracing_core_fields.specs.Texts.{texts_in}
 use Rattle.tracing_core_fields.specs.PlainField.{PlainField, fields_named}
 use Rattle.tracing_core_fields.specs.declared.field.FieldSet.{FieldSet}
 
 -- the names, in the order of the fields
 abbrev pub field_names : FieldSet → List (List ℕ)
-field_names set = names_in set.names
+field_names set = texts_in set.names
 
 -- the number of the callsite
 abbrev pub set_callsite : FieldSet → ℕ

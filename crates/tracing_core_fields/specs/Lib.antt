@@ -5,7 +5,7 @@ pub mod FilterInner
 pub mod LevelFilter
 pub mod PlainKind
 pub mod Equality
-pub mod Names
+pub mod Texts
 pub mod PlainField
 pub mod FieldSet
 pub mod Field

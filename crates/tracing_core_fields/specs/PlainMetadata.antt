@@ -36,9 +36,9 @@ abbrev pub is_same_shape : PlainMetadata → PlainMetadata → Bool
 is_same_shape a b =
     (a.callsite == b.callsite) && pointwise bytes_eq a.field_names b.field_names && is_same_kind a.kind b.kind
 
--- all parts are the same
+-- all parts are the same; the callsites' numbers are compared first, since they nearly always tell two callsites apart
 abbrev pub is_same_metadata : PlainMetadata → PlainMetadata → Bool
-is_same_metadata a b = is_same_label a b && is_same_place a b && is_same_shape a b
+is_same_metadata a b = is_same_shape a b && is_same_label a b && is_same_place a b
 
 pub option_eq-decides : {A : Type 0} (E : A → A → Bool) → ((x y : A) → Decides (E x y) (x ≡ y)) → (o p : Option A) → Decides (option_eq E o p) (o ≡ p)
 option_eq-decides E decides None None = (λ _. refl, λ _. refl)
@@ -51,11 +51,11 @@ is_same_metadata-decides a b = (
   λ same.
       let both = and_parts _ _ same in
       let first = and_parts _ _ both.0 in
-      let label = and_parts _ _ first.0 in
+      let label = and_parts _ _ first.1 in
       let texts = and_parts _ _ label.0 in
-      let place = and_parts _ _ first.1 in
+      let place = and_parts _ _ both.1 in
       let sources = and_parts _ _ place.0 in
-      let shape = and_parts _ _ both.1 in
+      let shape = and_parts _ _ first.0 in
       let set = and_parts _ _ shape.0 in
       let name = (bytes_decides _ _).0 texts.0 in
       let target = (bytes_decides _ _).0 texts.1 in
@@ -77,7 +77,7 @@ is_same_metadata-decides a b = (
       let shape = and_from _ _
       (and_from _ _ ((unsigned_Decides _ _).1 (ap (λ m. m.callsite) same)) ((pointwise_decides bytes_decides _ _).1 (ap (λ m. m.field_names) same)))
       ((is_same_kind-decides _ _).1 (ap (λ m. m.kind) same)) in
-      and_from _ _ (and_from _ _ label place) shape,
+      and_from _ _ (and_from _ _ shape label) place,
 )
 
 pub is_same_metadata-equivalence : IsEquivalence is_same_metadata

@@ -1,12 +1,15 @@
 //! The texts of errors.
-ghost use Rattle.std.specs.Prelude.{◌≡◌, map};
+ghost use Rattle.std.specs.Prelude.{◌≡◌, map, string_bytes};
 ghost use Rattle.tracing_core_fields.specs.ErrorText.{error_text, source_texts};
+ghost use Rattle.tracing_core_fields.specs.Texts.{texts_in};
+
+use crate::texts::Texts;
 
 /// What an error prints, and what its sources print.
 #[derive(Clone, Copy, Debug, PartialEq, Eq)]
 pub struct ErrorText<'a> {
     text: &'a str,
-    sources: &'a [&'a str],
+    sources: Texts<'a>,
 }
 
 impl<'a> ErrorText<'a> {
@@ -16,6 +19,16 @@ impl<'a> ErrorText<'a> {
         ensures text { error_text result ≡ text.now }
         ensures sources { source_texts result ≡ map (λ source. source.now) sources.now }
     {
+        let sources = Texts::Lent(sources);
+        ErrorText { text, sources }
+    }
+
+    /// The same of sources whose texts are owned.
+    pub const fn of_strings(text: &'a str, sources: &'a [String]) -> ErrorText<'a>
+        ensures text { error_text result ≡ text.now }
+        ensures sources { source_texts result ≡ map string_bytes sources.now }
+    {
+        let sources = Texts::Owned(sources);
         ErrorText { text, sources }
     }
 
@@ -27,8 +40,8 @@ impl<'a> ErrorText<'a> {
     }
 
     /// What the error's source prints, the source of that, and so on.
-    pub fn sources(&self) -> &'a [&'a str]
-        ensures { map (λ source. source.now) result.now ≡ source_texts self.now }
+    pub fn sources(&self) -> Texts<'a>
+        ensures { texts_in result ≡ source_texts self.now }
     {
         self.sources
     }

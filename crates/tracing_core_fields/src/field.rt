@@ -4,7 +4,7 @@ ghost use Rattle.std.specs.Option.{option_map};
 ghost use Rattle.tracing_core_fields.specs.FieldSet.{field_names};
 
 use crate::callsite::Identifier;
-use crate::names::Names;
+use crate::texts::Texts;
 use std::convert::AsStr;
 use std::fmt;
 use std::hash::{Hash, Hasher};
@@ -12,7 +12,7 @@ use std::hash::{Hash, Hasher};
 /// The fields of a span or an event, by their names.
 #[derive(Clone, Copy, Debug)]
 pub struct FieldSet<'a> {
-    names: Names<'a>,
+    names: Texts<'a>,
     callsite: Identifier,
 }
 
@@ -27,7 +27,7 @@ impl<'a> FieldSet<'a> {
         ensures names { field_names result ≡ map (λ name. name.now) names.now }
         ensures callsite { set_callsite result ≡ callsite.0 }
     {
-        let names = Names::Lent(names);
+        let names = Texts::Lent(names);
         FieldSet { names, callsite }
     }
 
@@ -36,7 +36,7 @@ impl<'a> FieldSet<'a> {
         ensures names { field_names result ≡ map string_bytes names.now }
         ensures callsite { set_callsite result ≡ callsite.0 }
     {
-        let names = Names::Owned(names);
+        let names = Texts::Owned(names);
         FieldSet { names, callsite }
     }
 
@@ -174,7 +174,7 @@ impl<'a> Field<'a> {
     pub fn name(&self) -> &'a str
         ensures { result.now ≡ field_name self.now }
     {
-        self.fields.names.name(self.index)
+        self.fields.names.text(self.index)
     }
 
     /// The index of the field in its set.

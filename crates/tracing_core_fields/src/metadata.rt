@@ -172,7 +172,7 @@ impl PartialEq for Metadata<'_> {
         ensures test { result ≡ metadata_eq self.now other.now }
         ensures same { IsTrue result ↔ (plain_metadata self.now ≡ plain_metadata other.now) }
     {
-        self.has_label_of(other) && self.has_place_of(other) && self.has_shape_of(other)
+        self.has_shape_of(other) && self.has_label_of(other) && self.has_place_of(other)
     }
 }
 

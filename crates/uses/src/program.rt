@@ -3,7 +3,7 @@
 ghost use Rattle.std.specs.Prelude.{◌≡◌, ◌∷◌, [], IfOk, OnErr, Some, None, length, true, false, Err};
 ghost use Rattle.tracing_appender_rolling.specs.Memory.{memory_contents, nothing_there};
 ghost use Rattle.tracing_appender_rolling.specs.Moments.{is_moment};
-ghost use Rattle.tracing_appender_rolling.specs.Appenders.{AgreesSink, fresh_sink};
+ghost use Rattle.tracing_appender_rolling.specs.Remaining.{AgreesSink, fresh_sink};
 ghost use Rattle.event_formatter_formats.specs.Parts.{default_parts};
 ghost use Rattle.span_tracing_outputs.specs.TraceFollows.{IsReady};
 ghost use Rattle.span_tracing_steps.specs.Steps.{StepGives};
@@ -81,7 +81,7 @@ fn daily_sink(
 ) -> Result<RollingSink<MemoryFolder>, BuildError>
     requires { is_moment moment ≡ true }
     ensures { IfOk result (λ sink. AgreesSink (λ folder. Some (memory_contents folder)) sink.appender
-        (fresh_sink (daily_names prefix.now) moment (Some nothing_there))) }
+        (fresh_sink (daily_names prefix.now) moment nothing_there)) }
 {
     let prefix = String::from_str(alloc, prefix).map_err(|_| BuildError::OutOfMemory)?;
     let suffix = String::from_str(alloc, "log").map_err(|_| BuildError::OutOfMemory)?;

@@ -1,13 +1,12 @@
 //! A log file that changes by the day, alone: the program writes its own lines.
 
-ghost use Rattle.std.specs.Prelude.{◌≡◌, true, Some, IfOk, OnOk, ℕ, List, string_bytes};
+ghost use Rattle.std.specs.Prelude.{◌≡◌, true, Some, IfOk, ℕ, List, string_bytes};
 ghost use Rattle.tracing_appender_rolling.specs.PeriodKind.TheVariants.{Day};
 ghost use Rattle.tracing_appender_rolling.specs.Moments.{is_moment};
 ghost use Rattle.tracing_appender_rolling.specs.Memory.{memory_contents, nothing_there};
 ghost use Rattle.tracing_appender_rolling.specs.Entries.{entry_at};
 ghost use Rattle.tracing_appender_rolling.specs.Builders.{prefixed_names};
-ghost use Rattle.tracing_appender_rolling.specs.Sinks.{PlainSink, file_text, with_handed};
-ghost use Rattle.tracing_appender_rolling.specs.Appenders.{AgreesSink, fresh_sink};
+ghost use Rattle.tracing_appender_rolling.specs.Remaining.{PrunedSink, AgreesSink, LeavesSink, fresh_sink, pruned_text};
 
 use std::alloc::{AllocError, Global};
 use tracing_appender_rolling::{
@@ -27,12 +26,16 @@ pub fn open_daily(
 ) -> Result<RollingFileAppender<MemoryFolder>, BuildError>
     requires { is_moment moment ≡ true }
     ensures { IfOk result (λ log. AgreesSink (λ folder. Some (memory_contents folder)) log
-        (fresh_sink (prefixed_names Day (string_bytes prefix)) moment (Some nothing_there))) }
+        (fresh_sink (prefixed_names Day (string_bytes prefix)) moment nothing_there)) }
 {
-    daily(alloc, MemoryFolder::new(alloc), prefix, moment).map_err(|refusal| refusal.error)
+    match daily(alloc, MemoryFolder::new(alloc), prefix, moment) {
+        Ok(log) => Ok(log),
+        Err(refused) => Err(refused.error),
+    }
 }
 
-/// Writes a line at a moment. It goes to the file of the greatest day that the log has seen.
+/// Writes a line at a moment, behind what retention removes before it. It goes to the file of the greatest day that the
+/// log has seen.
 ///
 /// # Errors
 ///
@@ -43,21 +46,22 @@ pub fn write_line(
     moment: Moment,
 ) -> Result<(), FolderError>
     requires { is_moment moment ≡ true }
-    ensures { OnOk result ((s : PlainSink) → AgreesSink (λ folder. Some (memory_contents folder)) log.old s →
-        AgreesSink (λ folder. Some (memory_contents folder)) log.new
-        (with_handed s (record { line = line.now; moment = moment }))) }
+    ensures { (p : PrunedSink) → AgreesSink (λ folder. Some (memory_contents folder)) log.old p →
+        LeavesSink (λ folder. Some (memory_contents folder)) p (λ done. line.now) moment
+        (memory_contents log.old.folder) log.old result log.new }
 {
     log.write_all_at(line.as_bytes(), moment)
 }
 
-/// The files of a log: each holds what the opening found under its name, and then the lines of its day.
+/// The files of a log that retention left: each holds what the opening found under its name, and then the lines of its
+/// day.
 ///
 /// # Errors
 ///
 /// Want of memory.
 pub fn files_of(log: &RollingFileAppender<MemoryFolder>) -> Result<Vec<FileEntry<'_>>, AllocError>
-    ensures { IfOk result (λ entries. (s : PlainSink) → AgreesSink (λ folder. Some (memory_contents folder)) log.now s →
-        (name : List ℕ) → entry_at entries.items name ≡ file_text s name) }
+    ensures { IfOk result (λ entries. (p : PrunedSink) → AgreesSink (λ folder. Some (memory_contents folder)) log.now p →
+        (name : List ℕ) → entry_at entries.items name ≡ pruned_text p name) }
 {
     log.folder().files()
 }

@@ -4,46 +4,63 @@ ghost use Rattle.std.specs.Fmt.{decimal};
 ghost use Rattle.std.specs.Option.{option_map};
 ghost use Rattle.tracing_core_fields.specs.Level.{level_name};
 ghost use Rattle.event_formatter_text.specs.Chains.{Extends};
+ghost use Rattle.event_formatter_text.specs.Escapes.{json_string};
 ghost use Rattle.event_formatter_text.specs.Lists.{further};
 ghost use Rattle.event_formatter_lines.specs.Heads.{plain_head};
 ghost use Rattle.event_formatter_lines.specs.Json.{first_members, key_text, member_if, place_members, text_member, thread_members};
+ghost use Rattle.event_formatter_lines.specs.Keys.{key_name, text_key_name};
 
+use super::key::{Key, TextKey};
 use crate::head::Head;
-use event_formatter_text::push_json_string;
+use event_formatter_text::{push_json_rest, push_json_string};
 use itoa::Buffer;
 use std::alloc::AllocError;
 use tracing_core_fields::Level;
 
-/// Appends a key and a colon, behind a comma unless it is the first of its object. Inlined, so that a key that the
-/// program names is copied by its known length.
+/// Appends a key and a colon, behind a comma unless it is the first of its object. Inlined, so that each key is one text
+/// of a length that the compiler knows.
 #[inline(always)]
-#[tactic(auto, unfolding(crate::specs::Json::key_text))]
-pub(super) fn push_key(out: &mut String, is_first: bool, key: &str) -> Result<(), AllocError>
+pub(super) fn push_key(out: &mut String, is_first: bool, key: Key) -> Result<(), AllocError>
     ensures { OnOk result (string_bytes out.new ≡ string_bytes out.old
-        ++ further (codes ",") is_first (key_text key.now)) }
+        ++ further (codes ",") is_first (key_text (key_name key))) }
 {
-    out.push_str(if is_first { "\"" } else { ",\"" })?;
-    out.push_str(key)?;
-    out.push_str("\":")
+    if is_first {
+        out.push_str(key.first())
+    } else {
+        out.push_str(key.later())
+    }
+}
+
+// Appends a key, a colon and the quote that begins its text, behind a comma unless it is the first of its object.
+#[inline(always)]
+fn push_text_key(out: &mut String, is_first: bool, key: TextKey) -> Result<(), AllocError>
+    ensures { OnOk result (string_bytes out.new ≡ string_bytes out.old
+        ++ further (codes ",") is_first (key_text (text_key_name key) ++ codes "\"")) }
+{
+    if is_first {
+        out.push_str(key.first())
+    } else {
+        out.push_str(key.later())
+    }
 }
 
 /// Appends a text as a member, where there is one. It answers whether the next member is the first of its object.
 #[inline(always)]
-#[tactic(auto, using(crate::proofs::Members::one, crate::proofs::Members::nothing))]
+#[tactic(auto, using(crate::proofs::Members::one_text, crate::proofs::Members::nothing))]
 pub(super) fn push_text_member(
     out: &mut String,
     is_first: bool,
-    key: &str,
+    key: TextKey,
     text: Option<&str>,
 ) -> Result<bool, AllocError>
-    ensures { IfOk result (λ is_still. Extends (text_member key.now (option_map (λ text. text.now) text.entry)) is_first
+    ensures { IfOk result (λ is_still. Extends (text_member (text_key_name key) (option_map (λ text. text.now) text.entry)) is_first
         (string_bytes out.old) is_still (string_bytes out.new)) }
 {
     let Some(text) = text else {
         return Ok(is_first);
     };
-    push_key(out, is_first, key)?;
-    push_json_string(out, text)?;
+    push_text_key(out, is_first, key)?;
+    push_json_rest(out, text)?;
     Ok(false)
 }
 
@@ -61,19 +78,42 @@ pub(super) fn push_line_number(
         return Ok(is_first);
     };
     let mut buffer = Buffer::new();
-    push_key(out, is_first, "line_number")?;
+    push_key(out, is_first, Key::LineNumber)?;
     out.push_str(buffer.format(line))?;
     Ok(false)
 }
 
-// The level by its name.
-fn level_name(level: Option<Level>) -> Option<&'static str>
-    ensures { option_map (λ name. name.now) result ≡ option_map level_name level }
+// Appends a level's name as a string, in which nothing is to be escaped.
+#[inline(always)]
+fn push_level_name(out: &mut String, level: Level) -> Result<(), AllocError>
+    ensures { OnOk result (string_bytes out.new ≡ string_bytes out.old ++ json_string (level_name level)) }
 {
-    match level {
-        Some(level) => Some(level.as_str()),
-        None => None,
+    if level == Level::INFO {
+        out.push_str("\"INFO\"")
+    } else if level == Level::WARN {
+        out.push_str("\"WARN\"")
+    } else if level == Level::ERROR {
+        out.push_str("\"ERROR\"")
+    } else if level == Level::DEBUG {
+        out.push_str("\"DEBUG\"")
+    } else {
+        push_json_string(out, level.as_str())
     }
+}
+
+// Appends the level as a member, where there is one.
+#[inline(always)]
+#[tactic(auto, using(crate::proofs::Members::one, crate::proofs::Members::nothing))]
+fn push_level(out: &mut String, is_first: bool, level: Option<Level>) -> Result<bool, AllocError>
+    ensures { IfOk result (λ is_still. Extends (text_member (codes "level") (option_map level_name level)) is_first
+        (string_bytes out.old) is_still (string_bytes out.new)) }
+{
+    let Some(level) = level else {
+        return Ok(is_first);
+    };
+    push_key(out, is_first, Key::Level)?;
+    push_level_name(out, level)?;
+    Ok(false)
 }
 
 /// Appends the members before the fields: time and level.
@@ -82,8 +122,8 @@ pub(super) fn push_first_members(out: &mut String, head: &Head<'_>) -> Result<bo
     ensures { IfOk result (λ is_still. Extends (first_members (plain_head head.now)) true
         (string_bytes out.old) is_still (string_bytes out.new)) }
 {
-    let is_first = push_text_member(out, true, "timestamp", head.time)?;
-    let is_first = push_text_member(out, is_first, "level", level_name(head.level))?;
+    let is_first = push_text_member(out, true, TextKey::Timestamp, head.time)?;
+    let is_first = push_level(out, is_first, head.level)?;
     Ok(is_first)
 }
 
@@ -97,8 +137,8 @@ pub(super) fn push_place_members(
     ensures { IfOk result (λ is_still. Extends (place_members (plain_head head.now)) is_first
         (string_bytes out.old) is_still (string_bytes out.new)) }
 {
-    let is_first = push_text_member(out, is_first, "target", head.target)?;
-    let is_first = push_text_member(out, is_first, "filename", head.file)?;
+    let is_first = push_text_member(out, is_first, TextKey::Target, head.target)?;
+    let is_first = push_text_member(out, is_first, TextKey::Filename, head.file)?;
     let is_first = push_line_number(out, is_first, head.line)?;
     Ok(is_first)
 }
@@ -113,7 +153,7 @@ pub(super) fn push_thread_members(
     ensures { IfOk result (λ is_still. Extends (thread_members (plain_head head.now)) is_first
         (string_bytes out.old) is_still (string_bytes out.new)) }
 {
-    let is_first = push_text_member(out, is_first, "threadName", head.thread_name)?;
-    let is_first = push_text_member(out, is_first, "threadId", head.thread_id)?;
+    let is_first = push_text_member(out, is_first, TextKey::ThreadName, head.thread_name)?;
+    let is_first = push_text_member(out, is_first, TextKey::ThreadId, head.thread_id)?;
     Ok(is_first)
 }

@@ -1,15 +1,16 @@
 //! Spans as objects.
-ghost use Rattle.std.specs.Prelude.{◌≡◌, ◌<◌, ◌++◌, IfOk, None, OnOk, codes, length, string_bytes, true};
-ghost use Rattle.std.specs.List.{join_by, last_or};
+ghost use Rattle.std.specs.Prelude.{◌≡◌, ◌+◌, ◌≤◌, ◌++◌, IfOk, OnOk, Some, codes, length, string_bytes, take, true};
+ghost use Rattle.std.specs.List.{join_by};
 ghost use Rattle.std.specs.Option.{option_map};
 ghost use Rattle.event_formatter_text.specs.Chains.{Extends};
 ghost use Rattle.event_formatter_text.specs.Lists.{further};
-ghost use Rattle.event_formatter_lines.specs.Json.{field_as_kept, inside_braces, kept_members, member_if, members_as_kept, span_array, span_members, span_object, where_asked};
-ghost use Rattle.event_formatter_lines.specs.Shown.{span_at};
+ghost use Rattle.event_formatter_lines.specs.Json.{field_as_kept, inside_braces, kept_members, member_if, members_as_kept, span_members, span_object, where_asked};
+ghost use Rattle.event_formatter_lines.specs.Shown.{plain_shown, span_at};
 
 use super::JsonShape;
+use super::key::{Key, TextKey};
 use super::members::{push_key, push_text_member};
-use crate::shown::ShownSpans;
+use crate::shown::{ShownSpan, ShownSpans};
 use std::alloc::AllocError;
 
 // What stands between braces, where the text begins and ends with them.
@@ -44,7 +45,7 @@ fn push_field(out: &mut String, text: &str) -> Result<bool, AllocError>
     if text.is_empty() {
         return Ok(true);
     }
-    push_text_member(out, true, "field", Some(text))
+    push_text_member(out, true, TextKey::Field, Some(text))
 }
 
 // Appends what is kept of a span's fields as members.
@@ -60,88 +61,111 @@ fn push_kept(out: &mut String, text: &str) -> Result<bool, AllocError>
 
 // Appends the object of a span.
 #[tactic(auto, using(crate::proofs::Members::object), unfolding(crate::specs::Json::span_object))]
-fn push_span<S: ShownSpans>(out: &mut String, spans: &S, index: usize) -> Result<(), AllocError>
-    requires { index < length (S.spans spans.now) }
-    ensures { OnOk result (string_bytes out.new ≡ string_bytes out.old
-        ++ span_object (span_at (S.spans spans.now) index)) }
+fn push_span(out: &mut String, span: &ShownSpan<'_>) -> Result<(), AllocError>
+    ensures { OnOk result (string_bytes out.new ≡ string_bytes out.old ++ span_object (plain_shown span.now)) }
 {
     out.push('{')?;
-    let is_first = push_kept(out, spans.text(index))?;
-    push_text_member(out, is_first, "name", Some(spans.name(index)))?;
+    let is_first = push_kept(out, span.text)?;
+    push_text_member(out, is_first, TextKey::Name, Some(span.name))?;
     out.push('}')
 }
 
-// Appends the object of the span at the index, behind a comma unless it is the first of its array.
-fn push_listed_span<S: ShownSpans>(
+// Appends the object of a span, behind a comma unless it is the first of its array.
+fn push_listed_span(
     out: &mut String,
     is_first: bool,
-    spans: &S,
-    index: usize,
+    span: &ShownSpan<'_>,
 ) -> Result<(), AllocError>
-    requires { index < length (S.spans spans.now) }
     ensures { OnOk result (string_bytes out.new ≡ string_bytes out.old
-        ++ further (codes ",") is_first (span_object (span_at (S.spans spans.now) index))) }
+        ++ further (codes ",") is_first (span_object (plain_shown span.now))) }
 {
     if !is_first {
         out.push(',')?;
     }
-    push_span(out, spans, index)
+    push_span(out, span)
 }
 
-// Appends the objects of the spans, a comma between each two.
-fn push_each_span<S: ShownSpans>(out: &mut String, spans: &S) -> Result<(), AllocError>
+// Appends the objects of so many spans from the root on, a comma between each two.
+fn push_first_spans<S: ShownSpans>(
+    out: &mut String,
+    spans: &S,
+    count: usize,
+) -> Result<(), AllocError>
+    requires { count ≤ length (S.spans spans.now) }
     ensures { OnOk result (string_bytes out.new ≡ string_bytes out.old
-        ++ join_by span_object (codes ",") (S.spans spans.now)) }
+        ++ join_by span_object (codes ",") (take count (S.spans spans.now))) }
 {
-    for index in 0..spans.count() {
-        push_listed_span(out, index == 0, spans, index)?;
+    for index in 0..count {
+        let span = spans.span(index);
+        push_listed_span(out, index == 0, &span)?;
     }
     Ok(())
 }
 
-// Appends the last of the spans as a member, where it is asked for and there is one.
-fn push_current_span<S: ShownSpans>(
+// Appends the array of the spans, of which the last one is at hand.
+fn push_array<S: ShownSpans>(
+    out: &mut String,
+    spans: &S,
+    place: usize,
+    last: &ShownSpan<'_>,
+) -> Result<(), AllocError>
+    requires place { place + 1 ≡ length (S.spans spans.now) }
+    requires last { plain_shown last.now ≡ span_at (S.spans spans.now) place }
+    ensures { OnOk result (string_bytes out.new ≡ string_bytes out.old
+        ++ (codes "[" ++ join_by span_object (codes ",") (S.spans spans.now) ++ codes "]")) }
+{
+    out.push('[')?;
+    push_first_spans(out, spans, place)?;
+    push_listed_span(out, place == 0, last)?;
+    out.push(']')
+}
+
+// Appends the last of the spans as a member, where it is asked for.
+#[tactic(auto, using(crate::proofs::Members::one, crate::proofs::Members::nothing))]
+fn push_current_span(
     out: &mut String,
     is_first: bool,
     is_asked: bool,
-    spans: &S,
+    last: &ShownSpan<'_>,
 ) -> Result<bool, AllocError>
     ensures { IfOk result (λ is_still. Extends (member_if (codes "span") (where_asked is_asked
-        (option_map span_object (last_or None (S.spans spans.now))))) is_first
-        (string_bytes out.old) is_still (string_bytes out.new)) }
+        (Some (span_object (plain_shown last.now))))) is_first (string_bytes out.old) is_still (string_bytes out.new)) }
 {
-    let count = spans.count();
-    if !is_asked || count == 0 {
+    if !is_asked {
         return Ok(is_first);
     }
-    push_key(out, is_first, "span")?;
-    push_span(out, spans, count - 1)?;
+    push_key(out, is_first, Key::Span)?;
+    push_span(out, last)?;
     Ok(false)
 }
 
-// Appends the spans as a member, where they are asked for and there are any.
+// Appends the spans as a member, where they are asked for. The last one is at hand.
+#[tactic(auto, using(crate::proofs::Members::one, crate::proofs::Members::nothing))]
 fn push_span_list<S: ShownSpans>(
     out: &mut String,
     is_first: bool,
     is_asked: bool,
     spans: &S,
+    place: usize,
+    last: &ShownSpan<'_>,
 ) -> Result<bool, AllocError>
+    requires place { place + 1 ≡ length (S.spans spans.now) }
+    requires last { plain_shown last.now ≡ span_at (S.spans spans.now) place }
     ensures { IfOk result (λ is_still. Extends (member_if (codes "spans") (where_asked is_asked
-        (span_array (S.spans spans.now)))) is_first (string_bytes out.old) is_still (string_bytes out.new)) }
+        (Some (codes "[" ++ join_by span_object (codes ",") (S.spans spans.now) ++ codes "]")))) is_first
+        (string_bytes out.old) is_still (string_bytes out.new)) }
 {
-    if !is_asked || spans.count() == 0 {
+    if !is_asked {
         return Ok(is_first);
     }
-    push_key(out, is_first, "spans")?;
-    out.push('[')?;
-    push_each_span(out, spans)?;
-    out.push(']')?;
+    push_key(out, is_first, Key::Spans)?;
+    push_array(out, spans, place, last)?;
     Ok(false)
 }
 
 /// Appends the members of the spans: the last one, and all of them. It answers whether the next member is the first of
 /// its object.
-#[tactic(auto, using(crate::proofs::Members::chained))]
+#[tactic(auto, using(crate::proofs::Members::nothing))]
 pub(super) fn push_span_members<S: ShownSpans>(
     out: &mut String,
     is_first: bool,
@@ -151,7 +175,13 @@ pub(super) fn push_span_members<S: ShownSpans>(
     ensures { IfOk result (λ is_still. Extends (span_members shape (S.spans spans.now)) is_first
         (string_bytes out.old) is_still (string_bytes out.new)) }
 {
-    let is_first = push_current_span(out, is_first, shape.current_span, spans)?;
-    let is_first = push_span_list(out, is_first, shape.span_list, spans)?;
+    let count = spans.count();
+    if count == 0 {
+        return Ok(is_first);
+    }
+    let place = count - 1;
+    let last = spans.span(place);
+    let is_first = push_current_span(out, is_first, shape.current_span, &last)?;
+    let is_first = push_span_list(out, is_first, shape.span_list, spans, place, &last)?;
     Ok(is_first)
 }

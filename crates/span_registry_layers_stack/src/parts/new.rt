@@ -7,6 +7,7 @@ ghost use Rattle.span_registry_layers_stack.specs.Stacks.{plain_stack};
 use crate::output::Output;
 use crate::parts::StackParts;
 use crate::row::Row;
+use crate::sites::Sites;
 use span_registry_layers_layers::{Filter, Filtered, Layer};
 use span_registry_layers_store::Registry;
 use std::alloc::Global;
@@ -73,7 +74,7 @@ impl<L: Layer, F: Filter> StackParts<Filtered<L, F>> {
             alloc,
             registry,
             rows,
-            sites: Vec::new(alloc),
+            sites: Sites::new(alloc),
             hint: None,
         })
     }

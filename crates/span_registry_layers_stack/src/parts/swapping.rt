@@ -5,6 +5,7 @@ ghost use Rattle.span_registry_layers_stack.specs.Swaps.{SwapGives, SwapsRow, as
 
 use crate::output::UnknownOutput;
 use crate::parts::StackParts;
+use crate::sites::Sites;
 use span_registry_layers_layers::{Filter, Filtered, Layer};
 
 impl<O> StackParts<O> {
@@ -12,7 +13,7 @@ impl<O> StackParts<O> {
     fn forget_sites(&mut self)
         ensures { plain_stack self.new ≡ without_sites (plain_stack self.old) }
     {
-        self.sites.clear();
+        self.sites = Sites::new(self.alloc);
     }
 }
 

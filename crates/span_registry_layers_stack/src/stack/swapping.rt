@@ -10,6 +10,7 @@ ghost use Rattle.span_registry_layers_stack.specs.Swaps.{SwapGives, with_rows};
 ghost use Rattle.span_registry_layers_stack.specs.CacheValidity.{CacheIsValid};
 
 use crate::output::UnknownOutput;
+use crate::sites::Sites;
 use crate::stack::Stack;
 use span_registry_layers_layers::{Filter, Filtered, Layer};
 
@@ -18,7 +19,7 @@ impl<O> Stack<O> {
     fn forget(&mut self)
         ensures { self.new ≡ forgotten self.old }
     {
-        self.parts.sites.clear();
+        self.parts.sites = Sites::new(self.parts.alloc);
         self.parts.hint = None;
     }
 

@@ -31,7 +31,7 @@ const LINES: [&str; 31] = [
     r#"{"do":"record","lane":0,"moment":[0,0],"span":[0,1]}"#,
     r#"{"do":"record","lane":0,"moment":[0,0],"values":[]}"#,
     r#"{"do":"record","lane":0,"moment":[0,0],"span":[0,1],"values":[["z",1]]}"#,
-    r#"{"do":"record","lane":0,"moment":[0,0],"span":[0,1],"values":[["x",true]]}"#,
+    r#"{"do":"record","lane":0,"moment":[0,0],"span":[0,1],"values":[["x",[true]]]}"#,
     r#"{"do":"record","lane":0,"moment":[0,0],"span":[0,1],"values":[[0,1]]}"#,
     r#"{"do":"record","lane":0,"moment":[0,0],"span":[0,1],"callsite":1,"values":[]}"#,
     r#"{"do":"swap_filter","lane":0,"moment":[0,0],"span":[0,1]}"#,
@@ -129,7 +129,7 @@ const CALLSITE_EDITS: [(&str, &str); 18] = [
     (r#""fields""#, r#""line":"1","fields""#),
 ];
 
-const EVENT_EDITS: [(&str, &str); 21] = [
+const EVENT_EDITS: [(&str, &str); 33] = [
     (r#""lane":0,"#, ""),
     (r#""lane":0"#, r#""lane":-1"#),
     (r#""lane":0"#, r#""lane":null"#),
@@ -143,8 +143,23 @@ const EVENT_EDITS: [(&str, &str); 21] = [
     (r#"["n",3]"#, r#"["x",3]"#),
     (r#"["n",3]"#, r#"[0,3]"#),
     (r#"["n",3]"#, r#"{"n":3}"#),
-    (r#"["n",3]"#, r#"["n",true]"#),
-    (r#"["n",3]"#, r#"["n",{"debug":"3"}]"#),
+    (r#"["n",3]"#, r#"["n",{}]"#),
+    (r#"["n",3]"#, r#"["n",{"text":"3"}]"#),
+    (r#"["n",3]"#, r#"["n",{"debug":3}]"#),
+    (r#"["n",3]"#, r#"["n",{"debug":"3","alternate":"3"}]"#),
+    (r#"["n",3]"#, r#"["n",{"error":"e"}]"#),
+    (r#"["n",3]"#, r#"["n",{"error":null,"sources":[]}]"#),
+    (r#"["n",3]"#, r#"["n",{"error":"e","sources":[1]}]"#),
+    (r#"["n",3]"#, r#"["n",{"bytes":[256]}]"#),
+    (r#"["n",3]"#, r#"["n",{"bytes":"3"}]"#),
+    (r#"["n",3]"#, r#"["n",{"i128":3}]"#),
+    (r#"["n",3]"#, r#"["n",{"i128":""}]"#),
+    (r#"["n",3]"#, r#"["n",{"u128":"-3"}]"#),
+    (
+        r#"["n",3]"#,
+        r#"["n",{"u128":"340282366920938463463374607431768211456"}]"#,
+    ),
+    (r#"["n",3]"#, r#"["n",{"i128":"3","u128":"3"}]"#),
     (r#"["n",3]"#, r#"["n",[3]]"#),
     (r#""values""#, r#""parent":null,"values""#),
     (r#""values""#, r#""parent":"leaf","values""#),

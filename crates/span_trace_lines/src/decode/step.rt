@@ -2,6 +2,7 @@
 
 use crate::decode::members::{Members, owned_text, pair};
 use crate::decode::setup::{CallsiteLine, Setup};
+use crate::decode::value::value_of;
 use crate::fault::LineFault;
 use serde_json::Value as Json;
 use span_tracing_skeleton::{
@@ -237,17 +238,4 @@ fn declares(line: &Setup, name: &str) -> bool {
 
 fn field_named(callsite: Option<&CallsiteLine>, name: &str) -> Option<usize> {
     callsite?.field_index(name)
-}
-
-fn value_of(alloc: Global, value: &Json) -> Result<OwnedValue, LineFault> {
-    match value {
-        Json::Null => Ok(OwnedValue::Empty),
-        Json::String(_) => Ok(OwnedValue::Text(owned_text(alloc, value)?)),
-        Json::Number(number) => match (number.as_u64(), number.as_i64()) {
-            (Some(whole), _) => Ok(OwnedValue::U64(whole)),
-            (None, Some(whole)) => Ok(OwnedValue::I64(whole)),
-            (None, None) => Err(LineFault::NotReadable),
-        },
-        Json::Bool(_) | Json::Array(_) | Json::Object(_) => Err(LineFault::NotReadable),
-    }
 }

@@ -9,8 +9,8 @@ fn refused(refusal: Refusal) -> Reply {
 
 /// What an event and a new span answer.
 fn made_at(parts: &mut TraceParts<Keeper>, event: &Request<'_>, span_at: u64) -> (Reply, Reply)
-    requires { IsSound ⟦<Keeper as Subscriber>⟧ parts.old }
-    ensures { IsSound ⟦<Keeper as Subscriber>⟧ parts.new }
+    requires { IsSound parts.old }
+    ensures { IsSound parts.new }
 {
     let told = parts.event(event);
     let span = Request {
@@ -98,8 +98,8 @@ fn questions_are_refused_in_order(rt: HostRuntime) -> Result<(), Fail> {
 
 /// What the calls on a span answer.
 fn answers(parts: &mut TraceParts<Keeper>, call: &SpanCall) -> [Reply; 5]
-    requires { IsSound ⟦<Keeper as Subscriber>⟧ parts.old }
-    ensures { IsSound ⟦<Keeper as Subscriber>⟧ parts.new }
+    requires { IsSound parts.old }
+    ensures { IsSound parts.new }
 {
     let record = RecordRequest {
         lane: call.lane,

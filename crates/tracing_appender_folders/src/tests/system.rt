@@ -1,8 +1,8 @@
 //! What the system answers, told as a folder's.
 
-use crate::FolderError;
 use crate::system::{fault_of, write_slot};
 use crate::tests::{NOT_FOUND, REFUSED};
+use crate::{FolderError, FolderFault};
 use std::io::{self, ErrorKind, Write};
 use std::test::Fail;
 
@@ -51,7 +51,7 @@ fn an_interrupted_write_is_tried_again(rt: HostRuntime) -> Result<(), Fail> {
 }
 
 #[test]
-fn the_kernels_want_of_memory_is_a_refusal(rt: HostRuntime) -> Result<(), Fail> {
+fn errors_are_told_by_their_kind(rt: HostRuntime) -> Result<(), Fail> {
     let kernel = io::Error::from_raw_os_error(ENOMEM);
     assert_eq!(rt; kernel.kind(), ErrorKind::OutOfMemory);
     assert_eq!(rt; fault_of(&kernel), REFUSED);
@@ -59,5 +59,10 @@ fn the_kernels_want_of_memory_is_a_refusal(rt: HostRuntime) -> Result<(), Fail> 
     assert_eq!(rt; fault_of(&ours), FolderError::OutOfMemory);
     let missing = io::Error::from(ErrorKind::NotFound);
     assert_eq!(rt; fault_of(&missing), NOT_FOUND);
+    let unsupported = io::Error::from(ErrorKind::Unsupported);
+    assert_eq!(rt;
+        fault_of(&unsupported),
+        FolderError::Fault(FolderFault::Unsupported)
+    );
     Ok(())
 }

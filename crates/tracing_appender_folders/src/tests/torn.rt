@@ -11,18 +11,22 @@ use std::test::Fail;
 /// "Input/output error" on Linux.
 const EIO: i32 = 5;
 
-/// Reads these bytes of names, and then answers an error, or that is the end.
+/// "File name too long" on Linux.
+const ENAMETOOLONG: i32 = 36;
+
+/// Reads these bytes of names, and then answers the error with that code, or that is the end.
 #[derive(Drop)]
 struct TornDirectory {
     names: &'static [u8],
-    is_torn: bool,
+    end: Option<i32>,
 }
 
 impl Read for TornDirectory {
     fn read(&mut self, buffer: &mut [u8]) -> io::Result<usize> {
         let count = self.names.len().min(buffer.len());
-        if count == 0 && self.is_torn {
-            return Err(Error::from_raw_os_error(EIO));
+        match self.end {
+            Some(code) if count == 0 => return Err(Error::from_raw_os_error(code)),
+            _ => {}
         }
         buffer[..count].copy_from_slice(&self.names[..count]);
         self.names = &self.names[count..];
@@ -35,7 +39,7 @@ impl Read for TornDirectory {
 struct Torn {
     rt: HostRuntime,
     names: &'static [u8],
-    is_torn: bool,
+    end: Option<i32>,
 }
 
 impl Files for Torn {
@@ -50,7 +54,7 @@ impl Files for Torn {
     fn open_dir(&self, _path: &str) -> io::Result<TornDirectory> {
         Ok(TornDirectory {
             names: self.names,
-            is_torn: self.is_torn,
+            end: self.end,
         })
     }
 
@@ -91,25 +95,28 @@ impl Files for Torn {
 fn listed_in(
     rt: HostRuntime,
     names: &'static [u8],
-    is_torn: bool,
+    end: Option<i32>,
 ) -> Result<DiskFolder<(Torn, Global)>, Fail> {
-    let torn = Torn { rt, names, is_torn };
+    let torn = Torn { rt, names, end };
     let path = String::from_str(rt.alloc(), "")?;
     Ok(DiskFolder::new((torn, rt.alloc()), path))
 }
 
 #[test]
 fn a_directory_that_breaks_off_is_refused(rt: HostRuntime) -> Result<(), Fail> {
-    let mut torn = listed_in(rt, b"first\0", true)?;
-    assert_eq!(rt; torn.list("").err(), Some(REFUSED));
-    assert_eq!(rt; torn.failures(), 1);
+    // a name that is no UTF-8 has the second one's kind, and is told by no call of the system
+    for code in [EIO, ENAMETOOLONG] {
+        let mut torn = listed_in(rt, b"first\0", Some(code))?;
+        assert_eq!(rt; torn.list("").err(), Some(REFUSED));
+        assert_eq!(rt; torn.failures(), 1);
+    }
     Ok(())
 }
 
 #[test]
 fn entries_that_cannot_be_read_are_passed_over(rt: HostRuntime) -> Result<(), Fail> {
     fs::write(&rt, "stands_alone", b"")?;
-    let mut folder = listed_in(rt, b"no_such_file\0\xff\0stands_alone\0", false)?;
+    let mut folder = listed_in(rt, b"no_such_file\0\xff\0stands_alone\0", None)?;
     let entries = folder.list("")?;
     assert_eq!(rt; entries.len(), 1);
     assert_eq!(rt; listed(entries.as_slice(), "stands_alone"), Some(true));

@@ -105,3 +105,59 @@ fn owned_values_take_the_call_of_their_kind(rt: HostRuntime) -> Result<(), Fail>
     assert_eq!(rt; letters.text.as_str(), "ius");
     Ok(())
 }
+
+#[test]
+fn owned_values_of_each_kind_are_lent(rt: HostRuntime) -> Result<(), Fail> {
+    let alloc = rt.alloc();
+    let sources = vec![in alloc; "why".to_string(alloc)?]?;
+    let values = vec![in alloc;
+        OwnedValue::I64(-1),
+        OwnedValue::U64(2),
+        OwnedValue::I128(-3),
+        OwnedValue::U128(4),
+        OwnedValue::Bool(false),
+        OwnedValue::Text("s".to_string(alloc)?),
+        OwnedValue::Bytes(vec![in alloc; 10_u8]?),
+        OwnedValue::Error {
+            text: "e".to_string(alloc)?,
+            sources
+        },
+        OwnedValue::Failing,
+        OwnedValue::Empty,
+    ]?;
+    let lent_sources = ["why"];
+    let expected = each_value(&lent_sources);
+    for (index, value) in values.iter().enumerate() {
+        let lent = expected.get(index).copied().flatten();
+        assert!(rt;
+            value.lend() == lent.unwrap_or(AnyValue::Empty),
+            "at {index}"
+        );
+    }
+    let debug = OwnedValue::Debug {
+        plain: "p".to_string(alloc)?,
+        alternate: "a".to_string(alloc)?,
+    };
+    let texts = DebugText::Texts {
+        plain: "p",
+        alternate: "a",
+    };
+    assert!(rt; debug.lend() == AnyValue::Debug(texts));
+    Ok(())
+}
+
+#[test]
+fn texts_are_equal_however_they_are_lent(rt: HostRuntime) -> Result<(), Fail> {
+    let alloc = rt.alloc();
+    let owned = vec![in alloc; "a".to_string(alloc)?, "b".to_string(alloc)?]?;
+    let texts = Texts::Owned(&owned);
+    assert!(rt; texts == Texts::Lent(&["a", "b"]) && texts != Texts::Lent(&["a", "c"]));
+    assert!(rt; texts != Texts::Lent(&["a"]) && Texts::Lent(&[]).is_empty());
+    assert_eq!(rt;
+        (texts.len(), texts.get(1), texts.get(2)),
+        (2, Some("b"), None)
+    );
+    let error = ErrorText::of_strings("e", &owned);
+    assert!(rt; error == ErrorText::new("e", &["a", "b"]) && error.sources() == texts);
+    Ok(())
+}

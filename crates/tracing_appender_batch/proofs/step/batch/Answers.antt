@@ -2,10 +2,10 @@ use Rattle.std.proofs.Common.{arith, ◌∙◌, sym, ap, subst, cond, ◌≡◌,
 use Rattle.tracing_appender_rolling.specs.Builders.{builder_names}
 use Rattle.tracing_appender_rolling.specs.Names.{FileNames}
 use Rattle.tracing_appender_rolling.specs.Looks.{Held}
-use Rattle.tracing_appender_rolling.specs.Appenders.{AgreesSink, Holds}
+use Rattle.tracing_appender_rolling.specs.Appenders.{Holds}
 use Rattle.tracing_appender_rolling.specs.Anywhere.{LineAt, seen_of}
 use Rattle.tracing_appender_batch.specs.Batches.{lines_in, queue_in, close_if}
-use Rattle.tracing_appender_batch.specs.Steps.{answer_of, is_missed, with_lines, LinesLeft, HandsOne}
+use Rattle.tracing_appender_batch.specs.Steps.{answer_of, is_missed, LinesSink, HandsOne}
 use Rattle.tracing_appender_batch.proofs.Cutting.{lines_none, queue_none, queue_none_left}
 use Rattle.tracing_appender_batch.proofs.Stepping.{SoFar, queue_turn, done_turn, length_turn, turn, none_so_far, counts_missed, counts_fed, ended, all_done, left_ends, handed_ends, seen_turn, seen_ends}
 use Rattle.tracing_appender_batch.proofs.step.batch.Goals as goal
@@ -61,7 +61,7 @@ loop-taken-preserved g c =
         subst (λ w. SoFar contents names c.args.moment c.args.appender.now c.write_line-fate.new.appender c.if-is_missed.missed w (done ++ slice ∷ [])) (sym c.is_whole-whole.ensures)
             (turn contents names c.args.moment c.args.appender.now c.loop-taken.appender c.write_line-fate.new.appender c.loop-taken.missed c.if-is_missed.missed c.loop-taken.whole done slice fate so
             missed
-            c.write_line-fate.ensures.agrees handed c.write_line-fate.ensures.state),
+            handed c.write_line-fate.ensures.state),
         seen_turn names c.args.moment (seen_of g.D.Folder.failed c.args.appender.now) (seen_of g.D.Folder.failed c.loop-taken.appender) (seen_of g.D.Folder.failed c.write_line-fate.new.appender) c.loop-taken.missed c.if-is_missed.missed done slice fate seen missed
             (subst (λ (n : FileNames). LineAt n c.args.moment (length slice) (answer_of fate) (seen_of g.D.Folder.failed c.loop-taken.appender) (seen_of g.D.Folder.failed c.write_line-fate.new.appender)) c.loop-taken.invariant.names c.write_line-fate.ensures.anywhere),
       );
@@ -75,15 +75,6 @@ returns-clause-taken g c =
     let none : lines_in n q ≡ [] = elim c.loop-taken-test.branch [ else-loop-taken-test w ↦ ended n q (omega (arith, w.loop-taken-test.false)) | then-loop-taken-test+in_default w ↦ lines_none n q w.in_default.ensures.0 ] in
     let all = all_done (lines_in c.args.k c.args.queue.now) done (lines_in n q) lines none in
     sym count ∙ ap length (sym all)
-
-pub returns-clause-agrees : goal.returns-clause-agrees
-returns-clause-agrees g c = λ s start missed.
-    let (done, lines, count, so, seen) = c.loop-taken.invariant.so_far in
-    let n = c.args.k - c.loop-taken.taken in
-    let q = c.loop-taken.queue in
-    let none : lines_in n q ≡ [] = elim c.loop-taken-test.branch [ else-loop-taken-test w ↦ ended n q (omega (arith, w.loop-taken-test.false)) | then-loop-taken-test+in_default w ↦ lines_none n q w.in_default.ensures.0 ] in
-    let all = all_done (lines_in c.args.k c.args.queue.now) done (lines_in n q) lines none in
-    subst (λ (xs : List (List ℕ)). AgreesSink g.D.Folder.contents c.flush_if.new.appender (with_lines s xs c.args.moment)) (sym all) (c.flush_if.ensures.agrees (with_lines s done c.args.moment) (so.agrees missed s start))
 
 pub returns-clause-handed : goal.returns-clause-handed
 returns-clause-handed g c = λ h holds.
@@ -101,7 +92,7 @@ returns-clause-state g c = λ missed d p is start.
     let q = c.loop-taken.queue in
     let none : lines_in n q ≡ [] = elim c.loop-taken-test.branch [ else-loop-taken-test w ↦ ended n q (omega (arith, w.loop-taken-test.false)) | then-loop-taken-test+in_default w ↦ lines_none n q w.in_default.ensures.0 ] in
     let all = all_done (lines_in c.args.k c.args.queue.now) done (lines_in n q) lines none in
-    subst (λ (xs : List (List ℕ)). LinesLeft g.D.Folder.contents p xs c.args.moment d c.args.appender.now c.flush_if.new.appender) (sym all)
+    subst (λ (xs : List (List ℕ)). LinesSink g.D.Folder.contents p xs c.args.moment d c.args.appender.now c.flush_if.new.appender) (sym all)
     (left_ends g.D.Folder.contents (builder_names c.args.appender.now.builder) c.args.moment c.args.appender.now c.loop-taken.appender c.flush_if.new.appender done d p start (so.left missed d p is start) c.flush_if.ensures.state c.flush_if.ensures.faults c.flush_if.ensures.current c.flush_if.ensures.opens)
 
 pub returns-clause-anywhere : goal.returns-clause-anywhere

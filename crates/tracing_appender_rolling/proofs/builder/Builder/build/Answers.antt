@@ -12,7 +12,19 @@ returns-in-Err g c =
     record {
       names_same = c.in-Err.ensures.back;
       explained = subst (λ (e : BuildError). Explains g.D.Folder.contents names c.args.folder c.args.moment e r.folder) (sym c.build_error.ensures)
-          (explained g.D.Folder.contents names c.args.folder c.args.moment r.context r.error r.folder (sym c.has_bad_name.ensures ∙ c.if-has_bad_name.false) (c.if-has_bad_link.ensures.good refl) c.in-Err.ensures.failed c.in-Err.ensures.known);
+          (explained g.D.Folder.contents names c.args.folder c.args.moment r.context r.error r.folder (sym c.has_bad_name.ensures ∙ c.if-has_bad_name.false) (c.if-has_bad_link.ensures.good refl) c.in-Err.ensures.failed c.in-Err.ensures.starved);
       told = subst (λ (e : BuildError). ReportsBuild (g.D.Folder.failed c.args.folder) e (g.D.Folder.failed r.folder)) (sym c.build_error.ensures)
           (told_build (g.D.Folder.failed c.args.folder) (g.D.Folder.failed r.folder) r.context r.error c.in-Err.ensures.error);
+    }
+
+pub returns-in-Ok : goal.returns-in-Ok
+returns-in-Ok g c =
+    let good = c.if-has_bad_link.ensures.good refl in
+    record {
+      good_name = sym c.has_bad_name.ensures ∙ c.if-has_bad_name.false;
+      good_link = good;
+      names_same = c.in-Ok.ensures.names;
+      opened = c.in-Ok.ensures.held;
+      sink = λ d is may. c.in-Ok.ensures.state d is good may;
+      counted = c.in-Ok.ensures.counted;
     }

@@ -1,0 +1,40 @@
+use Rattle.std.proofs.Common.{◌≡◌, ◌++◌, ◌∙◌, ℕ, List, true, take, drop, length, map, arith, ap, sym, subst}
+use Rattle.std.specs.List.{list_any}
+use Rattle.std.proofs.lemmas.List.{with_items_is}
+use Rattle.tracing_core_fields.specs.Metadata.{plain_metadata}
+use Rattle.tracing_core_requests.specs.Interests.{says_never}
+use Rattle.span_registry_layers_stack.specs.Refusals.{is_refusal_of, may_refuse}
+use Rattle.span_registry_layers_stack.specs.Rows.{EachBecomes}
+use Rattle.span_registry_layers_stack.specs.Sites.{KeepsInterest, PlainCachedInterest, Renews, is_of, plain_cached_interest}
+use Rattle.span_registry_layers_stack.specs.declared.cached_interest.CachedInterest.{CachedInterest}
+use Rattle.span_registry_layers_stack.proofs.Keeping.{keeps_renewed, renewed_all}
+use Rattle.span_registry_layers_stack.proofs.Refusing.{apart, none_renewed, untrue}
+use Rattle.span_registry_layers_stack.proofs.sites.Sites.keep.Goals as goal
+
+pub invariant_of-self : goal.invariant_of-self
+invariant_of-self c = λ n off.
+    let s = c.self.inside.sites in
+    let u = c.renew.new.sites in
+    let m = plain_metadata c.args.metadata.now in
+    let k = c.args.interest in
+    let whole : take s.len (u ++ drop (length u) s.items) ≡ u = with_items_is s u (omega arith) in
+    let becomes : EachBecomes (Renews m k) s.items u = subst (λ (sites : List CachedInterest). EachBecomes (Renews m k) sites u) c.deref_mut.ensures.value c.renew.ensures in
+    let noted : says_never k ≡ true → may_refuse c.note.new.self m.callsite ≡ true = λ says. subst (λ (x : ℕ). may_refuse c.note.new.self x ≡ true) c.callsite-number.ensures (c.note.ensures.noted says) in
+    ap (λ (sites : List CachedInterest). list_any (is_refusal_of n) (map plain_cached_interest sites)) whole
+    ∙ ap (list_any (is_refusal_of n)) (renewed_all m k s.items u becomes)
+    ∙ none_renewed m k n (map plain_cached_interest s.items) (apart k (may_refuse c.note.new.self) m.callsite n noted off)
+    (c.self.invariant n (untrue (may_refuse c.self.inside.refusals n) (may_refuse c.note.new.self n) (c.note.ensures.stays n) off))
+
+pub returns-then-is_kept : goal.returns-then-is_kept
+returns-then-is_kept c =
+    let s = c.self.inside.sites in
+    let u = c.renew.new.sites in
+    let m = plain_metadata c.args.metadata.now in
+    let k = c.args.interest in
+    let whole : take s.len (u ++ drop (length u) s.items) ≡ u = with_items_is s u (omega arith) in
+    let becomes : EachBecomes (Renews m k) s.items u = subst (λ (sites : List CachedInterest). EachBecomes (Renews m k) sites u) c.deref_mut.ensures.value c.renew.ensures in
+    let kept : list_any (is_of m) (map plain_cached_interest s.items) ≡ true =
+    ap (λ (sites : List CachedInterest). list_any (is_of m) (map plain_cached_interest sites)) (sym c.deref.ensures.value) ∙ sym c.is_kept.ensures ∙ c.if-is_kept.true in
+    subst (λ (old : List PlainCachedInterest). KeepsInterest true m k old (map plain_cached_interest (take s.len (u ++ drop (length u) s.items)))) c.self.view_is
+    (subst (λ (sites : List CachedInterest). KeepsInterest true m k (map plain_cached_interest s.items) (map plain_cached_interest sites)) (sym whole)
+    (keeps_renewed m k s.items u kept becomes))

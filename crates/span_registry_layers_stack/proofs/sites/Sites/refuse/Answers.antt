@@ -1,0 +1,16 @@
+use Rattle.std.proofs.Common.{◌∙◌, ◌≡◌, ℕ, false, map, ap, sym, subst}
+use Rattle.std.specs.List.{list_any}
+use Rattle.tracing_core_fields.specs.Metadata.{plain_metadata}
+use Rattle.span_registry_layers_stack.specs.Refusals.{is_refusal_of, may_refuse}
+use Rattle.span_registry_layers_stack.specs.Sites.{is_refused_by, plain_cached_interest}
+use Rattle.span_registry_layers_stack.proofs.Refusing.{nobody_refuses}
+use Rattle.span_registry_layers_stack.proofs.sites.Sites.refuse.Goals as goal
+
+pub returns-then-not-may_refuse : goal.returns-then-not-may_refuse
+returns-then-not-may_refuse c =
+    let m = plain_metadata c.args.metadata.now in
+    let sites = map plain_cached_interest c.self.inside.sites.items in
+    let off : may_refuse c.self.inside.refusals c.callsite-number.result.0 ≡ false = sym c.may_refuse.ensures ∙ c.if-not-may_refuse.true in
+    let none : list_any (is_refusal_of m.callsite) sites ≡ false =
+    subst (λ (n : ℕ). list_any (is_refusal_of n) sites ≡ false) c.callsite-number.ensures (c.self.invariant c.callsite-number.result.0 off) in
+    sym (ap (list_any (is_refused_by m)) (sym c.self.view_is) ∙ nobody_refuses m sites none)
