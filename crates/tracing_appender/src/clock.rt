@@ -1,0 +1,17 @@
+//! What tells the time.
+ghost use Rattle.std.specs.Prelude.{◌≡◌, true};
+ghost use Rattle.tracing_appender_rolling.specs.Moment.{Moment};
+ghost use Rattle.tracing_appender_rolling.specs.Moments.{is_moment};
+
+use tracing_appender_rolling::Moment;
+
+/// Tells what moment it is.
+pub trait Clock: Drop {
+    // Which moment one reading may answer, and what it leaves of the clock.
+    ghost reads: { Self → Moment → Self → Type 0 };
+
+    /// The moment that it is now, from 0001-01-01 to 9998-12-31.
+    fn now(&mut self) -> Moment
+        ensures in_range { is_moment result ≡ true }
+        ensures read { reads self.old result self.new };
+}

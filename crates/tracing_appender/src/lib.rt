@@ -1,0 +1,32 @@
+//! Log files that change by the period, as an application uses them.
+//!
+//! A builder is told how often the file changes, its prefix and suffix, how many files stay and the name of a link to
+//! the latest one. It builds an appender over a folder, and a clocked appender takes that appender and a clock. It is
+//! an `io::Write` and takes the lines of a formatter as a `MakeWriter`; each write looks at the clock once, and
+//! changes the file where its period is over. To write some bytes to one file whatever time it gets meanwhile, ask it
+//! for a writer by `make_writer`.
+#![tactic(auto)]
+
+mod clock;
+mod clocked;
+mod fixed;
+mod refusal;
+mod system;
+mod writer;
+
+pub use clock::Clock;
+pub use clocked::ClockedAppender;
+pub use fixed::FixedClock;
+pub use system::SystemClock;
+pub use tracing_appender_rolling::{
+    BadMoment, BuildError, BuildRefusal, Builder, DiskFolder, Entry, Faults, FaultyFolder,
+    FileEntry, FileNumber, Folder, FolderError, FolderFault, InitContext, InitError, MemoryFolder,
+    Moment, RollingFileAppender, Rotation, daily, date_text, dates_count_days, files_by_period,
+    files_go_by_tries, files_read_in_order, hourly, later_periods_are_due, lines_have_one_end,
+    lines_stand_whole, minutely, names_differ, names_rise, never, retention_spares_others, weekly,
+    worked_dates,
+};
+pub use writer::RollingWriter;
+
+#[cfg(test)]
+mod tests;

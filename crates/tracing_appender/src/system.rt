@@ -1,0 +1,62 @@
+//! The clock of the machine.
+ghost use Rattle.std.specs.Prelude.{◌≡◌, ℕ, Option, Some, true};
+ghost use Rattle.tracing_appender_rolling.specs.Moments.{is_moment};
+ghost use Rattle.std.specs.Duration.{as_nanos};
+ghost use Rattle.tracing_appender.specs.Told.{told};
+
+use crate::clock::Clock;
+use std::rt;
+use std::time::{Duration, SystemTime, UNIX_EPOCH};
+use tracing_appender_rolling::Moment;
+
+/// The clock of the machine, as a runtime reads it. Where it can't be read, or reads a moment before 1970 or after
+/// 9998-12-31, the clock answers again what it answered last, at first the moment that it was made with.
+#[derive(Drop)]
+pub struct SystemClock<R> {
+    runtime: R,
+    last: Moment,
+    ghost in_range: { is_moment last ≡ true },
+}
+
+impl<R> SystemClock<R> {
+    /// A clock that reads by this runtime, and answers this moment until it could be read.
+    pub fn new(runtime: R, first: Moment) -> SystemClock<R>
+        requires { is_moment first ≡ true }
+        ensures { (result.runtime ≡ runtime) × (result.last ≡ first) }
+    {
+        SystemClock {
+            runtime,
+            last: first,
+        }
+    }
+}
+
+/// The moment so long after 1970-01-01T00:00:00Z, where it is in range.
+fn moment_after(since_1970: Duration) -> Option<Moment>
+    ensures { result ≡ told (Some (as_nanos since_1970)) }
+{
+    let seconds = i64::try_from(since_1970.as_secs()).ok()?;
+    Moment::new(seconds, since_1970.subsec_nanos()).ok()
+}
+
+/// What the machine's clock reads, where it can be read and that is in range.
+fn read<R: rt::Clock>(runtime: &R) -> Option<Moment>
+    ensures { (nanoseconds : Option ℕ) × (result ≡ told nanoseconds) }
+{
+    let time = SystemTime::now(runtime).ok()?;
+    let since_1970 = time.duration_since(UNIX_EPOCH).ok()?;
+    moment_after(since_1970)
+}
+
+impl<R: rt::Clock + Drop> Clock for SystemClock<R> {
+    ghost use Rattle.tracing_appender.specs.SystemClocks.{ReadsMachine};
+
+    ghost reads = { ReadsMachine };
+
+    fn now(&mut self) -> Moment {
+        if let Some(moment) = read(&self.runtime) {
+            self.last = moment;
+        }
+        self.last
+    }
+}

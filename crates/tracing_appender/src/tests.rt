@@ -1,0 +1,137 @@
+//! Lines by a clock that is set, by one that runs, and by the machine's.
+
+ghost use Rattle.std.specs.Prelude.{◌≡◌, IfOk, true};
+ghost use Rattle.tracing_appender_rolling.specs.Moments.{is_moment};
+
+mod clocks;
+mod refused;
+
+use crate::{
+    Builder, Clock, ClockedAppender, FaultyFolder, FixedClock, Folder, MemoryFolder, Moment,
+    RollingFileAppender, Rotation,
+};
+use clocks::{FEBRUARY, HourClock};
+use event_formatter_makers::MakeWriter;
+use std::alloc::{AllocError, Global};
+use std::io;
+use std::io::Write;
+use std::test::Fail;
+use tracing_core_fields::{FieldSet, Identifier, Kind, Level, Metadata};
+
+/// So many seconds after 2020-02-01T10:01:00Z.
+fn later(seconds: i64) -> Result<Moment, Fail>
+    ensures { IfOk result (λ moment. is_moment moment ≡ true) }
+{
+    match FEBRUARY.seconds.checked_add(seconds) {
+        Some(seconds) => Ok(Moment::new(seconds, 0)?),
+        None => Err("too late".into()),
+    }
+}
+
+/// An appender whose file changes each hour, opened on 2020-02-01 at 10:01.
+fn hourly_files<D: Folder>(alloc: Global, folder: D) -> Result<RollingFileAppender<D>, Fail> {
+    let prefix = String::from_str(alloc, "test_make_writer")?;
+    let appender = Builder::new()
+        .rotation(Rotation::HOURLY)
+        .filename_prefix(prefix)
+        .build(alloc, folder, FEBRUARY)
+        .map_err(|refusal| refusal.error)?;
+    Ok(appender)
+}
+
+/// Hands a line over as a formatter does, which knows nothing of the maker but that it takes lines.
+fn hand<M: MakeWriter>(maker: &mut M, line: &[u8]) -> io::Result<()> {
+    let fields = FieldSet::new(&[], Identifier(1));
+    let metadata = Metadata::new(
+        "n",
+        "app",
+        Level::INFO,
+        None,
+        None,
+        None,
+        fields,
+        Kind::EVENT,
+    );
+    maker.write_for(&metadata, line)
+}
+
+/// Writes a line as any writer's user does.
+fn put<W: Write>(writer: &mut W, line: &[u8]) -> io::Result<()> {
+    writer.write_all(line)?;
+    writer.flush()
+}
+
+/// Whether the folder has the file with these bytes.
+fn holds(folder: &MemoryFolder, name: &str, bytes: &[u8]) -> Result<bool, AllocError> {
+    let entries = folder.files()?;
+    Ok(
+        entries
+            .iter()
+            .any(|entry| entry.name == name && entry.bytes == bytes),
+    )
+}
+
+/// Whether two lines stand in the file of each hour.
+fn has_two_hours(folder: &MemoryFolder) -> Result<bool, AllocError> {
+    Ok(
+        holds(
+            folder,
+            "test_make_writer.2020-02-01-10",
+            b"file 1\nfile 1\n",
+        )? && holds(
+            folder,
+            "test_make_writer.2020-02-01-11",
+            b"file 2\nfile 2\n",
+        )?,
+    )
+}
+
+#[test]
+fn lines_go_to_the_file_of_their_hour(rt: HostRuntime) -> Result<(), Fail> {
+    let alloc = rt.alloc();
+    let appender = hourly_files(alloc, MemoryFolder::new(alloc))?;
+    let mut clocked = ClockedAppender::new(appender, FixedClock::new(later(0)?));
+    hand(&mut clocked, b"file 1\n")?;
+    clocked.clock_mut().set(later(1)?);
+    hand(&mut clocked, b"file 1\n")?;
+    clocked.clock_mut().set(later(3_601)?);
+    hand(&mut clocked, b"file 2\n")?;
+    clocked.clock_mut().set(later(3_602)?);
+    hand(&mut clocked, b"file 2\n")?;
+    assert!(rt; has_two_hours(clocked.appender().folder())?);
+    assert_eq!(rt; clocked.into_appender().into_folder().files()?.len(), 2);
+    Ok(())
+}
+
+#[test]
+fn bytes_go_to_the_file_of_their_hour(rt: HostRuntime) -> Result<(), Fail> {
+    let alloc = rt.alloc();
+    let appender = hourly_files(alloc, MemoryFolder::new(alloc))?;
+    let mut clocked = ClockedAppender::new(appender, FixedClock::new(later(0)?));
+    put(&mut clocked, b"file 1\n")?;
+    clocked.clock_mut().set(later(1)?);
+    put(&mut clocked, b"file 1\n")?;
+    clocked.clock_mut().set(later(3_601)?);
+    put(&mut clocked, b"file 2\n")?;
+    clocked.clock_mut().set(later(3_602)?);
+    assert_eq!(rt; clocked.write(b"file 2\n")?, 7);
+    assert!(rt; has_two_hours(clocked.appender().folder())?);
+    Ok(())
+}
+
+/// The clock goes on by an hour at each reading.
+#[test]
+fn a_writer_stays_with_its_file(rt: HostRuntime) -> Result<(), Fail> {
+    let alloc = rt.alloc();
+    let appender = hourly_files(alloc, MemoryFolder::new(alloc))?;
+    let mut clocked = ClockedAppender::new(appender, HourClock::new());
+    let mut writer = clocked.make_writer();
+    put(&mut writer, b"file 1\n")?;
+    assert_eq!(rt; writer.write(b"file 1\n")?, 7);
+    let mut writer = clocked.make_writer();
+    put(&mut writer, b"file 2\n")?;
+    put(&mut writer, b"file 2\n")?;
+    assert!(rt; has_two_hours(clocked.appender().folder())?);
+    assert_eq!(rt; clocked.into_appender().into_folder().files()?.len(), 2);
+    Ok(())
+}
