@@ -28,11 +28,12 @@ import cases  # noqa: E402
 import edits  # noqa: E402
 import lanes  # noqa: E402
 import ledger  # noqa: E402
+import real_files  # noqa: E402
 from kit import Crate, rt, rtlib  # noqa: E402
 
 LEDGER = "docs/edits.ledger"
 # The program that the README shows a part of.
-EXAMPLE = "crates/example_log/src/main.rt"
+EXAMPLE = "crates/examples_requests/src/main.rt"
 # What a proof was seen to take at most, in bytes, with what the system needs beside it.
 MEMORY = 3_500_000_000
 
@@ -144,6 +145,8 @@ class Gate:
             if it.name == cases.PROGRAM:
                 call = lambda jobs, it=it: cases.tried(cases.built(it), cases.sorted_out()[0])
                 found[it.name, "cases"] = lanes.Task([(it.name, "program")], lines // 40, call)
+                call = lambda jobs, it=it: real_files.tried(cases.built(it))
+                found[it.name, "real files"] = lanes.Task([(it.name, "program")], lines // 40, call)
             if it.has_tests():
                 call = tests_proved if self.how.tests == "prove" else tests_run
                 found[it.name, "tests"] = lanes.Task(after, lines // 4, lambda jobs, it=it, call=call: call(it))
@@ -182,11 +185,11 @@ class Gate:
                 print(f"gate: must-fail {name}/{edit}: {text}")
                 self.count(is_refused, f"{name}/{edit}")
                 self.refused |= {f"{name}/{edit}"} if is_refused else set()
-        elif part == "cases" and it.is_well:
+        elif part in ("cases", "real") and it.is_well:
             for case, text in it.gave.items():
-                print(f"gate: case {case}: {text or 'as its files say'}")
+                print(f"gate: case {case}: {text or 'as it has to be'}")
                 self.count(not text, f"case {case}")
-        if part not in ("plan", "edits", "cases") or not it.is_well:
+        if part not in ("plan", "edits", "cases", "real") or not it.is_well:
             self.count(it.is_well, " ".join(key))
         self.open[name] += len(follow) - 1
         if not self.open[name]:

@@ -40,7 +40,7 @@ fn main(rt: HostRuntime) -> ExitCode {
         return ExitCode::from(4);
     };
     let status = main_with(
-        rt.alloc(),
+        &rt,
         arguments.as_slice(),
         &mut rt.stdin(),
         &mut io::writer(&rt),

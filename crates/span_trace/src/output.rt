@@ -1,57 +1,36 @@
-//! The layer of an output, as its line asks for it.
+//! How the lines of an output look, as its line asks for it.
 
-use event_formatter::{
-    Fields, FixedText, FmtSpan, Format, Json, Layer, LineFormat, Pretty, SystemTime, Timer,
-};
-use span_trace_lines::{FormatName, OutputLine, SpanEvent, TimeLine};
-use span_tracing::{OutputKey, PendingLines};
-use std::alloc::{AllocError, Global};
+use span_trace_lines::{FormatName, SpanEvent, TimeLine};
+use span_tracing::{FixedText, FmtSpan, LineSettings, SystemTime, Timer};
 
-/// The layer of an output of any format.
-pub(crate) type OutputLayer = Layer<Fields, Format<LineFormat, Timer>, PendingLines>;
-
-/// The layer that writes the lines of the output. It shows no threads, and no styles; the place in the source
-/// stands in the pretty format alone.
-///
-/// # Errors
-///
-/// Want of memory for the text of the time.
-pub(crate) fn layer_of(alloc: Global, line: &OutputLine) -> Result<OutputLayer, AllocError> {
-    let plain = Layer::new(alloc, OutputKey(line.key), PendingLines::new(alloc));
-    let timed = match &line.time {
-        TimeLine::System => plain.with_timer(Timer::System(SystemTime::new())),
-        TimeLine::Fixed(text) => {
-            let text = FixedText::new(text.clone()?);
-            plain.with_timer(Timer::Fixed(text))
-        }
-        TimeLine::Absent => plain.without_time().with_timer(Timer::Empty),
+/// How lines of the format look. They show no threads, and have no styles; the place in the source stands in the
+/// pretty format alone.
+pub(crate) fn settings_of(
+    format: FormatName,
+    time: TimeLine,
+    show_level: bool,
+    span_events: &[SpanEvent],
+) -> LineSettings {
+    let usual = match format {
+        FormatName::Full => LineSettings::full(),
+        FormatName::Compact => LineSettings::compact(),
+        FormatName::Pretty => LineSettings::pretty(),
+        FormatName::Json => LineSettings::json(),
     };
-    let shape = shape_of(line.format);
-    Ok(
-        timed
-            .map_event_format(|format| format.with_shape(shape))
-            .fmt_fields(fields_of(line.format))
-            .with_source_location(line.format == FormatName::Pretty)
-            .with_level(line.show_level)
-            .with_span_events(moments_of(line.span_events.as_slice())),
-    )
-}
-
-fn shape_of(format: FormatName) -> LineFormat {
-    match format {
-        FormatName::Full => LineFormat::Full,
-        FormatName::Compact => LineFormat::Compact,
-        FormatName::Pretty => LineFormat::Pretty(Pretty::new()),
-        FormatName::Json => LineFormat::Json(Json::new()),
+    LineSettings {
+        timer: timer_of(time),
+        level: show_level,
+        span_events: moments_of(span_events),
+        ..usual
     }
 }
 
-/// How spans' values stand in lines of the format.
-fn fields_of(format: FormatName) -> Fields {
-    match format {
-        FormatName::Full | FormatName::Compact => Fields::Default,
-        FormatName::Pretty => Fields::Pretty,
-        FormatName::Json => Fields::Json,
+/// What tells the time of a line.
+fn timer_of(time: TimeLine) -> Timer {
+    match time {
+        TimeLine::System => Timer::System(SystemTime::new()),
+        TimeLine::Fixed(text) => Timer::Fixed(FixedText::new(text)),
+        TimeLine::Absent => Timer::Empty,
     }
 }
 

@@ -8,21 +8,22 @@ use crate::read::Input;
 use crate::run::run_steps;
 use crate::script::Script;
 use crate::setup::Stage;
-use crate::stack::MemoryStack;
+use crate::stack::{LogFolder, LogStack};
 use span_trace_lines::{PrintFault, write_files, write_replies};
-use span_tracing::{Reply, Trace};
+use span_tracing::{EitherFolder, Reply, RollingSink, RoutedSinks, Trace};
 use std::alloc::Global;
 use std::io::{Read, Write};
+use std::rt::Files;
 
 /// A trace whose steps have run, with the replies.
 #[derive(Drop)]
-struct Answer {
+struct Answer<X: Files + AllocGlobal + Clone + Drop> {
     replies: Vec<Reply>,
-    trace: Trace<MemoryStack>,
-    folders: Vec<String>,
+    trace: Trace<LogStack<X>>,
+    folders: Vec<Option<String>>,
 }
 
-impl Answer {
+impl<X: Files + AllocGlobal + Clone + Drop> Answer<X> {
     fn has_refusal(&self) -> bool {
         self.replies
             .iter()
@@ -31,13 +32,34 @@ impl Answer {
 
     fn write<W: Write>(&self, alloc: Global, output: &mut W) -> Result<(), PrintFault> {
         write_replies(alloc, self.replies.as_slice(), output)?;
+        let mut names = self.folders.as_slice();
         if let Some(stack) = self.trace.stack() {
-            for (sink, name) in stack.sinks().iter().zip(self.folders.iter()) {
-                write_files(alloc, name.as_str(), sink.appender().folder(), output)?;
+            for routed in stack.sinks() {
+                names = write_output(alloc, routed, names, output)?;
             }
         }
         Ok(())
     }
+}
+
+/// Writes the files of an output's sinks, as far as they are in memory, and gives the names that are left for later outputs.
+fn write_output<'a, X: Files + AllocGlobal + Clone + Drop, W: Write>(
+    alloc: Global,
+    routed: &RoutedSinks<RollingSink<LogFolder<X>>>,
+    names: &'a [Option<String>],
+    output: &mut W,
+) -> Result<&'a [Option<String>], PrintFault> {
+    let mut rest = names;
+    for sink in routed.sinks() {
+        let [name, later @ ..] = rest else {
+            return Ok(rest);
+        };
+        if let (Some(name), EitherFolder::A(folder)) = (name, sink.appender().folder()) {
+            write_files(alloc, name.as_str(), folder, output)?;
+        }
+        rest = later;
+    }
+    Ok(rest)
 }
 
 /// Whether the arguments are the one word `replay`.
@@ -51,14 +73,18 @@ fn asks_replay(arguments: &[String]) -> bool
 }
 
 /// Reads the whole input, makes its setup calls, and then runs its steps.
-fn replay<R: Read>(alloc: Global, input: &mut R) -> Result<Answer, Stop> {
+fn replay<X: Files + AllocGlobal + Clone + Drop, R: Read>(
+    rt: &X,
+    input: &mut R,
+) -> Result<Answer<X>, Stop> {
+    let alloc = rt.alloc();
     let read = Input::read(alloc, input)?;
     let Script { setup, steps } = Script::read(alloc, &read)?;
     let Stage {
         mut trace,
         callsites,
         folders,
-    } = Stage::set_up(alloc, setup)?;
+    } = Stage::set_up(rt, setup)?;
     let replies = run_steps(alloc, &mut trace, callsites.as_slice(), steps)?;
     Ok(Answer {
         replies,
@@ -74,8 +100,8 @@ fn replay<R: Read>(alloc: Global, input: &mut R) -> Result<Answer, Stop> {
 /// refused a write.
 ///
 /// The output has a line for each step and then one for each file. With 2 and 3 nothing is written to it.
-pub fn main_with<R: Read, W: Write, E: Write>(
-    alloc: Global,
+pub fn main_with<X: Files + AllocGlobal + Clone + Drop, R: Read, W: Write, E: Write>(
+    rt: &X,
     arguments: &[String],
     input: &mut R,
     output: &mut W,
@@ -94,12 +120,12 @@ pub fn main_with<R: Read, W: Write, E: Write>(
         Stop::Usage.tell(errors);
         return Stop::Usage.status();
     }
-    match replay(alloc, input) {
+    match replay(rt, input) {
         Err(stop) => {
             stop.tell(errors);
             stop.status()
         }
-        Ok(answer) => match answer.write(alloc, output) {
+        Ok(answer) => match answer.write(rt.alloc(), output) {
             Err(fault) => fault.status(),
             Ok(()) => u8::from(answer.has_refusal()),
         },

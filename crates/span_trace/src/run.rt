@@ -1,9 +1,10 @@
 //! The steps of a script, run on a trace.
 
-use crate::stack::MemoryStack;
+use crate::stack::LogStack;
 use span_trace_lines::{CallsiteLine, NamedValue, RecordLine, StepLine};
 use span_tracing::{FieldValue, RecordCall, Reply, SpanName, Step, Trace};
 use std::alloc::{AllocError, Global};
+use std::rt::Files;
 
 /// The replies so far, and which callsite each span is of.
 #[derive(Debug, Drop)]
@@ -16,9 +17,9 @@ struct Replies {
 
 impl Replies {
     /// Runs the steps, which are then done.
-    fn run(
+    fn run<X: Files + AllocGlobal + Clone + Drop>(
         &mut self,
-        trace: &mut Trace<MemoryStack>,
+        trace: &mut Trace<LogStack<X>>,
         steps: &mut Vec<Step>,
     ) -> Result<(), AllocError> {
         let replies = trace.run(steps.as_slice())?;
@@ -40,9 +41,9 @@ impl Replies {
 }
 
 /// Runs the steps in order. Before a record those so far are run, since their replies tell the callsite of its span.
-pub(crate) fn run_steps(
+pub(crate) fn run_steps<X: Files + AllocGlobal + Clone + Drop>(
     alloc: Global,
-    trace: &mut Trace<MemoryStack>,
+    trace: &mut Trace<LogStack<X>>,
     callsites: &[CallsiteLine],
     lines: Vec<StepLine>,
 ) -> Result<Vec<Reply>, AllocError> {

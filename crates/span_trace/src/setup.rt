@@ -1,27 +1,30 @@
 //! The setup calls of a script, made on a new trace.
 
 use crate::fault::{Fault, Stop};
-use crate::stack::{MemoryStack, output_of, stack_of};
+use crate::stack::{LogStack, output_of};
 use span_trace_lines::{CallsiteLine, LaneLine, LineFault, Setup, StackLine};
-use span_tracing::{Refusal, Trace};
+use span_tracing::{Refusal, Trace, open_stack};
 use std::alloc::{AllocError, Global};
+use std::rt::Files;
 use tracing_core::{FieldSet, Identifier, Metadata};
 
-/// A trace that is set up, its callsites' lines, and for each sink the name under which its files are shown.
+/// A trace that is set up, its callsites' lines, and for each sink the name under which its files are shown, where they are in
+/// memory.
 #[derive(Drop)]
-pub(crate) struct Stage {
-    pub(crate) trace: Trace<MemoryStack>,
+pub(crate) struct Stage<X: Files + AllocGlobal + Clone + Drop> {
+    pub(crate) trace: Trace<LogStack<X>>,
     pub(crate) callsites: Vec<CallsiteLine>,
-    pub(crate) folders: Vec<String>,
+    pub(crate) folders: Vec<Option<String>>,
 }
 
-impl Stage {
+impl<X: Files + AllocGlobal + Clone + Drop> Stage<X> {
     /// Makes the calls in order.
     ///
     /// # Errors
     ///
     /// The first refused call, by its line.
-    pub(crate) fn set_up(alloc: Global, setup: Vec<Setup>) -> Result<Stage, Stop> {
+    pub(crate) fn set_up(rt: &X, setup: Vec<Setup>) -> Result<Stage<X>, Stop> {
+        let alloc = rt.alloc();
         let mut stage = Stage {
             trace: Trace::new(alloc),
             callsites: Vec::new(alloc),
@@ -30,31 +33,28 @@ impl Stage {
         let mut number: u64 = 0;
         for call in setup {
             number = number.saturating_add(1);
-            if let Err(fault) = stage.make(alloc, call) {
+            if let Err(fault) = stage.make(rt, call) {
                 return Err(Stop::Line { number, fault });
             }
         }
         Ok(stage)
     }
 
-    fn make(&mut self, alloc: Global, call: Setup) -> Result<(), Fault> {
+    fn make(&mut self, rt: &X, call: Setup) -> Result<(), Fault> {
         match call {
-            Setup::Stack(line) => self.add_stack(alloc, line),
-            Setup::Callsite(line) => self.add_callsite(alloc, line),
+            Setup::Stack(line) => self.add_stack(rt, line),
+            Setup::Callsite(line) => self.add_callsite(rt.alloc(), line),
             Setup::Lane(line) => self.add_lane(line).map_err(Fault::Refused),
         }
     }
 
-    fn add_stack(&mut self, alloc: Global, line: StackLine) -> Result<(), Fault> {
-        let mut outputs = Vec::new(alloc);
-        let mut builders = Vec::new(alloc);
+    fn add_stack(&mut self, rt: &X, line: StackLine) -> Result<(), Fault> {
+        let mut outputs = Vec::new(rt.alloc());
         for output in line.outputs {
-            let made = output_of(alloc, output).map_err(Fault::Refused)?;
-            self.folders.push(made.folder)?;
-            outputs.push(made.output)?;
-            builders.push(made.builder)?;
+            let output = output_of(rt, output, &mut self.folders).map_err(Fault::Refused)?;
+            outputs.push(output)?;
         }
-        let stack = stack_of(alloc, outputs, builders, line.moment).map_err(Fault::Refused)?;
+        let stack = open_stack(rt.alloc(), outputs, line.moment).map_err(Fault::Refused)?;
         if self.trace.has_stack() {
             return Err(Fault::Unread(LineFault::NotReadable));
         }

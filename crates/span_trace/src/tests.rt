@@ -1,6 +1,5 @@
 //! The program over memory.
 
-mod layers;
 mod readable;
 mod refusals;
 mod streams;
@@ -9,7 +8,6 @@ mod unreadable;
 use crate::program::main_with;
 use std::alloc::{AllocError, Global};
 use std::io::Read;
-use std::process::Abort;
 use std::test::Fail;
 
 /// A stack with one output into a folder A.
@@ -56,11 +54,16 @@ pub(crate) struct Want<'a> {
 }
 
 /// The program on these words and this input.
-pub(crate) fn run_on<R: Read>(alloc: Global, words: &[&str], input: &mut R) -> Result<Run, Fail> {
+pub(crate) fn run_on<R: Read>(
+    rt: &HostRuntime,
+    words: &[&str],
+    input: &mut R,
+) -> Result<Run, Fail> {
+    let alloc = rt.alloc();
     let words = words_of(alloc, words)?;
     let mut output = Vec::with_capacity(alloc, ROOM)?;
     let mut errors = Vec::with_capacity(alloc, ROOM)?;
-    let status = main_with(alloc, words.as_slice(), input, &mut output, &mut errors);
+    let status = main_with(rt, words.as_slice(), input, &mut output, &mut errors);
     Ok(Run {
         status,
         output,
@@ -69,8 +72,8 @@ pub(crate) fn run_on<R: Read>(alloc: Global, words: &[&str], input: &mut R) -> R
 }
 
 /// The program on the word `replay`.
-pub(crate) fn replayed(alloc: Global, mut input: &[u8]) -> Result<Run, Fail> {
-    run_on(alloc, &["replay"], &mut input)
+pub(crate) fn replayed(rt: &HostRuntime, mut input: &[u8]) -> Result<Run, Fail> {
+    run_on(rt, &["replay"], &mut input)
 }
 
 /// Words as the program is given them.
@@ -128,13 +131,12 @@ fn wanted_memory(run: &Run, want: &Want<'_>) -> bool {
 
 /// Runs the program and compares. An answer that lacks memory is a failure of that name.
 pub(crate) fn expect_run(
-    rt: &impl Abort,
-    alloc: Global,
+    rt: &HostRuntime,
     input: &[u8],
     want: Want<'_>,
     case: &str,
 ) -> Result<(), Fail> {
-    let run = replayed(alloc, input)?;
+    let run = replayed(rt, input)?;
     if wanted_memory(&run, &want) {
         return Err(Fail::new("out of memory"));
     }
@@ -154,8 +156,7 @@ pub(crate) fn expect_run(
 
 /// Runs the program on an input that it refuses with this line alone.
 pub(crate) fn expect_stop(
-    rt: &impl Abort,
-    alloc: Global,
+    rt: &HostRuntime,
     input: &[u8],
     errors: &str,
     case: &str,
@@ -165,5 +166,5 @@ pub(crate) fn expect_stop(
         output: "",
         errors,
     };
-    expect_run(rt, alloc, input, want, case)
+    expect_run(rt, input, want, case)
 }

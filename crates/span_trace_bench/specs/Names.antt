@@ -2,7 +2,7 @@
 use Rattle.std.specs.Prelude.{ℕ, List, [], ◌∷◌, Bool, true, false, ◌&&◌, codes, is_some, Option, Some, None, if◌then◌else◌}
 use Rattle.std.specs.Str.{bytes_eq}
 use Rattle.span_trace_bench.specs.declared.bench.Bench.{Bench}
-use Rattle.span_trace_bench.specs.declared.bench.Bench.TheVariants.{DirectMemory, DirectFile, TwoOutputs, JsonMemory, Never, Refused, Depth64, Open10k, Callsites1k, SpanCycle, SpanCycle10k, Open, FormatFull, FormatCompact, FormatPretty, FormatJson}
+use Rattle.span_trace_bench.specs.declared.bench.Bench.TheVariants.{DirectMemory, DirectFile, TwoOutputs, JsonMemory, Never, NeverSkipped, Refused, Depth64, Open10k, Callsites1k, SpanCycle, SpanCycle10k, Open, FormatFull, FormatCompact, FormatPretty, FormatJson}
 
 abbrev pub name_of : Bench → List ℕ
 name_of DirectMemory = codes "direct_memory"
@@ -10,6 +10,7 @@ name_of DirectFile = codes "direct_file"
 name_of TwoOutputs = codes "two_outputs"
 name_of JsonMemory = codes "json_memory"
 name_of Never = codes "never"
+name_of NeverSkipped = codes "never_skipped"
 name_of Refused = codes "refused"
 name_of Depth64 = codes "depth64"
 name_of Open10k = codes "open10k"
@@ -23,7 +24,7 @@ name_of FormatPretty = codes "format_pretty"
 name_of FormatJson = codes "format_json"
 
 abbrev pub all_benches : List Bench
-all_benches = DirectMemory ∷ DirectFile ∷ TwoOutputs ∷ JsonMemory ∷ Never ∷ Refused ∷ Depth64 ∷ Open10k ∷ Callsites1k ∷ SpanCycle
+all_benches = DirectMemory ∷ DirectFile ∷ TwoOutputs ∷ JsonMemory ∷ Never ∷ NeverSkipped ∷ Refused ∷ Depth64 ∷ Open10k ∷ Callsites1k ∷ SpanCycle
     ∷ SpanCycle10k ∷ Open ∷ FormatFull ∷ FormatCompact ∷ FormatPretty ∷ FormatJson ∷ []
 
 abbrev pub named_in : List Bench → List ℕ → Option Bench

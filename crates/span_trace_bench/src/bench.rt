@@ -22,6 +22,8 @@ pub enum Bench {
     JsonMemory,
     /// Events of a callsite in which nobody is interested.
     Never,
+    /// The same through `event!`, which makes no request there.
+    NeverSkipped,
     /// Events of a callsite that the filter refuses.
     Refused,
     /// Events in 64 spans, each inside the one before.
@@ -47,11 +49,12 @@ pub enum Bench {
 }
 
 /// The benches that need no folder of the system.
-pub(crate) const IN_MEMORY: [Bench; 15] = [
+pub(crate) const IN_MEMORY: [Bench; 16] = [
     Bench::DirectMemory,
     Bench::TwoOutputs,
     Bench::JsonMemory,
     Bench::Never,
+    Bench::NeverSkipped,
     Bench::Refused,
     Bench::Depth64,
     Bench::Open10k,
@@ -76,6 +79,7 @@ impl Bench {
             "two_outputs" => Some(Bench::TwoOutputs),
             "json_memory" => Some(Bench::JsonMemory),
             "never" => Some(Bench::Never),
+            "never_skipped" => Some(Bench::NeverSkipped),
             "refused" => Some(Bench::Refused),
             "depth64" => Some(Bench::Depth64),
             "open10k" => Some(Bench::Open10k),
@@ -101,6 +105,7 @@ impl Bench {
             Bench::TwoOutputs => "two_outputs",
             Bench::JsonMemory => "json_memory",
             Bench::Never => "never",
+            Bench::NeverSkipped => "never_skipped",
             Bench::Refused => "refused",
             Bench::Depth64 => "depth64",
             Bench::Open10k => "open10k",
@@ -165,6 +170,7 @@ impl Bench {
     pub(crate) fn run<D: Folder>(self, stage: &mut Stage<D>, count: u64) -> Result<(), Fault> {
         match self {
             Bench::Never => stage.tell(DETAIL, count),
+            Bench::NeverSkipped => stage.skip(DETAIL, count),
             Bench::Refused => stage.tell(NOISE, count),
             Bench::SpanCycle => stage.cycle(count),
             Bench::SpanCycle10k => stage.cycle(count),

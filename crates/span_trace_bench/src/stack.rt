@@ -3,9 +3,8 @@
 use crate::fault::Fault;
 use crate::lines::fields_of;
 use span_tracing::{
-    BuildError, Builder, Fields, FileStack, Filtered, Folder, Format, Layer, LineFormat, Moment,
-    Output, OutputKey, PendingLines, Refusal, RollingSink, Rotation, Stack, StackError, SystemTime,
-    Timer, TraceStack,
+    Builder, FileStack, Folder, LineFormat, LineSettings, Moment, OutputKey, OutputSpec, Rotation,
+    Route, SinkSpec, open_stack,
 };
 use std::alloc::Global;
 use tracing_core::LevelFilter;
@@ -19,71 +18,29 @@ pub(crate) const OPENED: Moment = Moment {
 /// Outputs under levels.
 pub(crate) type LevelStack<D> = FileStack<LevelFilter, D>;
 
-/// A layer that writes lines of any format.
-type LineLayer = Layer<Fields, Format<LineFormat, Timer>, PendingLines>;
-
-/// An output to INFO, whose lines have the time of their moment and their level.
-fn output_of(
+/// An output to INFO, whose lines have the time of their moment and their level, and go to a file for each day in the folder, whose
+/// name begins with the prefix.
+fn output_of<D: Folder>(
     alloc: Global,
     key: u32,
     shape: LineFormat,
-) -> Output<Filtered<LineLayer, LevelFilter>> {
-    let key = OutputKey(key);
-    let layer = Layer::new(alloc, key, PendingLines::new(alloc))
-        .with_timer(Timer::System(SystemTime::new()))
-        .map_event_format(|format| format.with_shape(shape))
-        .fmt_fields(fields_of(shape))
-        .with_level(true);
-    Output {
-        key,
-        output: Filtered::new(layer, LevelFilter::INFO),
-    }
-}
-
-/// Writes to a file for each day in the folder, whose name begins with the prefix.
-fn sink_of<D: Folder>(alloc: Global, folder: D, prefix: &str) -> Result<RollingSink<D>, Fault> {
+    folder: D,
+    prefix: &str,
+) -> Result<OutputSpec<LevelFilter, D>, Fault> {
     let builder = Builder::new()
         .rotation(Rotation::DAILY)
         .filename_prefix(String::from_str(alloc, prefix)?);
-    match builder.build(alloc, folder, OPENED) {
-        Ok(appender) => Ok(RollingSink::new(appender)),
-        Err(refused) => Err(build_fault(refused.error)),
-    }
-}
-
-fn build_fault(error: BuildError) -> Fault {
-    match error {
-        BuildError::BadName => Fault::Refused(Refusal::BadName),
-        BuildError::BadLinkName => Fault::Refused(Refusal::BadLinkName),
-        BuildError::Init(_) => Fault::Refused(Refusal::FolderRefused),
-        BuildError::OutOfMemory => Fault::OutOfMemory,
-    }
-}
-
-fn stack_fault(error: StackError) -> Fault {
-    match error {
-        StackError::NoOutput => Fault::Refused(Refusal::NoOutput),
-        StackError::TooManyFilters => Fault::Refused(Refusal::TooManyFilters),
-        StackError::EqualKeys => Fault::Refused(Refusal::EqualKeys),
-        StackError::OutOfMemory => Fault::OutOfMemory,
-    }
-}
-
-/// A stack of these outputs, each with its sink.
-fn stack_of<D: Folder>(
-    alloc: Global,
-    outputs: Vec<Output<Filtered<LineLayer, LevelFilter>>>,
-    sinks: Vec<RollingSink<D>>,
-) -> Result<LevelStack<D>, Fault> {
-    let stack = match Stack::new(alloc, outputs) {
-        Ok(stack) => stack,
-        Err(refused) => return Err(stack_fault(refused.error)),
+    let mut sinks = Vec::new(alloc);
+    sinks.push(SinkSpec::Direct(builder, folder))?;
+    let lines = LineSettings {
+        format: shape,
+        fields: fields_of(shape),
+        ..LineSettings::full()
     };
-    match TraceStack::new(stack, sinks) {
-        Ok(made) => Ok(made),
-        // There is a sink for each output.
-        Err(_) => Err(Fault::OddReply),
-    }
+    let key = OutputKey(key);
+    OutputSpec::new(key, LevelFilter::INFO, lines, Route::Sink(0), sinks).map_err(
+        |refused| Fault::Refused(refused.error),
+    )
 }
 
 /// A stack with an output in this format for each folder, under a key of its own.
@@ -94,12 +51,10 @@ pub(crate) fn stack_over<D: Folder>(
     prefix: &str,
 ) -> Result<LevelStack<D>, Fault> {
     let mut outputs = Vec::new(alloc);
-    let mut sinks = Vec::new(alloc);
     let mut key: u32 = 0;
     for folder in folders {
-        outputs.push(output_of(alloc, key, shape))?;
-        sinks.push(sink_of(alloc, folder, prefix)?)?;
+        outputs.push(output_of(alloc, key, shape, folder, prefix)?)?;
         key = key.saturating_add(1);
     }
-    stack_of(alloc, outputs, sinks)
+    open_stack(alloc, outputs, OPENED).map_err(Fault::Refused)
 }

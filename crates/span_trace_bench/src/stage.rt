@@ -5,7 +5,7 @@ use crate::fault::Fault;
 use crate::lines::Counter;
 use crate::stack::{LevelStack, OPENED, stack_over};
 use span_tracing::{
-    FieldValue, Folder, LineFormat, Moment, OwnedValue, Parent, Reply, SpanName, Trace,
+    FieldValue, Folder, LineFormat, Moment, OwnedValue, Parent, Reply, Site, SpanName, Trace, event,
 };
 use std::alloc::Global;
 use tracing_core::{FieldSet, Identifier, Kind, Level, LevelFilter, Metadata};
@@ -195,6 +195,21 @@ impl<D: Folder> Stage<D> {
         Ok(())
     }
 
+    /// Makes events through `event!`.
+    pub(crate) fn skip(&mut self, callsite: Identifier, count: u64) -> Result<(), Fault> {
+        let Some(index) = self.trace.callsite(callsite) else {
+            return Err(Fault::OddReply);
+        };
+        let site = Site {
+            identifier: callsite,
+            index,
+        };
+        for i in 0..count {
+            done(event!(self.trace, LANE, moment_at(i), site, i % 10))?;
+        }
+        Ok(())
+    }
+
     /// Opens, enters, leaves and closes spans, one at a time.
     pub(crate) fn cycle(&mut self, count: u64) -> Result<(), Fault> {
         for i in 0..count {
@@ -214,10 +229,12 @@ impl Stage<CountingFolder> {
             return Err(Fault::OddReply);
         };
         let mut counted = Counter { bytes: 0, lines: 0 };
-        for sink in stack.sinks() {
-            let folder = sink.appender().folder();
-            counted.bytes = counted.bytes.saturating_add(folder.bytes);
-            counted.lines = counted.lines.saturating_add(folder.writes);
+        for routed in stack.sinks() {
+            for sink in routed.sinks() {
+                let folder = sink.appender().folder();
+                counted.bytes = counted.bytes.saturating_add(folder.bytes);
+                counted.lines = counted.lines.saturating_add(folder.writes);
+            }
         }
         Ok(counted)
     }

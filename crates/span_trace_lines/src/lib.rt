@@ -6,8 +6,11 @@ mod fault;
 mod print;
 
 pub use decode::{
-    CallsiteLine, FormatName, LaneLine, Line, NamedValue, OutputLine, RecordLine, Setup, SinkLine,
-    SpanEvent, StackLine, StepLine, TimeLine, decode_line,
+    CallsiteLine, FolderLine, FormatName, LaneLine, Line, NamedValue, OutputLine, RecordLine,
+    Setup, SinkLine, SpanEvent, StackLine, StepLine, TimeLine, decode_line,
 };
 pub use fault::LineFault;
 pub use print::{PrintFault, write_files, write_replies};
+
+#[cfg(test)]
+mod tests;

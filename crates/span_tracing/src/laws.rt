@@ -5,6 +5,7 @@ ghost use Rattle.span_tracing.specs.Alone.{OutputsGoAlone};
 ghost use Rattle.span_tracing.specs.Levels.{LevelsAnswer};
 ghost use Rattle.span_registry_layers_layers.specs.declared.filtered.Filtered.{Filtered};
 ghost use Rattle.span_registry_layers_stack.specs.declared.output.Output.{Output};
+ghost use Rattle.span_tracing_files.specs.declared.output_spec.OutputSpec.{OutputSpec};
 
 use event_formatter_formats::FormatEvent;
 use event_formatter_text::FormatFields;
@@ -18,6 +19,13 @@ use tracing_core_fields::LevelFilter;
 pub fn levels_are_honest<L: Layer>()
     ensures { (outputs : List (Output (Filtered L LevelFilter))) →
         Every (λ (o : Output (Filtered L LevelFilter)). ⟦<LevelFilter as Filter>⟧.honest o.output.filter) outputs }
+{}
+
+/// Levels are honest filters of outputs whose files aren't open yet. So a stack that `open_stack` makes of them is ready.
+#[tactic(auto, using(crate::proofs::Levels::every_of_all))]
+pub fn leveled_outputs_are_honest<D>()
+    ensures { (outputs : List (OutputSpec LevelFilter D)) →
+        Every (λ (spec : OutputSpec LevelFilter D). ⟦<LevelFilter as Filter>⟧.honest spec.filter) outputs }
 {}
 
 /// Each output goes its own way: two runs of the same steps, in which all filters answer the same, leave an output's machine the

@@ -3,3 +3,4 @@ pub mod Stepping
 pub mod Running
 pub mod Standing
 pub mod Setting
+pub mod Skipping

@@ -1,5 +1,5 @@
 -- What a step that reading doesn't refuse finds.
-use Rattle.std.proofs.Common.{◌≡◌, ℕ, Bool, true, false, not, ◌==◌, nat_lt, List, [], ◌∷◌, map, Option, Some, None, refl, sym, ap, ◌∙◌, subst}
+use Rattle.std.proofs.Common.{◌≡◌, ℕ, Bool, true, false, not, ◌==◌, nat_lt, List, [], ◌∷◌, map, Option, Some, None, refl, sym, ap, ◌∙◌}
 use Rattle.std.specs.Prelude.{if◌then◌else◌, ◌&&◌, ◌||◌}
 use Rattle.std.specs.Option.{option_map}
 use Rattle.std.proofs.lemmas.Bool.{not-false}
@@ -11,7 +11,7 @@ use Rattle.span_registry_layers_store.specs.Gives as gives
 use Rattle.span_registry_layers_store.specs.Registries.{PlainSpan, RegistryValue, kin_in, knows, one_more, with_handle}
 use Rattle.span_registry_layers_store.specs.Spans.{changed, found, handles_of, is_open}
 use Rattle.span_registry_layers_store.specs.Spans as spans
-use Rattle.span_tracing_skeleton.specs.Machine.{call_refusal, count_refusal, first, handle_refusal, handles_in, has_open, ids_refusal, knows_stack, lane_refusal, moment_refusal, parent_refusal, span_refusal, told_parent, when}
+use Rattle.span_tracing_skeleton.specs.Machine.{call_refusal, first, handles_in, has_open, ids_refusal, knows_stack, lane_refusal, moment_refusal, parent_refusal, span_refusal, told_parent, when}
 use Rattle.span_tracing_skeleton.specs.Skeleton.{Skeleton}
 use Rattle.span_tracing_skeleton.specs.declared.call.Parent.{Parent}
 use Rattle.span_tracing_skeleton.specs.declared.call.Parent.TheVariants.{Contextual, Root, Explicit}

@@ -1,5 +1,5 @@
 -- Runs follow the plain machine.
-use Rattle.std.proofs.Common.{◌≡◌, ◌⊎◌, inl, inr, ℕ, suc, List, [], ◌∷◌, map, length, Option, Some, None, refl, sym, ap, ◌∙◌, subst}
+use Rattle.std.proofs.Common.{◌≡◌, inl, inr, ℕ, suc, List, [], ◌∷◌, map, length, Option, Some, None, refl, sym, ap, ◌∙◌, subst}
 use Rattle.tracing_core_requests.specs.PlainRequests.{PlainEvent}
 use Rattle.tracing_core_requests.specs.declared.at.At.{At}
 use Rattle.tracing_core_requests.specs.declared.subscriber.Subscriber.{Ghosts as SubscriberGhosts}
@@ -8,10 +8,10 @@ use Rattle.span_registry_layers_layers.specs.declared.layer.Layer.{Ghosts as Lay
 use Rattle.event_formatter_text.specs.declared.format_fields.FormatFields.{Ghosts}
 use Rattle.event_formatter_text.specs.declared.settings.Settings.{Settings}
 use Rattle.event_formatter_formats.specs.Contexts.{PlainContext}
-use Rattle.span_tracing_outputs.specs.Hands.{TakesAll, TakesLists}
+use Rattle.span_tracing_outputs.specs.Hands.{TakesLists}
 use Rattle.span_tracing_outputs.specs.Heards.{Notice}
 use Rattle.span_tracing_outputs.specs.Outs.{PlainLine}
-use Rattle.span_tracing_outputs.specs.Plain.{EachAgrees, Fates, Numbered, first_of, out_told, outs_told, rest_of}
+use Rattle.span_tracing_outputs.specs.Plain.{Fates, Numbered, outs_told, rest_of}
 use Rattle.span_tracing_outputs.specs.TraceFollows.{at_rest, lines_offered}
 use Rattle.span_tracing_outputs.specs.TraceStacks.{TraceStackValue}
 use Rattle.span_tracing_outputs.specs.Turns.{Lines}
@@ -21,10 +21,9 @@ use Rattle.span_tracing_skeleton.specs.Machine.{after, reply_of}
 use Rattle.span_tracing_skeleton.specs.PlainData.{PlainStep}
 use Rattle.span_tracing_skeleton.specs.Skeleton.{Skeleton, Answers}
 use Rattle.span_tracing_skeleton.specs.declared.call.Reply.{Reply}
-use Rattle.span_tracing_steps.specs.Steps.{StepGives}
-use Rattle.span_tracing_runs.specs.Follows.{FindsNoMemory, Follows, FollowsStep, OutputsFollow, StackIsReady, Traced, registry_of, skeleton_of}
+use Rattle.span_tracing_runs.specs.Follows.{Follows, FollowsStep, OutputsFollow, StackIsReady, Traced, skeleton_of}
 use Rattle.span_tracing_runs.specs.Laws.{StepsFollow}
-use Rattle.span_tracing_runs.specs.Runs.{AgreesPlain, OutsAgree, Plain, RunFollows, RunGives, SinksTake, Starved, StepWithMask, TurnGoes, TurnsGo, Went, lines_left, lines_of, none_for, outs_left, plain_after, plain_reply, plain_run, replies_of, step_of, steps_of, turn_lines}
+use Rattle.span_tracing_runs.specs.Runs.{AgreesPlain, OutsAgree, Plain, RunFollows, RunGives, SinksTake, Starved, StepWithMask, TurnGoes, TurnsGo, Went, lines_left, lines_of, none_for, outs_left, plain_after, plain_reply, plain_run, replies_of, steps_of, turn_lines}
 use Rattle.span_tracing_runs.specs.Told.{Told, told_of}
 
 length_map : {A B : Type 0} (f : A → B) (xs : List A) → length (map f xs) ≡ length xs

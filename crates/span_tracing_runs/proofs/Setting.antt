@@ -1,5 +1,5 @@
 -- Setup calls leave a stack ready.
-use Rattle.std.proofs.Common.{◌≡◌, ℕ, Bool, true, false, List, [], ◌∷◌, length, Option, Some, None, Result, Ok, Err, refl, sym, ap, ◌∙◌, subst}
+use Rattle.std.proofs.Common.{◌≡◌, ℕ, List, [], ◌∷◌, length, Option, Some, None, Result, Ok, Err, refl, sym, ap, ◌∙◌, subst}
 use Rattle.tracing_core_fields.specs.PlainMetadata.{PlainMetadata}
 use Rattle.tracing_core_requests.specs.Calls.{Call, ReplyTo, CallsiteRegistered, DispatchRegistered, HintAsked}
 use Rattle.tracing_core_requests.specs.Interests.{PlainInterest}
@@ -12,13 +12,13 @@ use Rattle.event_formatter_text.specs.declared.format_fields.FormatFields.{Ghost
 use Rattle.event_formatter_text.specs.declared.settings.Settings.{Settings}
 use Rattle.event_formatter_formats.specs.Contexts.{PlainContext}
 use Rattle.span_tracing_outputs.specs.Outs.{PlainLine}
-use Rattle.span_tracing_outputs.specs.Plain.{EachAgrees, Numbered}
+use Rattle.span_tracing_outputs.specs.Plain.{Numbered}
 use Rattle.span_tracing_outputs.specs.TraceFollows.{IsReady, Rests, TraceFollows}
 use Rattle.span_tracing_outputs.specs.TraceStacks.{TraceMoves, TraceStackValue}
 use Rattle.span_tracing_outputs.specs.Turns.{Lines}
 use Rattle.span_tracing_skeleton.specs.Machine.{named}
 use Rattle.span_tracing_skeleton.specs.declared.refusal.Refusal.{Refusal}
-use Rattle.span_tracing_steps.specs.Setup.{AskedInTurn, RegisterGives, RegisterGivesAt, StackRegisters}
+use Rattle.span_tracing_steps.specs.Setup.{AskedInTurn, RegisterGivesAt, StackRegisters}
 use Rattle.span_tracing_runs.specs.Follows.{StackIsReady, Traced}
 use Rattle.span_tracing_runs.specs.Laws.{OutputsStay, SetupFollows, StackStays}
 use Rattle.span_tracing_runs.specs.Runs.{OutsAgree}
@@ -44,11 +44,13 @@ module _ {N E F S : Type 0} (n : Ghosts N) (line_of : E → Settings → PlainCo
   asked : (x : Stack) (m : PlainMetadata) (k : PlainInterest) (y : Stack) → IsReady g x → sg.moves x (CallsiteRegistered m) k y → Kept x y
   asked x m k y ready moves = rested x y (law.ready x (CallsiteRegistered m) k y ready (moved x (CallsiteRegistered m) k y moves)) (law.goes x (CallsiteRegistered m) k y ready (moved x (CallsiteRegistered m) k y moves)).2
 
-  in_turn : (ms : List PlainMetadata) (x y : Stack) → IsReady g x → AskedInTurn sg ms x y → Kept x y
-  in_turn [] x y ready same = subst (Kept x) (sym same) (ready, λ outs a. a, same_stays x)
-  in_turn (m ∷ ms) x y ready (k, z, says, moves, rest) =
+  in_turn : (ms : List PlainMetadata) (ks : List PlainInterest) (x y : Stack) → IsReady g x → AskedInTurn sg ms ks x y → Kept x y
+  in_turn [] [] x y ready same = subst (Kept x) (sym same) (ready, λ outs a. a, same_stays x)
+  in_turn [] (k ∷ ks) x y ready asks = absurd asks
+  in_turn (m ∷ ms) [] x y ready asks = absurd asks
+  in_turn (m ∷ ms) (k ∷ ks) x y ready (z, says, moves, rest) =
       let one = asked x m k z ready moves in
-      then x z y one (in_turn ms z y one.0 rest)
+      then x z y one (in_turn ms ks z y one.0 rest)
 
   hinted : (x y : Stack) (hint : Option ℕ) → IsReady g x → sg.moves x HintAsked hint y → Kept x y
   hinted x y hint ready moves = rested x y (law.ready x HintAsked hint y ready (moved x HintAsked hint y moves)) (law.goes x HintAsked hint y ready (moved x HintAsked hint y moves)).2
@@ -82,9 +84,9 @@ module _ {N E F S : Type 0} (n : Ghosts N) (line_of : E → Settings → PlainCo
   pub setup_follows : SetupFollows n line_of g takes h sg
   setup_follows = record {
     added = λ v x w ready goes.
-        let one = handled x goes.1 goes.0 ready goes.4 in
-        let two = in_turn v.callsites goes.1 goes.2 one.0 goes.5 in
-        let three = hinted goes.2 goes.3 (sg.hint goes.2) two.0 goes.6 in
-        subst (KeptIn (Some x)) (sym goes.7) (then x goes.1 goes.3 one (then goes.1 goes.2 goes.3 two three));
+        let one = handled x goes.1 goes.0 ready goes.5 in
+        let two = in_turn v.callsites goes.4 goes.1 goes.2 one.0 goes.6 in
+        let three = hinted goes.2 goes.3 (sg.hint goes.2) two.0 goes.7 in
+        subst (KeptIn (Some x)) (sym goes.8) (then x goes.1 goes.3 one (then goes.1 goes.2 goes.3 two three));
     registered = λ v m r w ready goes. by_known (named v.callsites m.callsite) v m r w ready goes;
   }

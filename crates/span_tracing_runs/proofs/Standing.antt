@@ -13,37 +13,47 @@ use Rattle.span_tracing_outputs.specs.Outs.{PlainLine}
 use Rattle.span_tracing_outputs.specs.TraceStacks.{TraceStackValue}
 use Rattle.span_tracing_outputs.specs.Turns.{Lines}
 use Rattle.span_tracing_sinks.specs.Each.{EachComposes}
+use Rattle.span_tracing_sinks.specs.Routed.{Routed, RoutedTakeTheirs, TakesRouted, TookTheirs, sent_to}
 use Rattle.span_tracing_sinks.specs.Runs.{TakesRun}
 use Rattle.span_tracing_sinks.specs.Standing.{LinesStandInFiles}
 use Rattle.span_tracing_sinks.specs.Takes.{TakesLine}
 use Rattle.span_tracing_sinks.specs.declared.sink.RollingSink.{RollingSink}
 use Rattle.span_tracing_skeleton.specs.PlainData.{PlainStep}
 use Rattle.span_tracing_skeleton.specs.declared.call.Reply.{Reply}
-use Rattle.span_tracing_runs.specs.Files.{FilesFollow, FilesStand, SinksTakeTheirs, sink_at}
-use Rattle.span_tracing_runs.specs.Follows.{Traced}
+use Rattle.span_tracing_runs.specs.Files.{FileTrace, FilesFollow, FilesStand, SinksTakeTheirs, routed_at}
 use Rattle.span_tracing_runs.specs.Runs.{RunFollows, SinksTake, StepWithMask, lines_of}
 
-module _ {N E F D : Type 0} (contents : D → Option Contents) (failed : D → ℕ) (n : Ghosts N) (line_of : E → Settings → PlainContext → PlainEvent → Option (List ℕ)) (g : FilterGhosts F) (h : LayerGhosts (Lines N E)) (each : EachComposes N E F (TakesLine contents failed)) (stand : LinesStandInFiles contents failed) where
-  abbrev Sink : Type 0
-  Sink = RollingSink D
+module _ {N E F D : Type 0} (contents : D → Option Contents) (failed : D → ℕ) (n : Ghosts N) (line_of : E → Settings → PlainContext → PlainEvent → Option (List ℕ)) (g : FilterGhosts F) (h : LayerGhosts (Lines N E)) (each : EachComposes N E F (TakesRouted (TakesLine contents failed))) (theirs : RoutedTakeTheirs (TakesLine contents failed)) (stand : LinesStandInFiles contents failed) where
+  abbrev Sinks : Type 0
+  Sinks = Routed (RollingSink D)
 
-  -- the sink at a place, and its run
-  abbrev Taken : Option (TraceStackValue N E F Sink) → ℕ → Sink → List (List (At × PlainLine)) → Type 0
-  Taken q place old runs = (run : List (At × PlainLine)) × (new : Sink) × (slice_get runs place ≡ Some run) × (sink_at q place ≡ Some new) × TakesRun (TakesLine contents failed) run old new
+  abbrev takes : Sinks → At → PlainLine → Sinks → Type 0
+  takes = TakesRouted (TakesLine contents failed)
 
-  taken_by : (o q : Option (TraceStackValue N E F Sink)) (place : ℕ) (old : Sink) (runs : List (List (At × PlainLine))) → SinksTake n line_of g (TakesLine contents failed) o q runs → sink_at o place ≡ Some old → Taken q place old runs
-  taken_by None q place old runs w at = absurd (cc)
-  taken_by (Some x) None place old runs w at = absurd w
-  taken_by (Some x) (Some y) place old runs w at = each.one place runs x.sinks y.sinks old w at
+  -- the sinks of the output at a place, and its run
+  abbrev Taken : Option (TraceStackValue N E F Sinks) → ℕ → Sinks → List (List (At × PlainLine)) → Type 0
+  Taken q place olds runs = (run : List (At × PlainLine)) × (news : Sinks) × (slice_get runs place ≡ Some run) × (routed_at q place ≡ Some news) × TookTheirs (TakesLine contents failed) run olds news
 
-  sinks_take : (v : Traced N E F Sink) (steps : List PlainStep) (replies : List Reply) (w : Traced N E F Sink) (run : RunFollows n line_of g (TakesLine contents failed) h v steps replies w) → SinksTakeTheirs contents failed n line_of g v run.turns w
-  sinks_take v steps replies w run p agrees place old at = taken_by v.stack w.stack place old (lines_of n p run.turns) (run.agreed p agrees).2 at
+  taken_by : (o q : Option (TraceStackValue N E F Sinks)) (place : ℕ) (olds : Sinks) (runs : List (List (At × PlainLine))) → SinksTake n line_of g takes o q runs → routed_at o place ≡ Some olds → Taken q place olds runs
+  taken_by None q place olds runs w at = absurd (cc)
+  taken_by (Some x) None place olds runs w at = absurd w
+  taken_by (Some x) (Some y) place olds runs w at =
+      let one = each.one place runs x.sinks y.sinks olds w at in (one.0, one.1, one.2, one.3, theirs one.0 olds one.1 one.4)
 
-  files_stand : (v : Traced N E F Sink) (turns : List StepWithMask) (w : Traced N E F Sink) → SinksTakeTheirs contents failed n line_of g v turns w → FilesStand contents failed n line_of g v turns w
-  files_stand v turns w takes p agrees place old new at later none s keeps c known =
-      let taken = takes p agrees place old at in
-      let same : taken.1 ≡ new = (let both : Some taken.1 ≡ Some new = sym taken.3 ∙ later in cc) in
-      (taken.0, taken.2, stand taken.0 old new (subst (TakesRun (TakesLine contents failed) taken.0 old) same taken.4) none s keeps c known)
+  sinks_take : (v : FileTrace N E F D) (steps : List PlainStep) (replies : List Reply) (w : FileTrace N E F D) (run : RunFollows n line_of g takes h v steps replies w) → SinksTakeTheirs contents failed n line_of g v run.turns w
+  sinks_take v steps replies w run p agrees place olds at = taken_by v.stack w.stack place olds (lines_of n p run.turns) (run.agreed p agrees).2 at
+
+  same_some : {A : Type 0} (x y : A) (o : Option A) → o ≡ Some x → o ≡ Some y → x ≡ y
+  same_some x y o first second = let both : Some x ≡ Some y = sym first ∙ second in cc
+
+  files_stand : (v : FileTrace N E F D) (turns : List StepWithMask) (w : FileTrace N E F D) → SinksTakeTheirs contents failed n line_of g v turns w → FilesStand contents failed n line_of g v turns w
+  files_stand v turns w takes p agrees place number olds news old new before after old_is new_is none s keeps c known =
+      let taken = takes p agrees place olds before in
+      let same : taken.1 ≡ news = same_some taken.1 news (routed_at w.stack place) taken.3 after in
+      let one = taken.4.sinks number old old_is in
+      let also : one.0 ≡ new = same_some one.0 new (slice_get news.sinks number) (subst (λ (r : Sinks). slice_get r.sinks number ≡ Some one.0) same one.1) new_is in
+      let run = sent_to olds.route number taken.0 in
+      (taken.0, taken.2, stand run old new (subst (TakesRun (TakesLine contents failed) run old) also one.2) none s keeps c known)
 
   pub files_follow : FilesFollow contents failed n line_of g h
   files_follow v steps replies w run = record {

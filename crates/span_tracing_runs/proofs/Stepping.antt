@@ -1,10 +1,11 @@
 -- Each step follows the skeleton and the output machines.
-use Rattle.std.proofs.Common.{◌≡◌, ◌⊎◌, inl, inr, ℕ, Bool, true, false, not, nat_lt, List, [], ◌∷◌, Option, Some, None, is_some, Result, Ok, Err, refl, sym, ap, ◌∙◌, subst}
+use Rattle.std.proofs.Common.{◌≡◌, inl, inr, ℕ, Bool, true, false, not, nat_lt, List, [], Option, Some, None, is_some, Result, Ok, Err, refl, sym, ap, ◌∙◌, subst}
 use Rattle.std.specs.Prelude.{IsSome}
 use Rattle.tracing_core_fields.specs.PlainMetadata.{PlainMetadata}
 use Rattle.tracing_core_requests.specs.Calls.{Call, ReplyTo, Asked, SpanMade, FollowsRecorded, EventDispatched, Entered, Exited, Cloned, CloseTried}
 use Rattle.tracing_core_requests.specs.Calls as calls
-use Rattle.tracing_core_requests.specs.PlainRequests.{PlainEvent, explicit_parent}
+use Rattle.tracing_core_requests.specs.Interests.{PlainInterest}
+use Rattle.tracing_core_requests.specs.PlainRequests.{PlainEvent}
 use Rattle.tracing_core_requests.specs.Refusals.{or_refused as or_error}
 use Rattle.tracing_core_requests.specs.Refusals as refusals
 use Rattle.tracing_core_requests.specs.declared.at.At.{At}
@@ -13,7 +14,7 @@ use Rattle.tracing_core_requests.specs.declared.refusal.RequestError.TheVariants
 use Rattle.tracing_core_requests.specs.declared.subscriber.Subscriber.{Ghosts as SubscriberGhosts}
 use Rattle.span_registry_layers_store.specs.Aside.{bare}
 use Rattle.span_registry_layers_store.specs.Gives as gives
-use Rattle.span_registry_layers_store.specs.Registries.{RegistryValue, kin_in, knows, swept, with_entry, with_handle, without_entry, without_handle}
+use Rattle.span_registry_layers_store.specs.Registries.{RegistryValue, kin_in, swept, with_entry, with_handle, without_entry, without_handle}
 use Rattle.span_registry_layers_store.specs.Spans.{is_open}
 use Rattle.span_registry_layers_layers.specs.declared.filter.Filter.{Ghosts as FilterGhosts}
 use Rattle.span_registry_layers_layers.specs.declared.layer.Layer.{Ghosts as LayerGhosts}
@@ -27,7 +28,7 @@ use Rattle.span_tracing_outputs.specs.Heards.{close_told, enter_told, exit_told,
 use Rattle.span_tracing_outputs.specs.Outs.{PlainLine, Recorded}
 use Rattle.span_tracing_outputs.specs.Plain.{Fates, call_lists}
 use Rattle.span_tracing_outputs.specs.StackFollows.{IfTaken}
-use Rattle.span_tracing_outputs.specs.TraceFollows.{CloseIf, EventIf, IsReady, RefusedBy, Rests, StepGoes as OutputsStep, TakenUnless, TraceFollows, TraceGoes, numbers_in, verdicts_from}
+use Rattle.span_tracing_outputs.specs.TraceFollows.{CloseIf, EventIf, IsReady, RefusedBy, Rests, StepGoes as OutputsStep, TraceFollows, TraceGoes, numbers_in, verdicts_from}
 use Rattle.span_tracing_outputs.specs.TraceStacks.{TraceMoves, TraceStackValue}
 use Rattle.span_tracing_outputs.specs.Turns.{Lines}
 use Rattle.span_tracing_skeleton.specs.Machine.{acted, after, answered, call_refusal, callsite_of, callsite_refusal, cloned, count_refusal, entered, first, given_up, handle_refusal, ids_refusal, is_closed, known, knows_stack, lane_refusal, left, made_by, moment_refusal, named, or_refused, or_same, parent_id, parent_refusal, refusal_of, reply_of, request_refusal, told_parent, when}
@@ -38,17 +39,17 @@ use Rattle.span_tracing_skeleton.specs.declared.call.FollowsCall.{FollowsCall}
 use Rattle.span_tracing_skeleton.specs.declared.call.Parent.{Parent}
 use Rattle.span_tracing_skeleton.specs.declared.call.Reply.{Reply}
 use Rattle.tracing_appender_folders.specs.declared.moment.Moment.{Moment}
-use Rattle.span_tracing_skeleton.specs.declared.call.Reply.TheVariants.{Done, Enabled, Span, Closed, Refused}
+use Rattle.span_tracing_skeleton.specs.declared.call.Reply.TheVariants.{Done, Span, Closed, Refused}
 use Rattle.span_tracing_skeleton.specs.declared.call.SpanCall.{SpanCall}
 use Rattle.span_tracing_skeleton.specs.declared.call.SpanName.{SpanName}
 use Rattle.span_tracing_skeleton.specs.declared.refusal.Refusal.{Refusal}
-use Rattle.span_tracing_skeleton.specs.declared.refusal.Refusal.TheVariants.{OutOfMemory, TooManyHandles, UnknownSpan}
-use Rattle.span_tracing_steps.specs.States.{PlainThread, StateValue, registry_in}
-use Rattle.span_tracing_steps.specs.Steps.{CallGoesIn, CloneGoes, CloseGoes, EnterGoes, EventGoes, ExitGoes, FollowsGoes, QuestionGoes, RecordGoes, SpanGoes, StepGives, StepGoes, StepUnless, ValuesGo, enter_reply, span_reply}
+use Rattle.span_tracing_skeleton.specs.declared.refusal.Refusal.TheVariants.{OutOfMemory}
+use Rattle.span_tracing_steps.specs.States.{PlainThread, registry_in}
+use Rattle.span_tracing_steps.specs.Steps.{CallGoesIn, CloneGoes, CloseGoes, EnterGoes, EventGoes, ExitGoes, FollowsGoes, QuestionGoes, RecordGoes, SpanGoes, StepGives, StepGoes, StepUnless, ValuesGo, span_reply}
 use Rattle.span_tracing_steps.specs.Telling.{own_values, place_at, request_of}
 use Rattle.span_tracing_runs.specs.Follows.{AnswersEvent, AnswersQuestion, AnswersSpan, AskedWhere, Follows, FollowsStep, IsAnswered, OutputsFollow, StackFollows, StackIsReady, Traced, registry_of, skeleton_of}
 use Rattle.span_tracing_runs.specs.Told.{Told, close_told_by, enter_told_by, event_told_by, exit_told_by, record_told_by, span_told_by, told_by, told_of, values_told_by}
-use Rattle.span_tracing_runs.proofs.Reading.{call_open, clone_none, close_none, first_none, handle_bare, ids_left, open_bare, parent_known, second_none, when_none}
+use Rattle.span_tracing_runs.proofs.Reading.{call_open, clone_none, close_none, first_none, handle_bare, ids_left, open_bare, parent_known, second_none}
 
 module _ {N E F S : Type 0} (n : Ghosts N) (line_of : E → Settings → PlainContext → PlainEvent → Option (List ℕ)) (g : FilterGhosts F) (takes : S → At → PlainLine → S → Type 0) (h : LayerGhosts (Lines N E)) where
   abbrev Stack : Type 0
@@ -135,15 +136,15 @@ module _ {N E F S : Type 0} (n : Ghosts N) (line_of : E → Settings → PlainCo
     ready_after v w y ready is = subst (λ (u : Traced N E F S). StackIsReady g h u.stack) (sym is) ready
 
     -- an event
-    pub event_goes : (cs : List PlainMetadata) (ts : List PlainThread) (b : Bool) (o : Option Stack) (e : Request) (reply : Reply) (w : Traced N E F S) (k : Option PlainMetadata) → let v : Traced N E F S = record { callsites = cs; threads = ts; is_global = b; stack = o } in
+    pub event_goes : (cs : List PlainMetadata) (js : List PlainInterest) (ts : List PlainThread) (b : Bool) (o : Option Stack) (e : Request) (reply : Reply) (w : Traced N E F S) (k : Option PlainMetadata) → let v : Traced N E F S = record { callsites = cs; interests = js; threads = ts; is_global = b; stack = o } in
         known (skeleton_of v) e.callsite false ≡ k → StackIsReady g h o → refusal_of (skeleton_of v) (EventStep e) ≡ None → reply ≡ Done → EventGoes sg b k v e w → Goes v (EventStep e) reply w
-    event_goes cs ts false o e reply w k is ready none done same =
-        let v : Traced N E F S = record { callsites = cs; threads = ts; is_global = false; stack = o } in
+    event_goes cs js ts false o e reply w k is ready none done same =
+        let v : Traced N E F S = record { callsites = cs; interests = js; threads = ts; is_global = false; stack = o } in
         rested v (EventStep e) reply w Unasked none refl done refl (event_untold (skeleton_of v) e (known (skeleton_of v) e.callsite false)) same ready
-    event_goes cs ts true o e reply w None is ready none done goes = absurd goes
-    event_goes cs ts true None e reply w (Some m) is ready none done goes = absurd goes.1
-    event_goes cs ts true (Some x) e reply w (Some m) is ready none done goes =
-        let v : Traced N E F S = record { callsites = cs; threads = ts; is_global = true; stack = Some x } in
+    event_goes cs js ts true o e reply w None is ready none done goes = absurd goes
+    event_goes cs js ts true None e reply w (Some m) is ready none done goes = absurd goes.1
+    event_goes cs js ts true (Some x) e reply w (Some m) is ready none done goes =
+        let v : Traced N E F S = record { callsites = cs; interests = js; threads = ts; is_global = true; stack = Some x } in
         let s = skeleton_of v in
         let at = place_at e.lane e.moment in
         let q = request_of m e in
@@ -159,15 +160,15 @@ module _ {N E F S : Type 0} (n : Ghosts N) (line_of : E → Settings → PlainCo
         )
 
     -- a question
-    pub question_goes : (cs : List PlainMetadata) (ts : List PlainThread) (b : Bool) (o : Option Stack) (ask : EnabledCall) (reply : Reply) (w : Traced N E F S) (k : Option PlainMetadata) → let v : Traced N E F S = record { callsites = cs; threads = ts; is_global = b; stack = o } in
+    pub question_goes : (cs : List PlainMetadata) (js : List PlainInterest) (ts : List PlainThread) (b : Bool) (o : Option Stack) (ask : EnabledCall) (reply : Reply) (w : Traced N E F S) (k : Option PlainMetadata) → let v : Traced N E F S = record { callsites = cs; interests = js; threads = ts; is_global = b; stack = o } in
         named cs ask.callsite.0 ≡ k → StackIsReady g h o → refusal_of (skeleton_of v) (EnabledStep ask) ≡ None → QuestionGoes sg b k v ask reply w → Goes v (EnabledStep ask) reply w
-    question_goes cs ts false o ask reply w k is ready none goes =
-        let v : Traced N E F S = record { callsites = cs; threads = ts; is_global = false; stack = o } in
+    question_goes cs js ts false o ask reply w k is ready none goes =
+        let v : Traced N E F S = record { callsites = cs; interests = js; threads = ts; is_global = false; stack = o } in
         rested v (EnabledStep ask) reply w Unasked none refl goes.0 refl refl goes.1 ready
-    question_goes cs ts true o ask reply w None is ready none goes = absurd goes
-    question_goes cs ts true None ask reply w (Some m) is ready none goes = absurd goes.1
-    question_goes cs ts true (Some x) ask reply w (Some m) is ready none goes =
-        let v : Traced N E F S = record { callsites = cs; threads = ts; is_global = true; stack = Some x } in
+    question_goes cs js ts true o ask reply w None is ready none goes = absurd goes
+    question_goes cs js ts true None ask reply w (Some m) is ready none goes = absurd goes.1
+    question_goes cs js ts true (Some x) ask reply w (Some m) is ready none goes =
+        let v : Traced N E F S = record { callsites = cs; interests = js; threads = ts; is_global = true; stack = Some x } in
         let at = place_at ask.lane ask.moment in
         let call = called x (Asked m at) goes.0 v w ready goes.1 in
         rested v (EnabledStep ask) reply w (Wanted goes.0) none
@@ -184,15 +185,15 @@ module _ {N E F S : Type 0} (n : Ghosts N) (line_of : E → Settings → PlainCo
         ap (λ (e : RequestError). span_reply (Err e)) (subst (λ (o : Option RequestError). RefusedBy o error) none w)
 
     -- a new span
-    pub span_goes : (cs : List PlainMetadata) (ts : List PlainThread) (b : Bool) (o : Option Stack) (q : Request) (reply : Reply) (w : Traced N E F S) (k : Option PlainMetadata) → let v : Traced N E F S = record { callsites = cs; threads = ts; is_global = b; stack = o } in
+    pub span_goes : (cs : List PlainMetadata) (js : List PlainInterest) (ts : List PlainThread) (b : Bool) (o : Option Stack) (q : Request) (reply : Reply) (w : Traced N E F S) (k : Option PlainMetadata) → let v : Traced N E F S = record { callsites = cs; interests = js; threads = ts; is_global = b; stack = o } in
         known (skeleton_of v) q.callsite true ≡ k → StackIsReady g h o → refusal_of (skeleton_of v) (SpanStep q) ≡ None → SpanGoes sg b k v q reply w → Goes v (SpanStep q) reply w
-    span_goes cs ts false o q reply w k is ready none goes =
-        let v : Traced N E F S = record { callsites = cs; threads = ts; is_global = false; stack = o } in
+    span_goes cs js ts false o q reply w k is ready none goes =
+        let v : Traced N E F S = record { callsites = cs; interests = js; threads = ts; is_global = false; stack = o } in
         rested v (SpanStep q) reply w Unasked none refl goes.0 refl (span_untold (skeleton_of v) q (known (skeleton_of v) q.callsite true)) goes.1 ready
-    span_goes cs ts true o q reply w None is ready none goes = absurd goes
-    span_goes cs ts true None q reply w (Some m) is ready none goes = absurd goes.1
-    span_goes cs ts true (Some x) q reply w (Some m) is ready none (Err error, goes, told) =
-        let v : Traced N E F S = record { callsites = cs; threads = ts; is_global = true; stack = Some x } in
+    span_goes cs js ts true o q reply w None is ready none goes = absurd goes
+    span_goes cs js ts true None q reply w (Some m) is ready none goes = absurd goes.1
+    span_goes cs js ts true (Some x) q reply w (Some m) is ready none (Err error, goes, told) =
+        let v : Traced N E F S = record { callsites = cs; interests = js; threads = ts; is_global = true; stack = Some x } in
         let s = skeleton_of v in
         let call = called x (SpanMade (request_of m q) (place_at q.lane q.moment)) (Err error) v w ready goes in
         let asked = first_none (request_refusal s q.lane q.moment q.callsite true q.parent) (ids_refusal s) none in
@@ -200,8 +201,8 @@ module _ {N E F S : Type 0} (n : Ghosts N) (line_of : E → Settings → PlainCo
           inr (told ∙ span_refused s x q.parent error refl refl (parent_passed s q.lane q.moment (known s q.callsite true) q.parent asked) (second_none (request_refusal s q.lane q.moment q.callsite true q.parent) (ids_refusal s) none) call.1.0, none, refl, same),
           subst (λ (u : Traced N E F S). StackIsReady g h u.stack) (sym same) ready,
         )
-    span_goes cs ts true (Some x) q reply w (Some m) is ready none (Ok None, goes, told) =
-        let v : Traced N E F S = record { callsites = cs; threads = ts; is_global = true; stack = Some x } in
+    span_goes cs js ts true (Some x) q reply w (Some m) is ready none (Ok None, goes, told) =
+        let v : Traced N E F S = record { callsites = cs; interests = js; threads = ts; is_global = true; stack = Some x } in
         let s = skeleton_of v in
         let call = called x (SpanMade (request_of m q) (place_at q.lane q.moment)) (Ok None) v w ready goes in (
           made v (SpanStep q) reply w Dropped [] none
@@ -211,8 +212,8 @@ module _ {N E F S : Type 0} (n : Ghosts N) (line_of : E → Settings → PlainCo
               (subst (λ (t : Option (Told N)). StackFollows n line_of g takes t [] x call.0) (sym (dropped_untold s q (known s q.callsite true))) call.1.3)),
           ready_after v w call.0 call.2 call.3,
         )
-    span_goes cs ts true (Some x) q reply w (Some m) is ready none (Ok (Some id), goes, told) =
-        let v : Traced N E F S = record { callsites = cs; threads = ts; is_global = true; stack = Some x } in
+    span_goes cs js ts true (Some x) q reply w (Some m) is ready none (Ok (Some id), goes, told) =
+        let v : Traced N E F S = record { callsites = cs; interests = js; threads = ts; is_global = true; stack = Some x } in
         let s = skeleton_of v in
         let call = called x (SpanMade (request_of m q) (place_at q.lane q.moment)) (Ok (Some id)) v w ready goes in
         let passed = verdicts_from all_pass (numbers_in x.stack.rows) call.1.0 in
@@ -355,9 +356,9 @@ module _ {N E F S : Type 0} (n : Ghosts N) (line_of : E → Settings → PlainCo
       made v (GlobalStep handle) reply w Unasked [] none refl goes.0 (ap skeleton_of goes.1) (subst (λ (u : Traced N E F S). OutputsFollow n line_of g takes None [] v.stack u.stack) (sym goes.1) (rest_same [] v.stack)),
       subst (λ (u : Traced N E F S). StackIsReady g h u.stack) (sym goes.1) ready,
     )
-    step_goes v (EventStep e) reply w ready none goes = event_goes v.callsites v.threads v.is_global v.stack e reply w (known (skeleton_of v) e.callsite false) refl ready none goes.0 goes.1
-    step_goes v (EnabledStep ask) reply w ready none goes = question_goes v.callsites v.threads v.is_global v.stack ask reply w (named v.callsites ask.callsite.0) refl ready none goes
-    step_goes v (SpanStep q) reply w ready none goes = span_goes v.callsites v.threads v.is_global v.stack q reply w (known (skeleton_of v) q.callsite true) refl ready none goes
+    step_goes v (EventStep e) reply w ready none goes = event_goes v.callsites v.interests v.threads v.is_global v.stack e reply w (known (skeleton_of v) e.callsite false) refl ready none goes.0 goes.1
+    step_goes v (EnabledStep ask) reply w ready none goes = question_goes v.callsites v.interests v.threads v.is_global v.stack ask reply w (named v.callsites ask.callsite.0) refl ready none goes
+    step_goes v (SpanStep q) reply w ready none goes = span_goes v.callsites v.interests v.threads v.is_global v.stack q reply w (known (skeleton_of v) q.callsite true) refl ready none goes
     step_goes v (RecordStep r) reply w ready none goes = record_goes v r r.span reply w refl ready none goes.0 goes.1
     step_goes v (FollowsFromStep ask) reply w ready none goes = follows_goes v v.stack ask ask.span ask.follows reply w refl ready none goes.0 goes.1
     step_goes v (EnterStep ask) reply w ready none goes = enter_goes v v.stack ask ask.span reply w refl refl ready none goes

@@ -13,7 +13,7 @@ use Rattle.span_tracing_outputs.specs.TraceStacks.{TraceStackValue}
 use Rattle.span_tracing_outputs.specs.Turns.{Lines}
 use Rattle.tracing_appender_rolling.specs.Remaining.{AgreesSink, PrunedSink}
 use Rattle.span_tracing_sinks.specs.Fates.{LeftBy, NoneDropped}
-use Rattle.span_tracing_sinks.specs.Runs.{TakesRun}
+use Rattle.span_tracing_sinks.specs.Routed.{Routed, TakesRouted, TookTheirs, sent_to}
 use Rattle.span_tracing_sinks.specs.Standing.{LinesStand}
 use Rattle.span_tracing_sinks.specs.Takes.{TakesLine}
 use Rattle.span_tracing_sinks.specs.declared.sink.RollingSink.{RollingSink}
@@ -22,34 +22,38 @@ use Rattle.span_tracing_skeleton.specs.declared.call.Reply.{Reply}
 use Rattle.span_tracing_runs.specs.Follows.{Traced}
 use Rattle.span_tracing_runs.specs.Runs.{AgreesPlain, Plain, RunFollows, StepWithMask, lines_of}
 
--- the sink of the output at a place
-abbrev pub sink_at : {N E F S : Type 0} → Option (TraceStackValue N E F S) → ℕ → Option S
-sink_at None place = None
-sink_at (Some x) place = slice_get x.sinks place
+-- the sinks of the output at a place, with their route
+abbrev pub routed_at : {N E F S : Type 0} → Option (TraceStackValue N E F (Routed S)) → ℕ → Option (Routed S)
+routed_at None place = None
+routed_at (Some x) place = slice_get x.sinks place
+
+-- a trace whose lines go to sinks by routes
+abbrev pub FileTrace : Type 0 → Type 0 → Type 0 → Type 0 → Type 0
+FileTrace N E F D = Traced N E F (Routed (RollingSink D))
 
 module _ {N E F D : Type 0} (contents : D → Option Contents) (failed : D → ℕ) (n : Ghosts N) (line_of : E → Settings → PlainContext → PlainEvent → Option (List ℕ)) (g : FilterGhosts F) where
-  -- each output's sink took the lines of the output's machine in order, each at its own moment; what that says of looks, openings and writes over any folder the
-  -- laws of sinks tell
-  abbrev pub SinksTakeTheirs : Traced N E F (RollingSink D) → List StepWithMask → Traced N E F (RollingSink D) → Type 0
+  -- each sink of each output took those lines of the output's machine that the route sends to it, in order, each at its own moment, whatever became of them at the
+  -- other sinks; what that says of looks, openings and writes over any folder the laws of sinks tell
+  abbrev pub SinksTakeTheirs : FileTrace N E F D → List StepWithMask → FileTrace N E F D → Type 0
   SinksTakeTheirs v turns w =
-      (p : Plain N) → AgreesPlain n line_of g v p → (place : ℕ) (old : RollingSink D) → sink_at v.stack place ≡ Some old →
-      (run : List (At × PlainLine)) × (new : RollingSink D) × (slice_get (lines_of n p turns) place ≡ Some run) × (sink_at w.stack place ≡ Some new) × TakesRun (TakesLine contents failed) run old new
+      (p : Plain N) → AgreesPlain n line_of g v p → (place : ℕ) (olds : Routed (RollingSink D)) → routed_at v.stack place ≡ Some olds →
+      (run : List (At × PlainLine)) × (news : Routed (RollingSink D)) × (slice_get (lines_of n p turns) place ≡ Some run) × (routed_at w.stack place ≡ Some news) × TookTheirs (TakesLine contents failed) run olds news
 
-  -- Where an output's sink dropped no line and its folder's contents are known, exactly the lines that the output's machine offers stand in its files, but in those
-  -- that retention removed: behind what was found there and was handed over before, whole and in order, each in the file of the period in which the greatest moment
-  -- so far lay.
-  abbrev pub FilesStand : Traced N E F (RollingSink D) → List StepWithMask → Traced N E F (RollingSink D) → Type 0
+  -- Where a sink of an output dropped no line and its folder's contents are known, exactly those lines of the output's machine that the route sends to it stand in its
+  -- files, but in those that retention removed: behind what was found there and was handed over before, whole and in order, each in the file of the period in which the
+  -- greatest moment so far lay.
+  abbrev pub FilesStand : FileTrace N E F D → List StepWithMask → FileTrace N E F D → Type 0
   FilesStand v turns w =
-      (p : Plain N) → AgreesPlain n line_of g v p → (place : ℕ) (old new : RollingSink D) → sink_at v.stack place ≡ Some old → sink_at w.stack place ≡ Some new → NoneDropped old new →
-      (s : PrunedSink) → AgreesSink contents old.appender s → (c : Contents) → contents new.appender.folder ≡ Some c →
-      (run : List (At × PlainLine)) × (slice_get (lines_of n p turns) place ≡ Some run) × ((led : LeftBy contents run s old.appender new.appender) × LinesStand led.last c)
+      (p : Plain N) → AgreesPlain n line_of g v p → (place number : ℕ) (olds news : Routed (RollingSink D)) (old new : RollingSink D) → routed_at v.stack place ≡ Some olds → routed_at w.stack place ≡ Some news →
+      slice_get olds.sinks number ≡ Some old → slice_get news.sinks number ≡ Some new → NoneDropped old new → (s : PrunedSink) → AgreesSink contents old.appender s → (c : Contents) → contents new.appender.folder ≡ Some c →
+      (run : List (At × PlainLine)) × (slice_get (lines_of n p turns) place ≡ Some run) × ((led : LeftBy contents (sent_to olds.route number run) s old.appender new.appender) × LinesStand led.last c)
 
   module _ (h : LayerGhosts (Lines N E)) where
     -- a run, what its sinks took, and what their files hold
-    pub record RunsToFiles (v : Traced N E F (RollingSink D)) (steps : List PlainStep) (replies : List Reply) (w : Traced N E F (RollingSink D)) : Type 0 where
-      pub run : RunFollows n line_of g (TakesLine contents failed) h v steps replies w
+    pub record RunsToFiles (v : FileTrace N E F D) (steps : List PlainStep) (replies : List Reply) (w : FileTrace N E F D) : Type 0 where
+      pub run : RunFollows n line_of g (TakesRouted (TakesLine contents failed)) h v steps replies w
       pub sinks : SinksTakeTheirs v run.turns w
       pub files : FilesStand v run.turns w
 
     abbrev pub FilesFollow : Type 0
-    FilesFollow = (v : Traced N E F (RollingSink D)) (steps : List PlainStep) (replies : List Reply) (w : Traced N E F (RollingSink D)) → RunFollows n line_of g (TakesLine contents failed) h v steps replies w → RunsToFiles v steps replies w
+    FilesFollow = (v : FileTrace N E F D) (steps : List PlainStep) (replies : List Reply) (w : FileTrace N E F D) → RunFollows n line_of g (TakesRouted (TakesLine contents failed)) h v steps replies w → RunsToFiles v steps replies w

@@ -1,5 +1,5 @@
 -- What a step makes of a trace over a stack of outputs with sinks.
-use Rattle.std.specs.Prelude.{◌≡◌, ◌⊎◌, ℕ, Bool, true, false, List, [], map, Option, Some, None, IsSome}
+use Rattle.std.specs.Prelude.{◌≡◌, ◌⊎◌, ℕ, Bool, true, false, List, Option, Some, None, IsSome}
 use Rattle.tracing_core_fields.specs.PlainMetadata.{PlainMetadata}
 use Rattle.tracing_core_requests.specs.declared.at.At.{At}
 use Rattle.span_registry_layers_store.specs.Registries.{RegistryValue}

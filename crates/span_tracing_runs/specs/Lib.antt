@@ -3,3 +3,4 @@ pub mod Follows
 pub mod Runs
 pub mod Laws
 pub mod Files
+pub mod Skipping

@@ -1,5 +1,5 @@
 -- Runs of steps: the plain machine of a skeleton and output machines, and what a trace's run makes of it.
-use Rattle.std.specs.Prelude.{◌≡◌, ℕ, List, [], ◌∷◌, map, length, Option, Some, None, slice_get}
+use Rattle.std.specs.Prelude.{◌≡◌, ℕ, List, [], ◌∷◌, map, length, Option, Some, None}
 use Rattle.tracing_core_requests.specs.PlainRequests.{PlainEvent}
 use Rattle.tracing_core_requests.specs.declared.at.At.{At}
 use Rattle.tracing_core_requests.specs.declared.subscriber.Subscriber.{Ghosts as SubscriberGhosts}
@@ -22,7 +22,7 @@ use Rattle.span_tracing_skeleton.specs.declared.call.Reply.{Reply}
 use Rattle.span_tracing_skeleton.specs.declared.call.Reply.TheVariants.{Refused}
 use Rattle.span_tracing_skeleton.specs.declared.refusal.Refusal.TheVariants.{OutOfMemory}
 use Rattle.span_tracing_steps.specs.Steps.{StepGives}
-use Rattle.span_tracing_runs.specs.Follows.{FindsNoMemory, FollowsStep, StackIsReady, Traced, registry_of, skeleton_of}
+use Rattle.span_tracing_runs.specs.Follows.{FindsNoMemory, FollowsStep, Traced, registry_of, skeleton_of}
 use Rattle.span_tracing_runs.specs.Told.{Told, told_of}
 
 -- the state of the plain machine: what decides replies, and the output machines

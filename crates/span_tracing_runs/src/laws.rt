@@ -1,5 +1,6 @@
 //! Laws of steps and runs.
 ghost use Rattle.span_tracing_runs.specs.Files.{FilesFollow};
+ghost use Rattle.span_tracing_runs.specs.Skipping.{SkipsNothing};
 ghost use Rattle.span_tracing_runs.specs.Laws.{RunsFollow, SetupFollows, StepsFollow};
 
 use event_formatter_formats::FormatEvent;
@@ -7,7 +8,10 @@ use event_formatter_layer::Layer;
 use event_formatter_text::FormatFields;
 use span_registry_layers_layers::Filter;
 use span_tracing_outputs::{LineSink, PendingLines, TraceStack, trace_follows};
-use span_tracing_sinks::{RollingSink, each_sink_has_its_run, lines_stand_in_files, runs_compose};
+use span_tracing_sinks::{
+    RollingSink, RoutedSinks, each_sink_has_its_run, lines_stand_in_files,
+    routed_sinks_take_theirs, runs_compose,
+};
 use tracing_appender_rolling::Folder;
 use tracing_core_requests::Subscriber;
 
@@ -43,15 +47,23 @@ pub fn runs_follow<N: FormatFields + Drop, E: FormatEvent, F: Filter, S: LineSin
     each_sink_has_its_run::<N, E, F, S>();
 }
 
-/// Which bytes stand in which file after a run over sinks of rolling files: where an output's sink dropped no line and its
-/// folder's contents are known, exactly the lines that the output's machine offers stand in its files, whole and in order,
-/// where retention left them. Over any other folder each sink took just these lines, of
+/// Which bytes stand in which file after a run over sinks of rolling files: where a sink of an output dropped no line and its
+/// folder's contents are known, exactly those lines of the output's machine that the route sends to it stand in its files, whole and
+/// in order, where retention left them. Over any other folder each sink took just these lines, of
 /// which the laws of sinks say which looks, openings and writes they come to. A machine offers no line that found no memory
 /// before it came to the sink.
 pub fn files_follow<N: FormatFields + Drop, E: FormatEvent, F: Filter, D: Folder>()
     ensures { FilesFollow D.contents D.failed ⟦<N as FormatFields>⟧ E.line_of ⟦<F as Filter>⟧
         ⟦<Layer<N, E, PendingLines> as span_registry_layers_layers::Layer>⟧ }
 {
-    each_sink_has_its_run::<N, E, F, RollingSink<D>>();
+    each_sink_has_its_run::<N, E, F, RoutedSinks<RollingSink<D>>>();
+    routed_sinks_take_theirs::<RollingSink<D>>();
     lines_stand_in_files::<D>();
 }
+
+/// At a callsite of which it is kept that nobody is interested in it, no filter passes an event, and no span is made: whoever makes no
+/// request there misses no line. What he isn't told is whether the request would have been refused.
+pub fn skipping_misses_nothing<N: FormatFields + Drop, E: FormatEvent, F: Filter, S: LineSink>()
+    ensures { SkipsNothing ⟦<F as Filter>⟧ ⟦<Layer<N, E, PendingLines> as span_registry_layers_layers::Layer>⟧
+        ⟦<TraceStack<N, E, F, S> as Subscriber>⟧ }
+{}

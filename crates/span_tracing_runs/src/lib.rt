@@ -3,4 +3,4 @@
 
 mod laws;
 
-pub use laws::{files_follow, runs_follow, setup_follows, steps_follow};
+pub use laws::{files_follow, runs_follow, setup_follows, skipping_misses_nothing, steps_follow};

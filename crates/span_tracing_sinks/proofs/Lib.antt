@@ -3,3 +3,4 @@ pub mod Each
 pub mod Counting
 pub mod Told
 pub mod Standing
+pub mod Routing

@@ -1,5 +1,5 @@
 -- Files after lines of which none was dropped.
-use Rattle.std.proofs.Common.{ℕ, [], ◌∙◌, subst, Option}
+use Rattle.std.proofs.Common.{ℕ, ◌∙◌, subst, Option}
 use Rattle.tracing_appender_rolling.specs.Contents.{Contents}
 use Rattle.tracing_appender_rolling.specs.Builders.{builder_names}
 use Rattle.tracing_appender_rolling.specs.Sinks.{period_in, period_name}

@@ -3,3 +3,4 @@ pub mod Runs
 pub mod Each
 pub mod Fates
 pub mod Standing
+pub mod Routed

@@ -1,6 +1,7 @@
 //! Laws of lines that are taken one after another.
 ghost use Rattle.span_tracing_sinks.specs.Fates.{CountsAreExact, DropsAreCounted, KeptLinesGoInTurn, LinesReachFiles, RunsAreTold};
 ghost use Rattle.span_tracing_sinks.specs.Each.{EachComposes};
+ghost use Rattle.span_tracing_sinks.specs.Routed.{RoutedTakeTheirs};
 ghost use Rattle.span_tracing_sinks.specs.Runs.{RunsCompose};
 ghost use Rattle.span_tracing_sinks.specs.Standing.{LinesStandInFiles};
 
@@ -16,6 +17,13 @@ pub fn runs_compose<S: LineSink>()
 /// over.
 pub fn each_sink_has_its_run<N, E, F, S: LineSink>()
     ensures { EachComposes N E F S.takes }
+{}
+
+/// Of a run of lines each of an output's sinks takes those that the route sends to it, in order and whole, whatever becomes of them at
+/// the others; and the route stays. So what a folder refuses changes no other sink's files.
+#[tactic(auto, using(crate::proofs::Routing::routed_take_theirs))]
+pub fn routed_sinks_take_theirs<S: LineSink>()
+    ensures { RoutedTakeTheirs S.takes }
 {}
 
 /// Each line of a run has one fate. With these fates the count of dropped lines is exact, and all holds that an

@@ -1,5 +1,5 @@
 -- A registry without slots has the same spans.
-use Rattle.std.proofs.Common.{◌≡◌, ℕ, suc, Bool, true, false, ◌==◌, List, [], ◌∷◌, ◌++◌, length, map, Option, Some, None, refl, ap, ◌∙◌, sym}
+use Rattle.std.proofs.Common.{◌≡◌, ℕ, suc, Bool, true, false, ◌==◌, List, [], ◌∷◌, ◌++◌, length, map, Option, Some, None, refl, ap, ◌∙◌}
 use Rattle.std.specs.Prelude.{if◌then◌else◌, ◌||◌, option_and_then}
 use Rattle.std.specs.Option.{option_map}
 use Rattle.tracing_core_fields.specs.PlainMetadata.{PlainMetadata}

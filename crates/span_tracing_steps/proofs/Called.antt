@@ -1,11 +1,10 @@
 -- A call that the hub hands to the one stack.
-use Rattle.std.proofs.Common.{◌≡◌, ℕ, ◌==◌, Bool, true, false, List, [], ◌∷◌, map, Option, Some, None, Result, Ok, Err, is_some, refl, sym, ap, ◌∙◌, subst, arith}
-use Rattle.std.specs.Prelude.{if◌then◌else◌, slice_get}
+use Rattle.std.proofs.Common.{◌≡◌, ℕ, ◌==◌, Bool, true, false, List, [], ◌∷◌, Option, Some, None, refl, sym, ap, ◌∙◌, subst, arith}
+use Rattle.std.specs.Prelude.{if◌then◌else◌}
 use Rattle.std.specs.Option.{option_map}
 use Rattle.std.proofs.lemmas.Bool.Decides.{nat_tests}
 use Rattle.tracing_core_fields.specs.PlainMetadata.{PlainMetadata}
 use Rattle.tracing_core_requests.specs.Calls.{Call, ReplyTo, Asked}
-use Rattle.tracing_core_requests.specs.Lists.{Every}
 use Rattle.tracing_core_requests.specs.declared.at.At.{At}
 use Rattle.tracing_core_requests.specs.declared.subscriber.Subscriber.{Ghosts}
 use Rattle.tracing_core_hub.specs.Commands.{AskGives, AskGivesAt, becomes}
@@ -13,7 +12,7 @@ use Rattle.tracing_core_hub.specs.Defaults.{global_refusal, globally, setting_to
 use Rattle.tracing_core_hub.specs.Handles.{changed, held, hold_refusal, one_more, refusal_at, subscriber_with}
 use Rattle.tracing_core_hub.specs.Handing.{CallGives, CallGivesAt, HubGives}
 use Rattle.tracing_core_hub.specs.Keeping.{PreservesCaches}
-use Rattle.tracing_core_hub.specs.Kept.{KeptCallsite, KeptSubscriber}
+use Rattle.tracing_core_hub.specs.Kept.{KeptSubscriber}
 use Rattle.tracing_core_hub.specs.Lent.{living_of, living_changed}
 use Rattle.tracing_core_hub.specs.Table.{Table}
 use Rattle.tracing_core_hub.specs.declared.hub.parts.LaneDefault.{LaneDefault}
@@ -22,7 +21,7 @@ use Rattle.tracing_core_hub.specs.declared.refusal.HandleError.{HandleError}
 use Rattle.tracing_core_hub.specs.declared.refusal.SetGlobalDefaultError.TheVariants.{AlreadySet, Handle}
 use Rattle.tracing_core_requests.specs.Refusals.{or_same}
 use Rattle.span_tracing_steps.specs.Sound.{HasOnly, IsSound, LeadsTo}
-use Rattle.span_tracing_steps.specs.States.{StateValue, stack_in, stack_of, value_in}
+use Rattle.span_tracing_steps.specs.States.{stack_in, stack_of, value_in}
 use Rattle.span_tracing_steps.specs.Steps.{CallGoes, CallGoesIn}
 use Rattle.span_tracing_steps.specs.contracts.callsite.TraceCallsiteCallsite.TheImpl.{ghosts}
 use Rattle.span_tracing_steps.specs.declared.callsite.TraceCallsite.{TraceCallsite}

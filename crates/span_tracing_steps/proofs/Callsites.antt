@@ -1,12 +1,11 @@
 -- Where the callsite with an identifier stands.
-use Rattle.std.proofs.Common.{◌≡◌, ℕ, suc, Bool, true, false, ◌==◌, List, [], ◌∷◌, map, Option, Some, None, is_some, refl, ap, ◌∙◌, sym, subst}
+use Rattle.std.proofs.Common.{◌≡◌, ℕ, suc, Bool, true, false, ◌==◌, List, [], ◌∷◌, Option, Some, None, is_some, refl, ap, ◌∙◌}
 use Rattle.std.specs.Prelude.{if◌then◌else◌, slice_get}
 use Rattle.std.specs.Option.{option_map}
 use Rattle.tracing_core_fields.specs.PlainMetadata.{PlainMetadata}
 use Rattle.tracing_core_requests.specs.Lists.{Every}
-use Rattle.tracing_core_hub.specs.Indices.{index_among, index_of_callsite}
+use Rattle.tracing_core_hub.specs.Indices.{index_of_callsite}
 use Rattle.tracing_core_hub.specs.Kept.{KeptCallsite}
-use Rattle.tracing_core_hub.specs.Sound.{identifiers}
 use Rattle.tracing_core_hub.specs.ValidCaches.{IsTrueCallsite}
 use Rattle.tracing_core_hub.specs.declared.hub.index.CallsiteIndex.{CallsiteIndex}
 use Rattle.span_tracing_skeleton.specs.Machine.{named}

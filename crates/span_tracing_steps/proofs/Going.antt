@@ -1,7 +1,6 @@
 -- What a request at a callsite comes to, where nothing stands in its way.
-use Rattle.std.proofs.Common.{◌≡◌, ℕ, Bool, true, false, List, map, Option, Some, None, Result, is_some, refl, sym, ap, ◌∙◌, subst}
+use Rattle.std.proofs.Common.{◌≡◌, ℕ, Bool, true, false, Option, Some, None, Result, is_some, refl, sym, ap, ◌∙◌, subst}
 use Rattle.std.specs.Prelude.{not, slice_get}
-use Rattle.tracing_core_fields.specs.PlainMetadata.{PlainMetadata}
 use Rattle.tracing_core_requests.specs.declared.refusal.RequestError.{RequestError}
 use Rattle.tracing_core_requests.specs.declared.subscriber.Subscriber.{Ghosts}
 use Rattle.tracing_core_hub.specs.Indexed.{AskAtGives, EventAtGives, RecordAtGives, SpanAtGives, plain_parent}
@@ -21,7 +20,7 @@ use Rattle.span_tracing_skeleton.specs.declared.refusal.Refusal.{Refusal}
 use Rattle.span_tracing_skeleton.specs.declared.refusal.Refusal.TheVariants.{GlobalSet, UnknownStack}
 use Rattle.span_tracing_steps.specs.Actions.{plain_record, plain_request}
 use Rattle.span_tracing_steps.specs.Sound.{IsSound}
-use Rattle.span_tracing_steps.specs.States.{StateValue, at_index, callsites_of, skeleton_of, value_in}
+use Rattle.span_tracing_steps.specs.States.{at_index, skeleton_of, value_in}
 use Rattle.span_tracing_steps.specs.Steps.{EventGoes, QuestionGoes, RecordGoes, SpanGoes, StepGives, StepGoes, StepUnless, span_reply}
 use Rattle.span_tracing_steps.specs.Telling.{place_at}
 use Rattle.span_tracing_steps.specs.contracts.callsite.TraceCallsiteCallsite.TheImpl.{ghosts}

@@ -1,15 +1,14 @@
 -- Requests that the hub hands to the stack at a callsite that was found.
-use Rattle.std.proofs.Common.{◌≡◌, ℕ, zero, suc, Bool, true, false, ◌<◌, List, [], ◌∷◌, map, length, filter, Option, Some, None, Result, Ok, Err, is_some, refl, sym, ap, ◌∙◌, subst}
+use Rattle.std.proofs.Common.{◌≡◌, ℕ, zero, suc, Bool, true, false, List, [], ◌∷◌, length, Option, Some, None, Result, is_some, refl, sym, ap, ◌∙◌, subst}
 use Rattle.std.specs.Prelude.{if◌then◌else◌, nat_lt, slice_get}
-use Rattle.std.specs.List.{cons_option, filter_map}
+use Rattle.std.specs.List.{cons_option}
 use Rattle.std.specs.Option.{option_map}
-use Rattle.tracing_core_fields.specs.OwnedValues.{indexed_entries, indexed_entry, is_indexed, owned_entries, owned_entry, plain_owned}
+use Rattle.tracing_core_fields.specs.OwnedValues.{indexed_entries, indexed_entry, is_indexed, owned_entries, plain_owned}
 use Rattle.tracing_core_fields.specs.PlainMetadata.{PlainMetadata}
 use Rattle.tracing_core_fields.specs.PlainValue.{PlainValue}
 use Rattle.tracing_core_fields.specs.declared.owned_value.FieldValue.{FieldValue}
 use Rattle.tracing_core_requests.specs.Calls.{Asked, EventDispatched, Recorded, SpanMade}
 use Rattle.tracing_core_requests.specs.PlainRequests.{PlainRequest, PlainValues}
-use Rattle.tracing_core_requests.specs.declared.at.At.{At}
 use Rattle.tracing_core_requests.specs.declared.refusal.RequestError.{RequestError}
 use Rattle.tracing_core_requests.specs.declared.requests.parent.Parent.{Parent}
 use Rattle.tracing_core_requests.specs.declared.subscriber.Subscriber.{Ghosts}
@@ -26,7 +25,7 @@ use Rattle.span_tracing_skeleton.specs.declared.call.Reply.TheVariants.{Enabled}
 use Rattle.span_tracing_steps.specs.Actions.{plain_record, plain_request}
 use Rattle.span_tracing_steps.specs.Callsites.{own_metadata}
 use Rattle.span_tracing_steps.specs.Sound.{IsSound}
-use Rattle.span_tracing_steps.specs.States.{StateValue, callsites_of, value_in}
+use Rattle.span_tracing_steps.specs.States.{callsites_of, value_in}
 use Rattle.span_tracing_steps.specs.Steps.{EventGoes, QuestionGoes, SpanGoes, ValuesGo, span_reply}
 use Rattle.span_tracing_steps.specs.Telling.{own_entries, own_values, place_at, request_of}
 use Rattle.span_tracing_steps.specs.contracts.callsite.TraceCallsiteCallsite.TheImpl.{ghosts}

@@ -6,3 +6,4 @@ pub mod Going
 pub mod Anew
 pub mod Registering
 pub mod Stackless
+pub mod Words

@@ -5,3 +5,5 @@ pub mod Sound
 pub mod Telling
 pub mod Steps
 pub mod Setup
+pub mod Interests
+pub mod Words

@@ -2,6 +2,7 @@
 use Rattle.std.specs.Prelude.{ℕ, List, [], length, map, Bool, false, Option, Some, None, is_some, string_bytes, slice_get}
 use Rattle.std.specs.Option.{option_map}
 use Rattle.tracing_core_fields.specs.PlainMetadata.{PlainMetadata}
+use Rattle.tracing_core_requests.specs.Interests.{PlainInterest}
 use Rattle.tracing_core_hub.specs.Defaults.{was_set}
 use Rattle.tracing_core_hub.specs.Kept.{KeptCallsite, KeptSubscriber}
 use Rattle.tracing_core_hub.specs.Lent.{living_of}
@@ -22,15 +23,19 @@ pub record PlainThread : Type 0 where
 abbrev pub plain_thread : Thread → PlainThread
 plain_thread thread = record { name = option_map string_bytes thread.name; number = thread.thread_id }
 
--- callsites in order of registering, the lanes' threads, whether the stack is the global default, and the stack, where there is one
+-- callsites in order of registering, what is kept of the interest in each, the lanes' threads, whether the stack is the global default, and the stack, where there is one
 pub record StateValue (T : Type 0) : Type 0 where
   pub callsites : List PlainMetadata
+  pub interests : List PlainInterest
   pub threads : List PlainThread
   pub is_global : Bool
   pub stack : Option T
 
 abbrev pub callsites_of : List (KeptCallsite TraceCallsite) → List PlainMetadata
 callsites_of rows = map (λ (row : KeptCallsite TraceCallsite). own_metadata row.callsite) rows
+
+abbrev pub interests_of : List (KeptCallsite TraceCallsite) → List PlainInterest
+interests_of rows = map (λ (row : KeptCallsite TraceCallsite). row.interest) rows
 
 -- the stack that a handle leads to
 abbrev pub stack_of : {T : Type 0} → Option (Option ℕ) → List (KeptSubscriber T) → Option T
@@ -43,6 +48,7 @@ stack_in p = stack_of p.handle p.hub.subscribers
 abbrev pub value_in : {T : Type 0} → TraceParts T → StateValue T
 value_in p = record {
   callsites = callsites_of p.hub.callsites;
+  interests = interests_of p.hub.callsites;
   threads = map plain_thread p.threads.items;
   is_global = was_set p.hub.global;
   stack = stack_in p;
@@ -69,4 +75,4 @@ at_index callsites (Some index) = slice_get callsites index.0
 
 -- no callsite, no lane, no stack
 abbrev pub new_state : {T : Type 0} → StateValue T
-new_state = record { callsites = []; threads = []; is_global = false; stack = None }
+new_state = record { callsites = []; interests = []; threads = []; is_global = false; stack = None }

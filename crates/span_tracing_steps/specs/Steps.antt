@@ -1,7 +1,6 @@
 -- What a step does: it is refused, or the stack takes a call.
-use Rattle.std.specs.Prelude.{◌≡◌, ℕ, List, Bool, true, false, Option, Some, None, Result, Ok, Err}
+use Rattle.std.specs.Prelude.{◌≡◌, ℕ, Bool, true, false, Option, Some, None, Result, Ok, Err}
 use Rattle.tracing_core_fields.specs.PlainMetadata.{PlainMetadata}
-use Rattle.tracing_core_fields.specs.PlainValue.{PlainValue}
 use Rattle.tracing_core_requests.specs.Calls.{Call, ReplyTo, Asked, SpanMade, Recorded, FollowsRecorded, EventDispatched, Entered, Exited, Cloned, CloseTried}
 use Rattle.tracing_core_requests.specs.declared.refusal.RequestError.{RequestError}
 use Rattle.tracing_core_requests.specs.declared.refusal.RequestError.TheVariants as errors

@@ -4,6 +4,8 @@
 mod action;
 mod callsite;
 mod checks;
+mod interest;
+mod laws;
 mod parts;
 mod requests;
 mod setup;
@@ -11,6 +13,7 @@ mod spans;
 
 pub use action::{RecordRequest, Request};
 pub use callsite::TraceCallsite;
+pub use laws::words_stay;
 pub use parts::{Thread, TraceParts};
 
 #[cfg(test)]

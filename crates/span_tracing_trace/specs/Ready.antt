@@ -10,6 +10,7 @@ use Rattle.event_formatter_formats.specs.Contexts.{PlainContext}
 use Rattle.tracing_appender_folders.specs.Contents.{Contents}
 use Rattle.span_tracing_outputs.specs.Outs.{PlainLine}
 use Rattle.span_tracing_outputs.specs.Turns.{Lines}
+use Rattle.span_tracing_sinks.specs.Routed.{Routed}
 use Rattle.span_tracing_sinks.specs.declared.sink.RollingSink.{RollingSink}
 use Rattle.span_tracing_skeleton.specs.PlainData.{PlainStep}
 use Rattle.span_tracing_skeleton.specs.declared.call.Reply.{Reply}
@@ -22,5 +23,5 @@ abbrev pub FollowsReady : {N E F S : Type 0} → Ghosts N → (E → Settings �
 FollowsReady n line_of g takes h v step reply w = StackIsReady g h v.stack → Follows n line_of g takes h v step reply w × StackIsReady g h w.stack
 
 -- so does a run, and its sinks and files are told of
-abbrev pub RunsReady : {N E F D : Type 0} → (D → Option Contents) → (D → ℕ) → Ghosts N → (E → Settings → PlainContext → PlainEvent → Option (List ℕ)) → FilterGhosts F → LayerGhosts (Lines N E) → Traced N E F (RollingSink D) → List PlainStep → List Reply → Traced N E F (RollingSink D) → Type 0
+abbrev pub RunsReady : {N E F D : Type 0} → (D → Option Contents) → (D → ℕ) → Ghosts N → (E → Settings → PlainContext → PlainEvent → Option (List ℕ)) → FilterGhosts F → LayerGhosts (Lines N E) → Traced N E F (Routed (RollingSink D)) → List PlainStep → List Reply → Traced N E F (Routed (RollingSink D)) → Type 0
 RunsReady contents failed n line_of g h v steps replies w = StackIsReady g h v.stack → RunsToFiles contents failed n line_of g h v steps replies w × StackIsReady g h w.stack

@@ -1,16 +1,19 @@
 //! From calls of events and spans to lines in log files.
 #![tactic(auto)]
 
+mod interest;
+mod readers;
 mod steps;
 mod trace;
 
 pub use event_formatter_formats::{Fields, Format, LineFormat, Timer};
 pub use event_formatter_layer::Layer;
+pub use event_formatter_makers::Route;
 pub use span_registry_layers_layers::Filtered;
 pub use span_registry_layers_stack::{Output, Stack, StackError, StackRefusal};
 pub use span_registry_layers_store::OutputKey;
 pub use span_tracing_outputs::{PendingLines, TraceStack, UnpairedSinks};
-pub use span_tracing_sinks::RollingSink;
+pub use span_tracing_sinks::{RollingSink, RoutedSinks, UnroutedSinks};
 pub use span_tracing_skeleton::{
     EnabledCall, EventCall, FollowsCall, NewSpanCall, Parent, RecordCall, Refusal, Reply, SpanCall,
     SpanName, Step,
@@ -23,6 +26,7 @@ pub use tracing_appender_rolling::{
     BuildError, BuildRefusal, Builder, RollingFileAppender, Rotation,
 };
 pub use tracing_core_fields::{FieldValue, OwnedValue};
+pub use tracing_core_hub::CallsiteIndex;
 
 #[cfg(test)]
 mod tests;

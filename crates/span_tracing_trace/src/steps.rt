@@ -15,7 +15,7 @@ use event_formatter_text::FormatFields;
 use span_registry_layers_layers::Filter;
 use span_tracing_outputs::{LineSink, PendingLines, TraceStack};
 use span_tracing_runs::{files_follow, runs_follow, steps_follow};
-use span_tracing_sinks::RollingSink;
+use span_tracing_sinks::{RollingSink, RoutedSinks};
 use span_tracing_skeleton::{
     EnabledCall, FollowsCall, HasRegistry, Parent, Reply, SpanCall, SpanName, Step,
 };
@@ -228,24 +228,24 @@ impl<N: FormatFields + Drop, E: FormatEvent, F: Filter, S: LineSink> Trace<Trace
 }
 
 impl<N: FormatFields + Drop, E: FormatEvent, F: Filter, D: Folder> Trace<
-    TraceStack<N, E, F, RollingSink<D>>,
+    TraceStack<N, E, F, RoutedSinks<RollingSink<D>>>,
 > {
     /// Steps in order, with a reply to each. A step that is refused for want of memory does nothing, and the others run.
     ///
-    /// Where the stack is ready, each output's sink takes exactly the lines that the output's machine offers. Where the sink dropped none,
-    /// its folder's contents are known, and its appender agreed with a sink before (`AgreesSink`), these lines stand in its files behind
-    /// what was found and handed over before, as far as retention left the files.
+    /// Where the stack is ready, each sink of an output takes exactly those lines that the output's machine offers and the route sends to it.
+    /// Where the sink dropped none, its folder's contents are known, and its appender agreed with a sink before (`AgreesSink`), these lines
+    /// stand in its files behind what was found and handed over before, as far as retention left the files.
     ///
     /// # Errors
     ///
     /// Want of memory for the replies, whose room is made first: then nothing was done.
     pub fn run(&mut self, steps: &[Step]) -> Result<Vec<Reply>, AllocError>
-        ensures gives { IfOk result (λ replies. RunGives ⟦<TraceStack<N, E, F, RollingSink<D>> as Subscriber>⟧ self.old
+        ensures gives { IfOk result (λ replies. RunGives ⟦<TraceStack<N, E, F, RoutedSinks<RollingSink<D>>> as Subscriber>⟧ self.old
             (plain_steps steps.now) replies.items self.new) }
         ensures run { IfOk result (λ replies. RunsReady D.contents D.failed ⟦<N as FormatFields>⟧ E.line_of ⟦<F as Filter>⟧ ⟦<Layer<N, E, PendingLines> as span_registry_layers_layers::Layer>⟧ self.old (plain_steps steps.now) replies.items self.new) }
         ensures err { OnErr result (self.new ≡ self.old) }
     {
-        runs_follow::<N, E, F, RollingSink<D>>();
+        runs_follow::<N, E, F, RoutedSinks<RollingSink<D>>>();
         files_follow::<N, E, F, D>();
         self.run_all(steps)
     }

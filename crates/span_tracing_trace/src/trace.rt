@@ -16,7 +16,8 @@ use tracing_core_requests::{Interest, Subscriber};
 /// Takes calls of events and spans and answers replies, over one stack `T`: a
 /// [`TraceStack`](crate::TraceStack) of outputs, each with a sink that takes its lines.
 ///
-/// A contract sees a trace as its callsites, threads, whether the stack is the global default, and the stack.
+/// A contract sees a trace as its callsites, what is kept of the interest in each, threads, whether the stack is the global
+/// default, and the stack.
 #[derive(Drop)]
 pub struct Trace<T: Subscriber> {
     pub(crate) parts: TraceParts<T>,

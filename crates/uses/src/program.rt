@@ -1,122 +1,69 @@
 //! Events and spans of a program, written as lines to a log file.
 
-ghost use Rattle.std.specs.Prelude.{◌≡◌, ◌∷◌, [], IfOk, OnErr, Some, None, length, true, false, Err};
-ghost use Rattle.tracing_appender_rolling.specs.Memory.{memory_contents, nothing_there};
+ghost use Rattle.std.specs.Prelude.{◌≡◌, IfOk, OnErr, length, true, false, Err};
 ghost use Rattle.tracing_appender_rolling.specs.Moments.{is_moment};
-ghost use Rattle.tracing_appender_rolling.specs.Remaining.{AgreesSink, fresh_sink};
-ghost use Rattle.event_formatter_formats.specs.Parts.{default_parts};
 ghost use Rattle.span_tracing_outputs.specs.TraceFollows.{IsReady};
 ghost use Rattle.span_tracing_steps.specs.Steps.{StepGives};
 ghost use Rattle.span_tracing_runs.specs.Follows.{StackIsReady, registry_of};
-ghost use Rattle.uses.specs.Programs.{daily_names, file_refusal, message_step, stack_refusal};
+ghost use Rattle.uses.specs.Programs.{message_step};
 
 use span_registry_layers::Filter;
 use span_tracing::{
-    BuildError, Builder, FieldValue, Fields, FileStack, Filtered, Format, Layer, LineFormat,
-    MemoryFolder, Moment, Output, OutputKey, OwnedValue, Parent, PendingLines, Refusal, Reply,
-    RollingSink, Rotation, Stack, StackError, Timer, Trace, TraceStack, levels_are_honest,
-    setup_follows, trace_starts,
+    Builder, FieldValue, Fields, FileStack, Format, LineFormat, LineSettings, Lines, MemoryFolder,
+    Moment, OutputKey, OutputSpec, OwnedValue, Parent, Refusal, Reply, RollingSink, Rotation,
+    Route, RoutedSinks, SinkSpec, Timer, Trace, leveled_outputs_are_honest, open_stack,
+    setup_follows,
 };
 use std::alloc::{AllocError, Global};
 use tracing_core::{Identifier, LevelFilter, Subscriber};
 
-/// Lines of any format.
-type Shape = Format<LineFormat, Timer>;
-
-/// A layer that writes such lines.
-type Lines = Layer<Fields, Shape, PendingLines>;
+/// What the output's lines go to.
+type Sinks = RoutedSinks<RollingSink<MemoryFolder>>;
 
 /// A trace over a folder in memory, under a level.
 pub type MemoryTrace = Trace<FileStack<LevelFilter, MemoryFolder>>;
 
-// Writes lines of the full format, without a time.
-fn full_lines(alloc: Global, key: OutputKey) -> Lines
-    ensures key { result.config.key ≡ key }
-    ensures shape { result.format.shape ≡ LineFormat.Full }
-    ensures parts { result.format.parts ≡ record default_parts { timestamp = false } }
-{
-    Layer::new(alloc, key, PendingLines::new(alloc))
-        .without_time()
-        .with_timer(Timer::Empty)
-        .map_event_format(|format| format.with_shape(LineFormat::Full))
-        .fmt_fields(Fields::Default)
-}
-
-// A stack of one output, which writes such lines of what a level passes, and the sink that takes them. It is ready for
-// its first call.
-fn stack_of_one(
-    alloc: Global,
-    level: LevelFilter,
-    sink: RollingSink<MemoryFolder>,
-) -> Result<FileStack<LevelFilter, MemoryFolder>, StackError>
-    ensures { IfOk result (λ made. IsReady ⟦<LevelFilter as Filter>⟧ made) }
-{
-    let key = OutputKey(1);
-    let output = Filtered::new(full_lines(alloc, key), level);
-    let Ok(mut outputs) = Vec::with_capacity(alloc, 1) else {
-        return Err(StackError::OutOfMemory);
-    };
-    outputs.push_reserved(Output { key, output });
-    let Ok(mut sinks) = Vec::with_capacity(alloc, 1) else {
-        return Err(StackError::OutOfMemory);
-    };
-    sinks.push_reserved(sink);
-    levels_are_honest::<Lines>();
-    trace_starts::<Fields, Shape, LevelFilter, RollingSink<MemoryFolder>>();
-    match Stack::new(alloc, outputs) {
-        Ok(stack) => match TraceStack::new(stack, sinks) {
-            Ok(made) => Ok(made),
-            // There is a sink for the output.
-            Err(_) => Err(StackError::NoOutput),
-        },
-        Err(refused) => Err(refused.error),
-    }
-}
-
-// A sink whose lines go to a file for each day, `prefix.DAY.log`, in an empty folder in memory.
-fn daily_sink(
+// One output, which writes lines of the full format, without a time, of what a level passes, to a file for each day,
+// `prefix.DAY.log`, in an empty folder in memory.
+fn output_of(
     alloc: Global,
     prefix: &str,
-    moment: Moment,
-) -> Result<RollingSink<MemoryFolder>, BuildError>
-    requires { is_moment moment ≡ true }
-    ensures { IfOk result (λ sink. AgreesSink (λ folder. Some (memory_contents folder)) sink.appender
-        (fresh_sink (daily_names prefix.now) moment nothing_there)) }
-{
-    let prefix = String::from_str(alloc, prefix).map_err(|_| BuildError::OutOfMemory)?;
-    let suffix = String::from_str(alloc, "log").map_err(|_| BuildError::OutOfMemory)?;
-    let builder = Builder::new()
+    level: LevelFilter,
+) -> Result<OutputSpec<LevelFilter, MemoryFolder>, Refusal> {
+    let prefix = String::from_str(alloc, prefix).map_err(|_| Refusal::OutOfMemory)?;
+    let suffix = String::from_str(alloc, "log").map_err(|_| Refusal::OutOfMemory)?;
+    let files = Builder::new()
         .rotation(Rotation::DAILY)
         .filename_prefix(prefix)
         .filename_suffix(suffix);
-    match builder.build(alloc, MemoryFolder::new(alloc), moment) {
-        Ok(appender) => Ok(RollingSink::new(appender)),
-        Err(refused) => Err(refused.error),
+    let mut sinks = Vec::new(alloc);
+    let sink = SinkSpec::Direct(files, MemoryFolder::new(alloc));
+    if sinks.push(sink).is_err() {
+        return Err(Refusal::OutOfMemory);
     }
+    let lines = LineSettings {
+        timer: Timer::Empty,
+        ..LineSettings::full()
+    };
+    OutputSpec::new(OutputKey(1), level, lines, Route::Sink(0), sinks).map_err(
+        |refused| refused.error,
+    )
 }
 
-// How a trace tells that a file could not be opened.
-fn file_refusal(error: BuildError) -> Refusal
-    ensures { result ≡ file_refusal error }
+// A stack of this output, which is ready for its first call.
+fn stack_of(
+    alloc: Global,
+    output: OutputSpec<LevelFilter, MemoryFolder>,
+    moment: Moment,
+) -> Result<FileStack<LevelFilter, MemoryFolder>, Refusal>
+    ensures { IfOk result (λ made. IsReady ⟦<LevelFilter as Filter>⟧ made) }
 {
-    match error {
-        BuildError::BadName => Refusal::BadName,
-        BuildError::BadLinkName => Refusal::BadLinkName,
-        BuildError::Init(_) => Refusal::FolderRefused,
-        BuildError::OutOfMemory => Refusal::OutOfMemory,
+    let mut outputs = Vec::new(alloc);
+    if outputs.push(output).is_err() {
+        return Err(Refusal::OutOfMemory);
     }
-}
-
-// How a trace tells that a stack was not made.
-fn stack_refusal(error: StackError) -> Refusal
-    ensures { result ≡ stack_refusal error }
-{
-    match error {
-        StackError::OutOfMemory => Refusal::OutOfMemory,
-        StackError::NoOutput => Refusal::NoOutput,
-        StackError::TooManyFilters => Refusal::TooManyFilters,
-        StackError::EqualKeys => Refusal::EqualKeys,
-    }
+    leveled_outputs_are_honest::<MemoryFolder>();
+    open_stack(alloc, outputs, moment)
 }
 
 // A trace with this stack and one lane, which reaches the stack.
@@ -130,7 +77,7 @@ fn trace_over(
     ensures reached { IfOk result (λ trace. trace.is_global ≡ true) }
     ensures lane { IfOk result (λ trace. length trace.threads ≡ 1) }
 {
-    setup_follows::<Fields, Shape, LevelFilter, RollingSink<MemoryFolder>>();
+    setup_follows::<Fields, Format<LineFormat, Timer>, LevelFilter, Sinks>();
     let mut trace = Trace::new(alloc);
     let Ok(_lane) = trace.thread(None, 1) else {
         return Err(Refusal::OutOfMemory);
@@ -167,8 +114,8 @@ pub fn open_trace(
     if !moment.is_in_range() {
         return Err(Refusal::BadMoment);
     }
-    let sink = daily_sink(alloc, prefix, moment).map_err(file_refusal)?;
-    let stack = stack_of_one(alloc, level, sink).map_err(stack_refusal)?;
+    let output = output_of(alloc, prefix, level)?;
+    let stack = stack_of(alloc, output, moment)?;
     trace_over(alloc, stack)
 }
 

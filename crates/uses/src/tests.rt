@@ -229,8 +229,7 @@ fn a_program_logs_a_line(rt: HostRuntime) -> Result<(), Fail> {
     assert!(rt; trace.register(Identifier(3), &detail).is_ok());
     let reply = log_text(alloc, &mut trace, MONDAY, Identifier(3), "a detail")?;
     assert!(rt; reply == Reply::Done);
-    let stack = trace.stack().ok_or("a stack")?;
-    let sink = stack.sinks().first().ok_or("a sink")?;
+    let sink = trace.sink(0, 0).ok_or("a sink")?;
     let files = sink.appender().folder().files()?;
     let file = files.first().ok_or("no file")?;
     assert_eq!(rt; file.name, "app.2025-02-17.log");

@@ -77,7 +77,7 @@ fn forms_of_a_stack(rt: HostRuntime) -> Result<(), Fail> {
             output: output.as_str(),
             errors: "",
         };
-        expect_run(&rt, alloc, input.as_bytes(), want, new)?;
+        expect_run(&rt, input.as_bytes(), want, new)?;
     }
     Ok(())
 }
@@ -130,7 +130,7 @@ fn names_and_times(rt: HostRuntime) -> Result<(), Fail> {
             output: output.as_str(),
             errors: "",
         };
-        expect_run(&rt, alloc, input.as_bytes(), want, name)?;
+        expect_run(&rt, input.as_bytes(), want, name)?;
     }
     Ok(())
 }
@@ -157,18 +157,12 @@ fn setup_and_ends_of_lines(rt: HostRuntime) -> Result<(), Fail> {
         output: "",
         errors: "",
     };
-    expect_run(&rt, alloc, b"", none, "nothing")?;
+    expect_run(&rt, b"", none, "nothing")?;
     let input = joined(alloc, &SETUP)?;
-    expect_run(&rt, alloc, input.as_bytes(), none, "setup")?;
-    expect_run(
-        &rt,
-        alloc,
-        input.trim_end().as_bytes(),
-        none,
-        "no last newline",
-    )?;
+    expect_run(&rt, input.as_bytes(), none, "setup")?;
+    expect_run(&rt, input.trim_end().as_bytes(), none, "no last newline")?;
     let marked = input.replace(alloc, "\n", "\r\n")?;
-    expect_run(&rt, alloc, marked.as_bytes(), none, "carriage returns")
+    expect_run(&rt, marked.as_bytes(), none, "carriage returns")
 }
 
 /// Two days, and a day that comes again.
@@ -189,5 +183,5 @@ fn files_by_day(rt: HostRuntime) -> Result<(), Fail> {
 "#,
         errors: "",
     };
-    expect_run(&rt, alloc, input.as_bytes(), want, "two days")
+    expect_run(&rt, input.as_bytes(), want, "two days")
 }

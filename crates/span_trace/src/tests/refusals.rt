@@ -277,7 +277,7 @@ fn replies(rt: HostRuntime) -> Result<(), Fail> {
             output: output.as_str(),
             errors: "",
         };
-        expect_run(&rt, alloc, input.as_bytes(), want, input.as_str())?;
+        expect_run(&rt, input.as_bytes(), want, input.as_str())?;
     }
     Ok(())
 }
@@ -310,7 +310,7 @@ fn without_a_stack(rt: HostRuntime) -> Result<(), Fail> {
             output,
             errors: "",
         };
-        expect_run(&rt, alloc, input.as_bytes(), want, input.as_str())?;
+        expect_run(&rt, input.as_bytes(), want, input.as_str())?;
     }
     Ok(())
 }
@@ -351,7 +351,7 @@ fn refused_stacks(rt: HostRuntime) -> Result<(), Fail> {
         let stack = STACK.replace(alloc, *old, new)?;
         let input = joined(alloc, &[LANE, OUTER, stack.as_str(), DEFAULT])?;
         let errors = format!(in alloc; "span-trace: line 3: refused {number}\n")?;
-        expect_stop(&rt, alloc, input.as_bytes(), errors.as_str(), new)?;
+        expect_stop(&rt, input.as_bytes(), errors.as_str(), new)?;
     }
     Ok(())
 }
@@ -375,7 +375,7 @@ fn taken_identifiers(rt: HostRuntime) -> Result<(), Fail> {
         let other = OUTER.replace(alloc, *old, new)?;
         let input = joined(alloc, &[OUTER, HAPPENED, OUTER, other.as_str()])?;
         let errors = "span-trace: line 4: refused 25\n";
-        expect_stop(&rt, alloc, input.as_bytes(), errors, new)?;
+        expect_stop(&rt, input.as_bytes(), errors, new)?;
     }
     Ok(())
 }

@@ -7,7 +7,6 @@ use crate::tests::{
 use std::alloc::Global;
 use std::io;
 use std::io::{ErrorKind, Read, Write};
-use std::process::Abort;
 use std::test::Fail;
 
 /// Gives some bytes, a few at each read, and then refuses.
@@ -90,7 +89,7 @@ fn usage(rt: HostRuntime) -> Result<(), Fail> {
             status,
             output,
             errors,
-        } = run_on(alloc, list, &mut input)?;
+        } = run_on(&rt, list, &mut input)?;
         let told = b"span-trace: usage: span-trace replay|threads\n";
         assert_eq!(rt; (status, input.reads), (2, 0), "at {list:?}");
         assert_eq!(rt; errors.as_slice(), told.as_slice(), "at {list:?}");
@@ -100,7 +99,7 @@ fn usage(rt: HostRuntime) -> Result<(), Fail> {
 }
 
 fn expect_broken(
-    rt: &impl Abort,
+    rt: &HostRuntime,
     alloc: Global,
     bytes: &[u8],
     most: usize,
@@ -115,7 +114,7 @@ fn expect_broken(
         status,
         output,
         errors,
-    } = run_on(alloc, &["replay"], &mut input)?;
+    } = run_on(rt, &["replay"], &mut input)?;
     if status == 4 {
         return Err(Fail::new("out of memory"));
     }
@@ -155,7 +154,7 @@ fn endless_input(rt: HostRuntime) -> Result<(), Fail> {
         status,
         output,
         errors,
-    } = run_on(alloc, &["replay"], &mut input)?;
+    } = run_on(&rt, &["replay"], &mut input)?;
     if status == 4 {
         return Err(Fail::new("out of memory"));
     }
@@ -170,7 +169,7 @@ fn endless_input(rt: HostRuntime) -> Result<(), Fail> {
 fn broken_output(rt: HostRuntime) -> Result<(), Fail> {
     let alloc = rt.alloc();
     let input = script_of(alloc, &[DEFAULT, DEFAULT, EVENT])?;
-    let whole = replayed(alloc, input.as_bytes())?;
+    let whole = replayed(&rt, input.as_bytes())?;
     for left in 0..5 {
         let words = words_of(alloc, &["replay"])?;
         let mut output = BrokenWriter {
@@ -179,7 +178,7 @@ fn broken_output(rt: HostRuntime) -> Result<(), Fail> {
         };
         let mut errors: Vec<u8> = Vec::new(alloc);
         let status = main_with(
-            alloc,
+            &rt,
             words.as_slice(),
             &mut input.as_bytes(),
             &mut output,
@@ -209,7 +208,7 @@ fn broken_errors(rt: HostRuntime) -> Result<(), Fail> {
         bytes: Vec::new(alloc),
     };
     let status = main_with(
-        alloc,
+        &rt,
         words.as_slice(),
         &mut b"1.5".as_slice(),
         &mut output,
@@ -219,11 +218,5 @@ fn broken_errors(rt: HostRuntime) -> Result<(), Fail> {
         return Err(Fail::new("out of memory"));
     }
     assert_eq!(rt; status, 2);
-    expect_stop(
-        &rt,
-        alloc,
-        b"1.5",
-        "span-trace: line 1: float number\n",
-        "a float",
-    )
+    expect_stop(&rt, b"1.5", "span-trace: line 1: float number\n", "a float")
 }

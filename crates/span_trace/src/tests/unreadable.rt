@@ -4,7 +4,6 @@ use crate::tests::{
     DEFAULT, ENTER, EVENT, HAPPENED, LANE, NEW_SPAN, OUTER, STACK, expect_stop, joined,
 };
 use std::alloc::Global;
-use std::process::Abort;
 use std::test::Fail;
 
 /// Whole lines.
@@ -200,7 +199,7 @@ const FLOATS: [&str; 9] = [
 ];
 
 /// Each edit of a line, which stands fifth and before a line that is worse.
-fn edited(rt: &impl Abort, alloc: Global, line: &str, edits: &[(&str, &str)]) -> Result<(), Fail> {
+fn edited(rt: &HostRuntime, alloc: Global, line: &str, edits: &[(&str, &str)]) -> Result<(), Fail> {
     for (old, new) in edits {
         let changed = line.replace(alloc, *old, new)?;
         assert!(rt; changed.as_str() != line, "no change by {new}");
@@ -210,10 +209,10 @@ fn edited(rt: &impl Abort, alloc: Global, line: &str, edits: &[(&str, &str)]) ->
 }
 
 /// A line that stands fifth and before a line that is worse.
-fn fifth(rt: &impl Abort, alloc: Global, line: &str, fault: &str) -> Result<(), Fail> {
+fn fifth(rt: &HostRuntime, alloc: Global, line: &str, fault: &str) -> Result<(), Fail> {
     let input = joined(alloc, &[LANE, OUTER, HAPPENED, LANE, line, "1.5"])?;
     let errors = format!(in alloc; "span-trace: line 5: {fault}\n")?;
-    expect_stop(rt, alloc, input.as_bytes(), errors.as_str(), line)
+    expect_stop(rt, input.as_bytes(), errors.as_str(), line)
 }
 
 #[test]
@@ -261,7 +260,7 @@ fn unreadable_places(rt: HostRuntime) -> Result<(), Fail> {
     ] {
         let input = joined(alloc, &lines)?;
         let errors = "span-trace: line 3: not readable\n";
-        expect_stop(&rt, alloc, input.as_bytes(), errors, input.as_str())?;
+        expect_stop(&rt, input.as_bytes(), errors, input.as_str())?;
     }
     Ok(())
 }
@@ -277,7 +276,7 @@ fn unreadable_bytes(rt: HostRuntime) -> Result<(), Fail> {
         }
     }
     let refused = "span-trace: line 1: not readable\n";
-    expect_stop(&rt, alloc, deep.as_slice(), refused, "128 lists")?;
+    expect_stop(&rt, deep.as_slice(), refused, "128 lists")?;
     for input in [
         b"\"\xff\"\n".as_slice(),
         b"\xff\n",
@@ -285,8 +284,8 @@ fn unreadable_bytes(rt: HostRuntime) -> Result<(), Fail> {
         b"\r\n",
         b"\n1.5\n",
     ] {
-        expect_stop(&rt, alloc, input, refused, "bytes")?;
+        expect_stop(&rt, input, refused, "bytes")?;
     }
     let float = "span-trace: line 1: float number\n";
-    expect_stop(&rt, alloc, b"[[[0.5]]]", float, "lists round a float")
+    expect_stop(&rt, b"[[[0.5]]]", float, "lists round a float")
 }

@@ -60,7 +60,15 @@ impl<'a> Members<'a> {
     }
 
     pub(crate) fn size(self, key: &str) -> Result<usize, LineFault> {
-        Ok(self.number(key)? as usize)
+        whole_number(self.get(key)?)
+    }
+
+    /// A whole number, where the key is there.
+    pub(crate) fn size_if_given(self, key: &str) -> Result<Option<usize>, LineFault> {
+        match self.find(key) {
+            None => Ok(None),
+            Some(value) => Ok(Some(whole_number(value)?)),
+        }
     }
 
     pub(crate) fn list(self, key: &str) -> Result<&'a [Json], LineFault> {
@@ -95,6 +103,11 @@ pub(crate) fn pair(value: &Json) -> Result<(&Json, &Json), LineFault> {
         [first, second] => Ok((first, second)),
         _ => Err(LineFault::NotReadable),
     }
+}
+
+pub(crate) fn whole_number(value: &Json) -> Result<usize, LineFault> {
+    let number = value.as_u64().ok_or(LineFault::NotReadable)?;
+    usize::try_from(number).or(Err(LineFault::NotReadable))
 }
 
 pub(crate) fn number_of_32_bits(value: &Json) -> Result<u32, LineFault> {

@@ -1,7 +1,10 @@
-//! Lines of stacks, with their outputs and sinks.
+//! Lines of stacks, with their outputs.
 
 use crate::decode::members::{Members, number_of_32_bits, owned_text};
+use crate::decode::route::route_of;
+use crate::decode::sink::{SinkLine, sink_lines};
 use crate::fault::LineFault;
+use event_formatter::Route;
 use serde_json::Value as Json;
 use std::alloc::Global;
 use tracing_appender_rolling::Moment;
@@ -24,8 +27,8 @@ pub struct OutputLine {
     pub show_level: bool,
     /// The moments of a span at which a line is written for it. One that is named twice counts once.
     pub span_events: Vec<SpanEvent>,
-    /// The place of a sink.
-    pub route: usize,
+    /// Which sinks take a line, by their places in `sinks`. Those places may be past the end.
+    pub route: Route,
     pub sinks: Vec<SinkLine>,
 }
 
@@ -55,14 +58,6 @@ pub enum SpanEvent {
     Enter,
     Exit,
     Close,
-}
-
-/// Daily files in a new folder in memory.
-#[derive(Drop)]
-pub struct SinkLine {
-    pub folder: String,
-    pub prefix: Option<String>,
-    pub suffix: Option<String>,
 }
 
 pub(crate) fn stack_line(alloc: Global, members: Members<'_>) -> Result<StackLine, LineFault> {
@@ -100,7 +95,6 @@ fn output_line(alloc: Global, members: Members<'_>) -> Result<OutputLine, LineFa
     let filter = filter.or(Err(LineFault::NotReadable))?;
     let format = format_named(members.text("format")?)?;
     let show_level = members.flag_or("show_level", true)?;
-    let route = members.size("route")?;
     // what owns memory comes last, so that little has to be given back where a member can't be read
     Ok(OutputLine {
         key,
@@ -109,7 +103,7 @@ fn output_line(alloc: Global, members: Members<'_>) -> Result<OutputLine, LineFa
         time: time_of(alloc, members.find("time"))?,
         show_level,
         span_events: span_events(alloc, members)?,
-        route,
+        route: route_of(alloc, members.get("route")?)?,
         sinks: sink_lines(alloc, members.list("sinks")?)?,
     })
 }
@@ -156,30 +150,4 @@ fn span_event(value: &Json) -> Result<SpanEvent, LineFault> {
         Some("close") => Ok(SpanEvent::Close),
         _ => Err(LineFault::NotReadable),
     }
-}
-
-fn sink_lines(alloc: Global, list: &[Json]) -> Result<Vec<SinkLine>, LineFault> {
-    // The trace gives an output one sink.
-    if list.len() > 1 {
-        return Err(LineFault::NotReadable);
-    }
-    let mut sinks = Vec::new(alloc);
-    for value in list {
-        sinks.push(sink_line(alloc, Members::of(value)?)?)?;
-    }
-    Ok(sinks)
-}
-
-fn sink_line(alloc: Global, members: Members<'_>) -> Result<SinkLine, LineFault> {
-    members.only(&["folder", "rotation", "prefix", "suffix"])?;
-    if members.text("rotation")? != "daily" {
-        return Err(LineFault::NotReadable);
-    }
-    let folder = Members::of(members.get("folder")?)?;
-    folder.only(&["memory"])?;
-    Ok(SinkLine {
-        folder: owned_text(alloc, folder.get("memory")?)?,
-        prefix: members.text_if_given(alloc, "prefix")?,
-        suffix: members.text_if_given(alloc, "suffix")?,
-    })
 }

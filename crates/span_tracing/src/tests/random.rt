@@ -4,7 +4,8 @@ use crate::tests::model::{FILTERS, LANES, Model, OUTPUTS};
 use crate::{
     FieldValue, Fields, FileStack, Filtered, FixedText, FmtSpan, Format, Json, Layer, LineFormat,
     MemoryFolder, Moment, Output, OutputKey, OwnedValue, Parent, PendingLines, Pretty, Refusal,
-    Reply, RollingFileAppender, RollingSink, Rotation, SpanName, Stack, Timer, Trace, TraceStack,
+    Reply, RollingFileAppender, RollingSink, Rotation, RoutedSinks, SpanName, Stack, Timer, Trace,
+    TraceStack,
 };
 use std::alloc::{AllocError, Global};
 use std::process::Abort;
@@ -102,7 +103,8 @@ fn stack_of_four(alloc: Global) -> Result<Outputs, Fail> {
             prefix,
             NOW,
         ).map_err(|refusal| refusal.error)?;
-        sinks.push(RollingSink::new(appender)).ok().ok_or("room")?;
+        let sink = RoutedSinks::single(alloc, RollingSink::new(appender))?;
+        sinks.push(sink).ok().ok_or("room")?;
     }
     let stack = Stack::new(alloc, outputs).ok().ok_or("a stack")?;
     Ok(TraceStack::new(stack, sinks).ok().ok_or("pairs")?)
@@ -230,14 +232,16 @@ fn call(
 }
 
 fn has_texts(rt: &impl Abort, trace: &Trace<Outputs>, model: &Model) -> Result<(), AllocError> {
-    if let Some(stack) = trace.stack() {
-        for (sink, text) in stack.sinks().iter().zip(model.texts.iter()) {
-            let files = sink.appender().folder().files()?;
-            assert_eq!(rt; files.len(), 1);
-            for file in &files {
-                let shown = str::from_utf8(file.bytes).ok().unwrap_or("not UTF-8");
-                assert_eq!(rt; shown, text.as_str());
-            }
+    for (output, text) in model.texts.iter().enumerate() {
+        assert!(rt; trace.sink(output, 0).is_some());
+        let Some(sink) = trace.sink(output, 0) else {
+            return Ok(());
+        };
+        let files = sink.appender().folder().files()?;
+        assert_eq!(rt; files.len(), 1);
+        for file in &files {
+            let shown = str::from_utf8(file.bytes).ok().unwrap_or("not UTF-8");
+            assert_eq!(rt; shown, text.as_str());
         }
     }
     Ok(())

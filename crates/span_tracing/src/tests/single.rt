@@ -3,7 +3,7 @@
 use crate::{
     FieldValue, Fields, FileStack, Filtered, FixedText, Format, Layer, LineFormat, MemoryFolder,
     Moment, Output, OutputKey, OwnedValue, Parent, PendingLines, Reply, RollingFileAppender,
-    RollingSink, Rotation, Stack, Timer, Trace, TraceStack,
+    RollingSink, Rotation, RoutedSinks, Stack, Timer, Trace, TraceStack,
 };
 use std::alloc::Global;
 use std::process::Abort;
@@ -50,9 +50,8 @@ fn trace_over(
         |refusal| refusal.error,
     )?;
     let outputs = vec![in alloc; output].ok().ok_or("room")?;
-    let sinks = vec![in alloc; RollingSink::new(appender)]
-        .ok()
-        .ok_or("room")?;
+    let sink = RoutedSinks::single(alloc, RollingSink::new(appender))?;
+    let sinks = vec![in alloc; sink].ok().ok_or("room")?;
     let stack = Stack::new(alloc, outputs).ok().ok_or("a stack")?;
     let stack = TraceStack::new(stack, sinks).ok().ok_or("a pair")?;
     let mut trace = Trace::new(alloc);
@@ -81,8 +80,7 @@ fn tell(rt: &impl Abort, alloc: Global, trace: &mut Trace<Outputs>) -> Result<()
 
 /// The text of the one file.
 fn has_text(rt: &impl Abort, trace: &Trace<Outputs>, text: &str) -> Result<(), Fail> {
-    let stack = trace.stack().ok_or("a stack")?;
-    let sink = stack.sinks().first().ok_or("a sink")?;
+    let sink = trace.sink(0, 0).ok_or("a sink")?;
     let files = sink.appender().folder().files()?;
     let file = files.first().ok_or("a file")?;
     assert_eq!(rt; files.len(), 1);

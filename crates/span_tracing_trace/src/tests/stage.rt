@@ -2,8 +2,8 @@
 
 use crate::{
     FieldValue, Fields, Format, Layer, LineFormat, MemoryFolder, Moment, Output, OutputKey,
-    OwnedValue, PendingLines, Refusal, Reply, RollingFileAppender, RollingSink, Rotation, SpanName,
-    Stack, Timer, Trace, TraceStack,
+    OwnedValue, PendingLines, Refusal, Reply, RollingFileAppender, RollingSink, Rotation,
+    RoutedSinks, SpanName, Stack, Timer, Trace, TraceStack,
 };
 use event_formatter_formats::Json;
 use event_formatter_lines::FmtSpan;
@@ -47,7 +47,12 @@ pub(crate) type Shape = Format<LineFormat, Timer>;
 
 pub(crate) type Shown = Filtered<Layer<Fields, Shape, PendingLines>, LevelFilter>;
 
-pub(crate) type Written = TraceStack<Fields, Shape, LevelFilter, RollingSink<MemoryFolder>>;
+pub(crate) type Written = TraceStack<
+    Fields,
+    Shape,
+    LevelFilter,
+    RoutedSinks<RollingSink<MemoryFolder>>,
+>;
 
 /// An output of this shape, with lines at the close of spans.
 pub(crate) fn output_in(
@@ -73,13 +78,16 @@ pub(crate) fn output_in(
 }
 
 /// A sink over a file for each day, in a folder of its own.
-pub(crate) fn sink_of(alloc: Global, prefix: &str) -> Result<RollingSink<MemoryFolder>, Fail> {
+pub(crate) fn sink_of(
+    alloc: Global,
+    prefix: &str,
+) -> Result<RoutedSinks<RollingSink<MemoryFolder>>, Fail> {
     let prefix = String::from_str(alloc, prefix)?;
     let folder = MemoryFolder::new(alloc);
     let appender = RollingFileAppender::new(alloc, Rotation::DAILY, folder, prefix, OPENED).map_err(
         |refusal| refusal.error,
     )?;
-    Ok(RollingSink::new(appender))
+    Ok(RoutedSinks::single(alloc, RollingSink::new(appender))?)
 }
 
 /// Full lines from DEBUG on go to `lines`, and JSON from WARN on to `json`.
@@ -190,8 +198,7 @@ pub(crate) fn has_file(
     name: &str,
     text: &str,
 ) -> Result<(), Fail> {
-    let stack = trace.stack().ok_or("a stack")?;
-    let sink = stack.sinks().get(sink).ok_or("a sink")?;
+    let sink = trace.sink(sink, 0).ok_or("a sink")?;
     assert_eq!(rt; sink.dropped(), 0);
     for entry in &sink.appender().folder().files()? {
         if entry.name == name {

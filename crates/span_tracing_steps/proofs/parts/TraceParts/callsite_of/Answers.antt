@@ -1,4 +1,4 @@
-use Rattle.std.proofs.Common.{◌≡◌, Option, None, Some, is_some, sym, ap, ◌∙◌}
+use Rattle.std.proofs.Common.{is_some, sym, ap, ◌∙◌}
 use Rattle.std.specs.Prelude.{option_and_then}
 use Rattle.span_tracing_skeleton.specs.Machine.{named}
 use Rattle.span_tracing_steps.specs.States.{callsites_of, stack_in}

@@ -1,5 +1,4 @@
 use Rattle.std.proofs.Common.{sym, ◌∙◌}
-use Rattle.span_tracing_skeleton.specs.Machine.{knows_stack}
 use Rattle.span_tracing_steps.specs.States.{skeleton_of, value_in}
 use Rattle.span_tracing_steps.proofs.Called.{set_sound}
 use Rattle.span_tracing_steps.proofs.Going.{unset_by}

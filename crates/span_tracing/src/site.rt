@@ -1,0 +1,44 @@
+//! Callsites that an application registers once and then names.
+ghost use Rattle.std.specs.Prelude.{◌≡◌, IfOk, Some};
+ghost use Rattle.tracing_core_fields.specs.Metadata.{plain_metadata};
+ghost use Rattle.span_tracing_skeleton.specs.Machine.{named};
+ghost use Rattle.span_tracing_steps.specs.States.{at_index};
+ghost use Rattle.span_tracing.specs.Sites.{Registers};
+
+use span_tracing_skeleton::{HasRegistry, Refusal};
+use span_tracing_trace::{CallsiteIndex, Trace};
+use tracing_core_fields::{Identifier, Metadata};
+use tracing_core_requests::Subscriber;
+
+/// A callsite that is registered with a trace, for [`event!`](crate::event) and [`span!`](crate::span). An application keeps its own in a
+/// struct.
+#[derive(Clone, Copy, Debug)]
+pub struct Site {
+    /// Its identifier.
+    pub identifier: Identifier,
+    /// Where it stands in the trace.
+    pub index: CallsiteIndex,
+}
+
+impl Site {
+    /// Registers a callsite under the identifier that its fields name.
+    ///
+    /// # Errors
+    ///
+    /// As `Trace::register`.
+    pub fn register<T: Subscriber + HasRegistry>(
+        trace: &mut Trace<T>,
+        metadata: &Metadata<'_>,
+    ) -> Result<Site, Refusal>
+        ensures registered { Registers ⟦<T as Subscriber>⟧ trace.old (plain_metadata metadata.now) trace.new }
+        ensures stands { IfOk result (λ site. (site.identifier.0 ≡ (plain_metadata metadata.now).callsite)
+            × (at_index trace.new.callsites (Some site.index) ≡ named trace.new.callsites site.identifier.0)) }
+    {
+        let identifier = metadata.callsite();
+        let _interest = trace.register(identifier, metadata)?;
+        match trace.callsite(identifier) {
+            Some(index) => Ok(Site { identifier, index }),
+            None => Err(Refusal::UnknownCallsite),
+        }
+    }
+}

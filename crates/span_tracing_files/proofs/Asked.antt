@@ -1,0 +1,124 @@
+-- What the outputs that are asked for make of a stack.
+use Rattle.std.proofs.Common.{◌≡◌, ◌⊎◌, ◌+◌, ℕ, suc, nat_eq, nat_le, Bool, true, false, List, [], ◌∷◌, length, map, Option, Some, None, Result, Ok, Err, refl, sym, ap, ◌∙◌, subst, inl, arith}
+use Rattle.std.specs.Prelude.{if◌then◌else◌}
+use Rattle.std.specs.Option.{option_map}
+use Rattle.tracing_core_requests.specs.Lists.{Every}
+use Rattle.event_formatter_makers.specs.Routes.{is_good_route}
+use Rattle.event_formatter_makers.specs.declared.route.Route.{Route}
+use Rattle.span_registry_layers_layers.specs.declared.filter.Filter.{Ghosts as FilterGhosts}
+use Rattle.span_registry_layers_layers.specs.declared.filtered.Filtered.{Filtered}
+use Rattle.span_registry_layers_layers.specs.declared.layer.Layer.{Ghosts as LayerGhosts}
+use Rattle.span_registry_layers_stack.specs.New as stacks
+use Rattle.span_registry_layers_stack.specs.Stacks.{StackValue}
+use Rattle.span_registry_layers_stack.specs.declared.output.Output.{Output}
+use Rattle.span_registry_layers_stack.specs.declared.output.StackError.{StackError}
+use Rattle.span_registry_layers_stack.specs.declared.output.StackError.TheVariants as errors
+use Rattle.span_registry_layers_stack.specs.declared.output.StackRefusal.{StackRefusal}
+use Rattle.span_registry_layers_store.specs.declared.slot.OutputKey.{OutputKey}
+use Rattle.span_tracing_outputs.specs.TraceStarts.{HasOwnKey}
+use Rattle.span_tracing_outputs.specs.Turns.{Lines}
+use Rattle.span_tracing_sinks.specs.Routed.{Routed, RoutingGives, RoutingIf}
+use Rattle.span_tracing_sinks.specs.declared.routed.UnroutedSinks.{UnroutedSinks}
+use Rattle.span_tracing_skeleton.specs.declared.refusal.Refusal.{Refusal}
+use Rattle.span_tracing_skeleton.specs.declared.refusal.Refusal.TheVariants as refusals
+use Rattle.span_tracing_files.specs.Opened.{Answers, IsTold, Pairs, RowOf, RowsAreTold, keys_of, outputs_refusal, rows_refusal, stack_refusal}
+use Rattle.span_tracing_files.specs.Settings.{Shown}
+use Rattle.span_tracing_files.specs.declared.output_spec.OutputSpec.{OutputSpec}
+
+-- sinks that a route is good for are kept with it
+pub routed_is : {S : Type 0} (route : Route) (sinks : List S) (made : Routed S) → RoutingGives route sinks (Ok made) → made ≡ record { route = route; sinks = sinks }
+routed_is {S = S} route sinks made gives = by_good (is_good_route (length sinks) route) gives
+  where
+    by_good : (b : Bool) → RoutingIf b route sinks (Ok made) → made ≡ record { route = route; sinks = sinks }
+    by_good true is = is
+    by_good false is = absurd is
+
+-- what is wrong with outputs of so many, with so many filters and these keys
+abbrev shape : ℕ → ℕ → List ℕ → Option StackError
+shape n filters keys = if nat_eq n 0 then Some errors.NoOutput else if nat_le filters 64 then (if stacks.has_equal_keys keys then Some errors.EqualKeys else None) else Some errors.TooManyFilters
+
+told_shape : (none few equal : Bool) → (if none then Some refusals.NoOutput else if few then (if equal then Some refusals.EqualKeys else None) else Some refusals.TooManyFilters) ≡ option_map stack_refusal (if none then Some errors.NoOutput else if few then (if equal then Some errors.EqualKeys else None) else Some errors.TooManyFilters)
+told_shape true few equal = refl
+told_shape false true true = refl
+told_shape false true false = refl
+told_shape false false equal = refl
+
+module _ {N E F : Type 0} (g : FilterGhosts F) (h : LayerGhosts (Lines N E)) where
+  told_by : (o : Option StackError) (rows : List (Output (Filtered (Lines N E) F))) (back : StackRefusal (Filtered (Lines N E) F)) → stacks.NewUnless h g o rows (Err back) → IsTold (option_map stack_refusal o) (stack_refusal back.error)
+  told_by None rows back hands = tt
+  told_by (Some refusal) rows back hands = inl (ap stack_refusal hands.0)
+
+  none_wrong : (o : Option StackError) (rows : List (Output (Filtered (Lines N E) F))) (s : StackValue (Filtered (Lines N E) F)) → stacks.NewUnless h g o rows (Ok s) → o ≡ None
+  none_wrong None rows s made = refl
+  none_wrong (Some refusal) rows s made = absurd made
+
+  module _ (none : (layer : Lines N E) → h.filters layer ≡ 0) where
+    filters_are : (rows : List (Output (Filtered (Lines N E) F))) → stacks.filters_in h rows ≡ length rows
+    filters_are [] = refl
+    filters_are (row ∷ rows) =
+        let own : h.filters row.output.layer ≡ 0 = none row.output.layer in
+        let later : stacks.filters_in h rows ≡ length rows = filters_are rows in
+        ap (λ (n : ℕ). suc n + stacks.filters_in h rows) own ∙ ap (λ (n : ℕ). suc 0 + n) later ∙ one_more (length rows)
+      where
+        one_more : (n : ℕ) → suc 0 + n ≡ suc n
+        one_more n = omega arith
+
+    refusal_is : (rows : List (Output (Filtered (Lines N E) F))) → rows_refusal rows ≡ option_map stack_refusal (stacks.new_refusal h rows)
+    refusal_is rows =
+        told_shape (nat_eq (length rows) 0) (nat_le (length rows) 64) (stacks.has_equal_keys (stacks.keys_of rows))
+        ∙ ap (λ (n : ℕ). option_map stack_refusal (shape (length rows) n (stacks.keys_of rows))) (sym (filters_are rows))
+
+    pub rows_are_told : RowsAreTold g h
+    rows_are_told = record {
+      wrong = λ rows back gives. subst (λ (o : Option Refusal). IsTold o (stack_refusal back.error)) (sym (refusal_is rows)) (told_by (stacks.new_refusal h rows) rows back gives);
+      right = λ rows s gives. refusal_is rows ∙ ap (option_map stack_refusal) (none_wrong (stacks.new_refusal h rows) rows s gives);
+    }
+
+module _ {F D : Type 0} where
+  same_length : (specs : List (OutputSpec F D)) (rows : List (Output (Filtered Shown F))) → Pairs RowOf specs rows → length rows ≡ length specs
+  same_length [] [] pairs = refl
+  same_length [] (row ∷ rows) pairs = absurd pairs
+  same_length (spec ∷ specs) [] pairs = absurd pairs
+  same_length (spec ∷ specs) (row ∷ rows) pairs = let later = same_length specs rows pairs.1 in cc
+
+  same_keys : (specs : List (OutputSpec F D)) (rows : List (Output (Filtered Shown F))) → Pairs RowOf specs rows → stacks.keys_of rows ≡ keys_of specs
+  same_keys [] [] pairs = refl
+  same_keys [] (row ∷ rows) pairs = absurd pairs
+  same_keys (spec ∷ specs) [] pairs = absurd pairs
+  same_keys (spec ∷ specs) (row ∷ rows) pairs =
+      ap (λ (k : OutputKey). k.0 ∷ stacks.keys_of rows) pairs.0.key ∙ ap (λ (ks : List ℕ). spec.key.0 ∷ ks) (same_keys specs rows pairs.1)
+
+  -- what is wrong with the outputs is wrong with what is asked for
+  pub same_refusal : (specs : List (OutputSpec F D)) (rows : List (Output (Filtered Shown F))) → Pairs RowOf specs rows → rows_refusal rows ≡ outputs_refusal specs
+  same_refusal specs rows pairs =
+      ap (λ (n : ℕ). if nat_eq n 0 then Some refusals.NoOutput else if nat_le n 64 then (if stacks.has_equal_keys (stacks.keys_of rows) then Some refusals.EqualKeys else None) else Some refusals.TooManyFilters) (same_length specs rows pairs)
+      ∙ ap (λ (ks : List ℕ). if nat_eq (length specs) 0 then Some refusals.NoOutput else if nat_le (length specs) 64 then (if stacks.has_equal_keys ks then Some refusals.EqualKeys else None) else Some refusals.TooManyFilters) (same_keys specs rows pairs)
+
+  -- so it is told
+  pub told_wrong : (specs : List (OutputSpec F D)) (rows : List (Output (Filtered Shown F))) (error : StackError) (told : Refusal) → Pairs RowOf specs rows → told ≡ stack_refusal error → IsTold (rows_refusal rows) (stack_refusal error) → IsTold (outputs_refusal specs) told
+  told_wrong specs rows error told pairs is wrong =
+      subst (IsTold (outputs_refusal specs)) (sym is) (subst (λ (o : Option Refusal). IsTold o (stack_refusal error)) (same_refusal specs rows pairs) wrong)
+
+  -- where nothing is wrong any answer will do
+  pub nothing_wrong : (A : Type 0) (specs : List (OutputSpec F D)) (rows : List (Output (Filtered Shown F))) (result : Result A Refusal) → Pairs RowOf specs rows → rows_refusal rows ≡ None → Answers (outputs_refusal specs) result
+  nothing_wrong A specs rows result pairs none =
+      subst (λ (o : Option Refusal). Answers o result) (sym none ∙ same_refusal specs rows pairs) (any result)
+    where
+      any : (result : Result A Refusal) → Answers None result
+      any (Ok made) = refl
+      any (Err told) = tt
+
+  pub nothing_told : (specs : List (OutputSpec F D)) (rows : List (Output (Filtered Shown F))) (told : Refusal) → Pairs RowOf specs rows → rows_refusal rows ≡ None → IsTold (outputs_refusal specs) told
+  nothing_told specs rows told pairs none = subst (λ (o : Option Refusal). IsTold o told) (sym none ∙ same_refusal specs rows pairs) tt
+
+  pub own_keys : (specs : List (OutputSpec F D)) (rows : List (Output (Filtered Shown F))) → Pairs RowOf specs rows → Every HasOwnKey rows
+  own_keys [] [] pairs = tt
+  own_keys [] (row ∷ rows) pairs = absurd pairs
+  own_keys (spec ∷ specs) [] pairs = absurd pairs
+  own_keys (spec ∷ specs) (row ∷ rows) pairs = (ap (λ (k : OutputKey). k.0) (pairs.0.layer.key ∙ sym pairs.0.key), own_keys specs rows pairs.1)
+
+  pub rows_honest : (honest : F → Type 0) (specs : List (OutputSpec F D)) (rows : List (Output (Filtered Shown F))) → Pairs RowOf specs rows → Every (λ (spec : OutputSpec F D). honest spec.filter) specs → Every (λ (row : Output (Filtered Shown F)). honest row.output.filter) rows
+  rows_honest honest [] [] pairs each = tt
+  rows_honest honest [] (row ∷ rows) pairs each = absurd pairs
+  rows_honest honest (spec ∷ specs) [] pairs each = absurd pairs
+  rows_honest honest (spec ∷ specs) (row ∷ rows) pairs each = (subst honest (sym pairs.0.filter) each.0, rows_honest honest specs rows pairs.1 each.1)

@@ -1,0 +1,4 @@
+pub mod Settings
+pub mod Specs
+pub mod Opened
+pub mod Either

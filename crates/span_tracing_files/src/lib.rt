@@ -1,0 +1,15 @@
+//! Outputs of a trace that write log files: how they are told, and how their files are opened.
+#![tactic(auto)]
+
+mod either_folder;
+mod line_settings;
+mod opening;
+mod output_spec;
+
+pub use either_folder::EitherFolder;
+pub use line_settings::{LineSettings, Lines};
+pub use opening::{FileStack, open_stack};
+pub use output_spec::{OutputSpec, SinkSpec, SpecRefusal};
+
+#[cfg(test)]
+mod tests;

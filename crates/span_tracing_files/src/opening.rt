@@ -1,0 +1,250 @@
+//! A stack whose files are opened.
+ghost use Rattle.std.specs.Prelude.{◌≡◌, ◌⊎◌, IfOk, IfErr, Some, None, Err, false, true, map};
+ghost use Rattle.tracing_core_requests.specs.Lists.{Every};
+ghost use Rattle.tracing_appender_folders.specs.Moments.{is_moment};
+ghost use Rattle.span_tracing_outputs.specs.TraceFollows.{IsReady};
+ghost use Rattle.span_tracing_files.specs.Opened.{Answers, OpensRouting, OpensSink, OpensStack, Pairs, RowOf, build_refusal, outputs_refusal, RowsAreTold, routing_of, stack_refusal};
+
+use crate::line_settings::Lines;
+use crate::output_spec::{OutputSpec, SinkSpec};
+use event_formatter_formats::{Fields, Format, FormatEvent, LineFormat, Timer};
+use event_formatter_layer::Layer;
+use event_formatter_makers::Route;
+use event_formatter_text::FormatFields;
+use span_registry_layers_layers::{Filter, Filtered};
+use span_registry_layers_stack::{Output, Stack, StackError};
+use span_tracing_outputs::{PendingLines, TraceStack, trace_starts};
+use span_tracing_sinks::{RollingSink, RoutedSinks};
+use span_tracing_skeleton::Refusal;
+use std::alloc::{AllocError, Global};
+use tracing_appender_folders::{Folder, Moment};
+use tracing_appender_rolling::{BuildError, Builder};
+
+/// A stack whose outputs have lines of any format, under filters `F`, and whose lines go to rolling files in folders `D`.
+pub type FileStack<F, D> = TraceStack<
+    Fields,
+    Format<LineFormat, Timer>,
+    F,
+    RoutedSinks<RollingSink<D>>,
+>;
+
+/// What an output needs besides its files.
+type Row<F> = Output<Filtered<Lines, F>>;
+
+/// The sinks of an output, before their files are opened.
+#[derive(Drop)]
+pub(crate) struct Routing<D> {
+    route: Route,
+    sinks: Vec<SinkSpec<D>>,
+}
+
+fn stack_refusal(error: StackError) -> Refusal
+    ensures { result ≡ stack_refusal error }
+{
+    match error {
+        StackError::NoOutput => Refusal::NoOutput,
+        StackError::TooManyFilters => Refusal::TooManyFilters,
+        StackError::EqualKeys => Refusal::EqualKeys,
+        StackError::OutOfMemory => Refusal::OutOfMemory,
+    }
+}
+
+fn build_refusal(error: BuildError) -> Refusal
+    ensures { result ≡ build_refusal error }
+{
+    match error {
+        BuildError::BadName => Refusal::BadName,
+        BuildError::BadLinkName => Refusal::BadLinkName,
+        BuildError::Init(_) => Refusal::FolderRefused,
+        BuildError::OutOfMemory => Refusal::OutOfMemory,
+    }
+}
+
+/// Why a sink's files can't have their names.
+fn name_refusal(builder: &Builder) -> Option<Refusal> {
+    if builder.has_bad_name() {
+        Some(Refusal::BadName)
+    } else if builder.has_bad_link() {
+        Some(Refusal::BadLinkName)
+    } else {
+        None
+    }
+}
+
+/// The first of the sinks' refusals.
+fn first_refusal<D>(sinks: &[SinkSpec<D>]) -> Option<Refusal> {
+    for sink in sinks {
+        let SinkSpec::Direct(builder, _) = sink;
+        let refusal = name_refusal(builder);
+        if refusal.is_some() {
+            return refusal;
+        }
+    }
+    None
+}
+
+/// The first refusal of a name, outputs and sinks in order.
+fn names_refusal<F, D>(outputs: &[OutputSpec<F, D>]) -> Option<Refusal> {
+    for output in outputs {
+        let refusal = first_refusal(output.sinks.as_slice());
+        if refusal.is_some() {
+            return refusal;
+        }
+    }
+    None
+}
+
+fn row_of<F, D>(alloc: Global, spec: OutputSpec<F, D>) -> (Row<F>, Routing<D>)
+    ensures row { RowOf spec result.0 }
+    ensures routing { result.1 ≡ routing_of spec }
+{
+    let OutputSpec {
+        key,
+        filter,
+        lines,
+        route,
+        sinks,
+    } = spec;
+    let output = Filtered::new(lines.into_layer(alloc, key), filter);
+    (Output { key, output }, Routing { route, sinks })
+}
+
+/// The outputs without their files, and their sinks.
+#[tactic(auto, using(crate::proofs::Paired::pairs_more))]
+fn split<F: Drop, D: Drop>(
+    alloc: Global,
+    outputs: Vec<OutputSpec<F, D>>,
+) -> Result<(Vec<Row<F>>, Vec<Routing<D>>), AllocError>
+    ensures rows { IfOk result (λ made. Pairs RowOf outputs.items made.0.items) }
+    ensures routings { IfOk result (λ made. made.1.items ≡ map routing_of outputs.items) }
+{
+    let mut rows = Vec::new(alloc);
+    let mut routings = Vec::new(alloc);
+    for spec in outputs {
+        let (row, routing) = row_of(alloc, spec);
+        rows.push(row)?;
+        routings.push(routing)?;
+    }
+    Ok((rows, routings))
+}
+
+fn open_sink<D: Folder>(
+    alloc: Global,
+    spec: SinkSpec<D>,
+    moment: Moment,
+) -> Result<RollingSink<D>, Refusal>
+    requires { is_moment moment ≡ true }
+    ensures { IfOk result (λ sink. OpensSink D.contents D.failed moment spec sink) }
+{
+    let SinkSpec::Direct(builder, folder) = spec;
+    match builder.build(alloc, folder, moment) {
+        Ok(appender) => Ok(RollingSink::new(appender)),
+        Err(refused) => Err(build_refusal(refused.error)),
+    }
+}
+
+/// The sinks of an output, opened in order.
+#[tactic(auto, using(crate::proofs::Paired::pairs_more))]
+fn open_sinks<D: Folder>(
+    alloc: Global,
+    specs: Vec<SinkSpec<D>>,
+    moment: Moment,
+) -> Result<Vec<RollingSink<D>>, Refusal>
+    requires { is_moment moment ≡ true }
+    ensures { IfOk result (λ sinks. Pairs (OpensSink D.contents D.failed moment) specs.items sinks.items) }
+{
+    let mut sinks = Vec::new(alloc);
+    for spec in specs {
+        let sink = open_sink(alloc, spec, moment)?;
+        if sinks.push(sink).is_err() {
+            return Err(Refusal::OutOfMemory);
+        }
+    }
+    Ok(sinks)
+}
+
+#[tactic(auto, using(crate::proofs::Asked::routed_is))]
+fn open_routing<D: Folder>(
+    alloc: Global,
+    routing: Routing<D>,
+    moment: Moment,
+) -> Result<RoutedSinks<RollingSink<D>>, Refusal>
+    requires { is_moment moment ≡ true }
+    ensures { IfOk result (λ routed. OpensRouting D.contents D.failed moment routing routed) }
+{
+    let Routing { route, sinks } = routing;
+    let opened = open_sinks(alloc, sinks, moment)?;
+    match RoutedSinks::new(route, opened) {
+        Ok(routed) => Ok(routed),
+        Err(_) => Err(Refusal::BadRoute),
+    }
+}
+
+/// The sinks of all outputs, opened in order.
+#[tactic(auto, using(crate::proofs::Paired::pairs_more))]
+fn open_routings<D: Folder>(
+    alloc: Global,
+    routings: Vec<Routing<D>>,
+    moment: Moment,
+) -> Result<Vec<RoutedSinks<RollingSink<D>>>, Refusal>
+    requires { is_moment moment ≡ true }
+    ensures { IfOk result (λ opened. Pairs (OpensRouting D.contents D.failed moment) routings.items opened.items) }
+{
+    let mut opened = Vec::new(alloc);
+    for routing in routings {
+        let routed = open_routing(alloc, routing, moment)?;
+        if opened.push(routed).is_err() {
+            return Err(Refusal::OutOfMemory);
+        }
+    }
+    Ok(opened)
+}
+
+/// Refused outputs are told, since their layers have no filters of their own.
+fn rows_are_told<N: FormatFields + Drop, E: FormatEvent, F: Filter>()
+    ensures { RowsAreTold ⟦<F as Filter>⟧ ⟦<Layer<N, E, PendingLines> as span_registry_layers_layers::Layer>⟧ }
+{}
+
+/// A stack of the outputs. At the moment the files of all sinks are opened, outputs and sinks in order, after retention.
+///
+/// # Errors
+///
+/// In this order: `BadMoment`; `NoOutput`, `TooManyFilters` where there are more than 64 outputs, `EqualKeys`; for the sinks in order
+/// `BadName`, `BadLinkName`, all before a folder is asked; then `FolderRefused` or `OutOfMemory` at the first sink that meets it. Want of
+/// memory may be told in place of what comes later. The outputs are let go: the folders of earlier sinks keep what was opened in them.
+pub fn open_stack<F: Filter, D: Folder>(
+    alloc: Global,
+    outputs: Vec<OutputSpec<F, D>>,
+    moment: Moment,
+) -> Result<FileStack<F, D>, Refusal>
+    ensures moment { is_moment moment ≡ false → result ≡ Err Refusal.BadMoment }
+    ensures told { is_moment moment ≡ true → Answers (outputs_refusal outputs.items) result }
+    ensures opened { IfOk result (λ made. OpensStack D.contents D.failed ⟦<F as Filter>⟧
+        ⟦<Lines as span_registry_layers_layers::Layer>⟧ moment outputs.items made) }
+    // Honest filters are asked for what each says of all callsites.
+    ensures ready { Every (λ (spec : OutputSpec F D). F.honest spec.filter) outputs.items →
+        IfOk result (λ made. IsReady ⟦<F as Filter>⟧ made) }
+{
+    if !moment.is_in_range() {
+        return Err(Refusal::BadMoment);
+    }
+    trace_starts::<Fields, Format<LineFormat, Timer>, F, RoutedSinks<RollingSink<D>>>();
+    rows_are_told::<Fields, Format<LineFormat, Timer>, F>();
+    let names = names_refusal(outputs.as_slice());
+    let Ok((rows, routings)) = split(alloc, outputs) else {
+        return Err(Refusal::OutOfMemory);
+    };
+    let stack = match Stack::new(alloc, rows) {
+        Ok(stack) => stack,
+        Err(refused) => return Err(stack_refusal(refused.error)),
+    };
+    if let Some(refusal) = names {
+        return Err(refusal);
+    }
+    let sinks = open_routings(alloc, routings, moment)?;
+    match TraceStack::new(stack, sinks) {
+        Ok(made) => Ok(made),
+        // There are sinks for each output.
+        Err(_) => Err(Refusal::BadRoute),
+    }
+}

@@ -1,0 +1,222 @@
+#!/usr/bin/env python3
+"""Scenes of the program over a real directory: what it leaves there, and what stands in its way.
+
+usage: scripts/real_files.py PROGRAM [SCENE..]     runs a built program in all scenes, or in these
+
+A scene is a function here that gets a new directory and a call that runs the program on JSON lines. It answers how what it finds differs from what
+has to be, or an empty text."""
+import json
+import os
+import resource
+import shutil
+import signal
+import subprocess
+import sys
+import tempfile
+
+from kit import rt
+
+# 2025-02-17T10:01:00Z and later moments.
+MONDAY, NEXT_MINUTE, TUESDAY, WEDNESDAY = 1739786460, 1739786520, 1739836800, 1739923200
+# A file may have so many bytes where a scene limits it.
+MOST = 65
+
+
+def stack(outputs, second=MONDAY):
+    return {"do": "stack", "moment": [second, 0], "outputs": outputs}
+
+
+def output(key, sinks, **members):
+    return {"key": key, "filter": "info", "format": "full", "route": 0, "time": None, "show_level": False, "sinks": sinks, **members}
+
+
+def sink(path, rotation="daily", **members):
+    return {"folder": {"disk": path}, "rotation": rotation, "prefix": "app", **members}
+
+
+def events(*told):
+    """Returns the lines that set up an event's callsite, and then tell each text at its second."""
+    lines = [{"do": "lane", "thread": 1}]
+    lines.append({"do": "callsite", "id": 1, "kind": "event", "name": "e", "target": "app", "level": "INFO", "fields": ["message"]})
+    lines.append({"do": "set_global_default", "handle": 0})
+    for second, text in told:
+        lines.append({"do": "event", "lane": 0, "moment": [second, 0], "callsite": 1, "values": [["message", text]]})
+    return lines
+
+
+def files(folder):
+    """Returns each file's text by its name below the folder."""
+    found = {}
+    for at, _, names in os.walk(folder):
+        for name in names:
+            with open(f"{at}/{name}", encoding="utf-8") as it:
+                found[os.path.relpath(f"{at}/{name}", folder)] = it.read()
+    return found
+
+
+def compared(got, wanted, what):
+    return "" if got == wanted else f"{what}: {got!r}, and not {wanted!r}"
+
+
+def first_of(*differences):
+    return next(filter(None, differences), "")
+
+
+def a_file_for_each_day(folder, run):
+    logs = f"{folder}/logs"
+    ran = run([stack([output(0, [sink(logs)])]), *events((MONDAY, "one"), (TUESDAY, "two"), (TUESDAY, "three"), (MONDAY, "late"), (WEDNESDAY, "four"))])
+    wanted = {"app.2025-02-17": "app: one\n", "app.2025-02-18": "app: two\napp: three\napp: late\n", "app.2025-02-19": "app: four\n"}
+    return first_of(compared(ran.returncode, 0, "status"), compared(files(logs), wanted, "files"))
+
+
+def a_file_for_each_minute_in_directories_that_are_made(folder, run):
+    logs = f"{folder}/a/b/c"
+    ran = run([stack([output(0, [sink(logs, "minutely", suffix="log")])]), *events((MONDAY, "one"), (NEXT_MINUTE, "two"))])
+    wanted = {"app.2025-02-17-10-01.log": "app: one\n", "app.2025-02-17-10-02.log": "app: two\n"}
+    return first_of(compared(ran.returncode, 0, "status"), compared(files(logs), wanted, "files"))
+
+
+def what_a_file_held_stays(folder, run):
+    with open(f"{folder}/app.2025-02-17", "w", encoding="utf-8") as it:
+        it.write("old\n")
+    os.chmod(f"{folder}/app.2025-02-17", 0o666)
+    ran = run([stack([output(0, [sink(folder)])]), *events((MONDAY, "m"))])
+    return first_of(compared(ran.returncode, 0, "status"), compared(files(folder), {"app.2025-02-17": "old\napp: m\n"}, "files"))
+
+
+def text_and_json_in_two_directories(folder, run):
+    outputs = [output(0, [sink(f"{folder}/text")]), output(1, [sink(f"{folder}/json")], format="json")]
+    ran = run([stack(outputs), *events((MONDAY, "m"))])
+    wanted = {"text/app.2025-02-17": "app: m\n", "json/app.2025-02-17": '{"fields":{"message":"m"},"target":"app"}\n'}
+    return first_of(compared(ran.returncode, 0, "status"), compared(files(folder), wanted, "files"))
+
+
+def a_line_stands_in_both_files_of_a_tee(folder, run):
+    sinks = [sink(f"{folder}/one"), sink(f"{folder}/two", "never")]
+    ran = run([stack([output(0, sinks, route={"tee": [0, 1]})]), *events((MONDAY, "m"))])
+    wanted = {"one/app.2025-02-17": "app: m\n", "two/app": "app: m\n"}
+    return first_of(compared(ran.returncode, 0, "status"), compared(files(folder), wanted, "files"))
+
+
+def retention_leaves_the_newest_and_what_is_not_its_own(folder, run):
+    for name in ("app.2025-02-10", "app.2025-02-11", "other.2025-02-10", "app.2025-02-12.bak"):
+        with open(f"{folder}/{name}", "w", encoding="utf-8") as it:
+            it.write(f"{name}\n")
+    ran = run([stack([output(0, [sink(folder, max_files=2)])]), *events((MONDAY, "one"), (TUESDAY, "two"), (WEDNESDAY, "three"))])
+    wanted = {"app.2025-02-18": "app: two\n", "app.2025-02-19": "app: three\n", "other.2025-02-10": "other.2025-02-10\n", "app.2025-02-12.bak": "app.2025-02-12.bak\n"}
+    return first_of(compared(ran.returncode, 0, "status"), compared(files(folder), wanted, "files"))
+
+
+def a_removed_directory_is_made_again(folder, run):
+    logs, lines = f"{folder}/logs", [stack([output(0, [sink(f"{folder}/logs")])]), *events((MONDAY, "m"))]
+    first = run(lines)
+    shutil.rmtree(logs)
+    second = run(lines)
+    return first_of(compared((first.returncode, second.returncode), (0, 0), "statuses"), compared(files(logs), {"app.2025-02-17": "app: m\n"}, "files"))
+
+
+def refused(ran):
+    return first_of(compared(ran.returncode, 3, "status"), compared(ran.stderr, b"span-trace: line 1: refused 12\n", "errors"), compared(ran.stdout, b"", "output"))
+
+
+def a_link_where_the_file_should_be_is_not_followed(folder, run):
+    os.symlink(f"{folder}/elsewhere", f"{folder}/app.2025-02-17")
+    ran = run([stack([output(0, [sink(folder)])]), *events((MONDAY, "m"))])
+    return first_of(refused(ran), compared(os.path.exists(f"{folder}/elsewhere"), False, "the link's file is there"))
+
+
+def a_pipe_where_the_file_should_be_is_not_waited_for(folder, run):
+    os.mkfifo(f"{folder}/app.2025-02-17")
+    return refused(run([stack([output(0, [sink(folder)])]), *events((MONDAY, "m"))]))
+
+
+def a_directory_where_the_file_should_be_is_refused(folder, run):
+    os.mkdir(f"{folder}/app.2025-02-17")
+    return refused(run([stack([output(0, [sink(folder)])]), *events((MONDAY, "m"))]))
+
+
+def a_link_to_the_newest_file_is_refused(folder, run):
+    return refused(run([stack([output(0, [sink(folder, link="latest")])]), *events((MONDAY, "m"))]))
+
+
+def a_later_file_that_is_refused_leaves_the_old_one(folder, run):
+    os.mkfifo(f"{folder}/app.2025-02-18")
+    ran = run([stack([output(0, [sink(folder)])]), *events((MONDAY, "one"), (TUESDAY, "two"), (WEDNESDAY, "three"))])
+    os.remove(f"{folder}/app.2025-02-18")
+    wanted = {"app.2025-02-17": "app: one\napp: two\n", "app.2025-02-19": "app: three\n"}
+    return first_of(compared(ran.returncode, 0, "status"), compared(files(folder), wanted, "files"))
+
+
+def a_full_file_loses_the_rest_and_nothing_else(folder, run):
+    """A limit on a file's size stands for a full device: the line that meets it loses its rest, and later ones are lost, but the next day's aren't."""
+    told = [(MONDAY, f"line {at}") for at in range(9)]
+    ran = run([stack([output(0, [sink(folder)])]), *events(*told, (TUESDAY, "next"))], most=MOST)
+    whole = "".join(f"app: {text}\n" for _, text in told)
+    wanted = {"app.2025-02-17": whole[:MOST], "app.2025-02-18": "app: next\n"}
+    replies = [json.loads(it)["reply"] for it in ran.stdout.splitlines()]
+    return first_of(compared(ran.returncode, 0, "status"), compared(replies, ["done"] * 11, "replies"), compared(files(folder), wanted, "files"))
+
+
+SCENES = [
+    a_file_for_each_day,
+    a_file_for_each_minute_in_directories_that_are_made,
+    what_a_file_held_stays,
+    text_and_json_in_two_directories,
+    a_line_stands_in_both_files_of_a_tee,
+    retention_leaves_the_newest_and_what_is_not_its_own,
+    a_removed_directory_is_made_again,
+    a_link_where_the_file_should_be_is_not_followed,
+    a_pipe_where_the_file_should_be_is_not_waited_for,
+    a_directory_where_the_file_should_be_is_refused,
+    a_link_to_the_newest_file_is_refused,
+    a_later_file_that_is_refused_leaves_the_old_one,
+    a_full_file_loses_the_rest_and_nothing_else,
+]
+
+
+def limited(most):
+    """Limits the size of the files that the program writes; past that a write is refused."""
+    signal.signal(signal.SIGXFSZ, signal.SIG_IGN)
+    resource.setrlimit(resource.RLIMIT_FSIZE, (most, most))
+
+
+def played(program, scene):
+    """Returns what the scene says of the program."""
+
+    def run(lines, most=None):
+        given = "".join(f"{json.dumps(it)}\n" for it in lines).encode()
+        how = {"input": given, "capture_output": True, "cwd": "/", "env": {"LANG": "C.UTF-8"}, "timeout": rt.LIMIT}
+        return subprocess.run([*rt.drop_to_nobody(), program, "replay"], preexec_fn=most and (lambda: limited(most)), **how)
+
+    with tempfile.TemporaryDirectory(prefix="scene-") as folder:
+        os.chmod(folder, 0o777)
+        try:
+            return scene(folder, run)
+        except subprocess.TimeoutExpired:
+            return f"it had not ended after {rt.LIMIT} seconds"
+
+
+def tried(built, scenes=SCENES):
+    """Plays the scenes with the programs, and returns the scenes' names, each with what the first program that differs does."""
+    with tempfile.TemporaryDirectory(prefix="scenes-") as room:
+        os.chmod(room, 0o711)
+        programs = [f"{room}/{at}" for at in range(len(built))]
+        for at, it in zip(programs, built):
+            shutil.copyfile(it, at)
+            os.chmod(at, 0o755)
+        return {scene.__name__: next(filter(None, (played(it, scene) for it in programs)), "") for scene in scenes}
+
+
+def main(words):
+    if not words:
+        sys.exit(__doc__)
+    came = tried(words[:1], [it for it in SCENES if it.__name__ in words[1:] or not words[1:]])
+    for name, text in came.items():
+        print(f"{name}: {text or 'as it has to be'}")
+    failed = sum(map(bool, came.values()))
+    print(f"{len(came) - failed} passed, {failed} failed")
+    return 1 if failed else 0
+
+
+if __name__ == "__main__":
+    sys.exit(main(sys.argv[1:]))
