@@ -8,6 +8,8 @@ mod unreadable;
 use crate::program::main_with;
 use std::alloc::{AllocError, Global};
 use std::io::Read;
+use std::process::Abort;
+use std::rt::Files;
 use std::test::Fail;
 
 /// A stack with one output into a folder A.
@@ -54,8 +56,8 @@ pub(crate) struct Want<'a> {
 }
 
 /// The program on these words and this input.
-pub(crate) fn run_on<R: Read>(
-    rt: &HostRuntime,
+pub(crate) fn run_on<X: Files + AllocGlobal + Clone + Drop, R: Read>(
+    rt: &X,
     words: &[&str],
     input: &mut R,
 ) -> Result<Run, Fail> {
@@ -72,7 +74,10 @@ pub(crate) fn run_on<R: Read>(
 }
 
 /// The program on the word `replay`.
-pub(crate) fn replayed(rt: &HostRuntime, mut input: &[u8]) -> Result<Run, Fail> {
+pub(crate) fn replayed<X: Files + AllocGlobal + Clone + Drop>(
+    rt: &X,
+    mut input: &[u8],
+) -> Result<Run, Fail> {
     run_on(rt, &["replay"], &mut input)
 }
 
@@ -130,8 +135,8 @@ fn wanted_memory(run: &Run, want: &Want<'_>) -> bool {
 }
 
 /// Runs the program and compares. An answer that lacks memory is a failure of that name.
-pub(crate) fn expect_run(
-    rt: &HostRuntime,
+pub(crate) fn expect_run<X: Abort + Files + AllocGlobal + Clone + Drop>(
+    rt: &X,
     input: &[u8],
     want: Want<'_>,
     case: &str,
@@ -155,8 +160,8 @@ pub(crate) fn expect_run(
 }
 
 /// Runs the program on an input that it refuses with this line alone.
-pub(crate) fn expect_stop(
-    rt: &HostRuntime,
+pub(crate) fn expect_stop<X: Abort + Files + AllocGlobal + Clone + Drop>(
+    rt: &X,
     input: &[u8],
     errors: &str,
     case: &str,

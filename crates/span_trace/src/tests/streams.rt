@@ -7,6 +7,8 @@ use crate::tests::{
 use std::alloc::Global;
 use std::io;
 use std::io::{ErrorKind, Read, Write};
+use std::process::Abort;
+use std::rt::Files;
 use std::test::Fail;
 
 /// Gives some bytes, a few at each read, and then refuses.
@@ -98,8 +100,8 @@ fn usage(rt: HostRuntime) -> Result<(), Fail> {
     Ok(())
 }
 
-fn expect_broken(
-    rt: &HostRuntime,
+fn expect_broken<X: Abort + Files + AllocGlobal + Clone + Drop>(
+    rt: &X,
     alloc: Global,
     bytes: &[u8],
     most: usize,

@@ -4,6 +4,8 @@ use crate::tests::{
     DEFAULT, ENTER, EVENT, HAPPENED, LANE, NEW_SPAN, OUTER, STACK, expect_stop, joined,
 };
 use std::alloc::Global;
+use std::process::Abort;
+use std::rt::Files;
 use std::test::Fail;
 
 /// Whole lines.
@@ -63,7 +65,7 @@ const STACK_EDITS: [(&str, &str); 43] = [
     (r#""format":"full""#, r#""format":"Full""#),
     (r#""format":"full""#, r#""format":null"#),
     (r#""format":"full","#, ""),
-    (r#""route":0"#, r#""route":{"max":["INFO",0]}"#),
+    (r#""route":0"#, r#""route":{"max":["loud",0]}"#),
     (r#""route":0"#, r#""route":-1"#),
     (r#""route":0,"#, ""),
     (r#""time":"fake time""#, r#""time":0"#),
@@ -77,25 +79,19 @@ const STACK_EDITS: [(&str, &str); 43] = [
     (r#""sinks":[{"#, r#""sinks":[{},{"#),
     (r#""sinks":["#, r#""sinks":[[],"#),
     (r#""sinks":["#, r#""sinks":null,"sink":["#),
-    (r#"{"memory":"A"}"#, r#"{"disk":"A"}"#),
+    (r#"{"memory":"A"}"#, r#"{"disk":1}"#),
     (r#"{"memory":"A"}"#, r#"{"memory":"A","disk":"A"}"#),
     (r#"{"memory":"A"}"#, "{}"),
     (r#"{"memory":"A"}"#, r#""A""#),
-    (r#""rotation":"daily""#, r#""rotation":"hourly""#),
+    (r#""rotation":"daily""#, r#""rotation":"yearly""#),
     (r#""rotation":"daily","#, ""),
     (r#""prefix":"my_prefix""#, r#""prefix":null"#),
-    (r#""suffix":"log""#, r#""suffix":"log","max_files":1"#),
+    (r#""suffix":"log""#, r#""suffix":"log","max_files":-1"#),
     (
         r#""suffix":"log""#,
         r#""suffix":"log","queue":{"limit":1,"lossy":true}"#,
     ),
 ];
-
-/// An output has one sink.
-const SINK_EDITS: [(&str, &str); 1] = [(
-    r#""sinks":[{"#,
-    r#""sinks":[{"folder":{"memory":"B"},"rotation":"daily"},{"#,
-)];
 
 const LANE_EDITS: [(&str, &str); 7] = [
     (r#","thread":1"#, ""),
@@ -199,7 +195,12 @@ const FLOATS: [&str; 9] = [
 ];
 
 /// Each edit of a line, which stands fifth and before a line that is worse.
-fn edited(rt: &HostRuntime, alloc: Global, line: &str, edits: &[(&str, &str)]) -> Result<(), Fail> {
+fn edited<X: Abort + Files + AllocGlobal + Clone + Drop>(
+    rt: &X,
+    alloc: Global,
+    line: &str,
+    edits: &[(&str, &str)],
+) -> Result<(), Fail> {
     for (old, new) in edits {
         let changed = line.replace(alloc, *old, new)?;
         assert!(rt; changed.as_str() != line, "no change by {new}");
@@ -209,7 +210,12 @@ fn edited(rt: &HostRuntime, alloc: Global, line: &str, edits: &[(&str, &str)]) -
 }
 
 /// A line that stands fifth and before a line that is worse.
-fn fifth(rt: &HostRuntime, alloc: Global, line: &str, fault: &str) -> Result<(), Fail> {
+fn fifth<X: Abort + Files + AllocGlobal + Clone + Drop>(
+    rt: &X,
+    alloc: Global,
+    line: &str,
+    fault: &str,
+) -> Result<(), Fail> {
     let input = joined(alloc, &[LANE, OUTER, HAPPENED, LANE, line, "1.5"])?;
     let errors = format!(in alloc; "span-trace: line 5: {fault}\n")?;
     expect_stop(rt, input.as_bytes(), errors.as_str(), line)
@@ -231,7 +237,6 @@ fn unreadable_lines(rt: HostRuntime) -> Result<(), Fail> {
 fn unreadable_setup(rt: HostRuntime) -> Result<(), Fail> {
     let alloc = rt.alloc();
     edited(&rt, alloc, STACK, &STACK_EDITS)?;
-    edited(&rt, alloc, STACK, &SINK_EDITS)?;
     edited(&rt, alloc, LANE, &LANE_EDITS)?;
     edited(&rt, alloc, OUTER, &CALLSITE_EDITS)
 }
