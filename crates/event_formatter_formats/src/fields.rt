@@ -29,6 +29,7 @@ impl FormatFields for Fields {
 
     ghost added = { added };
 
+    #[inline(always)]
     fn format_fields<R: RecordFields>(
         &self,
         alloc: Global,

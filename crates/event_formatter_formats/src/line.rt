@@ -112,6 +112,57 @@ fn pretty_place<'a>(
     }
 }
 
+// Appends the line of an event in the compact format.
+#[inline(always)]
+fn push_compact<N: FormatFields>(
+    alloc: Global,
+    out: &mut String,
+    settings: Settings,
+    parts: Parts,
+    head: &Head<'_>,
+    context: &FmtContext<'_, '_, N>,
+    event: &Event<'_, '_>,
+) -> Result<(), FormatError>
+    ensures { Formats (line_behind LineFormat.Compact parts settings (plain_head head.now) (plain_context N.text_of context.now)
+        (plain_event event.now).values) (string_bytes out.old) result (string_bytes out.new) }
+{
+    let loose = context.loose_spans();
+    let strict = context.strict_spans();
+    let fields = context.field_format();
+    push_compact_line(alloc, out, settings, head, &loose, &strict, fields, event)
+}
+
+// Appends the line of an event in the pretty format.
+#[inline(always)]
+fn push_pretty<N: FormatFields>(
+    alloc: Global,
+    out: &mut String,
+    settings: Settings,
+    pretty: Pretty,
+    parts: Parts,
+    head: &Head<'_>,
+    context: &FmtContext<'_, '_, N>,
+    event: &Event<'_, '_>,
+) -> Result<(), FormatError>
+    ensures { Formats (line_behind (LineFormat.Pretty pretty) parts settings (plain_head head.now) (plain_context N.text_of context.now)
+        (plain_event event.now).values) (string_bytes out.old) result (string_bytes out.new) }
+{
+    let heading = pretty_heading(pretty, parts, head);
+    let place = pretty_place(pretty, parts, context.thread().name, head);
+    let loose = context.loose_spans();
+    push_pretty_line(
+        alloc,
+        out,
+        settings,
+        &heading,
+        &place,
+        parts.target,
+        &loose,
+        &PrettyFields,
+        event,
+    )
+}
+
 /// Appends the line of an event, with this head.
 ///
 /// # Errors
@@ -134,45 +185,12 @@ pub(crate) fn push_line<N: FormatFields>(
     match shape {
         LineFormat::Full => {
             let spans = context.strict_spans();
-            push_full_line(
-                alloc,
-                out,
-                settings,
-                head,
-                &spans,
-                context.field_format(),
-                event,
-            )
+            let fields = context.field_format();
+            push_full_line(alloc, out, settings, head, &spans, fields, event)
         }
-        LineFormat::Compact => {
-            let loose = context.loose_spans();
-            let strict = context.strict_spans();
-            push_compact_line(
-                alloc,
-                out,
-                settings,
-                head,
-                &loose,
-                &strict,
-                context.field_format(),
-                event,
-            )
-        }
+        LineFormat::Compact => push_compact(alloc, out, settings, parts, head, context, event),
         LineFormat::Pretty(pretty) => {
-            let heading = pretty_heading(pretty, parts, head);
-            let place = pretty_place(pretty, parts, context.thread().name, head);
-            let loose = context.loose_spans();
-            push_pretty_line(
-                alloc,
-                out,
-                settings,
-                &heading,
-                &place,
-                parts.target,
-                &loose,
-                &PrettyFields,
-                event,
-            )
+            push_pretty(alloc, out, settings, pretty, parts, head, context, event)
         }
         LineFormat::Json(json) => {
             let loose = context.loose_spans();

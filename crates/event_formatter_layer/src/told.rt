@@ -63,6 +63,7 @@ impl<N: FormatFields + Drop, E: FormatEvent, W: MakeWriter> span_registry_layers
         true
     }
 
+    #[inline(always)]
     #[tactic(auto, using(crate::proofs::Hooks::new_told, crate::proofs::Hooks::record_told, crate::proofs::Hooks::enter_told, crate::proofs::Hooks::exit_told, crate::proofs::Hooks::close_told, crate::proofs::Hooks::event_told, crate::proofs::Hooks::follows_told, crate::proofs::Hooks::renamed_told))]
     fn hear(&mut self, call: &Told<'_, '_, '_, '_>, context: &mut Context<'_>) {
         match call {

@@ -75,6 +75,7 @@ pub(crate) fn plain_name(name: &str) -> &str
 }
 
 /// Appends a number in decimal digits.
+#[inline(never)]
 pub(crate) fn push_number<I: Integer>(out: &mut String, number: I) -> Result<(), AllocError>
     ensures { OnOk result (string_bytes out.new ≡ string_bytes out.old ++ I.text number) }
 {
@@ -248,6 +249,7 @@ fn push_sources(
 }
 
 // Appends an error's text, and those of its sources.
+#[inline(never)]
 fn push_error(
     out: &mut String,
     settings: Settings,
@@ -263,6 +265,7 @@ fn push_error(
 }
 
 // Appends bytes in brackets.
+#[inline(never)]
 fn push_bytes(out: &mut String, bytes: &[u8]) -> Result<(), AllocError>
     ensures { OnOk result (string_bytes out.new ≡ string_bytes out.old ++ bytes_text bytes.now) }
 {

@@ -36,6 +36,7 @@ fn push_numbers(out: &mut String, numbers: &[u8]) -> Result<(), AllocError>
 }
 
 // Appends an array of numbers.
+#[inline(never)]
 fn push_array(out: &mut String, numbers: &[u8]) -> Result<(), AllocError>
     ensures { OnOk result (string_bytes out.new ≡ string_bytes out.old
         ++ (codes "[" ++ numbers_inside numbers.now ++ codes "]")) }
@@ -46,6 +47,7 @@ fn push_array(out: &mut String, numbers: &[u8]) -> Result<(), AllocError>
 }
 
 // Appends a number between quotes.
+#[inline(never)]
 fn push_quoted_number<I: Integer>(out: &mut String, number: I) -> Result<(), AllocError>
     ensures { OnOk result (string_bytes out.new ≡ string_bytes out.old
         ++ (codes "\"" ++ I.text number ++ codes "\"")) }
@@ -56,6 +58,7 @@ fn push_quoted_number<I: Integer>(out: &mut String, number: I) -> Result<(), All
 }
 
 /// Appends what stands for a value; nothing for one that can't be formatted.
+#[inline(always)]
 pub(crate) fn push_json_value(out: &mut String, value: &DebugText<'_>) -> Result<(), AllocError>
     ensures { OnOk result (string_bytes out.new ≡ string_bytes out.old
         ++ unwrap_or (json_value (plain_debug value.now)) []) }

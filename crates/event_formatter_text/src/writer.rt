@@ -138,6 +138,7 @@ impl<'w> Writer<'w> {
     }
 
     // Appends a field as a member of a JSON object, behind a comma unless it is the first.
+    #[inline(always)]
     pub(crate) fn write_member(
         &mut self,
         is_first: bool,

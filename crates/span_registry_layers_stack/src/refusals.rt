@@ -34,6 +34,7 @@ impl Refusals {
     }
 
     // Where to look first.
+    #[inline(never)]
     pub(crate) fn index_of(&self, identifier: u64) -> usize {
         match self.indices.get(&identifier) {
             None => 0,

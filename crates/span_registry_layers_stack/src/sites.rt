@@ -27,6 +27,7 @@ fn is_kept(sites: &[CachedInterest], metadata: &Metadata<'_>) -> bool
 }
 
 // Whether it was kept that nobody is interested in the callsite.
+#[inline(never)]
 fn refuse(sites: &[CachedInterest], metadata: &Metadata<'_>) -> bool
     ensures { result ≡ list_any (is_refused_by (plain_metadata metadata.now)) (map plain_cached_interest sites.now) }
 {
@@ -41,6 +42,7 @@ fn refuse(sites: &[CachedInterest], metadata: &Metadata<'_>) -> bool
 }
 
 // Whether the site at the index says that nobody is interested in the callsite.
+#[inline(never)]
 fn refuses_at(sites: &[CachedInterest], index: usize, metadata: &Metadata<'_>) -> bool
     ensures { IsTrue result → list_any (is_refused_by (plain_metadata metadata.now))
         (map plain_cached_interest sites.now) ≡ true }

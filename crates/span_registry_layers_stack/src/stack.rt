@@ -32,9 +32,15 @@ use tracing_core_requests::{At, Event, RequestError};
 /// what is kept is right, which a contract says by `CacheIsValid`, each call is what asking every filter again gives.
 ///
 /// A contract sees a stack as a `StackValue`.
-#[derive(Drop)]
 pub struct Stack<O> {
     pub(crate) parts: StackParts<O>,
+}
+
+/// It is written down, so that whoever lets a stack go needs no proof of his own for each of its parts.
+impl<O: Drop> Drop for Stack<O> {
+    fn drop(self) {
+        let Stack { parts: _parts } = self;
+    }
 }
 
 impl<O> Model for Stack<O> {

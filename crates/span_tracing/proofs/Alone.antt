@@ -9,7 +9,7 @@ use Rattle.span_registry_layers_store.specs.Registries.{RegistryValue}
 use Rattle.event_formatter_text.specs.declared.format_fields.FormatFields.{Ghosts}
 use Rattle.span_tracing_outputs.specs.Heards.{Notice, event_told}
 use Rattle.span_tracing_outputs.specs.Outs.{Fate, PlainLine}
-use Rattle.span_tracing_outputs.specs.Plain.{Fates, Numbered, call_lists, event_lists, first_of, out_told, outs_told, rest_of}
+use Rattle.span_tracing_outputs.specs.Plain.{Fates, Numbered, call_lists, event_lists, out_told, outs_told, rest_of}
 use Rattle.span_tracing_outputs.specs.TraceFollows.{at_rest, lines_offered}
 use Rattle.span_tracing_sinks.specs.Each.{joined}
 use Rattle.span_tracing_sinks.specs.Runs.{lines_at}

@@ -1,6 +1,5 @@
 -- What levels answer.
-use Rattle.std.proofs.Common.{◌≡◌, ◌⊎◌, ℕ, Bool, true, false, ◌||◌, List, [], ◌∷◌, map, nat_le, Option, Some, None, refl, ap, sym, ◌∙◌, inl, inr}
-use Rattle.std.specs.List.{list_any}
+use Rattle.std.proofs.Common.{◌≡◌, ℕ, Bool, true, false, ◌||◌, List, [], ◌∷◌, nat_le, Option, Some, None, refl, ap, sym, ◌∙◌, inl, inr}
 use Rattle.tracing_core_fields.specs.PlainMetadata.{PlainMetadata}
 use Rattle.tracing_core_requests.specs.Lists.{Every}
 use Rattle.tracing_core_requests.specs.declared.at.At.{At}
@@ -12,7 +11,7 @@ use Rattle.span_registry_layers_layers.specs.Looks.{Hook, View}
 use Rattle.span_registry_layers_layers.specs.declared.filter.Filter.{Ghosts as FilterGhosts}
 use Rattle.span_registry_layers_layers.specs.declared.layer.Layer.{Ghosts as LayerGhosts}
 use Rattle.span_registry_layers_stack.specs.Asked.{SomePassesBy}
-use Rattle.span_registry_layers_stack.specs.Rows.{Afresh, Fresh, view_of}
+use Rattle.span_registry_layers_stack.specs.Rows.{Afresh, view_of}
 use Rattle.event_formatter_text.specs.declared.format_fields.FormatFields.{Ghosts}
 use Rattle.event_formatter_text.specs.declared.settings.Settings.{Settings}
 use Rattle.event_formatter_formats.specs.Contexts.{PlainContext}

@@ -1,8 +1,7 @@
 -- Each output goes its own way while all filters answer the same, whatever the other outputs' formats and kept texts are, and whatever becomes of their texts and lines.
 use Rattle.std.specs.Prelude.{◌≡◌, ℕ, zero, suc, List, [], ◌∷◌, slice_get}
 use Rattle.event_formatter_text.specs.declared.format_fields.FormatFields.{Ghosts}
-use Rattle.span_tracing_outputs.specs.Outs.{Fate}
-use Rattle.span_tracing_outputs.specs.Plain.{Fates, Numbered, first_of, rest_of}
+use Rattle.span_tracing_outputs.specs.Plain.{first_of, rest_of}
 use Rattle.span_tracing_runs.specs.Runs.{Plain, StepWithMask, Went, Starved, lines_of, plain_run}
 
 -- of lists for each output, that of the output at a place; nothing where there is none

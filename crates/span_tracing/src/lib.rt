@@ -19,6 +19,7 @@ pub use span_registry_layers_store::OutputKey;
 pub use span_tracing_files::{
     EitherFolder, FileStack, LineSettings, Lines, OutputSpec, SinkSpec, SpecRefusal, open_stack,
 };
+pub use span_tracing_json_runs::{json_files_hold_objects, json_format_files_hold_objects};
 pub use span_tracing_outputs::{LineSink, PendingLines, TraceStack, UnpairedSinks, trace_starts};
 pub use span_tracing_runs::{
     files_follow, runs_follow, setup_follows, skipping_misses_nothing, steps_follow,
@@ -33,6 +34,7 @@ pub use span_tracing_skeleton::{
 };
 pub use span_tracing_steps::words_stay;
 pub use span_tracing_trace::{CallsiteIndex, Trace};
+pub use tracing_appender::{Clock, FixedClock, SystemClock};
 pub use tracing_appender_folders::{
     Entry, FileEntry, FileNumber, Folder, FolderError, FolderFault, MemoryFolder, Moment,
 };

@@ -1,23 +1,27 @@
 //! Requests that read like log lines.
 
 /// Tells an event of a [`Site`](crate::Site) in the span that the lane is in, and gives the reply:
-/// `event!(trace, lane, moment, site, value, value)`. The values are those of the callsite's fields, in their order.
+/// `event!(trace, lane, moment, site, value, value)`. The values are those of the callsite's fields, in their order: where one is missing its field is
+/// left out, and one too many is passed over, both without a word. The trace's expression is written twice: give a variable or a field.
 ///
 /// Where nobody is interested in the callsite no value is computed, and the reply is `Done`: no output would be told
 /// (`skipping_misses_nothing`). That the lane isn't there, or that the moment is out of range, isn't told then.
 #[macro_export]
 macro_rules! event {
     ($trace:expr, $lane:expr, $moment:expr, $site:expr $(, $value:expr)* $(,)?) => {
-        if $trace.is_off($site.index) {
-            $crate::Reply::Done
-        } else {
-            $trace.event(
-                $lane,
-                $moment,
-                $site.identifier,
-                $crate::Parent::Contextual,
-                &$crate::values!($($value),*),
-            )
+        {
+            let site: $crate::Site = $site;
+            if $trace.is_off(site.index) {
+                $crate::Reply::Done
+            } else {
+                $trace.event(
+                    $lane,
+                    $moment,
+                    site.identifier,
+                    $crate::Parent::Contextual,
+                    &$crate::values!($($value),*),
+                )
+            }
         }
     };
 }
@@ -29,16 +33,19 @@ macro_rules! event {
 #[macro_export]
 macro_rules! span {
     ($trace:expr, $lane:expr, $moment:expr, $site:expr $(, $value:expr)* $(,)?) => {
-        if $trace.is_off($site.index) {
-            $crate::Reply::Span(None)
-        } else {
-            $trace.new_span(
-                $lane,
-                $moment,
-                $site.identifier,
-                $crate::Parent::Contextual,
-                &$crate::values!($($value),*),
-            )
+        {
+            let site: $crate::Site = $site;
+            if $trace.is_off(site.index) {
+                $crate::Reply::Span(None)
+            } else {
+                $trace.new_span(
+                    $lane,
+                    $moment,
+                    site.identifier,
+                    $crate::Parent::Contextual,
+                    &$crate::values!($($value),*),
+                )
+            }
         }
     };
 }

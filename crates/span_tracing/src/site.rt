@@ -1,9 +1,6 @@
 //! Callsites that an application registers once and then names.
-ghost use Rattle.std.specs.Prelude.{◌≡◌, IfOk, Some};
 ghost use Rattle.tracing_core_fields.specs.Metadata.{plain_metadata};
-ghost use Rattle.span_tracing_skeleton.specs.Machine.{named};
-ghost use Rattle.span_tracing_steps.specs.States.{at_index};
-ghost use Rattle.span_tracing.specs.Sites.{Registers};
+ghost use Rattle.span_tracing.specs.Sites.{RegistersSite};
 
 use span_tracing_skeleton::{HasRegistry, Refusal};
 use span_tracing_trace::{CallsiteIndex, Trace};
@@ -30,15 +27,14 @@ impl Site {
         trace: &mut Trace<T>,
         metadata: &Metadata<'_>,
     ) -> Result<Site, Refusal>
-        ensures registered { Registers ⟦<T as Subscriber>⟧ trace.old (plain_metadata metadata.now) trace.new }
-        ensures stands { IfOk result (λ site. (site.identifier.0 ≡ (plain_metadata metadata.now).callsite)
-            × (at_index trace.new.callsites (Some site.index) ≡ named trace.new.callsites site.identifier.0)) }
+        ensures { RegistersSite ⟦<T as Subscriber>⟧ trace.old (plain_metadata metadata.now) result trace.new }
     {
         let identifier = metadata.callsite();
         let _interest = trace.register(identifier, metadata)?;
         match trace.callsite(identifier) {
             Some(index) => Ok(Site { identifier, index }),
-            None => Err(Refusal::UnknownCallsite),
+            // It was registered.
+            None => unreachable!(),
         }
     }
 }

@@ -5,7 +5,7 @@ ghost use Rattle.tracing_core_fields.specs.PlainValue.{PlainValue};
 
 use tracing_core_fields::OwnedValue;
 
-/// A value of a field.
+/// What [`event!`](crate::event) and [`span!`](crate::span) take as a value of a field.
 pub trait IntoValue {
     // What it is, and none for no value.
     ghost means: { Self → Option PlainValue };
@@ -23,6 +23,39 @@ impl IntoValue for OwnedValue {
     }
 }
 
+impl IntoValue for u8 {
+    ghost use Rattle.std.specs.Prelude.{Some};
+    ghost use Rattle.tracing_core_fields.specs.PlainValue.{Unsigned};
+
+    ghost means = { λ n. Some (Unsigned n) };
+
+    fn into_value(self) -> OwnedValue {
+        OwnedValue::U64(u64::from(self))
+    }
+}
+
+impl IntoValue for u16 {
+    ghost use Rattle.std.specs.Prelude.{Some};
+    ghost use Rattle.tracing_core_fields.specs.PlainValue.{Unsigned};
+
+    ghost means = { λ n. Some (Unsigned n) };
+
+    fn into_value(self) -> OwnedValue {
+        OwnedValue::U64(u64::from(self))
+    }
+}
+
+impl IntoValue for u32 {
+    ghost use Rattle.std.specs.Prelude.{Some};
+    ghost use Rattle.tracing_core_fields.specs.PlainValue.{Unsigned};
+
+    ghost means = { λ n. Some (Unsigned n) };
+
+    fn into_value(self) -> OwnedValue {
+        OwnedValue::U64(u64::from(self))
+    }
+}
+
 impl IntoValue for u64 {
     ghost use Rattle.std.specs.Prelude.{Some};
     ghost use Rattle.tracing_core_fields.specs.PlainValue.{Unsigned};
@@ -34,6 +67,61 @@ impl IntoValue for u64 {
     }
 }
 
+impl IntoValue for usize {
+    ghost use Rattle.std.specs.Prelude.{Some};
+    ghost use Rattle.tracing_core_fields.specs.PlainValue.{Unsigned};
+
+    ghost means = { λ n. Some (Unsigned n) };
+
+    fn into_value(self) -> OwnedValue {
+        OwnedValue::U64(self as u64)
+    }
+}
+
+impl IntoValue for u128 {
+    ghost use Rattle.std.specs.Prelude.{Some};
+    ghost use Rattle.tracing_core_fields.specs.PlainValue.{WideUnsigned};
+
+    ghost means = { λ n. Some (WideUnsigned n) };
+
+    fn into_value(self) -> OwnedValue {
+        OwnedValue::U128(self)
+    }
+}
+
+impl IntoValue for i8 {
+    ghost use Rattle.std.specs.Prelude.{Some};
+    ghost use Rattle.tracing_core_fields.specs.PlainValue.{Signed};
+
+    ghost means = { λ n. Some (Signed n) };
+
+    fn into_value(self) -> OwnedValue {
+        OwnedValue::I64(i64::from(self))
+    }
+}
+
+impl IntoValue for i16 {
+    ghost use Rattle.std.specs.Prelude.{Some};
+    ghost use Rattle.tracing_core_fields.specs.PlainValue.{Signed};
+
+    ghost means = { λ n. Some (Signed n) };
+
+    fn into_value(self) -> OwnedValue {
+        OwnedValue::I64(i64::from(self))
+    }
+}
+
+impl IntoValue for i32 {
+    ghost use Rattle.std.specs.Prelude.{Some};
+    ghost use Rattle.tracing_core_fields.specs.PlainValue.{Signed};
+
+    ghost means = { λ n. Some (Signed n) };
+
+    fn into_value(self) -> OwnedValue {
+        OwnedValue::I64(i64::from(self))
+    }
+}
+
 impl IntoValue for i64 {
     ghost use Rattle.std.specs.Prelude.{Some};
     ghost use Rattle.tracing_core_fields.specs.PlainValue.{Signed};
@@ -42,6 +130,28 @@ impl IntoValue for i64 {
 
     fn into_value(self) -> OwnedValue {
         OwnedValue::I64(self)
+    }
+}
+
+impl IntoValue for isize {
+    ghost use Rattle.std.specs.Prelude.{Some};
+    ghost use Rattle.tracing_core_fields.specs.PlainValue.{Signed};
+
+    ghost means = { λ n. Some (Signed n) };
+
+    fn into_value(self) -> OwnedValue {
+        OwnedValue::I64(self as i64)
+    }
+}
+
+impl IntoValue for i128 {
+    ghost use Rattle.std.specs.Prelude.{Some};
+    ghost use Rattle.tracing_core_fields.specs.PlainValue.{WideSigned};
+
+    ghost means = { λ n. Some (WideSigned n) };
+
+    fn into_value(self) -> OwnedValue {
+        OwnedValue::I128(self)
     }
 }
 
@@ -64,5 +174,16 @@ impl IntoValue for String {
 
     fn into_value(self) -> OwnedValue {
         OwnedValue::Text(self)
+    }
+}
+
+impl IntoValue for Vec<u8> {
+    ghost use Rattle.std.specs.Prelude.{Some};
+    ghost use Rattle.tracing_core_fields.specs.PlainValue.{Bytes};
+
+    ghost means = { λ bytes. Some (Bytes bytes.items) };
+
+    fn into_value(self) -> OwnedValue {
+        OwnedValue::Bytes(self)
     }
 }

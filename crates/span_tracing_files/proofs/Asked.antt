@@ -1,7 +1,8 @@
 -- What the outputs that are asked for make of a stack.
-use Rattle.std.proofs.Common.{◌≡◌, ◌⊎◌, ◌+◌, ℕ, suc, nat_eq, nat_le, Bool, true, false, List, [], ◌∷◌, length, map, Option, Some, None, Result, Ok, Err, refl, sym, ap, ◌∙◌, subst, inl, arith}
+use Rattle.std.proofs.Common.{◌≡◌, ◌+◌, ℕ, suc, nat_eq, nat_le, Bool, true, false, List, [], ◌∷◌, length, map, Option, Some, None, Result, Ok, Err, refl, sym, ap, ◌∙◌, subst, inl, inr, arith}
 use Rattle.std.specs.Prelude.{if◌then◌else◌}
 use Rattle.std.specs.Option.{option_map}
+use Rattle.std.proofs.lemmas.List.{length-map}
 use Rattle.tracing_core_requests.specs.Lists.{Every}
 use Rattle.event_formatter_makers.specs.Routes.{is_good_route}
 use Rattle.event_formatter_makers.specs.declared.route.Route.{Route}
@@ -14,6 +15,9 @@ use Rattle.span_registry_layers_stack.specs.declared.output.Output.{Output}
 use Rattle.span_registry_layers_stack.specs.declared.output.StackError.{StackError}
 use Rattle.span_registry_layers_stack.specs.declared.output.StackError.TheVariants as errors
 use Rattle.span_registry_layers_stack.specs.declared.output.StackRefusal.{StackRefusal}
+use Rattle.span_registry_layers_stack.specs.declared.row.Row.{Row}
+use Rattle.span_registry_layers_layers.specs.Numbering.{more_filters}
+use Rattle.span_registry_layers_store.specs.Registries.{RegistryValue, new_registry}
 use Rattle.span_registry_layers_store.specs.declared.slot.OutputKey.{OutputKey}
 use Rattle.span_tracing_outputs.specs.TraceStarts.{HasOwnKey}
 use Rattle.span_tracing_outputs.specs.Turns.{Lines}
@@ -21,9 +25,13 @@ use Rattle.span_tracing_sinks.specs.Routed.{Routed, RoutingGives, RoutingIf}
 use Rattle.span_tracing_sinks.specs.declared.routed.UnroutedSinks.{UnroutedSinks}
 use Rattle.span_tracing_skeleton.specs.declared.refusal.Refusal.{Refusal}
 use Rattle.span_tracing_skeleton.specs.declared.refusal.Refusal.TheVariants as refusals
-use Rattle.span_tracing_files.specs.Opened.{Answers, IsTold, Pairs, RowOf, RowsAreTold, keys_of, outputs_refusal, rows_refusal, stack_refusal}
+use Rattle.span_tracing_files.specs.Opened.{Answers, IsTold, Pairs, RowOf, RowsAreTold, keys_of, outputs_refusal, routing_of, rows_refusal, stack_refusal}
 use Rattle.span_tracing_files.specs.Settings.{Shown}
+use Rattle.span_tracing_files.specs.Refused.{RoutingRefuses}
+use Rattle.span_tracing_files.specs.declared.opening.Routing.{Routing}
 use Rattle.span_tracing_files.specs.declared.output_spec.OutputSpec.{OutputSpec}
+use Rattle.span_tracing_files.specs.declared.output_spec.SinkSpec.{SinkSpec}
+use Rattle.span_tracing_files.proofs.Paired.{same_length}
 
 -- sinks that a route is good for are kept with it
 pub routed_is : {S : Type 0} (route : Route) (sinks : List S) (made : Routed S) → RoutingGives route sinks (Ok made) → made ≡ record { route = route; sinks = sinks }
@@ -32,6 +40,15 @@ routed_is {S = S} route sinks made gives = by_good (is_good_route (length sinks)
     by_good : (b : Bool) → RoutingIf b route sinks (Ok made) → made ≡ record { route = route; sinks = sinks }
     by_good true is = is
     by_good false is = absurd is
+
+-- a route that is refused isn't good for its sinks
+pub bad_route : {S D : Type 0} (opens : SinkSpec D → S → Type 0) (routing : Routing D) (sinks : List S) (back : UnroutedSinks S) → Pairs opens routing.sinks.items sinks → RoutingGives routing.route sinks (Err back) → RoutingRefuses refusals.BadRoute routing
+bad_route {S = S} opens routing sinks back pairs gives =
+    inr (inl (refl, ap (λ (n : ℕ). is_good_route n routing.route) (sym (same_length opens routing.sinks.items sinks pairs)) ∙ by_good (is_good_route (length sinks) routing.route) gives))
+  where
+    by_good : (b : Bool) → RoutingIf b routing.route sinks (Err back) → b ≡ false
+    by_good true gives = absurd gives
+    by_good false gives = refl
 
 -- what is wrong with outputs of so many, with so many filters and these keys
 abbrev shape : ℕ → ℕ → List ℕ → Option StackError
@@ -43,10 +60,29 @@ told_shape false true true = refl
 told_shape false true false = refl
 told_shape false false equal = refl
 
+-- as many rows as outputs
+module _ {L F : Type 0} (g : FilterGhosts F) (h : LayerGhosts L) where
+  rows_counted : (x : RegistryValue) (outputs : List (Output (Filtered L F))) (rows : List (Row (Filtered L F))) → stacks.RowsFrom h x outputs rows → length rows ≡ length outputs
+  rows_counted x [] [] made = refl
+  rows_counted x [] (row ∷ rows) made = absurd made
+  rows_counted x (output ∷ outputs) [] made = absurd made
+  rows_counted x (output ∷ outputs) (row ∷ rows) made = let later = rows_counted (more_filters (suc (h.filters output.output.layer)) x) outputs rows made.1 in cc
+
+  new_counted : (o : Option StackError) (outputs : List (Output (Filtered L F))) (s : StackValue (Filtered L F)) → stacks.NewUnless h g o outputs (Ok s) → length s.rows ≡ length outputs
+  new_counted None outputs s made = rows_counted new_registry outputs s.rows made.0
+  new_counted (Some refusal) outputs s made = absurd made
+
+  stack_counted : (outputs : List (Output (Filtered L F))) (s : StackValue (Filtered L F)) → stacks.NewGives h g outputs (Ok s) → length s.rows ≡ length outputs
+  stack_counted outputs s made = new_counted (stacks.new_refusal h outputs) outputs s made
+
 module _ {N E F : Type 0} (g : FilterGhosts F) (h : LayerGhosts (Lines N E)) where
   told_by : (o : Option StackError) (rows : List (Output (Filtered (Lines N E) F))) (back : StackRefusal (Filtered (Lines N E) F)) → stacks.NewUnless h g o rows (Err back) → IsTold (option_map stack_refusal o) (stack_refusal back.error)
   told_by None rows back hands = tt
   told_by (Some refusal) rows back hands = inl (ap stack_refusal hands.0)
+
+  only_memory : (o : Option StackError) (rows : List (Output (Filtered (Lines N E) F))) (back : StackRefusal (Filtered (Lines N E) F)) → option_map stack_refusal o ≡ None → stacks.NewUnless h g o rows (Err back) → stack_refusal back.error ≡ refusals.OutOfMemory
+  only_memory None rows back none hands = ap stack_refusal hands.0
+  only_memory (Some refusal) rows back none hands = absurd (let clash = none in cc)
 
   none_wrong : (o : Option StackError) (rows : List (Output (Filtered (Lines N E) F))) (s : StackValue (Filtered (Lines N E) F)) → stacks.NewUnless h g o rows (Ok s) → o ≡ None
   none_wrong None rows s made = refl
@@ -72,15 +108,11 @@ module _ {N E F : Type 0} (g : FilterGhosts F) (h : LayerGhosts (Lines N E)) whe
     rows_are_told = record {
       wrong = λ rows back gives. subst (λ (o : Option Refusal). IsTold o (stack_refusal back.error)) (sym (refusal_is rows)) (told_by (stacks.new_refusal h rows) rows back gives);
       right = λ rows s gives. refusal_is rows ∙ ap (option_map stack_refusal) (none_wrong (stacks.new_refusal h rows) rows s gives);
+      counted = λ rows s gives. stack_counted g h rows s gives;
+      starved = λ rows back gives none. only_memory (stacks.new_refusal h rows) rows back (sym (refusal_is rows) ∙ none) gives;
     }
 
 module _ {F D : Type 0} where
-  same_length : (specs : List (OutputSpec F D)) (rows : List (Output (Filtered Shown F))) → Pairs RowOf specs rows → length rows ≡ length specs
-  same_length [] [] pairs = refl
-  same_length [] (row ∷ rows) pairs = absurd pairs
-  same_length (spec ∷ specs) [] pairs = absurd pairs
-  same_length (spec ∷ specs) (row ∷ rows) pairs = let later = same_length specs rows pairs.1 in cc
-
   same_keys : (specs : List (OutputSpec F D)) (rows : List (Output (Filtered Shown F))) → Pairs RowOf specs rows → stacks.keys_of rows ≡ keys_of specs
   same_keys [] [] pairs = refl
   same_keys [] (row ∷ rows) pairs = absurd pairs
@@ -91,7 +123,7 @@ module _ {F D : Type 0} where
   -- what is wrong with the outputs is wrong with what is asked for
   pub same_refusal : (specs : List (OutputSpec F D)) (rows : List (Output (Filtered Shown F))) → Pairs RowOf specs rows → rows_refusal rows ≡ outputs_refusal specs
   same_refusal specs rows pairs =
-      ap (λ (n : ℕ). if nat_eq n 0 then Some refusals.NoOutput else if nat_le n 64 then (if stacks.has_equal_keys (stacks.keys_of rows) then Some refusals.EqualKeys else None) else Some refusals.TooManyFilters) (same_length specs rows pairs)
+      ap (λ (n : ℕ). if nat_eq n 0 then Some refusals.NoOutput else if nat_le n 64 then (if stacks.has_equal_keys (stacks.keys_of rows) then Some refusals.EqualKeys else None) else Some refusals.TooManyFilters) (same_length RowOf specs rows pairs)
       ∙ ap (λ (ks : List ℕ). if nat_eq (length specs) 0 then Some refusals.NoOutput else if nat_le (length specs) 64 then (if stacks.has_equal_keys ks then Some refusals.EqualKeys else None) else Some refusals.TooManyFilters) (same_keys specs rows pairs)
 
   -- so it is told
@@ -122,3 +154,8 @@ module _ {F D : Type 0} where
   rows_honest honest [] (row ∷ rows) pairs each = absurd pairs
   rows_honest honest (spec ∷ specs) [] pairs each = absurd pairs
   rows_honest honest (spec ∷ specs) (row ∷ rows) pairs each = (subst honest (sym pairs.0.filter) each.0, rows_honest honest specs rows pairs.1 each.1)
+
+  -- there are sinks for each output
+  pub paired : {S : Type 0} (opens : Routing D → S → Type 0) (specs : List (OutputSpec F D)) (rows : List (Output (Filtered Shown F))) (routings : List (Routing D)) (sinks : List S) (count : ℕ) → Pairs RowOf specs rows → routings ≡ map routing_of specs → Pairs opens routings sinks → count ≡ length rows → length sinks ≡ count
+  paired opens specs rows routings sinks count pairs is opened counted =
+      same_length opens routings sinks opened ∙ ap length is ∙ length-map specs routing_of ∙ sym (same_length RowOf specs rows pairs) ∙ sym counted

@@ -1,2 +1,3 @@
 pub mod Paired
 pub mod Asked
+pub mod Late

@@ -2,3 +2,4 @@ pub mod Settings
 pub mod Specs
 pub mod Opened
 pub mod Either
+pub mod Refused

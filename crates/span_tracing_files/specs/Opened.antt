@@ -84,10 +84,12 @@ module _ {N E F : Type 0} where
   rows_refusal rows =
       if nat_eq (length rows) 0 then Some refusals.NoOutput else if nat_le (length rows) 64 then (if stacks.has_equal_keys (stacks.keys_of rows) then Some refusals.EqualKeys else None) else Some refusals.TooManyFilters
 
-  -- a refused stack tells it, and of a stack that is made nothing is wrong
+  -- a refused stack tells it, and of a stack that is made nothing is wrong; where nothing is wrong there was no memory. A stack has a row for each output
   pub record RowsAreTold (g : FilterGhosts F) (h : LayerGhosts (Lines N E)) : Type 0 where
     pub wrong : (rows : List (Output (Filtered (Lines N E) F))) (back : StackRefusal (Filtered (Lines N E) F)) → stacks.NewGives h g rows (Err back) → IsTold (rows_refusal rows) (stack_refusal back.error)
     pub right : (rows : List (Output (Filtered (Lines N E) F))) (s : LinedStack N E F) → stacks.NewGives h g rows (Ok s) → rows_refusal rows ≡ None
+    pub counted : (rows : List (Output (Filtered (Lines N E) F))) (s : LinedStack N E F) → stacks.NewGives h g rows (Ok s) → length s.rows ≡ length rows
+    pub starved : (rows : List (Output (Filtered (Lines N E) F))) (back : StackRefusal (Filtered (Lines N E) F)) → stacks.NewGives h g rows (Err back) → rows_refusal rows ≡ None → stack_refusal back.error ≡ refusals.OutOfMemory
 
 module _ {D : Type 0} (contents : D → Option Contents) (failed : D → ℕ) (m : Moment) where
   -- a sink over the file that was opened in its folder, after retention, which dropped no line yet

@@ -1,6 +1,5 @@
 -- How the lines of an output look.
 use Rattle.std.specs.Prelude.{◌≡◌, ◌&&◌, Bool, true, false, not, [], None}
-use Rattle.event_formatter_text.specs.declared.settings.Settings.{Settings}
 use Rattle.event_formatter_text.specs.declared.default_fields.DefaultFields.{DefaultFields}
 use Rattle.event_formatter_lines.specs.Json.{default_shape}
 use Rattle.event_formatter_formats.specs.declared.fields.Fields.{Fields}
@@ -42,12 +41,13 @@ has_json fields.Json = true
 abbrev pub needs_json : LineSettings → Bool
 needs_json s = is_json s.format && not (has_json s.fields)
 
--- time, level and target, no styles, and no lines for spans themselves
+-- time, level and target, no styles, characters that steer a terminal escaped, events that can't be formatted told of, and no lines for spans themselves
 pub record HasUsualParts (s : LineSettings) : Type 0 where
   pub time : asks_time s.timer ≡ true
   pub shown : (s.level ≡ true) × (s.target ≡ true)
   pub threads : (s.thread_names ≡ false) × (s.thread_ids ≡ false)
-  pub styles : s.ansi ≡ false
+  pub styles : (s.ansi ≡ false) × (s.ansi_sanitization ≡ true)
+  pub faults : s.log_internal_errors ≡ true
   pub span_events : s.span_events ≡ no_span_events
 
 abbrev pub ShowsPlace : Bool → LineSettings → Type 0
@@ -80,14 +80,14 @@ parts_of s =
 abbrev pub Shown : Type 0
 Shown = Lines Fields (Format LineFormat Timer)
 
--- a layer that writes just such lines, knows no thread yet, and tells of events that it can't format
+-- a layer that writes just such lines, and knows no thread yet
 pub record DescribesLayer (s : LineSettings) (own : OutputKey) (layer : Shown) : Type 0 where
   pub key : layer.config.key ≡ own
   pub fields : layer.config.fields ≡ s.fields
-  pub settings : layer.config.settings ≡ record { styles = s.ansi; sanitizes = true }
+  pub settings : layer.config.settings ≡ record { styles = s.ansi; sanitizes = s.ansi_sanitization }
   pub span_events : layer.config.span_events ≡ s.span_events
   pub timings : layer.config.has_timer ≡ asks_time s.timer
-  pub faults : layer.config.log_internal_errors ≡ true
+  pub faults : layer.config.log_internal_errors ≡ s.log_internal_errors
   pub format : (layer.format.shape ≡ s.format) × (layer.format.timer ≡ s.timer)
   pub parts : layer.format.parts ≡ parts_of s
   pub ansi : layer.format.ansi ≡ None

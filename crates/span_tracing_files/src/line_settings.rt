@@ -38,12 +38,18 @@ pub struct LineSettings {
     pub line_number: bool,
     /// Whether lines have styles, for a terminal.
     pub ansi: bool,
+    /// Whether ESC, BEL, BS, FF, DEL and U+0080 to U+009F of messages and errors are written as escapes. Without it a message can change
+    /// what a terminal shows.
+    pub ansi_sanitization: bool,
+    /// Whether an event that can't be formatted leaves a line that says so. Without it nothing is written of it.
+    pub log_internal_errors: bool,
     /// At which moments of a span a line is written for it.
     pub span_events: FmtSpan,
 }
 
 impl LineSettings {
-    /// The full format, with the moment's time, level and target.
+    /// The full format, with the moment's time, level and target. Characters that steer a terminal are
+    /// escaped, and events that can't be formatted are told of.
     pub fn full() -> LineSettings
         ensures shape { (result.format ≡ LineFormat.Full) × (result.fields ≡ Fields.Default) }
         ensures parts { HasUsualParts result }
@@ -60,6 +66,8 @@ impl LineSettings {
             file: false,
             line_number: false,
             ansi: false,
+            ansi_sanitization: true,
+            log_internal_errors: true,
             span_events: FmtSpan::NONE,
         }
     }
@@ -127,6 +135,8 @@ impl LineSettings {
             .with_file(self.file)
             .with_line_number(self.line_number)
             .with_ansi(self.ansi)
+            .with_ansi_sanitization(self.ansi_sanitization)
+            .log_internal_errors(self.log_internal_errors)
             .with_span_events(self.span_events)
     }
 }

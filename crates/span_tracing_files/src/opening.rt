@@ -4,6 +4,7 @@ ghost use Rattle.tracing_core_requests.specs.Lists.{Every};
 ghost use Rattle.tracing_appender_folders.specs.Moments.{is_moment};
 ghost use Rattle.span_tracing_outputs.specs.TraceFollows.{IsReady};
 ghost use Rattle.span_tracing_files.specs.Opened.{Answers, OpensRouting, OpensSink, OpensStack, Pairs, RowOf, build_refusal, outputs_refusal, RowsAreTold, routing_of, stack_refusal};
+ghost use Rattle.span_tracing_files.specs.Refused.{InOne, IsRouted, NamesAnswer, OutputsTell, RoutingRefuses, SinkRefuses, SinkTells, SinksTell};
 
 use crate::line_settings::Lines;
 use crate::output_spec::{OutputSpec, SinkSpec};
@@ -18,7 +19,7 @@ use span_tracing_sinks::{RollingSink, RoutedSinks};
 use span_tracing_skeleton::Refusal;
 use std::alloc::{AllocError, Global};
 use tracing_appender_folders::{Folder, Moment};
-use tracing_appender_rolling::{BuildError, Builder};
+use tracing_appender_rolling::BuildError;
 
 /// A stack whose outputs have lines of any format, under filters `F`, and whose lines go to rolling files in folders `D`.
 pub type FileStack<F, D> = TraceStack<
@@ -61,7 +62,10 @@ fn build_refusal(error: BuildError) -> Refusal
 }
 
 /// Why a sink's files can't have their names.
-fn name_refusal(builder: &Builder) -> Option<Refusal> {
+fn name_refusal<D>(sink: &SinkSpec<D>) -> Option<Refusal>
+    ensures { SinkTells sink.now result }
+{
+    let SinkSpec::Direct(builder, _) = sink;
     if builder.has_bad_name() {
         Some(Refusal::BadName)
     } else if builder.has_bad_link() {
@@ -72,23 +76,28 @@ fn name_refusal(builder: &Builder) -> Option<Refusal> {
 }
 
 /// The first of the sinks' refusals.
-fn first_refusal<D>(sinks: &[SinkSpec<D>]) -> Option<Refusal> {
-    for sink in sinks {
-        let SinkSpec::Direct(builder, _) = sink;
-        let refusal = name_refusal(builder);
-        if refusal.is_some() {
-            return refusal;
+fn first_refusal<D>(sinks: &[SinkSpec<D>]) -> Option<Refusal>
+    ensures { SinksTell sinks.now result }
+{
+    let mut rest = sinks;
+    while let [sink, later @ ..] = rest {
+        match name_refusal(sink) {
+            Some(refusal) => return Some(refusal),
+            None => rest = later,
         }
     }
     None
 }
 
 /// The first refusal of a name, outputs and sinks in order.
-fn names_refusal<F, D>(outputs: &[OutputSpec<F, D>]) -> Option<Refusal> {
-    for output in outputs {
-        let refusal = first_refusal(output.sinks.as_slice());
-        if refusal.is_some() {
-            return refusal;
+fn names_refusal<F, D>(outputs: &[OutputSpec<F, D>]) -> Option<Refusal>
+    ensures { OutputsTell outputs.now result }
+{
+    let mut rest = outputs;
+    while let [output, later @ ..] = rest {
+        match first_refusal(output.sinks.as_slice()) {
+            Some(refusal) => return Some(refusal),
+            None => rest = later,
         }
     }
     None
@@ -134,7 +143,8 @@ fn open_sink<D: Folder>(
     moment: Moment,
 ) -> Result<RollingSink<D>, Refusal>
     requires { is_moment moment ≡ true }
-    ensures { IfOk result (λ sink. OpensSink D.contents D.failed moment spec sink) }
+    ensures opened { IfOk result (λ sink. OpensSink D.contents D.failed moment spec sink) }
+    ensures refused { IfErr result (λ told. SinkRefuses told spec) }
 {
     let SinkSpec::Direct(builder, folder) = spec;
     match builder.build(alloc, folder, moment) {
@@ -144,21 +154,21 @@ fn open_sink<D: Folder>(
 }
 
 /// The sinks of an output, opened in order.
-#[tactic(auto, using(crate::proofs::Paired::pairs_more))]
 fn open_sinks<D: Folder>(
     alloc: Global,
     specs: Vec<SinkSpec<D>>,
     moment: Moment,
 ) -> Result<Vec<RollingSink<D>>, Refusal>
     requires { is_moment moment ≡ true }
-    ensures { IfOk result (λ sinks. Pairs (OpensSink D.contents D.failed moment) specs.items sinks.items) }
+    ensures opened { IfOk result (λ sinks. Pairs (OpensSink D.contents D.failed moment) specs.items sinks.items) }
+    ensures refused { IfErr result (λ told. InOne (SinkRefuses told) specs.items) }
 {
     let mut sinks = Vec::new(alloc);
     for spec in specs {
         let sink = open_sink(alloc, spec, moment)?;
-        if sinks.push(sink).is_err() {
+        let Ok(()) = sinks.push(sink) else {
             return Err(Refusal::OutOfMemory);
-        }
+        };
     }
     Ok(sinks)
 }
@@ -170,7 +180,8 @@ fn open_routing<D: Folder>(
     moment: Moment,
 ) -> Result<RoutedSinks<RollingSink<D>>, Refusal>
     requires { is_moment moment ≡ true }
-    ensures { IfOk result (λ routed. OpensRouting D.contents D.failed moment routing routed) }
+    ensures opened { IfOk result (λ routed. OpensRouting D.contents D.failed moment routing routed) }
+    ensures refused { IfErr result (λ told. RoutingRefuses told routing) }
 {
     let Routing { route, sinks } = routing;
     let opened = open_sinks(alloc, sinks, moment)?;
@@ -181,21 +192,21 @@ fn open_routing<D: Folder>(
 }
 
 /// The sinks of all outputs, opened in order.
-#[tactic(auto, using(crate::proofs::Paired::pairs_more))]
 fn open_routings<D: Folder>(
     alloc: Global,
     routings: Vec<Routing<D>>,
     moment: Moment,
 ) -> Result<Vec<RoutedSinks<RollingSink<D>>>, Refusal>
     requires { is_moment moment ≡ true }
-    ensures { IfOk result (λ opened. Pairs (OpensRouting D.contents D.failed moment) routings.items opened.items) }
+    ensures opened { IfOk result (λ opened. Pairs (OpensRouting D.contents D.failed moment) routings.items opened.items) }
+    ensures refused { IfErr result (λ told. InOne (RoutingRefuses told) routings.items) }
 {
     let mut opened = Vec::new(alloc);
     for routing in routings {
         let routed = open_routing(alloc, routing, moment)?;
-        if opened.push(routed).is_err() {
+        let Ok(()) = opened.push(routed) else {
             return Err(Refusal::OutOfMemory);
-        }
+        };
     }
     Ok(opened)
 }
@@ -211,7 +222,7 @@ fn rows_are_told<N: FormatFields + Drop, E: FormatEvent, F: Filter>()
 ///
 /// In this order: `BadMoment`; `NoOutput`, `TooManyFilters` where there are more than 64 outputs, `EqualKeys`; for the sinks in order
 /// `BadName`, `BadLinkName`, all before a folder is asked; then `FolderRefused` or `OutOfMemory` at the first sink that meets it. Want of
-/// memory may be told in place of what comes later. The outputs are let go: the folders of earlier sinks keep what was opened in them.
+/// memory may be told in place of any but `BadMoment`. The outputs are let go: the folders of earlier sinks keep what was opened in them.
 pub fn open_stack<F: Filter, D: Folder>(
     alloc: Global,
     outputs: Vec<OutputSpec<F, D>>,
@@ -219,6 +230,9 @@ pub fn open_stack<F: Filter, D: Folder>(
 ) -> Result<FileStack<F, D>, Refusal>
     ensures moment { is_moment moment ≡ false → result ≡ Err Refusal.BadMoment }
     ensures told { is_moment moment ≡ true → Answers (outputs_refusal outputs.items) result }
+    // Each output that `OutputSpec::new` made has a good route.
+    ensures names { is_moment moment ≡ true → outputs_refusal outputs.items ≡ None → Every IsRouted outputs.items →
+        NamesAnswer outputs.items result }
     ensures opened { IfOk result (λ made. OpensStack D.contents D.failed ⟦<F as Filter>⟧
         ⟦<Lines as span_registry_layers_layers::Layer>⟧ moment outputs.items made) }
     // Honest filters are asked for what each says of all callsites.
@@ -245,6 +259,6 @@ pub fn open_stack<F: Filter, D: Folder>(
     match TraceStack::new(stack, sinks) {
         Ok(made) => Ok(made),
         // There are sinks for each output.
-        Err(_) => Err(Refusal::BadRoute),
+        Err(_) => unreachable!(),
     }
 }

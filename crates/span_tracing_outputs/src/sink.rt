@@ -20,6 +20,7 @@ pub trait LineSink: Drop {
 }
 
 /// Hands over lines, in order.
+#[inline(never)]
 pub(crate) fn take_all<S: LineSink>(sink: &mut S, at: At, lines: &[PendingLine])
     ensures { TakesAll S.takes at (map plain_line lines.now) sink.old sink.new }
 {

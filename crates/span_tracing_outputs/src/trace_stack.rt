@@ -21,10 +21,19 @@ use tracing_core_requests::{
 /// request, after all outputs were told, so that no output keeps a line between requests.
 ///
 /// A contract sees it as a `TraceStackValue`.
-#[derive(Drop)]
 pub struct TraceStack<N, E, F, S> {
     stack: Stack<Filtered<Layer<N, E, PendingLines>, F>>,
     sinks: Vec<S>,
+}
+
+/// It is written down, so that whoever lets a stack go needs no proof of his own for each of its parts.
+impl<N: Drop, E: Drop, F: Drop, S: Drop> Drop for TraceStack<N, E, F, S> {
+    fn drop(self) {
+        let TraceStack {
+            stack: _stack,
+            sinks: _sinks,
+        } = self;
+    }
 }
 
 impl<N, E, F, S> Model for TraceStack<N, E, F, S> {

@@ -13,10 +13,19 @@ use tracing_core_requests::At;
 /// line, whatever becomes of it at another one.
 ///
 /// A contract sees it as a `Routed`.
-#[derive(Drop)]
 pub struct RoutedSinks<S> {
     route: Route,
     sinks: Vec<S>,
+}
+
+/// It is written down, so that whoever lets sinks go needs no proof of his own for each of its parts.
+impl<S: Drop> Drop for RoutedSinks<S> {
+    fn drop(self) {
+        let RoutedSinks {
+            route: _route,
+            sinks: _sinks,
+        } = self;
+    }
 }
 
 impl<S> Model for RoutedSinks<S> {
@@ -132,7 +141,8 @@ impl<S: Drop> RoutedSinks<S> {
     pub fn into_sinks(self) -> Vec<S>
         ensures { result.items ≡ self.sinks }
     {
-        self.sinks
+        let RoutedSinks { route: _, sinks } = self;
+        sinks
     }
 }
 

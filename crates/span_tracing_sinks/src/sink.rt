@@ -12,10 +12,19 @@ use tracing_core_requests::At;
 /// Hands its lines to a rolling file, each once, at the moment that it comes with. A line that finds no memory is
 /// dropped and counted, and what was written of it before stays. So is one whose moment is out of range, which no
 /// trace hands over; nothing is written of it. What is lost to a folder's faults the appender counts.
-#[derive(Drop)]
 pub struct RollingSink<D> {
     appender: RollingFileAppender<D>,
     dropped: usize,
+}
+
+/// It is written down, so that whoever lets a sink go needs no proof of his own for each of its parts.
+impl<D: Drop> Drop for RollingSink<D> {
+    fn drop(self) {
+        let RollingSink {
+            appender: _appender,
+            dropped: _dropped,
+        } = self;
+    }
 }
 
 fn moment_of(at: At) -> Moment
@@ -65,7 +74,11 @@ impl<D: Folder> RollingSink<D> {
     pub fn into_appender(self) -> RollingFileAppender<D>
         ensures { result ≡ self.appender }
     {
-        self.appender
+        let RollingSink {
+            appender,
+            dropped: _,
+        } = self;
+        appender
     }
 
     fn count_dropped(&mut self)

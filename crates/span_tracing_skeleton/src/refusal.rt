@@ -23,7 +23,7 @@ pub enum Refusal {
     EqualKeys,
     #[error("a link has the name of a log file")]
     BadLinkName,
-    #[error("a part of a file name has a slash or a NUL")]
+    #[error("a part of a file name has a slash or a NUL, or the name is `.` or `..`")]
     BadName,
     #[error("a folder refused to open a file")]
     FolderRefused,

@@ -53,6 +53,7 @@ impl<T: Subscriber + HasRegistry> TraceParts<T> {
     }
 
     /// Whether the span is open.
+    #[inline(never)]
     #[tactic(auto, using(crate::proofs::Bare::open_bare))]
     fn is_open(&self, id: Id) -> bool
         ensures { result ≡ has_open (skeleton_of T.registry_of (value_in self.now)) id }

@@ -18,13 +18,24 @@ pub struct Thread {
 }
 
 /// The lanes' threads, and the hub with the callsites and the one stack.
-#[derive(Drop)]
 pub struct TraceParts<T> {
     pub(crate) alloc: Global,
     pub(crate) threads: Vec<Thread>,
     pub(crate) hub: Hub<T, TraceCallsite>,
     /// The stack's handle, where there is a stack.
     pub(crate) handle: Option<Dispatch>,
+}
+
+/// It is written down, so that whoever lets a trace's parts go needs no proof of his own for each of its parts.
+impl<T: Drop> Drop for TraceParts<T> {
+    fn drop(self) {
+        let TraceParts {
+            alloc: _alloc,
+            threads: _threads,
+            hub: _hub,
+            handle: _handle,
+        } = self;
+    }
 }
 
 impl<T: Subscriber> TraceParts<T> {

@@ -4,6 +4,9 @@ ghost use Rattle.std.specs.Prelude.{◌≡◌, nat_le};
 ghost use Rattle.span_registry_layers.specs.CacheValidity.{CacheIsValid};
 ghost use Rattle.tracing_core.specs.Metadata.{plain_metadata};
 
+mod clocked;
+mod json;
+
 use crate::boxed::{under_both, under_box, under_context_closure};
 use crate::choice::{by_closure, by_level, under_choice};
 use crate::filter::{hand, under_closure, under_level, under_verbosity};

@@ -47,6 +47,7 @@ impl Visit for JsonVisitor<'_> {
 
     ghost shows = { ShowsAsJson };
 
+    #[inline(always)]
     fn record_debug(
         &mut self,
         field: &Field<'_>,

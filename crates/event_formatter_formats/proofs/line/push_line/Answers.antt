@@ -10,22 +10,6 @@ use Rattle.event_formatter_formats.specs.Lines.{line_behind}
 use Rattle.event_formatter_formats.specs.declared.line_format.LineFormat.{LineFormat}
 use Rattle.event_formatter_formats.proofs.line.push_line.Goals as goal
 
-pub returns-in-Compact : goal.returns-in-Compact
-returns-in-Compact g c =
-    let settings = c.args.settings in
-    let head = plain_head c.args.head.now in
-    let values = (plain_event c.args.event.now).values in
-    let context = plain_context g.N.FormatFields.text_of c.args.context.now in
-    let text : g.row.N.Denot → Option (List ℕ) = λ f. g.N.FormatFields.text_of f settings values in
-    let strict = spans_in c.strict_spans-strict.result in
-    let fields = text c.field_format-in-Compact.result.now in
-    subst (λ (line : Option (List ℕ)). Formats line (string_bytes c.args.out.now) c.push_compact_line.result (string_bytes c.push_compact_line.new.out))
-    (ap (λ (loose : List PlainShown). compact_line settings head loose strict fields) c.loose_spans-loose.ensures
-    ∙ ap (λ (spans : List PlainShown). compact_line settings head context.loose spans fields) c.strict_spans-strict.ensures
-    ∙ ap (λ (f : g.row.N.Denot). compact_line settings head context.loose context.strict (text f)) c.field_format-in-Compact.ensures
-    ∙ ap (λ (shape : LineFormat). line_behind shape c.args.parts settings head context values) (sym c.in-Compact.is))
-    c.push_compact_line.ensures
-
 pub returns-in-Json : goal.returns-in-Json
 returns-in-Json g c =
     let settings = c.args.settings in
@@ -34,6 +18,6 @@ returns-in-Json g c =
     let context = plain_context g.N.FormatFields.text_of c.args.context.now in
     let json = c.in-Json.json in
     subst (λ (line : Option (List ℕ)). Formats line (string_bytes c.args.out.now) c.push_json_line.result (string_bytes c.push_json_line.new.out))
-    (ap (λ (loose : List PlainShown). json_line json.shape head loose values) c.loose_spans-loose-in-Json.ensures
+    (ap (λ (loose : List PlainShown). json_line json.shape head loose values) c.loose_spans-loose.ensures
     ∙ ap (λ (shape : LineFormat). line_behind shape c.args.parts settings head context values) (sym c.in-Json.is))
     c.push_json_line.ensures

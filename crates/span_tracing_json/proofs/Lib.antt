@@ -1,0 +1,4 @@
+mod Machine
+mod Runs
+mod Formats
+mod Texts

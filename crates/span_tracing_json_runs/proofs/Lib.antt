@@ -1,0 +1,4 @@
+mod Telling
+mod Outputs
+mod Standing
+mod Formats
