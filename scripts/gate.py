@@ -32,6 +32,8 @@ import real_files  # noqa: E402
 from kit import Crate, rt, rtlib  # noqa: E402
 
 LEDGER = "docs/edits.ledger"
+# What runs a crate's tests, in the crate's folder.
+TESTS = f"{os.path.dirname(os.path.realpath(__file__))}/tests.py"
 # The program that the README shows a part of.
 EXAMPLE = "crates/examples_requests/src/main.rt"
 # What a proof was seen to take at most, in bytes, with what the system needs beside it.
@@ -102,7 +104,7 @@ def program(crate):
 def tests_run(crate):
     """Runs a crate's tests with no proof of them."""
     how = {"cwd": crate.folder, "stdin": subprocess.DEVNULL, "stdout": subprocess.PIPE, "stderr": subprocess.STDOUT, "text": True}
-    ran = subprocess.run([*rtlib.guarded(), f"{rt.KIT}/bin/rt", "try", "--test"], **how)
+    ran = subprocess.run([*rtlib.guarded(), sys.executable, TESTS], **how)
     print(ran.stdout, end="", flush=True)
     well = re.search(r"test result: ok\. (\d+) passed; 0 failed; 0 ignored", ran.stdout)
     return f"{well[1]} tests ran" if not ran.returncode and well and int(well[1]) else sys.exit(1)

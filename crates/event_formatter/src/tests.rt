@@ -1,7 +1,15 @@
-//! A request's lines in text for people and in JSON for machines, from one stack of two outputs of one type.
+//! The tests of the crates below; and a request's lines in text for people and in JSON for machines, from one stack of two outputs of one
+//! type.
 
+mod formats;
+mod layer;
+mod lines;
 mod memory;
+mod slots;
 mod surface;
+mod text;
+mod times;
+mod visitors;
 
 use super::*;
 use span_registry_layers_layers::Filtered;

@@ -3,3 +3,4 @@ mod Scopes
 mod Handing
 mod Lent
 mod OwnSpans
+mod Framing

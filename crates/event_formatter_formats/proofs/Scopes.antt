@@ -1,5 +1,5 @@
 -- How the spans of a scope are found again by their ids.
-use Rattle.std.proofs.Common.{◌≡◌, ◌<◌, ℕ, List, [], ◌∷◌, ◌++◌, ◌==◌, Bool, true, false, map, reverse, Option, Some, None, IfSome, is_some, refl, sym, ap, subst, ◌∙◌, if◌then◌else◌}
+use Rattle.std.proofs.Common.{◌≡◌, ◌<◌, ℕ, List, [], ◌∷◌, ◌++◌, ◌==◌, Bool, true, false, map, reverse, Option, Some, None, is_some, refl, sym, ap, subst, ◌∙◌, if◌then◌else◌}
 use Rattle.std.specs.Option.{option_map}
 use Rattle.std.proofs.lemmas.Bool.{eqb-true}
 use Rattle.std.proofs.lemmas.List.{map-append, reverse-append}
@@ -10,11 +10,11 @@ use Rattle.span_registry_layers_store.specs.References.{PlainRef, ref_of, refs_o
 use Rattle.span_registry_layers_store.specs.Registries.{PlainSpan, RegistryValue, kin_in}
 use Rattle.span_registry_layers_store.specs.Spans.{found, is_member, line_of}
 use Rattle.span_registry_layers_store.specs.Views.{all_seen, entry_seen, first_of, latest_seen, one_or_none, seen, seen_if, sees}
-use Rattle.span_registry_layers_layers.specs.Contexts.{event_span, lane_span, span_in}
+use Rattle.span_registry_layers_layers.specs.Contexts.{event_span, lane_span, ref_in, span_in}
 use Rattle.span_registry_layers_layers.specs.Looks.{View}
 use Rattle.event_formatter_lines.specs.Shown.{PlainShown}
 use Rattle.event_formatter_formats.specs.Scopes.{only_if, refs_from, shown_at, shown_or_nothing, shown_scope, shown_span}
-use Rattle.event_formatter_formats.specs.Walks.{FillsScope, HasNumber, ShowsScope, first_id, id_of, id_of_ref, ids_from}
+use Rattle.event_formatter_formats.specs.Walks.{FillsScope, HasNumber, ShowsScope, id_of_ref, ids_to, ids_up}
 
 found_here : (b : Bool) (x s : PlainSpan) (xs : List PlainSpan) (id : ℕ) → (x.kin.id == id) ≡ b → (found kin_in xs id ≡ Some s → s.kin.id ≡ id) →
     (if b then Some x else found kin_in xs id) ≡ Some s → s.kin.id ≡ id
@@ -82,13 +82,11 @@ refs_shown v key None = refl
 refs_shown v key (Some s) = shown_all v key (line_of kin_in v.registry.spans s.kin.id)
 
 -- the ids of a scope show it
-scope_shown : (v : View) (key : ℕ) (s : PlainSpan) → span_in v s.kin.id ≡ Some s →
-    map (shown_at v key) (reverse (ids_from v (Some s.kin.id))) ≡ shown_scope v key (Some s)
-scope_shown v key s is =
-    let refs = refs_from v (span_in v s.kin.id) in
+scope_shown : (v : View) (key : ℕ) (f : Option PlainSpan) → map (shown_at v key) (reverse (map id_of_ref (refs_from v f))) ≡ shown_scope v key f
+scope_shown v key f =
+    let refs = refs_from v f in
     map_reverse (shown_at v key) (map id_of_ref refs)
-    ∙ ap reverse (map_twice id_of_ref (shown_at v key) refs ∙ refs_shown v key (span_in v s.kin.id))
-    ∙ ap (λ (f : Option PlainSpan). shown_scope v key f) is
+    ∙ ap reverse (map_twice id_of_ref (shown_at v key) refs ∙ refs_shown v key f)
 
 first_shown : (v : View) (f later : Option PlainSpan) → IsShown v f → IsShown v later → IsShown v (first_of f later)
 first_shown v None later here there = there
@@ -112,48 +110,51 @@ event_shown v Root = λ s same. cc
 event_shown v Current = current_shown v
 event_shown v (Explicit id) = seen_again v.registry v.mask id
 
-filled_by : (v : View) (key : ℕ) (strict lane : Option PlainSpan) → IsShown v strict → IsShown v lane → (ids : List ℕ) →
-    ids ≡ reverse (ids_from v (first_id (option_map id_of strict) (option_map id_of lane))) →
+shows_by : (v : View) (key : ℕ) (strict lane : Option PlainSpan) (ids : List ℕ) (stands_in : Bool) →
+    ids ≡ reverse (map id_of_ref (refs_from v (first_of strict lane))) → stands_in ≡ is_some strict →
     (map (shown_at v key) ids ≡ shown_scope v key (first_of strict lane))
-    × (only_if (is_some (option_map id_of strict)) (map (shown_at v key) ids) ≡ shown_scope v key strict)
-filled_by v key (Some s) lane here there ids are =
-    let all = ap (map (shown_at v key)) are ∙ scope_shown v key s (here s refl) in (all, all)
-filled_by v key None None here there ids are = (ap (map (shown_at v key)) are, refl)
-filled_by v key None (Some s) here there ids are =
-    (ap (map (shown_at v key)) are ∙ scope_shown v key s (there s refl), refl)
+    × (only_if stands_in (map (shown_at v key) ids) ≡ shown_scope v key strict)
+shows_by v key (Some s) lane ids stands_in are is =
+    let all = ap (map (shown_at v key)) are ∙ scope_shown v key (Some s) in rw is (all, all)
+shows_by v key None lane ids stands_in are is = rw is (ap (map (shown_at v key)) are ∙ scope_shown v key lane, refl)
 
-pub shows : (v : View) (parent : Parent) (ids : List ℕ) (stands_in : Option ℕ) →
-    stands_in ≡ option_map id_of (event_span v parent) →
-    ids ≡ reverse (ids_from v (first_id stands_in (option_map id_of (lane_span v)))) →
-    ShowsScope v parent ids (is_some stands_in)
-shows v parent ids stands_in is are key =
-    rw is (filled_by v key (event_span v parent) (lane_span v) (event_shown v parent) (current_shown v) ids
-    (are ∙ ap (λ (leaf : Option ℕ). reverse (ids_from v (first_id leaf (option_map id_of (lane_span v))))) is))
+-- ids that are those of the loose scope show it
+pub shows : (v : View) (parent : Parent) (ids : List ℕ) (stands_in : Bool) → FillsScope v parent ids stands_in → ShowsScope v parent ids stands_in
+shows v parent ids stands_in filled key =
+    shows_by v key (event_span v parent) (lane_span v) ids stands_in filled.0 filled.1
 
--- they are those of the spans themselves
-ids_by : (v : View) (strict lane : Option PlainSpan) → IsShown v strict → IsShown v lane →
-    ids_from v (first_id (option_map id_of strict) (option_map id_of lane)) ≡ map id_of_ref (refs_from v (first_of strict lane))
-ids_by v (Some s) lane here there = ap (λ (f : Option PlainSpan). map id_of_ref (refs_from v f)) (here s refl)
-ids_by v None (Some s) here there = ap (λ (f : Option PlainSpan). map id_of_ref (refs_from v f)) (there s refl)
-ids_by v None None here there = refl
+strict_by : (v : View) (f lane : Option PlainSpan) (r : PlainRef) (ids : List ℕ) → Some r ≡ option_map (ref_in v) f → ids ≡ reverse (ids_up r) →
+    (ids ≡ reverse (map id_of_ref (refs_from v (first_of f lane)))) × (true ≡ is_some f)
+strict_by v None lane r ids same are = cc
+strict_by v (Some s) lane r ids same are =
+    let e : r ≡ ref_in v s = cc in (are ∙ ap (λ (x : PlainRef). reverse (ids_up x)) e, refl)
 
-is_there : (f : Option PlainSpan) → is_some (option_map id_of f) ≡ is_some f
-is_there None = refl
-is_there (Some s) = refl
+-- the ids of the span that the event stands in, and its ancestors, are those of the loose scope
+pub fills_strict : (v : View) (parent : Parent) (r : PlainRef) (ids : List ℕ) → Some r ≡ option_map (ref_in v) (event_span v parent) →
+    ids ≡ reverse (ids_up r) → FillsScope v parent ids true
+fills_strict v parent r ids same are = strict_by v (event_span v parent) (lane_span v) r ids same are
 
-pub filled : (v : View) (parent : Parent) (ids : List ℕ) (stands_in : Option ℕ) →
-    stands_in ≡ option_map id_of (event_span v parent) →
-    ids ≡ reverse (ids_from v (first_id stands_in (option_map id_of (lane_span v)))) →
-    FillsScope v parent ids (is_some stands_in)
-filled v parent ids stands_in is are = (
-  are ∙ ap (λ (leaf : Option ℕ). reverse (ids_from v (first_id leaf (option_map id_of (lane_span v))))) is
-      ∙ ap reverse (ids_by v (event_span v parent) (lane_span v) (event_shown v parent) (current_shown v)),
-  ap is_some is ∙ is_there (event_span v parent),
-)
+loose_by : (v : View) (f lane : Option PlainSpan) (ids : List ℕ) → None ≡ option_map (ref_in v) f → ids ≡ reverse (ids_to (option_map (ref_in v) lane)) →
+    (ids ≡ reverse (map id_of_ref (refs_from v (first_of f lane)))) × (false ≡ is_some f)
+loose_by v None None ids same are = (are, refl)
+loose_by v None (Some s) ids same are = (are, refl)
+loose_by v (Some s) lane ids same are = cc
 
-numbered : (f : Option PlainSpan) → IfSome (option_map id_of f) (λ id. 0 < id) → HasNumber f
-numbered None is = tt
-numbered (Some s) is = is
+-- where it stands in none, those of the lane's span are
+pub fills_loose : (v : View) (parent : Parent) (ids : List ℕ) → None ≡ option_map (ref_in v) (event_span v parent) →
+    ids ≡ reverse (ids_to (option_map (ref_in v) (lane_span v))) → FillsScope v parent ids false
+fills_loose v parent ids same are = loose_by v (event_span v parent) (lane_span v) ids same are
 
-pub has_number : (f : Option PlainSpan) (stands_in : Option ℕ) → stands_in ≡ option_map id_of f → IfSome stands_in (λ id. 0 < id) → HasNumber f
-has_number f stands_in same is = numbered f (subst (λ (o : Option ℕ). IfSome o (λ id. 0 < id)) same is)
+numbered : (v : View) (f : Option PlainSpan) (r : PlainRef) → Some r ≡ option_map (ref_in v) f → 0 < r.span.kin.id → HasNumber f
+numbered v None r same is = tt
+numbered v (Some s) r same is = let e : r ≡ ref_in v s = cc in subst (λ (x : PlainRef). 0 < x.span.kin.id) e is
+
+pub has_number : (v : View) (parent : Parent) (r : PlainRef) → Some r ≡ option_map (ref_in v) (event_span v parent) → 0 < r.span.kin.id → HasNumber (event_span v parent)
+has_number v parent r same is = numbered v (event_span v parent) r same is
+
+unnumbered : (v : View) (f : Option PlainSpan) → None ≡ option_map (ref_in v) f → HasNumber f
+unnumbered v None same = tt
+unnumbered v (Some s) same = cc
+
+pub has_none : (v : View) (parent : Parent) → None ≡ option_map (ref_in v) (event_span v parent) → HasNumber (event_span v parent)
+has_none v parent same = unnumbered v (event_span v parent) same

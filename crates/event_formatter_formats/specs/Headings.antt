@@ -7,8 +7,12 @@ use Rattle.event_formatter_formats.specs.Contexts.{PlainThread}
 use Rattle.event_formatter_formats.specs.declared.parts.Parts.{Parts}
 
 -- the text of the timer, and another one where it has none
+abbrev pub time_or_unknown : Option (List ℕ) → List ℕ
+time_or_unknown time = unwrap_or time (codes "<unknown time>")
+
+-- the time, where it is shown
 abbrev pub time_shown : Parts → Option (List ℕ) → Option (List ℕ)
-time_shown parts time = if parts.timestamp then Some (unwrap_or time (codes "<unknown time>")) else None
+time_shown parts time = if parts.timestamp then Some (time_or_unknown time) else None
 
 -- a thread's number, where it is shown
 abbrev pub id_shown : Bool → Parts → PlainThread → Option (List ℕ)

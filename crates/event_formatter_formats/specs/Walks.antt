@@ -1,9 +1,10 @@
 -- The ids of a scope, and what they say of it.
 use Rattle.std.specs.Prelude.{◌≡◌, ◌<◌, ℕ, List, [], Bool, map, reverse, Option, Some, None, IfSome, is_some}
 use Rattle.tracing_core_requests.specs.declared.requests.parent.Parent.{Parent}
-use Rattle.span_registry_layers_store.specs.References.{PlainRef}
-use Rattle.span_registry_layers_store.specs.Registries.{PlainSpan}
-use Rattle.span_registry_layers_layers.specs.Contexts.{event_span, span_in}
+use Rattle.span_registry_layers_store.specs.References.{PlainRef, refs_of}
+use Rattle.span_registry_layers_store.specs.Registries.{PlainSpan, kin_in}
+use Rattle.span_registry_layers_store.specs.Spans.{line_of}
+use Rattle.span_registry_layers_layers.specs.Contexts.{event_span}
 use Rattle.span_registry_layers_layers.specs.Looks.{View}
 use Rattle.event_formatter_formats.specs.Scopes.{loose_leaf, loose_scope, only_if, refs_from, shown_at, strict_scope}
 
@@ -13,18 +14,18 @@ id_of s = s.kin.id
 abbrev pub id_of_ref : PlainRef → ℕ
 id_of_ref r = r.span.kin.id
 
-abbrev pub first_id : Option ℕ → Option ℕ → Option ℕ
-first_id None later = later
-first_id (Some id) later = Some id
-
 -- the span, where there is one, has a number other than 0
 abbrev pub HasNumber : Option PlainSpan → Type 0
 HasNumber f = IfSome f (λ s. 0 < s.kin.id)
 
--- the ids of a span, where it is seen, and its ancestors, the nearest first
-abbrev pub ids_from : View → Option ℕ → List ℕ
-ids_from v None = []
-ids_from v (Some id) = map id_of_ref (refs_from v (span_in v id))
+-- the ids of a span and its ancestors that are seen, the nearest first
+abbrev pub ids_up : PlainRef → List ℕ
+ids_up r = map id_of_ref (refs_of r.registry r.mask (line_of kin_in r.registry.spans r.span.kin.id))
+
+-- the same of a span, where there is one
+abbrev pub ids_to : Option PlainRef → List ℕ
+ids_to None = []
+ids_to (Some r) = ids_up r
 
 -- the ids of the loose scope, from the root on
 abbrev pub loose_ids : View → Parent → List ℕ

@@ -238,6 +238,7 @@ impl<N: FormatFields> FmtContext<'_, '_, N> {
     /// # Errors
     ///
     /// A value that can't be formatted, or want of memory. What was appended before is to be dropped.
+    #[inline(always)]
     pub fn format_fields<R: RecordFields>(
         &self,
         alloc: Global,

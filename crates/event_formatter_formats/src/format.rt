@@ -1,14 +1,18 @@
 //! What a line shows of an event, and how.
-ghost use Rattle.std.specs.Prelude.{◌≡◌, false, true, Some, None};
+ghost use Rattle.std.specs.Prelude.{◌≡◌, ℕ, ℤ, false, true, Some, None, string_bytes};
+ghost use Rattle.tracing_core_requests.specs.PlainRequests.{plain_event};
+ghost use Rattle.event_formatter_text.specs.Lists.{Formats};
 ghost use Rattle.event_formatter_lines.specs.Json.{default_shape};
+ghost use Rattle.event_formatter_formats.specs.Contexts.{plain_context};
 ghost use Rattle.event_formatter_formats.specs.Lines.{line_in, with_styles};
 ghost use Rattle.event_formatter_formats.specs.Parts.{default_parts};
 
 use crate::context::FmtContext;
 use crate::format_event::FormatEvent;
+use crate::full::push_full;
 use crate::heading::{fill_id, fill_name, fill_time};
 use crate::line::{head_with, push_line, shown, with_styles};
-use crate::line_format::{Compact, EventShape, Full, Json, Pretty};
+use crate::line_format::{Compact, EventShape, Full, Json, LineFormat, Pretty};
 use crate::parts::Parts;
 use event_formatter_text::{FormatError, FormatFields, Settings};
 use event_formatter_times::{FormatTime, SystemTime};
@@ -17,7 +21,8 @@ use tracing_core_requests::Event;
 
 /// Writes lines in a format: the full, the compact, the pretty or the JSON one, with the parts that are asked for.
 ///
-/// It keeps the texts of the last time and the last thread, so that no line needs memory for them once they are there.
+/// For the compact, the pretty and the JSON format it keeps room for the texts of time and thread, so that no line needs memory for them
+/// once there was one. A full line has them in the line itself.
 #[derive(Drop)]
 pub struct Format<F, T> {
     pub(crate) shape: F,
@@ -241,19 +246,25 @@ impl<T: Drop> Format<Json, T> {
     }
 }
 
-impl<F: EventShape, T: FormatTime + Drop> FormatEvent for Format<F, T> {
-    ghost line_of = { λ format settings c e. line_in (F.shape format.shape) format.parts
-        (with_styles format.ansi settings) (T.text_at format.timer c.seconds c.nanoseconds) c e };
-
-    fn format_event<N: FormatFields>(
+impl<F: Drop, T: FormatTime + Drop> Format<F, T> {
+    // Appends the line of an event in any format. It stands apart, so that full lines need no room for the others.
+    #[inline(never)]
+    fn push_shaped<N: FormatFields>(
         &mut self,
         alloc: Global,
         context: &FmtContext<'_, '_, N>,
         out: &mut String,
         settings: Settings,
+        shape: LineFormat,
         event: &Event<'_, '_>,
-    ) -> Result<(), FormatError> {
-        let (shape, parts, thread) = (self.shape.line_format(), self.parts, context.thread());
+    ) -> Result<(), FormatError>
+        ensures rest { (self.new.shape ≡ self.old.shape) × (self.new.parts ≡ self.old.parts) × (self.new.ansi ≡ self.old.ansi) }
+        ensures timer { (s : ℤ) (n : ℕ) → T.text_at self.new.timer s n ≡ T.text_at self.old.timer s n }
+        ensures text { let c = plain_context N.text_of context.now in
+            Formats (line_in shape self.old.parts settings (T.text_at self.old.timer c.seconds c.nanoseconds) c
+            (plain_event event.now)) (string_bytes out.old) result (string_bytes out.new) }
+    {
+        let (parts, thread) = (self.parts, context.thread());
         let has_time = fill_time(alloc, &mut self.time, parts, &mut self.timer, context.at())?;
         let has_name = fill_name(&mut self.thread_name, shape.is_padded(), parts, thread)?;
         let has_id = fill_id(&mut self.thread_id, shape.is_padded(), parts, thread)?;
@@ -264,7 +275,35 @@ impl<F: EventShape, T: FormatTime + Drop> FormatEvent for Format<F, T> {
             shown(has_id, self.thread_id.as_str()),
             event.metadata(),
         );
-        let settings = with_styles(self.ansi, settings);
         push_line(alloc, out, settings, shape, parts, &head, context, event)
+    }
+}
+
+impl<F: EventShape, T: FormatTime + Drop> FormatEvent for Format<F, T> {
+    ghost line_of = { λ format settings c e. line_in (F.shape format.shape) format.parts
+        (with_styles format.ansi settings) (T.text_at format.timer c.seconds c.nanoseconds) c e };
+
+    #[inline(always)]
+    fn format_event<N: FormatFields>(
+        &mut self,
+        alloc: Global,
+        context: &FmtContext<'_, '_, N>,
+        out: &mut String,
+        settings: Settings,
+        event: &Event<'_, '_>,
+    ) -> Result<(), FormatError> {
+        let settings = with_styles(self.ansi, settings);
+        match self.shape.line_format() {
+            LineFormat::Full => push_full(
+                alloc,
+                out,
+                settings,
+                &self.parts,
+                &mut self.timer,
+                context,
+                event,
+            ),
+            shape => self.push_shaped(alloc, context, out, settings, shape, event),
+        }
     }
 }

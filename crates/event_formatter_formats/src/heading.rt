@@ -1,12 +1,14 @@
 //! The texts of the time and the thread of an event.
-ghost use Rattle.std.specs.Prelude.{◌≡◌, ◌++◌, ℕ, ℤ, OnOk, if◌then◌else◌, string_bytes};
+ghost use Rattle.std.specs.Prelude.{◌≡◌, ◌++◌, ◌∷◌, ℕ, ℤ, OnOk, Some, codes, if◌then◌else◌, string_bytes};
+ghost use Rattle.event_formatter_text.specs.Styles.{between};
+ghost use Rattle.event_formatter_lines.specs.Heads.{time_piece};
 ghost use Rattle.event_formatter_times.specs.Threads.{padded_name};
 ghost use Rattle.event_formatter_formats.specs.Contexts.{plain_thread};
-ghost use Rattle.event_formatter_formats.specs.Headings.{Shows, id_in_place, id_shown, name_shown, time_shown};
+ghost use Rattle.event_formatter_formats.specs.Headings.{Shows, id_in_place, id_shown, name_shown, time_or_unknown, time_shown};
 
 use crate::context::CurrentThread;
 use crate::parts::Parts;
-use event_formatter_text::FormatError;
+use event_formatter_text::{FormatError, Settings};
 use event_formatter_times::{FormatTime, push_thread_id, push_thread_name};
 use std::alloc::{AllocError, Global};
 use tracing_core_requests::At;
@@ -31,14 +33,73 @@ pub(crate) fn fill_time<T: FormatTime>(
     if !parts.timestamp {
         return Ok(false);
     }
-    match timer.format_time(alloc, out, at.seconds, at.nanoseconds) {
-        Ok(()) => Ok(true),
-        Err(FormatError::Failed) => {
-            out.push_str("<unknown time>")?;
-            Ok(true)
-        }
+    push_moment(alloc, out, timer, at.seconds, at.nanoseconds)?;
+    Ok(true)
+}
+
+// Appends the text of the moment, and another one where the timer has none.
+#[inline(always)]
+fn push_moment<T: FormatTime>(
+    alloc: Global,
+    out: &mut String,
+    timer: &mut T,
+    seconds: i64,
+    nanoseconds: u32,
+) -> Result<(), AllocError>
+    ensures timer { (s : ℤ) (n : ℕ) → T.text_at timer.new s n ≡ T.text_at timer.old s n }
+    ensures text { OnOk result (string_bytes out.new ≡ string_bytes out.old
+        ++ time_or_unknown (T.text_at timer.old seconds nanoseconds)) }
+{
+    match timer.format_time(alloc, out, seconds, nanoseconds) {
+        Ok(()) => Ok(()),
+        Err(FormatError::Failed) => out.push_str("<unknown time>"),
         Err(FormatError::OutOfMemory) => Err(AllocError),
     }
+}
+
+// Appends the time, dimmed, and a space.
+#[inline(never)]
+fn push_dimmed_time<T: FormatTime>(
+    alloc: Global,
+    out: &mut String,
+    timer: &mut T,
+    seconds: i64,
+    nanoseconds: u32,
+) -> Result<(), AllocError>
+    ensures timer { (s : ℤ) (n : ℕ) → T.text_at timer.new s n ≡ T.text_at timer.old s n }
+    ensures text { OnOk result (string_bytes out.new ≡ string_bytes out.old
+        ++ (between (27 ∷ codes "[2m") (time_or_unknown (T.text_at timer.old seconds nanoseconds)) ++ codes " ")) }
+{
+    out.push_str("\u{1b}[2m")?;
+    push_moment(alloc, out, timer, seconds, nanoseconds)?;
+    out.push_str("\u{1b}[0m")?;
+    out.push(' ')
+}
+
+/// Appends the time, dimmed where styles are on, and a space.
+///
+/// # Errors
+///
+/// Want of memory. What was appended before is to be dropped.
+#[inline(always)]
+#[tactic(auto, unfolding(event_formatter_text::specs::Styles::styled))]
+pub(crate) fn push_time<T: FormatTime>(
+    alloc: Global,
+    out: &mut String,
+    settings: Settings,
+    timer: &mut T,
+    seconds: i64,
+    nanoseconds: u32,
+) -> Result<(), AllocError>
+    ensures timer { (s : ℤ) (n : ℕ) → T.text_at timer.new s n ≡ T.text_at timer.old s n }
+    ensures text { OnOk result (string_bytes out.new ≡ string_bytes out.old
+        ++ time_piece settings (Some (time_or_unknown (T.text_at timer.old seconds nanoseconds)))) }
+{
+    if settings.styles {
+        return push_dimmed_time(alloc, out, timer, seconds, nanoseconds);
+    }
+    push_moment(alloc, out, timer, seconds, nanoseconds)?;
+    out.push(' ')
 }
 
 /// Puts the thread's number in place of what `out` held, and answers whether it is shown.

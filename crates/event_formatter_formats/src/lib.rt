@@ -5,6 +5,7 @@ mod context;
 mod fields;
 mod format;
 mod format_event;
+mod full;
 mod heading;
 mod laws;
 mod line;
@@ -23,6 +24,3 @@ pub use line_format::{Compact, EventShape, Full, Json, LineFormat, Pretty};
 pub use parts::Parts;
 pub use scope::{ScopedSpans, fill_scope};
 pub use timer::Timer;
-
-#[cfg(test)]
-mod tests;

@@ -1,13 +1,13 @@
 //! The spans that a line shows, read from the registry.
-ghost use Rattle.std.specs.Prelude.{◌≡◌, ◌<◌, ◌++◌, IfOk, IfSome, OnOk, map, reverse};
-ghost use Rattle.std.specs.Option.{is_some, option_map};
+ghost use Rattle.std.specs.Prelude.{◌≡◌, ◌<◌, [], IfOk, OnOk, reverse};
+ghost use Rattle.std.specs.Option.{option_map};
 ghost use Rattle.tracing_core_requests.specs.PlainRequests.{plain_event};
-ghost use Rattle.span_registry_layers_layers.specs.Contexts.{event_span, lane_span, span_in};
+ghost use Rattle.span_registry_layers_layers.specs.Contexts.{event_span, lane_span, ref_in, span_in};
 ghost use Rattle.span_registry_layers_layers.specs.Looks.{view};
 ghost use Rattle.span_registry_layers_store.specs.References.{plain_ref};
 ghost use Rattle.event_formatter_lines.specs.Shown.{plain_shown};
-ghost use Rattle.event_formatter_formats.specs.Scopes.{refs_from, shown_span, target_or_none};
-ghost use Rattle.event_formatter_formats.specs.Walks.{FillsScope, HasNumber, ShowsScope, first_id, id_of, id_of_ref, ids_from};
+ghost use Rattle.event_formatter_formats.specs.Scopes.{shown_span, target_or_none};
+ghost use Rattle.event_formatter_formats.specs.Walks.{FillsScope, HasNumber, ShowsScope, ids_to, ids_up};
 
 use event_formatter_lines::{ShownSpan, ShownSpans};
 use event_formatter_slots::kept_text;
@@ -91,64 +91,38 @@ impl ShownSpans for ScopedSpans<'_, '_> {
     }
 }
 
-// Puts the ids of a span and its ancestors, the nearest first, in place of what the list held.
-fn fill_from(context: &Context<'_>, ids: &mut Vec<Id>, leaf: &Id) -> Result<(), AllocError>
-    ensures { let v = view context.now in OnOk result (ids.new.items
-        ≡ map id_of_ref (refs_from v (span_in v leaf.now))) }
+// Puts the ids of a span and its ancestors, from the root on, into an empty list.
+#[inline(always)]
+fn fill_from(ids: &mut Vec<Id>, leaf: &SpanRef<'_>) -> Result<(), AllocError>
+    requires { ids.old.items ≡ [] }
+    ensures { OnOk result (ids.new.items ≡ reverse (ids_up (plain_ref leaf.now))) }
 {
-    ids.clear();
-    let Some(scope) = context.span_scope(leaf) else {
-        return Ok(());
-    };
-    for span in scope {
+    for span in leaf.scope() {
         ids.push(span.id())?;
     }
+    ids.reverse();
     Ok(())
 }
 
-// The span of the lane, of those that are seen.
-fn lane_leaf(context: &Context<'_>) -> Option<Id>
-    ensures { result ≡ option_map id_of (lane_span (view context.now)) }
+// Puts the ids of the spans that the lane is in, from the root on, into an empty list.
+#[inline(never)]
+fn fill_from_lane(context: &Context<'_>, ids: &mut Vec<Id>) -> Result<(), AllocError>
+    requires { ids.old.items ≡ [] }
+    ensures { let v = view context.now in OnOk result (ids.new.items
+        ≡ reverse (ids_to (option_map (ref_in v) (lane_span v)))) }
 {
     match context.lookup_current() {
-        None => None,
-        Some(span) => Some(span.id()),
+        None => Ok(()),
+        Some(span) => fill_from(ids, &span),
     }
 }
 
-// The span that the event stands in, or else the span of the lane.
-fn loose_leaf(context: &Context<'_>, stands_in: Option<Id>) -> Option<Id>
-    ensures { result ≡ first_id stands_in (option_map id_of (lane_span (view context.now))) }
+// The id of a span. The proof sees by this call that it isn't 0.
+fn id_of(span: &SpanRef<'_>) -> Id
+    ensures same { result ≡ (plain_ref span.now).span.kin.id }
+    ensures number { 0 < result }
 {
-    match stands_in {
-        Some(id) => Some(id),
-        None => lane_leaf(context),
-    }
-}
-
-// The span that the event stands in, of those that are seen.
-fn event_leaf(context: &Context<'_>, event: &Event<'_, '_>) -> Option<Id>
-    ensures span { result ≡ option_map id_of (event_span (view context.now) (plain_event event.now).parent) }
-    ensures number { IfSome result (λ id. 0 < id) }
-{
-    match context.event_span(event) {
-        None => None,
-        Some(span) => Some(span.id()),
-    }
-}
-
-// Puts the ids of a span and its ancestors, from the root on, in place of what the list held.
-fn fill_to(context: &Context<'_>, ids: &mut Vec<Id>, leaf: Option<Id>) -> Result<(), AllocError>
-    ensures { let v = view context.now in OnOk result (ids.new.items ≡ reverse (ids_from v leaf)) }
-{
-    match leaf {
-        None => ids.clear(),
-        Some(id) => {
-            fill_from(context, ids, &id)?;
-            ids.reverse();
-        }
-    }
-    Ok(())
+    span.id()
 }
 
 /// Puts the ids of the spans that a line of the event may show, from the root on, in place of what the list held.
@@ -169,8 +143,16 @@ pub fn fill_scope(
     ensures shown { IfOk result (λ stands_in.
         ShowsScope (view context.now) (plain_event event.now).parent ids.new.items stands_in) }
 {
-    let stands_in = event_leaf(context, event);
-    let leaf = loose_leaf(context, stands_in);
-    fill_to(context, ids, leaf)?;
-    Ok(stands_in.is_some())
+    ids.clear();
+    match context.event_span(event) {
+        None => {
+            fill_from_lane(context, ids)?;
+            Ok(false)
+        }
+        Some(span) => {
+            let _id = id_of(&span);
+            fill_from(ids, &span)?;
+            Ok(true)
+        }
+    }
 }

@@ -28,6 +28,7 @@ impl<N: FormatFields, E: FormatEvent, W: MakeWriter> Layer<N, E, W> {
     }
 
     /// A span was made.
+    #[inline(never)]
     pub(crate) fn hear_new(
         &mut self,
         context: &mut Context<'_>,
@@ -57,6 +58,7 @@ impl<N: FormatFields, E: FormatEvent, W: MakeWriter> Layer<N, E, W> {
     }
 
     /// Values were recorded on a span.
+    #[inline(never)]
     pub(crate) fn hear_record(&mut self, context: &mut Context<'_>, span: &Id, values: &Record<'_>)
         ensures lent { SameLoan context.old context.new }
         ensures told { HearsRecord ⟦<N as FormatFields>⟧ self.old (view context.old) span.now
@@ -77,6 +79,7 @@ impl<N: FormatFields, E: FormatEvent, W: MakeWriter> Layer<N, E, W> {
     }
 
     /// A span was entered.
+    #[inline(never)]
     pub(crate) fn hear_enter(&mut self, context: &mut Context<'_>, span: &Id)
         ensures lent { SameLoan context.old context.new }
         ensures told { HearsEnter ⟦<N as FormatFields>⟧ E.line_of W.writes self.old (view context.old) span.now
@@ -87,6 +90,7 @@ impl<N: FormatFields, E: FormatEvent, W: MakeWriter> Layer<N, E, W> {
     }
 
     /// A span was left.
+    #[inline(never)]
     pub(crate) fn hear_exit(&mut self, context: &mut Context<'_>, span: &Id)
         ensures lent { SameLoan context.old context.new }
         ensures told { HearsExit ⟦<N as FormatFields>⟧ E.line_of W.writes self.old (view context.old) span.now
@@ -97,6 +101,7 @@ impl<N: FormatFields, E: FormatEvent, W: MakeWriter> Layer<N, E, W> {
     }
 
     /// A span closes.
+    #[inline(never)]
     pub(crate) fn hear_close(&mut self, context: &mut Context<'_>, span: &Id)
         ensures lent { SameLoan context.old context.new }
         ensures told { HearsClose ⟦<N as FormatFields>⟧ E.line_of W.writes self.old (view context.old) span.now

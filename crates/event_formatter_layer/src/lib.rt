@@ -11,6 +11,3 @@ mod threads;
 mod told;
 
 pub use layer::Layer;
-
-#[cfg(test)]
-mod tests;

@@ -215,7 +215,6 @@ fn push_tail<S: ShownSpans>(
 /// # Errors
 ///
 /// A value that can't be formatted, or want of memory. What was appended before is to be dropped.
-#[tactic(auto, using(crate::proofs::Framing::framed, crate::proofs::Framing::refused))]
 pub fn push_compact_line<S: ShownSpans, F: FormatFields, R: RecordFields>(
     alloc: Global,
     out: &mut String,

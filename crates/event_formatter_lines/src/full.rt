@@ -2,7 +2,7 @@
 ghost use Rattle.std.specs.Prelude.{◌≡◌, ◌<◌, ◌++◌, OnOk, codes, length, string_bytes};
 ghost use Rattle.std.specs.Fmt.{decimal};
 ghost use Rattle.std.specs.List.{flat_map};
-ghost use Rattle.std.specs.Option.{option_map};
+ghost use Rattle.std.specs.Option.{is_some, option_map};
 ghost use Rattle.event_formatter_text.specs.Lists.{Formats};
 ghost use Rattle.event_formatter_text.specs.Styles.{dimmed};
 ghost use Rattle.event_formatter_lines.specs.Full.{braced, file_piece, full_head, full_line, line_piece, span_piece, spans_text, target_piece};
@@ -82,8 +82,12 @@ fn push_each_span<S: ShownSpans>(
     Ok(())
 }
 
-// Appends the spans, and a space where there are any.
-fn push_spans<S: ShownSpans>(
+/// Appends the spans, and a space where there are any.
+///
+/// # Errors
+///
+/// Want of memory. What was appended before is to be dropped.
+pub fn push_spans<S: ShownSpans>(
     out: &mut String,
     settings: Settings,
     spans: &S,
@@ -110,9 +114,17 @@ fn push_colon(out: &mut String, settings: Settings) -> Result<(), AllocError>
     out.push(' ')
 }
 
-// Appends the target, and a colon.
+/// Appends the target, where there is one, a colon and a space.
+///
+/// # Errors
+///
+/// Want of memory. What was appended before is to be dropped.
 #[inline(always)]
-fn push_target(out: &mut String, settings: Settings, target: Option<&str>) -> Result<(), AllocError>
+pub fn push_target(
+    out: &mut String,
+    settings: Settings,
+    target: Option<&str>,
+) -> Result<(), AllocError>
     ensures { OnOk result (string_bytes out.new ≡ string_bytes out.old
         ++ target_piece settings (option_map (λ text. text.now) target.entry)) }
 {
@@ -178,6 +190,24 @@ fn push_line(out: &mut String, settings: Settings, line: Option<u32>) -> Result<
     };
     push_dimmed_number(out, settings, line)?;
     out.push(' ')
+}
+
+/// Appends the file and the line's number, where they are known, and a space.
+///
+/// # Errors
+///
+/// Want of memory. What was appended before is to be dropped.
+pub fn push_place(
+    out: &mut String,
+    settings: Settings,
+    file: Option<&str>,
+    line: Option<u32>,
+) -> Result<(), AllocError>
+    ensures { OnOk result (string_bytes out.new ≡ string_bytes out.old
+        ++ (file_piece settings (is_some line) (option_map (λ text. text.now) file.entry) ++ line_piece settings line)) }
+{
+    push_file(out, settings, file, line.is_some())?;
+    push_line(out, settings, line)
 }
 
 /// Appends what stands before an event's fields: time, level, thread, the spans with their texts, target, file and line.

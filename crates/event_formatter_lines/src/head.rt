@@ -75,9 +75,13 @@ fn push_plain_level(out: &mut String, level: Level) -> Result<(), AllocError>
 }
 
 /// Appends the level, where there is one, and a space.
+///
+/// # Errors
+///
+/// Want of memory. What was appended before is to be dropped.
 #[inline(always)]
 #[tactic(auto, unfolding(event_formatter_text::specs::Styles::styled))]
-pub(crate) fn push_level(
+pub fn push_level(
     out: &mut String,
     settings: Settings,
     level: Option<Level>,

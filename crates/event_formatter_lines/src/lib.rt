@@ -14,8 +14,8 @@ mod shown;
 
 pub use compact::{push_compact_head, push_compact_line};
 pub use fmt_span::FmtSpan;
-pub use full::{push_full_head, push_full_line};
-pub use head::Head;
+pub use full::{push_full_head, push_full_line, push_place, push_spans, push_target};
+pub use head::{Head, push_level};
 pub use json::{JsonShape, push_json_line};
 pub use laws::{
     json_fields_keep_objects, json_lines_end_once, lines_are_json, spans_extend_objects,
@@ -23,6 +23,3 @@ pub use laws::{
 pub use place::{Place, Thread};
 pub use pretty::push_pretty_line;
 pub use shown::{ShownSpan, ShownSpans};
-
-#[cfg(test)]
-mod tests;

@@ -18,6 +18,3 @@ pub use new_span::keep_new;
 pub use reading::kept_text;
 pub use recorded::add_record;
 pub use timings::{TimingStep, step_timings};
-
-#[cfg(test)]
-mod tests;

@@ -1,13 +1,16 @@
 -- Texts as JSON strings.
-use Rattle.std.proofs.Common.{arith, ◌≡◌, ◌<◌, ◌≤◌, ◌+◌, ◌/◌, ◌%◌, ℕ, zero, suc, Bool, true, false, ◌==◌, ◌&&◌, nat_lt, if◌then◌else◌, List, [], ◌∷◌, ◌++◌, inl, inr, refl}
+use Rattle.std.proofs.Common.{arith, ◌≡◌, ◌<◌, ◌≤◌, ◌+◌, ◌/◌, ◌%◌, ℕ, zero, suc, Bool, true, false, ◌==◌, ◌&&◌, nat_lt, if◌then◌else◌, List, [], ◌∷◌, ◌++◌, codes, inl, inr, refl, sym, ap, ◌∙◌, append_assoc}
 use Rattle.std.proofs.lemmas.Bool.{and_parts, cases_eq, cases_lt}
 use Rattle.std.proofs.lemmas.Bool.Decides.{nat_tests}
+use Rattle.std.specs.Cmp.Lexicographic.{bytes_decides}
 use Rattle.std.specs.Fmt.{digits}
 use Rattle.std.specs.List.{flat_map}
 use Rattle.std.specs.Str.{chars}
 use lib.Utf8.{encode}
-use Rattle.event_formatter_text.specs.Escapes.{escaped, json_char}
+use Rattle.event_formatter_text.specs.Escapes.{escaped, json_char, json_string}
+use Rattle.event_formatter_text.specs.FieldTexts.{is_message, plain_name}
 use Rattle.event_formatter_text.specs.IsJson.{StringPart, Anywhere, BehindBackslash, InCode, is_escape, is_hex_digit, is_inside, is_itself}
+use Rattle.event_formatter_text.specs.Lists.{further}
 
 both_true : (a b c : Bool) → (a && b) ≡ true → (b ≡ true → c ≡ true) → (a && c) ≡ true
 both_true false b c e f = e
@@ -83,3 +86,24 @@ chars_inside (c ∷ cs) = inside_append Anywhere (json_char c) (flat_map json_ch
 pub text_inside : (text : List ℕ) → is_inside Anywhere (escaped json_char text) ≡ true
 unfolding escaped
 text_inside text = chars_inside (chars text)
+
+-- the key of a message, a colon, and the quote that begins its text
+pub message_key : (name : List ℕ) → is_message name ≡ true → json_string (plain_name name) ++ codes ":\"" ≡ codes "\"message\":\""
+unfolding json_string escaped json_char encode chars plain_name
+message_key name same = rw ((bytes_decides name (codes "message")).0 same) refl
+
+-- what is appended to a piece
+further_more : (separator a b c : List ℕ) (is_first : Bool) → further separator is_first (a ++ (b ++ c)) ≡ further separator is_first (a ++ b) ++ c
+further_more separator a b c true = sym (append_assoc a b c)
+further_more separator a b c false = ap (λ (t : List ℕ). separator ++ t) (sym (append_assoc a b c)) ∙ sym (append_assoc separator (a ++ b) c)
+
+-- a key and a colon, and then a quote
+pub text_key : (key : List ℕ) (is_first : Bool) → further (codes ",") is_first (key ++ codes ":\"") ≡ further (codes ",") is_first (key ++ codes ":") ++ codes "\""
+text_key key is_first = further_more (codes ",") key (codes ":") (codes "\"") is_first
+
+-- a key, a colon and a quote, and then the text
+pub text_member : (key text : List ℕ) (is_first : Bool) → further (codes ",") is_first (key ++ codes ":" ++ json_string text) ≡ further (codes ",") is_first (key ++ codes ":\"") ++ (escaped json_char text ++ codes "\"")
+unfolding json_string
+text_member key text is_first =
+    ap (λ (t : List ℕ). further (codes ",") is_first t) (append_assoc key (codes ":") (json_string text))
+    ∙ further_more (codes ",") key (codes ":\"") (escaped json_char text ++ codes "\"") is_first

@@ -1,4 +1,5 @@
 mod Plain
+mod Shown
 pub mod Visiting
 mod Lending
 mod Putting

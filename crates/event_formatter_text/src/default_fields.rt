@@ -57,7 +57,7 @@ impl FormatFields for DefaultFields {
         let mut more = current.begin_more(alloc)?;
         let mut writer = Writer::with_settings(&mut more, current.settings());
         self.format_fields(alloc, &mut writer, fields)?;
-        current.push_more(more.as_str())?;
+        current.add_more(more)?;
         Ok(())
     }
 }

@@ -1,11 +1,11 @@
 //! Texts with some of their characters written out.
 //!
-//! Most texts have no such character. So their bytes are looked at first, in a loop without branches, and a text that
-//! has none is appended as it is.
+//! Most texts have no such character. So their bytes are looked at first, those of a longer text in a loop without branches, and a text
+//! that has none is appended as it is.
 ghost use Rattle.std.specs.Prelude.{◌≡◌, ◌++◌, OnOk, codes, string_bytes};
 ghost use Rattle.std.specs.List.{list_any};
 ghost use Rattle.tracing_core_fields.specs.Quoted.{quoted, quoted_char};
-ghost use Rattle.event_formatter_text.specs.Escapes.{escaped, is_special, json_char, json_string, sanitized, sanitized_char, written_char};
+ghost use Rattle.event_formatter_text.specs.Escapes.{escaped, is_special, json_char, json_string, sanitized_char, written_char};
 
 use std::alloc::AllocError;
 
@@ -20,8 +20,12 @@ pub(crate) enum Escape {
     Quoted,
 }
 
-// Below so many bytes a text is looked at byte by byte.
+// A text of fewer bytes is short. It is looked at up to its first byte that may be written out.
 const SHORT: usize = 16;
+
+// Of a longer text the part whose length is a multiple of this goes through a loop that the compiler can do in wide steps. What is left
+// of it is looked at as a short text.
+const AT_ONCE: usize = 8;
 
 // Whether a byte may be part of a character that is written out.
 #[inline(always)]
@@ -45,23 +49,29 @@ fn is_special_byte(escape: Escape, byte: u8) -> bool
     match escape {
         Escape::Sanitized if byte < 0x7f => byte < 0x20,
         Escape::Sanitized => byte == 0x7f || byte == 0xc2,
-        Escape::Json | Escape::Quoted if byte <= b'"' => byte < 0x20 || byte == b'"',
-        Escape::Json => byte == b'\\',
+        Escape::Json if byte > b'\\' => false,
+        Escape::Json => byte == b'\\' || byte < 0x20 || byte == b'"',
+        Escape::Quoted if byte <= b'"' => byte < 0x20 || byte == b'"',
         Escape::Quoted => byte == b'\\' || byte == 0x7f || byte == 0xc2,
     }
 }
 
-// The same of a short text, up to the first such byte.
+// The same of a short text, two bytes at a time, up to the first such byte.
 #[inline(always)]
 fn has_special_near(escape: Escape, bytes: &[u8]) -> bool
     ensures { result ≡ list_any (is_special escape) bytes.now }
 {
-    for byte in bytes {
-        if is_special_byte(escape, *byte) {
+    let mut rest = bytes;
+    while let [first, second, later @ ..] = rest {
+        if is_special_byte(escape, *first) || is_special_byte(escape, *second) {
             return true;
         }
+        rest = later;
     }
-    false
+    match rest {
+        [last, ..] => is_special_byte(escape, *last),
+        [] => false,
+    }
 }
 
 // The same of a long text, without branches, so that the compiler looks at many bytes at once.
@@ -76,16 +86,16 @@ fn has_special_far(escape: Escape, bytes: &[u8]) -> bool
     found
 }
 
-// Whether some byte may be part of a character that is written out.
+/// Whether some byte may be part of a character that is written out.
 #[inline(always)]
-fn has_special(escape: Escape, bytes: &[u8]) -> bool
+pub(crate) fn has_special(escape: Escape, bytes: &[u8]) -> bool
     ensures { result ≡ list_any (is_special escape) bytes.now }
 {
     if bytes.len() < SHORT {
-        has_special_near(escape, bytes)
-    } else {
-        has_special_far(escape, bytes)
+        return has_special_near(escape, bytes);
     }
+    let (whole, rest) = bytes.split_at(bytes.len() - bytes.len() % AT_ONCE);
+    has_special_far(escape, whole) || has_special_near(escape, rest)
 }
 
 #[tactic(auto, unfolding(crate::specs::Escapes::sanitized_char))]
@@ -156,9 +166,9 @@ fn push_char(out: &mut String, escape: Escape, c: char) -> Result<(), AllocError
     }
 }
 
-// Appends the text character by character.
+/// Appends the text character by character.
 #[inline(never)]
-fn push_each(out: &mut String, escape: Escape, text: &str) -> Result<(), AllocError>
+pub(crate) fn push_each(out: &mut String, escape: Escape, text: &str) -> Result<(), AllocError>
     ensures { OnOk result (string_bytes out.new ≡ string_bytes out.old ++ escaped (written_char escape) text.now) }
 {
     for c in text.chars() {
@@ -177,14 +187,6 @@ pub(crate) fn push_escaped(out: &mut String, escape: Escape, text: &str) -> Resu
     } else {
         out.push_str(text)
     }
-}
-
-/// Appends the text with the characters that steer a terminal written out.
-#[tactic(auto, unfolding(crate::specs::Escapes::sanitized))]
-pub(crate) fn push_sanitized(out: &mut String, text: &str) -> Result<(), AllocError>
-    ensures { OnOk result (string_bytes out.new ≡ string_bytes out.old ++ sanitized text.now) }
-{
-    push_escaped(out, Escape::Sanitized, text)
 }
 
 /// Appends what stands behind the first quote of the text as a JSON string, up to the last quote.

@@ -12,7 +12,7 @@ ghost use Rattle.event_formatter_text.specs.Lists.{Formats, further};
 ghost use Rattle.event_formatter_text.specs.Styles.{dimmed};
 
 use crate::error::FormatError;
-use crate::escape::{push_quoted, push_sanitized};
+use crate::escape::{Escape, has_special, push_each, push_quoted};
 use crate::settings::Settings;
 use crate::style::{push_dimmed, push_italic};
 use itoa::{Buffer, Integer};
@@ -102,15 +102,15 @@ pub(crate) fn push_bool(out: &mut String, truth: bool) -> Result<(), AllocError>
 }
 
 /// Appends a text as a message or an error shows it.
+#[inline(always)]
 #[tactic(auto, unfolding(crate::specs::FieldTexts::shown))]
 pub(crate) fn push_shown(out: &mut String, settings: Settings, text: &str) -> Result<(), AllocError>
     ensures { OnOk result (string_bytes out.new ≡ string_bytes out.old ++ shown settings text.now) }
 {
-    if settings.sanitizes {
-        push_sanitized(out, text)
-    } else {
-        out.push_str(text)
+    if settings.sanitizes && has_special(Escape::Sanitized, text.as_bytes()) {
+        return push_each(out, Escape::Sanitized, text);
     }
+    out.push_str(text)
 }
 
 // Appends the texts, `, ` before each.
@@ -179,6 +179,7 @@ fn push_label(
 }
 
 // Appends a text that was written before.
+#[inline(always)]
 fn push_own(
     out: &mut String,
     settings: Settings,
@@ -196,6 +197,7 @@ fn push_own(
 }
 
 // Appends a text: itself in a message, else between quotes.
+#[inline(always)]
 fn push_text(
     out: &mut String,
     settings: Settings,
@@ -273,6 +275,7 @@ fn push_bytes(out: &mut String, bytes: &[u8]) -> Result<(), AllocError>
 }
 
 // Appends what stands for a value; nothing for one that can't be formatted.
+#[inline(always)]
 fn push_value(
     out: &mut String,
     settings: Settings,
@@ -300,6 +303,7 @@ fn push_value(
 }
 
 /// Appends a field, behind the separator unless it is the first; nothing of one that can't be formatted.
+#[inline(always)]
 pub(crate) fn push_field(
     out: &mut String,
     settings: Settings,

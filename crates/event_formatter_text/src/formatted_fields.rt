@@ -95,6 +95,18 @@ impl FormattedFields {
         self.text.push_str(more)
     }
 
+    // The same of an owned text. Where there was none, it is kept as it is, without a copy.
+    pub(crate) fn add_more(&mut self, more: String) -> Result<(), AllocError>
+        ensures { plain_fields self.new ≡ (if is_ok result then (record (plain_fields self.old)
+            { text = (plain_fields self.old).text ++ string_bytes more }) else plain_fields self.old) }
+    {
+        if self.text.is_empty() {
+            self.text = more;
+            return Ok(());
+        }
+        self.push_more(more.as_str())
+    }
+
     /// A writer that appends to the text, with its settings.
     pub fn as_writer(&mut self) -> Writer<'_>
         ensures text { written result ≡ (plain_fields self.old).text }

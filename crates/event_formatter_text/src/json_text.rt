@@ -3,12 +3,13 @@ ghost use Rattle.std.specs.Prelude.{◌≡◌, ◌++◌, [], OnOk, codes, string
 ghost use Rattle.std.specs.Option.{option_map};
 ghost use Rattle.tracing_core_fields.specs.DebugText.{plain_debug};
 ghost use Rattle.event_formatter_text.specs.Escapes.{json_string};
+ghost use Rattle.event_formatter_text.specs.FieldTexts.{plain_name};
 ghost use Rattle.event_formatter_text.specs.JsonTexts.{json_piece, json_value, later_numbers, numbers_inside};
 ghost use Rattle.event_formatter_text.specs.Lists.{Formats, further};
 
 use crate::error::FormatError;
 use crate::escape::{push_json_rest, push_json_string};
-use crate::field_text::{plain_name, push_bool, push_number, push_unsigned};
+use crate::field_text::{is_message, plain_name, push_bool, push_number, push_unsigned};
 use itoa::Integer;
 use std::alloc::AllocError;
 use tracing_core_fields::DebugText;
@@ -77,23 +78,65 @@ pub(crate) fn push_json_value(out: &mut String, value: &DebugText<'_>) -> Result
     }
 }
 
-// Appends a key and a colon, behind a comma unless it is the first.
+// Appends a field's name as a key and a colon, behind a comma unless it is the first.
 #[inline(always)]
 #[tactic(auto, unfolding(crate::specs::Escapes::json_string))]
-fn push_key(out: &mut String, is_first: bool, key: &str) -> Result<(), AllocError>
+fn push_key(out: &mut String, is_first: bool, name: &str) -> Result<(), AllocError>
     ensures { OnOk result (string_bytes out.new ≡ string_bytes out.old
-        ++ further (codes ",") is_first (json_string key.now ++ codes ":")) }
+        ++ further (codes ",") is_first (json_string (plain_name name.now) ++ codes ":")) }
 {
     if is_first {
         out.push('"')?;
     } else {
         out.push_str(",\"")?;
     }
-    push_json_rest(out, key)?;
+    push_json_rest(out, plain_name(name))?;
     out.push(':')
 }
 
+// Appends the key of a message, a colon, and the quote that begins its text.
+#[inline(always)]
+fn push_message_key(out: &mut String, is_first: bool) -> Result<(), AllocError>
+    ensures { OnOk result (string_bytes out.new ≡ string_bytes out.old
+        ++ further (codes ",") is_first (codes "\"message\":\"")) }
+{
+    if is_first {
+        out.push_str("\"message\":\"")
+    } else {
+        out.push_str(",\"message\":\"")
+    }
+}
+
+// Appends a key, a colon, and the quote that begins a text. For a message, which most events have, they are one text.
+#[inline(always)]
+fn push_text_key(out: &mut String, is_first: bool, name: &str) -> Result<(), AllocError>
+    ensures { OnOk result (string_bytes out.new ≡ string_bytes out.old
+        ++ further (codes ",") is_first (json_string (plain_name name.now) ++ codes ":\"")) }
+{
+    if is_message(name) {
+        return push_message_key(out, is_first);
+    }
+    push_key(out, is_first, name)?;
+    out.push('"')
+}
+
+// Appends a field with a text as a member.
+#[inline(always)]
+fn push_text_member(
+    out: &mut String,
+    is_first: bool,
+    name: &str,
+    text: &str,
+) -> Result<(), AllocError>
+    ensures { OnOk result (string_bytes out.new ≡ string_bytes out.old
+        ++ further (codes ",") is_first (json_string (plain_name name.now) ++ codes ":" ++ json_string text.now)) }
+{
+    push_text_key(out, is_first, name)?;
+    push_json_rest(out, text)
+}
+
 /// Appends a field as a member, behind a comma unless it is the first; nothing of one that can't be formatted.
+#[inline(always)]
 pub(crate) fn push_member(
     out: &mut String,
     is_first: bool,
@@ -106,7 +149,11 @@ pub(crate) fn push_member(
     if matches!(value, DebugText::Failing) {
         return Err(FormatError::Failed);
     }
-    push_key(out, is_first, plain_name(name))?;
+    if let DebugText::Str(text) = value {
+        push_text_member(out, is_first, name, text)?;
+        return Ok(());
+    }
+    push_key(out, is_first, name)?;
     push_json_value(out, value)?;
     Ok(())
 }

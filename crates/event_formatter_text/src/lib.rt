@@ -40,6 +40,3 @@ pub use visitors::default::DefaultVisitor;
 pub use visitors::json::JsonVisitor;
 pub use visitors::pretty::PrettyVisitor;
 pub use writer::Writer;
-
-#[cfg(test)]
-mod tests;

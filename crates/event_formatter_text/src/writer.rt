@@ -122,6 +122,7 @@ impl<'w> Writer<'w> {
     }
 
     // Appends a field, behind the separator unless it is the first.
+    #[inline(always)]
     pub(crate) fn write_field(
         &mut self,
         punctuation: Punctuation,

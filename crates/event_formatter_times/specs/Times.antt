@@ -28,6 +28,10 @@ moment_text second nanoseconds =
     if is_date (day_at second) then (if nat_lt nanoseconds 1000000000 then Some (second_text second ++ fraction_text nanoseconds) else None)
     else None
 
+-- a second of the years 0 to 9999 as a time begins with it, behind which a point stands
+abbrev pub second_start : ℤ → Option (List ℕ)
+second_start second = if is_date (day_at second) then Some (second_text second ++ codes ".") else None
+
 -- the nanoseconds of a moment, from that of second 0
 abbrev pub total : ℤ → ℕ → ℤ
 total second nanoseconds = (second *ℤ pos 1000000000) +ℤ pos nanoseconds

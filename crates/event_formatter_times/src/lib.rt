@@ -17,6 +17,3 @@ pub use thread::{push_thread_id, push_thread_name};
 pub use timer::{FixedText, FormatTime};
 pub use timings::{timings_after_close, timings_after_enter, timings_after_exit, timings_at_start};
 pub use uptime::Uptime;
-
-#[cfg(test)]
-mod tests;

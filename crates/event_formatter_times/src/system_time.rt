@@ -1,8 +1,9 @@
 //! Moments as `YYYY-MM-DDTHH:MM:SS.ffffffZ`.
-ghost use Rattle.std.specs.Prelude.{◌≡◌, ◌<◌, ◌++◌, IfOk, OnOk, codes, string_bytes, true};
+ghost use Rattle.std.specs.Prelude.{◌≡◌, ◌<◌, ◌++◌, ◌/◌, IfOk, OnOk, codes, string_bytes, true};
 ghost use Rattle.tracing_appender_dates.specs.Days.{day_at, is_date};
 ghost use Rattle.tracing_appender_dates.specs.Stamps.{clock_at};
-ghost use Rattle.event_formatter_times.specs.Times.{clock_text, fraction_text, moment_text, second_text};
+ghost use Rattle.event_formatter_times.specs.Digits.{six_digits};
+ghost use Rattle.event_formatter_times.specs.Times.{TellsTime, clock_text, moment_text, second_start, second_text};
 
 use crate::digits::{push_six, push_two};
 use crate::timer::FormatTime;
@@ -15,12 +16,13 @@ const FIRST_DAY: i64 = -719_528;
 
 const LAST_DAY: i64 = 2_932_896;
 
-// A second with its text, kept since the next line is mostly of the same second.
+// A second of the years 0 to 9999 with its text and a point, kept since the next line is mostly of the same second.
 #[derive(Drop)]
 struct LastSecond {
     second: i64,
     text: String,
-    ghost right: { string_bytes text ≡ second_text second },
+    ghost dated: { is_date (day_at second) ≡ true },
+    ghost right: { string_bytes text ≡ second_text second ++ codes "." },
 }
 
 /// Writes moments as `YYYY-MM-DDTHH:MM:SS.ffffffZ`, in UTC; parts of a microsecond are cut off. A moment outside the
@@ -57,9 +59,8 @@ fn clock_of(second: i64) -> u32
     second.rem_euclid(86_400) as u32
 }
 
-// The second with its text.
+// The second with its text and a point.
 #[tactic(auto, unfolding(crate::specs::Times::second_text))]
-#[inline(never)]
 fn second_with_text(alloc: Global, second: i64) -> Result<LastSecond, AllocError>
     requires { is_date (day_at second) ≡ true }
     ensures { IfOk result (λ last. last.second ≡ second) }
@@ -67,15 +68,16 @@ fn second_with_text(alloc: Global, second: i64) -> Result<LastSecond, AllocError
     let mut text = date_text(alloc, second.div_euclid(86_400))?;
     text.push('T')?;
     push_clock(&mut text, clock_of(second))?;
+    text.push('.')?;
     Ok(LastSecond { second, text })
 }
 
-// Appends the microseconds and the sign of UTC.
+// Appends the microseconds and the sign of UTC. It stands apart, so that each of its pushes is inlined.
+#[inline(never)]
 fn push_fraction(out: &mut String, nanoseconds: u32) -> Result<(), AllocError>
     requires { nanoseconds < 1000000000 }
-    ensures { OnOk result (string_bytes out.new ≡ string_bytes out.old ++ fraction_text nanoseconds) }
+    ensures { OnOk result (string_bytes out.new ≡ string_bytes out.old ++ (six_digits (nanoseconds / 1000) ++ codes "Z")) }
 {
-    out.push('.')?;
     push_six(out, nanoseconds / 1000)?;
     out.push('Z')
 }
@@ -86,31 +88,50 @@ impl SystemTime {
         SystemTime { last: None }
     }
 
-    // Appends the text of the second, the last one where it is the same.
+    // Appends the text of a second that isn't the last one, and a point, and keeps both. It stands apart, as it is seldom
+    // needed.
+    #[inline(never)]
+    fn push_next_second(
+        &mut self,
+        alloc: Global,
+        out: &mut String,
+        second: i64,
+    ) -> Result<(), FormatError>
+        ensures { TellsTime (second_start second) (string_bytes out.old) result (string_bytes out.new) }
+    {
+        if !is_date_day(second.div_euclid(86_400)) {
+            return Err(FormatError::Failed);
+        }
+        let next = second_with_text(alloc, second)?;
+        out.push_str(next.text.as_str())?;
+        self.last = Some(next);
+        Ok(())
+    }
+
+    // Appends the text of the second and a point: the last one's where it is the same.
+    #[inline(always)]
     fn push_second(
         &mut self,
         alloc: Global,
         out: &mut String,
         second: i64,
-    ) -> Result<(), AllocError>
-        requires { is_date (day_at second) ≡ true }
-        ensures { OnOk result (string_bytes out.new ≡ string_bytes out.old ++ second_text second) }
+    ) -> Result<(), FormatError>
+        ensures { TellsTime (second_start second) (string_bytes out.old) result (string_bytes out.new) }
     {
-        if let Some(last) = &self.last {
-            if last.second == second {
-                return out.push_str(last.text.as_str());
+        match &self.last {
+            Some(last) if last.second == second => {
+                out.push_str(last.text.as_str())?;
+                Ok(())
             }
+            _ => self.push_next_second(alloc, out, second),
         }
-        let last = second_with_text(alloc, second)?;
-        out.push_str(last.text.as_str())?;
-        self.last = Some(last);
-        Ok(())
     }
 }
 
 impl FormatTime for SystemTime {
     ghost text_at = { λ timer s n. moment_text s n };
 
+    #[inline(never)]
     fn format_time(
         &mut self,
         alloc: Global,
@@ -118,7 +139,7 @@ impl FormatTime for SystemTime {
         seconds: i64,
         nanoseconds: u32,
     ) -> Result<(), FormatError> {
-        if nanoseconds >= 1_000_000_000 || !is_date_day(seconds.div_euclid(86_400)) {
+        if nanoseconds >= 1_000_000_000 {
             return Err(FormatError::Failed);
         }
         self.push_second(alloc, out, seconds)?;

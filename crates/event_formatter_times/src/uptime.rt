@@ -88,6 +88,7 @@ impl Uptime {
 impl FormatTime for Uptime {
     ghost text_at = { λ timer s n. Some (uptime_text (since (total timer.seconds timer.nanoseconds) (total s n))) };
 
+    #[inline(never)]
     fn format_time(
         &mut self,
         _alloc: Global,

@@ -20,6 +20,3 @@ pub use field_fn::{FieldFn, FieldFnVisitor, debug_fn};
 pub use make_visitor::{MakeExt, MakeOutput, MakeVisitor};
 pub use visit_output::{VisitFmt, VisitOutput, VisitWrite};
 pub use write_field::{WriteField, WritePiece};
-
-#[cfg(test)]
-mod tests;

@@ -1,13 +1,25 @@
--- A callsite that is refused has a number that was noted.
+-- A callsite that is refused has a number and a level that were noted.
 use Rattle.std.proofs.Common.{◌≡◌, ℕ, zero, suc, Bool, true, false, List, [], ◌∷◌, ◌++◌, map, true≢false, refl, ap, sym, ◌∙◌, subst, ◌<◌, length, get_or, arith}
-use Rattle.std.specs.Prelude.{◌==◌, ◌&&◌, ◌||◌, if◌then◌else◌}
+use Rattle.std.specs.Prelude.{◌==◌, ◌&&◌, ◌||◌, not, nat_lt, if◌then◌else◌}
 use Rattle.std.specs.List.{list_any}
 use Rattle.std.proofs.lemmas.Bool.{and_parts, and_from, eqb-true, eq-eqb, false≢true}
 use Rattle.tracing_core_requests.specs.Interests.{PlainInterest, says_never}
 use Rattle.tracing_core_fields.specs.PlainMetadata.{PlainMetadata, is_same_metadata-decides}
-use Rattle.span_registry_layers_stack.specs.Refusals.{is_refusal_of}
+use Rattle.span_registry_layers_stack.specs.Refusals.{is_noted, is_refusal_of, may_refuse}
+use Rattle.span_registry_layers_stack.specs.declared.refusals.Refusals.{Refusals}
 use Rattle.span_registry_layers_stack.specs.Sites.{PlainCachedInterest, is_of, is_refused_by, plain_cached_interest, renewed}
 use Rattle.span_registry_layers_stack.specs.declared.cached_interest.CachedInterest.{CachedInterest}
+
+may_by : (a b x y : Bool) → (a ≡ false → b ≡ false) → (x ≡ true → y ≡ true) → (not a && x) ≡ true → (not b && y) ≡ true
+may_by true b x y lower more may = absurd (false≢true may)
+may_by false b x y lower more may = ap (λ (c : Bool). not c && y) (lower refl) ∙ more may
+
+-- a callsite that may refuse does so still, where what is noted and the least level allow it
+pub may_still : (r u : Refusals) (n level : ℕ) → (nat_lt level r.least ≡ false → nat_lt level u.least ≡ false) → (is_noted r n ≡ true → is_noted u n ≡ true) → may_refuse r n level ≡ true → may_refuse u n level ≡ true
+may_still r u n level lower more may = may_by (nat_lt level r.least) (nat_lt level u.least) (is_noted r n) (is_noted u n) lower more may
+
+pub may_now : (r : Refusals) (n level : ℕ) → nat_lt level r.least ≡ false → is_noted r n ≡ true → may_refuse r n level ≡ true
+may_now r n level lower noted = ap (λ (b : Bool). not b && is_noted r n) lower ∙ noted
 
 -- what is not true is false
 unless : (a : Bool) → (a ≡ true → false ≡ true) → a ≡ false
@@ -33,35 +45,43 @@ any_mapped : {A : Type 0} (f : A → Bool) (h : A → A) → ((x : A) → f x �
 any_mapped f h so [] e = refl
 any_mapped f h so (x ∷ xs) e = let both = both_false (f x) (list_any f xs) e in from_false (f (h x)) (list_any f (map h xs)) (so x both.0) (any_mapped f h so xs both.1)
 
-pub any_more : {A : Type 0} (f : A → Bool) (xs : List A) (x : A) → list_any f xs ≡ false → f x ≡ false → list_any f (xs ++ x ∷ []) ≡ false
-any_more f [] x e off = from_false (f x) false off refl
-any_more f (y ∷ ys) x e off = let both = both_false (f y) (list_any f ys) e in from_false (f y) (list_any f (ys ++ x ∷ [])) both.0 (any_more f ys x both.1 off)
+-- one more site that is none
+pub kept_more : (n level : ℕ) (sites : List CachedInterest) (site : CachedInterest) → list_any (is_refusal_of n level) (map plain_cached_interest sites) ≡ false → is_refusal_of n level (plain_cached_interest site) ≡ false → list_any (is_refusal_of n level) (map plain_cached_interest (sites ++ site ∷ [])) ≡ false
+kept_more n level [] site none off = from_false (is_refusal_of n level (plain_cached_interest site)) false off refl
+kept_more n level (first ∷ sites) site none off =
+    let both = both_false (is_refusal_of n level (plain_cached_interest first)) (list_any (is_refusal_of n level) (map plain_cached_interest sites)) none in
+    from_false (is_refusal_of n level (plain_cached_interest first)) (list_any (is_refusal_of n level) (map plain_cached_interest (sites ++ site ∷ []))) both.0 (kept_more n level sites site both.1 off)
 
--- a site that refuses a callsite does so by its number
-site_refuses : (m : PlainMetadata) (site : PlainCachedInterest) → is_refused_by m site ≡ true → is_refusal_of m.callsite site ≡ true
+-- a site that refuses a callsite does so by its number and level
+site_refuses : (m : PlainMetadata) (site : PlainCachedInterest) → is_refused_by m site ≡ true → is_refusal_of m.callsite m.level site ≡ true
 site_refuses m site e =
     let parts = and_parts (says_never site.interest) (is_of m site) e in
-    and_from (says_never site.interest) (site.metadata.callsite == m.callsite) parts.0 (eq-eqb site.metadata.callsite m.callsite (ap (λ (x : PlainMetadata). x.callsite) ((is_same_metadata-decides site.metadata m).0 parts.1)))
+    let same : site.metadata ≡ m = (is_same_metadata-decides site.metadata m).0 parts.1 in
+    let number : (site.metadata.callsite == m.callsite) ≡ true = eq-eqb site.metadata.callsite m.callsite (ap (λ (x : PlainMetadata). x.callsite) same) in
+    let level : (site.metadata.level == m.level) ≡ true = eq-eqb site.metadata.level m.level (ap (λ (x : PlainMetadata). x.level) same) in
+    and_from (says_never site.interest) (site.metadata.callsite == m.callsite && site.metadata.level == m.level) parts.0
+    (and_from (site.metadata.callsite == m.callsite) (site.metadata.level == m.level) number level)
 
-pub nobody_refuses : (m : PlainMetadata) (sites : List PlainCachedInterest) → list_any (is_refusal_of m.callsite) sites ≡ false → list_any (is_refused_by m) sites ≡ false
-nobody_refuses m sites = any_none (is_refused_by m) (is_refusal_of m.callsite) (λ site. untrue (is_refused_by m site) (is_refusal_of m.callsite site) (site_refuses m site)) sites
+pub nobody_refuses : (m : PlainMetadata) (sites : List PlainCachedInterest) → list_any (is_refusal_of m.callsite m.level) sites ≡ false → list_any (is_refused_by m) sites ≡ false
+nobody_refuses m sites = any_none (is_refused_by m) (is_refusal_of m.callsite m.level) (λ site. untrue (is_refused_by m site) (is_refusal_of m.callsite m.level site) (site_refuses m site)) sites
 
--- an interest at a number that is noted where it is a refusal is none of a number that isn't noted
-pub apart : (k : PlainInterest) (may : ℕ → Bool) (c n : ℕ) → (says_never k ≡ true → may c ≡ true) → may n ≡ false → (says_never k && (c == n)) ≡ false
-apart k may c n noted off = unless (says_never k && (c == n)) (λ e.
-    let parts = and_parts (says_never k) (c == n) e in
-    sym off ∙ ap may (sym (eqb-true c n parts.1)) ∙ noted parts.0)
+-- an interest at a number and a level that are noted where it is a refusal is none of those that aren't noted
+pub apart : (k : PlainInterest) (may : ℕ → ℕ → Bool) (c l n level : ℕ) → (says_never k ≡ true → may c l ≡ true) → may n level ≡ false → (says_never k && (c == n && l == level)) ≡ false
+apart k may c l n level noted off = unless (says_never k && (c == n && l == level)) (λ e.
+    let parts = and_parts (says_never k) (c == n && l == level) e in
+    let both = and_parts (c == n) (l == level) parts.1 in
+    sym off ∙ ap (λ (x : ℕ). may x level) (sym (eqb-true c n both.0)) ∙ ap (may c) (sym (eqb-true l level both.1)) ∙ noted parts.0)
 
-renewed_by : (b : Bool) (m : PlainMetadata) (k : PlainInterest) (n : ℕ) (site : PlainCachedInterest) → is_of m site ≡ b → (says_never k && (m.callsite == n)) ≡ false → is_refusal_of n site ≡ false → is_refusal_of n (renewed m k site) ≡ false
-renewed_by true m k n site is off old =
-    let same : site.metadata.callsite ≡ m.callsite = ap (λ (x : PlainMetadata). x.callsite) ((is_same_metadata-decides site.metadata m).0 is) in
-    subst (λ (b : Bool). is_refusal_of n (if b then record site { interest = k } else site) ≡ false) (sym is)
-    (ap (λ (c : ℕ). says_never k && (c == n)) same ∙ off)
-renewed_by false m k n site is off old =
-    subst (λ (b : Bool). is_refusal_of n (if b then record site { interest = k } else site) ≡ false) (sym is) old
+renewed_by : (b : Bool) (m : PlainMetadata) (k : PlainInterest) (n level : ℕ) (site : PlainCachedInterest) → is_of m site ≡ b → (says_never k && (m.callsite == n && m.level == level)) ≡ false → is_refusal_of n level site ≡ false → is_refusal_of n level (renewed m k site) ≡ false
+renewed_by true m k n level site is off old =
+    let same : site.metadata ≡ m = (is_same_metadata-decides site.metadata m).0 is in
+    subst (λ (b : Bool). is_refusal_of n level (if b then record site { interest = k } else site) ≡ false) (sym is)
+    (ap (λ (x : PlainMetadata). says_never k && (x.callsite == n && x.level == level)) same ∙ off)
+renewed_by false m k n level site is off old =
+    subst (λ (b : Bool). is_refusal_of n level (if b then record site { interest = k } else site) ≡ false) (sym is) old
 
-pub none_renewed : (m : PlainMetadata) (k : PlainInterest) (n : ℕ) (sites : List PlainCachedInterest) → (says_never k && (m.callsite == n)) ≡ false → list_any (is_refusal_of n) sites ≡ false → list_any (is_refusal_of n) (map (renewed m k) sites) ≡ false
-none_renewed m k n sites off e = any_mapped (is_refusal_of n) (renewed m k) (λ site. renewed_by (is_of m site) m k n site refl off) sites e
+pub none_renewed : (m : PlainMetadata) (k : PlainInterest) (n level : ℕ) (sites : List PlainCachedInterest) → (says_never k && (m.callsite == n && m.level == level)) ≡ false → list_any (is_refusal_of n level) sites ≡ false → list_any (is_refusal_of n level) (map (renewed m k) sites) ≡ false
+none_renewed m k n level sites off e = any_mapped (is_refusal_of n level) (renewed m k) (λ site. renewed_by (is_of m site) m k n level site refl off) sites e
 
 or_later : (a b : Bool) → b ≡ true → (a || b) ≡ true
 or_later true b e = refl

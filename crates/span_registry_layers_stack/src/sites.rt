@@ -80,8 +80,8 @@ impl Model for Sites {
 
     ghost view = { λ s. map plain_cached_interest s.sites.items };
 
-    ghost invariant = { λ s. (n : ℕ) → may_refuse s.refusals n ≡ false →
-        list_any (is_refusal_of n) (map plain_cached_interest s.sites.items) ≡ false };
+    ghost invariant = { λ s. (n level : ℕ) → may_refuse s.refusals n level ≡ false →
+        list_any (is_refusal_of n level) (map plain_cached_interest s.sites.items) ≡ false };
 }
 
 impl Sites {
@@ -95,15 +95,15 @@ impl Sites {
     }
 
     // Whether it was kept that nobody is interested in the callsite.
+    #[inline(always)]
     pub(crate) fn refuse(&self, metadata: &Metadata<'_>) -> bool
         ensures { result ≡ list_any (is_refused_by (plain_metadata metadata.now)) self.now }
     {
-        let number = metadata.callsite().0;
-        if !self.refusals.may_refuse(number) {
+        if !self.refusals.may_refuse(metadata) {
             return false;
         }
-        refuses_at(&self.sites, self.refusals.index_of(number), metadata)
-            || refuse(&self.sites, metadata)
+        let index = self.refusals.index_of(metadata.callsite().0);
+        refuses_at(&self.sites, index, metadata) || refuse(&self.sites, metadata)
     }
 
     // Keeps the interest, where there is room, and answers whether it is kept.
@@ -115,21 +115,22 @@ impl Sites {
     ) -> bool
         ensures { KeepsInterest result (plain_metadata metadata.now) interest self.old self.new }
     {
-        let number = metadata.callsite().0;
         if is_kept(&self.sites, metadata) {
-            self.refusals.note(number, 0, interest);
+            self.refusals.note(metadata, 0, interest);
             renew(&mut self.sites, metadata, interest);
             return true;
         }
-        let Ok(metadata) = OwnedMetadata::new(alloc, metadata) else {
+        let Ok(copy) = OwnedMetadata::new(alloc, metadata) else {
             return false;
         };
         if self.sites.reserve(1).is_err() {
             return false;
         }
-        self.refusals.note(number, self.sites.len(), interest);
-        self.sites
-            .push_reserved(CachedInterest { metadata, interest });
+        self.refusals.note(metadata, self.sites.len(), interest);
+        self.sites.push_reserved(CachedInterest {
+            metadata: copy,
+            interest,
+        });
         true
     }
 }

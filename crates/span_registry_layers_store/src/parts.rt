@@ -57,7 +57,7 @@ fn id_after(id: u64) -> Option<Id>
 }
 
 /// Whether the filter, where there is one, passed the span.
-fn is_seen(span: &Span, filter: Option<FilterId>) -> bool
+pub(crate) fn is_seen(span: &Span, filter: Option<FilterId>) -> bool
     ensures { result ≡ sees (mask_of filter) (plain_span span.now) }
 {
     match filter {

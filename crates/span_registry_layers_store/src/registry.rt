@@ -11,7 +11,7 @@ ghost use Rattle.span_registry_layers_store.specs.Keeping.{InsertsSlot, RemovesS
 ghost use Rattle.span_registry_layers_store.specs.Lanes.{lane_at};
 ghost use Rattle.span_registry_layers_store.specs.SlotLoans.{LendsSlots, slots_of};
 ghost use Rattle.span_registry_layers_store.specs.Lookups.{plain_data};
-ghost use Rattle.span_registry_layers_store.specs.Registries.{current_on, kin_in, new_registry, swept, without_entry};
+ghost use Rattle.span_registry_layers_store.specs.Registries.{current_on, kin_in, new_registry, plain_span, swept, without_entry};
 ghost use Rattle.span_registry_layers_store.specs.References.{plain_ref, ref_of};
 ghost use Rattle.span_registry_layers_store.specs.Slots.{plain_slot};
 ghost use Rattle.span_registry_layers_store.specs.Spans.{found, handles_of, is_open, parent_of};
@@ -24,6 +24,7 @@ use crate::kept_metadata::KeptMetadata;
 use crate::lookup::Data;
 use crate::parts::RegistryParts;
 use crate::slot::{InsertError, OutputKey, Slot, Tag};
+use crate::span::Span;
 use crate::span_ref::SpanRef;
 use crate::spans::Spans;
 use crate::table::RegistryTable;
@@ -284,6 +285,14 @@ impl Registry {
                 filter,
             }),
         }
+    }
+
+    /// An open span, seen or not.
+    #[inline(always)]
+    pub(crate) fn open_span(&self, span: &Id) -> Option<&Span>
+        ensures { option_map (λ s. plain_span s.now) result ≡ found kin_in self.now.spans span.now }
+    {
+        self.parts.spans.find(*span)
     }
 
     /// The parent of a span, where it is open and has one.

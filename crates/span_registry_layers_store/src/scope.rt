@@ -1,11 +1,17 @@
 //! A span and its ancestors, as a filter sees them.
 
-ghost use Rattle.std.specs.Prelude.{◌≡◌, [], ◌∷◌, IfOk, MatchOption, reverse};
+ghost use Rattle.std.specs.Prelude.{◌≡◌, ◌<◌, [], ◌∷◌, IfOk, MatchOption, option_and_then, reverse};
 ghost use Rattle.std.specs.Iterator.{YieldsFirstBy};
-ghost use Rattle.span_registry_layers_store.specs.References.{Steps, plain_ref, root_left, scope_left};
+ghost use Rattle.std.specs.Option.{option_map};
+ghost use Rattle.span_registry_layers_store.specs.References.{Steps, ids_left, plain_ref, ref_of, root_left, scope_left};
+ghost use Rattle.span_registry_layers_store.specs.Registries.{kin_in, plain_span};
+ghost use Rattle.span_registry_layers_store.specs.Spans.{found};
+ghost use Rattle.span_registry_layers_store.specs.Views.{mask_of, seen_if};
 
 use crate::filter_map::FilterId;
+use crate::parts::is_seen;
 use crate::registry::Registry;
+use crate::span::Span;
 use crate::span_ref::SpanRef;
 use std::alloc::{AllocError, Global};
 use tracing_core_fields::Id;
@@ -19,6 +25,17 @@ pub struct Scope<'a> {
     /// How many more there are at most: a parent's id is below that of its child.
     pub(crate) most: u64,
     pub(crate) filter: Option<FilterId>,
+}
+
+// The parent of a span, where there is one.
+#[inline(always)]
+fn parent_in(span: Option<&Span>) -> Option<Id>
+    ensures { result ≡ option_and_then (λ s. (kin_in s).parent) (option_map (λ s. plain_span s.now) span.entry) }
+{
+    match span {
+        None => None,
+        Some(span) => span.kin.parent,
+    }
 }
 
 impl<'a> Scope<'a> {
@@ -39,12 +56,58 @@ impl<'a> Scope<'a> {
         }
     }
 
+    // The next id, seen or not, with its span, where that is open. It is looked for but once.
+    #[inline(always)]
+    fn step_to(&mut self) -> Option<(Id, Option<&'a Span>)>
+        ensures same { (self.new.registry ≡ self.old.registry) × (self.new.filter ≡ self.old.filter) }
+        ensures step { MatchOption result ((ids_left self.old ≡ []) × (ids_left self.new ≡ [])) (λ p.
+            (ids_left self.old ≡ p.0 ∷ ids_left self.new)
+            × (option_map (λ s. plain_span s.now) p.1 ≡ found kin_in self.old.registry.now.spans p.0)
+            × (self.new.most < self.old.most)) }
+    {
+        if self.most == 0 {
+            return None;
+        }
+        match self.next {
+            None => None,
+            Some(here) => {
+                let span = self.registry.open_span(&here);
+                self.most -= 1;
+                self.next = parent_in(span);
+                Some((here, span))
+            }
+        }
+    }
+
+    // The span, where it is open and seen.
+    #[inline(always)]
+    fn seen_of(&self, span: Option<&'a Span>) -> Option<SpanRef<'a>>
+        ensures { let mask = mask_of self.now.filter in option_map plain_ref result
+            ≡ option_map (ref_of self.now.registry.now mask) (seen_if mask (option_map (λ s. plain_span s.now) span.entry)) }
+    {
+        match span {
+            None => None,
+            Some(span) => {
+                if is_seen(span, self.filter) {
+                    Some(SpanRef {
+                        registry: self.registry,
+                        span,
+                        filter: self.filter,
+                    })
+                } else {
+                    None
+                }
+            }
+        }
+    }
+
     // The next span that is seen.
     fn advance(&mut self) -> Option<SpanRef<'a>>
         ensures { YieldsFirstBy plain_ref scope_left self.old result self.new }
     {
-        while let Some(here) = self.step() {
-            if let Some(span) = self.registry.span_under(&here, self.filter) {
+        while let Some((here, found)) = self.step_to() {
+            let _here = here;
+            if let Some(span) = self.seen_of(found) {
                 return Some(span);
             }
         }

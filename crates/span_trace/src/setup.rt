@@ -54,7 +54,9 @@ impl<X: Files + AllocGlobal + Clone + Drop> Stage<X> {
             let output = output_of(rt, output, &mut self.folders).map_err(Fault::Refused)?;
             outputs.push(output)?;
         }
-        let stack = open_stack(rt.alloc(), outputs, line.moment).map_err(Fault::Refused)?;
+        let stack = open_stack(rt.alloc(), outputs, line.moment).map_err(|refused| Fault::Refused(
+            refused.refusal,
+        ))?;
         if self.trace.has_stack() {
             return Err(Fault::Unread(LineFault::NotReadable));
         }

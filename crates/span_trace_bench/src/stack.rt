@@ -56,5 +56,5 @@ pub(crate) fn stack_over<D: Folder>(
         outputs.push(output_of(alloc, key, shape, folder, prefix)?)?;
         key = key.saturating_add(1);
     }
-    open_stack(alloc, outputs, OPENED).map_err(Fault::Refused)
+    open_stack(alloc, outputs, OPENED).map_err(|refused| Fault::Refused(refused.refusal))
 }

@@ -17,7 +17,8 @@ pub use span_registry_layers_layers::{Filter, Filtered};
 pub use span_registry_layers_stack::{Output, Stack, StackError, StackRefusal};
 pub use span_registry_layers_store::OutputKey;
 pub use span_tracing_files::{
-    EitherFolder, FileStack, LineSettings, Lines, OutputSpec, SinkSpec, SpecRefusal, open_stack,
+    EitherFolder, FileStack, LineSettings, Lines, OpenStackError, OutputSpec, SinkSpec,
+    SpecRefusal, open_stack,
 };
 pub use span_tracing_json_runs::{json_files_hold_objects, json_format_files_hold_objects};
 pub use span_tracing_outputs::{LineSink, PendingLines, TraceStack, UnpairedSinks, trace_starts};
@@ -33,7 +34,7 @@ pub use span_tracing_skeleton::{
     SpanName, Step,
 };
 pub use span_tracing_steps::words_stay;
-pub use span_tracing_trace::{CallsiteIndex, Trace};
+pub use span_tracing_trace::{CallsiteIndex, Trace, calls_make_runs};
 pub use tracing_appender::{Clock, FixedClock, SystemClock};
 pub use tracing_appender_folders::{
     Entry, FileEntry, FileNumber, Folder, FolderError, FolderFault, MemoryFolder, Moment,

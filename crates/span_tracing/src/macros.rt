@@ -1,8 +1,9 @@
 //! Requests that read like log lines.
 
 /// Tells an event of a [`Site`](crate::Site) in the span that the lane is in, and gives the reply:
-/// `event!(trace, lane, moment, site, value, value)`. The values are those of the callsite's fields, in their order: where one is missing its field is
-/// left out, and one too many is passed over, both without a word. The trace's expression is written twice: give a variable or a field.
+/// `event!(trace, lane, moment, site, value, value)`. The values are those of the callsite's fields, in their order: where one is missing
+/// its field is left out, and one too many is passed over, both without a word. The trace's expression is written twice: give a
+/// variable or a field.
 ///
 /// Where nobody is interested in the callsite no value is computed, and the reply is `Done`: no output would be told
 /// (`skipping_misses_nothing`). That the lane isn't there, or that the moment is out of range, isn't told then.

@@ -1,6 +1,11 @@
-//! One output, folders that refuse, and random runs over four outputs beside a slow model of them.
+//! The tests of the crates below; one output, folders that refuse, and random runs over four outputs beside a slow model of them.
 
 mod faulty;
+mod files;
 mod model;
+mod outputs;
 mod random;
 mod single;
+mod sinks;
+mod steps;
+mod trace;

@@ -27,7 +27,8 @@ use Rattle.span_tracing_skeleton.specs.declared.refusal.Refusal.{Refusal}
 use Rattle.span_tracing_skeleton.specs.declared.refusal.Refusal.TheVariants as refusals
 use Rattle.span_tracing_files.specs.Opened.{Answers, IsTold, Pairs, RowOf, RowsAreTold, keys_of, outputs_refusal, routing_of, rows_refusal, stack_refusal}
 use Rattle.span_tracing_files.specs.Settings.{Shown}
-use Rattle.span_tracing_files.specs.Refused.{RoutingRefuses}
+use Rattle.span_tracing_files.specs.Refused.{RoutingRefuses, at_output}
+use Rattle.span_tracing_files.specs.declared.open_error.OpenStackError.{OpenStackError}
 use Rattle.span_tracing_files.specs.declared.opening.Routing.{Routing}
 use Rattle.span_tracing_files.specs.declared.output_spec.OutputSpec.{OutputSpec}
 use Rattle.span_tracing_files.specs.declared.output_spec.SinkSpec.{SinkSpec}
@@ -42,7 +43,7 @@ routed_is {S = S} route sinks made gives = by_good (is_good_route (length sinks)
     by_good false is = absurd is
 
 -- a route that is refused isn't good for its sinks
-pub bad_route : {S D : Type 0} (opens : SinkSpec D → S → Type 0) (routing : Routing D) (sinks : List S) (back : UnroutedSinks S) → Pairs opens routing.sinks.items sinks → RoutingGives routing.route sinks (Err back) → RoutingRefuses refusals.BadRoute routing
+pub bad_route : {S D : Type 0} (opens : SinkSpec D → S → Type 0) (routing : Routing D) (sinks : List S) (back : UnroutedSinks S) → Pairs opens routing.sinks.items sinks → RoutingGives routing.route sinks (Err back) → RoutingRefuses (at_output routing.key refusals.BadRoute) routing
 bad_route {S = S} opens routing sinks back pairs gives =
     inr (inl (refl, ap (λ (n : ℕ). is_good_route n routing.route) (sym (same_length opens routing.sinks.items sinks pairs)) ∙ by_good (is_good_route (length sinks) routing.route) gives))
   where
@@ -132,11 +133,11 @@ module _ {F D : Type 0} where
       subst (IsTold (outputs_refusal specs)) (sym is) (subst (λ (o : Option Refusal). IsTold o (stack_refusal error)) (same_refusal specs rows pairs) wrong)
 
   -- where nothing is wrong any answer will do
-  pub nothing_wrong : (A : Type 0) (specs : List (OutputSpec F D)) (rows : List (Output (Filtered Shown F))) (result : Result A Refusal) → Pairs RowOf specs rows → rows_refusal rows ≡ None → Answers (outputs_refusal specs) result
+  pub nothing_wrong : (A : Type 0) (specs : List (OutputSpec F D)) (rows : List (Output (Filtered Shown F))) (result : Result A OpenStackError) → Pairs RowOf specs rows → rows_refusal rows ≡ None → Answers (outputs_refusal specs) result
   nothing_wrong A specs rows result pairs none =
       subst (λ (o : Option Refusal). Answers o result) (sym none ∙ same_refusal specs rows pairs) (any result)
     where
-      any : (result : Result A Refusal) → Answers None result
+      any : (result : Result A OpenStackError) → Answers None result
       any (Ok made) = refl
       any (Err told) = tt
 

@@ -26,6 +26,7 @@ use Rattle.span_tracing_sinks.specs.declared.sink.RollingSink.{RollingSink}
 use Rattle.span_tracing_skeleton.specs.declared.refusal.Refusal.{Refusal}
 use Rattle.span_tracing_skeleton.specs.declared.refusal.Refusal.TheVariants as refusals
 use Rattle.span_tracing_files.specs.Settings.{DescribesLayer, Shown}
+use Rattle.span_tracing_files.specs.declared.open_error.OpenStackError.{OpenStackError}
 use Rattle.span_tracing_files.specs.declared.opening.Routing.{Routing}
 use Rattle.span_tracing_files.specs.declared.output_spec.OutputSpec.{OutputSpec}
 use Rattle.span_tracing_files.specs.declared.output_spec.SinkSpec.{SinkSpec}
@@ -58,7 +59,7 @@ module _ {F D : Type 0} where
     pub layer : DescribesLayer spec.lines spec.key row.output.layer
 
   abbrev pub routing_of : OutputSpec F D → Routing D
-  routing_of spec = record { route = spec.route; sinks = spec.sinks }
+  routing_of spec = record { key = spec.key; route = spec.route; sinks = spec.sinks }
 
   abbrev pub keys_of : List (OutputSpec F D) → List ℕ
   keys_of specs = map (λ (spec : OutputSpec F D). spec.key.0) specs
@@ -74,8 +75,8 @@ IsTold None told = Unit {0}
 IsTold (Some refusal) told = (told ≡ refusal) ⊎ (told ≡ refusals.OutOfMemory)
 
 -- where something is wrong that is told, and nothing is made
-abbrev pub Answers : {A : Type 0} → Option Refusal → Result A Refusal → Type 0
-Answers wrong (Err told) = IsTold wrong told
+abbrev pub Answers : {A : Type 0} → Option Refusal → Result A OpenStackError → Type 0
+Answers wrong (Err told) = IsTold wrong told.refusal
 Answers wrong (Ok made) = wrong ≡ None
 
 module _ {N E F : Type 0} where

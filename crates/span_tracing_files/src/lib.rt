@@ -3,13 +3,12 @@
 
 mod either_folder;
 mod line_settings;
+mod open_error;
 mod opening;
 mod output_spec;
 
 pub use either_folder::EitherFolder;
 pub use line_settings::{LineSettings, Lines};
+pub use open_error::OpenStackError;
 pub use opening::{FileStack, open_stack};
 pub use output_spec::{OutputSpec, SinkSpec, SpecRefusal};
-
-#[cfg(test)]
-mod tests;

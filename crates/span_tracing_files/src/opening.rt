@@ -3,10 +3,11 @@ ghost use Rattle.std.specs.Prelude.{◌≡◌, ◌⊎◌, IfOk, IfErr, Some, Non
 ghost use Rattle.tracing_core_requests.specs.Lists.{Every};
 ghost use Rattle.tracing_appender_folders.specs.Moments.{is_moment};
 ghost use Rattle.span_tracing_outputs.specs.TraceFollows.{IsReady};
-ghost use Rattle.span_tracing_files.specs.Opened.{Answers, OpensRouting, OpensSink, OpensStack, Pairs, RowOf, build_refusal, outputs_refusal, RowsAreTold, routing_of, stack_refusal};
-ghost use Rattle.span_tracing_files.specs.Refused.{InOne, IsRouted, NamesAnswer, OutputsTell, RoutingRefuses, SinkRefuses, SinkTells, SinksTell};
+ghost use Rattle.span_tracing_files.specs.Opened.{Answers, OpensRouting, OpensSink, OpensStack, Pairs, RowOf, outputs_refusal, RowsAreTold, routing_of, stack_refusal};
+ghost use Rattle.span_tracing_files.specs.Refused.{InOne, IsRouted, NamesAnswer, OutputsTell, RoutingRefuses, SinkRefuses, SinkTells, SinksTell, of_all};
 
 use crate::line_settings::Lines;
+use crate::open_error::OpenStackError;
 use crate::output_spec::{OutputSpec, SinkSpec};
 use event_formatter_formats::{Fields, Format, FormatEvent, LineFormat, Timer};
 use event_formatter_layer::Layer;
@@ -14,12 +15,12 @@ use event_formatter_makers::Route;
 use event_formatter_text::FormatFields;
 use span_registry_layers_layers::{Filter, Filtered};
 use span_registry_layers_stack::{Output, Stack, StackError};
+use span_registry_layers_store::OutputKey;
 use span_tracing_outputs::{PendingLines, TraceStack, trace_starts};
 use span_tracing_sinks::{RollingSink, RoutedSinks};
 use span_tracing_skeleton::Refusal;
 use std::alloc::{AllocError, Global};
 use tracing_appender_folders::{Folder, Moment};
-use tracing_appender_rolling::BuildError;
 
 /// A stack whose outputs have lines of any format, under filters `F`, and whose lines go to rolling files in folders `D`.
 pub type FileStack<F, D> = TraceStack<
@@ -35,6 +36,7 @@ type Row<F> = Output<Filtered<Lines, F>>;
 /// The sinks of an output, before their files are opened.
 #[derive(Drop)]
 pub(crate) struct Routing<D> {
+    key: OutputKey,
     route: Route,
     sinks: Vec<SinkSpec<D>>,
 }
@@ -47,17 +49,6 @@ fn stack_refusal(error: StackError) -> Refusal
         StackError::TooManyFilters => Refusal::TooManyFilters,
         StackError::EqualKeys => Refusal::EqualKeys,
         StackError::OutOfMemory => Refusal::OutOfMemory,
-    }
-}
-
-fn build_refusal(error: BuildError) -> Refusal
-    ensures { result ≡ build_refusal error }
-{
-    match error {
-        BuildError::BadName => Refusal::BadName,
-        BuildError::BadLinkName => Refusal::BadLinkName,
-        BuildError::Init(_) => Refusal::FolderRefused,
-        BuildError::OutOfMemory => Refusal::OutOfMemory,
     }
 }
 
@@ -89,14 +80,14 @@ fn first_refusal<D>(sinks: &[SinkSpec<D>]) -> Option<Refusal>
     None
 }
 
-/// The first refusal of a name, outputs and sinks in order.
-fn names_refusal<F, D>(outputs: &[OutputSpec<F, D>]) -> Option<Refusal>
+/// The first refusal of a name, outputs and sinks in order, with the output's key.
+fn names_refusal<F, D>(outputs: &[OutputSpec<F, D>]) -> Option<(OutputKey, Refusal)>
     ensures { OutputsTell outputs.now result }
 {
     let mut rest = outputs;
     while let [output, later @ ..] = rest {
         match first_refusal(output.sinks.as_slice()) {
-            Some(refusal) => return Some(refusal),
+            Some(refusal) => return Some((output.key, refusal)),
             None => rest = later,
         }
     }
@@ -115,7 +106,7 @@ fn row_of<F, D>(alloc: Global, spec: OutputSpec<F, D>) -> (Row<F>, Routing<D>)
         sinks,
     } = spec;
     let output = Filtered::new(lines.into_layer(alloc, key), filter);
-    (Output { key, output }, Routing { route, sinks })
+    (Output { key, output }, Routing { key, route, sinks })
 }
 
 /// The outputs without their files, and their sinks.
@@ -139,35 +130,37 @@ fn split<F: Drop, D: Drop>(
 
 fn open_sink<D: Folder>(
     alloc: Global,
+    key: OutputKey,
     spec: SinkSpec<D>,
     moment: Moment,
-) -> Result<RollingSink<D>, Refusal>
+) -> Result<RollingSink<D>, OpenStackError>
     requires { is_moment moment ≡ true }
     ensures opened { IfOk result (λ sink. OpensSink D.contents D.failed moment spec sink) }
-    ensures refused { IfErr result (λ told. SinkRefuses told spec) }
+    ensures refused { IfErr result (λ told. SinkRefuses key told spec) }
 {
     let SinkSpec::Direct(builder, folder) = spec;
     match builder.build(alloc, folder, moment) {
         Ok(appender) => Ok(RollingSink::new(appender)),
-        Err(refused) => Err(build_refusal(refused.error)),
+        Err(refused) => Err(OpenStackError::of_sink(key, refused.error)),
     }
 }
 
 /// The sinks of an output, opened in order.
 fn open_sinks<D: Folder>(
     alloc: Global,
+    key: OutputKey,
     specs: Vec<SinkSpec<D>>,
     moment: Moment,
-) -> Result<Vec<RollingSink<D>>, Refusal>
+) -> Result<Vec<RollingSink<D>>, OpenStackError>
     requires { is_moment moment ≡ true }
     ensures opened { IfOk result (λ sinks. Pairs (OpensSink D.contents D.failed moment) specs.items sinks.items) }
-    ensures refused { IfErr result (λ told. InOne (SinkRefuses told) specs.items) }
+    ensures refused { IfErr result (λ told. InOne (SinkRefuses key told) specs.items) }
 {
     let mut sinks = Vec::new(alloc);
     for spec in specs {
-        let sink = open_sink(alloc, spec, moment)?;
+        let sink = open_sink(alloc, key, spec, moment)?;
         let Ok(()) = sinks.push(sink) else {
-            return Err(Refusal::OutOfMemory);
+            return Err(OpenStackError::at_output(key, Refusal::OutOfMemory));
         };
     }
     Ok(sinks)
@@ -178,16 +171,16 @@ fn open_routing<D: Folder>(
     alloc: Global,
     routing: Routing<D>,
     moment: Moment,
-) -> Result<RoutedSinks<RollingSink<D>>, Refusal>
+) -> Result<RoutedSinks<RollingSink<D>>, OpenStackError>
     requires { is_moment moment ≡ true }
     ensures opened { IfOk result (λ routed. OpensRouting D.contents D.failed moment routing routed) }
     ensures refused { IfErr result (λ told. RoutingRefuses told routing) }
 {
-    let Routing { route, sinks } = routing;
-    let opened = open_sinks(alloc, sinks, moment)?;
+    let Routing { key, route, sinks } = routing;
+    let opened = open_sinks(alloc, key, sinks, moment)?;
     match RoutedSinks::new(route, opened) {
         Ok(routed) => Ok(routed),
-        Err(_) => Err(Refusal::BadRoute),
+        Err(_) => Err(OpenStackError::at_output(key, Refusal::BadRoute)),
     }
 }
 
@@ -196,16 +189,17 @@ fn open_routings<D: Folder>(
     alloc: Global,
     routings: Vec<Routing<D>>,
     moment: Moment,
-) -> Result<Vec<RoutedSinks<RollingSink<D>>>, Refusal>
+) -> Result<Vec<RoutedSinks<RollingSink<D>>>, OpenStackError>
     requires { is_moment moment ≡ true }
     ensures opened { IfOk result (λ opened. Pairs (OpensRouting D.contents D.failed moment) routings.items opened.items) }
     ensures refused { IfErr result (λ told. InOne (RoutingRefuses told) routings.items) }
 {
     let mut opened = Vec::new(alloc);
     for routing in routings {
+        let key = routing.key;
         let routed = open_routing(alloc, routing, moment)?;
         let Ok(()) = opened.push(routed) else {
-            return Err(Refusal::OutOfMemory);
+            return Err(OpenStackError::at_output(key, Refusal::OutOfMemory));
         };
     }
     Ok(opened)
@@ -222,13 +216,14 @@ fn rows_are_told<N: FormatFields + Drop, E: FormatEvent, F: Filter>()
 ///
 /// In this order: `BadMoment`; `NoOutput`, `TooManyFilters` where there are more than 64 outputs, `EqualKeys`; for the sinks in order
 /// `BadName`, `BadLinkName`, all before a folder is asked; then `FolderRefused` or `OutOfMemory` at the first sink that meets it. Want of
-/// memory may be told in place of any but `BadMoment`. The outputs are let go: the folders of earlier sinks keep what was opened in them.
+/// memory may be told in place of any but `BadMoment`. What is told of one output comes with its key, and a folder's refusal with the
+/// fault. The outputs are let go: the folders of earlier sinks keep what was opened in them.
 pub fn open_stack<F: Filter, D: Folder>(
     alloc: Global,
     outputs: Vec<OutputSpec<F, D>>,
     moment: Moment,
-) -> Result<FileStack<F, D>, Refusal>
-    ensures moment { is_moment moment ≡ false → result ≡ Err Refusal.BadMoment }
+) -> Result<FileStack<F, D>, OpenStackError>
+    ensures moment { is_moment moment ≡ false → result ≡ Err (of_all Refusal.BadMoment) }
     ensures told { is_moment moment ≡ true → Answers (outputs_refusal outputs.items) result }
     // Each output that `OutputSpec::new` made has a good route.
     ensures names { is_moment moment ≡ true → outputs_refusal outputs.items ≡ None → Every IsRouted outputs.items →
@@ -240,20 +235,20 @@ pub fn open_stack<F: Filter, D: Folder>(
         IfOk result (λ made. IsReady ⟦<F as Filter>⟧ made) }
 {
     if !moment.is_in_range() {
-        return Err(Refusal::BadMoment);
+        return Err(OpenStackError::of_all(Refusal::BadMoment));
     }
     trace_starts::<Fields, Format<LineFormat, Timer>, F, RoutedSinks<RollingSink<D>>>();
     rows_are_told::<Fields, Format<LineFormat, Timer>, F>();
     let names = names_refusal(outputs.as_slice());
     let Ok((rows, routings)) = split(alloc, outputs) else {
-        return Err(Refusal::OutOfMemory);
+        return Err(OpenStackError::of_all(Refusal::OutOfMemory));
     };
     let stack = match Stack::new(alloc, rows) {
         Ok(stack) => stack,
-        Err(refused) => return Err(stack_refusal(refused.error)),
+        Err(refused) => return Err(OpenStackError::of_all(stack_refusal(refused.error))),
     };
-    if let Some(refusal) = names {
-        return Err(refusal);
+    if let Some((key, refusal)) = names {
+        return Err(OpenStackError::at_output(key, refusal));
     }
     let sinks = open_routings(alloc, routings, moment)?;
     match TraceStack::new(stack, sinks) {

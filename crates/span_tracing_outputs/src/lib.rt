@@ -14,6 +14,3 @@ pub use laws::{layer_follows, outputs_fold, stack_follows, trace_follows, trace_
 pub use pending::{PendingLine, PendingLines};
 pub use sink::LineSink;
 pub use trace_stack::{TraceStack, UnpairedSinks};
-
-#[cfg(test)]
-mod tests;

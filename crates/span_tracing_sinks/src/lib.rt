@@ -11,6 +11,3 @@ pub use laws::{
 };
 pub use routed::{RoutedSinks, UnroutedSinks};
 pub use sink::RollingSink;
-
-#[cfg(test)]
-mod tests;

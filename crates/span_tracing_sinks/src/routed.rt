@@ -73,6 +73,17 @@ pub(crate) fn goes_to(route: &Route, level: Level, place: usize) -> bool
     }
 }
 
+// The same. A route to one sink is looked at here, since most outputs have one alone.
+#[inline(always)]
+fn is_sent(route: &Route, level: Level, place: usize) -> bool
+    ensures { result ≡ goes_to route.now level place }
+{
+    match route {
+        Route::Sink(sink) => *sink == place,
+        _ => goes_to(route, level, place),
+    }
+}
+
 fn take_if<S: LineSink>(is_taken: bool, sink: &mut S, at: At, level: Level, line: &[u8])
     ensures { TakesIf S.takes is_taken sink.old at (record { level = level; bytes = line.now }) sink.new }
 {
@@ -87,7 +98,7 @@ fn take_each<S: LineSink>(route: &Route, sinks: &mut [S], at: At, level: Level, 
 {
     let mut place = 0;
     for sink in sinks.iter_mut() {
-        take_if(goes_to(route, level, place), sink, at, level, line);
+        take_if(is_sent(route, level, place), sink, at, level, line);
         place += 1;
     }
 }

@@ -146,6 +146,7 @@ impl<T: Subscriber + HasRegistry> TraceParts<T> {
     }
 
     /// Why no event or span of this kind is made at the callsite that was looked for.
+    #[inline(always)]
     pub(crate) fn request_refusal(
         &self,
         request: &Request<'_>,

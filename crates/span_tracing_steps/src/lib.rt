@@ -15,6 +15,3 @@ pub use action::{RecordRequest, Request};
 pub use callsite::TraceCallsite;
 pub use laws::words_stay;
 pub use parts::{Thread, TraceParts};
-
-#[cfg(test)]
-mod tests;

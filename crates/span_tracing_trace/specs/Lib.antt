@@ -1,3 +1,4 @@
 pub mod Setup
 pub mod Ready
 pub mod Reading
+pub mod Calls

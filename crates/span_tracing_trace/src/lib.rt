@@ -1,11 +1,13 @@
 //! From calls of events and spans to lines in log files.
 #![tactic(auto)]
 
+mod calls;
 mod interest;
 mod readers;
 mod steps;
 mod trace;
 
+pub use calls::calls_make_runs;
 pub use event_formatter_formats::{Fields, Format, LineFormat, Timer};
 pub use event_formatter_layer::Layer;
 pub use event_formatter_makers::Route;
@@ -27,6 +29,3 @@ pub use tracing_appender_rolling::{
 };
 pub use tracing_core_fields::{FieldValue, OwnedValue};
 pub use tracing_core_hub::CallsiteIndex;
-
-#[cfg(test)]
-mod tests;

@@ -66,7 +66,8 @@ impl<N: FormatFields + Drop, E: FormatEvent, F: Filter, S: LineSink> Trace<Trace
     /// Makes the stack with this handle the one that lanes reach. Takes no memory.
     pub fn set_global_default(&mut self, handle: usize) -> Reply
         ensures gives { StepGives ⟦<TraceStack<N, E, F, S> as Subscriber>⟧ registry_of self.old (GlobalStep handle) result self.new }
-        ensures follows { FollowsReady ⟦<N as FormatFields>⟧ E.line_of ⟦<F as Filter>⟧ S.takes ⟦<Layer<N, E, PendingLines> as span_registry_layers_layers::Layer>⟧ self.old (GlobalStep handle) result self.new }
+        ensures follows { FollowsReady ⟦<N as FormatFields>⟧ E.line_of ⟦<F as Filter>⟧ S.takes
+            ⟦<Layer<N, E, PendingLines> as span_registry_layers_layers::Layer>⟧ self.old (GlobalStep handle) result self.new }
     {
         steps_follow::<N, E, F, S>();
         self.parts.set_global_default(handle)
@@ -81,8 +82,13 @@ impl<N: FormatFields + Drop, E: FormatEvent, F: Filter, S: LineSink> Trace<Trace
         parent: Parent,
         values: &[FieldValue],
     ) -> Reply
-        ensures gives { StepGives ⟦<TraceStack<N, E, F, S> as Subscriber>⟧ registry_of self.old (EventStep (record { lane = lane; moment = moment; callsite = callsite.0; parent = parent; values = owned_entries values.now })) result self.new }
-        ensures follows { FollowsReady ⟦<N as FormatFields>⟧ E.line_of ⟦<F as Filter>⟧ S.takes ⟦<Layer<N, E, PendingLines> as span_registry_layers_layers::Layer>⟧ self.old (EventStep (record { lane = lane; moment = moment; callsite = callsite.0; parent = parent; values = owned_entries values.now })) result self.new }
+        ensures gives { StepGives ⟦<TraceStack<N, E, F, S> as Subscriber>⟧ registry_of self.old
+            (EventStep (record { lane = lane; moment = moment; callsite = callsite.0; parent = parent; values = owned_entries values.now }))
+            result self.new }
+        ensures follows { FollowsReady ⟦<N as FormatFields>⟧ E.line_of ⟦<F as Filter>⟧ S.takes
+            ⟦<Layer<N, E, PendingLines> as span_registry_layers_layers::Layer>⟧ self.old
+            (EventStep (record { lane = lane; moment = moment; callsite = callsite.0; parent = parent; values = owned_entries values.now }))
+            result self.new }
     {
         steps_follow::<N, E, F, S>();
         self.parts.event(&Request {
@@ -94,10 +100,14 @@ impl<N: FormatFields + Drop, E: FormatEvent, F: Filter, S: LineSink> Trace<Trace
         })
     }
 
-    /// Asks whether some output's filter passes a callsite on a lane: by it a new span would be made, and an event unless the filters refuse the event itself. Asking leaves no mark, and takes no memory.
+    /// Asks whether some output's filter passes a callsite on a lane: by it a new span would be made, and an event unless the filters
+    /// refuse the event itself. Asking leaves no mark, and takes no memory.
     pub fn enabled(&mut self, lane: usize, moment: Moment, callsite: Identifier) -> Reply
-        ensures gives { StepGives ⟦<TraceStack<N, E, F, S> as Subscriber>⟧ registry_of self.old (EnabledStep (record { lane = lane; moment = moment; callsite = callsite })) result self.new }
-        ensures follows { FollowsReady ⟦<N as FormatFields>⟧ E.line_of ⟦<F as Filter>⟧ S.takes ⟦<Layer<N, E, PendingLines> as span_registry_layers_layers::Layer>⟧ self.old (EnabledStep (record { lane = lane; moment = moment; callsite = callsite })) result self.new }
+        ensures gives { StepGives ⟦<TraceStack<N, E, F, S> as Subscriber>⟧ registry_of self.old
+            (EnabledStep (record { lane = lane; moment = moment; callsite = callsite })) result self.new }
+        ensures follows { FollowsReady ⟦<N as FormatFields>⟧ E.line_of ⟦<F as Filter>⟧ S.takes
+            ⟦<Layer<N, E, PendingLines> as span_registry_layers_layers::Layer>⟧ self.old
+            (EnabledStep (record { lane = lane; moment = moment; callsite = callsite })) result self.new }
     {
         steps_follow::<N, E, F, S>();
         self.parts.enabled(&EnabledCall {
@@ -116,8 +126,13 @@ impl<N: FormatFields + Drop, E: FormatEvent, F: Filter, S: LineSink> Trace<Trace
         parent: Parent,
         values: &[FieldValue],
     ) -> Reply
-        ensures gives { StepGives ⟦<TraceStack<N, E, F, S> as Subscriber>⟧ registry_of self.old (SpanStep (record { lane = lane; moment = moment; callsite = callsite.0; parent = parent; values = owned_entries values.now })) result self.new }
-        ensures follows { FollowsReady ⟦<N as FormatFields>⟧ E.line_of ⟦<F as Filter>⟧ S.takes ⟦<Layer<N, E, PendingLines> as span_registry_layers_layers::Layer>⟧ self.old (SpanStep (record { lane = lane; moment = moment; callsite = callsite.0; parent = parent; values = owned_entries values.now })) result self.new }
+        ensures gives { StepGives ⟦<TraceStack<N, E, F, S> as Subscriber>⟧ registry_of self.old
+            (SpanStep (record { lane = lane; moment = moment; callsite = callsite.0; parent = parent; values = owned_entries values.now }))
+            result self.new }
+        ensures follows { FollowsReady ⟦<N as FormatFields>⟧ E.line_of ⟦<F as Filter>⟧ S.takes
+            ⟦<Layer<N, E, PendingLines> as span_registry_layers_layers::Layer>⟧ self.old
+            (SpanStep (record { lane = lane; moment = moment; callsite = callsite.0; parent = parent; values = owned_entries values.now }))
+            result self.new }
     {
         steps_follow::<N, E, F, S>();
         self.parts.new_span(&Request {
@@ -129,7 +144,8 @@ impl<N: FormatFields + Drop, E: FormatEvent, F: Filter, S: LineSink> Trace<Trace
         })
     }
 
-    /// Adds values to a span's. A field is told by its place among those of the span's callsite; one that the callsite lacks is passed over.
+    /// Adds values to a span's. A field is told by its place among those of the span's callsite; one that the callsite lacks is passed
+    /// over.
     pub fn record(
         &mut self,
         lane: usize,
@@ -137,8 +153,11 @@ impl<N: FormatFields + Drop, E: FormatEvent, F: Filter, S: LineSink> Trace<Trace
         span: Option<SpanName>,
         values: &[FieldValue],
     ) -> Reply
-        ensures gives { StepGives ⟦<TraceStack<N, E, F, S> as Subscriber>⟧ registry_of self.old (RecordStep (record { lane = lane; moment = moment; span = span; values = owned_entries values.now })) result self.new }
-        ensures follows { FollowsReady ⟦<N as FormatFields>⟧ E.line_of ⟦<F as Filter>⟧ S.takes ⟦<Layer<N, E, PendingLines> as span_registry_layers_layers::Layer>⟧ self.old (RecordStep (record { lane = lane; moment = moment; span = span; values = owned_entries values.now })) result self.new }
+        ensures gives { StepGives ⟦<TraceStack<N, E, F, S> as Subscriber>⟧ registry_of self.old
+            (RecordStep (record { lane = lane; moment = moment; span = span; values = owned_entries values.now })) result self.new }
+        ensures follows { FollowsReady ⟦<N as FormatFields>⟧ E.line_of ⟦<F as Filter>⟧ S.takes
+            ⟦<Layer<N, E, PendingLines> as span_registry_layers_layers::Layer>⟧ self.old
+            (RecordStep (record { lane = lane; moment = moment; span = span; values = owned_entries values.now })) result self.new }
     {
         steps_follow::<N, E, F, S>();
         self.parts.record(&RecordRequest {
@@ -157,8 +176,11 @@ impl<N: FormatFields + Drop, E: FormatEvent, F: Filter, S: LineSink> Trace<Trace
         span: Option<SpanName>,
         follows: Option<SpanName>,
     ) -> Reply
-        ensures gives { StepGives ⟦<TraceStack<N, E, F, S> as Subscriber>⟧ registry_of self.old (FollowsFromStep (record { lane = lane; moment = moment; span = span; follows = follows })) result self.new }
-        ensures follows { FollowsReady ⟦<N as FormatFields>⟧ E.line_of ⟦<F as Filter>⟧ S.takes ⟦<Layer<N, E, PendingLines> as span_registry_layers_layers::Layer>⟧ self.old (FollowsFromStep (record { lane = lane; moment = moment; span = span; follows = follows })) result self.new }
+        ensures gives { StepGives ⟦<TraceStack<N, E, F, S> as Subscriber>⟧ registry_of self.old
+            (FollowsFromStep (record { lane = lane; moment = moment; span = span; follows = follows })) result self.new }
+        ensures follows { FollowsReady ⟦<N as FormatFields>⟧ E.line_of ⟦<F as Filter>⟧ S.takes
+            ⟦<Layer<N, E, PendingLines> as span_registry_layers_layers::Layer>⟧ self.old
+            (FollowsFromStep (record { lane = lane; moment = moment; span = span; follows = follows })) result self.new }
     {
         steps_follow::<N, E, F, S>();
         self.parts.record_follows_from(&FollowsCall {
@@ -171,8 +193,11 @@ impl<N: FormatFields + Drop, E: FormatEvent, F: Filter, S: LineSink> Trace<Trace
 
     /// Enters a span on a lane.
     pub fn enter(&mut self, lane: usize, moment: Moment, span: Option<SpanName>) -> Reply
-        ensures gives { StepGives ⟦<TraceStack<N, E, F, S> as Subscriber>⟧ registry_of self.old (EnterStep (record { lane = lane; moment = moment; span = span })) result self.new }
-        ensures follows { FollowsReady ⟦<N as FormatFields>⟧ E.line_of ⟦<F as Filter>⟧ S.takes ⟦<Layer<N, E, PendingLines> as span_registry_layers_layers::Layer>⟧ self.old (EnterStep (record { lane = lane; moment = moment; span = span })) result self.new }
+        ensures gives { StepGives ⟦<TraceStack<N, E, F, S> as Subscriber>⟧ registry_of self.old
+            (EnterStep (record { lane = lane; moment = moment; span = span })) result self.new }
+        ensures follows { FollowsReady ⟦<N as FormatFields>⟧ E.line_of ⟦<F as Filter>⟧ S.takes
+            ⟦<Layer<N, E, PendingLines> as span_registry_layers_layers::Layer>⟧ self.old
+            (EnterStep (record { lane = lane; moment = moment; span = span })) result self.new }
     {
         steps_follow::<N, E, F, S>();
         self.parts.enter(&SpanCall { lane, moment, span })
@@ -180,8 +205,11 @@ impl<N: FormatFields + Drop, E: FormatEvent, F: Filter, S: LineSink> Trace<Trace
 
     /// Leaves a span on a lane: its last entry there goes.
     pub fn exit(&mut self, lane: usize, moment: Moment, span: Option<SpanName>) -> Reply
-        ensures gives { StepGives ⟦<TraceStack<N, E, F, S> as Subscriber>⟧ registry_of self.old (ExitStep (record { lane = lane; moment = moment; span = span })) result self.new }
-        ensures follows { FollowsReady ⟦<N as FormatFields>⟧ E.line_of ⟦<F as Filter>⟧ S.takes ⟦<Layer<N, E, PendingLines> as span_registry_layers_layers::Layer>⟧ self.old (ExitStep (record { lane = lane; moment = moment; span = span })) result self.new }
+        ensures gives { StepGives ⟦<TraceStack<N, E, F, S> as Subscriber>⟧ registry_of self.old
+            (ExitStep (record { lane = lane; moment = moment; span = span })) result self.new }
+        ensures follows { FollowsReady ⟦<N as FormatFields>⟧ E.line_of ⟦<F as Filter>⟧ S.takes
+            ⟦<Layer<N, E, PendingLines> as span_registry_layers_layers::Layer>⟧ self.old
+            (ExitStep (record { lane = lane; moment = moment; span = span })) result self.new }
     {
         steps_follow::<N, E, F, S>();
         self.parts.exit(&SpanCall { lane, moment, span })
@@ -189,8 +217,11 @@ impl<N: FormatFields + Drop, E: FormatEvent, F: Filter, S: LineSink> Trace<Trace
 
     /// Takes one more handle of a span. Takes no memory.
     pub fn clone_span(&mut self, lane: usize, moment: Moment, span: Option<SpanName>) -> Reply
-        ensures gives { StepGives ⟦<TraceStack<N, E, F, S> as Subscriber>⟧ registry_of self.old (CloneStep (record { lane = lane; moment = moment; span = span })) result self.new }
-        ensures follows { FollowsReady ⟦<N as FormatFields>⟧ E.line_of ⟦<F as Filter>⟧ S.takes ⟦<Layer<N, E, PendingLines> as span_registry_layers_layers::Layer>⟧ self.old (CloneStep (record { lane = lane; moment = moment; span = span })) result self.new }
+        ensures gives { StepGives ⟦<TraceStack<N, E, F, S> as Subscriber>⟧ registry_of self.old
+            (CloneStep (record { lane = lane; moment = moment; span = span })) result self.new }
+        ensures follows { FollowsReady ⟦<N as FormatFields>⟧ E.line_of ⟦<F as Filter>⟧ S.takes
+            ⟦<Layer<N, E, PendingLines> as span_registry_layers_layers::Layer>⟧ self.old
+            (CloneStep (record { lane = lane; moment = moment; span = span })) result self.new }
     {
         steps_follow::<N, E, F, S>();
         self.parts.clone_span(&SpanCall { lane, moment, span })
@@ -198,8 +229,11 @@ impl<N: FormatFields + Drop, E: FormatEvent, F: Filter, S: LineSink> Trace<Trace
 
     /// Gives up one handle of a span; answers whether the span closed.
     pub fn try_close(&mut self, lane: usize, moment: Moment, span: Option<SpanName>) -> Reply
-        ensures gives { StepGives ⟦<TraceStack<N, E, F, S> as Subscriber>⟧ registry_of self.old (CloseStep (record { lane = lane; moment = moment; span = span })) result self.new }
-        ensures follows { FollowsReady ⟦<N as FormatFields>⟧ E.line_of ⟦<F as Filter>⟧ S.takes ⟦<Layer<N, E, PendingLines> as span_registry_layers_layers::Layer>⟧ self.old (CloseStep (record { lane = lane; moment = moment; span = span })) result self.new }
+        ensures gives { StepGives ⟦<TraceStack<N, E, F, S> as Subscriber>⟧ registry_of self.old
+            (CloseStep (record { lane = lane; moment = moment; span = span })) result self.new }
+        ensures follows { FollowsReady ⟦<N as FormatFields>⟧ E.line_of ⟦<F as Filter>⟧ S.takes
+            ⟦<Layer<N, E, PendingLines> as span_registry_layers_layers::Layer>⟧ self.old
+            (CloseStep (record { lane = lane; moment = moment; span = span })) result self.new }
     {
         steps_follow::<N, E, F, S>();
         self.parts.try_close(&SpanCall { lane, moment, span })
@@ -208,7 +242,8 @@ impl<N: FormatFields + Drop, E: FormatEvent, F: Filter, S: LineSink> Trace<Trace
     /// A step.
     pub fn step(&mut self, step: &Step) -> Reply
         ensures gives { StepGives ⟦<TraceStack<N, E, F, S> as Subscriber>⟧ registry_of self.old (plain_step step.now) result self.new }
-        ensures follows { FollowsReady ⟦<N as FormatFields>⟧ E.line_of ⟦<F as Filter>⟧ S.takes ⟦<Layer<N, E, PendingLines> as span_registry_layers_layers::Layer>⟧ self.old (plain_step step.now) result self.new }
+        ensures follows { FollowsReady ⟦<N as FormatFields>⟧ E.line_of ⟦<F as Filter>⟧ S.takes
+            ⟦<Layer<N, E, PendingLines> as span_registry_layers_layers::Layer>⟧ self.old (plain_step step.now) result self.new }
     {
         steps_follow::<N, E, F, S>();
         self.act(step)
@@ -216,7 +251,8 @@ impl<N: FormatFields + Drop, E: FormatEvent, F: Filter, S: LineSink> Trace<Trace
 
     // Steps in order, as the trace's parts take them.
     fn run_all(&mut self, steps: &[Step]) -> Result<Vec<Reply>, AllocError>
-        ensures run { IfOk result (λ replies. RunGives ⟦<TraceStack<N, E, F, S> as Subscriber>⟧ self.old (plain_steps steps.now) replies.items self.new) }
+        ensures run { IfOk result
+            (λ replies. RunGives ⟦<TraceStack<N, E, F, S> as Subscriber>⟧ self.old (plain_steps steps.now) replies.items self.new) }
         ensures err { OnErr result (self.new ≡ self.old) }
     {
         let mut replies = Vec::with_capacity(self.parts.alloc(), steps.len())?;
@@ -232,7 +268,8 @@ impl<N: FormatFields + Drop, E: FormatEvent, F: Filter, D: Folder> Trace<
 > {
     /// Steps in order, with a reply to each. A step that is refused for want of memory does nothing, and the others run.
     ///
-    /// Where the stack is ready, each sink of an output takes exactly those lines that the output's machine offers and the route sends to it.
+    /// Where the stack is ready, each sink of an output takes exactly those lines that the output's machine offers and the route sends to
+    /// it.
     /// Where the sink dropped none, its folder's contents are known, and its appender agreed with a sink before (`AgreesSink`), these lines
     /// stand in its files behind what was found and handed over before, as far as retention left the files.
     ///
@@ -242,7 +279,8 @@ impl<N: FormatFields + Drop, E: FormatEvent, F: Filter, D: Folder> Trace<
     pub fn run(&mut self, steps: &[Step]) -> Result<Vec<Reply>, AllocError>
         ensures gives { IfOk result (λ replies. RunGives ⟦<TraceStack<N, E, F, RoutedSinks<RollingSink<D>>> as Subscriber>⟧ self.old
             (plain_steps steps.now) replies.items self.new) }
-        ensures run { IfOk result (λ replies. RunsReady D.contents D.failed ⟦<N as FormatFields>⟧ E.line_of ⟦<F as Filter>⟧ ⟦<Layer<N, E, PendingLines> as span_registry_layers_layers::Layer>⟧ self.old (plain_steps steps.now) replies.items self.new) }
+        ensures run { IfOk result
+            (λ replies. RunsReady D.contents D.failed ⟦<N as FormatFields>⟧ E.line_of ⟦<F as Filter>⟧ ⟦<Layer<N, E, PendingLines> as span_registry_layers_layers::Layer>⟧ self.old (plain_steps steps.now) replies.items self.new) }
         ensures err { OnErr result (self.new ≡ self.old) }
     {
         runs_follow::<N, E, F, RoutedSinks<RollingSink<D>>>();

@@ -23,3 +23,5 @@ pub use tracing_core_values::{DebugValue, DisplayValue, Empty, Value, debug, dis
 
 #[cfg(test)]
 mod surface_tracing_core;
+#[cfg(test)]
+mod tests;

@@ -37,6 +37,3 @@ pub use texts::Texts;
 pub use value_set::{AnyValue, ValueSet};
 pub use visit::Visit;
 pub use visit_kinds::VisitKinds;
-
-#[cfg(test)]
-mod tests;

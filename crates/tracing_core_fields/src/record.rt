@@ -1,15 +1,16 @@
 //! How a visitor takes the entries of a value set.
 ghost use Rattle.std.specs.Prelude.{◌≡◌, ◌<◌, ◌≤◌, MatchOption, length};
+ghost use Rattle.std.specs.Option.{option_map};
 ghost use Rattle.tracing_core_fields.specs.Field.{plain_field};
 ghost use Rattle.tracing_core_fields.specs.FieldSet.{field_names, set_callsite};
-ghost use Rattle.tracing_core_fields.specs.OwnedValues.{indexed_entry, indexed_entries};
+ghost use Rattle.tracing_core_fields.specs.OwnedValues.{indexed_entry, indexed_entries, plain_owned};
 ghost use Rattle.tracing_core_fields.specs.PlainValue.{present_value};
 ghost use Rattle.tracing_core_fields.specs.ValueSet.{entries_of, fields_of_values};
 ghost use Rattle.tracing_core_fields.specs.Values.{given_entry, given_entries, placed_entry, placed_entries};
 ghost use Rattle.tracing_core_fields.specs.Visits.{TakesIfThere, Visits};
 
 use crate::field::{Field, FieldSet};
-use crate::owned_value::FieldValue;
+use crate::owned_value::{FieldValue, OwnedValue};
 use crate::value_set::{AnyValue, ValueSet, Values};
 use crate::visit_kinds::VisitKinds;
 
@@ -68,8 +69,9 @@ fn record_given<'a, V: VisitKinds>(
     Ok(())
 }
 
-// Hands on the value of the field at the index.
-fn record_at<V: VisitKinds>(
+// Hands on the value of the field at the index. It stands apart, for the kinds that are seldom met.
+#[inline(never)]
+fn record_other<V: VisitKinds>(
     fields: &FieldSet<'_>,
     index: usize,
     value: &Option<AnyValue<'_>>,
@@ -80,6 +82,26 @@ fn record_at<V: VisitKinds>(
         (placed_entry (index, value.now)) visitor.old result visitor.new }
 {
     record_value(visitor, &fields.at(index), value)
+}
+
+// The same. Numbers and texts, which most values are, go by a call of their own, so that the compiler knows their kind.
+#[inline(always)]
+fn record_at<V: VisitKinds>(
+    fields: &FieldSet<'_>,
+    index: usize,
+    value: &Option<AnyValue<'_>>,
+    visitor: &mut V,
+) -> Result<(), V::Error>
+    requires { index < length (field_names fields.now) }
+    ensures { TakesIfThere V.takes (set_callsite fields.now) (field_names fields.now)
+        (placed_entry (index, value.now)) visitor.old result visitor.new }
+{
+    match value {
+        Some(AnyValue::I64(n)) => visitor.record_i64(&fields.at(index), *n),
+        Some(AnyValue::U64(n)) => visitor.record_u64(&fields.at(index), *n),
+        Some(AnyValue::Str(text)) => visitor.record_str(&fields.at(index), text),
+        other => record_other(fields, index, other, visitor),
+    }
 }
 
 // Visits the fields of the set whose values are given in order.
@@ -98,7 +120,23 @@ fn record_placed<V: VisitKinds>(
     Ok(())
 }
 
+// Hands on the owned value of the field at the index, and stands apart as well.
+#[inline(never)]
+fn record_other_owned<V: VisitKinds>(
+    fields: &FieldSet<'_>,
+    index: usize,
+    value: &OwnedValue,
+    visitor: &mut V,
+) -> Result<(), V::Error>
+    requires { index < length (field_names fields.now) }
+    ensures { TakesIfThere V.takes (set_callsite fields.now) (field_names fields.now)
+        (option_map (λ plain. (index, plain)) (plain_owned value.now)) visitor.old result visitor.new }
+{
+    record_value(visitor, &fields.at(index), &Some(value.lend()))
+}
+
 // Hands on the value of the field at the index, where the set has such a field.
+#[inline(always)]
 fn record_owned<V: VisitKinds>(
     fields: &FieldSet<'_>,
     given: &FieldValue,
@@ -107,10 +145,15 @@ fn record_owned<V: VisitKinds>(
     ensures { TakesIfThere V.takes (set_callsite fields.now) (field_names fields.now)
         (indexed_entry (length (field_names fields.now)) given.now) visitor.old result visitor.new }
 {
-    if given.field < fields.len() {
-        record_value(visitor, &fields.at(given.field), &Some(given.value.lend()))
-    } else {
-        Ok(())
+    let index = given.field;
+    if index >= fields.len() {
+        return Ok(());
+    }
+    match &given.value {
+        OwnedValue::I64(number) => visitor.record_i64(&fields.at(index), *number),
+        OwnedValue::U64(number) => visitor.record_u64(&fields.at(index), *number),
+        OwnedValue::Text(text) => visitor.record_str(&fields.at(index), text.as_str()),
+        other => record_other_owned(fields, index, other, visitor),
     }
 }
 

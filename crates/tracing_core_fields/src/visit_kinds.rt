@@ -65,38 +65,47 @@ impl<V: Visit> VisitKinds for V {
 
     ghost takes = { λ before field value answer after. V.shows before field (debug_of value) answer after };
 
+    #[inline(always)]
     fn record_i64(&mut self, field: &Field<'_>, value: i64) -> Result<(), V::Error> {
         Visit::record_i64(self, field, value)
     }
 
+    #[inline(always)]
     fn record_u64(&mut self, field: &Field<'_>, value: u64) -> Result<(), V::Error> {
         Visit::record_u64(self, field, value)
     }
 
+    #[inline(always)]
     fn record_i128(&mut self, field: &Field<'_>, value: i128) -> Result<(), V::Error> {
         Visit::record_i128(self, field, value)
     }
 
+    #[inline(always)]
     fn record_u128(&mut self, field: &Field<'_>, value: u128) -> Result<(), V::Error> {
         Visit::record_u128(self, field, value)
     }
 
+    #[inline(always)]
     fn record_bool(&mut self, field: &Field<'_>, value: bool) -> Result<(), V::Error> {
         Visit::record_bool(self, field, value)
     }
 
+    #[inline(always)]
     fn record_str(&mut self, field: &Field<'_>, value: &str) -> Result<(), V::Error> {
         Visit::record_str(self, field, value)
     }
 
+    #[inline(always)]
     fn record_bytes(&mut self, field: &Field<'_>, value: &[u8]) -> Result<(), V::Error> {
         Visit::record_bytes(self, field, value)
     }
 
+    #[inline(always)]
     fn record_error(&mut self, field: &Field<'_>, value: &ErrorText<'_>) -> Result<(), V::Error> {
         Visit::record_error(self, field, value)
     }
 
+    #[inline(always)]
     fn record_debug(&mut self, field: &Field<'_>, value: &DebugText<'_>) -> Result<(), V::Error> {
         Visit::record_debug(self, field, value)
     }

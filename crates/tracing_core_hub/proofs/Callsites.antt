@@ -1,15 +1,16 @@
 -- Callsites and the indices at which they stand.
-use Rattle.std.proofs.Common.{◌≡◌, ◌==◌, ℕ, suc, Bool, true, false, List, [], ◌∷◌, ◌++◌, length, Option, Some, None, refl, ap, sym, ◌∙◌, arith}
+use Rattle.std.proofs.Common.{◌≡◌, ◌==◌, ℕ, zero, suc, Bool, true, false, List, [], ◌∷◌, ◌++◌, length, Option, Some, None, refl, ap, sym, ◌∙◌, subst, arith}
 use Rattle.std.specs.Prelude.{if◌then◌else◌, cond, option_and_then, slice_get}
 use Rattle.std.specs.Option.{option_map}
 use Rattle.tracing_core_hub.specs.Asking.{Each, CallsiteAsked}
 use Rattle.tracing_core_hub.specs.Commands.{is_at, callsite_with}
 use Rattle.tracing_core_hub.specs.Indices.{index_among, index_of_callsite}
-use Rattle.tracing_core_hub.specs.Sound.{identifiers}
+use Rattle.tracing_core_hub.specs.Sound.{AreDistinct, identifiers}
 use Rattle.tracing_core_requests.specs.declared.callsite.Callsite.{Ghosts as SiteGhosts}
 use Rattle.tracing_core_requests.specs.declared.subscriber.Subscriber.{Ghosts}
 use Rattle.tracing_core_hub.specs.Kept.{KeptCallsite, KeptSubscriber}
-use Rattle.tracing_core_hub.proofs.Sounding.{identifiers_append}
+use Rattle.tracing_core_requests.specs.Lists.{Every}
+use Rattle.tracing_core_hub.proofs.Sounding.{distinct_append, identifiers_append, unknown_apart}
 
 module _ {C : Type 0} where
   at_later : (b : Bool) (r : KeptCallsite C) (callsites : List (KeptCallsite C)) (o : Option ℕ) (found : Option (KeptCallsite C)) → found ≡ option_and_then (λ index. slice_get callsites index) o →
@@ -71,6 +72,32 @@ module _ {C : Type 0} where
       ∙ place_more n other (identifiers callsites) (unknown_place n callsites none)
       ∙ ap (λ (m : ℕ). index_among other (identifiers callsites ++ m ∷ [])) (sym same)
       ∙ sym (ap (index_among other) (ap (λ (rs : List (KeptCallsite C)). identifiers rs) is ∙ identifiers_append callsites row))
+
+  -- with one more callsite whose identifier was unknown, identifiers still differ
+  pub taken_apart : (callsites later : List (KeptCallsite C)) (row : KeptCallsite C) (n : ℕ) → later ≡ callsites ++ row ∷ [] → row.identifier ≡ n → callsite_with n callsites ≡ None → AreDistinct (identifiers callsites) → AreDistinct (identifiers later)
+  taken_apart callsites later row n is same none apart =
+      subst AreDistinct (sym (ap (λ (rs : List (KeptCallsite C)). identifiers rs) is ∙ identifiers_append callsites row))
+      (distinct_append (identifiers callsites) row.identifier apart (unknown_apart row.identifier callsites (subst (λ (m : ℕ). callsite_with m callsites ≡ None) (sym same) none)))
+
+  abbrev IdentifierAt : List (KeptCallsite C) → ℕ → ℕ → Type 0
+  IdentifierAt callsites place n = option_map (λ (row : KeptCallsite C). row.identifier) (slice_get callsites place) ≡ Some n
+
+  one_of : (P : ℕ → Type 0) (callsites : List (KeptCallsite C)) (place n : ℕ) → Every P (identifiers callsites) → IdentifierAt callsites place n → P n
+  one_of P [] place n all is = let no : None ≡ Some n = is in absurd (cc)
+  one_of P (r ∷ callsites) zero n all is = let same : r.identifier ≡ n = cc in subst P same all.0
+  one_of P (r ∷ callsites) (suc place) n all is = one_of P callsites place n all.1 is
+
+  -- where identifiers differ, a callsite stands where its own is found
+  pub distinct_place : (callsites : List (KeptCallsite C)) (place n : ℕ) → AreDistinct (identifiers callsites) → option_map (λ (row : KeptCallsite C). row.identifier) (slice_get callsites place) ≡ Some n → index_of_callsite n callsites ≡ Some place
+  distinct_place [] place n apart is = let no : None ≡ Some n = is in absurd (cc)
+  distinct_place (r ∷ callsites) zero n apart is =
+      let same : r.identifier ≡ n = cc in
+      let here : (r.identifier == n) ≡ true = grind arith in
+      rw here refl
+  distinct_place (r ∷ callsites) (suc place) n apart is =
+      let differs : ¬ (n ≡ r.identifier) = one_of (λ m. ¬ (m ≡ r.identifier)) callsites place n apart.0 is in
+      let away : (r.identifier == n) ≡ false = grind arith in
+      rw away (ap (option_map suc) (distinct_place callsites place n apart.1 is))
 
 module _ {S C : Type 0} (g : Ghosts S) (h : SiteGhosts C) where
   -- asking leaves the identifiers

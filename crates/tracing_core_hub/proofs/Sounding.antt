@@ -18,7 +18,7 @@ pub every_append : {A : Type 0} (P : A → Type 0) (xs : List A) (x : A) → Eve
 every_append P [] x all last = (last, tt)
 every_append P (y ∷ ys) x all last = (all.0, every_append P ys x all.1 last)
 
-distinct_append : (ns : List ℕ) (x : ℕ) → AreDistinct ns → Every (λ m. ¬ (m ≡ x)) ns → AreDistinct (ns ++ x ∷ [])
+pub distinct_append : (ns : List ℕ) (x : ℕ) → AreDistinct ns → Every (λ m. ¬ (m ≡ x)) ns → AreDistinct (ns ++ x ∷ [])
 distinct_append [] x apart new = (tt, tt)
 distinct_append (n ∷ ns) x apart new = (every_append (λ m. ¬ (m ≡ n)) ns x apart.0 (λ e. new.0 (sym e)), distinct_append ns x apart.1 new.1)
 
@@ -33,7 +33,7 @@ module _ {C : Type 0} where
   row_tail : (n : ℕ) (r : KeptCallsite C) (callsites : List (KeptCallsite C)) → is_at n r ≡ false → callsite_with n (r ∷ callsites) ≡ callsite_with n callsites
   row_tail n r callsites e = rw e refl
 
-  unknown_apart : (n : ℕ) (callsites : List (KeptCallsite C)) → callsite_with n callsites ≡ None → Every (λ m. ¬ (m ≡ n)) (identifiers callsites)
+  pub unknown_apart : (n : ℕ) (callsites : List (KeptCallsite C)) → callsite_with n callsites ≡ None → Every (λ m. ¬ (m ≡ n)) (identifiers callsites)
   unknown_apart n [] none = tt
   unknown_apart n (r ∷ callsites) none =
       by_bool (is_at n r)

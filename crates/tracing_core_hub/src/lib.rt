@@ -19,6 +19,3 @@ pub use refusal::{
     UnknownLane,
 };
 pub use run::{Book, Command, CommandError, CommandReply, NoRoom};
-
-#[cfg(test)]
-mod tests;

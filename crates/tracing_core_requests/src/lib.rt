@@ -18,6 +18,3 @@ pub use interest::{Interest, InterestInner, inner_of, interest_of, interests_joi
 pub use refusal::RequestError;
 pub use requests::{Attributes, Current, Event, Record};
 pub use subscriber::{NoSubscriber, Subscriber};
-
-#[cfg(test)]
-mod tests;

@@ -8,6 +8,3 @@ mod value;
 
 pub use shown::{DebugValue, DisplayValue, debug, display};
 pub use value::{Empty, Value};
-
-#[cfg(test)]
-mod tests;

@@ -1,18 +1,24 @@
 //! Events and spans of a program, written as lines to a log file.
 
-ghost use Rattle.std.specs.Prelude.{◌≡◌, IfOk, OnErr, length, true, false, Err};
+ghost use Rattle.std.specs.Prelude.{◌≡◌, ◌∷◌, [], IfOk, OnErr, length, true, false, Err};
+ghost use Rattle.tracing_core.specs.OwnedValues.{owned_entries};
+ghost use Rattle.tracing_core.specs.PlainValue.{Text};
 ghost use Rattle.tracing_appender_rolling.specs.Moments.{is_moment};
 ghost use Rattle.span_tracing_outputs.specs.TraceFollows.{IsReady};
 ghost use Rattle.span_tracing_steps.specs.Steps.{StepGives};
 ghost use Rattle.span_tracing_runs.specs.Follows.{StackIsReady, registry_of};
+ghost use Rattle.span_tracing_runs.specs.Runs.{RunGives};
+ghost use Rattle.span_tracing_trace.specs.Ready.{RunsReady};
 ghost use Rattle.uses.specs.Programs.{message_step};
 
+use event_formatter_formats::FormatEvent;
+use event_formatter_text::FormatFields;
 use span_registry_layers::Filter;
 use span_tracing::{
-    Builder, FieldValue, Fields, FileStack, Format, LineFormat, LineSettings, Lines, MemoryFolder,
-    Moment, OutputKey, OutputSpec, OwnedValue, Parent, Refusal, Reply, RollingSink, Rotation,
-    Route, RoutedSinks, SinkSpec, Timer, Trace, leveled_outputs_are_honest, open_stack,
-    setup_follows,
+    Builder, FieldValue, Fields, FileStack, Folder, Format, LineFormat, LineSettings, Lines,
+    MemoryFolder, Moment, OutputKey, OutputSpec, OwnedValue, Parent, Refusal, Reply, RollingSink,
+    Rotation, Route, RoutedSinks, SinkSpec, Timer, Trace, calls_make_runs,
+    leveled_outputs_are_honest, open_stack, setup_follows,
 };
 use std::alloc::{AllocError, Global};
 use tracing_core::{Identifier, LevelFilter, Subscriber};
@@ -63,7 +69,7 @@ fn stack_of(
         return Err(Refusal::OutOfMemory);
     }
     leveled_outputs_are_honest::<MemoryFolder>();
-    open_stack(alloc, outputs, moment)
+    open_stack(alloc, outputs, moment).map_err(|refused| refused.refusal)
 }
 
 // A trace with this stack and one lane, which reaches the stack.
@@ -119,6 +125,16 @@ pub fn open_trace(
     trace_over(alloc, stack)
 }
 
+// A text as the value of a callsite's first field.
+fn message(alloc: Global, text: &str) -> Result<FieldValue, AllocError>
+    ensures { IfOk result (λ given. owned_entries (given ∷ []) ≡ (0, Text text.now) ∷ []) }
+{
+    Ok(FieldValue {
+        field: 0,
+        value: OwnedValue::Text(String::from_str(alloc, text)?),
+    })
+}
+
 /// Logs a text as an event at a callsite whose first field is the message, on lane 0: the step that `message_step` tells.
 /// A refused step leaves the trace as it was.
 ///
@@ -136,9 +152,38 @@ pub fn log_text(
         trace.old (message_step moment callsite.0 text.now) reply trace.new) }
     ensures err { OnErr result (trace.new ≡ trace.old) }
 {
-    let message = FieldValue {
-        field: 0,
-        value: OwnedValue::Text(String::from_str(alloc, text)?),
-    };
+    let message = message(alloc, text)?;
     Ok(trace.event(0, moment, callsite, Parent::Contextual, &[message]))
+}
+
+/// Logs two texts, each as `log_text` does, by two calls. They are a run of two steps. So where the stack is ready, as `open_trace` leaves
+/// it, `RunsReady` says which lines the sink took of them, and which bytes stand in its files afterwards.
+///
+/// # Errors
+///
+/// Want of memory for the texts; the trace is as it was.
+pub fn log_both(
+    alloc: Global,
+    trace: &mut MemoryTrace,
+    moment: Moment,
+    callsite: Identifier,
+    first: &str,
+    second: &str,
+) -> Result<(Reply, Reply), AllocError>
+    ensures gives { IfOk result (λ replies. RunGives ⟦<FileStack<LevelFilter, MemoryFolder> as Subscriber>⟧ trace.old
+        (message_step moment callsite.0 first.now ∷ message_step moment callsite.0 second.now ∷ [])
+        (replies.0 ∷ replies.1 ∷ []) trace.new) }
+    ensures run { IfOk result (λ replies. RunsReady ⟦<MemoryFolder as Folder>⟧.contents ⟦<MemoryFolder as Folder>⟧.failed
+        ⟦<Fields as FormatFields>⟧ ⟦<Format<LineFormat, Timer> as FormatEvent>⟧.line_of ⟦<LevelFilter as Filter>⟧
+        ⟦<Lines as span_registry_layers::Layer>⟧ trace.old
+        (message_step moment callsite.0 first.now ∷ message_step moment callsite.0 second.now ∷ [])
+        (replies.0 ∷ replies.1 ∷ []) trace.new) }
+    ensures err { OnErr result (trace.new ≡ trace.old) }
+{
+    calls_make_runs::<Fields, Format<LineFormat, Timer>, LevelFilter, MemoryFolder>();
+    let first = message(alloc, first)?;
+    let second = message(alloc, second)?;
+    let reply = trace.event(0, moment, callsite, Parent::Contextual, &[first]);
+    let last = trace.event(0, moment, callsite, Parent::Contextual, &[second]);
+    Ok((reply, last))
 }

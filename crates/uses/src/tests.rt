@@ -12,7 +12,7 @@ use crate::choice::{by_closure, by_level, under_choice};
 use crate::filter::{hand, under_closure, under_level, under_verbosity};
 use crate::hub::{Tally, events_of, hub_of, log_event, reach_by_default};
 use crate::layer::Counts;
-use crate::program::{log_text, open_trace};
+use crate::program::{log_both, log_text, open_trace};
 use crate::queue::{close_behind, dropping_queue, next_line, offer_text, two_in_order};
 use crate::rolling::{files_of, open_daily, write_line};
 use crate::visitor::{kinds_of, texts_of};
@@ -232,11 +232,14 @@ fn a_program_logs_a_line(rt: HostRuntime) -> Result<(), Fail> {
     assert!(rt; trace.register(Identifier(3), &detail).is_ok());
     let reply = log_text(alloc, &mut trace, MONDAY, Identifier(3), "a detail")?;
     assert!(rt; reply == Reply::Done);
+    let (reply, last) = log_both(alloc, &mut trace, MONDAY, Identifier(2), "saved", "sent")?;
+    assert!(rt; reply == Reply::Done && last == Reply::Done);
     let sink = trace.sink(0, 0).ok_or("a sink")?;
     let files = sink.appender().folder().files()?;
     let file = files.first().ok_or("no file")?;
     assert_eq!(rt; file.name, "app.2025-02-17.log");
-    assert_eq!(rt; file.bytes, b" INFO app: finished\n".as_slice());
+    let lines = b" INFO app: finished\n INFO app: saved\n INFO app: sent\n";
+    assert_eq!(rt; file.bytes, lines.as_slice());
     Ok(())
 }
 

@@ -1,6 +1,9 @@
 //! Fields as members of a JSON object.
 ghost use Rattle.std.specs.Prelude.{◌≡◌, ◌++◌, if◌then◌else◌};
 ghost use Rattle.std.specs.Result.{is_ok};
+ghost use Rattle.tracing_core_fields.specs.DebugText.{plain_debug};
+ghost use Rattle.tracing_core_fields.specs.Field.{plain_field};
+ghost use Rattle.event_formatter_text.specs.Visitors.{ShowsAsJson};
 ghost use Rattle.event_formatter_text.specs.Writers.{IsSameWriter, written};
 
 use crate::error::FormatError;
@@ -38,23 +41,45 @@ impl<'w> JsonVisitor<'w> {
     {
         self.writer.write_str(text)
     }
+
+    // Appends a member. It's inlined, so that the kind of a value that is known is not asked again.
+    #[inline(always)]
+    fn write_member(&mut self, field: &Field<'_>, value: &DebugText<'_>) -> Result<(), FormatError>
+        ensures { ShowsAsJson self.old (plain_field field.now) (plain_debug value.now) result self.new }
+    {
+        let is_first = self.is_empty;
+        self.is_empty = false;
+        self.writer.write_member(is_first, field.name(), value)
+    }
 }
 
 impl Visit for JsonVisitor<'_> {
-    ghost use Rattle.event_formatter_text.specs.Visitors.{ShowsAsJson};
-
     type Error = FormatError;
 
     ghost shows = { ShowsAsJson };
 
     #[inline(always)]
+    fn record_i64(&mut self, field: &Field<'_>, value: i64) -> Result<(), FormatError> {
+        self.write_member(field, &DebugText::I64(value))
+    }
+
+    #[inline(always)]
+    fn record_u64(&mut self, field: &Field<'_>, value: u64) -> Result<(), FormatError> {
+        self.write_member(field, &DebugText::U64(value))
+    }
+
+    #[inline(always)]
+    fn record_str(&mut self, field: &Field<'_>, value: &str) -> Result<(), FormatError> {
+        self.write_member(field, &DebugText::Str(value))
+    }
+
+    // Values of the other kinds are fewer, and share one piece of code.
+    #[inline(never)]
     fn record_debug(
         &mut self,
         field: &Field<'_>,
         value: &DebugText<'_>,
     ) -> Result<(), FormatError> {
-        let is_first = self.is_empty;
-        self.is_empty = false;
-        self.writer.write_member(is_first, field.name(), value)
+        self.write_member(field, value)
     }
 }

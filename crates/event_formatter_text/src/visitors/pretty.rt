@@ -1,6 +1,9 @@
 //! Fields as `name: value`.
 ghost use Rattle.std.specs.Prelude.{◌≡◌, ◌++◌, false, if◌then◌else◌};
 ghost use Rattle.std.specs.Result.{is_ok};
+ghost use Rattle.tracing_core_fields.specs.DebugText.{plain_debug};
+ghost use Rattle.tracing_core_fields.specs.Field.{plain_field};
+ghost use Rattle.event_formatter_text.specs.Visitors.{ShowsPrettily};
 ghost use Rattle.event_formatter_text.specs.Writers.{IsSameWriter, plainly, written};
 
 use crate::error::FormatError;
@@ -50,23 +53,46 @@ impl<'w> PrettyVisitor<'w> {
     {
         self.writer.write_str(text)
     }
+
+    // Appends a field. It's inlined, so that the kind of a value that is known is not asked again.
+    #[inline(always)]
+    fn write_field(&mut self, field: &Field<'_>, value: &DebugText<'_>) -> Result<(), FormatError>
+        ensures { ShowsPrettily self.old (plain_field field.now) (plain_debug value.now) result self.new }
+    {
+        let is_first = self.is_empty;
+        self.is_empty = false;
+        self.writer
+            .write_field(Punctuation::Pretty, is_first, field.name(), value)
+    }
 }
 
 impl Visit for PrettyVisitor<'_> {
-    ghost use Rattle.event_formatter_text.specs.Visitors.{ShowsPrettily};
-
     type Error = FormatError;
 
     ghost shows = { ShowsPrettily };
 
+    #[inline(always)]
+    fn record_i64(&mut self, field: &Field<'_>, value: i64) -> Result<(), FormatError> {
+        self.write_field(field, &DebugText::I64(value))
+    }
+
+    #[inline(always)]
+    fn record_u64(&mut self, field: &Field<'_>, value: u64) -> Result<(), FormatError> {
+        self.write_field(field, &DebugText::U64(value))
+    }
+
+    #[inline(always)]
+    fn record_str(&mut self, field: &Field<'_>, value: &str) -> Result<(), FormatError> {
+        self.write_field(field, &DebugText::Str(value))
+    }
+
+    // Values of the other kinds are fewer, and share one piece of code.
+    #[inline(never)]
     fn record_debug(
         &mut self,
         field: &Field<'_>,
         value: &DebugText<'_>,
     ) -> Result<(), FormatError> {
-        let is_first = self.is_empty;
-        self.is_empty = false;
-        self.writer
-            .write_field(Punctuation::Pretty, is_first, field.name(), value)
+        self.write_field(field, value)
     }
 }

@@ -1,9 +1,9 @@
 // Folders that refuse, under a trace.
 
 use crate::{
-    Builder, FaultyFolder, FieldValue, FileStack, FolderFault, LineSettings, MemoryFolder, Moment,
-    OutputKey, OutputSpec, OwnedValue, Parent, Refusal, Reply, Rotation, Route, SinkSpec, Timer,
-    Trace, open_stack,
+    Builder, FaultyFolder, FieldValue, FileStack, FolderFault, InitContext, LineSettings,
+    MemoryFolder, Moment, OutputKey, OutputSpec, OwnedValue, Parent, Refusal, Reply, Rotation,
+    Route, SinkSpec, Timer, Trace, open_stack,
 };
 use std::alloc::Global;
 use std::process::Abort;
@@ -190,7 +190,7 @@ fn a_folder_that_opens_no_file_is_refused(rt: HostRuntime) -> Result<(), Fail> {
     sinks.push(sink_of(alloc, &[1, 3])?).ok().ok_or("room")?;
     let lines = LineSettings::full();
     let spec = OutputSpec::new(
-        OutputKey(0),
+        OutputKey(3),
         LevelFilter::INFO,
         lines,
         Route::Sink(0),
@@ -201,8 +201,11 @@ fn a_folder_that_opens_no_file_is_refused(rt: HostRuntime) -> Result<(), Fail> {
     outputs.push(spec).ok().ok_or("room")?;
     match open_stack(alloc, outputs, MONDAY) {
         Ok(_) => Err("the folder opened a file".into()),
-        Err(refusal) => {
-            assert_eq!(rt; refusal, Refusal::FolderRefused);
+        Err(refused) => {
+            assert_eq!(rt; refused.refusal, Refusal::FolderRefused);
+            assert_eq!(rt; refused.output, Some(OutputKey(3)));
+            let fault = refused.fault.ok_or("the folder's fault")?;
+            assert_eq!(rt; fault.context, InitContext::File);
             Ok(())
         }
     }

@@ -1,5 +1,5 @@
 //! The callsites of a hub, found by their identifiers in one step.
-ghost use Rattle.std.specs.Prelude.{◌≡◌, [], None, slice_get};
+ghost use Rattle.std.specs.Prelude.{◌≡◌, [], None, Some, IfSome, IsTrue, slice_get};
 ghost use Rattle.std.specs.Option.{option_map};
 ghost use Rattle.tracing_core_hub.specs.Asking.{Each, CallsiteAsked};
 ghost use Rattle.tracing_core_hub.specs.Commands.{callsite_with};
@@ -25,12 +25,14 @@ impl<C> Model for Callsites<C> {
     ghost use Rattle.std.specs.Prelude.{◌≡◌, ℕ, List, nat_eq};
     ghost use Rattle.tracing_core_hub.specs.Indices.{index_of_callsite};
     ghost use Rattle.tracing_core_hub.specs.Kept.{KeptCallsite};
+    ghost use Rattle.tracing_core_hub.specs.Sound.{AreDistinct, identifiers};
 
     ghost Value = { List (KeptCallsite C) };
 
     ghost view = { λ c. c.callsites.items };
 
-    ghost invariant = { λ c. (n : ℕ) → get nat_eq c.indices n ≡ index_of_callsite n c.callsites.items };
+    ghost invariant = { λ c. ((n : ℕ) → get nat_eq c.indices n ≡ index_of_callsite n c.callsites.items) ×
+        AreDistinct (identifiers c.callsites.items) };
 }
 
 impl<C> Callsites<C> {
@@ -49,8 +51,43 @@ impl<C> Callsites<C> {
         self.callsites.as_slice()
     }
 
-    // The index of the callsite with the identifier.
+    // Whether the callsite at the index has the identifier.
+    fn stands_at(&self, identifier: u64, index: usize) -> bool
+        ensures { IsTrue result → option_map (λ site. site.identifier) (slice_get self.now index) ≡ Some identifier }
+    {
+        match self.at(index) {
+            None => false,
+            Some(registered) => registered.identifier == identifier,
+        }
+    }
+
+    // The index of the callsite with the identifier, where identifiers rise by one from the first callsite's to it.
+    fn counted_index(&self, identifier: u64) -> Option<usize>
+        ensures { IfSome result (λ index. index_of_callsite identifier self.now ≡ Some index) }
+    {
+        let first = self.callsites.first()?;
+        let index = identifier.wrapping_sub(first.identifier) as usize;
+        if self.stands_at(identifier, index) {
+            Some(index)
+        } else {
+            None
+        }
+    }
+
+    // The index of the callsite with the identifier. Most programs count their identifiers, so that is tried first.
+    #[inline(always)]
     pub(crate) fn index_of(&self, identifier: u64) -> Option<usize>
+        ensures { result ≡ index_of_callsite identifier self.now }
+    {
+        match self.counted_index(identifier) {
+            None => self.mapped_index(identifier),
+            Some(index) => Some(index),
+        }
+    }
+
+    // The same by the map.
+    #[inline(never)]
+    fn mapped_index(&self, identifier: u64) -> Option<usize>
         ensures { result ≡ index_of_callsite identifier self.now }
     {
         match self.indices.get(&identifier) {

@@ -1,24 +1,36 @@
-use Rattle.std.proofs.Common.{ap, reverse, ◌∙◌, ℕ, Option}
+use Rattle.std.proofs.Common.{◌<◌, ℕ, true, false, subst}
 use Rattle.tracing_core_requests.specs.PlainRequests.{plain_event}
-use Rattle.span_registry_layers_layers.specs.Contexts.{event_span}
+use Rattle.span_registry_layers_store.specs.References.{plain_ref}
 use Rattle.span_registry_layers_layers.specs.Looks.{view}
-use Rattle.event_formatter_formats.specs.Walks.{ids_from}
-use Rattle.event_formatter_formats.proofs.Scopes.{filled, has_number, shows}
+use Rattle.event_formatter_formats.proofs.Scopes.{fills_loose, fills_strict, has_none, has_number, shows}
 use Rattle.event_formatter_formats.proofs.scope.fill_scope.Goals as goal
 
-pub returns-clause-spans : goal.returns-clause-spans
-returns-clause-spans c =
-    let v = view c.args.context.now in
-    rw c.is_some.ensures (filled v (plain_event c.args.event.now).parent c.fill_to.new.ids.items c.event_leaf-stands_in.result c.event_leaf-stands_in.ensures.span
-    (c.in_ok-fill_to.ensures ∙ ap (λ (leaf : Option ℕ). reverse (ids_from v leaf)) c.loose_leaf-leaf.ensures))
+pub returns-in_ok-fill_from-in-Some-clause-spans : goal.returns-in_ok-fill_from-in-Some-clause-spans
+returns-in_ok-fill_from-in-Some-clause-spans c =
+    fills_strict (view c.args.context.now) (plain_event c.args.event.now).parent (plain_ref c.in-Some.span) c.fill_from.new.ids.items c.in-Some.ensures c.in_ok-fill_from-in-Some.ensures
 
-pub returns-clause-shown : goal.returns-clause-shown
-returns-clause-shown c =
+pub returns-in_ok-fill_from-in-Some-clause-shown : goal.returns-in_ok-fill_from-in-Some-clause-shown
+returns-in_ok-fill_from-in-Some-clause-shown c =
     let v = view c.args.context.now in
-    rw c.is_some.ensures (shows v (plain_event c.args.event.now).parent c.fill_to.new.ids.items c.event_leaf-stands_in.result c.event_leaf-stands_in.ensures.span
-    (c.in_ok-fill_to.ensures ∙ ap (λ (leaf : Option ℕ). reverse (ids_from v leaf)) c.loose_leaf-leaf.ensures))
+    let parent = (plain_event c.args.event.now).parent in
+    let ids = c.fill_from.new.ids.items in
+    shows v parent ids true (fills_strict v parent (plain_ref c.in-Some.span) ids c.in-Some.ensures c.in_ok-fill_from-in-Some.ensures)
 
-pub returns-clause-number : goal.returns-clause-number
-returns-clause-number c =
-    let stands_in = c.event_leaf-stands_in in
-    has_number (event_span (view c.args.context.now) (plain_event c.args.event.now).parent) stands_in.result stands_in.ensures.span stands_in.ensures.number
+pub returns-in_ok-fill_from-in-Some-clause-number : goal.returns-in_ok-fill_from-in-Some-clause-number
+returns-in_ok-fill_from-in-Some-clause-number c =
+    has_number (view c.args.context.now) (plain_event c.args.event.now).parent (plain_ref c.in-Some.span) c.in-Some.ensures (subst (λ (id : ℕ). 0 < id) c.id_of-id.ensures.same c.id_of-id.ensures.number)
+
+pub returns-in_ok-fill_from_lane-in-None-clause-spans : goal.returns-in_ok-fill_from_lane-in-None-clause-spans
+returns-in_ok-fill_from_lane-in-None-clause-spans c =
+    fills_loose (view c.args.context.now) (plain_event c.args.event.now).parent c.fill_from_lane.new.ids.items c.in-None.ensures c.in_ok-fill_from_lane-in-None.ensures
+
+pub returns-in_ok-fill_from_lane-in-None-clause-shown : goal.returns-in_ok-fill_from_lane-in-None-clause-shown
+returns-in_ok-fill_from_lane-in-None-clause-shown c =
+    let v = view c.args.context.now in
+    let parent = (plain_event c.args.event.now).parent in
+    let ids = c.fill_from_lane.new.ids.items in
+    shows v parent ids false (fills_loose v parent ids c.in-None.ensures c.in_ok-fill_from_lane-in-None.ensures)
+
+pub returns-in_ok-fill_from_lane-in-None-clause-number : goal.returns-in_ok-fill_from_lane-in-None-clause-number
+returns-in_ok-fill_from_lane-in-None-clause-number c =
+    has_none (view c.args.context.now) (plain_event c.args.event.now).parent c.in-None.ensures

@@ -1,11 +1,10 @@
-use Rattle.std.proofs.Common.{Some, None, subst}
-use Rattle.span_tracing_files.specs.Refused.{SinksTell}
-use Rattle.span_tracing_files.specs.declared.output_spec.OutputSpec.{OutputSpec}
+use Rattle.std.proofs.Common.{Some, None, refl, subst}
+use Rattle.span_tracing_files.specs.Refused.{OutputTells, SinksTell}
 use Rattle.span_tracing_files.proofs.Late.{here_tells, none_left}
 use Rattle.span_tracing_files.proofs.opening.names_refusal.Goals as goal
 
 pub returns-in-Some : goal.returns-in-Some
-returns-in-Some g c = c.loop-rest.invariant (Some c.in-Some.refusal) (here_tells (λ (spec : OutputSpec _ _). SinksTell spec.sinks.items) c.loop-rest.rest.now c.output-item.result _ c.in-Some.refusal c.in-len1-up.len_at_least c.output-item.is (subst (λ xs. SinksTell xs (Some c.in-Some.refusal)) c.as_slice.ensures.value c.in-Some.ensures))
+returns-in-Some g c = c.loop-rest.invariant (Some (c.output-item.result.key, c.in-Some.refusal)) (here_tells OutputTells c.loop-rest.rest.now c.output-item.result _ (c.output-item.result.key, c.in-Some.refusal) c.in-len1-up.len_at_least c.output-item.is (refl, subst (λ xs. SinksTell xs (Some c.in-Some.refusal)) c.as_slice.ensures.value c.in-Some.ensures))
 
 pub returns : goal.returns
-returns g c = c.loop-rest.invariant None (none_left (λ (spec : OutputSpec _ _). SinksTell spec.sinks.items) c.loop-rest.rest.now c.in_default.len_below)
+returns g c = c.loop-rest.invariant None (none_left OutputTells c.loop-rest.rest.now c.in_default.len_below)

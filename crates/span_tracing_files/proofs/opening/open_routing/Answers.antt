@@ -1,7 +1,11 @@
+use Rattle.std.proofs.Common.{sym, subst}
 use Rattle.span_tracing_files.specs.Opened.{OpensSink}
+use Rattle.span_tracing_files.specs.Refused.{RoutingRefuses}
+use Rattle.span_tracing_files.specs.declared.open_error.OpenStackError.{OpenStackError}
 use Rattle.span_tracing_files.proofs.Asked.{bad_route}
 use Rattle.span_tracing_files.proofs.opening.open_routing.Goals as goal
 
 pub returns-clause-refused : goal.returns-clause-refused
 returns-clause-refused g c =
-    bad_route (OpensSink g.D.Folder.contents g.D.Folder.failed c.args.moment) c.args.routing c.in_ok-opened.opened.items c.in-Err.field-0 c.in_ok-opened.ensures.opened c.in-Err.ensures
+    subst (λ (told : OpenStackError). RoutingRefuses told c.args.routing) (sym c.at_output.ensures)
+    (bad_route (OpensSink g.D.Folder.contents g.D.Folder.failed c.args.moment) c.args.routing c.in_ok-opened.opened.items c.in-Err.field-0 c.in_ok-opened.ensures.opened c.in-Err.ensures)

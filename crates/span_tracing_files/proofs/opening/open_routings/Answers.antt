@@ -1,9 +1,9 @@
 use Rattle.std.proofs.Common.{◌∷◌, ◌++◌, [], inr, refl, sym, subst}
 use Rattle.std.specs.Vec.Iter.{into_iter_items}
-use Rattle.span_tracing_skeleton.specs.declared.refusal.Refusal.{Refusal}
 use Rattle.span_tracing_skeleton.specs.declared.refusal.Refusal.TheVariants.{OutOfMemory}
 use Rattle.span_tracing_files.specs.Opened.{OpensRouting, Pairs}
-use Rattle.span_tracing_files.specs.Refused.{InOne, RoutingRefuses}
+use Rattle.span_tracing_files.specs.Refused.{InOne, RoutingRefuses, at_output}
+use Rattle.span_tracing_files.specs.declared.open_error.OpenStackError.{OpenStackError}
 use Rattle.span_tracing_files.proofs.Late.{first_refuses, goes_out, later_refuses}
 use Rattle.span_tracing_files.proofs.Paired.{pairs_more}
 use Rattle.span_tracing_files.proofs.opening.open_routings.Goals as goal
@@ -16,8 +16,11 @@ loop-routing-preserved g c = record {
 
 pub returns-in_err-routed-clause-refused : goal.returns-in_err-routed-clause-refused
 returns-in_err-routed-clause-refused g c =
-    goes_out (λ (told : Refusal). InOne (RoutingRefuses told) c.args.routings.items) c.from_residual.result c.in_err-routed.field-0.0 c.from_residual.ensures.1
+    goes_out (λ (told : OpenStackError). InOne (RoutingRefuses told) c.args.routings.items) c.from_residual.result c.in_err-routed.field-0.0 c.from_residual.ensures.1
     (c.loop-routing.invariant.refused c.in_err-routed.field-0.0 (first_refuses (RoutingRefuses c.in_err-routed.field-0.0) (into_iter_items c.loop-routing.routing-iterator) c.in-Some.routing (into_iter_items c.next.new.self) c.in-Some.ensures.steps.0 c.in_err-routed.ensures.refused))
 
 pub returns-in_default-clause-refused : goal.returns-in_default-clause-refused
-returns-in_default-clause-refused g c = c.loop-routing.invariant.refused OutOfMemory (first_refuses (RoutingRefuses OutOfMemory) (into_iter_items c.loop-routing.routing-iterator) c.in-Some.routing (into_iter_items c.next.new.self) c.in-Some.ensures.steps.0 (inr (inr (inr refl))))
+returns-in_default-clause-refused g c =
+    let short = at_output c.in-Some.routing.key OutOfMemory in
+    subst (λ (told : OpenStackError). InOne (RoutingRefuses told) c.args.routings.items) (sym c.at_output.ensures)
+    (c.loop-routing.invariant.refused short (first_refuses (RoutingRefuses short) (into_iter_items c.loop-routing.routing-iterator) c.in-Some.routing (into_iter_items c.next.new.self) c.in-Some.ensures.steps.0 (inr (inr refl))))

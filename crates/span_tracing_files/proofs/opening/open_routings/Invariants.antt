@@ -1,12 +1,12 @@
 use Rattle.std.specs.Vec.Iter.{into_iter_items}
-use Rattle.span_tracing_skeleton.specs.declared.refusal.Refusal.{Refusal}
 use Rattle.span_tracing_files.specs.Opened.{OpensRouting, Pairs}
 use Rattle.span_tracing_files.specs.Refused.{InOne, RoutingRefuses}
+use Rattle.span_tracing_files.specs.declared.open_error.OpenStackError.{OpenStackError}
 use Rattle.span_tracing_files.proofs.opening.open_routings.Given as goal
 
 abbrev pub invariant-loop-routing : goal.invariant-loop-routing
 invariant-loop-routing g l =
     record {
       opened : Pairs (OpensRouting g.D.Folder.contents g.D.Folder.failed l.moment) l.yielded l.opened.items;
-      refused : (told : Refusal) → InOne (RoutingRefuses told) (into_iter_items l.routing-iterator) → InOne (RoutingRefuses told) l.fn.routings.items;
+      refused : (told : OpenStackError) → InOne (RoutingRefuses told) (into_iter_items l.routing-iterator) → InOne (RoutingRefuses told) l.fn.routings.items;
     }

@@ -1,12 +1,12 @@
 use Rattle.std.specs.Vec.Iter.{into_iter_items}
-use Rattle.span_tracing_skeleton.specs.declared.refusal.Refusal.{Refusal}
 use Rattle.span_tracing_files.specs.Opened.{OpensSink, Pairs}
 use Rattle.span_tracing_files.specs.Refused.{InOne, SinkRefuses}
+use Rattle.span_tracing_files.specs.declared.open_error.OpenStackError.{OpenStackError}
 use Rattle.span_tracing_files.proofs.opening.open_sinks.Given as goal
 
 abbrev pub invariant-loop-spec : goal.invariant-loop-spec
 invariant-loop-spec g l =
     record {
       opened : Pairs (OpensSink g.D.Folder.contents g.D.Folder.failed l.moment) l.yielded l.sinks.items;
-      refused : (told : Refusal) → InOne (SinkRefuses told) (into_iter_items l.spec-iterator) → InOne (SinkRefuses told) l.fn.specs.items;
+      refused : (told : OpenStackError) → InOne (SinkRefuses l.fn.key told) (into_iter_items l.spec-iterator) → InOne (SinkRefuses l.fn.key told) l.fn.specs.items;
     }

@@ -11,7 +11,7 @@ loop-sink-preserved g c =
     let level = c.args.level in
     let bytes = c.args.line.now in
     let inv = c.loop-sink.invariant in
-    let goes : c.goes_to.result ≡ goes_to route level c.loop-sink.sink-index = c.goes_to.ensures ∙ ap (λ (n : ℕ). goes_to route level n) inv.place in
+    let goes : c.is_sent.result ≡ goes_to route level c.loop-sink.sink-index = c.is_sent.ensures ∙ ap (λ (n : ℕ). goes_to route level n) inv.place in
     let became = subst (λ (b : Bool). TakesIf takes b (get_or c.loop-sink.sinks c.loop-sink.sink-index c.sink-item.result) at (record { level = level; bytes = bytes }) c.take_if.new.sink) goes c.take_if.ensures in
     let turn = next_turn (TakesSent takes route at (record { level = level; bytes = bytes })) c.args.sinks.now c.loop-sink.sinks c.loop-sink.sink-index c.sink-item.result c.take_if.new.sink
     (omega arith) (omega arith) (inv.done, inv.left) became in

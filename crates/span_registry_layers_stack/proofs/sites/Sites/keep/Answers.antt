@@ -1,29 +1,44 @@
-use Rattle.std.proofs.Common.{◌≡◌, ◌++◌, ◌∙◌, ℕ, List, true, take, drop, length, map, arith, ap, sym, subst}
+use Rattle.std.proofs.Common.{◌≡◌, ◌++◌, ◌∷◌, [], ◌∙◌, List, true, false, take, drop, length, map, arith, ap, sym, subst}
+use Rattle.std.specs.Prelude.{◌==◌, ◌&&◌}
 use Rattle.std.specs.List.{list_any}
 use Rattle.std.proofs.lemmas.List.{with_items_is}
 use Rattle.tracing_core_fields.specs.Metadata.{plain_metadata}
 use Rattle.tracing_core_requests.specs.Interests.{says_never}
+use Rattle.tracing_core_fields.specs.PlainMetadata.{PlainMetadata}
 use Rattle.span_registry_layers_stack.specs.Refusals.{is_refusal_of, may_refuse}
 use Rattle.span_registry_layers_stack.specs.Rows.{EachBecomes}
 use Rattle.span_registry_layers_stack.specs.Sites.{KeepsInterest, PlainCachedInterest, Renews, is_of, plain_cached_interest}
 use Rattle.span_registry_layers_stack.specs.declared.cached_interest.CachedInterest.{CachedInterest}
 use Rattle.span_registry_layers_stack.proofs.Keeping.{keeps_renewed, renewed_all}
-use Rattle.span_registry_layers_stack.proofs.Refusing.{apart, none_renewed, untrue}
+use Rattle.span_registry_layers_stack.proofs.Refusing.{apart, kept_more, none_renewed, untrue}
 use Rattle.span_registry_layers_stack.proofs.sites.Sites.keep.Goals as goal
 
 pub invariant_of-self : goal.invariant_of-self
-invariant_of-self c = λ n off.
+invariant_of-self c = λ n level off.
     let s = c.self.inside.sites in
     let u = c.renew.new.sites in
     let m = plain_metadata c.args.metadata.now in
     let k = c.args.interest in
     let whole : take s.len (u ++ drop (length u) s.items) ≡ u = with_items_is s u (omega arith) in
     let becomes : EachBecomes (Renews m k) s.items u = subst (λ (sites : List CachedInterest). EachBecomes (Renews m k) sites u) c.deref_mut.ensures.value c.renew.ensures in
-    let noted : says_never k ≡ true → may_refuse c.note.new.self m.callsite ≡ true = λ says. subst (λ (x : ℕ). may_refuse c.note.new.self x ≡ true) c.callsite-number.ensures (c.note.ensures.noted says) in
-    ap (λ (sites : List CachedInterest). list_any (is_refusal_of n) (map plain_cached_interest sites)) whole
-    ∙ ap (list_any (is_refusal_of n)) (renewed_all m k s.items u becomes)
-    ∙ none_renewed m k n (map plain_cached_interest s.items) (apart k (may_refuse c.note.new.self) m.callsite n noted off)
-    (c.self.invariant n (untrue (may_refuse c.self.inside.refusals n) (may_refuse c.note.new.self n) (c.note.ensures.stays n) off))
+    ap (λ (sites : List CachedInterest). list_any (is_refusal_of n level) (map plain_cached_interest sites)) whole
+    ∙ ap (list_any (is_refusal_of n level)) (renewed_all m k s.items u becomes)
+    ∙ none_renewed m k n level (map plain_cached_interest s.items) (apart k (may_refuse c.note.new.self) m.callsite m.level n level c.note.ensures.noted off)
+    (c.self.invariant n level (untrue (may_refuse c.self.inside.refusals n level) (may_refuse c.note.new.self n level) (c.note.ensures.stays n level) off))
+
+pub invariant_of-self-2 : goal.invariant_of-self-2
+invariant_of-self-2 c = λ n level off.
+    let s = c.self.inside.sites in
+    let m = plain_metadata c.args.metadata.now in
+    let k = c.args.interest in
+    let site : CachedInterest = record { metadata = c.in-Ok.copy; interest = k } in
+    let items : c.push_reserved.new.self.items ≡ s.items ++ site ∷ [] = c.push_reserved.ensures.items ∙ ap (λ (sites : List CachedInterest). sites ++ site ∷ []) c.reserve.ensures.items in
+    let old = c.self.invariant n level (untrue (may_refuse c.self.inside.refusals n level) (may_refuse c.note-2.new.self n level) (c.note-2.ensures.stays n level) off) in
+    let new : is_refusal_of n level (plain_cached_interest site) ≡ false =
+    ap (λ (x : PlainMetadata). says_never k && (x.callsite == n && x.level == level)) c.in-Ok.ensures
+    ∙ apart k (may_refuse c.note-2.new.self) m.callsite m.level n level c.note-2.ensures.noted off in
+    ap (λ (sites : List CachedInterest). list_any (is_refusal_of n level) (map plain_cached_interest sites)) items
+    ∙ kept_more n level s.items site old new
 
 pub returns-then-is_kept : goal.returns-then-is_kept
 returns-then-is_kept c =

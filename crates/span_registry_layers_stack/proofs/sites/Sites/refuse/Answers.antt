@@ -1,4 +1,4 @@
-use Rattle.std.proofs.Common.{◌∙◌, ◌≡◌, ℕ, false, map, ap, sym, subst}
+use Rattle.std.proofs.Common.{◌∙◌, ◌≡◌, false, map, ap, sym}
 use Rattle.std.specs.List.{list_any}
 use Rattle.tracing_core_fields.specs.Metadata.{plain_metadata}
 use Rattle.span_registry_layers_stack.specs.Refusals.{is_refusal_of, may_refuse}
@@ -10,7 +10,6 @@ pub returns-then-not-may_refuse : goal.returns-then-not-may_refuse
 returns-then-not-may_refuse c =
     let m = plain_metadata c.args.metadata.now in
     let sites = map plain_cached_interest c.self.inside.sites.items in
-    let off : may_refuse c.self.inside.refusals c.callsite-number.result.0 ≡ false = sym c.may_refuse.ensures ∙ c.if-not-may_refuse.true in
-    let none : list_any (is_refusal_of m.callsite) sites ≡ false =
-    subst (λ (n : ℕ). list_any (is_refusal_of n) sites ≡ false) c.callsite-number.ensures (c.self.invariant c.callsite-number.result.0 off) in
+    let off : may_refuse c.self.inside.refusals m.callsite m.level ≡ false = sym c.may_refuse.ensures ∙ c.if-not-may_refuse.true in
+    let none : list_any (is_refusal_of m.callsite m.level) sites ≡ false = c.self.invariant m.callsite m.level off in
     sym (ap (list_any (is_refused_by m)) (sym c.self.view_is) ∙ nobody_refuses m sites none)

@@ -2,20 +2,19 @@ use Rattle.std.proofs.Common.{ap, sym, subst, ◌∙◌, arith, List}
 use Rattle.std.proofs.lemmas.List.{with_items_is}
 use Rattle.tracing_core_hub.specs.Asking.{Each, CallsiteAsked}
 use Rattle.tracing_core_hub.specs.Indices.{index_among}
-use Rattle.tracing_core_hub.specs.Sound.{identifiers}
+use Rattle.tracing_core_hub.specs.Sound.{AreDistinct, identifiers}
 use Rattle.tracing_core_hub.specs.Kept.{KeptCallsite}
 use Rattle.tracing_core_hub.proofs.Callsites.{asked_identifiers}
 use Rattle.tracing_core_hub.proofs.hub.callsites.Callsites.ask_all.Goals as goal
 
 pub invariant_of-self : goal.invariant_of-self
-invariant_of-self g c = λ n.
+invariant_of-self g c =
     let whole = with_items_is c.self.inside.callsites c.ask_callsites.new.callsites (omega arith) in
     let asked = asked_identifiers g.S.Subscriber g.C.Callsite _ _ _ _ c.ask_callsites.ensures in
-    c.self.invariant n
-    ∙ ap (index_among n) (
+    let same =
     ap (λ (callsites : List (KeptCallsite g.row.C.Denot)). identifiers callsites) (sym c.deref_mut.ensures.value) ∙ sym asked
-    ∙ ap (λ (callsites : List (KeptCallsite g.row.C.Denot)). identifiers callsites) (sym whole)
-    )
+    ∙ ap (λ (callsites : List (KeptCallsite g.row.C.Denot)). identifiers callsites) (sym whole) in
+    (λ n. c.self.invariant.0 n ∙ ap (index_among n) same, subst AreDistinct same c.self.invariant.1)
 
 pub returns : goal.returns
 returns g c =

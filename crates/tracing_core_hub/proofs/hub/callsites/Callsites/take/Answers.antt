@@ -2,11 +2,11 @@ use Rattle.std.proofs.Common.{◌≡◌, ◌++◌, ◌∷◌, [], ℕ, List, len
 use Rattle.tracing_core_hub.specs.Asking.{CallsiteAsked}
 use Rattle.tracing_core_hub.specs.Commands.{callsite_with}
 use Rattle.tracing_core_hub.specs.Kept.{KeptCallsite}
-use Rattle.tracing_core_hub.proofs.Callsites.{taken_place}
+use Rattle.tracing_core_hub.proofs.Callsites.{taken_apart, taken_place}
 use Rattle.tracing_core_hub.proofs.hub.callsites.Callsites.take.Goals as goal
 
 pub invariant_of-self-2 : goal.invariant_of-self-2
-invariant_of-self-2 g c = λ n.
+invariant_of-self-2 g c =
     let callsites = c.self.inside.callsites.items in
     let number = c.identifier.ensures ∙ ap (λ (row : KeptCallsite g.row.C.Denot). row.identifier) c.new-row.ensures.row in
     let same = ap (λ (xs : List (KeptCallsite g.row.C.Denot)). length xs) c.reserve.ensures.items in
@@ -14,12 +14,12 @@ invariant_of-self-2 g c = λ n.
     let none : callsite_with c.identifier.result callsites ≡ None =
     subst (λ (xs : List (KeptCallsite g.row.C.Denot)). callsite_with c.identifier.result xs ≡ None) (sym c.self.view_is)
     (subst (λ (m : ℕ). callsite_with m c.args.self.now ≡ None) (sym number) c.requires) in
-    c.in-Ok.ensures.updates.0 n
-    ∙ taken_place callsites c.push_reserved.new.self.items c.ask.new.self c.identifier.result c.len.result n _
-    (c.push_reserved.ensures.items ∙ ap (λ (xs : List (KeptCallsite g.row.C.Denot)). xs ++ c.ask.new.self ∷ []) c.reserve.ensures.items)
-    (ap (λ (row : KeptCallsite g.row.C.Denot). row.identifier) c.ask.ensures.3 ∙ sym c.identifier.ensures)
-    counted
-    none (c.self.invariant n)
+    let later = c.push_reserved.ensures.items ∙ ap (λ (xs : List (KeptCallsite g.row.C.Denot)). xs ++ c.ask.new.self ∷ []) c.reserve.ensures.items in
+    let stays = ap (λ (row : KeptCallsite g.row.C.Denot). row.identifier) c.ask.ensures.3 ∙ sym c.identifier.ensures in (
+      λ n. c.in-Ok.ensures.updates.0 n
+          ∙ taken_place callsites c.push_reserved.new.self.items c.ask.new.self c.identifier.result c.len.result n _ later stays counted none (c.self.invariant.0 n),
+      taken_apart callsites c.push_reserved.new.self.items c.ask.new.self c.identifier.result later stays none c.self.invariant.1,
+    )
 
 pub returns : goal.returns
 returns g c = (

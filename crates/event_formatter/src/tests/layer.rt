@@ -1,0 +1,199 @@
+//! What a layer writes of what it is told, through a registry.
+
+mod builders;
+mod faults;
+mod parts;
+mod setters;
+mod span_events;
+mod spans;
+mod threads;
+
+use event_formatter_formats::{Format, FormatEvent, Full};
+use event_formatter_layer::*;
+use event_formatter_lines::FmtSpan;
+use event_formatter_makers::MakeWriter;
+use event_formatter_text::{DefaultFields, FormatFields};
+use event_formatter_times::FixedText;
+use span_registry_layers_layers::{LayerExt, Layered, SubscriberExt};
+use span_registry_layers_store::{OutputKey, Registry};
+use std::alloc::{AllocError, Global};
+use std::io;
+use std::io::ErrorKind;
+use std::test::Fail;
+use tracing_core_fields::{AnyValue, DebugText, FieldSet, Id, Identifier, Kind, Level, Metadata};
+use tracing_core_requests::{At, Attributes, Event, Record, Subscriber};
+
+const NAMES: [&str; 3] = ["message", "n", "x"];
+
+const FAILS: [Option<AnyValue<'static>>; 2] = [
+    Some(AnyValue::Debug(DebugText::Failing)),
+    Some(AnyValue::U64(1)),
+];
+
+// Keeps the lines that it is handed, or refuses them.
+#[derive(Drop)]
+struct Lines {
+    alloc: Global,
+    lines: Vec<String>,
+    refusal: Option<ErrorKind>,
+}
+
+impl MakeWriter for Lines {
+    ghost use Rattle.std.specs.Prelude.{◌≡◌, true};
+
+    ghost takes = { λ maker m b. b ≡ true };
+
+    ghost writes = { λ maker m line answer after. Unit {0} };
+
+    fn writes_for(&self, _metadata: &Metadata<'_>) -> bool {
+        true
+    }
+
+    fn write_for(&mut self, _metadata: &Metadata<'_>, line: &[u8]) -> io::Result<()> {
+        if let Some(kind) = self.refusal {
+            return Err(io::Error::from(kind));
+        }
+        let Ok(text) = std::str::from_utf8(line) else {
+            return Err(io::Error::from(ErrorKind::InvalidData));
+        };
+        self.lines.push(String::from_str(self.alloc, text)?)?;
+        Ok(())
+    }
+}
+
+type Plain = Layer<DefaultFields, Format<Full, FixedText>, Lines>;
+
+type Tree = Layered<Plain, Registry>;
+
+// A moment, so many nanoseconds after the epoch.
+fn moment(nanoseconds: u32) -> At {
+    At {
+        lane: 0,
+        seconds: 0,
+        nanoseconds,
+    }
+}
+
+fn no_lines(alloc: Global) -> Lines {
+    Lines {
+        alloc,
+        lines: Vec::new(alloc),
+        refusal: None,
+    }
+}
+
+// A layer that shows the time `fake time`, and no level.
+fn plain(alloc: Global, key: u32) -> Result<Plain, AllocError> {
+    let time = FixedText::new(String::from_str(alloc, "fake time")?);
+    Ok(
+        Layer::new(alloc, OutputKey(key), no_lines(alloc))
+            .with_timer(time)
+            .with_level(false),
+    )
+}
+
+// The layer over a registry.
+fn over_registry(alloc: Global, layer: Plain) -> Result<Tree, Fail> {
+    let tree = layer.with_subscriber(Registry::new(alloc));
+    Ok(tree.ok().ok_or("room")?)
+}
+
+// Makes a root span.
+fn make<S: Subscriber>(
+    tree: &mut S,
+    name: &str,
+    values: &[Option<AnyValue<'_>>],
+    at: At,
+) -> Result<Id, Fail> {
+    let fields = FieldSet::new(&NAMES, Identifier(1));
+    let metadata = Metadata::new(
+        name,
+        "app",
+        Level::INFO,
+        None,
+        None,
+        None,
+        fields,
+        Kind::SPAN,
+    );
+    let attributes = Attributes::new_root(&metadata, fields.value_set_all(values));
+    Ok(tree.new_span(&attributes, at)?.ok_or("a span")?)
+}
+
+// A span with x = 42, entered.
+fn enter_span<S: Subscriber>(tree: &mut S, name: &str) -> Result<Id, Fail> {
+    let span = make(
+        tree,
+        name,
+        &[None, None, Some(AnyValue::U64(42))],
+        moment(0),
+    )?;
+    tree.enter(&span, moment(0))?;
+    Ok(span)
+}
+
+// Hands over an event under the current span.
+fn tell<S: Subscriber>(tree: &mut S, values: &[Option<AnyValue<'_>>], at: At) -> Result<(), Fail> {
+    let fields = FieldSet::new(&NAMES, Identifier(2));
+    let metadata = Metadata::new(
+        "ev",
+        "app",
+        Level::INFO,
+        None,
+        None,
+        None,
+        fields,
+        Kind::EVENT,
+    );
+    let event = Event::new(&metadata, fields.value_set_all(values));
+    Ok(tree.event(&event, at)?)
+}
+
+// An event with the message `hi` and n = 3.
+fn tell_hi<S: Subscriber>(tree: &mut S) -> Result<(), Fail> {
+    tell(
+        tree,
+        &[Some(AnyValue::Str("hi")), Some(AnyValue::U64(3))],
+        moment(0),
+    )
+}
+
+// Whether the maker was handed just these lines.
+fn has_lines<N: Drop, E: Drop>(layer: &Layer<N, E, Lines>, lines: &[&str]) -> bool {
+    let written = layer.writer().lines.as_slice();
+    if written.len() != lines.len() {
+        return false;
+    }
+    for index in 0..lines.len() {
+        if written[index].as_str() != lines[index] {
+            return false;
+        }
+    }
+    true
+}
+
+// Whether the layer writes just this of an event that has a place in the source and stands in a span with x = 42.
+fn writes<N: FormatFields + Drop, E: FormatEvent>(
+    alloc: Global,
+    layer: Layer<N, E, Lines>,
+    text: &str,
+) -> Result<bool, Fail> {
+    let tree = layer.with_subscriber(Registry::new(alloc));
+    let mut tree = tree.ok().ok_or("room")?;
+    enter_span(&mut tree, "s")?;
+    let fields = FieldSet::new(&NAMES, Identifier(2));
+    let metadata = Metadata::new(
+        "ev",
+        "app",
+        Level::INFO,
+        Some("src/a.rs"),
+        Some(7),
+        None,
+        fields,
+        Kind::EVENT,
+    );
+    let values = [Some(AnyValue::Str("hi")), Some(AnyValue::U64(3))];
+    let event = Event::new(&metadata, fields.value_set_all(&values));
+    tree.event(&event, moment(0))?;
+    Ok(has_lines(tree.layer(), &[text]))
+}

@@ -1,0 +1,74 @@
+//! The lines of an event, and what they leave out.
+
+mod fmt_span;
+mod full;
+mod json;
+mod pretty;
+
+ghost use Rattle.std.specs.Prelude.{◌≡◌, map};
+
+use event_formatter_lines::*;
+use event_formatter_text::{FormatError, FormatFields, Settings};
+use std::alloc::Global;
+use tracing_core_fields::{AnyValue, FieldSet, Identifier, Level};
+
+const NAMES: [&str; 2] = ["message", "n"];
+
+const PLAIN: Settings = Settings {
+    styles: false,
+    sanitizes: true,
+};
+
+const STYLED: Settings = Settings {
+    styles: true,
+    sanitizes: true,
+};
+
+// An event of which nothing is shown but its fields.
+const BARE: Head<'static> = Head {
+    time: None,
+    level: None,
+    thread_name: None,
+    thread_id: None,
+    target: None,
+    file: None,
+    line: None,
+};
+
+// A span of a test.
+struct Row {
+    name: &'static str,
+    target: &'static str,
+    text: &'static str,
+}
+
+// The spans of a test, from the root on.
+#[derive(Drop)]
+struct Rows<'a> {
+    rows: &'a [Row],
+}
+
+impl ShownSpans for Rows<'_> {
+    ghost spans = { λ it. map (λ row. record { name = row.name.now; target = row.target.now; text = row.text.now })
+        it.rows.now };
+
+    fn count(&self) -> usize {
+        self.rows.len()
+    }
+
+    fn name(&self, index: usize) -> &str {
+        self.rows[index].name
+    }
+
+    fn target(&self, index: usize) -> &str {
+        self.rows[index].target
+    }
+
+    fn text(&self, index: usize) -> &str {
+        self.rows[index].text
+    }
+}
+
+fn hi_and_three() -> [Option<AnyValue<'static>>; 2] {
+    [Some(AnyValue::Str("hi")), Some(AnyValue::I64(3))]
+}

@@ -1,0 +1,211 @@
+// A trace over two outputs.
+
+use event_formatter_formats::Json;
+use event_formatter_lines::FmtSpan;
+use event_formatter_times::FixedText;
+use span_registry_layers_layers::Filtered;
+use span_tracing_trace::{
+    FieldValue, Fields, Format, Layer, LineFormat, MemoryFolder, Moment, Output, OutputKey,
+    OwnedValue, PendingLines, Refusal, Reply, RollingFileAppender, RollingSink, Rotation,
+    RoutedSinks, SpanName, Stack, Timer, Trace, TraceStack,
+};
+use std::alloc::{AllocError, Global};
+use std::process::Abort;
+use std::test::Fail;
+use tracing_core_fields::{FieldSet, Id, Identifier, Kind, Level, LevelFilter, Metadata};
+use tracing_core_requests::Interest;
+
+/// 2025-02-17T10:01:00Z.
+pub(crate) const OPENED: Moment = Moment {
+    seconds: 1_739_786_460,
+    nanoseconds: 0,
+};
+
+/// 2025-02-18T00:00:00Z.
+pub(crate) const NEXT_DAY: Moment = Moment {
+    seconds: 1_739_836_800,
+    nanoseconds: 0,
+};
+
+/// One second before the first moment.
+pub(crate) const TOO_EARLY: Moment = Moment {
+    seconds: -62_135_596_801,
+    nanoseconds: 0,
+};
+
+/// Spans `outer` with a field `x`, at level INFO.
+pub(crate) const OUTER: Identifier = Identifier(1);
+
+/// Events with a message and a field `n`, at level WARN.
+pub(crate) const WARNING: Identifier = Identifier(2);
+
+pub(crate) const SPAN_FIELDS: [&str; 1] = ["x"];
+
+pub(crate) const EVENT_FIELDS: [&str; 2] = ["message", "n"];
+
+pub(crate) type Shape = Format<LineFormat, Timer>;
+
+pub(crate) type Shown = Filtered<Layer<Fields, Shape, PendingLines>, LevelFilter>;
+
+pub(crate) type Written = TraceStack<
+    Fields,
+    Shape,
+    LevelFilter,
+    RoutedSinks<RollingSink<MemoryFolder>>,
+>;
+
+/// An output of this shape, with lines at the close of spans.
+pub(crate) fn output_in(
+    alloc: Global,
+    key: u32,
+    shape: LineFormat,
+    fields: Fields,
+    filter: LevelFilter,
+) -> Result<Output<Shown>, Fail> {
+    let time = FixedText::new(String::from_str(alloc, "fake time")?);
+    let format = Format::new(alloc)
+        .with_timer(Timer::Fixed(time))
+        .with_shape(shape);
+    let layer = Layer::new(alloc, OutputKey(key), PendingLines::new(alloc))
+        .without_time()
+        .event_format(format)
+        .fmt_fields(fields)
+        .with_span_events(FmtSpan::CLOSE);
+    Ok(Output {
+        key: OutputKey(key),
+        output: Filtered::new(layer, filter),
+    })
+}
+
+/// A sink over a file for each day, in a folder of its own.
+pub(crate) fn sink_of(
+    alloc: Global,
+    prefix: &str,
+) -> Result<RoutedSinks<RollingSink<MemoryFolder>>, Fail> {
+    let prefix = String::from_str(alloc, prefix)?;
+    let folder = MemoryFolder::new(alloc);
+    let appender = RollingFileAppender::new(alloc, Rotation::DAILY, folder, prefix, OPENED).map_err(
+        |refusal| refusal.error,
+    )?;
+    Ok(RoutedSinks::single(alloc, RollingSink::new(appender))?)
+}
+
+/// Full lines from DEBUG on go to `lines`, and JSON from WARN on to `json`.
+pub(crate) fn stack_of_two(alloc: Global) -> Result<Written, Fail> {
+    let full = output_in(
+        alloc,
+        1,
+        LineFormat::Full,
+        Fields::Default,
+        LevelFilter::DEBUG,
+    )?;
+    let shape = LineFormat::Json(Json::new());
+    let json = output_in(alloc, 2, shape, Fields::Json, LevelFilter::WARN)?;
+    let mut outputs = Vec::new(alloc);
+    outputs.push(full).ok().ok_or("room")?;
+    outputs.push(json).ok().ok_or("room")?;
+    let mut sinks = Vec::new(alloc);
+    sinks.push(sink_of(alloc, "lines")?).ok().ok_or("room")?;
+    sinks.push(sink_of(alloc, "json")?).ok().ok_or("room")?;
+    let stack = Stack::new(alloc, outputs).ok().ok_or("a stack")?;
+    Ok(TraceStack::new(stack, sinks).ok().ok_or("pairs")?)
+}
+
+/// Registers both callsites, or asks for the interests in them again.
+pub(crate) fn register_both(trace: &mut Trace<Written>) -> Result<[Interest; 2], Refusal> {
+    let fields = FieldSet::new(&SPAN_FIELDS, OUTER);
+    let level = Level::INFO;
+    let outer = Metadata::new("outer", "app", level, None, None, None, fields, Kind::SPAN);
+    let fields = FieldSet::new(&EVENT_FIELDS, WARNING);
+    let level = Level::WARN;
+    let warning = Metadata::new(
+        "warning",
+        "app",
+        level,
+        None,
+        None,
+        None,
+        fields,
+        Kind::EVENT,
+    );
+    Ok([
+        trace.register(OUTER, &outer)?,
+        trace.register(WARNING, &warning)?,
+    ])
+}
+
+/// A trace with both callsites, two lanes and the stack, which no lane reaches yet.
+pub(crate) fn trace_of_two(rt: &impl Abort, alloc: Global) -> Result<Trace<Written>, Fail> {
+    let mut trace = Trace::new(alloc);
+    assert_eq!(rt; register_both(&mut trace)?, [Interest::never(); 2]);
+    assert_eq!(rt; trace.thread(None, 1)?, 0);
+    let name = String::from_str(alloc, "second")?;
+    assert_eq!(rt; trace.thread(Some(name), 2)?, 1);
+    assert!(rt; !trace.has_stack());
+    let handle = trace.add_stack(stack_of_two(alloc)?).ok().ok_or("room")?;
+    assert_eq!(rt; handle, 0);
+    assert!(rt; trace.has_stack());
+    // The outputs differ on spans, and agree on warnings.
+    let kept = [Interest::sometimes(), Interest::always()];
+    assert_eq!(rt; register_both(&mut trace)?, kept);
+    Ok(trace)
+}
+
+/// The same, and lanes reach the stack.
+pub(crate) fn set_trace(rt: &impl Abort, alloc: Global) -> Result<Trace<Written>, Fail> {
+    let mut trace = trace_of_two(rt, alloc)?;
+    assert_eq!(rt; trace.set_global_default(0), Reply::Done);
+    Ok(trace)
+}
+
+pub(crate) fn text_field(
+    alloc: Global,
+    field: usize,
+    text: &str,
+) -> Result<FieldValue, AllocError> {
+    Ok(FieldValue {
+        field,
+        value: OwnedValue::Text(String::from_str(alloc, text)?),
+    })
+}
+
+pub(crate) fn number_field(field: usize, number: u64) -> FieldValue {
+    FieldValue {
+        field,
+        value: OwnedValue::U64(number),
+    }
+}
+
+pub(crate) fn span_name(stack: usize, id: u64) -> Result<SpanName, Fail> {
+    let id = Id::from_u64(id).ok_or("an id")?;
+    Ok(SpanName { stack, id })
+}
+
+/// The name that a reply gives to a span.
+pub(crate) fn made(reply: Reply) -> Result<SpanName, Fail> {
+    match reply {
+        Reply::Span(Some(name)) => Ok(name),
+        Reply::Refused(refusal) => Err(refusal.into()),
+        _ => Err("no span".into()),
+    }
+}
+
+/// Compares the file of a sink with a text.
+pub(crate) fn has_file(
+    rt: &impl Abort,
+    trace: &Trace<Written>,
+    sink: usize,
+    name: &str,
+    text: &str,
+) -> Result<(), Fail> {
+    let sink = trace.sink(sink, 0).ok_or("a sink")?;
+    assert_eq!(rt; sink.dropped(), 0);
+    for entry in &sink.appender().folder().files()? {
+        if entry.name == name {
+            let shown = str::from_utf8(entry.bytes).ok().unwrap_or("not UTF-8");
+            assert_eq!(rt; shown, text, "in {name}");
+            return Ok(());
+        }
+    }
+    Err("no such file".into())
+}

@@ -1,0 +1,6 @@
+//! The tests of the crates below.
+
+mod fields;
+mod hub;
+mod requests;
+mod values;

@@ -1,0 +1,98 @@
+// A hub's table, and requests of lanes.
+use crate::tests::hub::everything::Everything;
+use crate::tests::hub::owned_callsite::OwnedCallsite;
+use crate::tests::hub::{add, at, hub_of, metadata_of};
+use std::test::Fail;
+use tracing_core_fields::{FieldSet, Id, Identifier, Level, LevelFilter};
+use tracing_core_hub::*;
+use tracing_core_requests::{Attributes, CurrentSpan, Event, Interest};
+
+#[test]
+fn the_table_is_a_copy(rt: HostRuntime) -> Result<(), Fail> {
+    let mut hub: Hub<Everything, OwnedCallsite> = Hub::new(rt.alloc());
+    let lane = hub.thread()?;
+    let other = hub.thread()?;
+    let first = add(&mut hub, 1, Interest::always())?;
+    assert!(rt; hub.register(OwnedCallsite::new(3, Level::INFO)).is_ok());
+    assert!(rt; hub.set_default(lane, &first).is_ok());
+    let copy = hub.table()?;
+    assert_eq!(rt; copy.handles.len(), 1);
+    assert!(rt;
+        copy.handles
+            .get(0)
+            .is_some_and(|count| count.serial == 0 && count.handles == 2)
+    );
+    assert!(rt; matches!(copy.global, LaneDefault::Unset));
+    assert!(rt;
+        matches!(
+            copy.lanes.get(lane as usize),
+            Some(Lane::Running(LaneDefault::To(0)))
+        )
+    );
+    assert!(rt;
+        matches!(
+            copy.lanes.get(other as usize),
+            Some(Lane::Running(LaneDefault::Unset))
+        )
+    );
+    assert!(rt;
+        copy.callsites.get(0).is_some_and(|kept| kept.identifier == Identifier(3)
+            && kept.interest.is_always())
+    );
+    assert_eq!(rt; copy.greatest, LevelFilter::TRACE);
+    Ok(())
+}
+
+#[test]
+fn requests_of_a_lane_reach_its_default(rt: HostRuntime) -> Result<(), Fail> {
+    let (mut hub, lane, first) = hub_of(rt.alloc())?;
+    let fields = FieldSet::new(&[], Identifier(5));
+    let metadata = metadata_of(fields);
+    let nobody = Dispatch::none();
+    assert!(rt; hub.register_callsite(&first, &metadata).is_always());
+    assert!(rt; hub.register_callsite(&nobody, &metadata).is_never());
+    assert!(rt; !hub.enabled_here(&metadata, at(lane)));
+    assert!(rt; matches!(hub.current_span_here(at(lane)), CurrentSpan::Unknown));
+    assert!(rt; hub.set_default(lane, &first).is_ok());
+    assert!(rt; hub.enabled_here(&metadata, at(lane)));
+    assert!(rt; matches!(hub.current_span_here(at(lane)), CurrentSpan::Outside));
+    let event = Event::new(&metadata, fields.value_set_all(&[]));
+    assert_eq!(rt; hub.event_here(&event, at(lane)), Ok(()));
+    let attributes = Attributes::new(&metadata, fields.value_set_all(&[]));
+    assert_eq!(rt; hub.new_span_here(&attributes, at(lane)), Ok(None));
+    assert_eq!(rt;
+        hub.dispatch_event(&metadata, fields.value_set_all(&[]), at(lane)),
+        Ok(())
+    );
+    assert_eq!(rt;
+        hub.dispatch_child_of(
+            Id::from_u64(2),
+            &metadata,
+            fields.value_set_all(&[]),
+            at(lane)
+        ),
+        Ok(())
+    );
+    Ok(())
+}
+
+#[test]
+fn a_changed_subscriber_isnt_lent(rt: HostRuntime) -> Result<(), Fail> {
+    let (mut hub, _, first) = hub_of(rt.alloc())?;
+    let second = add(&mut hub, 2, Interest::always())?;
+    let before = hub.with_subscriber_mut(&second, |subscriber: &mut Everything| {
+        let name = subscriber.name();
+        subscriber.rename(7);
+        name
+    });
+    assert_eq!(rt; before, Some(2));
+    let name = hub.subscriber(&second).ok_or("the second")?.name();
+    assert_eq!(rt; name, 7);
+    let name = hub.subscriber(&first).ok_or("the first")?.name();
+    assert_eq!(rt; name, 1);
+    let nobody = hub.with_subscriber_mut(&Dispatch::none(), |subscriber: &mut Everything| {
+        subscriber.rename(8)
+    });
+    assert!(rt; nobody.is_none());
+    Ok(())
+}
