@@ -25,7 +25,7 @@ use Rattle.span_tracing_sinks.specs.Routed.{Routed, RoutingGives, RoutingIf}
 use Rattle.span_tracing_sinks.specs.declared.routed.UnroutedSinks.{UnroutedSinks}
 use Rattle.span_tracing_skeleton.specs.declared.refusal.Refusal.{Refusal}
 use Rattle.span_tracing_skeleton.specs.declared.refusal.Refusal.TheVariants as refusals
-use Rattle.span_tracing_files.specs.Opened.{Answers, IsTold, Pairs, RowOf, RowsAreTold, keys_of, outputs_refusal, routing_of, rows_refusal, stack_refusal}
+use Rattle.span_tracing_files.specs.Opened.{Answers, IsTold, IsToldOfAll, Pairs, RowOf, RowsAreTold, keys_of, of_all, outputs_refusal, routing_of, rows_refusal, stack_refusal}
 use Rattle.span_tracing_files.specs.Settings.{Shown}
 use Rattle.span_tracing_files.specs.Refused.{RoutingRefuses, at_output}
 use Rattle.span_tracing_files.specs.declared.open_error.OpenStackError.{OpenStackError}
@@ -113,6 +113,16 @@ module _ {N E F : Type 0} (g : FilterGhosts F) (h : LayerGhosts (Lines N E)) whe
       starved = λ rows back gives none. only_memory (stacks.new_refusal h rows) rows back (sym (refusal_is rows) ∙ none) gives;
     }
 
+all_told : (o : Option Refusal) (refusal : Refusal) → IsTold o refusal → IsToldOfAll o (of_all refusal)
+all_told None refusal told = tt
+all_told (Some wrong) refusal (inl is) = inl (ap (λ (r : Refusal). of_all r) is)
+all_told (Some wrong) refusal (inr is) = inr (ap (λ (r : Refusal). of_all r) is)
+
+-- where there was no memory, that is told of all outputs
+pub memory_of_all : (o : Option Refusal) (told : OpenStackError) → told ≡ of_all refusals.OutOfMemory → IsToldOfAll o told
+memory_of_all None told is = tt
+memory_of_all (Some wrong) told is = inr is
+
 module _ {F D : Type 0} where
   same_keys : (specs : List (OutputSpec F D)) (rows : List (Output (Filtered Shown F))) → Pairs RowOf specs rows → stacks.keys_of rows ≡ keys_of specs
   same_keys [] [] pairs = refl
@@ -128,9 +138,9 @@ module _ {F D : Type 0} where
       ∙ ap (λ (ks : List ℕ). if nat_eq (length specs) 0 then Some refusals.NoOutput else if nat_le (length specs) 64 then (if stacks.has_equal_keys ks then Some refusals.EqualKeys else None) else Some refusals.TooManyFilters) (same_keys specs rows pairs)
 
   -- so it is told
-  pub told_wrong : (specs : List (OutputSpec F D)) (rows : List (Output (Filtered Shown F))) (error : StackError) (told : Refusal) → Pairs RowOf specs rows → told ≡ stack_refusal error → IsTold (rows_refusal rows) (stack_refusal error) → IsTold (outputs_refusal specs) told
+  pub told_wrong : (specs : List (OutputSpec F D)) (rows : List (Output (Filtered Shown F))) (error : StackError) (told : OpenStackError) → Pairs RowOf specs rows → told ≡ of_all (stack_refusal error) → IsTold (rows_refusal rows) (stack_refusal error) → IsToldOfAll (outputs_refusal specs) told
   told_wrong specs rows error told pairs is wrong =
-      subst (IsTold (outputs_refusal specs)) (sym is) (subst (λ (o : Option Refusal). IsTold o (stack_refusal error)) (same_refusal specs rows pairs) wrong)
+      subst (IsToldOfAll (outputs_refusal specs)) (sym is) (all_told (outputs_refusal specs) (stack_refusal error) (subst (λ (o : Option Refusal). IsTold o (stack_refusal error)) (same_refusal specs rows pairs) wrong))
 
   -- where nothing is wrong any answer will do
   pub nothing_wrong : (A : Type 0) (specs : List (OutputSpec F D)) (rows : List (Output (Filtered Shown F))) (result : Result A OpenStackError) → Pairs RowOf specs rows → rows_refusal rows ≡ None → Answers (outputs_refusal specs) result
@@ -141,8 +151,8 @@ module _ {F D : Type 0} where
       any (Ok made) = refl
       any (Err told) = tt
 
-  pub nothing_told : (specs : List (OutputSpec F D)) (rows : List (Output (Filtered Shown F))) (told : Refusal) → Pairs RowOf specs rows → rows_refusal rows ≡ None → IsTold (outputs_refusal specs) told
-  nothing_told specs rows told pairs none = subst (λ (o : Option Refusal). IsTold o told) (sym none ∙ same_refusal specs rows pairs) tt
+  pub nothing_told : (specs : List (OutputSpec F D)) (rows : List (Output (Filtered Shown F))) (told : OpenStackError) → Pairs RowOf specs rows → rows_refusal rows ≡ None → IsToldOfAll (outputs_refusal specs) told
+  nothing_told specs rows told pairs none = subst (λ (o : Option Refusal). IsToldOfAll o told) (sym none ∙ same_refusal specs rows pairs) tt
 
   pub own_keys : (specs : List (OutputSpec F D)) (rows : List (Output (Filtered Shown F))) → Pairs RowOf specs rows → Every HasOwnKey rows
   own_keys [] [] pairs = tt

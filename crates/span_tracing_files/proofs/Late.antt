@@ -1,11 +1,11 @@
 -- Where all names are good, only folders and memory are left to refuse.
-use Rattle.std.proofs.Common.{arith, ◌≡◌, ◌<◌, ◌≤◌, true, false, List, [], ◌∷◌, length, map, get_or, Option, Some, None, Result, Ok, Err, IfErr, inl, inr, refl, sym, ap, subst, ◌∙◌}
+use Rattle.std.proofs.Common.{arith, ◌≡◌, ◌<◌, ◌≤◌, true, false, List, [], ◌∷◌, length, map, get_or, Option, Some, None, Result, Ok, Err, IfErr, inl, inr, refl, sym, subst, ◌∙◌}
 use Rattle.std.specs.Result.{IsErrAnd}
 use Rattle.tracing_core_requests.specs.Lists.{Every}
 use Rattle.span_registry_layers_store.specs.declared.slot.OutputKey.{OutputKey}
 use Rattle.span_tracing_skeleton.specs.declared.refusal.Refusal.{Refusal}
 use Rattle.span_tracing_skeleton.specs.declared.refusal.Refusal.TheVariants.{OutOfMemory}
-use Rattle.span_tracing_files.specs.Opened.{routing_of}
+use Rattle.span_tracing_files.specs.Opened.{of_all, routing_of}
 use Rattle.span_tracing_files.specs.Refused.{FirstTells, InOne, IsLate, IsRouted, IsToldOf, NamesAnswer, OutputsTell, RoutingRefuses, SinkRefuses, SinkTells, SinksTell, at_output}
 use Rattle.span_tracing_files.specs.declared.open_error.OpenStackError.{OpenStackError}
 use Rattle.span_tracing_files.specs.declared.output_spec.OutputSpec.{OutputSpec}
@@ -40,40 +40,32 @@ module _ {A : Type 0} where
 module _ {D : Type 0} where
   -- at any sink memory may be short
   pub memory_refuses : (key : OutputKey) (sink : SinkSpec D) → SinkRefuses key (at_output key OutOfMemory) sink
-  memory_refuses key (Direct builder folder) = (refl, inr (inr refl))
+  memory_refuses key (Direct builder folder) = inr (inr refl)
 
 module _ {D : Type 0} (key : OutputKey) (told : OpenStackError) where
-  late_sink : (sink : SinkSpec D) → SinkRefuses key told sink → SinkTells sink None → (told.output ≡ Some key) × IsLate told
-  late_sink (Direct builder folder) (at, inr late) good = (at, late)
-  late_sink (Direct builder folder) (at, inl (inl (is, bad))) good = absurd (let clash : true ≡ false = sym bad ∙ good.0 in cc)
-  late_sink (Direct builder folder) (at, inl (inr (is, fine, link))) good = absurd (good.1 link.0 link.1 link.2)
+  late_sink : (sink : SinkSpec D) → SinkRefuses key told sink → SinkTells sink None → IsLate key told
+  late_sink (Direct builder folder) (inr late) good = late
+  late_sink (Direct builder folder) (inl (at, inl (is, bad))) good = absurd (let clash : true ≡ false = sym bad ∙ good.0 in cc)
+  late_sink (Direct builder folder) (inl (at, inr (is, fine, link))) good = absurd (good.1 link.0 link.1 link.2)
 
-  late_sinks : (sinks : List (SinkSpec D)) → InOne (SinkRefuses key told) sinks → SinksTell sinks None → (told.output ≡ Some key) × IsLate told
+  late_sinks : (sinks : List (SinkSpec D)) → InOne (SinkRefuses key told) sinks → SinksTell sinks None → IsLate key told
   late_sinks [] one good = absurd one
   late_sinks (sink ∷ sinks) (inl own) good = late_sink sink own good.0
   late_sinks (sink ∷ sinks) (inr later) good = late_sinks sinks later good.1
 
 module _ {F D : Type 0} (told : OpenStackError) where
-  late_spec : (spec : OutputSpec F D) → RoutingRefuses told (routing_of spec) → SinksTell spec.sinks.items None → IsRouted spec → (told.output ≡ Some spec.key) × IsLate told
+  late_spec : (spec : OutputSpec F D) → RoutingRefuses told (routing_of spec) → SinksTell spec.sinks.items None → IsRouted spec → IsLate spec.key told
   late_spec spec (inl one) good routed = late_sinks spec.key told spec.sinks.items one good
   late_spec spec (inr (inl bad)) good routed = absurd (let clash : true ≡ false = sym routed ∙ bad.1 in cc)
-  late_spec spec (inr (inr memory)) good routed = (ap (λ (e : OpenStackError). e.output) memory, inr (ap (λ (e : OpenStackError). e.refusal) memory))
+  late_spec spec (inr (inr memory)) good routed = inr memory
 
-  told_here : (spec : OutputSpec F D) (specs : List (OutputSpec F D)) → (told.output ≡ Some spec.key) × IsLate told → IsToldOf (spec ∷ specs) None told
-  told_here spec specs (at, inl (is, fault)) = inl (is, fault, inl at)
-  told_here spec specs (at, inr memory) = inr memory
-
-  told_later : (spec : OutputSpec F D) (specs : List (OutputSpec F D)) → IsToldOf specs None told → IsToldOf (spec ∷ specs) None told
-  told_later spec specs (inl (is, fault, one)) = inl (is, fault, inr one)
-  told_later spec specs (inr memory) = inr memory
-
-  pub late_specs : (specs : List (OutputSpec F D)) → InOne (RoutingRefuses told) (map routing_of specs) → OutputsTell specs None → Every IsRouted specs → IsToldOf specs None told
+  pub late_specs : (specs : List (OutputSpec F D)) → InOne (RoutingRefuses told) (map routing_of specs) → OutputsTell specs None → Every IsRouted specs → InOne (λ (spec : OutputSpec F D). IsLate spec.key told) specs
   late_specs [] one good routed = absurd one
-  late_specs (spec ∷ specs) (inl own) good routed = told_here spec specs (late_spec spec own good.0 routed.0)
-  late_specs (spec ∷ specs) (inr later) good routed = told_later spec specs (late_specs specs later good.1 routed.1)
+  late_specs (spec ∷ specs) (inl own) good routed = inl (late_spec spec own good.0 routed.0)
+  late_specs (spec ∷ specs) (inr later) good routed = inr (late_specs specs later good.1 routed.1)
 
 module _ {F D : Type 0} where
-  pub memory_told : (specs : List (OutputSpec F D)) (wrong : Option (OutputKey × Refusal)) (told : OpenStackError) → told.refusal ≡ OutOfMemory → IsToldOf specs wrong told
+  pub memory_told : (specs : List (OutputSpec F D)) (wrong : Option (OutputKey × Refusal)) (told : OpenStackError) → told ≡ of_all OutOfMemory → IsToldOf specs wrong told
   memory_told specs None told is = inr is
   memory_told specs (Some w) told is = inr is
 
@@ -81,6 +73,6 @@ module _ {F D : Type 0} where
   names_told xs ys r told same is own = subst (OutputsTell ys) is (subst (λ (zs : List (OutputSpec F D)). OutputsTell zs r) same own)
 
   -- what is told after good names
-  pub late_out : {A : Type 0} (specs : List (OutputSpec F D)) (answer : Result A OpenStackError) (error : OpenStackError) → IsErrAnd answer (λ e. e ≡ error) → OutputsTell specs None → IsToldOf specs None error → NamesAnswer specs answer
+  pub late_out : {A : Type 0} (specs : List (OutputSpec F D)) (answer : Result A OpenStackError) (error : OpenStackError) → IsErrAnd answer (λ e. e ≡ error) → OutputsTell specs None → InOne (λ (spec : OutputSpec F D). IsLate spec.key error) specs → NamesAnswer specs answer
   late_out specs (Ok made) error is names late = absurd is
-  late_out specs (Err e) error is names late = (None, names, subst (IsToldOf specs None) (sym is) late)
+  late_out specs (Err e) error is names late = (None, names, subst (IsToldOf specs None) (sym is) (inl late))

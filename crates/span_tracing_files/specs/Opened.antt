@@ -74,9 +74,17 @@ abbrev pub IsTold : Option Refusal → Refusal → Type 0
 IsTold None told = Unit {0}
 IsTold (Some refusal) told = (told ≡ refusal) ⊎ (told ≡ refusals.OutOfMemory)
 
+-- what is told of all outputs, or of the moment
+abbrev pub of_all : Refusal → OpenStackError
+of_all refusal = record { refusal = refusal; output = None; fault = None }
+
+abbrev pub IsToldOfAll : Option Refusal → OpenStackError → Type 0
+IsToldOfAll None told = Unit {0}
+IsToldOfAll (Some refusal) told = (told ≡ of_all refusal) ⊎ (told ≡ of_all refusals.OutOfMemory)
+
 -- where something is wrong that is told, and nothing is made
 abbrev pub Answers : {A : Type 0} → Option Refusal → Result A OpenStackError → Type 0
-Answers wrong (Err told) = IsTold wrong told.refusal
+Answers wrong (Err told) = IsToldOfAll wrong told
 Answers wrong (Ok made) = wrong ≡ None
 
 module _ {N E F : Type 0} where

@@ -1,5 +1,5 @@
 -- Which refusal is told of outputs whose files can't be opened.
-use Rattle.std.specs.Prelude.{◌≡◌, ◌⊎◌, true, false, List, [], ◌∷◌, length, Option, Some, None, IsSome, Result, Ok, Err}
+use Rattle.std.specs.Prelude.{◌≡◌, ◌⊎◌, true, false, List, [], ◌∷◌, length, Option, Some, None, Result, Ok, Err}
 use Rattle.tracing_appender_rolling.specs.Builders.{builder_names}
 use Rattle.tracing_appender_rolling.specs.declared.build.BuildError.{BuildError}
 use Rattle.tracing_appender_rolling.specs.declared.build.BuildError.TheVariants as builds
@@ -8,17 +8,13 @@ use Rattle.tracing_appender_rolling.specs.Names.{FileNames, is_bad_name, HasBadL
 use Rattle.event_formatter_makers.specs.Routes.{is_good_route}
 use Rattle.span_registry_layers_store.specs.declared.slot.OutputKey.{OutputKey}
 use Rattle.span_tracing_skeleton.specs.declared.refusal.Refusal.{Refusal}
-use Rattle.span_tracing_skeleton.specs.declared.refusal.Refusal.TheVariants.{BadLinkName, BadName, BadRoute, FolderRefused, OutOfMemory}
-use Rattle.span_tracing_files.specs.Opened.{build_refusal}
+use Rattle.span_tracing_skeleton.specs.declared.refusal.Refusal.TheVariants.{BadLinkName, BadName, BadRoute, OutOfMemory}
+use Rattle.span_tracing_files.specs.Opened.{build_refusal, of_all}
 use Rattle.span_tracing_files.specs.declared.open_error.OpenStackError.{OpenStackError}
 use Rattle.span_tracing_files.specs.declared.opening.Routing.{Routing}
 use Rattle.span_tracing_files.specs.declared.output_spec.OutputSpec.{OutputSpec}
 use Rattle.span_tracing_files.specs.declared.output_spec.SinkSpec.{SinkSpec}
 use Rattle.span_tracing_files.specs.declared.output_spec.SinkSpec.TheVariants.{Direct}
-
--- what is told of all outputs, or of the moment
-abbrev pub of_all : Refusal → OpenStackError
-of_all refusal = record { refusal = refusal; output = None; fault = None }
 
 -- what is told of an output
 abbrev pub at_output : OutputKey → Refusal → OpenStackError
@@ -51,9 +47,13 @@ abbrev pub InOne : {A : Type 0} → (A → Type 0) → List A → Type 0
 InOne does [] = ⊥
 InOne does (x ∷ xs) = does x ⊎ InOne does xs
 
--- a folder refused, whose fault is told, or there was no memory
-abbrev pub IsLate : OpenStackError → Type 0
-IsLate told = ((told.refusal ≡ FolderRefused) × IsSome told.fault) ⊎ (told.refusal ≡ OutOfMemory)
+-- a folder refused to open a file of the output, with this fault
+abbrev pub FolderTells : OutputKey → OpenStackError → Type 0
+FolderTells key told = (fault : InitError) × (told ≡ of_sink key (builds.Init fault))
+
+-- a folder refused, or there was no memory
+abbrev pub IsLate : OutputKey → OpenStackError → Type 0
+IsLate key told = FolderTells key told ⊎ (told ≡ at_output key OutOfMemory)
 
 module _ {D : Type 0} where
   -- what is wrong with the names of a sink's files
@@ -66,7 +66,7 @@ module _ {D : Type 0} where
 
   -- a sink of the output with this key can't be opened for its names, or for what comes after them
   abbrev pub SinkRefuses : OutputKey → OpenStackError → SinkSpec D → Type 0
-  SinkRefuses key told (Direct builder folder) = (told.output ≡ Some key) × (NamesTell (builder_names builder) (Some told.refusal) ⊎ IsLate told)
+  SinkRefuses key told (Direct builder folder) = ((told ≡ at_output key told.refusal) × NamesTell (builder_names builder) (Some told.refusal)) ⊎ IsLate key told
 
   -- a sink of an output can't be opened, or its route isn't good, or there is no memory
   abbrev pub RoutingRefuses : OpenStackError → Routing D → Type 0
@@ -87,10 +87,10 @@ module _ {F D : Type 0} where
   abbrev pub IsRouted : OutputSpec F D → Type 0
   IsRouted spec = is_good_route (length spec.sinks.items) spec.route ≡ true
 
-  -- the first bad name is told with its output, or want of memory; where all names are good, a folder's refusal with its fault and its output, or want of memory
+  -- the first bad name is told with its output, or want of memory; where all names are good, what one of the outputs meets where its files are opened, or want of memory before
   abbrev pub IsToldOf : List (OutputSpec F D) → Option (OutputKey × Refusal) → OpenStackError → Type 0
-  IsToldOf specs (Some wrong) told = (told ≡ at_output wrong.0 wrong.1) ⊎ (told.refusal ≡ OutOfMemory)
-  IsToldOf specs None told = ((told.refusal ≡ FolderRefused) × IsSome told.fault × InOne (λ (spec : OutputSpec F D). told.output ≡ Some spec.key) specs) ⊎ (told.refusal ≡ OutOfMemory)
+  IsToldOf specs (Some wrong) told = (told ≡ at_output wrong.0 wrong.1) ⊎ (told ≡ of_all OutOfMemory)
+  IsToldOf specs None told = InOne (λ (spec : OutputSpec F D). IsLate spec.key told) specs ⊎ (told ≡ of_all OutOfMemory)
 
   -- all names of a stack that is made are good; of one that isn't the first bad name is told, or what comes after names
   abbrev pub NamesAnswer : {A : Type 0} → List (OutputSpec F D) → Result A OpenStackError → Type 0

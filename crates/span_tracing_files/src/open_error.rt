@@ -1,7 +1,7 @@
 //! Why a stack's files were not opened.
 ghost use Rattle.std.specs.Prelude.{◌≡◌};
-ghost use Rattle.span_tracing_files.specs.Opened.{build_refusal};
-ghost use Rattle.span_tracing_files.specs.Refused.{at_output, of_all, of_sink};
+ghost use Rattle.span_tracing_files.specs.Opened.{build_refusal, of_all};
+ghost use Rattle.span_tracing_files.specs.Refused.{at_output, of_sink};
 
 use span_registry_layers_store::OutputKey;
 use span_tracing_skeleton::Refusal;

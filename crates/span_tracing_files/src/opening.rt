@@ -3,8 +3,8 @@ ghost use Rattle.std.specs.Prelude.{◌≡◌, ◌⊎◌, IfOk, IfErr, Some, Non
 ghost use Rattle.tracing_core_requests.specs.Lists.{Every};
 ghost use Rattle.tracing_appender_folders.specs.Moments.{is_moment};
 ghost use Rattle.span_tracing_outputs.specs.TraceFollows.{IsReady};
-ghost use Rattle.span_tracing_files.specs.Opened.{Answers, OpensRouting, OpensSink, OpensStack, Pairs, RowOf, outputs_refusal, RowsAreTold, routing_of, stack_refusal};
-ghost use Rattle.span_tracing_files.specs.Refused.{InOne, IsRouted, NamesAnswer, OutputsTell, RoutingRefuses, SinkRefuses, SinkTells, SinksTell, of_all};
+ghost use Rattle.span_tracing_files.specs.Opened.{Answers, OpensRouting, OpensSink, OpensStack, Pairs, RowOf, of_all, outputs_refusal, RowsAreTold, routing_of, stack_refusal};
+ghost use Rattle.span_tracing_files.specs.Refused.{InOne, IsRouted, NamesAnswer, OutputsTell, RoutingRefuses, SinkRefuses, SinkTells, SinksTell};
 
 use crate::line_settings::Lines;
 use crate::open_error::OpenStackError;
