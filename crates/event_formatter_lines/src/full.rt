@@ -10,7 +10,7 @@ ghost use Rattle.event_formatter_lines.specs.Heads.{plain_head};
 ghost use Rattle.event_formatter_lines.specs.Shown.{span_at};
 
 use crate::fields::push_fields;
-use crate::head::{Head, push_level, push_plain, push_time};
+use crate::head::{Head, push_level, push_plain, push_time, refused};
 use crate::shown::ShownSpans;
 use event_formatter_text::{
     FormatError, FormatFields, RecordFields, Settings, push_bold, push_dimmed,
@@ -45,9 +45,16 @@ fn push_text(out: &mut String, settings: Settings, text: &str) -> Result<(), All
     if text.is_empty() {
         return out.push(':');
     }
-    out.push('{')?;
-    out.push_str(text)?;
-    out.push_str("}:")
+    let Ok(()) = out.push('{') else {
+        return Err(refused());
+    };
+    let Ok(()) = out.push_str(text) else {
+        return Err(refused());
+    };
+    let Ok(()) = out.push('}') else {
+        return Err(refused());
+    };
+    out.push(':')
 }
 
 // Appends a span: its name, its text and a colon.
@@ -101,15 +108,31 @@ pub fn push_spans<S: ShownSpans>(
     out.push(' ')
 }
 
-// Appends a colon and a space, as one text where styles are off.
+// Appends the target, a colon and a space.
 #[inline(always)]
-#[tactic(auto, unfolding(event_formatter_text::specs::Styles::styled))]
-fn push_colon(out: &mut String, settings: Settings) -> Result<(), AllocError>
-    ensures { OnOk result (string_bytes out.new ≡ string_bytes out.old ++ (dimmed settings (codes ":") ++ codes " ")) }
+fn push_plain_target(out: &mut String, target: &str) -> Result<(), AllocError>
+    ensures { OnOk result (string_bytes out.new ≡ string_bytes out.old ++ (target.now ++ (codes ":" ++ codes " "))) }
 {
-    if !settings.styles {
-        return out.push_str(": ");
-    }
+    let Ok(()) = out.push_str(target) else {
+        return Err(refused());
+    };
+    let Ok(()) = out.push(':') else {
+        return Err(refused());
+    };
+    out.push(' ')
+}
+
+// Appends the target, a colon and a space, in their styles.
+#[inline(never)]
+fn push_target_in_style(
+    out: &mut String,
+    settings: Settings,
+    target: &str,
+) -> Result<(), AllocError>
+    ensures { OnOk result (string_bytes out.new ≡ string_bytes out.old
+        ++ (dimmed settings target.now ++ (dimmed settings (codes ":") ++ codes " "))) }
+{
+    push_dimmed(out, settings, target)?;
     push_dimmed(out, settings, ":")?;
     out.push(' ')
 }
@@ -120,6 +143,7 @@ fn push_colon(out: &mut String, settings: Settings) -> Result<(), AllocError>
 ///
 /// Want of memory. What was appended before is to be dropped.
 #[inline(always)]
+#[tactic(auto, unfolding(event_formatter_text::specs::Styles::styled))]
 pub fn push_target(
     out: &mut String,
     settings: Settings,
@@ -131,8 +155,10 @@ pub fn push_target(
     let Some(target) = target else {
         return Ok(());
     };
-    push_dimmed(out, settings, target)?;
-    push_colon(out, settings)
+    if settings.styles {
+        return push_target_in_style(out, settings, target);
+    }
+    push_plain_target(out, target)
 }
 
 // Appends the file, and a space where no line's number follows.

@@ -27,6 +27,13 @@ pub struct Head<'a> {
     pub line: Option<u32>,
 }
 
+/// Want of memory. A call of it tells the compiler which way is seldom gone, so that pushes on the other way are inlined.
+#[cold]
+#[inline(never)]
+pub(crate) fn refused() -> AllocError {
+    AllocError
+}
+
 // The code that begins the style of a level.
 #[tactic(auto, unfolding(crate::specs::Heads::level_start))]
 fn level_start(name: &str) -> &'static str
@@ -53,25 +60,39 @@ pub(crate) fn in_five_places(level: Level) -> &'static str
     }
 }
 
-// Appends the level without a style and a space: most levels as one text of a length that the compiler knows.
+// A level's name in five places, and a space. All of them are of one length.
 #[inline(always)]
 #[tactic(auto, unfolding(crate::specs::Heads::in_five_places))]
-fn push_plain_level(out: &mut String, level: Level) -> Result<(), AllocError>
-    ensures { OnOk result (string_bytes out.new ≡ string_bytes out.old
-        ++ (in_five_places (level_name level) ++ codes " ")) }
+fn level_and_space(level: Level) -> &'static str
+    ensures { result.now ≡ in_five_places (level_name level) ++ codes " " }
 {
-    if level == Level::INFO {
-        out.push_str(" INFO ")
+    if level == Level::ERROR {
+        "ERROR "
     } else if level == Level::WARN {
-        out.push_str(" WARN ")
-    } else if level == Level::ERROR {
-        out.push_str("ERROR ")
+        " WARN "
+    } else if level == Level::INFO {
+        " INFO "
     } else if level == Level::DEBUG {
-        out.push_str("DEBUG ")
+        "DEBUG "
     } else {
-        out.push_str(in_five_places(level))?;
-        out.push(' ')
+        // The proof sees by this call that no other level is left.
+        let _name = level.as_str();
+        "TRACE "
     }
+}
+
+// Appends the level in its style and a space.
+#[inline(never)]
+fn push_level_in_style(out: &mut String, settings: Settings, level: Level) -> Result<(), AllocError>
+    ensures { OnOk result (string_bytes out.new ≡ string_bytes out.old ++ (level_text settings level ++ codes " ")) }
+{
+    push_styled(
+        out,
+        settings,
+        level_start(level.as_str()),
+        in_five_places(level),
+    )?;
+    out.push(' ')
 }
 
 /// Appends the level, where there is one, and a space.
@@ -92,15 +113,9 @@ pub fn push_level(
         return Ok(());
     };
     if settings.styles {
-        push_styled(
-            out,
-            settings,
-            level_start(level.as_str()),
-            in_five_places(level),
-        )?;
-        return out.push(' ');
+        return push_level_in_style(out, settings, level);
     }
-    push_plain_level(out, level)
+    out.push_str(level_and_space(level))
 }
 
 /// Appends the time, dimmed, where there is one, and a space.
