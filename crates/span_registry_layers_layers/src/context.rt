@@ -46,6 +46,7 @@ impl<'a> Context<'a> {
     }
 
     /// The span that the lane is in: its last entry that is no duplicate and that the filter passed.
+    #[inline(always)]
     pub fn lookup_current(&self) -> Option<SpanRef<'_>>
         ensures { let v = view self.now in option_map plain_ref result ≡ option_map (ref_in v) (lane_span v) }
     {
@@ -99,6 +100,7 @@ impl<'a> Context<'a> {
 
     /// The span that an event stands in: the one that it names, where the filter passed it, else none for a root,
     /// else the lane's.
+    #[inline(always)]
     pub fn event_span(&self, event: &Event<'_, '_>) -> Option<SpanRef<'_>>
         ensures { let v = view self.now in option_map plain_ref result
             ≡ option_map (ref_in v) (event_span v (plain_event event.now).parent) }

@@ -135,6 +135,7 @@ impl RegistryParts {
     }
 
     // The span of the last such entry.
+    #[inline(always)]
     fn latest_seen(&self, lane: &[Id], filter: Option<FilterId>) -> Option<&Span>
         ensures { option_map (λ s. plain_span s.now) result
             ≡ latest_seen (plain_registry self.now) (mask_of filter) (reverse lane.now) }
@@ -150,6 +151,7 @@ impl RegistryParts {
     }
 
     /// The span that a lane is in, as the filter sees it.
+    #[inline(always)]
     pub(crate) fn current_under(&self, lane: u64, filter: Option<FilterId>) -> Option<&Span>
         ensures { option_map (λ s. plain_span s.now) result
             ≡ current_under (plain_registry self.now) (mask_of filter) lane }
