@@ -91,6 +91,26 @@ impl<'c, 'r, N> FmtContext<'c, 'r, N> {
         }
     }
 
+    // The same, in a place of its own. What only calls apart are lent needs no place where there are none.
+    #[inline(always)]
+    pub(crate) fn apart(&self) -> FmtContext<'c, 'r, N>
+        ensures registry { result.context.now ≡ self.now.context.now }
+        ensures fields { result.fields.now ≡ self.now.fields.now }
+        ensures key { result.key ≡ self.now.key }
+        ensures thread { plain_thread result.thread ≡ plain_thread self.now.thread }
+        ensures scope { (result.ids.now ≡ self.now.ids.now) × (result.has_scope ≡ self.now.has_scope) }
+    {
+        let ids = self.ids;
+        FmtContext {
+            context: self.context,
+            fields: self.fields,
+            key: self.key,
+            thread: self.thread,
+            ids,
+            has_scope: self.has_scope,
+        }
+    }
+
     /// The lane and the moment of the event.
     pub fn at(&self) -> At
         ensures { result ≡ (view self.now.context.now).at }

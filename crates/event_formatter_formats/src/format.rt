@@ -303,7 +303,10 @@ impl<F: EventShape, T: FormatTime + Drop> FormatEvent for Format<F, T> {
                 context,
                 event,
             ),
-            shape => self.push_shaped(alloc, context, out, settings, shape, event),
+            shape => {
+                let apart = context.apart();
+                self.push_shaped(alloc, &apart, out, settings, shape, event)
+            }
         }
     }
 }

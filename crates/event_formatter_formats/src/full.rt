@@ -17,6 +17,7 @@ ghost use Rattle.event_formatter_formats.specs.declared.line_format.LineFormat.T
 use crate::context::{CurrentThread, FmtContext};
 use crate::heading::push_time;
 use crate::parts::Parts;
+use crate::seldom::{out_of_memory, refused};
 use event_formatter_lines::{push_level, push_place, push_spans, push_target};
 use event_formatter_text::{FormatError, FormatFields, Settings, Writer};
 use event_formatter_times::{FormatTime, push_thread_id, push_thread_name};
@@ -59,7 +60,7 @@ fn push_thread(out: &mut String, parts: Parts, thread: CurrentThread<'_>) -> Res
 }
 
 // Appends the level, where it is shown.
-#[inline(never)]
+#[inline(always)]
 fn push_shown_level(
     out: &mut String,
     settings: Settings,
@@ -114,7 +115,7 @@ fn push_file_and_line(
 }
 
 // Appends the target, the file and the line.
-#[inline(never)]
+#[inline(always)]
 fn push_source(
     out: &mut String,
     settings: Settings,
@@ -127,7 +128,9 @@ fn push_source(
         ++ (file_piece settings (is_some line) (asked parts.now.file m.file) ++ line_piece settings line))) }
 {
     if parts.target {
-        push_target(out, settings, Some(metadata.target()))?;
+        let Ok(()) = push_target(out, settings, Some(metadata.target())) else {
+            return Err(refused());
+        };
     }
     if parts.file || parts.line_number {
         return push_file_and_line(out, settings, parts, metadata);
@@ -172,16 +175,24 @@ fn push_head<N: FormatFields, T: FormatTime>(
         ++ full_head settings (head_of true parts.now (T.text_at timer.old c.seconds c.nanoseconds) c.thread
         (plain_metadata metadata.now)) c.strict) }
 {
-    push_shown_time(alloc, out, settings, parts, timer, context.at())?;
-    push_shown_level(out, settings, parts, metadata)?;
-    push_shown_thread(out, parts, context.thread())?;
-    push_spans(out, settings, &context.strict_spans())?;
+    let Ok(()) = push_shown_time(alloc, out, settings, parts, timer, context.at()) else {
+        return Err(refused());
+    };
+    let Ok(()) = push_shown_level(out, settings, parts, metadata) else {
+        return Err(refused());
+    };
+    let Ok(()) = push_shown_thread(out, parts, context.thread()) else {
+        return Err(refused());
+    };
+    let Ok(()) = push_spans(out, settings, &context.strict_spans()) else {
+        return Err(refused());
+    };
     push_source(out, settings, parts, metadata)?;
     Ok(())
 }
 
 // Appends the text of the fields, and ends the line.
-#[inline(never)]
+#[inline(always)]
 fn push_values<N: FormatFields>(
     alloc: Global,
     out: &mut String,
@@ -219,7 +230,7 @@ pub(crate) fn push_full<N: FormatFields, T: FormatTime>(
         Formats (line_in format.Full parts.now settings (T.text_at timer.old c.seconds c.nanoseconds) c
         (plain_event event.now)) (string_bytes out.old) result (string_bytes out.new) }
 {
-    push_head(
+    let Ok(()) = push_head(
         alloc,
         out,
         settings,
@@ -227,6 +238,8 @@ pub(crate) fn push_full<N: FormatFields, T: FormatTime>(
         timer,
         context,
         event.metadata(),
-    )?;
+    ) else {
+        return Err(out_of_memory());
+    };
     push_values(alloc, out, settings, context.fields, event)
 }

@@ -8,6 +8,7 @@ ghost use Rattle.event_formatter_formats.specs.Headings.{Shows, id_in_place, id_
 
 use crate::context::CurrentThread;
 use crate::parts::Parts;
+use crate::seldom::refused;
 use event_formatter_text::{FormatError, Settings};
 use event_formatter_times::{FormatTime, push_thread_id, push_thread_name};
 use std::alloc::{AllocError, Global};
@@ -76,6 +77,25 @@ fn push_dimmed_time<T: FormatTime>(
     out.push(' ')
 }
 
+// Appends the time and a space.
+#[inline(always)]
+fn push_plain_time<T: FormatTime>(
+    alloc: Global,
+    out: &mut String,
+    timer: &mut T,
+    seconds: i64,
+    nanoseconds: u32,
+) -> Result<(), AllocError>
+    ensures timer { (s : ℤ) (n : ℕ) → T.text_at timer.new s n ≡ T.text_at timer.old s n }
+    ensures text { OnOk result (string_bytes out.new ≡ string_bytes out.old
+        ++ (time_or_unknown (T.text_at timer.old seconds nanoseconds) ++ codes " ")) }
+{
+    let Ok(()) = push_moment(alloc, out, timer, seconds, nanoseconds) else {
+        return Err(refused());
+    };
+    out.push(' ')
+}
+
 /// Appends the time, dimmed where styles are on, and a space.
 ///
 /// # Errors
@@ -98,8 +118,7 @@ pub(crate) fn push_time<T: FormatTime>(
     if settings.styles {
         return push_dimmed_time(alloc, out, timer, seconds, nanoseconds);
     }
-    push_moment(alloc, out, timer, seconds, nanoseconds)?;
-    out.push(' ')
+    push_plain_time(alloc, out, timer, seconds, nanoseconds)
 }
 
 /// Puts the thread's number in place of what `out` held, and answers whether it is shown.

@@ -13,6 +13,7 @@ mod line_format;
 mod parts;
 mod pretty;
 mod scope;
+mod seldom;
 mod timer;
 
 pub use context::{CurrentThread, FmtContext};

@@ -9,6 +9,7 @@ ghost use Rattle.event_formatter_lines.specs.Shown.{plain_shown};
 ghost use Rattle.event_formatter_formats.specs.Scopes.{shown_span, target_or_none};
 ghost use Rattle.event_formatter_formats.specs.Walks.{FillsScope, HasNumber, ShowsScope, ids_to, ids_up};
 
+use crate::seldom::refused;
 use event_formatter_lines::{ShownSpan, ShownSpans};
 use event_formatter_slots::kept_text;
 use span_registry_layers_layers::Context;
@@ -91,13 +92,24 @@ impl ShownSpans for ScopedSpans<'_, '_> {
     }
 }
 
-// Puts the ids of a span and its ancestors, from the root on, into an empty list.
+// Puts the ids of a span and its ancestors, from the root on, into an empty list. A span alone needs no loop.
 #[inline(always)]
 fn fill_from(ids: &mut Vec<Id>, leaf: &SpanRef<'_>) -> Result<(), AllocError>
     requires { ids.old.items ≡ [] }
     ensures { OnOk result (ids.new.items ≡ reverse (ids_up (plain_ref leaf.now))) }
 {
-    for span in leaf.scope() {
+    let mut scope = leaf.scope();
+    let Some(first) = scope.next() else {
+        return Ok(());
+    };
+    let Ok(()) = ids.push(first.id()) else {
+        return Err(refused());
+    };
+    let Some(second) = scope.next() else {
+        return Ok(());
+    };
+    ids.push(second.id())?;
+    for span in scope {
         ids.push(span.id())?;
     }
     ids.reverse();
@@ -132,6 +144,7 @@ fn id_of(span: &SpanRef<'_>) -> Id
 /// # Errors
 ///
 /// Want of memory. The list then holds some of them.
+#[inline(never)]
 pub fn fill_scope(
     context: &Context<'_>,
     event: &Event<'_, '_>,

@@ -21,6 +21,7 @@ pub enum Timer {
 impl FormatTime for Timer {
     ghost text_at = { text_at };
 
+    #[inline(always)]
     fn format_time(
         &mut self,
         alloc: Global,

@@ -20,5 +20,5 @@ returns-clause-text g c =
     (string_bytes c.push_head.new.out)
     (string_bytes c.push_values.new.out)
     c.push_values.result
-    (c.in_ok-push_head.ensures.text ∙ (λ i. string_bytes c.args.out.now ++ front (plain_metadata (c.metadata.ensures.metadata i))))
+    (c.in-Ok.ensures.text ∙ (λ i. string_bytes c.args.out.now ++ front (plain_metadata (c.metadata.ensures.metadata i))))
     c.push_values.ensures

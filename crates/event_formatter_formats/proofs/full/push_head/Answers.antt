@@ -36,8 +36,8 @@ returns-clause-text g c =
     (line_piece settings line)
     timed levelled placed spanned
     (string_bytes c.push_source.new.out)
-    (c.in_ok-push_shown_time.ensures.text ∙ ap (λ (at : At). old ++ time at) c.at.ensures)
-    c.in_ok-push_shown_level.ensures
-    (c.in_ok-push_shown_thread.ensures ∙ ap (λ (t : PlainThread). levelled ++ (plain_piece (name_shown true parts t) ++ plain_piece (id_shown true parts t))) c.thread.ensures)
-    (c.in_ok-push_spans.ensures ∙ ap (λ (spans : List PlainShown). placed ++ spans_text settings spans) c.strict_spans.ensures)
+    (c.in-Ok.ensures.text ∙ ap (λ (at : At). old ++ time at) c.at.ensures)
+    c.in-Ok-push_shown_level.ensures
+    (c.in-Ok-push_shown_thread.ensures ∙ ap (λ (t : PlainThread). levelled ++ (plain_piece (name_shown true parts t) ++ plain_piece (id_shown true parts t))) c.thread.ensures)
+    (c.in-Ok-push_spans.ensures ∙ ap (λ (spans : List PlainShown). placed ++ spans_text settings spans) c.strict_spans.ensures)
     c.in_ok-push_source.ensures

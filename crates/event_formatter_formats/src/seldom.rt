@@ -1,0 +1,21 @@
+//! Refusals. A call of them tells the compiler which way is seldom gone, so that pushes on the other way are inlined.
+ghost use Rattle.std.specs.Prelude.{◌≡◌};
+
+use event_formatter_text::FormatError;
+use std::alloc::AllocError;
+
+/// Want of memory.
+#[cold]
+#[inline(never)]
+pub(crate) fn refused() -> AllocError {
+    AllocError
+}
+
+/// Want of memory, as a refusal of a format.
+#[cold]
+#[inline(never)]
+pub(crate) fn out_of_memory() -> FormatError
+    ensures { result ≡ FormatError.OutOfMemory }
+{
+    FormatError::OutOfMemory
+}
