@@ -82,6 +82,15 @@ pub struct Layer<N, E, W> {
     pub(crate) scratch: Scratch,
 }
 
+// Want of memory. A call of it tells the compiler which way is seldom gone.
+#[cold]
+#[inline(never)]
+fn out_of_memory() -> FormatError
+    ensures { result ≡ FormatError.OutOfMemory }
+{
+    FormatError::OutOfMemory
+}
+
 impl<N: FormatFields, E: FormatEvent, W> Layer<N, E, W> {
     // Writes the line of an event.
     fn write_line(
@@ -95,7 +104,9 @@ impl<N: FormatFields, E: FormatEvent, W> Layer<N, E, W> {
         ensures text { Formats (line_in_view N.text_of E.line_of self.old (view context.now) (plain_event event.now)) [] result
             (string_bytes self.new.output.line) }
     {
-        let has_scope = fill_scope(context, event, &mut self.scratch.ids)?;
+        let Ok(has_scope) = fill_scope(context, event, &mut self.scratch.ids) else {
+            return Err(out_of_memory());
+        };
         let thread = self.threads.at(context.at().lane);
         let written = FmtContext::new(
             context,
