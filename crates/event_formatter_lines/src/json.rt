@@ -102,6 +102,7 @@ pub fn push_json_line<S: ShownSpans, R: RecordFields>(
     let is_first = push_first_members(out, head)?;
     let is_first = push_field_members(out, is_first, shape.flatten_event, fields)?;
     push_last_members(out, is_first, shape, head, loose)?;
-    out.push_str("}\n")?;
+    out.push('}')?;
+    out.push('\n')?;
     Ok(())
 }
