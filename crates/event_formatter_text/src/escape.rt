@@ -75,6 +75,7 @@ fn has_special_near(escape: Escape, bytes: &[u8]) -> bool
 
 // The same of a long text. It stands apart, as it is asked only where the blocks have such a byte.
 #[inline(never)]
+#[cold]
 fn has_special_far(escape: Escape, bytes: &[u8]) -> bool
     ensures { result ≡ list_any (is_special escape) bytes.now }
 {
@@ -237,8 +238,9 @@ fn push_char(out: &mut String, escape: Escape, c: char) -> Result<(), AllocError
     }
 }
 
-/// Appends the text character by character.
+/// Appends the text character by character. It is marked as cold, so that the push of a text that stands as it is is inlined.
 #[inline(never)]
+#[cold]
 pub(crate) fn push_each(out: &mut String, escape: Escape, text: &str) -> Result<(), AllocError>
     ensures { OnOk result (string_bytes out.new ≡ string_bytes out.old ++ escaped (written_char escape) text.now) }
 {
@@ -265,6 +267,7 @@ pub(crate) fn push_escaped(out: &mut String, escape: Escape, text: &str) -> Resu
 /// # Errors
 ///
 /// Want of memory. What was appended before is to be dropped.
+#[inline(always)]
 pub fn push_json_rest(out: &mut String, text: &str) -> Result<(), AllocError>
     ensures { OnOk result (string_bytes out.new ≡ string_bytes out.old
         ++ (escaped json_char text.now ++ codes "\"")) }
