@@ -4,7 +4,7 @@ mod key;
 mod members;
 mod spans;
 
-ghost use Rattle.std.specs.Prelude.{◌≡◌, ◌++◌, IfOk, string_bytes};
+ghost use Rattle.std.specs.Prelude.{◌≡◌, ◌++◌, IfOk, OnOk, codes, string_bytes};
 ghost use Rattle.event_formatter_text.specs.Chains.{Extends, ExtendsWhole};
 ghost use Rattle.event_formatter_text.specs.Lists.{Formats};
 ghost use Rattle.event_formatter_lines.specs.Heads.{plain_head};
@@ -81,6 +81,15 @@ fn push_last_members<S: ShownSpans>(
     Ok(is_first)
 }
 
+// Ends the object and its line. It stands apart, so that both of its pushes are inlined.
+#[inline(never)]
+fn end_line(out: &mut String) -> Result<(), AllocError>
+    ensures { OnOk result (string_bytes out.new ≡ string_bytes out.old ++ codes "}\n") }
+{
+    out.push('}')?;
+    out.push('\n')
+}
+
 /// Appends a line of the JSON format. A span's kept text that isn't in braces stands as a string under the key `field`;
 /// one that is in braces is taken for an object, as `JsonFields` writes it.
 ///
@@ -102,6 +111,6 @@ pub fn push_json_line<S: ShownSpans, R: RecordFields>(
     let is_first = push_first_members(out, head)?;
     let is_first = push_field_members(out, is_first, shape.flatten_event, fields)?;
     push_last_members(out, is_first, shape, head, loose)?;
-    out.push_str("}\n")?;
+    end_line(out)?;
     Ok(())
 }

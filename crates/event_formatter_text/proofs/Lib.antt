@@ -1,3 +1,4 @@
+mod Blocks
 mod Plain
 mod Shown
 pub mod Visiting

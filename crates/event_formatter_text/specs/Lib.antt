@@ -1,3 +1,4 @@
+pub mod Blocks
 pub mod Escapes
 pub mod Steering
 pub mod Styles

@@ -1,13 +1,16 @@
 //! Texts with some of their characters written out.
 //!
-//! Most texts have no such character. So their bytes are looked at first, those of a longer text in a loop without branches, and a text
-//! that has none is appended as it is.
-ghost use Rattle.std.specs.Prelude.{◌≡◌, ◌++◌, OnOk, codes, string_bytes};
+//! Most texts have no such character. So their bytes are looked at first, those of a longer text by blocks, and a text that has none is
+//! appended as it is.
+ghost use Rattle.std.specs.Prelude.{◌≡◌, ◌+◌, ◌≤◌, ◌++◌, IsTrue, OnOk, codes, length, string_bytes};
 ghost use Rattle.std.specs.List.{list_any};
 ghost use Rattle.tracing_core_fields.specs.Quoted.{quoted, quoted_char};
 ghost use Rattle.event_formatter_text.specs.Escapes.{escaped, is_special, json_char, json_string, sanitized_char, written_char};
+ghost use Rattle.event_formatter_text.specs.declared.escape.Escape.TheVariants.{Sanitized, Json, Quoted};
+ghost use Rattle.event_formatter_text.specs.Blocks.{IsPlainBetween};
 
 use std::alloc::AllocError;
+use std::simd::prelude::*;
 
 /// Which characters of a text are written out.
 #[derive(Clone, Copy, PartialEq, Eq)]
@@ -20,12 +23,8 @@ pub(crate) enum Escape {
     Quoted,
 }
 
-// A text of fewer bytes is short. It is looked at up to its first byte that may be written out.
-const SHORT: usize = 16;
-
-// Of a longer text the part whose length is a multiple of this goes through a loop that the compiler can do in wide steps. What is left
-// of it is looked at as a short text.
-const AT_ONCE: usize = 8;
+// How many bytes of a text are looked at at once. One of fewer bytes is looked at byte by byte.
+const BLOCK: usize = 16;
 
 // Whether a byte may be part of a character that is written out.
 #[inline(always)]
@@ -74,8 +73,9 @@ fn has_special_near(escape: Escape, bytes: &[u8]) -> bool
     }
 }
 
-// The same of a long text, without branches, so that the compiler looks at many bytes at once.
-#[inline(always)]
+// The same of a long text. It stands apart, as it is asked only where the blocks have such a byte.
+#[inline(never)]
+#[cold]
 fn has_special_far(escape: Escape, bytes: &[u8]) -> bool
     ensures { result ≡ list_any (is_special escape) bytes.now }
 {
@@ -86,16 +86,88 @@ fn has_special_far(escape: Escape, bytes: &[u8]) -> bool
     found
 }
 
+// Whether no byte of the block at the place may be part of a character that is written out, for a terminal.
+#[inline(always)]
+fn is_sanitized_block(bytes: &[u8], at: usize) -> bool
+    requires { at + 16 ≤ length bytes.now }
+    ensures { IsTrue result → IsPlainBetween Sanitized bytes.now at (at + 16) }
+{
+    let block = u8x16::from_slice(&bytes[at..]);
+    (block.simd_lt(u8x16::splat(0x20))
+        | block.simd_eq(u8x16::splat(0xc2))
+        | block.simd_eq(u8x16::splat(0x7f))).to_bitmask()
+        == 0
+}
+
+// The same for JSON.
+#[inline(always)]
+fn is_json_block(bytes: &[u8], at: usize) -> bool
+    requires { at + 16 ≤ length bytes.now }
+    ensures { IsTrue result → IsPlainBetween Json bytes.now at (at + 16) }
+{
+    let block = u8x16::from_slice(&bytes[at..]);
+    (block.simd_lt(u8x16::splat(0x20))
+        | block.simd_eq(u8x16::splat(b'"'))
+        | block.simd_eq(u8x16::splat(b'\\'))).to_bitmask()
+        == 0
+}
+
+// The same for debug text.
+#[inline(always)]
+fn is_quoted_block(bytes: &[u8], at: usize) -> bool
+    requires { at + 16 ≤ length bytes.now }
+    ensures { IsTrue result → IsPlainBetween Quoted bytes.now at (at + 16) }
+{
+    let block = u8x16::from_slice(&bytes[at..]);
+    (block.simd_lt(u8x16::splat(0x20))
+        | block.simd_eq(u8x16::splat(b'"'))
+        | block.simd_eq(u8x16::splat(b'\\'))
+        | block.simd_eq(u8x16::splat(0x7f))
+        | block.simd_eq(u8x16::splat(0xc2))).to_bitmask()
+        == 0
+}
+
+// The same for any escape.
+#[inline(always)]
+fn is_plain_block(escape: Escape, bytes: &[u8], at: usize) -> bool
+    requires { at + 16 ≤ length bytes.now }
+    ensures { IsTrue result → IsPlainBetween escape bytes.now at (at + 16) }
+{
+    match escape {
+        Escape::Sanitized => is_sanitized_block(bytes, at),
+        Escape::Json => is_json_block(bytes, at),
+        Escape::Quoted => is_quoted_block(bytes, at),
+    }
+}
+
+// Whether no byte of a long text is part of such a character. The last block may overlap the one before.
+#[inline(always)]
+fn is_plain_far(escape: Escape, bytes: &[u8]) -> bool
+    requires { 16 ≤ length bytes.now }
+    ensures { IsTrue result → IsPlainBetween escape bytes.now 0 (length bytes.now) }
+{
+    let mut at = 0;
+    while bytes.len() - at > BLOCK {
+        if !is_plain_block(escape, bytes, at) {
+            return false;
+        }
+        at += BLOCK;
+    }
+    is_plain_block(escape, bytes, bytes.len() - BLOCK)
+}
+
 /// Whether some byte may be part of a character that is written out.
 #[inline(always)]
 pub(crate) fn has_special(escape: Escape, bytes: &[u8]) -> bool
     ensures { result ≡ list_any (is_special escape) bytes.now }
 {
-    if bytes.len() < SHORT {
+    if bytes.len() < BLOCK {
         return has_special_near(escape, bytes);
     }
-    let (whole, rest) = bytes.split_at(bytes.len() - bytes.len() % AT_ONCE);
-    has_special_far(escape, whole) || has_special_near(escape, rest)
+    if is_plain_far(escape, bytes) {
+        return false;
+    }
+    has_special_far(escape, bytes)
 }
 
 #[tactic(auto, unfolding(crate::specs::Escapes::sanitized_char))]
@@ -166,8 +238,9 @@ fn push_char(out: &mut String, escape: Escape, c: char) -> Result<(), AllocError
     }
 }
 
-/// Appends the text character by character.
+/// Appends the text character by character. It is marked as cold, so that the push of a text that stands as it is is inlined.
 #[inline(never)]
+#[cold]
 pub(crate) fn push_each(out: &mut String, escape: Escape, text: &str) -> Result<(), AllocError>
     ensures { OnOk result (string_bytes out.new ≡ string_bytes out.old ++ escaped (written_char escape) text.now) }
 {
@@ -194,6 +267,7 @@ pub(crate) fn push_escaped(out: &mut String, escape: Escape, text: &str) -> Resu
 /// # Errors
 ///
 /// Want of memory. What was appended before is to be dropped.
+#[inline(always)]
 pub fn push_json_rest(out: &mut String, text: &str) -> Result<(), AllocError>
     ensures { OnOk result (string_bytes out.new ≡ string_bytes out.old
         ++ (escaped json_char text.now ++ codes "\"")) }

@@ -60,7 +60,15 @@ fn push_mark(
 pub(crate) fn is_message(name: &str) -> bool
     ensures { result ≡ is_message name.now }
 {
-    name == "message"
+    let bytes = name.as_bytes();
+    bytes.len() == 7
+        && (bytes[0] == b'm')
+            & (bytes[1] == b'e')
+            & (bytes[2] == b's')
+            & (bytes[3] == b's')
+            & (bytes[4] == b'a')
+            & (bytes[5] == b'g')
+            & (bytes[6] == b'e')
 }
 
 /// The name without a leading `r#`.

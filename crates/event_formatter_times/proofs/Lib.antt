@@ -1,1 +1,2 @@
+mod SixDigits
 mod Spaces

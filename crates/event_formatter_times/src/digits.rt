@@ -3,6 +3,7 @@ ghost use Rattle.std.specs.Prelude.{◌≡◌, ◌<◌, ◌++◌, OnOk, string_b
 ghost use Rattle.tracing_appender_dates.specs.Calendar.{two_digits};
 ghost use Rattle.event_formatter_times.specs.Digits.{digit, nine_digits, six_digits, three_digits};
 
+use itoa::Buffer;
 use std::alloc::AllocError;
 
 /// Appends a number below 10.
@@ -34,14 +35,16 @@ pub(crate) fn push_three(out: &mut String, number: u32) -> Result<(), AllocError
     push_two(out, number % 100)
 }
 
-/// Appends a number below 1,000,000 in six digits.
+/// Appends a number below 1,000,000 in six digits: those behind the first of one that is a million greater. They are one text of a length
+/// that the compiler knows.
 #[inline(always)]
 pub(crate) fn push_six(out: &mut String, number: u32) -> Result<(), AllocError>
     requires { number < 1000000 }
     ensures { OnOk result (string_bytes out.new ≡ string_bytes out.old ++ six_digits number) }
 {
-    push_three(out, number / 1000)?;
-    push_three(out, number % 1000)
+    let mut buffer = Buffer::new();
+    let behind_one = buffer.format(1_000_000 + number);
+    out.push_str(&behind_one[1..7])
 }
 
 /// Appends a number below 1,000,000,000 in nine digits.

@@ -16,6 +16,9 @@ const FIRST_DAY: i64 = -719_528;
 
 const LAST_DAY: i64 = 2_932_896;
 
+// How many bytes `YYYY-MM-DDTHH:MM:SS.` has.
+const START_LEN: usize = 20;
+
 // A second of the years 0 to 9999 with its text and a point, kept since the next line is mostly of the same second.
 #[derive(Drop)]
 struct LastSecond {
@@ -72,8 +75,8 @@ fn second_with_text(alloc: Global, second: i64) -> Result<LastSecond, AllocError
     Ok(LastSecond { second, text })
 }
 
-// Appends the microseconds and the sign of UTC. It stands apart, so that each of its pushes is inlined.
-#[inline(never)]
+// Appends the microseconds and the sign of UTC.
+#[inline(always)]
 fn push_fraction(out: &mut String, nanoseconds: u32) -> Result<(), AllocError>
     requires { nanoseconds < 1000000000 }
     ensures { OnOk result (string_bytes out.new ≡ string_bytes out.old ++ (six_digits (nanoseconds / 1000) ++ codes "Z")) }
@@ -108,7 +111,8 @@ impl SystemTime {
         Ok(())
     }
 
-    // Appends the text of the second and a point: the last one's where it is the same.
+    // Appends the text of the second and a point: the last one's where it is the same. Its length, which is always the same, is asked, so
+    // that the compiler knows it and copies the text by moves, without a call.
     #[inline(always)]
     fn push_second(
         &mut self,
@@ -119,7 +123,7 @@ impl SystemTime {
         ensures { TellsTime (second_start second) (string_bytes out.old) result (string_bytes out.new) }
     {
         match &self.last {
-            Some(last) if last.second == second => {
+            Some(last) if last.second == second && last.text.len() == START_LEN => {
                 out.push_str(last.text.as_str())?;
                 Ok(())
             }

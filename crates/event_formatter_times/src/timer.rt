@@ -48,6 +48,7 @@ impl FixedText {
 impl FormatTime for FixedText {
     ghost text_at = { λ timer s n. Some (string_bytes timer.text) };
 
+    #[inline(never)]
     fn format_time(
         &mut self,
         _alloc: Global,

@@ -83,22 +83,34 @@ pub(super) fn push_line_number(
     Ok(false)
 }
 
-// Appends a level's name as a string, in which nothing is to be escaped.
+// Appends the level behind another member. Its key and its name are one text.
 #[inline(always)]
-fn push_level_name(out: &mut String, level: Level) -> Result<(), AllocError>
-    ensures { OnOk result (string_bytes out.new ≡ string_bytes out.old ++ json_string (level_name level)) }
+fn push_later_level(out: &mut String, level: Level) -> Result<(), AllocError>
+    ensures { OnOk result (string_bytes out.new ≡ string_bytes out.old
+        ++ (codes "," ++ (key_text (codes "level") ++ json_string (level_name level)))) }
 {
     if level == Level::INFO {
-        out.push_str("\"INFO\"")
+        out.push_str(",\"level\":\"INFO\"")
     } else if level == Level::WARN {
-        out.push_str("\"WARN\"")
+        out.push_str(",\"level\":\"WARN\"")
     } else if level == Level::ERROR {
-        out.push_str("\"ERROR\"")
+        out.push_str(",\"level\":\"ERROR\"")
     } else if level == Level::DEBUG {
-        out.push_str("\"DEBUG\"")
+        out.push_str(",\"level\":\"DEBUG\"")
     } else {
+        push_key(out, false, Key::Level)?;
         push_json_string(out, level.as_str())
     }
+}
+
+// Appends the level as the first member. It stands apart, as a line mostly begins with its time.
+#[inline(never)]
+fn push_first_level(out: &mut String, level: Level) -> Result<(), AllocError>
+    ensures { OnOk result (string_bytes out.new ≡ string_bytes out.old
+        ++ (key_text (codes "level") ++ json_string (level_name level))) }
+{
+    push_key(out, true, Key::Level)?;
+    push_json_string(out, level.as_str())
 }
 
 // Appends the level as a member, where there is one.
@@ -111,8 +123,11 @@ fn push_level(out: &mut String, is_first: bool, level: Option<Level>) -> Result<
     let Some(level) = level else {
         return Ok(is_first);
     };
-    push_key(out, is_first, Key::Level)?;
-    push_level_name(out, level)?;
+    if is_first {
+        push_first_level(out, level)?;
+    } else {
+        push_later_level(out, level)?;
+    }
     Ok(false)
 }
 

@@ -10,4 +10,4 @@ returns g c =
     let begun : string_bytes c.push.new.self ≡ string_bytes c.args.out.now ++ codes "{" = grind (arith, common_steps) in
     let head = plain_head c.args.head.now in
     written (first_members head) (last_members c.args.shape head (g.S.ShownSpans.spans c.args.loose.now)) (field_members c.args.shape.flatten_event (g.R.RecordFields.values c.args.fields.now)) _ _ _ _ _ _ _ _ _ begun
-    c.in_ok-is_first.ensures c.in_ok-is_first-2.ensures c.in_ok-push_last_members.ensures c.in_ok-push_str.ensures.bytes
+    c.in_ok-is_first.ensures c.in_ok-is_first-2.ensures c.in_ok-push_last_members.ensures c.in_ok-end_line.ensures
