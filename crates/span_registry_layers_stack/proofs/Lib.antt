@@ -14,3 +14,4 @@ pub mod Soundness
 pub mod Single
 pub mod Taking
 pub mod Keys
+pub mod Unmarked

@@ -1,5 +1,5 @@
 -- What one output is told.
-use Rattle.std.specs.Prelude.{◌≡◌, ◌⊎◌, ◌++◌, ℕ, Bool, true, false, Some, List, [], ◌∷◌, map}
+use Rattle.std.specs.Prelude.{◌≡◌, ◌⊎◌, ◌++◌, ◌||◌, ℕ, Bool, true, false, Some, List, [], ◌∷◌, map}
 use Rattle.tracing_core_requests.specs.declared.at.At.{At}
 use Rattle.tracing_core_fields.specs.PlainMetadata.{PlainMetadata}
 use Rattle.tracing_core_requests.specs.PlainRequests.{PlainEvent}
@@ -19,6 +19,10 @@ view_of at x row = record { at = at; registry = x; mask = Some row.id.index }
 -- with what the filter answered of the last request, of which the output is told where that passes
 abbrev pub marked : {O : Type 0} → Bool → Row O → Row O
 marked passed row = record row { passed = passed; told = passed }
+
+-- its filter passed the last request's callsite, or it was told of that request
+abbrev pub is_marked : {O : Type 0} → Row O → Bool
+is_marked row = row.passed || row.told
 
 abbrev pub filters_of : {L F : Type 0} → List (Row (Filtered L F)) → List F
 filters_of rows = map (λ row. row.output.filter) rows

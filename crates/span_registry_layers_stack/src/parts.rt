@@ -1,5 +1,5 @@
 //! The state of a stack.
-ghost use Rattle.std.specs.Prelude.{◌≡◌, Some};
+ghost use Rattle.std.specs.Prelude.{◌≡◌, IsTrue, Some, true};
 ghost use Rattle.std.specs.Option.{option_copied};
 ghost use Rattle.tracing_core_fields.specs.Metadata.{plain_metadata};
 ghost use Rattle.tracing_core_requests.specs.PlainRequests.{plain_event};
@@ -14,7 +14,7 @@ mod swapping;
 mod telling;
 
 use crate::row::Row;
-use crate::rows::{any_passes, ask_hint, ask_interest, clear_marks};
+use crate::rows::{any_passes, are_clear, ask_hint, ask_interest, clear_marks};
 use crate::sites::Sites;
 use span_registry_layers_layers::{Filter, Filtered, Layer};
 use span_registry_layers_store::Registry;
@@ -57,6 +57,14 @@ impl<O> StackParts<O> {
         ensures { result ≡ is_refused (plain_stack self.now) (plain_metadata metadata.now) }
     {
         is_above(self.hint, *metadata.level()) || self.sites.refuse(metadata)
+    }
+
+    // Whether every callsite of this level is refused, and no mark is left that such a request would clear.
+    pub(crate) fn ignores(&self, level: Level) -> bool
+        ensures { IsTrue result → (is_above (plain_stack self.now).hint level ≡ true)
+            × (cleared (plain_stack self.now) ≡ plain_stack self.now) }
+    {
+        is_above(self.hint, level) && are_clear(&self.rows)
     }
 
     // No filter passed the last request.

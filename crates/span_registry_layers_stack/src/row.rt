@@ -5,7 +5,7 @@ ghost use Rattle.tracing_core_requests.specs.PlainRequests.{plain_event};
 ghost use Rattle.span_registry_layers_layers.specs.Combined.{Then};
 ghost use Rattle.span_registry_layers_layers.specs.Notices.{Happened};
 ghost use Rattle.span_registry_layers_stack.specs.Asked.{AsksRow};
-ghost use Rattle.span_registry_layers_stack.specs.Rows.{AsksEvent, TellsEvent, marked, view_of, with_layer};
+ghost use Rattle.span_registry_layers_stack.specs.Rows.{AsksEvent, TellsEvent, is_marked, marked, view_of, with_layer};
 ghost use Rattle.span_registry_layers_stack.specs.Swaps.{with_filter};
 
 mod spans;
@@ -34,6 +34,13 @@ impl<O> Row<O> {
     {
         self.passed = false;
         self.told = false;
+    }
+
+    // Whether anything is marked of the last request.
+    pub(crate) fn is_marked(&self) -> bool
+        ensures { result ≡ is_marked self.now }
+    {
+        self.passed || self.told
     }
 }
 

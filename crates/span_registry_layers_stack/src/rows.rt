@@ -1,12 +1,13 @@
 //! What is asked of all outputs, and told to them, in order.
-ghost use Rattle.std.specs.Prelude.{◌≡◌, None, Some, map, false};
+ghost use Rattle.std.specs.Prelude.{◌≡◌, IsTrue, None, Some, map, not, false};
+ghost use Rattle.std.specs.List.{list_any};
 ghost use Rattle.tracing_core_requests.specs.Interests.{joined, settled};
 ghost use Rattle.tracing_core_fields.specs.Metadata.{plain_metadata};
 ghost use Rattle.tracing_core_requests.specs.PlainRequests.{plain_event};
 ghost use Rattle.span_registry_layers_store.specs.Verdicts.{all_pass};
 ghost use Rattle.span_registry_layers_layers.specs.Several.{EachInTurn};
 ghost use Rattle.span_registry_layers_stack.specs.Asked.{AsksFrom, CommonInterest, SomePasses, common_hint};
-ghost use Rattle.span_registry_layers_stack.specs.Rows.{AsksEvent, EachBecomes, TellsEvent, filters_of, marked};
+ghost use Rattle.span_registry_layers_stack.specs.Rows.{AsksEvent, EachBecomes, TellsEvent, filters_of, is_marked, marked};
 
 mod spans;
 
@@ -54,6 +55,28 @@ pub(crate) fn clear_marks<O>(rows: &mut [Row<O>])
     for row in rows.iter_mut() {
         row.clear();
     }
+}
+
+// Whether no output is marked.
+fn none_marked<O>(rows: &[Row<O>]) -> bool
+    ensures { result ≡ not (list_any is_marked rows.now) }
+{
+    let mut rest = rows;
+    while let [row, later @ ..] = rest {
+        if row.is_marked() {
+            return false;
+        }
+        rest = later;
+    }
+    true
+}
+
+// Whether clearing the marks changes nothing.
+#[tactic(auto, using(crate::proofs::Unmarked::cleared_same))]
+pub(crate) fn are_clear<O>(rows: &[Row<O>]) -> bool
+    ensures { IsTrue result → map (marked false) rows.now ≡ rows.now }
+{
+    none_marked(rows)
 }
 
 // Whether some filter passes what is made of the callsite.

@@ -16,3 +16,4 @@ pub mod Tracing
 pub mod Idle
 pub mod Readying
 pub mod Starting
+pub mod Ignoring

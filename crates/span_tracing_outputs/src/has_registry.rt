@@ -7,6 +7,7 @@ use event_formatter_text::FormatFields;
 use span_registry_layers_layers::Filter;
 use span_registry_layers_store::Registry;
 use span_tracing_skeleton::HasRegistry;
+use tracing_core_fields::Level;
 
 impl<N: FormatFields + Drop, E: FormatEvent, F: Filter, S: LineSink> HasRegistry
     for TraceStack<N, E, F, S> {
@@ -14,5 +15,9 @@ impl<N: FormatFields + Drop, E: FormatEvent, F: Filter, S: LineSink> HasRegistry
 
     fn registry(&self) -> &Registry {
         self.stack().registry()
+    }
+
+    fn ignores(&self, level: Level) -> bool {
+        self.stack_ignores(level)
     }
 }

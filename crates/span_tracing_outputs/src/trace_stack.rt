@@ -1,7 +1,8 @@
 //! A stack whose outputs have sinks, as a subscriber.
-ghost use Rattle.std.specs.Prelude.{◌≡◌, IfOk, length, nat_eq};
+ghost use Rattle.std.specs.Prelude.{◌≡◌, IfOk, IsTrue, length, nat_eq, true};
 ghost use Rattle.span_registry_layers_stack.specs.CacheValidity.{CacheIsValid};
-ghost use Rattle.span_tracing_outputs.specs.TraceStacks.{NewGives};
+ghost use Rattle.span_registry_layers_stack.specs.Stacks.{cleared, is_above};
+ghost use Rattle.span_tracing_outputs.specs.TraceStacks.{IsAtRest, NewGives};
 
 use crate::hand::{clear_lines, hand_over};
 use crate::pending::PendingLines;
@@ -12,7 +13,7 @@ use event_formatter_text::FormatFields;
 use span_registry_layers_layers::{Filter, Filtered};
 use span_registry_layers_stack::Stack;
 use std::marker::Model;
-use tracing_core_fields::{Id, LevelFilter, Metadata};
+use tracing_core_fields::{Id, Level, LevelFilter, Metadata};
 use tracing_core_requests::{
     At, Attributes, CurrentSpan, Event, Interest, Record, RequestError, Subscriber, WeakDispatch,
 };
@@ -98,6 +99,15 @@ impl<N, E, F, S> TraceStack<N, E, F, S> {
         ensures { result.now ≡ self.now.stack }
     {
         &self.stack
+    }
+
+    // Whether the stack stays as it is at events of this level that name no parent: it has no line to hand over then.
+    pub(crate) fn stack_ignores(&self, level: Level) -> bool
+        ensures rest { IsAtRest self.now.stack self.now.sinks }
+        ensures ignores { IsTrue result → (is_above self.now.stack.hint level ≡ true)
+            × (cleared self.now.stack ≡ self.now.stack) }
+    {
+        self.stack.ignores(level)
     }
 
     /// The sinks, each at the place of its output.

@@ -7,3 +7,4 @@ pub mod Steps
 pub mod Setup
 pub mod Interests
 pub mod Words
+pub mod Finding

@@ -7,6 +7,7 @@ ghost use Rattle.span_tracing_skeleton.specs.Machine.{call_refusal, callsite_of,
 ghost use Rattle.span_tracing_skeleton.specs.declared.refusal.Refusal.TheVariants.{GlobalSet, UnknownStack};
 ghost use Rattle.span_tracing_skeleton.specs.PlainData.{on_span};
 ghost use Rattle.span_tracing_steps.specs.Actions.{plain_record};
+ghost use Rattle.span_tracing_steps.specs.Finding.{FoundFor};
 ghost use Rattle.span_tracing_steps.specs.States.{at_index, skeleton_of, stack_in, value_in};
 
 use crate::action::{RecordRequest, Request};
@@ -145,25 +146,26 @@ impl<T: Subscriber + HasRegistry> TraceParts<T> {
         None
     }
 
-    /// Why no event or span of this kind is made at the callsite that was looked for.
+    /// Where the callsite of an event or a new span stands, of this kind, or why none is made.
     #[inline(always)]
-    pub(crate) fn request_refusal(
+    pub(crate) fn find_for(
         &self,
         request: &Request<'_>,
         is_span: bool,
-        callsite: Option<CallsiteIndex>,
-    ) -> Option<Refusal>
-        requires { is_some callsite
-            ≡ is_some (known (skeleton_of T.registry_of (value_in self.now)) request.now.callsite is_span) }
-        ensures { result ≡ request_refusal (skeleton_of T.registry_of (value_in self.now)) request.now.lane
-            request.now.moment request.now.callsite is_span request.now.parent }
+    ) -> Result<CallsiteIndex, Refusal>
+        requires { IsSound self.now }
+        ensures { FoundFor T.registry_of (value_in self.now) request.now.lane request.now.moment request.now.callsite
+            is_span request.now.parent result }
     {
         if let Some(refusal) = self.place_refusal(request.lane, request.moment) {
-            return Some(refusal);
+            return Err(refusal);
         }
-        match callsite {
-            None => Some(Refusal::UnknownCallsite),
-            Some(_) => self.parent_refusal(request.parent),
+        let Some(index) = self.known(request.callsite, is_span) else {
+            return Err(Refusal::UnknownCallsite);
+        };
+        match self.parent_refusal(request.parent) {
+            Some(refusal) => Err(refusal),
+            None => Ok(index),
         }
     }
 

@@ -39,6 +39,7 @@ impl<T: Drop> Drop for TraceParts<T> {
 }
 
 impl<T: Subscriber> TraceParts<T> {
+    ghost use Rattle.span_tracing_steps.specs.Sound.{IsSound};
     ghost use Rattle.span_tracing_steps.specs.States.{stack_in};
 
     /// The allocator that was given at first.
@@ -56,5 +57,13 @@ impl<T: Subscriber> TraceParts<T> {
             None => None,
             Some(handle) => self.hub.subscriber(handle),
         }
+    }
+
+    // The same, where it is known that the hub has no other subscriber.
+    pub(crate) fn only_stack(&self) -> Option<&T>
+        requires { IsSound self.now }
+        ensures { option_copied result ≡ stack_in self.now }
+    {
+        self.hub.first_subscriber()
     }
 }

@@ -1,11 +1,13 @@
 //! Events, questions and new spans.
-ghost use Rattle.std.specs.Prelude.{◌≡◌};
+ghost use Rattle.std.specs.Prelude.{◌≡◌, IsTrue, None, Some};
 ghost use Rattle.tracing_core_hub.specs.Indexed.{plain_parent};
+ghost use Rattle.tracing_core_requests.specs.PlainRequests.{explicit_parent};
 ghost use Rattle.tracing_core_requests.specs.declared.refusal.RequestError.{RequestError};
 ghost use Rattle.span_tracing_skeleton.specs.Machine.{told_parent};
 ghost use Rattle.span_tracing_skeleton.specs.PlainData.{EnabledStep, EventStep, SpanStep};
 ghost use Rattle.span_tracing_steps.specs.Actions.{plain_request};
-ghost use Rattle.span_tracing_steps.specs.States.{value_in};
+ghost use Rattle.span_tracing_steps.specs.Finding.{StaysAt};
+ghost use Rattle.span_tracing_steps.specs.States.{at_index, value_in};
 ghost use Rattle.span_tracing_steps.specs.Steps.{StepGives, span_reply};
 ghost use Rattle.span_tracing_steps.specs.Telling.{named_as, place_at};
 
@@ -14,7 +16,7 @@ use crate::parts::TraceParts;
 use span_tracing_skeleton::{EnabledCall, HasRegistry, Parent, Refusal, Reply, SpanName};
 use tracing_appender_folders::Moment;
 use tracing_core_fields::Id;
-use tracing_core_hub::RequestParent;
+use tracing_core_hub::{CallsiteIndex, RequestParent};
 use tracing_core_requests::{At, RequestError, Subscriber};
 
 /// Where and when.
@@ -36,6 +38,16 @@ fn parent_of(parent: Parent) -> RequestParent
         Parent::Contextual => RequestParent::Contextual,
         Parent::Root => RequestParent::Root,
         Parent::Explicit(name) => RequestParent::Explicit(name.id),
+    }
+}
+
+// Whether the request stands under the lane's current span, or under none.
+fn names_none(parent: Parent) -> bool
+    ensures { IsTrue result → explicit_parent (told_parent parent) ≡ None }
+{
+    match parent {
+        Parent::Contextual | Parent::Root => true,
+        Parent::Explicit(_) => false,
     }
 }
 
@@ -63,6 +75,25 @@ fn reply_of(made: Result<Option<Id>, RequestError>) -> Reply
 impl<T: Subscriber + HasRegistry> TraceParts<T> {
     ghost use Rattle.span_tracing_steps.specs.Sound.{IsSound};
 
+    // Whether the stack stays as it is at each event of the callsite at the index under this parent.
+    #[inline(always)]
+    fn ignores(&self, index: CallsiteIndex, parent: Parent) -> bool
+        requires { IsSound self.now }
+        ensures { IsTrue result → StaysAt ⟦<T as Subscriber>⟧ parent (at_index (value_in self.now).callsites (Some
+            index)) (value_in self.now).stack }
+    {
+        if !names_none(parent) {
+            return false;
+        }
+        let Some(metadata) = self.hub.metadata_at(index) else {
+            return false;
+        };
+        match self.only_stack() {
+            None => false,
+            Some(stack) => stack.ignores(*metadata.level()),
+        }
+    }
+
     /// An event on a lane.
     pub fn event(&mut self, event: &Request<'_>) -> Reply
         requires { IsSound self.old }
@@ -70,14 +101,16 @@ impl<T: Subscriber + HasRegistry> TraceParts<T> {
         ensures gives { StepGives ⟦<T as Subscriber>⟧ T.registry_of (value_in self.old) (EventStep
             (plain_request event.now)) result (value_in self.new) }
     {
-        let found = self.known(event.callsite, false);
-        if let Some(refusal) = self.request_refusal(event, false, found) {
-            return Reply::Refused(refusal);
-        }
+        let index = match self.find_for(event, false) {
+            Err(refusal) => return Reply::Refused(refusal),
+            Ok(index) => index,
+        };
         if !self.hub.has_been_set() {
             return Reply::Done;
         }
-        let Some(index) = found else { unreachable!() };
+        if self.ignores(index, event.parent) {
+            return Reply::Done;
+        }
         let Some(handle) = &self.handle else {
             unreachable!()
         };
@@ -95,17 +128,16 @@ impl<T: Subscriber + HasRegistry> TraceParts<T> {
         ensures gives { StepGives ⟦<T as Subscriber>⟧ T.registry_of (value_in self.old) (SpanStep
             (plain_request span.now)) result (value_in self.new) }
     {
-        let found = self.known(span.callsite, true);
-        if let Some(refusal) = self.request_refusal(span, true, found) {
-            return Reply::Refused(refusal);
-        }
+        let index = match self.find_for(span, true) {
+            Err(refusal) => return Reply::Refused(refusal),
+            Ok(index) => index,
+        };
         if let Some(refusal) = self.ids_refusal() {
             return Reply::Refused(refusal);
         }
         if !self.hub.has_been_set() {
             return Reply::Span(None);
         }
-        let Some(index) = found else { unreachable!() };
         let Some(handle) = &self.handle else {
             unreachable!()
         };

@@ -1,11 +1,13 @@
 //! Reading a stack.
-ghost use Rattle.std.specs.Prelude.{◌≡◌, IfOk, slice_get};
+ghost use Rattle.std.specs.Prelude.{◌≡◌, IfOk, IsTrue, slice_get, true};
 ghost use Rattle.std.specs.Option.{option_map};
 ghost use Rattle.span_registry_layers_store.specs.Copies.{CopyOf};
+ghost use Rattle.span_registry_layers_stack.specs.Stacks.{cleared, is_above};
 
 use crate::stack::Stack;
 use span_registry_layers_store::{Registry, RegistryTable};
 use std::alloc::AllocError;
+use tracing_core_fields::Level;
 
 impl<O> Stack<O> {
     /// The spans and the entries of lanes.
@@ -57,5 +59,13 @@ impl<O> Stack<O> {
             None => None,
             Some(row) => Some(row.told),
         }
+    }
+
+    /// Whether what is kept refuses every callsite of this level, and no output is marked since the last request. An
+    /// event at such a callsite that names no parent leaves the stack as it is.
+    pub fn ignores(&self, level: Level) -> bool
+        ensures { IsTrue result → (is_above self.now.hint level ≡ true) × (cleared self.now ≡ self.now) }
+    {
+        self.parts.ignores(level)
     }
 }

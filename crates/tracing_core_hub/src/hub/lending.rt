@@ -1,7 +1,7 @@
 //! Lending subscribers.
 ghost use Rattle.std.specs.Borrow.{sem};
 ghost use Rattle.std.specs.Option.{option_map};
-ghost use Rattle.std.specs.Prelude.{◌≡◌};
+ghost use Rattle.std.specs.Prelude.{◌≡◌, slice_get};
 ghost use Rattle.tracing_core_hub.specs.Changing.{AnswersAlike, ChangeGives, ChangesBy};
 ghost use Rattle.tracing_core_hub.specs.Handles.{hold_refusal};
 ghost use Rattle.tracing_core_hub.specs.Keeping.{PreservesCaches, PreservesUnlentCaches};
@@ -23,6 +23,17 @@ impl<S, C> Hub<S, C> {
     {
         let index = index_or_end(&self.subscribers, dispatch.serial());
         match self.subscribers.get(index) {
+            None => None,
+            Some(registered) => Some(&registered.subscriber),
+        }
+    }
+
+    /// The subscriber that was added before all others that live.
+    pub fn first_subscriber(&self) -> Option<&S>
+        ensures { option_map (λ subscriber. subscriber.now) result
+            ≡ option_map (λ kept. kept.subscriber) (slice_get self.now.subscribers 0) }
+    {
+        match self.subscribers.first() {
             None => None,
             Some(registered) => Some(&registered.subscriber),
         }
