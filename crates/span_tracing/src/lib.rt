@@ -17,8 +17,8 @@ pub use span_registry_layers_layers::{Filter, Filtered};
 pub use span_registry_layers_stack::{Output, Stack, StackError, StackRefusal};
 pub use span_registry_layers_store::OutputKey;
 pub use span_tracing_files::{
-    EitherFolder, FileStack, LineSettings, Lines, OpenStackError, OutputSpec, SinkSpec,
-    SpecRefusal, open_stack,
+    EitherFolder, FileStack, LaneThread, LineSettings, Lines, OpenStackError, OutputSpec, SinkSpec,
+    SpecRefusal, open_stack, open_stack_with_threads,
 };
 pub use span_tracing_json_runs::{json_files_hold_objects, json_format_files_hold_objects};
 pub use span_tracing_outputs::{LineSink, PendingLines, TraceStack, UnpairedSinks, trace_starts};

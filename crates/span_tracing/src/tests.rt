@@ -8,4 +8,5 @@ mod random;
 mod single;
 mod sinks;
 mod steps;
+mod threads;
 mod trace;

@@ -4,6 +4,7 @@ use Rattle.std.specs.Prelude.{if◌then◌else◌}
 use Rattle.std.specs.Option.{option_map}
 use Rattle.std.proofs.lemmas.List.{length-map}
 use Rattle.tracing_core_requests.specs.Lists.{Every}
+use Rattle.event_formatter_layer.specs.Threads.{PlainLane}
 use Rattle.event_formatter_makers.specs.Routes.{is_good_route}
 use Rattle.event_formatter_makers.specs.declared.route.Route.{Route}
 use Rattle.span_registry_layers_layers.specs.declared.filter.Filter.{Ghosts as FilterGhosts}
@@ -123,8 +124,8 @@ pub memory_of_all : (o : Option Refusal) (told : OpenStackError) → told ≡ of
 memory_of_all None told is = tt
 memory_of_all (Some wrong) told is = inr is
 
-module _ {F D : Type 0} where
-  same_keys : (specs : List (OutputSpec F D)) (rows : List (Output (Filtered Shown F))) → Pairs RowOf specs rows → stacks.keys_of rows ≡ keys_of specs
+module _ {F D : Type 0} (lanes : List PlainLane) where
+  same_keys : (specs : List (OutputSpec F D)) (rows : List (Output (Filtered Shown F))) → Pairs (RowOf lanes) specs rows → stacks.keys_of rows ≡ keys_of specs
   same_keys [] [] pairs = refl
   same_keys [] (row ∷ rows) pairs = absurd pairs
   same_keys (spec ∷ specs) [] pairs = absurd pairs
@@ -132,18 +133,18 @@ module _ {F D : Type 0} where
       ap (λ (k : OutputKey). k.0 ∷ stacks.keys_of rows) pairs.0.key ∙ ap (λ (ks : List ℕ). spec.key.0 ∷ ks) (same_keys specs rows pairs.1)
 
   -- what is wrong with the outputs is wrong with what is asked for
-  pub same_refusal : (specs : List (OutputSpec F D)) (rows : List (Output (Filtered Shown F))) → Pairs RowOf specs rows → rows_refusal rows ≡ outputs_refusal specs
+  pub same_refusal : (specs : List (OutputSpec F D)) (rows : List (Output (Filtered Shown F))) → Pairs (RowOf lanes) specs rows → rows_refusal rows ≡ outputs_refusal specs
   same_refusal specs rows pairs =
-      ap (λ (n : ℕ). if nat_eq n 0 then Some refusals.NoOutput else if nat_le n 64 then (if stacks.has_equal_keys (stacks.keys_of rows) then Some refusals.EqualKeys else None) else Some refusals.TooManyFilters) (same_length RowOf specs rows pairs)
+      ap (λ (n : ℕ). if nat_eq n 0 then Some refusals.NoOutput else if nat_le n 64 then (if stacks.has_equal_keys (stacks.keys_of rows) then Some refusals.EqualKeys else None) else Some refusals.TooManyFilters) (same_length (RowOf lanes) specs rows pairs)
       ∙ ap (λ (ks : List ℕ). if nat_eq (length specs) 0 then Some refusals.NoOutput else if nat_le (length specs) 64 then (if stacks.has_equal_keys ks then Some refusals.EqualKeys else None) else Some refusals.TooManyFilters) (same_keys specs rows pairs)
 
   -- so it is told
-  pub told_wrong : (specs : List (OutputSpec F D)) (rows : List (Output (Filtered Shown F))) (error : StackError) (told : OpenStackError) → Pairs RowOf specs rows → told ≡ of_all (stack_refusal error) → IsTold (rows_refusal rows) (stack_refusal error) → IsToldOfAll (outputs_refusal specs) told
+  pub told_wrong : (specs : List (OutputSpec F D)) (rows : List (Output (Filtered Shown F))) (error : StackError) (told : OpenStackError) → Pairs (RowOf lanes) specs rows → told ≡ of_all (stack_refusal error) → IsTold (rows_refusal rows) (stack_refusal error) → IsToldOfAll (outputs_refusal specs) told
   told_wrong specs rows error told pairs is wrong =
       subst (IsToldOfAll (outputs_refusal specs)) (sym is) (all_told (outputs_refusal specs) (stack_refusal error) (subst (λ (o : Option Refusal). IsTold o (stack_refusal error)) (same_refusal specs rows pairs) wrong))
 
   -- where nothing is wrong any answer will do
-  pub nothing_wrong : (A : Type 0) (specs : List (OutputSpec F D)) (rows : List (Output (Filtered Shown F))) (result : Result A OpenStackError) → Pairs RowOf specs rows → rows_refusal rows ≡ None → Answers (outputs_refusal specs) result
+  pub nothing_wrong : (A : Type 0) (specs : List (OutputSpec F D)) (rows : List (Output (Filtered Shown F))) (result : Result A OpenStackError) → Pairs (RowOf lanes) specs rows → rows_refusal rows ≡ None → Answers (outputs_refusal specs) result
   nothing_wrong A specs rows result pairs none =
       subst (λ (o : Option Refusal). Answers o result) (sym none ∙ same_refusal specs rows pairs) (any result)
     where
@@ -151,22 +152,22 @@ module _ {F D : Type 0} where
       any (Ok made) = refl
       any (Err told) = tt
 
-  pub nothing_told : (specs : List (OutputSpec F D)) (rows : List (Output (Filtered Shown F))) (told : OpenStackError) → Pairs RowOf specs rows → rows_refusal rows ≡ None → IsToldOfAll (outputs_refusal specs) told
+  pub nothing_told : (specs : List (OutputSpec F D)) (rows : List (Output (Filtered Shown F))) (told : OpenStackError) → Pairs (RowOf lanes) specs rows → rows_refusal rows ≡ None → IsToldOfAll (outputs_refusal specs) told
   nothing_told specs rows told pairs none = subst (λ (o : Option Refusal). IsToldOfAll o told) (sym none ∙ same_refusal specs rows pairs) tt
 
-  pub own_keys : (specs : List (OutputSpec F D)) (rows : List (Output (Filtered Shown F))) → Pairs RowOf specs rows → Every HasOwnKey rows
+  pub own_keys : (specs : List (OutputSpec F D)) (rows : List (Output (Filtered Shown F))) → Pairs (RowOf lanes) specs rows → Every HasOwnKey rows
   own_keys [] [] pairs = tt
   own_keys [] (row ∷ rows) pairs = absurd pairs
   own_keys (spec ∷ specs) [] pairs = absurd pairs
   own_keys (spec ∷ specs) (row ∷ rows) pairs = (ap (λ (k : OutputKey). k.0) (pairs.0.layer.key ∙ sym pairs.0.key), own_keys specs rows pairs.1)
 
-  pub rows_honest : (honest : F → Type 0) (specs : List (OutputSpec F D)) (rows : List (Output (Filtered Shown F))) → Pairs RowOf specs rows → Every (λ (spec : OutputSpec F D). honest spec.filter) specs → Every (λ (row : Output (Filtered Shown F)). honest row.output.filter) rows
+  pub rows_honest : (honest : F → Type 0) (specs : List (OutputSpec F D)) (rows : List (Output (Filtered Shown F))) → Pairs (RowOf lanes) specs rows → Every (λ (spec : OutputSpec F D). honest spec.filter) specs → Every (λ (row : Output (Filtered Shown F)). honest row.output.filter) rows
   rows_honest honest [] [] pairs each = tt
   rows_honest honest [] (row ∷ rows) pairs each = absurd pairs
   rows_honest honest (spec ∷ specs) [] pairs each = absurd pairs
   rows_honest honest (spec ∷ specs) (row ∷ rows) pairs each = (subst honest (sym pairs.0.filter) each.0, rows_honest honest specs rows pairs.1 each.1)
 
   -- there are sinks for each output
-  pub paired : {S : Type 0} (opens : Routing D → S → Type 0) (specs : List (OutputSpec F D)) (rows : List (Output (Filtered Shown F))) (routings : List (Routing D)) (sinks : List S) (count : ℕ) → Pairs RowOf specs rows → routings ≡ map routing_of specs → Pairs opens routings sinks → count ≡ length rows → length sinks ≡ count
+  pub paired : {S : Type 0} (opens : Routing D → S → Type 0) (specs : List (OutputSpec F D)) (rows : List (Output (Filtered Shown F))) (routings : List (Routing D)) (sinks : List S) (count : ℕ) → Pairs (RowOf lanes) specs rows → routings ≡ map routing_of specs → Pairs opens routings sinks → count ≡ length rows → length sinks ≡ count
   paired opens specs rows routings sinks count pairs is opened counted =
-      same_length opens routings sinks opened ∙ ap length is ∙ length-map specs routing_of ∙ sym (same_length RowOf specs rows pairs) ∙ sym counted
+      same_length opens routings sinks opened ∙ ap length is ∙ length-map specs routing_of ∙ sym (same_length (RowOf lanes) specs rows pairs) ∙ sym counted

@@ -3,3 +3,4 @@ pub mod Specs
 pub mod Opened
 pub mod Either
 pub mod Refused
+pub mod Threads

@@ -18,6 +18,7 @@ use Rattle.event_formatter_formats.specs.declared.fields.Fields.{Fields}
 use Rattle.event_formatter_formats.specs.declared.format.Format.{Format}
 use Rattle.event_formatter_formats.specs.declared.line_format.LineFormat.{LineFormat}
 use Rattle.event_formatter_formats.specs.declared.timer.Timer.{Timer}
+use Rattle.event_formatter_layer.specs.Threads.{PlainLane}
 use Rattle.span_tracing_outputs.specs.StackFollows.{LinedStack}
 use Rattle.span_tracing_outputs.specs.TraceStacks.{NewGives, TraceStackValue}
 use Rattle.span_tracing_outputs.specs.Turns.{Lines}
@@ -52,11 +53,11 @@ Pairs r (x ∷ xs) [] = ⊥
 Pairs r (x ∷ xs) (y ∷ ys) = r x y × Pairs r xs ys
 
 module _ {F D : Type 0} where
-  -- an output's layer writes the lines that are asked for, under the output's key
-  pub record RowOf (spec : OutputSpec F D) (row : Output (Filtered Shown F)) : Type 0 where
+  -- an output's layer writes the lines that are asked for, under the output's key, and knows these threads of lanes
+  pub record RowOf (lanes : List PlainLane) (spec : OutputSpec F D) (row : Output (Filtered Shown F)) : Type 0 where
     pub key : row.key ≡ spec.key
     pub filter : row.output.filter ≡ spec.filter
-    pub layer : DescribesLayer spec.lines spec.key row.output.layer
+    pub layer : DescribesLayer spec.lines spec.key lanes row.output.layer
 
   abbrev pub routing_of : OutputSpec F D → Routing D
   routing_of spec = record { key = spec.key; route = spec.route; sinks = spec.sinks }
@@ -109,12 +110,12 @@ module _ {D : Type 0} (contents : D → Option Contents) (failed : D → ℕ) (m
     pub route : routed.route ≡ routing.route
     pub sinks : Pairs OpensSink routing.sinks.items routed.sinks
 
-module _ {F D : Type 0} (contents : D → Option Contents) (failed : D → ℕ) (g : FilterGhosts F) (h : LayerGhosts Shown) (m : Moment) where
-  -- a new stack of the outputs, whose files are all open
+module _ {F D : Type 0} (contents : D → Option Contents) (failed : D → ℕ) (g : FilterGhosts F) (h : LayerGhosts Shown) (m : Moment) (lanes : List PlainLane) where
+  -- a new stack of the outputs, whose lines know these threads of lanes, and whose files are all open
   pub record OpensStack (specs : List (OutputSpec F D)) (made : TraceStackValue Fields (Format LineFormat Timer) F (Routed (RollingSink D))) : Type 0 where
     pub outputs : List (Output (Filtered Shown F))
     pub stack : LinedStack Fields (Format LineFormat Timer) F
-    pub rows : Pairs RowOf specs outputs
+    pub rows : Pairs (RowOf lanes) specs outputs
     pub new : stacks.NewGives h g outputs (Ok stack)
     pub sinks : Pairs (OpensRouting contents failed m) (map routing_of specs) made.sinks
     pub paired : NewGives stack made.sinks (Ok made)

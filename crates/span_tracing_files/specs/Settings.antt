@@ -1,5 +1,5 @@
 -- How the lines of an output look.
-use Rattle.std.specs.Prelude.{◌≡◌, ◌&&◌, Bool, true, false, not, [], None}
+use Rattle.std.specs.Prelude.{◌≡◌, ◌&&◌, Bool, true, false, not, List, [], None}
 use Rattle.event_formatter_text.specs.declared.default_fields.DefaultFields.{DefaultFields}
 use Rattle.event_formatter_lines.specs.Json.{default_shape}
 use Rattle.event_formatter_formats.specs.declared.fields.Fields.{Fields}
@@ -13,7 +13,7 @@ use Rattle.event_formatter_formats.specs.declared.format.Format.{Format}
 use Rattle.event_formatter_formats.specs.declared.line_format.Full.{Full}
 use Rattle.event_formatter_formats.specs.Parts.{default_parts}
 use Rattle.event_formatter_layer.specs.Builders.{no_span_events}
-use Rattle.event_formatter_layer.specs.Threads.{plain_lanes}
+use Rattle.event_formatter_layer.specs.Threads.{PlainLane, plain_lanes}
 use Rattle.span_registry_layers_store.specs.declared.slot.OutputKey.{OutputKey}
 use Rattle.span_tracing_outputs.specs.Turns.{Lines}
 use Rattle.span_tracing_files.specs.declared.line_settings.LineSettings.{LineSettings}
@@ -80,8 +80,8 @@ parts_of s =
 abbrev pub Shown : Type 0
 Shown = Lines Fields (Format LineFormat Timer)
 
--- a layer that writes just such lines, and knows no thread yet
-pub record DescribesLayer (s : LineSettings) (own : OutputKey) (layer : Shown) : Type 0 where
+-- a layer that writes just such lines, and knows these threads of lanes
+pub record DescribesLayer (s : LineSettings) (own : OutputKey) (lanes : List PlainLane) (layer : Shown) : Type 0 where
   pub key : layer.config.key ≡ own
   pub fields : layer.config.fields ≡ s.fields
   pub settings : layer.config.settings ≡ record { styles = s.ansi; sanitizes = s.ansi_sanitization }
@@ -91,7 +91,7 @@ pub record DescribesLayer (s : LineSettings) (own : OutputKey) (layer : Shown) :
   pub format : (layer.format.shape ≡ s.format) × (layer.format.timer ≡ s.timer)
   pub parts : layer.format.parts ≡ parts_of s
   pub ansi : layer.format.ansi ≡ None
-  pub threads : (plain_lanes layer.threads ≡ []) × (layer.threads.longest ≡ 0)
+  pub threads : (plain_lanes layer.threads ≡ lanes) × (layer.threads.longest ≡ 0)
   pub output : (layer.output.maker ≡ []) × (layer.output.starved ≡ 0)
 
 -- the usual layer, but for the time

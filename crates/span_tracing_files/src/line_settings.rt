@@ -1,7 +1,9 @@
 //! How the lines of an output look.
-ghost use Rattle.std.specs.Prelude.{◌≡◌, true, false};
+ghost use Rattle.std.specs.Prelude.{◌≡◌, IfOk, true, false, [], map};
 ghost use Rattle.span_tracing_files.specs.Settings.{DescribesLayer, HasUsualParts, IsTimed, IsUsualJson, IsUsualPretty, ShowsPlace, asks_time, needs_json};
+ghost use Rattle.span_tracing_files.specs.Threads.{lane_of};
 
+use crate::lane_thread::{LaneThread, tell_threads};
 use event_formatter_formats::{Fields, Format, Full, Json, LineFormat, Pretty, Timer};
 use event_formatter_layer::Layer;
 use event_formatter_lines::FmtSpan;
@@ -9,7 +11,7 @@ use event_formatter_text::DefaultFields;
 use event_formatter_times::SystemTime;
 use span_registry_layers_store::OutputKey;
 use span_tracing_outputs::PendingLines;
-use std::alloc::Global;
+use std::alloc::{AllocError, Global};
 
 /// A layer that writes lines of any format.
 pub type Lines = Layer<Fields, Format<LineFormat, Timer>, PendingLines>;
@@ -28,9 +30,9 @@ pub struct LineSettings {
     pub level: bool,
     /// Whether the target is shown.
     pub target: bool,
-    /// Whether the name of the thread is shown.
+    /// Whether the name of the thread is shown. [`open_stack_with_threads`](crate::open_stack_with_threads) tells lines the threads of lanes.
     pub thread_names: bool,
-    /// Whether the number of the thread is shown.
+    /// Whether the number of the thread is shown, or of a thread that wasn't told the lane's.
     pub thread_ids: bool,
     /// Whether the source file is shown.
     pub file: bool,
@@ -119,9 +121,26 @@ impl LineSettings {
         matches!(&self.format, LineFormat::Json(_)) && self.fields != Fields::Json
     }
 
-    /// The layer that writes such lines. What it knows of spans it keeps under the key.
-    pub(crate) fn into_layer(self, alloc: Global, key: OutputKey) -> Lines
-        ensures { DescribesLayer self key result }
+    /// The layer that writes such lines, and knows these threads of lanes. What it knows of spans it keeps under the key.
+    ///
+    /// # Errors
+    ///
+    /// Want of memory.
+    pub(crate) fn into_layer(
+        self,
+        alloc: Global,
+        key: OutputKey,
+        threads: &[LaneThread<'_>],
+    ) -> Result<Lines, AllocError>
+        ensures { IfOk result (λ layer. DescribesLayer self key (map lane_of threads.now) layer) }
+    {
+        let mut layer = self.into_layer_without_threads(alloc, key);
+        tell_threads(alloc, &mut layer, threads)?;
+        Ok(layer)
+    }
+
+    fn into_layer_without_threads(self, alloc: Global, key: OutputKey) -> Lines
+        ensures { DescribesLayer self key [] result }
     {
         let layer = timed(alloc, key, self.timer);
         let format = self.format;

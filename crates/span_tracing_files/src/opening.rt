@@ -1,11 +1,13 @@
 //! A stack whose files are opened.
-ghost use Rattle.std.specs.Prelude.{◌≡◌, ◌⊎◌, IfOk, IfErr, Some, None, Err, false, true, map};
+ghost use Rattle.std.specs.Prelude.{◌≡◌, ◌⊎◌, IfOk, IfErr, Some, None, Err, false, true, [], map};
 ghost use Rattle.tracing_core_requests.specs.Lists.{Every};
 ghost use Rattle.tracing_appender_folders.specs.Moments.{is_moment};
 ghost use Rattle.span_tracing_outputs.specs.TraceFollows.{IsReady};
 ghost use Rattle.span_tracing_files.specs.Opened.{Answers, OpensRouting, OpensSink, OpensStack, Pairs, RowOf, of_all, outputs_refusal, RowsAreTold, routing_of, stack_refusal};
+ghost use Rattle.span_tracing_files.specs.Threads.{lane_of};
 ghost use Rattle.span_tracing_files.specs.Refused.{InOne, IsRouted, NamesAnswer, OutputsTell, RoutingRefuses, SinkRefuses, SinkTells, SinksTell};
 
+use crate::lane_thread::LaneThread;
 use crate::line_settings::Lines;
 use crate::open_error::OpenStackError;
 use crate::output_spec::{OutputSpec, SinkSpec};
@@ -94,9 +96,13 @@ fn names_refusal<F, D>(outputs: &[OutputSpec<F, D>]) -> Option<(OutputKey, Refus
     None
 }
 
-fn row_of<F, D>(alloc: Global, spec: OutputSpec<F, D>) -> (Row<F>, Routing<D>)
-    ensures row { RowOf spec result.0 }
-    ensures routing { result.1 ≡ routing_of spec }
+fn row_of<F: Drop, D: Drop>(
+    alloc: Global,
+    threads: &[LaneThread<'_>],
+    spec: OutputSpec<F, D>,
+) -> Result<(Row<F>, Routing<D>), AllocError>
+    ensures row { IfOk result (λ made. RowOf (map lane_of threads.now) spec made.0) }
+    ensures routing { IfOk result (λ made. made.1 ≡ routing_of spec) }
 {
     let OutputSpec {
         key,
@@ -105,23 +111,24 @@ fn row_of<F, D>(alloc: Global, spec: OutputSpec<F, D>) -> (Row<F>, Routing<D>)
         route,
         sinks,
     } = spec;
-    let output = Filtered::new(lines.into_layer(alloc, key), filter);
-    (Output { key, output }, Routing { key, route, sinks })
+    let output = Filtered::new(lines.into_layer(alloc, key, threads)?, filter);
+    Ok((Output { key, output }, Routing { key, route, sinks }))
 }
 
 /// The outputs without their files, and their sinks.
 #[tactic(auto, using(crate::proofs::Paired::pairs_more))]
 fn split<F: Drop, D: Drop>(
     alloc: Global,
+    threads: &[LaneThread<'_>],
     outputs: Vec<OutputSpec<F, D>>,
 ) -> Result<(Vec<Row<F>>, Vec<Routing<D>>), AllocError>
-    ensures rows { IfOk result (λ made. Pairs RowOf outputs.items made.0.items) }
+    ensures rows { IfOk result (λ made. Pairs (RowOf (map lane_of threads.now)) outputs.items made.0.items) }
     ensures routings { IfOk result (λ made. made.1.items ≡ map routing_of outputs.items) }
 {
     let mut rows = Vec::new(alloc);
     let mut routings = Vec::new(alloc);
     for spec in outputs {
-        let (row, routing) = row_of(alloc, spec);
+        let (row, routing) = row_of(alloc, threads, spec)?;
         rows.push(row)?;
         routings.push(routing)?;
     }
@@ -210,7 +217,7 @@ fn rows_are_told<N: FormatFields + Drop, E: FormatEvent, F: Filter>()
     ensures { RowsAreTold ⟦<F as Filter>⟧ ⟦<Layer<N, E, PendingLines> as span_registry_layers_layers::Layer>⟧ }
 {}
 
-/// A stack of the outputs. At the moment the files of all sinks are opened, outputs and sinks in order, after retention.
+/// A stack of the outputs, whose lines know no thread. At the moment the files of all sinks are opened, outputs and sinks in order, after retention.
 ///
 /// # Errors
 ///
@@ -229,7 +236,33 @@ pub fn open_stack<F: Filter, D: Folder>(
     ensures names { is_moment moment ≡ true → outputs_refusal outputs.items ≡ None → Every IsRouted outputs.items →
         NamesAnswer outputs.items result }
     ensures opened { IfOk result (λ made. OpensStack D.contents D.failed ⟦<F as Filter>⟧
-        ⟦<Lines as span_registry_layers_layers::Layer>⟧ moment outputs.items made) }
+        ⟦<Lines as span_registry_layers_layers::Layer>⟧ moment [] outputs.items made) }
+    // Honest filters are asked for what each says of all callsites.
+    ensures ready { Every (λ (spec : OutputSpec F D). F.honest spec.filter) outputs.items →
+        IfOk result (λ made. IsReady ⟦<F as Filter>⟧ made) }
+{
+    open_stack_with_threads(alloc, &[], outputs, moment)
+}
+
+/// The same as [`open_stack`], where lines show these threads of lanes: lane 0 stands for the first, and so on. `Trace::thread` adds the
+/// lanes to the trace, in the same order. Of a lane without a thread here, lines show the lane's number.
+///
+/// # Errors
+///
+/// Those of [`open_stack`].
+pub fn open_stack_with_threads<F: Filter, D: Folder>(
+    alloc: Global,
+    threads: &[LaneThread<'_>],
+    outputs: Vec<OutputSpec<F, D>>,
+    moment: Moment,
+) -> Result<FileStack<F, D>, OpenStackError>
+    ensures moment { is_moment moment ≡ false → result ≡ Err (of_all Refusal.BadMoment) }
+    ensures told { is_moment moment ≡ true → Answers (outputs_refusal outputs.items) result }
+    // Each output that `OutputSpec::new` made has a good route.
+    ensures names { is_moment moment ≡ true → outputs_refusal outputs.items ≡ None → Every IsRouted outputs.items →
+        NamesAnswer outputs.items result }
+    ensures opened { IfOk result (λ made. OpensStack D.contents D.failed ⟦<F as Filter>⟧
+        ⟦<Lines as span_registry_layers_layers::Layer>⟧ moment (map lane_of threads.now) outputs.items made) }
     // Honest filters are asked for what each says of all callsites.
     ensures ready { Every (λ (spec : OutputSpec F D). F.honest spec.filter) outputs.items →
         IfOk result (λ made. IsReady ⟦<F as Filter>⟧ made) }
@@ -240,7 +273,7 @@ pub fn open_stack<F: Filter, D: Folder>(
     trace_starts::<Fields, Format<LineFormat, Timer>, F, RoutedSinks<RollingSink<D>>>();
     rows_are_told::<Fields, Format<LineFormat, Timer>, F>();
     let names = names_refusal(outputs.as_slice());
-    let Ok((rows, routings)) = split(alloc, outputs) else {
+    let Ok((rows, routings)) = split(alloc, threads, outputs) else {
         return Err(OpenStackError::of_all(Refusal::OutOfMemory));
     };
     let stack = match Stack::new(alloc, rows) {

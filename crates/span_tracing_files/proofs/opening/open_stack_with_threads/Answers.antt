@@ -1,28 +1,29 @@
-use Rattle.std.proofs.Common.{Some, None, inl, refl, sym, ap, subst, ◌∙◌}
+use Rattle.std.proofs.Common.{map, Some, None, inl, refl, sym, ap, subst, ◌∙◌}
 use Rattle.span_tracing_skeleton.specs.declared.refusal.Refusal.{Refusal}
 use Rattle.span_tracing_files.specs.Opened.{OpensRouting, of_all}
+use Rattle.span_tracing_files.specs.Threads.{lane_of}
 use Rattle.span_tracing_files.specs.Refused.{InOne, RoutingRefuses}
 use Rattle.span_tracing_files.proofs.Late.{late_out, late_specs, memory_told, names_told}
 use Rattle.span_tracing_files.proofs.Asked.{memory_of_all, nothing_told, nothing_wrong, own_keys, paired, rows_honest, same_refusal, told_wrong}
-use Rattle.span_tracing_files.proofs.opening.open_stack.Goals as goal
+use Rattle.span_tracing_files.proofs.opening.open_stack_with_threads.Goals as goal
 
 pub returns-in-Err-clause-told : goal.returns-in-Err-clause-told
 returns-in-Err-clause-told g c =
-    λ within. told_wrong c.args.outputs.items c.in-Ok.rows.items c.in-Err.refused.error c.of_all-in-Err.result c.in-Ok.ensures.rows (c.of_all-in-Err.ensures ∙ ap (λ (r : Refusal). of_all r) c.stack_refusal.ensures) (c.rows_are_told.ensures.wrong c.in-Ok.rows.items c.in-Err.refused c.in-Err.ensures.exact)
+    λ within. told_wrong (map lane_of c.args.threads.now) c.args.outputs.items c.in-Ok.rows.items c.in-Err.refused.error c.of_all-in-Err.result c.in-Ok.ensures.rows (c.of_all-in-Err.ensures ∙ ap (λ (r : Refusal). of_all r) c.stack_refusal.ensures) (c.rows_are_told.ensures.wrong c.in-Ok.rows.items c.in-Err.refused c.in-Err.ensures.exact)
 
 pub returns-in-Some-clause-told : goal.returns-in-Some-clause-told
-returns-in-Some-clause-told g c = λ within. nothing_told c.args.outputs.items c.in-Ok.rows.items _ c.in-Ok.ensures.rows (c.rows_are_told.ensures.right c.in-Ok.rows.items c.in-Ok-new.stack c.in-Ok-new.ensures.exact)
+returns-in-Some-clause-told g c = λ within. nothing_told (map lane_of c.args.threads.now) c.args.outputs.items c.in-Ok.rows.items _ c.in-Ok.ensures.rows (c.rows_are_told.ensures.right c.in-Ok.rows.items c.in-Ok-new.stack c.in-Ok-new.ensures.exact)
 
 pub returns-in_err-sinks-clause-told : goal.returns-in_err-sinks-clause-told
-returns-in_err-sinks-clause-told g c = λ within. nothing_wrong _ c.args.outputs.items c.in-Ok.rows.items _ c.in-Ok.ensures.rows (c.rows_are_told.ensures.right c.in-Ok.rows.items c.in-Ok-new.stack c.in-Ok-new.ensures.exact)
+returns-in_err-sinks-clause-told g c = λ within. nothing_wrong (map lane_of c.args.threads.now) _ c.args.outputs.items c.in-Ok.rows.items _ c.in-Ok.ensures.rows (c.rows_are_told.ensures.right c.in-Ok.rows.items c.in-Ok-new.stack c.in-Ok-new.ensures.exact)
 
 pub returns-clause-told : goal.returns-clause-told
-returns-clause-told g c = λ within. sym (same_refusal c.args.outputs.items c.in-Ok.rows.items c.in-Ok.ensures.rows) ∙ c.rows_are_told.ensures.right c.in-Ok.rows.items c.in-Ok-new.stack c.in-Ok-new.ensures.exact
+returns-clause-told g c = λ within. sym (same_refusal (map lane_of c.args.threads.now) c.args.outputs.items c.in-Ok.rows.items c.in-Ok.ensures.rows) ∙ c.rows_are_told.ensures.right c.in-Ok.rows.items c.in-Ok-new.stack c.in-Ok-new.ensures.exact
 
 pub returns-clause-ready : goal.returns-clause-ready
 returns-clause-ready g c =
-    λ honest. c.trace_starts.ensures.ready c.in-Ok.rows.items c.in-Ok-new.stack c.in_ok-sinks.sinks.items c.in-Ok-new-2.made c.in-Ok-new.ensures.exact (own_keys c.args.outputs.items c.in-Ok.rows.items c.in-Ok.ensures.rows)
-    (c.in-Ok-new.ensures.honest (rows_honest g.F.Filter.honest c.args.outputs.items c.in-Ok.rows.items c.in-Ok.ensures.rows honest)) c.in-Ok-new-2.ensures.gives
+    λ honest. c.trace_starts.ensures.ready c.in-Ok.rows.items c.in-Ok-new.stack c.in_ok-sinks.sinks.items c.in-Ok-new-2.made c.in-Ok-new.ensures.exact (own_keys (map lane_of c.args.threads.now) c.args.outputs.items c.in-Ok.rows.items c.in-Ok.ensures.rows)
+    (c.in-Ok-new.ensures.honest (rows_honest (map lane_of c.args.threads.now) g.F.Filter.honest c.args.outputs.items c.in-Ok.rows.items c.in-Ok.ensures.rows honest)) c.in-Ok-new-2.ensures.gives
 
 pub returns-in_default-clause-told : goal.returns-in_default-clause-told
 returns-in_default-clause-told g c = λ within. memory_of_all _ c.of_all-in_default.result c.of_all-in_default.ensures
@@ -32,7 +33,7 @@ returns-in_default-clause-names g c = λ within fine routed. (c.names_refusal-na
 
 pub returns-in-Err-clause-names : goal.returns-in-Err-clause-names
 returns-in-Err-clause-names g c = λ within fine routed.
-    let none = same_refusal c.args.outputs.items c.in-Ok.rows.items c.in-Ok.ensures.rows ∙ fine in
+    let none = same_refusal (map lane_of c.args.threads.now) c.args.outputs.items c.in-Ok.rows.items c.in-Ok.ensures.rows ∙ fine in
     let told = c.stack_refusal.ensures ∙ c.rows_are_told.ensures.starved c.in-Ok.rows.items c.in-Err.refused c.in-Err.ensures.exact none in
     (c.names_refusal-names.result, names_told c.as_slice.result.now c.args.outputs.items c.names_refusal-names.result c.names_refusal-names.result c.as_slice.ensures.value refl c.names_refusal-names.ensures, memory_told c.args.outputs.items c.names_refusal-names.result c.of_all-in-Err.result (c.of_all-in-Err.ensures ∙ ap (λ (r : Refusal). of_all r) told))
 
@@ -47,7 +48,7 @@ returns-in_err-sinks-clause-names g c = λ within fine routed.
 
 pub unreachable-requires : goal.unreachable-requires
 unreachable-requires g c =
-    c.in-Err-new.ensures.gives.0 (paired (OpensRouting g.D.Folder.contents g.D.Folder.failed c.args.moment) c.args.outputs.items c.in-Ok.rows.items c.in-Ok.routings.items c.in_ok-sinks.sinks.items _ c.in-Ok.ensures.rows c.in-Ok.ensures.routings c.in_ok-sinks.ensures.opened
+    c.in-Err-new.ensures.gives.0 (paired (map lane_of c.args.threads.now) (OpensRouting g.D.Folder.contents g.D.Folder.failed c.args.moment) c.args.outputs.items c.in-Ok.rows.items c.in-Ok.routings.items c.in_ok-sinks.sinks.items _ c.in-Ok.ensures.rows c.in-Ok.ensures.routings c.in_ok-sinks.ensures.opened
     (c.rows_are_told.ensures.counted c.in-Ok.rows.items c.in-Ok-new.stack c.in-Ok-new.ensures.exact))
 
 pub returns-clause-names : goal.returns-clause-names
