@@ -55,7 +55,7 @@ fn push_mark(
     }
 }
 
-/// Whether it is the name of a message.
+/// Whether it is the name of a message. Its bytes are compared in place, and by one branch, since each field is asked.
 #[inline(always)]
 pub(crate) fn is_message(name: &str) -> bool
     ensures { result ≡ is_message name.now }

@@ -13,13 +13,13 @@ use super::members::{push_key, push_text_member};
 use crate::shown::{ShownSpan, ShownSpans};
 use std::alloc::AllocError;
 
-// What stands between braces, where the text begins and ends with them.
+// What stands between braces, where the text begins and ends with them. Each is one byte, so that no character has to be read.
 fn inside_braces(text: &str) -> Option<&str>
     ensures { option_map (λ inner. inner.now) result ≡ inside_braces text.now }
 {
-    match text.strip_prefix('{') {
-        Some(rest) => rest.strip_suffix('}'),
-        None => None,
+    match text.as_bytes() {
+        [b'{', .., b'}'] => Some(&text[1..text.len() - 1]),
+        _ => None,
     }
 }
 
