@@ -277,6 +277,27 @@ impl<F: Drop, T: FormatTime + Drop> Format<F, T> {
         );
         push_line(alloc, out, settings, shape, parts, &head, context, event)
     }
+
+    // The same, with a context in a place of its own: the one that full lines read needs none then.
+    #[inline(always)]
+    fn push_apart<N: FormatFields>(
+        &mut self,
+        alloc: Global,
+        context: &FmtContext<'_, '_, N>,
+        out: &mut String,
+        settings: Settings,
+        shape: LineFormat,
+        event: &Event<'_, '_>,
+    ) -> Result<(), FormatError>
+        ensures rest { (self.new.shape ≡ self.old.shape) × (self.new.parts ≡ self.old.parts) × (self.new.ansi ≡ self.old.ansi) }
+        ensures timer { (s : ℤ) (n : ℕ) → T.text_at self.new.timer s n ≡ T.text_at self.old.timer s n }
+        ensures text { let c = plain_context N.text_of context.now in
+            Formats (line_in shape self.old.parts settings (T.text_at self.old.timer c.seconds c.nanoseconds) c
+            (plain_event event.now)) (string_bytes out.old) result (string_bytes out.new) }
+    {
+        let apart = context.apart();
+        self.push_shaped(alloc, &apart, out, settings, shape, event)
+    }
 }
 
 impl<F: EventShape, T: FormatTime + Drop> FormatEvent for Format<F, T> {
@@ -303,10 +324,7 @@ impl<F: EventShape, T: FormatTime + Drop> FormatEvent for Format<F, T> {
                 context,
                 event,
             ),
-            shape => {
-                let apart = context.apart();
-                self.push_shaped(alloc, &apart, out, settings, shape, event)
-            }
+            shape => self.push_apart(alloc, context, out, settings, shape, event),
         }
     }
 }

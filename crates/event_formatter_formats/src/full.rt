@@ -1,6 +1,7 @@
 //! Lines of the full format, whose pieces go straight into the line.
 //!
-//! Each piece has a function of its own that isn't inlined, so that the pushes in it are.
+//! The pieces are inlined, and so are the pushes in them, since the way past a refusal is told to be seldom. What is seldom shown
+//! stands apart.
 
 ghost use Rattle.std.specs.Prelude.{◌≡◌, ◌++◌, ℕ, ℤ, OnOk, Some, codes, string_bytes, true};
 ghost use Rattle.std.specs.Option.{is_some, option_map};
