@@ -5,7 +5,7 @@ usage: scripts/gate.py [CRATE..] [--tests try|prove] [--edits new|all|drawn]
 
 CRATE..          these crates and those below them alone
 --tests prove    proves the tests too, over what the crates' proofs kept, and then runs them; without it they run unproved
---edits drawn    judges each edit that docs/edits.ledger lacks and a random eighth of the others, and writes nothing (this is what .ci/run does)
+--edits drawn    judges each edit that docs/edits.ledger lacks, and all edits of some crates, a random eighth; writes nothing (this is what .ci/run does)
 --edits new      judges each edit that the ledger lacks, and writes the ledger
 --edits all      judges each edit, and writes the ledger
 
@@ -36,6 +36,8 @@ LEDGER = "docs/edits.ledger"
 TESTS = f"{os.path.dirname(os.path.realpath(__file__))}/tests.py"
 # The program that the README shows a part of.
 EXAMPLE = "crates/examples_requests/src/main.rt"
+# A program's proof takes as long as that of so many lines more, since its types name every part below.
+PROGRAM = 4_000
 # What a proof was seen to take at most, in bytes, with what the system needs beside it.
 MEMORY = 3_500_000_000
 
@@ -128,7 +130,8 @@ class Gate:
 
     def __init__(self, crates, room, how, top):
         self.crates, self.how, self.top, self.by_name = crates, how, top, {it.name: it for it in crates}
-        self.known, self.seed = ledger.read(LEDGER), seed(top)
+        self.known = ledger.read(LEDGER)
+        self.drawn = ledger.drawn({it.name: len(rt.edits_of(it)[0]) for it in crates}, seed(top)) if how.edits == "drawn" else set()
         self.spent, self.sums, self.open, self.refused, self.failed, self.passed = {}, {}, {}, set(), [], 0
         # the crates whose edits were looked at, so that the ledger's lines of all others stay
         self.seen = set()
@@ -141,7 +144,8 @@ class Gate:
         for it in self.crates:
             lines = sum(rtlib.text_of(file).count("\n") for file in rtlib.files_of(it.folder) if file.endswith((".rt", ".antt")))
             after = [(it.name, "proof")]
-            found[it.name, "proof"] = lanes.Task([(below.name, "proof") for below in it.below()], lines, lambda jobs, it=it: proof(it, jobs))
+            work = lines + PROGRAM * it.is_program
+            found[it.name, "proof"] = lanes.Task([(below.name, "proof") for below in it.below()], work, lambda jobs, it=it: proof(it, jobs))
             if it.is_program:
                 found[it.name, "program"] = lanes.Task(after, lines // 4, lambda jobs, it=it: program(it))
             if it.name == cases.PROGRAM:
@@ -164,7 +168,7 @@ class Gate:
             label = f"{crate.name}/{os.path.basename(file)}"
             sums[label] = ledger.sum_of(file, base)
             is_known = self.how.edits != "all" and self.known.get(label) == sums[label]
-            if not is_known or self.how.edits == "drawn" and ledger.is_drawn(label, self.seed):
+            if not is_known or crate.name in self.drawn:
                 wanted.append(edits.Edit(crate, file))
         return sums, [[it.file for it in group] for group in edits.groups_of(crate, wanted)]
 

@@ -67,6 +67,11 @@ def sum_of(edit, base_of_crate):
         return hashlib.sha256(base_of_crate.encode() + it.read()).hexdigest()[:32]
 
 
-def is_drawn(label, seed):
-    """Returns whether an edit of the ledger is judged again in the run with this seed: one of eight is."""
-    return hashlib.sha256(f"{seed} {label}".encode()).digest()[0] % 8 == 0
+def drawn(counts, seed):
+    """Returns the crates whose edits are judged again in the run with this seed, whatever the ledger says: one of eight shares, into which the crates are
+    parted so that each has about as many edits. `counts` has the number of edits of each crate. A crate's edits are drawn together, since those that
+    go into one check share its beginning."""
+    shares = [[] for _ in range(8)]
+    for crate in sorted(counts, key=lambda it: (-counts[it], it)):
+        min(shares, key=lambda share: sum(counts[it] for it in share)).append(crate)
+    return {*shares[hashlib.sha256(seed.encode()).digest()[0] % 8]}

@@ -1,9 +1,9 @@
 //! The setup calls of a script, made on a new trace.
 
 use crate::fault::{Fault, Stop};
-use crate::stack::{LogStack, output_of};
+use crate::stack::{LogStack, stack_of};
 use span_trace_lines::{CallsiteLine, LaneLine, LineFault, Setup, StackLine};
-use span_tracing::{Refusal, Trace, open_stack};
+use span_tracing::{Refusal, Trace};
 use std::alloc::{AllocError, Global};
 use std::rt::Files;
 use tracing_core::{FieldSet, Identifier, Metadata};
@@ -49,14 +49,7 @@ impl<X: Files + AllocGlobal + Clone + Drop> Stage<X> {
     }
 
     fn add_stack(&mut self, rt: &X, line: StackLine) -> Result<(), Fault> {
-        let mut outputs = Vec::new(rt.alloc());
-        for output in line.outputs {
-            let output = output_of(rt, output, &mut self.folders).map_err(Fault::Refused)?;
-            outputs.push(output)?;
-        }
-        let stack = open_stack(rt.alloc(), outputs, line.moment).map_err(|refused| Fault::Refused(
-            refused.refusal,
-        ))?;
+        let stack = stack_of(rt, line, &mut self.folders)?;
         if self.trace.has_stack() {
             return Err(Fault::Unread(LineFault::NotReadable));
         }

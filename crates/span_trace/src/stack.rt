@@ -1,10 +1,11 @@
 //! The outputs of a script, with their sinks.
 
+use crate::fault::Fault;
 use crate::output::settings_of;
-use span_trace_lines::{FolderLine, OutputLine, SinkLine};
+use span_trace_lines::{FolderLine, OutputLine, SinkLine, StackLine};
 use span_tracing::{
     Builder, DiskFolder, EitherFolder, FileStack, MemoryFolder, OutputKey, OutputSpec, Refusal,
-    Rotation, SinkSpec,
+    Rotation, SinkSpec, open_stack,
 };
 use std::alloc::AllocError;
 use std::rt::Files;
@@ -17,15 +18,40 @@ pub(crate) type LogFolder<X> = EitherFolder<MemoryFolder, DiskFolder<X>>;
 pub(crate) type LogStack<X> = FileStack<LevelFilter, LogFolder<X>>;
 
 /// An output under a level, before its files are opened.
-pub(crate) type LeveledOutput<X> = OutputSpec<LevelFilter, LogFolder<X>>;
+type LeveledOutput<X> = OutputSpec<LevelFilter, LogFolder<X>>;
 
-/// The output of a line. For each of its sinks a name is added: that of a folder in memory, and none of a folder of the
+/// The stack of a line, whose files are opened. For each sink a name is added: that of a folder in memory, and none of a folder of the
 /// system.
 ///
 /// # Errors
 ///
-/// `BadRoute`, else `OutOfMemory`.
-pub(crate) fn output_of<X: Files + AllocGlobal + Clone + Drop>(
+/// What is refused of an output or of the stack, else want of memory.
+pub(crate) fn stack_of<X: Files + AllocGlobal + Clone + Drop>(
+    rt: &X,
+    line: StackLine,
+    names: &mut Vec<Option<String>>,
+) -> Result<LogStack<X>, Fault> {
+    let outputs = outputs_of(rt, line.outputs, names)?;
+    match open_stack(rt.alloc(), outputs, line.moment) {
+        Ok(stack) => Ok(stack),
+        Err(refused) => Err(Fault::Refused(refused.refusal)),
+    }
+}
+
+fn outputs_of<X: Files + AllocGlobal + Clone + Drop>(
+    rt: &X,
+    lines: Vec<OutputLine>,
+    names: &mut Vec<Option<String>>,
+) -> Result<Vec<LeveledOutput<X>>, Fault> {
+    let mut outputs = Vec::new(rt.alloc());
+    for line in lines {
+        let output = output_of(rt, line, names).map_err(Fault::Refused)?;
+        outputs.push(output)?;
+    }
+    Ok(outputs)
+}
+
+fn output_of<X: Files + AllocGlobal + Clone + Drop>(
     rt: &X,
     line: OutputLine,
     names: &mut Vec<Option<String>>,
