@@ -91,7 +91,7 @@ impl<'c, 'r, N> FmtContext<'c, 'r, N> {
         }
     }
 
-    // The same, in a place of its own. What only calls apart are lent needs no place where there are none.
+    // A copy. Where only the copy is lent to calls that aren't inlined, the compiler keeps this context in registers.
     #[inline(always)]
     pub(crate) fn apart(&self) -> FmtContext<'c, 'r, N>
         ensures registry { result.context.now ≡ self.now.context.now }

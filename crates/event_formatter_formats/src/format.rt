@@ -278,7 +278,7 @@ impl<F: Drop, T: FormatTime + Drop> Format<F, T> {
         push_line(alloc, out, settings, shape, parts, &head, context, event)
     }
 
-    // The same, with a context in a place of its own: the one that full lines read needs none then.
+    // The same, which lends a copy of the context, so that full lines, which share the caller's, read it from registers.
     #[inline(always)]
     fn push_apart<N: FormatFields>(
         &mut self,
