@@ -6,14 +6,12 @@ use std::alloc::AllocError;
 
 /// Want of memory.
 #[cold]
-#[inline(never)]
 pub(crate) fn refused() -> AllocError {
     AllocError
 }
 
 /// Want of memory, as a refusal of a format.
 #[cold]
-#[inline(never)]
 pub(crate) fn out_of_memory() -> FormatError
     ensures { result ≡ FormatError.OutOfMemory }
 {

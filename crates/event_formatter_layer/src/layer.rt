@@ -84,7 +84,6 @@ pub struct Layer<N, E, W> {
 
 // Want of memory. A call of it tells the compiler which way is seldom gone.
 #[cold]
-#[inline(never)]
 fn out_of_memory() -> FormatError
     ensures { result ≡ FormatError.OutOfMemory }
 {

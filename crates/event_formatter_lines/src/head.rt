@@ -29,7 +29,6 @@ pub struct Head<'a> {
 
 /// Want of memory. A call of it tells the compiler which way is seldom gone, so that pushes on the other way are inlined.
 #[cold]
-#[inline(never)]
 pub(crate) fn refused() -> AllocError {
     AllocError
 }
