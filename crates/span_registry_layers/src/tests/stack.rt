@@ -133,6 +133,19 @@ fn surface_stack(rt: HostRuntime) -> Result<(), Fail> {
     Ok(())
 }
 
+/// A level above the hint is ignored, but for the first such event behind one that was told.
+#[test]
+fn what_is_above_the_hint_is_ignored(rt: HostRuntime) -> Result<(), Fail> {
+    let mut stack = counted(rt.alloc(), LevelFilter::INFO)?;
+    let _hint = Subscriber::max_level_hint(&mut stack);
+    assert!(rt; stack.ignores(Level::DEBUG) && !stack.ignores(Level::INFO));
+    tell(&mut stack, "app", Level::INFO)?;
+    assert!(rt; !stack.ignores(Level::DEBUG));
+    tell(&mut stack, "app", Level::DEBUG)?;
+    assert!(rt; stack.ignores(Level::DEBUG) && told(&stack) == 2);
+    Ok(())
+}
+
 #[test]
 fn surface_swaps(rt: HostRuntime) -> Result<(), Fail> {
     let mut stack = counted(rt.alloc(), LevelFilter::INFO)?;
