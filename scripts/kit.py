@@ -54,6 +54,14 @@ class Crate(rt.Crate):
     kept = None
     # The crates above load what a library's check made, and not its statements alone: the toolchain doesn't keep work for those.
     cuts_libraries = False
+    made_from = None
+
+    def stamp(self):
+        """Returns the sum of all that the crate is made from. The toolchain reckons a library's anew for each way by which it is reached, and there are
+        many ways; in a run's own copy no file changes, so here it is kept."""
+        if self.made_from is None:
+            self.made_from = super().stamp()
+        return self.made_from
 
     def prove(self, *commands):
         return super().prove(*[[*it, "--incremental", self.kept] for it in commands])
