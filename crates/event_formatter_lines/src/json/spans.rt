@@ -4,7 +4,7 @@ ghost use Rattle.std.specs.List.{join_by};
 ghost use Rattle.std.specs.Option.{option_map};
 ghost use Rattle.event_formatter_text.specs.Chains.{Extends};
 ghost use Rattle.event_formatter_text.specs.Lists.{further};
-ghost use Rattle.event_formatter_lines.specs.Json.{field_as_kept, inside_braces, kept_members, member_if, members_as_kept, span_members, span_object, where_asked};
+ghost use Rattle.event_formatter_lines.specs.Json.{field_as_kept, inside_braces, kept_members, key_text, member_if, members_as_kept, span_members, span_object, where_asked};
 ghost use Rattle.event_formatter_lines.specs.Shown.{plain_shown, span_at};
 
 use super::JsonShape;
@@ -100,8 +100,22 @@ fn push_first_spans<S: ShownSpans>(
     Ok(())
 }
 
-// Appends the array of the spans, of which the last one is at hand.
-fn push_array<S: ShownSpans>(
+// Begins the array of the spans as a member. Its key and its bracket are one text.
+#[inline(always)]
+#[tactic(auto, unfolding(crate::specs::Json::key_text))]
+fn begin_list(out: &mut String, is_first: bool) -> Result<(), AllocError>
+    ensures { OnOk result (string_bytes out.new ≡ string_bytes out.old
+        ++ further (codes ",") is_first (key_text (codes "spans")) ++ codes "[") }
+{
+    if is_first {
+        out.push_str("\"spans\":[")
+    } else {
+        out.push_str(",\"spans\":[")
+    }
+}
+
+// Appends the spans of an array and ends it. The last one is at hand.
+fn push_listed<S: ShownSpans>(
     out: &mut String,
     spans: &S,
     place: usize,
@@ -110,9 +124,8 @@ fn push_array<S: ShownSpans>(
     requires place { place + 1 ≡ length (S.spans spans.now) }
     requires last { plain_shown last.now ≡ span_at (S.spans spans.now) place }
     ensures { OnOk result (string_bytes out.new ≡ string_bytes out.old
-        ++ (codes "[" ++ join_by span_object (codes ",") (S.spans spans.now) ++ codes "]")) }
+        ++ (join_by span_object (codes ",") (S.spans spans.now) ++ codes "]")) }
 {
-    out.push('[')?;
     push_first_spans(out, spans, place)?;
     push_listed_span(out, place == 0, last)?;
     out.push(']')
@@ -138,7 +151,7 @@ fn push_current_span(
 }
 
 // Appends the spans as a member, where they are asked for. The last one is at hand.
-#[tactic(auto, using(crate::proofs::Members::one, crate::proofs::Members::nothing))]
+#[tactic(auto, using(crate::proofs::Members::one_array, crate::proofs::Members::nothing))]
 fn push_span_list<S: ShownSpans>(
     out: &mut String,
     is_first: bool,
@@ -156,8 +169,8 @@ fn push_span_list<S: ShownSpans>(
     if !is_asked {
         return Ok(is_first);
     }
-    push_key(out, is_first, Key::Spans)?;
-    push_array(out, spans, place, last)?;
+    begin_list(out, is_first)?;
+    push_listed(out, spans, place, last)?;
     Ok(false)
 }
 
