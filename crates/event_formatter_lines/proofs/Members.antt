@@ -26,6 +26,13 @@ one key value is_first old mid new m n = record {
   first = refl;
 }
 
+-- a key with the bracket that begins its array, and then what stands behind the bracket
+pub one_array : (key rest : List ℕ) (is_first : Bool) (old begun new : List ℕ) → begun ≡ old ++ further (codes ",") is_first key ++ codes "[" → new ≡ begun ++ rest →
+    Extends ((key ++ (codes "[" ++ rest)) ∷ []) is_first old false new
+one_array key rest is_first old begun new b n =
+    let mid : List ℕ = old ++ further (codes ",") is_first key in
+    one key (codes "[" ++ rest) is_first old mid new refl (n ∙ ap (λ (t : List ℕ). t ++ rest) b ∙ append_assoc mid (codes "[") rest)
+
 -- a key with the quote that begins its text, and then the text
 pub one_text : (key text : List ℕ) (is_first : Bool) (old begun new : List ℕ) → begun ≡ old ++ further (codes ",") is_first (key ++ codes "\"") → new ≡ begun ++ (escaped json_char text ++ codes "\"") →
     Extends ((key ++ json_string text) ∷ []) is_first old false new

@@ -1,17 +1,15 @@
 -- The keys that a line names itself.
 use Rattle.std.specs.Prelude.{ℕ, List, codes}
 use Rattle.event_formatter_lines.specs.declared.json.key.Key.{Key}
-use Rattle.event_formatter_lines.specs.declared.json.key.Key.TheVariants.{Level, Fields, LineNumber, Span, Spans}
+use Rattle.event_formatter_lines.specs.declared.json.key.Key.TheVariants.{Level, LineNumber, Span}
 use Rattle.event_formatter_lines.specs.declared.json.key.TextKey.{TextKey}
 use Rattle.event_formatter_lines.specs.declared.json.key.TextKey.TheVariants.{Timestamp, Target, Filename, ThreadName, ThreadId, Name, Field}
 
 -- of a value that is no text
 abbrev pub key_name : Key → List ℕ
 key_name Level = codes "level"
-key_name Fields = codes "fields"
 key_name LineNumber = codes "line_number"
 key_name Span = codes "span"
-key_name Spans = codes "spans"
 
 -- of a text
 abbrev pub text_key_name : TextKey → List ℕ

@@ -6,15 +6,14 @@ mod spans;
 
 ghost use Rattle.std.specs.Prelude.{◌≡◌, ◌++◌, IfOk, OnOk, codes, string_bytes};
 ghost use Rattle.event_formatter_text.specs.Chains.{Extends, ExtendsWhole};
-ghost use Rattle.event_formatter_text.specs.Lists.{Formats};
+ghost use Rattle.event_formatter_text.specs.Lists.{Formats, further};
 ghost use Rattle.event_formatter_lines.specs.Heads.{plain_head};
-ghost use Rattle.event_formatter_lines.specs.Json.{field_members, json_line, last_members};
+ghost use Rattle.event_formatter_lines.specs.Json.{field_members, json_line, key_text, last_members};
 
 use crate::head::Head;
 use crate::shown::ShownSpans;
 use event_formatter_text::{FormatError, RecordFields, push_json_members};
-use key::Key;
-use members::{push_first_members, push_key, push_place_members, push_thread_members};
+use members::{push_first_members, push_place_members, push_thread_members};
 use spans::push_span_members;
 use std::alloc::AllocError;
 
@@ -43,6 +42,20 @@ impl Default for JsonShape {
     }
 }
 
+// Begins the object of the fields as a member. Its key and its brace are one text.
+#[inline(always)]
+#[tactic(auto, unfolding(crate::specs::Json::key_text))]
+fn begin_fields(out: &mut String, is_first: bool) -> Result<(), AllocError>
+    ensures { OnOk result (string_bytes out.new ≡ string_bytes out.old
+        ++ further (codes ",") is_first (key_text (codes "fields")) ++ codes "{") }
+{
+    if is_first {
+        out.push_str("\"fields\":{")
+    } else {
+        out.push_str(",\"fields\":{")
+    }
+}
+
 // Appends the members of the fields, in an object of their own or not. It answers whether the next member is the first.
 #[tactic(auto, using(crate::proofs::Lines::nested, crate::proofs::Lines::nested_refused))]
 fn push_field_members<R: RecordFields>(
@@ -57,8 +70,7 @@ fn push_field_members<R: RecordFields>(
     if flatten_event {
         return push_json_members(out, is_first, fields);
     }
-    push_key(out, is_first, Key::Fields)?;
-    out.push('{')?;
+    begin_fields(out, is_first)?;
     push_json_members(out, true, fields)?;
     out.push('}')?;
     Ok(false)

@@ -7,10 +7,8 @@ ghost use Rattle.event_formatter_lines.specs.Keys.{key_name, text_key_name};
 #[derive(Clone, Copy, PartialEq, Eq)]
 pub(super) enum Key {
     Level,
-    Fields,
     LineNumber,
     Span,
-    Spans,
 }
 
 /// A key of a line, or of a span in it, whose value is a text.
@@ -34,10 +32,8 @@ impl Key {
     {
         match self {
             Key::Level => "\"level\":",
-            Key::Fields => "\"fields\":",
             Key::LineNumber => "\"line_number\":",
             Key::Span => "\"span\":",
-            Key::Spans => "\"spans\":",
         }
     }
 
@@ -49,10 +45,8 @@ impl Key {
     {
         match self {
             Key::Level => ",\"level\":",
-            Key::Fields => ",\"fields\":",
             Key::LineNumber => ",\"line_number\":",
             Key::Span => ",\"span\":",
-            Key::Spans => ",\"spans\":",
         }
     }
 }

@@ -1,10 +1,10 @@
 //! Spans as objects.
-ghost use Rattle.std.specs.Prelude.{◌≡◌, ◌+◌, ◌≤◌, ◌++◌, IfOk, OnOk, Some, codes, length, string_bytes, take, true};
+ghost use Rattle.std.specs.Prelude.{◌≡◌, ◌+◌, ◌≤◌, ◌++◌, IfOk, List, ℕ, OnOk, Some, codes, length, string_bytes, take, true};
 ghost use Rattle.std.specs.List.{join_by};
 ghost use Rattle.std.specs.Option.{option_map};
 ghost use Rattle.event_formatter_text.specs.Chains.{Extends};
 ghost use Rattle.event_formatter_text.specs.Lists.{further};
-ghost use Rattle.event_formatter_lines.specs.Json.{field_as_kept, inside_braces, kept_members, member_if, members_as_kept, span_members, span_object, where_asked};
+ghost use Rattle.event_formatter_lines.specs.Json.{field_as_kept, inside_braces, kept_members, key_text, member_if, members_as_kept, span_members, span_object, where_asked};
 ghost use Rattle.event_formatter_lines.specs.Shown.{plain_shown, span_at};
 
 use super::JsonShape;
@@ -13,49 +13,48 @@ use super::members::{push_key, push_text_member};
 use crate::shown::{ShownSpan, ShownSpans};
 use std::alloc::AllocError;
 
-// What stands between braces, where the text begins and ends with them. Each is one byte, so that no character has to be read.
-fn inside_braces(text: &str) -> Option<&str>
-    ensures { option_map (λ inner. inner.now) result ≡ inside_braces text.now }
+// The text without its last brace, where it begins and ends with braces. Each is one byte, so that no character has to be read.
+fn begun_object(text: &str) -> Option<&str>
+    ensures { option_map (λ begun. begun.now) result ≡ option_map (λ members. codes "{" ++ members) (inside_braces text.now) }
 {
     match text.as_bytes() {
-        [b'{', .., b'}'] => Some(&text[1..text.len() - 1]),
+        [b'{', .., b'}'] => Some(&text[..text.len() - 1]),
         _ => None,
     }
 }
 
-// Appends the members of an object that stand in the text, where there are any.
+// Begins an object with the members that stand in the text behind its brace, where there are any.
 #[tactic(auto, using(crate::proofs::Members::whole, crate::proofs::Members::nothing))]
-fn push_inner(out: &mut String, members: &str) -> Result<bool, AllocError>
-    ensures { IfOk result (λ is_still. Extends (members_as_kept members.now) true (string_bytes out.old) is_still
-        (string_bytes out.new)) }
+fn begin_inner(out: &mut String, begun: &str) -> Result<bool, AllocError>
+    ensures { (members : List ℕ) → begun.now ≡ codes "{" ++ members → IfOk result (λ is_still.
+        Extends (members_as_kept members) true (string_bytes out.old ++ codes "{") is_still (string_bytes out.new)) }
 {
-    if members.is_empty() {
-        return Ok(true);
-    }
-    out.push_str(members)?;
-    Ok(false)
+    out.push_str(begun)?;
+    Ok(begun.len() == 1)
 }
 
-// Appends a text that isn't an object as a member, where it isn't empty.
+// Begins an object with a text that isn't one as its member, where it isn't empty.
 #[tactic(auto, using(crate::proofs::Members::nothing))]
-fn push_field(out: &mut String, text: &str) -> Result<bool, AllocError>
-    ensures { IfOk result (λ is_still. Extends (field_as_kept text.now) true (string_bytes out.old) is_still
+fn begin_field(out: &mut String, text: &str) -> Result<bool, AllocError>
+    ensures { IfOk result (λ is_still. Extends (field_as_kept text.now) true (string_bytes out.old ++ codes "{") is_still
         (string_bytes out.new)) }
 {
+    out.push('{')?;
     if text.is_empty() {
         return Ok(true);
     }
     push_text_member(out, true, TextKey::Field, Some(text))
 }
 
-// Appends what is kept of a span's fields as members.
-fn push_kept(out: &mut String, text: &str) -> Result<bool, AllocError>
-    ensures { IfOk result (λ is_still. Extends (kept_members text.now) true (string_bytes out.old) is_still
+// Begins an object with what is kept of a span's fields. Kept members come with their brace, as one text.
+#[inline(always)]
+fn begin_object(out: &mut String, text: &str) -> Result<bool, AllocError>
+    ensures { IfOk result (λ is_still. Extends (kept_members text.now) true (string_bytes out.old ++ codes "{") is_still
         (string_bytes out.new)) }
 {
-    match inside_braces(text) {
-        Some(members) => push_inner(out, members),
-        None => push_field(out, text),
+    match begun_object(text) {
+        Some(begun) => begin_inner(out, begun),
+        None => begin_field(out, text),
     }
 }
 
@@ -64,8 +63,7 @@ fn push_kept(out: &mut String, text: &str) -> Result<bool, AllocError>
 fn push_span(out: &mut String, span: &ShownSpan<'_>) -> Result<(), AllocError>
     ensures { OnOk result (string_bytes out.new ≡ string_bytes out.old ++ span_object (plain_shown span.now)) }
 {
-    out.push('{')?;
-    let is_first = push_kept(out, span.text)?;
+    let is_first = begin_object(out, span.text)?;
     push_text_member(out, is_first, TextKey::Name, Some(span.name))?;
     out.push('}')
 }
@@ -102,8 +100,22 @@ fn push_first_spans<S: ShownSpans>(
     Ok(())
 }
 
-// Appends the array of the spans, of which the last one is at hand.
-fn push_array<S: ShownSpans>(
+// Begins the array of the spans as a member. Its key and its bracket are one text.
+#[inline(always)]
+#[tactic(auto, unfolding(crate::specs::Json::key_text))]
+fn begin_list(out: &mut String, is_first: bool) -> Result<(), AllocError>
+    ensures { OnOk result (string_bytes out.new ≡ string_bytes out.old
+        ++ further (codes ",") is_first (key_text (codes "spans")) ++ codes "[") }
+{
+    if is_first {
+        out.push_str("\"spans\":[")
+    } else {
+        out.push_str(",\"spans\":[")
+    }
+}
+
+// Appends the spans of an array and ends it. The last one is at hand.
+fn push_listed<S: ShownSpans>(
     out: &mut String,
     spans: &S,
     place: usize,
@@ -112,9 +124,8 @@ fn push_array<S: ShownSpans>(
     requires place { place + 1 ≡ length (S.spans spans.now) }
     requires last { plain_shown last.now ≡ span_at (S.spans spans.now) place }
     ensures { OnOk result (string_bytes out.new ≡ string_bytes out.old
-        ++ (codes "[" ++ join_by span_object (codes ",") (S.spans spans.now) ++ codes "]")) }
+        ++ (join_by span_object (codes ",") (S.spans spans.now) ++ codes "]")) }
 {
-    out.push('[')?;
     push_first_spans(out, spans, place)?;
     push_listed_span(out, place == 0, last)?;
     out.push(']')
@@ -140,7 +151,7 @@ fn push_current_span(
 }
 
 // Appends the spans as a member, where they are asked for. The last one is at hand.
-#[tactic(auto, using(crate::proofs::Members::one, crate::proofs::Members::nothing))]
+#[tactic(auto, using(crate::proofs::Members::one_array, crate::proofs::Members::nothing))]
 fn push_span_list<S: ShownSpans>(
     out: &mut String,
     is_first: bool,
@@ -158,8 +169,8 @@ fn push_span_list<S: ShownSpans>(
     if !is_asked {
         return Ok(is_first);
     }
-    push_key(out, is_first, Key::Spans)?;
-    push_array(out, spans, place, last)?;
+    begin_list(out, is_first)?;
+    push_listed(out, spans, place, last)?;
     Ok(false)
 }
 
