@@ -114,6 +114,7 @@ impl<L: Layer, F: Filter> StackParts<Filtered<L, F>> {
         self.passes_unless(refused, metadata, at)
     }
 
+    #[inline(always)]
     fn tell(&mut self, event: &Event<'_, '_>, at: At)
         ensures { TellsAll ⟦<F as Filter>⟧ ⟦<L as Layer>⟧ (plain_event event.now) at (plain_stack self.old)
             (plain_stack self.new) }
@@ -123,6 +124,7 @@ impl<L: Layer, F: Filter> StackParts<Filtered<L, F>> {
     }
 
     // Tells each output that passes the event, and asks nobody where it is refused.
+    #[inline(always)]
     pub(crate) fn event_unless(
         &mut self,
         refused: bool,
@@ -144,6 +146,7 @@ impl<L: Layer, F: Filter> StackParts<Filtered<L, F>> {
     }
 
     // Tells each output that passes the event, and asks nobody where what is kept refuses it.
+    #[inline(always)]
     pub(crate) fn event(&mut self, event: &Event<'_, '_>, at: At) -> Result<(), RequestError>
         ensures { EventCached ⟦<F as Filter>⟧ ⟦<L as Layer>⟧ (plain_event event.now) at (plain_stack self.old) result
             (plain_stack self.new) }

@@ -19,6 +19,7 @@ use tracing_core_fields::{LevelFilter, Metadata};
 use tracing_core_requests::{At, Event, Interest};
 
 // Asks the filter of each output of the event, and marks what it answers.
+#[inline(always)]
 pub(crate) fn ask_event<L: Layer, F: Filter>(
     rows: &mut [Row<Filtered<L, F>>],
     event: &Event<'_, '_>,
@@ -28,12 +29,18 @@ pub(crate) fn ask_event<L: Layer, F: Filter>(
     ensures asked { EachBecomes (AsksEvent ⟦<F as Filter>⟧ (plain_event event.now) at registry.old) rows.old rows.new }
     ensures same { registry.new ≡ registry.old }
 {
+    // Most stacks have one output, which needs no loop.
+    if let [only] = rows {
+        only.ask_event(event, registry, at);
+        return;
+    }
     for row in rows.iter_mut() {
         row.ask_event(event, registry, at);
     }
 }
 
 // Tells each output, in order, of the event, where that is marked.
+#[inline(always)]
 pub(crate) fn tell_event<L: Layer, F: Filter>(
     rows: &mut [Row<Filtered<L, F>>],
     event: &Event<'_, '_>,
@@ -43,6 +50,10 @@ pub(crate) fn tell_event<L: Layer, F: Filter>(
     ensures { EachInTurn (TellsEvent ⟦<L as Layer>⟧ (plain_event event.now) at) registry.old rows.old registry.new
         rows.new }
 {
+    if let [only] = rows {
+        only.tell_event(event, registry, at);
+        return;
+    }
     for row in rows.iter_mut() {
         row.tell_event(event, registry, at);
     }

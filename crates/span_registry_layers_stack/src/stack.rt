@@ -103,6 +103,7 @@ impl<L: Layer, F: Filter> Stack<Filtered<L, F>> {
     /// # Errors
     ///
     /// `UnknownParent` where a parent is named that is not open, which leaves the stack as it was.
+    #[inline(always)]
     pub fn event(&mut self, event: &Event<'_, '_>, at: At) -> Result<(), RequestError>
         ensures exact { EventCached ⟦<F as Filter>⟧ ⟦<L as Layer>⟧ (plain_event event.now) at self.old result self.new }
         // While what is kept is right, this is asking every filter again, and what is kept stays right.

@@ -72,6 +72,7 @@ impl<L: Layer, F: Filter> Subscriber for Stack<Filtered<L, F>> {
         true
     }
 
+    #[inline(always)]
     fn event(&mut self, event: &Event<'_, '_>, at: At) -> Result<(), RequestError> {
         Stack::event(self, event, at)
     }

@@ -1,9 +1,9 @@
 //! Which steps are refused, by reading alone.
-ghost use Rattle.std.specs.Prelude.{◌≡◌, not, Some, None, length, map, option_and_then, is_some};
+ghost use Rattle.std.specs.Prelude.{◌≡◌, if◌then◌else◌, not, Some, None, length, map, option_and_then, is_some};
 ghost use Rattle.std.specs.Option.{option_copied, option_map};
 ghost use Rattle.span_registry_layers_store.specs.Registries.{PlainSpan, kin_in};
 ghost use Rattle.span_registry_layers_store.specs.Spans.{found};
-ghost use Rattle.span_tracing_skeleton.specs.Machine.{call_refusal, callsite_of, count_refusal, enabled_refusal, first, follows_refusal, handle_refusal, handles_in, has_open, ids_refusal, known, knows_stack, lane_refusal, moment_refusal, named, open_refusal, pair_refusal, parent_refusal, request_refusal, span_refusal, stack_refusal, when};
+ghost use Rattle.span_tracing_skeleton.specs.Machine.{call_refusal, callsite_of, count_refusal, enabled_refusal, first, follows_refusal, handle_refusal, handles_in, has_open, ids_refusal, if_kind, known, knows_stack, lane_refusal, moment_refusal, named, open_refusal, pair_refusal, parent_refusal, request_refusal, span_refusal, stack_refusal, when};
 ghost use Rattle.span_tracing_skeleton.specs.declared.refusal.Refusal.TheVariants.{GlobalSet, UnknownStack};
 ghost use Rattle.span_tracing_skeleton.specs.PlainData.{on_span};
 ghost use Rattle.span_tracing_steps.specs.Actions.{plain_record};
@@ -33,6 +33,24 @@ impl<T: Subscriber + HasRegistry> TraceParts<T> {
         self.hub.index_of(Identifier(number))
     }
 
+    // Whether the callsite at the index is of this kind.
+    #[inline(always)]
+    fn is_kind(&self, index: CallsiteIndex, is_span: bool) -> bool
+        requires { IsSound self.now }
+        ensures { if_kind (at_index (value_in self.now).callsites (Some index)) is_span
+            ≡ (if result then at_index (value_in self.now).callsites (Some index) else None) }
+    {
+        let Some(metadata) = self.hub.metadata_at(index) else {
+            return false;
+        };
+        let kind = metadata.kind();
+        if is_span {
+            kind.is_span()
+        } else {
+            kind.is_event()
+        }
+    }
+
     /// Where the callsite of this kind with the identifier stands.
     pub(crate) fn known(&self, number: u64, is_span: bool) -> Option<CallsiteIndex>
         requires { IsSound self.now }
@@ -41,16 +59,11 @@ impl<T: Subscriber + HasRegistry> TraceParts<T> {
         ensures there { is_some result ≡ is_some (known (skeleton_of T.registry_of (value_in self.now)) number is_span) }
     {
         let index = self.find(number)?;
-        let Some(metadata) = self.hub.metadata_at(index) else {
-            return None;
-        };
-        let kind = metadata.kind();
-        let is_kind = if is_span {
-            kind.is_span()
+        if self.is_kind(index, is_span) {
+            Some(index)
         } else {
-            kind.is_event()
-        };
-        if is_kind { Some(index) } else { None }
+            None
+        }
     }
 
     /// Whether the span is open.

@@ -1,12 +1,13 @@
 //! Events, questions and new spans.
-ghost use Rattle.std.specs.Prelude.{◌≡◌, IsTrue, None, Some};
+ghost use Rattle.std.specs.Prelude.{◌≡◌, IsTrue, None, Ok, Some, false};
 ghost use Rattle.tracing_core_hub.specs.Indexed.{plain_parent};
 ghost use Rattle.tracing_core_requests.specs.PlainRequests.{explicit_parent};
 ghost use Rattle.tracing_core_requests.specs.declared.refusal.RequestError.{RequestError};
 ghost use Rattle.span_tracing_skeleton.specs.Machine.{told_parent};
+ghost use Rattle.span_tracing_skeleton.specs.declared.call.Reply.TheVariants.{Done};
 ghost use Rattle.span_tracing_skeleton.specs.PlainData.{EnabledStep, EventStep, SpanStep};
 ghost use Rattle.span_tracing_steps.specs.Actions.{plain_request};
-ghost use Rattle.span_tracing_steps.specs.Finding.{StaysAt};
+ghost use Rattle.span_tracing_steps.specs.Finding.{FoundFor, StaysAt};
 ghost use Rattle.span_tracing_steps.specs.States.{at_index, value_in};
 ghost use Rattle.span_tracing_steps.specs.Steps.{StepGives, span_reply};
 ghost use Rattle.span_tracing_steps.specs.Telling.{named_as, place_at};
@@ -94,22 +95,21 @@ impl<T: Subscriber + HasRegistry> TraceParts<T> {
         }
     }
 
-    /// An event on a lane.
-    pub fn event(&mut self, event: &Request<'_>) -> Reply
-        requires { IsSound self.old }
+    // Tells the stack of an event that nothing refuses, where the stack is reached and doesn't ignore it.
+    #[inline(always)]
+    fn tell(&mut self, index: CallsiteIndex, event: &Request<'_>)
+        requires sound { IsSound self.old }
+        requires found { FoundFor T.registry_of (value_in self.old) event.now.lane event.now.moment event.now.callsite
+            false event.now.parent (Ok index) }
         ensures sound { IsSound self.new }
         ensures gives { StepGives ⟦<T as Subscriber>⟧ T.registry_of (value_in self.old) (EventStep
-            (plain_request event.now)) result (value_in self.new) }
+            (plain_request event.now)) Done (value_in self.new) }
     {
-        let index = match self.find_for(event, false) {
-            Err(refusal) => return Reply::Refused(refusal),
-            Ok(index) => index,
-        };
         if !self.hub.has_been_set() {
-            return Reply::Done;
+            return;
         }
         if self.ignores(index, event.parent) {
-            return Reply::Done;
+            return;
         }
         let Some(handle) = &self.handle else {
             unreachable!()
@@ -118,7 +118,22 @@ impl<T: Subscriber + HasRegistry> TraceParts<T> {
         let at = at_of(event.lane, event.moment);
         let parent = parent_of(event.parent);
         let _told = self.hub.event_at(handle, index, parent, event.values, at);
-        Reply::Done
+    }
+
+    /// An event on a lane.
+    pub fn event(&mut self, event: &Request<'_>) -> Reply
+        requires { IsSound self.old }
+        ensures sound { IsSound self.new }
+        ensures gives { StepGives ⟦<T as Subscriber>⟧ T.registry_of (value_in self.old) (EventStep
+            (plain_request event.now)) result (value_in self.new) }
+    {
+        match self.find_for(event, false) {
+            Err(refusal) => Reply::Refused(refusal),
+            Ok(index) => {
+                self.tell(index, event);
+                Reply::Done
+            }
+        }
     }
 
     /// A new span on a lane.

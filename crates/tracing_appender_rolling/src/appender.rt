@@ -194,7 +194,10 @@ impl<D: Folder> RollingFileAppender<D> {
         ensures error { ReportsAll (D.failed self.old.folder) result (length bytes.now) (D.failed self.new.folder) }
     {
         let outcome = write_all(&mut self.folder, self.current, bytes);
-        self.faults = self.faults.after_write(outcome);
+        // The counts are copied where something may be counted alone: most lines are written.
+        if outcome.is_err() {
+            self.faults = self.faults.after_write(outcome);
+        }
         outcome
     }
 

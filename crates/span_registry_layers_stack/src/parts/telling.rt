@@ -17,6 +17,7 @@ use tracing_core_requests::{At, Attributes, Event, Record, WeakDispatch};
 
 impl<L: Layer, F: Filter> StackParts<Filtered<L, F>> {
     // Asks the outputs' own filters of the event, and marks what they answer.
+    #[inline(always)]
     pub(super) fn ask_event(&mut self, event: &Event<'_, '_>, at: At)
         ensures { RowsBecome (AsksEvent ⟦<F as Filter>⟧ (plain_event event.now) at (plain_stack self.old).registry)
             (plain_stack self.old) (plain_stack self.new) }
@@ -25,6 +26,7 @@ impl<L: Layer, F: Filter> StackParts<Filtered<L, F>> {
     }
 
     // Tells each output whose filter passes it.
+    #[inline(always)]
     pub(super) fn tell_event(&mut self, event: &Event<'_, '_>, at: At)
         ensures { RowsInTurn (TellsEvent ⟦<L as Layer>⟧ (plain_event event.now) at) (plain_stack self.old)
             (plain_stack self.new) }

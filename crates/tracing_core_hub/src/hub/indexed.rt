@@ -5,6 +5,7 @@ ghost use Rattle.tracing_core_hub.specs.Handing.{CallGives};
 ghost use Rattle.tracing_core_hub.specs.Indexed.{AskAtGives, EventAtGives, RecordAtGives, SpanAtGives, plain_parent, request_at, values_at};
 ghost use Rattle.tracing_core_hub.specs.Keeping.{PreservesCaches};
 ghost use Rattle.tracing_core_requests.specs.Calls.{EventDispatched, Recorded, SpanMade};
+ghost use Rattle.tracing_core_requests.specs.PlainRequests.{plain_event, plain_request};
 
 use crate::dispatch::Dispatch;
 use crate::hub::Hub;
@@ -12,7 +13,7 @@ use crate::hub::handing::{event_at, new_span_at, record_at};
 use crate::hub::index::CallsiteIndex;
 use crate::hub::parts::RegisteredSubscriber;
 use crate::hub::registered::ask_one;
-use tracing_core_fields::{FieldValue, Id, Metadata};
+use tracing_core_fields::{FieldValue, Id, Metadata, ValueSet};
 use tracing_core_requests::{At, Attributes, Callsite, Event, Record, RequestError, Subscriber};
 
 /// Which span a request stands under.
@@ -26,6 +27,21 @@ pub enum RequestParent {
     Explicit(Id),
 }
 
+// The event under this parent. All cases are made before one call hands the event over, so that the call is inlined.
+fn event_of<'m, 'v>(
+    metadata: &'m Metadata<'m>,
+    parent: RequestParent,
+    values: ValueSet<'v>,
+) -> Event<'m, 'v>
+    ensures { plain_event result ≡ plain_request metadata.now values.entry (plain_parent parent) }
+{
+    match parent {
+        RequestParent::Contextual => Event::new(metadata, values),
+        RequestParent::Root => Event::new_child_of(None, metadata, values),
+        RequestParent::Explicit(id) => Event::new_child_of(Some(id), metadata, values),
+    }
+}
+
 fn tell_event<S: Subscriber>(
     subscribers: &mut [RegisteredSubscriber<S>],
     serial: Option<u64>,
@@ -37,20 +53,12 @@ fn tell_event<S: Subscriber>(
     ensures { CallGives ⟦<S as Subscriber>⟧ (EventDispatched (request_at (plain_metadata metadata.now) values.now parent)
         at) serial subscribers.old result subscribers.new }
 {
-    let values = metadata.fields().value_set_indexed(values);
-    match parent {
-        RequestParent::Contextual => {
-            event_at(subscribers, serial, &Event::new(metadata, values), at)
-        }
-        RequestParent::Root => {
-            let event = Event::new_child_of(None, metadata, values);
-            event_at(subscribers, serial, &event, at)
-        }
-        RequestParent::Explicit(id) => {
-            let event = Event::new_child_of(Some(id), metadata, values);
-            event_at(subscribers, serial, &event, at)
-        }
-    }
+    let event = event_of(
+        metadata,
+        parent,
+        metadata.fields().value_set_indexed(values),
+    );
+    event_at(subscribers, serial, &event, at)
 }
 
 fn make_span<S: Subscriber>(

@@ -11,10 +11,10 @@ loop-row-init g c = record { same = refl; done = tt; left = refl }
 pub loop-row-preserved : goal.loop-row-preserved
 loop-row-preserved g c =
     let e = plain_event c.args.event.now in
-    let asked = subst (λ (x : RegistryValue). AsksEvent g.F.Filter e c.args.at x (get_or c.loop-row.rows c.loop-row.row-index c.row-item.result) c.ask_event.new.self) c.loop-row.invariant.same c.ask_event.ensures.asked in
-    let turn = becomes_next (AsksEvent g.F.Filter e c.args.at c.args.registry.now) c.args.rows.now c.loop-row.rows c.loop-row.row-index c.row-item.result c.ask_event.new.self
+    let asked = subst (λ (x : RegistryValue). AsksEvent g.F.Filter e c.args.at x (get_or c.loop-row.rows c.loop-row.row-index c.row-item.result) c.ask_event-in-loop-row.new.self) c.loop-row.invariant.same c.ask_event-in-loop-row.ensures.asked in
+    let turn = becomes_next (AsksEvent g.F.Filter e c.args.at c.args.registry.now) c.args.rows.now c.loop-row.rows c.loop-row.row-index c.row-item.result c.ask_event-in-loop-row.new.self
     (omega arith) (omega arith) c.loop-row.invariant.done c.loop-row.invariant.left asked in
-    record { same = c.ask_event.ensures.same ∙ c.loop-row.invariant.same; done = turn.0; left = turn.1 }
+    record { same = c.ask_event-in-loop-row.ensures.same ∙ c.loop-row.invariant.same; done = turn.0; left = turn.1 }
 
 pub returns-clause-asked : goal.returns-clause-asked
 returns-clause-asked g c =

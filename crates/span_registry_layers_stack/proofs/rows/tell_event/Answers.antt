@@ -9,8 +9,8 @@ loop-row-init g c = record { done = refl; left = refl }
 
 pub loop-row-preserved : goal.loop-row-preserved
 loop-row-preserved g c =
-    let turn = turn_next (TellsEvent g.L.Layer (plain_event c.args.event.now) c.args.at) c.args.registry.now c.loop-row.registry c.tell_event.new.registry c.args.rows.now c.loop-row.rows c.loop-row.row-index c.row-item.result c.tell_event.new.self
-    (omega arith) (omega arith) c.loop-row.invariant.done c.loop-row.invariant.left c.tell_event.ensures in
+    let turn = turn_next (TellsEvent g.L.Layer (plain_event c.args.event.now) c.args.at) c.args.registry.now c.loop-row.registry c.tell_event-in-loop-row.new.registry c.args.rows.now c.loop-row.rows c.loop-row.row-index c.row-item.result c.tell_event-in-loop-row.new.self
+    (omega arith) (omega arith) c.loop-row.invariant.done c.loop-row.invariant.left c.tell_event-in-loop-row.ensures in
     record { done = turn.0; left = turn.1 }
 
 pub returns : goal.returns
