@@ -152,7 +152,7 @@ fn fill_from_lane(context: &Context<'_>, ids: &mut Vec<Id>) -> Result<(), AllocE
 /// # Errors
 ///
 /// Want of memory. The list then holds some of them.
-#[inline(never)]
+#[inline(always)]
 pub fn fill_scope(
     context: &Context<'_>,
     event: &Event<'_, '_>,
