@@ -1,6 +1,6 @@
 -- How the spans of a scope are found again by their ids.
-use Rattle.std.proofs.Common.{◌≡◌, ◌<◌, ℕ, List, [], ◌∷◌, ◌++◌, ◌==◌, Bool, true, false, map, reverse, Option, Some, None, is_some, refl, sym, ap, subst, ◌∙◌, if◌then◌else◌}
-use Rattle.std.specs.Option.{option_map}
+use Rattle.std.proofs.Common.{◌≡◌, ◌<◌, ◌+◌, ◌-◌, ℕ, zero, suc, List, [], ◌∷◌, ◌++◌, ◌==◌, Bool, true, false, map, reverse, Option, Some, None, is_some, refl, sym, ap, subst, ◌∙◌, if◌then◌else◌, arith, add-one}
+use Rattle.std.specs.Option.{option_and_then, option_map}
 use Rattle.std.proofs.lemmas.Bool.{eqb-true}
 use Rattle.std.proofs.lemmas.List.{map-append, reverse-append}
 use Rattle.tracing_core_requests.specs.declared.requests.parent.Parent.{Parent}
@@ -8,13 +8,13 @@ use Rattle.tracing_core_requests.specs.declared.requests.parent.Parent.TheVarian
 use Rattle.span_registry_layers_store.specs.Lanes.{lane_at}
 use Rattle.span_registry_layers_store.specs.References.{PlainRef, ref_of, refs_of}
 use Rattle.span_registry_layers_store.specs.Registries.{PlainSpan, RegistryValue, kin_in}
-use Rattle.span_registry_layers_store.specs.Spans.{found, is_member, line_of}
+use Rattle.span_registry_layers_store.specs.Spans.{ancestry, found, is_member, line_of, parent_of}
 use Rattle.span_registry_layers_store.specs.Views.{all_seen, entry_seen, first_of, latest_seen, one_or_none, seen, seen_if, sees}
 use Rattle.span_registry_layers_layers.specs.Contexts.{event_span, lane_span, ref_in, span_in}
 use Rattle.span_registry_layers_layers.specs.Looks.{View}
 use Rattle.event_formatter_lines.specs.Shown.{PlainShown}
 use Rattle.event_formatter_formats.specs.Scopes.{only_if, refs_from, shown_at, shown_or_nothing, shown_scope, shown_span}
-use Rattle.event_formatter_formats.specs.Walks.{FillsScope, HasNumber, ShowsScope, id_of_ref, ids_to, ids_up}
+use Rattle.event_formatter_formats.specs.Walks.{FillsScope, HasNumber, IsSeen, ShowsScope, id_of_ref, ids_to, ids_up}
 
 found_here : (b : Bool) (x s : PlainSpan) (xs : List PlainSpan) (id : ℕ) → (x.kin.id == id) ≡ b → (found kin_in xs id ≡ Some s → s.kin.id ≡ id) →
     (if b then Some x else found kin_in xs id) ≡ Some s → s.kin.id ≡ id
@@ -158,3 +158,40 @@ unnumbered v (Some s) same = cc
 
 pub has_none : (v : View) (parent : Parent) → None ≡ option_map (ref_in v) (event_span v parent) → HasNumber (event_span v parent)
 has_none v parent same = unnumbered v (event_span v parent) same
+
+line_next : (spans : List PlainSpan) (m n here : ℕ) → m ≡ n + 1 →
+    ancestry kin_in spans m (Some here) ≡ here ∷ ancestry kin_in spans n (parent_of kin_in spans here)
+unfolding ancestry
+line_next spans m n here e = rw (e, add-one)
+
+below : (n : ℕ) → 0 < n → n ≡ (n - 1) + 1
+below zero is = absurd (omega (arith, is))
+below (suc n) is = omega arith
+
+-- the line of a span that is open is its own id, and then that of its parent
+line_begins : (x : RegistryValue) (mask : Option ℕ) (s : PlainSpan) → seen x mask s.kin.id ≡ Some s → 0 < s.kin.id →
+    line_of kin_in x.spans s.kin.id ≡ s.kin.id ∷ ancestry kin_in x.spans (s.kin.id - 1) s.kin.parent
+line_begins x mask s same is =
+    line_next x.spans s.kin.id (s.kin.id - 1) s.kin.id (below s.kin.id is)
+    ∙ ap (λ (f : Option PlainSpan). s.kin.id ∷ ancestry kin_in x.spans (s.kin.id - 1) (option_and_then (λ (t : PlainSpan). (kin_in t).parent) f))
+    (passed mask (found kin_in x.spans s.kin.id) s same)
+
+-- the ids of its scope are its own, and then those of its ancestors
+pub begins : (r : PlainRef) → IsSeen r → 0 < r.span.kin.id →
+    ids_up r ≡ r.span.kin.id ∷ map id_of_ref (refs_of r.registry r.mask (ancestry kin_in r.registry.spans (r.span.kin.id - 1) r.span.kin.parent))
+begins r same is =
+    let above = ancestry kin_in r.registry.spans (r.span.kin.id - 1) r.span.kin.parent in
+    ap (λ (ids : List ℕ). map id_of_ref (refs_of r.registry r.mask ids)) (line_begins r.registry r.mask r.span same is)
+    ∙ ap (λ (f : Option PlainSpan). map id_of_ref (map (ref_of r.registry r.mask) (one_or_none f ++ all_seen r.registry r.mask above))) same
+
+is_seen_by : (v : View) (f : Option PlainSpan) (r : PlainRef) → IsShown v f → Some r ≡ option_map (ref_in v) f → IsSeen r
+is_seen_by v None r shown same = cc
+is_seen_by v (Some s) r shown same = let e : r ≡ ref_in v s = cc in subst IsSeen (sym e) (shown s refl)
+
+-- the span that an event stands in is seen by its own id
+pub event_seen : (v : View) (parent : Parent) (r : PlainRef) → Some r ≡ option_map (ref_in v) (event_span v parent) → IsSeen r
+event_seen v parent r same = is_seen_by v (event_span v parent) r (event_shown v parent) same
+
+-- and so is the one that a lane is in
+pub lane_seen : (v : View) (r : PlainRef) → Some r ≡ option_map (ref_in v) (lane_span v) → IsSeen r
+lane_seen v r same = is_seen_by v (lane_span v) r (current_shown v) same

@@ -4,6 +4,7 @@ use Rattle.tracing_core_requests.specs.declared.requests.parent.Parent.{Parent}
 use Rattle.span_registry_layers_store.specs.References.{PlainRef, refs_of}
 use Rattle.span_registry_layers_store.specs.Registries.{PlainSpan, kin_in}
 use Rattle.span_registry_layers_store.specs.Spans.{line_of}
+use Rattle.span_registry_layers_store.specs.Views.{seen}
 use Rattle.span_registry_layers_layers.specs.Contexts.{event_span}
 use Rattle.span_registry_layers_layers.specs.Looks.{View}
 use Rattle.event_formatter_formats.specs.Scopes.{loose_leaf, loose_scope, only_if, refs_from, shown_at, strict_scope}
@@ -17,6 +18,10 @@ id_of_ref r = r.span.kin.id
 -- the span, where there is one, has a number other than 0
 abbrev pub HasNumber : Option PlainSpan → Type 0
 HasNumber f = IfSome f (λ s. 0 < s.kin.id)
+
+-- a span that is the one which is open and seen under its id
+abbrev pub IsSeen : PlainRef → Type 0
+IsSeen r = seen r.registry r.mask r.span.kin.id ≡ Some r.span
 
 -- the ids of a span and its ancestors that are seen, the nearest first
 abbrev pub ids_up : PlainRef → List ℕ

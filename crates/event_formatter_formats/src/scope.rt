@@ -1,19 +1,19 @@
 //! The spans that a line shows, read from the registry.
-ghost use Rattle.std.specs.Prelude.{◌≡◌, ◌<◌, [], IfOk, OnOk, reverse};
+ghost use Rattle.std.specs.Prelude.{◌≡◌, ◌<◌, [], ◌∷◌, IfOk, OnOk, map, reverse};
 ghost use Rattle.std.specs.Option.{option_map};
 ghost use Rattle.tracing_core_requests.specs.PlainRequests.{plain_event};
 ghost use Rattle.span_registry_layers_layers.specs.Contexts.{event_span, lane_span, ref_in, span_in};
 ghost use Rattle.span_registry_layers_layers.specs.Looks.{view};
-ghost use Rattle.span_registry_layers_store.specs.References.{plain_ref};
+ghost use Rattle.span_registry_layers_store.specs.References.{plain_ref, scope_left};
 ghost use Rattle.event_formatter_lines.specs.Shown.{plain_shown};
 ghost use Rattle.event_formatter_formats.specs.Scopes.{shown_span, target_or_none};
-ghost use Rattle.event_formatter_formats.specs.Walks.{FillsScope, HasNumber, ShowsScope, ids_to, ids_up};
+ghost use Rattle.event_formatter_formats.specs.Walks.{FillsScope, HasNumber, IsSeen, ShowsScope, id_of_ref, ids_to, ids_up};
 
 use crate::seldom::refused;
 use event_formatter_lines::{ShownSpan, ShownSpans};
 use event_formatter_slots::kept_text;
 use span_registry_layers_layers::Context;
-use span_registry_layers_store::{OutputKey, SpanRef};
+use span_registry_layers_store::{OutputKey, Scope, SpanRef};
 use std::alloc::AllocError;
 use tracing_core_fields::Id;
 use tracing_core_requests::Event;
@@ -92,24 +92,40 @@ impl ShownSpans for ScopedSpans<'_, '_> {
     }
 }
 
+// The id of a span. The proof sees by this call that it isn't 0.
+fn id_of(span: &SpanRef<'_>) -> Id
+    ensures same { result ≡ (plain_ref span.now).span.kin.id }
+    ensures number { 0 < result }
+{
+    span.id()
+}
+
+// The ancestors of a span that is open and seen. With it in front they are its scope.
+#[inline(always)]
+fn above_of<'a>(leaf: &SpanRef<'a>) -> Scope<'a>
+    requires { IsSeen (plain_ref leaf.now) }
+    ensures { let r = plain_ref leaf.now in ids_up r ≡ r.span.kin.id ∷ map id_of_ref (scope_left result) }
+{
+    let _id = id_of(leaf);
+    leaf.ancestors()
+}
+
 // Puts the ids of a span and its ancestors, from the root on, into an empty list. A span alone needs no loop.
 #[inline(always)]
 fn fill_from(ids: &mut Vec<Id>, leaf: &SpanRef<'_>) -> Result<(), AllocError>
-    requires { ids.old.items ≡ [] }
+    requires empty { ids.old.items ≡ [] }
+    requires seen { IsSeen (plain_ref leaf.now) }
     ensures { OnOk result (ids.new.items ≡ reverse (ids_up (plain_ref leaf.now))) }
 {
-    let mut scope = leaf.scope();
-    let Some(first) = scope.next() else {
-        return Ok(());
-    };
-    let Ok(()) = ids.push(first.id()) else {
+    let Ok(()) = ids.push(leaf.id()) else {
         return Err(refused());
     };
-    let Some(second) = scope.next() else {
+    let mut above = above_of(leaf);
+    let Some(parent) = above.next() else {
         return Ok(());
     };
-    ids.push(second.id())?;
-    for span in scope {
+    ids.push(parent.id())?;
+    for span in above {
         ids.push(span.id())?;
     }
     ids.reverse();
@@ -129,14 +145,6 @@ fn fill_from_lane(context: &Context<'_>, ids: &mut Vec<Id>) -> Result<(), AllocE
     }
 }
 
-// The id of a span. The proof sees by this call that it isn't 0.
-fn id_of(span: &SpanRef<'_>) -> Id
-    ensures same { result ≡ (plain_ref span.now).span.kin.id }
-    ensures number { 0 < result }
-{
-    span.id()
-}
-
 /// Puts the ids of the spans that a line of the event may show, from the root on, in place of what the list held.
 /// Those are the span that the event stands in and its ancestors; where there is none, the lane's span and its
 /// ancestors. The answer tells whether the event stands in them.
@@ -144,7 +152,7 @@ fn id_of(span: &SpanRef<'_>) -> Id
 /// # Errors
 ///
 /// Want of memory. The list then holds some of them.
-#[inline(never)]
+#[inline(always)]
 pub fn fill_scope(
     context: &Context<'_>,
     event: &Event<'_, '_>,

@@ -94,6 +94,7 @@ fn push_each_span<S: ShownSpans>(
 /// # Errors
 ///
 /// Want of memory. What was appended before is to be dropped.
+#[inline(always)]
 pub fn push_spans<S: ShownSpans>(
     out: &mut String,
     settings: Settings,

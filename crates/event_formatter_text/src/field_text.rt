@@ -35,13 +35,14 @@ fn push_separator(out: &mut String, punctuation: Punctuation) -> Result<(), Allo
     ensures { OnOk result (string_bytes out.new ≡ string_bytes out.old ++ separator punctuation) }
 {
     match punctuation {
-        Punctuation::Default => out.push_str(" "),
+        Punctuation::Default => out.push(' '),
         Punctuation::Pretty => out.push_str(", "),
     }
 }
 
 // Appends what stands between a field's name and its value.
 #[inline(always)]
+#[tactic(auto, unfolding(crate::specs::Styles::styled))]
 fn push_mark(
     out: &mut String,
     settings: Settings,
@@ -50,7 +51,12 @@ fn push_mark(
     ensures { OnOk result (string_bytes out.new ≡ string_bytes out.old ++ dimmed settings (mark punctuation)) }
 {
     match punctuation {
-        Punctuation::Default => push_dimmed(out, settings, "="),
+        Punctuation::Default => {
+            if settings.styles {
+                return push_dimmed(out, settings, "=");
+            }
+            out.push('=')
+        }
         Punctuation::Pretty => push_dimmed(out, settings, ": "),
     }
 }

@@ -1,11 +1,10 @@
 use Rattle.std.proofs.Common.{ℕ, List, Option, ap, subst, sym, ◌∙◌, string_bytes}
 use Rattle.tracing_core_requests.specs.PlainRequests.{plain_event}
 use Rattle.event_formatter_text.specs.Lists.{Formats}
-use Rattle.event_formatter_lines.specs.Compact.{compact_line}
 use Rattle.event_formatter_lines.specs.Heads.{plain_head}
 use Rattle.event_formatter_lines.specs.Json.{json_line}
 use Rattle.event_formatter_lines.specs.Shown.{PlainShown}
-use Rattle.event_formatter_formats.specs.Contexts.{plain_context, spans_in}
+use Rattle.event_formatter_formats.specs.Contexts.{plain_context}
 use Rattle.event_formatter_formats.specs.Lines.{line_behind}
 use Rattle.event_formatter_formats.specs.declared.line_format.LineFormat.{LineFormat}
 use Rattle.event_formatter_formats.proofs.line.push_line.Goals as goal

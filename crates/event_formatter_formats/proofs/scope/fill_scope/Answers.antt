@@ -2,7 +2,7 @@ use Rattle.std.proofs.Common.{◌<◌, ℕ, true, false, subst}
 use Rattle.tracing_core_requests.specs.PlainRequests.{plain_event}
 use Rattle.span_registry_layers_store.specs.References.{plain_ref}
 use Rattle.span_registry_layers_layers.specs.Looks.{view}
-use Rattle.event_formatter_formats.proofs.Scopes.{fills_loose, fills_strict, has_none, has_number, shows}
+use Rattle.event_formatter_formats.proofs.Scopes.{event_seen, fills_loose, fills_strict, has_none, has_number, shows}
 use Rattle.event_formatter_formats.proofs.scope.fill_scope.Goals as goal
 
 pub returns-in_ok-fill_from-in-Some-clause-spans : goal.returns-in_ok-fill_from-in-Some-clause-spans
@@ -34,3 +34,7 @@ returns-in_ok-fill_from_lane-in-None-clause-shown c =
 pub returns-in_ok-fill_from_lane-in-None-clause-number : goal.returns-in_ok-fill_from_lane-in-None-clause-number
 returns-in_ok-fill_from_lane-in-None-clause-number c =
     has_none (view c.args.context.now) (plain_event c.args.event.now).parent c.in-None.ensures
+
+pub fill_from-requires-clause-seen : goal.fill_from-requires-clause-seen
+fill_from-requires-clause-seen c =
+    event_seen (view c.args.context.now) (plain_event c.args.event.now).parent (plain_ref c.in-Some.span) c.in-Some.ensures
