@@ -41,6 +41,12 @@ one_text key text is_first old begun new b n =
     let rest : List ℕ = escaped json_char text ++ codes "\"" in
     rw (sym (append_assoc key (codes "\"") rest)) (one (key ++ codes "\"") rest is_first old begun new b n)
 
+-- the brace, the key and the quote that begin an object with a text, and then the text
+pub begun_with_text : (key text : List ℕ) (old begun new : List ℕ) → begun ≡ old ++ (codes "{" ++ (key ++ codes "\"")) → new ≡ begun ++ (escaped json_char text ++ codes "\"") →
+    Extends ((key ++ json_string text) ∷ []) true (old ++ codes "{") false new
+begun_with_text key text old begun new b n =
+    one_text key text true (old ++ codes "{") begun new (b ∙ sym (append_assoc old (codes "{") (key ++ codes "\""))) n
+
 still_chained : (xs ys : List (List ℕ)) (f : Bool) → is_still_first (is_still_first f xs) ys ≡ is_still_first f (xs ++ ys)
 still_chained [] ys f = refl
 still_chained (x ∷ xs) [] f = refl

@@ -3,7 +3,7 @@ use Rattle.std.specs.Prelude.{ℕ, List, codes}
 use Rattle.event_formatter_lines.specs.declared.json.key.Key.{Key}
 use Rattle.event_formatter_lines.specs.declared.json.key.Key.TheVariants.{Level, LineNumber, Span}
 use Rattle.event_formatter_lines.specs.declared.json.key.TextKey.{TextKey}
-use Rattle.event_formatter_lines.specs.declared.json.key.TextKey.TheVariants.{Timestamp, Target, Filename, ThreadName, ThreadId, Name, Field}
+use Rattle.event_formatter_lines.specs.declared.json.key.TextKey.TheVariants.{Target, Filename, ThreadName, ThreadId, Name, Field}
 
 -- of a value that is no text
 abbrev pub key_name : Key → List ℕ
@@ -13,7 +13,6 @@ key_name Span = codes "span"
 
 -- of a text
 abbrev pub text_key_name : TextKey → List ℕ
-text_key_name Timestamp = codes "timestamp"
 text_key_name Target = codes "target"
 text_key_name Filename = codes "filename"
 text_key_name ThreadName = codes "threadName"

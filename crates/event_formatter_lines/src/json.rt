@@ -13,7 +13,7 @@ ghost use Rattle.event_formatter_lines.specs.Json.{field_members, json_line, key
 use crate::head::Head;
 use crate::shown::ShownSpans;
 use event_formatter_text::{FormatError, RecordFields, push_json_members};
-use members::{push_first_members, push_place_members, push_thread_members};
+use members::{begin_with_first_members, push_place_members, push_thread_members};
 use spans::push_span_members;
 use std::alloc::AllocError;
 
@@ -119,8 +119,7 @@ pub fn push_json_line<S: ShownSpans, R: RecordFields>(
     ensures { Formats (json_line shape (plain_head head.now) (S.spans loose.now) (R.values fields.now))
         (string_bytes out.old) result (string_bytes out.new) }
 {
-    out.push('{')?;
-    let is_first = push_first_members(out, head)?;
+    let is_first = begin_with_first_members(out, head)?;
     let is_first = push_field_members(out, is_first, shape.flatten_event, fields)?;
     push_last_members(out, is_first, shape, head, loose)?;
     end_line(out)?;

@@ -14,7 +14,6 @@ pub(super) enum Key {
 /// A key of a line, or of a span in it, whose value is a text.
 #[derive(Clone, Copy, PartialEq, Eq)]
 pub(super) enum TextKey {
-    Timestamp,
     Target,
     Filename,
     ThreadName,
@@ -59,7 +58,6 @@ impl TextKey {
         ensures { result.now ≡ key_text (text_key_name self) ++ codes "\"" }
     {
         match self {
-            TextKey::Timestamp => "\"timestamp\":\"",
             TextKey::Target => "\"target\":\"",
             TextKey::Filename => "\"filename\":\"",
             TextKey::ThreadName => "\"threadName\":\"",
@@ -76,7 +74,6 @@ impl TextKey {
         ensures { result.now ≡ codes "," ++ (key_text (text_key_name self) ++ codes "\"") }
     {
         match self {
-            TextKey::Timestamp => ",\"timestamp\":\"",
             TextKey::Target => ",\"target\":\"",
             TextKey::Filename => ",\"filename\":\"",
             TextKey::ThreadName => ",\"threadName\":\"",

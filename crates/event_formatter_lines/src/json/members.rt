@@ -131,13 +131,32 @@ fn push_level(out: &mut String, is_first: bool, level: Option<Level>) -> Result<
     Ok(false)
 }
 
-/// Appends the members before the fields: time and level.
-#[tactic(auto, using(crate::proofs::Members::chained))]
-pub(super) fn push_first_members(out: &mut String, head: &Head<'_>) -> Result<bool, AllocError>
-    ensures { IfOk result (λ is_still. Extends (first_members (plain_head head.now)) true
-        (string_bytes out.old) is_still (string_bytes out.new)) }
+// Begins an object, with the time as a member where there is one. The brace and the time's key are one text.
+#[inline(always)]
+#[tactic(auto, using(crate::proofs::Members::nothing))]
+fn begin_with_time(out: &mut String, time: Option<&str>) -> Result<bool, AllocError>
+    ensures { IfOk result (λ is_still. Extends (text_member (codes "timestamp") (option_map (λ text. text.now) time.entry)) true
+        (string_bytes out.old ++ codes "{") is_still (string_bytes out.new)) }
 {
-    let is_first = push_text_member(out, true, TextKey::Timestamp, head.time)?;
+    let Some(time) = time else {
+        out.push('{')?;
+        return Ok(true);
+    };
+    out.push_str("{\"timestamp\":\"")?;
+    push_json_rest(out, time)?;
+    Ok(false)
+}
+
+/// Begins the object of a line, with the members before the fields: time and level.
+#[tactic(auto, using(crate::proofs::Members::chained))]
+pub(super) fn begin_with_first_members(
+    out: &mut String,
+    head: &Head<'_>,
+) -> Result<bool, AllocError>
+    ensures { IfOk result (λ is_still. Extends (first_members (plain_head head.now)) true
+        (string_bytes out.old ++ codes "{") is_still (string_bytes out.new)) }
+{
+    let is_first = begin_with_time(out, head.time)?;
     let is_first = push_level(out, is_first, head.level)?;
     Ok(is_first)
 }
