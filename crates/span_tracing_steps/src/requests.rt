@@ -4,7 +4,7 @@ ghost use Rattle.tracing_core_hub.specs.Indexed.{plain_parent};
 ghost use Rattle.tracing_core_requests.specs.PlainRequests.{explicit_parent};
 ghost use Rattle.tracing_core_requests.specs.declared.refusal.RequestError.{RequestError};
 ghost use Rattle.span_tracing_skeleton.specs.Machine.{told_parent};
-ghost use Rattle.span_tracing_skeleton.specs.declared.call.Reply.TheVariants.{Done};
+ghost use Rattle.span_tracing_skeleton.specs.declared.call.Reply.TheVariants.{Done, Refused};
 ghost use Rattle.span_tracing_skeleton.specs.PlainData.{EnabledStep, EventStep, SpanStep};
 ghost use Rattle.span_tracing_steps.specs.Actions.{plain_request};
 ghost use Rattle.span_tracing_steps.specs.Finding.{FoundFor, StaysAt};
@@ -50,6 +50,16 @@ fn names_none(parent: Parent) -> bool
         Parent::Contextual | Parent::Root => true,
         Parent::Explicit(_) => false,
     }
+}
+
+// The answer of a refusal. Out of line: put together beside the answer of an event that is told, it makes each event copy
+// the unused bytes of its answer.
+#[cold]
+#[inline(never)]
+fn refused(refusal: Refusal) -> Reply
+    ensures { result ≡ Refused refusal }
+{
+    Reply::Refused(refusal)
 }
 
 // The name of the span that was made.
@@ -128,7 +138,7 @@ impl<T: Subscriber + HasRegistry> TraceParts<T> {
             (plain_request event.now)) result (value_in self.new) }
     {
         match self.find_for(event, false) {
-            Err(refusal) => Reply::Refused(refusal),
+            Err(refusal) => refused(refusal),
             Ok(index) => {
                 self.tell(index, event);
                 Reply::Done
