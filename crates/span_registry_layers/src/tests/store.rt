@@ -59,6 +59,8 @@ fn surface_spans(rt: HostRuntime) -> Result<(), Fail> {
     let mut scope = span.scope();
     let first = scope.next().ok_or("a span")?;
     assert!(rt; first.id() == inner);
+    let above = span.ancestors().next().ok_or("a span")?;
+    assert!(rt; above.id() == outer);
     let mut back = span.scope().from_root(rt.alloc())?;
     let root = back.next().ok_or("a span")?;
     assert!(rt; root.id() == outer);
