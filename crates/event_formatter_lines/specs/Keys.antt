@@ -1,4 +1,4 @@
--- The keys that a line names itself.
+-- Keys that a line names itself.
 use Rattle.std.specs.Prelude.{ℕ, List, codes}
 use Rattle.event_formatter_lines.specs.declared.json.key.Key.{Key}
 use Rattle.event_formatter_lines.specs.declared.json.key.Key.TheVariants.{Level, LineNumber, Span}

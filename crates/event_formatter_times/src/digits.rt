@@ -35,8 +35,8 @@ pub(crate) fn push_three(out: &mut String, number: u32) -> Result<(), AllocError
     push_two(out, number % 100)
 }
 
-/// Appends a number below 1,000,000 in six digits: those behind the first of one that is a million greater. They are one text of a length
-/// that the compiler knows.
+/// Appends a number below 1,000,000 in six digits. A million is added, and the digits behind the first are taken: so they are one text,
+/// whose length the compiler knows.
 #[inline(always)]
 pub(crate) fn push_six(out: &mut String, number: u32) -> Result<(), AllocError>
     requires { number < 1000000 }

@@ -29,7 +29,7 @@ pub(crate) fn ask_event<L: Layer, F: Filter>(
     ensures asked { EachBecomes (AsksEvent ⟦<F as Filter>⟧ (plain_event event.now) at registry.old) rows.old rows.new }
     ensures same { registry.new ≡ registry.old }
 {
-    // Most stacks have one output, which needs no loop.
+    // A lone output needs no loop.
     if let [only] = rows {
         only.ask_event(event, registry, at);
         return;

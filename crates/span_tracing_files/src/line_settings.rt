@@ -30,9 +30,9 @@ pub struct LineSettings {
     pub level: bool,
     /// Whether the target is shown.
     pub target: bool,
-    /// Whether the name of the thread is shown. [`open_stack_with_threads`](crate::open_stack_with_threads) tells lines the threads of lanes.
+    /// Whether the name of the thread is shown, where [`open_stack_with_threads`](crate::open_stack_with_threads) was told it.
     pub thread_names: bool,
-    /// Whether the number of the thread is shown, or of a thread that wasn't told the lane's.
+    /// Whether the number of the thread is shown or, of a lane whose thread wasn't told, the lane's.
     pub thread_ids: bool,
     /// Whether the source file is shown.
     pub file: bool,

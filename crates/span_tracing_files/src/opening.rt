@@ -217,7 +217,8 @@ fn rows_are_told<N: FormatFields + Drop, E: FormatEvent, F: Filter>()
     ensures { RowsAreTold ⟦<F as Filter>⟧ ⟦<Layer<N, E, PendingLines> as span_registry_layers_layers::Layer>⟧ }
 {}
 
-/// A stack of the outputs, whose lines know no thread. At the moment the files of all sinks are opened, outputs and sinks in order, after retention.
+/// A stack of the outputs, whose lines know no thread. At the moment the files of all sinks are opened, outputs and sinks in order,
+/// after retention.
 ///
 /// # Errors
 ///
@@ -244,8 +245,9 @@ pub fn open_stack<F: Filter, D: Folder>(
     open_stack_with_threads(alloc, &[], outputs, moment)
 }
 
-/// The same as [`open_stack`], where lines show these threads of lanes: lane 0 stands for the first, and so on. `Trace::thread` adds the
-/// lanes to the trace, in the same order. Of a lane without a thread here, lines show the lane's number.
+/// The same as [`open_stack`], where lines that show threads show these: lane 0 stands for the first, and so on. Of a lane without a
+/// thread here they show the lane's number. The caller adds the lanes to the trace by `Trace::thread`, in the same order; nothing looks
+/// whether the two agree.
 ///
 /// # Errors
 ///

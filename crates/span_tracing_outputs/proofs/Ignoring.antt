@@ -1,5 +1,5 @@
 -- A stack with sinks that is at rest stays where its stack ignores an event.
-use Rattle.std.proofs.Common.{◌≡◌, ℕ, Bool, true, false, List, [], ◌∷◌, length, Option, Some, None, refl, ap, sym, ◌∙◌, subst, arith}
+use Rattle.std.proofs.Common.{◌≡◌, ℕ, Bool, true, List, [], ◌∷◌, length, Option, None, refl, ap, sym, ◌∙◌, subst, arith}
 use Rattle.std.specs.Prelude.{◌||◌, Ok}
 use Rattle.std.specs.List.{list_any}
 use Rattle.tracing_core_requests.specs.Calls.{EventDispatched}
@@ -9,8 +9,8 @@ use Rattle.span_registry_layers_store.specs.Registries.{knows}
 use Rattle.span_registry_layers_layers.specs.declared.filter.Filter.{Ghosts as FilterGhosts}
 use Rattle.span_registry_layers_layers.specs.declared.layer.Layer.{Ghosts as LayerGhosts}
 use Rattle.span_registry_layers_stack.specs.Sites.{is_refused_by}
-use Rattle.span_registry_layers_stack.specs.Stacks.{EventCached, EventUnless, WhereKnown, TellsUnless, cleared as unmarked, is_above}
-use Rattle.span_tracing_outputs.specs.Hands.{HandsOver, NoLines, TakesEach, cleared_row}
+use Rattle.span_registry_layers_stack.specs.Stacks.{EventCached, WhereKnown, TellsUnless, cleared as unmarked, is_above}
+use Rattle.span_tracing_outputs.specs.Hands.{NoLines, TakesEach}
 use Rattle.span_tracing_outputs.specs.Outs.{PlainLine}
 use Rattle.span_tracing_outputs.specs.StackFollows.{LinedStack}
 use Rattle.span_tracing_outputs.specs.TraceStacks.{IsAtRest, TraceMoves, TraceStackValue}

@@ -1,4 +1,4 @@
-//! A stack with sinks lets its spans be read.
+//! A stack with sinks lets its spans be read, and tells which levels it ignores.
 
 use crate::sink::LineSink;
 use crate::trace_stack::TraceStack;

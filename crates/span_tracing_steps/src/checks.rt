@@ -3,7 +3,7 @@ ghost use Rattle.std.specs.Prelude.{◌≡◌, if◌then◌else◌, not, Some, N
 ghost use Rattle.std.specs.Option.{option_copied, option_map};
 ghost use Rattle.span_registry_layers_store.specs.Registries.{PlainSpan, kin_in};
 ghost use Rattle.span_registry_layers_store.specs.Spans.{found};
-ghost use Rattle.span_tracing_skeleton.specs.Machine.{call_refusal, callsite_of, count_refusal, enabled_refusal, first, follows_refusal, handle_refusal, handles_in, has_open, ids_refusal, if_kind, known, knows_stack, lane_refusal, moment_refusal, named, open_refusal, pair_refusal, parent_refusal, request_refusal, span_refusal, stack_refusal, when};
+ghost use Rattle.span_tracing_skeleton.specs.Machine.{call_refusal, callsite_of, count_refusal, enabled_refusal, first, follows_refusal, handle_refusal, handles_in, has_open, ids_refusal, if_kind, known, knows_stack, lane_refusal, moment_refusal, named, open_refusal, pair_refusal, parent_refusal, span_refusal, stack_refusal, when};
 ghost use Rattle.span_tracing_skeleton.specs.declared.refusal.Refusal.TheVariants.{GlobalSet, UnknownStack};
 ghost use Rattle.span_tracing_skeleton.specs.PlainData.{on_span};
 ghost use Rattle.span_tracing_steps.specs.Actions.{plain_record};
@@ -159,7 +159,7 @@ impl<T: Subscriber + HasRegistry> TraceParts<T> {
         None
     }
 
-    /// Where the callsite of an event or a new span stands, of this kind, or why none is made.
+    /// Where the callsite of a request stands, which has to be of this kind, or the first refusal.
     #[inline(always)]
     pub(crate) fn find_for(
         &self,

@@ -52,8 +52,8 @@ fn names_none(parent: Parent) -> bool
     }
 }
 
-// The answer of a refusal. Out of line: put together beside the answer of an event that is told, it makes each event copy
-// the unused bytes of its answer.
+// The answer of a refusal. It stands apart: put together beside the answer of an event that is told, it would make each event
+// copy unused bytes.
 #[cold]
 #[inline(never)]
 fn refused(refusal: Refusal) -> Reply

@@ -1,4 +1,4 @@
-//! The keys that a line names itself.
+//! Keys that a line names itself. Others stand in one text with what is behind them.
 ghost use Rattle.std.specs.Prelude.{◌≡◌, ◌++◌, codes};
 ghost use Rattle.event_formatter_lines.specs.Json.{key_text};
 ghost use Rattle.event_formatter_lines.specs.Keys.{key_name, text_key_name};

@@ -62,7 +62,7 @@ impl<O> Stack<O> {
     }
 
     /// Whether it is sure that what is kept refuses every callsite of this level, and that the last request left no
-    /// output marked. An event at such a callsite that names no parent then leaves the stack as it is.
+    /// output marked. By what `event` promises, an event at such a callsite that names no parent then leaves the stack as it is.
     pub fn ignores(&self, level: Level) -> bool
         ensures { IsTrue result → (is_above self.now.hint level ≡ true) × (cleared self.now ≡ self.now) }
     {

@@ -1,4 +1,3 @@
-use Rattle.std.proofs.Common.{◌≡◌, ap, sym, ◌∙◌}
 use Rattle.event_formatter_layer.specs.contracts.told.LayerLayer.TheImpl.{ghosts, no_dict}
 use Rattle.span_tracing_outputs.specs.contracts.pending.PendingLines.{the_row as pending_row}
 use Rattle.span_tracing_outputs.specs.contracts.pending.PendingLinesMakeWriter.TheImpl.{ghosts as writer_ghosts}
