@@ -1,11 +1,11 @@
 -- The machine on skeletons: which step is refused, what it answers, and what it leaves.
-use Rattle.std.specs.Prelude.{ℕ, List, [], ◌∷◌, Bool, true, false, not, ◌&&◌, ◌==◌, nat_lt, nat_le, if◌then◌else◌, Option, Some, None, option_and_then}
+use Rattle.std.specs.Prelude.{ℕ, List, [], ◌∷◌, length, get_or, set, Bool, true, false, not, ◌==◌, nat_lt, nat_le, if◌then◌else◌, Option, Some, None, is_some, option_and_then}
 use Rattle.tracing_core_fields.specs.PlainMetadata.{PlainMetadata}
 use Rattle.tracing_core_requests.specs.declared.requests.parent.Parent as core
 use Rattle.tracing_core_requests.specs.declared.requests.parent.Parent.TheVariants as core_parents
 use Rattle.tracing_appender_folders.specs.declared.moment.Moment.{Moment}
 use Rattle.tracing_appender_folders.specs.Moments.{is_moment}
-use Rattle.span_registry_layers_store.specs.Registries.{PlainSpan, RegistryValue, kin_in, swept, under, with_entry, with_handle, with_span, without_entry, without_handle}
+use Rattle.span_registry_layers_store.specs.Registries.{PlainSpan, RegistryValue, kin_in, new_registry, swept, under, with_entry, with_handle, with_span, without_entry, without_handle}
 use Rattle.span_registry_layers_store.specs.Spans.{found, handles_of, is_open}
 use Rattle.span_tracing_skeleton.specs.PlainData.{PlainStep, Request, on_span, GlobalStep, EventStep, EnabledStep, SpanStep, RecordStep, FollowsFromStep, EnterStep, ExitStep, CloneStep, CloseStep}
 use Rattle.span_tracing_skeleton.specs.declared.call.SpanName.{SpanName}
@@ -55,15 +55,36 @@ abbrev pub callsite_refusal : Option PlainMetadata → Option Refusal
 callsite_refusal None = Some UnknownCallsite
 callsite_refusal (Some m) = None
 
--- the number of a stack that was given: there is one at most
+-- whether a stack was given under the number
 abbrev pub knows_stack : Skeleton → ℕ → Bool
-knows_stack s stack = s.has_stack && (stack == 0)
+knows_stack s stack = nat_lt stack (length s.stacks)
 
-abbrev pub has_open : Skeleton → ℕ → Bool
-has_open s id = is_open kin_in s.registry.spans id
+-- the registry of the stack with a number; where there is none, what a new one would have
+abbrev pub registry_at : Skeleton → ℕ → RegistryValue
+registry_at s stack = get_or s.stacks stack new_registry
 
-abbrev pub handles_in : Skeleton → ℕ → ℕ
-handles_in s id = handles_of kin_in s.registry.spans id
+-- with this as the registry of the stack
+abbrev pub with_registry : Skeleton → ℕ → RegistryValue → Skeleton
+with_registry s stack registry = record s { stacks = set s.stacks stack registry }
+
+-- whether the default is the stack with a number
+abbrev pub leads_to : Option ℕ → ℕ → Bool
+leads_to None stack = false
+leads_to (Some reached) stack = stack == reached
+
+-- the registry of the stack that lanes reach; where they reach none, what a new one would have
+abbrev pub reached_by : Skeleton → Option ℕ → RegistryValue
+reached_by s None = new_registry
+reached_by s (Some stack) = registry_at s stack
+
+abbrev pub reached : Skeleton → RegistryValue
+reached s = reached_by s s.default
+
+abbrev pub has_open : Skeleton → SpanName → Bool
+has_open s name = is_open kin_in (registry_at s name.stack).spans name.id
+
+abbrev pub handles_in : Skeleton → SpanName → ℕ
+handles_in s name = handles_of kin_in (registry_at s name.stack).spans name.id
 
 -- a parent stands in the reached stack and is open
 abbrev pub parent_refusal : Skeleton → Parent → Option Refusal
@@ -71,8 +92,8 @@ parent_refusal s Contextual = None
 parent_refusal s Root = None
 parent_refusal s (Explicit name) =
     first (when (not (knows_stack s name.stack)) UnknownStack)
-    (first (when (not s.is_global) ForeignParent)
-    (when (not (has_open s name.id)) UnknownSpan))
+    (first (when (not (leads_to s.default name.stack)) ForeignParent)
+    (when (not (has_open s name)) UnknownSpan))
 
 abbrev pub request_refusal : Skeleton → ℕ → Moment → ℕ → Bool → Parent → Option Refusal
 request_refusal s lane moment number is_span parent =
@@ -93,26 +114,33 @@ abbrev pub span_refusal : Skeleton → Option SpanName → Option Refusal
 span_refusal s None = None
 span_refusal s (Some name) =
     first (when (not (knows_stack s name.stack)) UnknownStack)
-    (when (not (has_open s name.id)) UnknownSpan)
+    (when (not (has_open s name)) UnknownSpan)
 
 abbrev pub call_refusal : Skeleton → SpanCall → Option Refusal
 call_refusal s call = first (lane_refusal s call.lane) (first (moment_refusal call.moment) (span_refusal s call.span))
 
--- the stacks of both spans are looked at first, then whether these are open; with one stack none of them is foreign
+-- the stacks of both spans are looked at first, then whether they are one stack, then whether the spans are open
 abbrev pub stack_refusal : Skeleton → Option SpanName → Option Refusal
 stack_refusal s None = None
 stack_refusal s (Some name) = when (not (knows_stack s name.stack)) UnknownStack
 
 abbrev pub open_refusal : Skeleton → Option SpanName → Option Refusal
 open_refusal s None = None
-open_refusal s (Some name) = when (not (has_open s name.id)) UnknownSpan
+open_refusal s (Some name) = when (not (has_open s name)) UnknownSpan
+
+-- a span follows spans of its own stack
+abbrev pub foreign_refusal : Option SpanName → Option SpanName → Option Refusal
+foreign_refusal None follows = None
+foreign_refusal (Some name) None = None
+foreign_refusal (Some name) (Some followed) = when (not (followed.stack == name.stack)) ForeignParent
 
 abbrev pub pair_refusal : Skeleton → Option SpanName → Option SpanName → Option Refusal
 pair_refusal s span follows =
     first (stack_refusal s span)
     (first (stack_refusal s follows)
+    (first (foreign_refusal span follows)
     (first (open_refusal s span)
-    (open_refusal s follows)))
+    (open_refusal s follows))))
 
 abbrev pub follows_refusal : Skeleton → FollowsCall → Option Refusal
 follows_refusal s call = first (lane_refusal s call.lane) (first (moment_refusal call.moment) (pair_refusal s call.span call.follows))
@@ -120,19 +148,19 @@ follows_refusal s call = first (lane_refusal s call.lane) (first (moment_refusal
 -- a span's handles are counted up to the greatest number
 abbrev pub count_refusal : Skeleton → Option SpanName → Option Refusal
 count_refusal s None = None
-count_refusal s (Some name) = when (handles_in s name.id == 18446744073709551615) TooManyHandles
+count_refusal s (Some name) = when (handles_in s name == 18446744073709551615) TooManyHandles
 
 abbrev pub handle_refusal : Skeleton → Option SpanName → Option Refusal
 handle_refusal s None = None
-handle_refusal s (Some name) = when (handles_in s name.id == 0) UnknownSpan
+handle_refusal s (Some name) = when (handles_in s name == 0) UnknownSpan
 
 -- ids are given up to 2^64 - 1, to spans of the reached stack
 abbrev pub ids_refusal : Skeleton → Option Refusal
-ids_refusal s = when (s.is_global && nat_lt 18446744073709551615 s.registry.next_id) IdsSpent
+ids_refusal s = when (nat_lt 18446744073709551615 (reached s).next_id) IdsSpent
 
 -- the first refusal that a step meets. It is found before a filter is asked
 abbrev pub refusal_of : Skeleton → PlainStep → Option Refusal
-refusal_of s (GlobalStep handle) = first (when (not (knows_stack s handle)) UnknownStack) (when s.is_global GlobalSet)
+refusal_of s (GlobalStep handle) = first (when (not (knows_stack s handle)) UnknownStack) (when (is_some s.default) GlobalSet)
 refusal_of s (EventStep e) = request_refusal s e.lane e.moment e.callsite false e.parent
 refusal_of s (EnabledStep call) = enabled_refusal s call
 refusal_of s (SpanStep n) = first (request_refusal s n.lane n.moment n.callsite true n.parent) (ids_refusal s)
@@ -153,10 +181,18 @@ told_parent (Explicit name) = core_parents.Explicit name.id
 abbrev pub parent_id : RegistryValue → ℕ → Parent → Option ℕ
 parent_id x lane parent = under x lane (told_parent parent)
 
--- with a span at a callsite, which these filters passed
+-- with a span of the stack at a callsite, which these filters passed
+abbrev pub with_made_at : Skeleton → ℕ → Request → PlainMetadata → List Bool → Skeleton
+with_made_at s stack n m passed = with_registry s stack (with_span (registry_at s stack) m (parent_id (registry_at s stack) n.lane n.parent) passed)
+
+-- of the stack that lanes reach
+abbrev pub with_made_by : Option ℕ → Skeleton → Request → Option PlainMetadata → List Bool → Skeleton
+with_made_by None s n callsite passed = s
+with_made_by (Some stack) s n None passed = s
+with_made_by (Some stack) s n (Some m) passed = with_made_at s stack n m passed
+
 abbrev pub with_made : Skeleton → Request → Option PlainMetadata → List Bool → Skeleton
-with_made s n None passed = s
-with_made s n (Some m) passed = record s { registry = with_span s.registry m (parent_id s.registry n.lane n.parent) passed }
+with_made s n callsite passed = with_made_by s.default s n callsite passed
 
 -- with a new span, where some filter passed it
 abbrev pub made_by : Skeleton → Request → Answers → Skeleton
@@ -167,31 +203,31 @@ made_by s n (Passed passed) = with_made s n (known s n.callsite true) passed
 made_by s n (Heard passed told) = s
 
 -- the callsite of an open span
-abbrev pub callsite_of : Skeleton → ℕ → Option PlainMetadata
-callsite_of s id = option_and_then (λ (x : PlainSpan). named s.callsites x.metadata.callsite) (found kin_in s.registry.spans id)
+abbrev pub callsite_of : Skeleton → SpanName → Option PlainMetadata
+callsite_of s name = option_and_then (λ (x : PlainSpan). named s.callsites x.metadata.callsite) (found kin_in (registry_at s name.stack).spans name.id)
 
 abbrev pub cloned : Skeleton → Option SpanName → Skeleton
 cloned s None = s
-cloned s (Some name) = record s { registry = with_handle s.registry name.id }
+cloned s (Some name) = with_registry s name.stack (with_handle (registry_at s name.stack) name.id)
 
 -- with an entry; an entered span is open
 abbrev pub entered : Skeleton → ℕ → Option SpanName → Skeleton
 entered s lane None = s
-entered s lane (Some name) = record s { registry = with_entry s.registry lane name.id }
+entered s lane (Some name) = with_registry s name.stack (with_entry (registry_at s name.stack) lane name.id)
 
 -- without an entry, and without the spans that close
 abbrev pub left : Skeleton → ℕ → Option SpanName → Skeleton
 left s lane None = s
-left s lane (Some name) = record s { registry = swept (without_entry s.registry lane name.id) }
+left s lane (Some name) = with_registry s name.stack (swept (without_entry (registry_at s name.stack) lane name.id))
 
 -- without a handle, and without the spans that close
 abbrev pub given_up : Skeleton → Option SpanName → Skeleton
 given_up s None = s
-given_up s (Some name) = record s { registry = swept (without_handle s.registry name.id) }
+given_up s (Some name) = with_registry s name.stack (swept (without_handle (registry_at s name.stack) name.id))
 
 -- what a step that is not refused leaves
 abbrev pub acted : Skeleton → PlainStep → Answers → Skeleton
-acted s (GlobalStep handle) a = record s { is_global = true }
+acted s (GlobalStep handle) a = record s { default = Some handle }
 acted s (EventStep e) a = s
 acted s (EnabledStep call) a = s
 acted s (SpanStep n) a = made_by s n a
@@ -209,17 +245,22 @@ is_wanted Dropped = false
 is_wanted (Passed passed) = false
 is_wanted (Heard passed told) = false
 
+-- the name of the span that the reached stack makes next
+abbrev pub next_name : Skeleton → Option ℕ → Option SpanName
+next_name s None = None
+next_name s (Some stack) = Some (record { stack = stack; id = (registry_at s stack).next_id })
+
 abbrev pub new_name : Skeleton → Answers → Option SpanName
 new_name s Unasked = None
 new_name s (Wanted b) = None
 new_name s Dropped = None
-new_name s (Passed passed) = Some (record { stack = 0; id = s.registry.next_id })
+new_name s (Passed passed) = next_name s s.default
 new_name s (Heard passed told) = None
 
 -- whether the span of a call closed
 abbrev pub is_closed : Skeleton → Option SpanName → Bool
 is_closed s None = false
-is_closed s (Some name) = not (has_open (given_up s (Some name)) name.id)
+is_closed s (Some name) = not (has_open (given_up s (Some name)) name)
 
 -- what a step that is not refused answers
 abbrev pub answered : Skeleton → PlainStep → Answers → Reply

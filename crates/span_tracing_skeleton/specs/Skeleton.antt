@@ -1,19 +1,18 @@
 -- What decides replies: callsites, lanes and the registry of spans, without texts, values, filters and files.
-use Rattle.std.specs.Prelude.{ℕ, List, [], Bool, false}
+use Rattle.std.specs.Prelude.{ℕ, List, [], Bool, Option, None}
 use Rattle.tracing_core_fields.specs.PlainMetadata.{PlainMetadata}
-use Rattle.span_registry_layers_store.specs.Registries.{RegistryValue, new_registry}
+use Rattle.span_registry_layers_store.specs.Registries.{RegistryValue}
 
 -- callsites in order of registering, each with its identifier as the callsite of its fields; how many lanes were given; the
--- registry of spans, without slots; whether there is a stack, and whether it is the global default
+-- registry of each stack's spans, without slots, by the stack's number; and the number of the stack that is the global default
 pub record Skeleton : Type 0 where
   pub callsites : List PlainMetadata
   pub lanes : ℕ
-  pub registry : RegistryValue
-  pub has_stack : Bool
-  pub is_global : Bool
+  pub stacks : List RegistryValue
+  pub default : Option ℕ
 
 abbrev pub new_skeleton : Skeleton
-new_skeleton = record { callsites = []; lanes = 0; registry = new_registry; has_stack = false; is_global = false }
+new_skeleton = record { callsites = []; lanes = 0; stacks = []; default = None }
 
 -- what the filters of the reached stack answered of a step
 pub data Answers : Type 0 where

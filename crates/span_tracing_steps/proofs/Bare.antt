@@ -1,12 +1,13 @@
 -- A registry without slots has the same spans.
-use Rattle.std.proofs.Common.{◌≡◌, ℕ, suc, Bool, true, false, ◌==◌, List, [], ◌∷◌, ◌++◌, length, map, Option, Some, None, refl, ap, ◌∙◌}
-use Rattle.std.specs.Prelude.{if◌then◌else◌, ◌||◌, option_and_then}
+use Rattle.std.proofs.Common.{◌≡◌, ℕ, suc, Bool, true, false, ◌==◌, List, [], ◌∷◌, ◌++◌, length, map, Option, Some, None, refl, sym, ap, ◌∙◌, arith}
+use Rattle.std.specs.Prelude.{if◌then◌else◌, ◌||◌, ◌&&◌, get_or, is_some, nat_lt, option_and_then, zero}
 use Rattle.std.specs.Option.{option_map}
+use Rattle.std.proofs.lemmas.Bool.Decides.{nat_tests}
 use Rattle.tracing_core_fields.specs.PlainMetadata.{PlainMetadata}
-use Rattle.span_registry_layers_store.specs.Aside.{bare_span}
-use Rattle.span_registry_layers_store.specs.Registries.{PlainSpan, RegistryValue, kin_in}
+use Rattle.span_registry_layers_store.specs.Aside.{bare, bare_span}
+use Rattle.span_registry_layers_store.specs.Registries.{PlainSpan, RegistryValue, kin_in, new_registry}
 use Rattle.span_registry_layers_store.specs.Spans.{found, handles_of, is_open}
-use Rattle.span_tracing_steps.specs.States.{registry_in}
+use Rattle.span_tracing_steps.specs.States.{registries_in, registry_in}
 
 pub length_map : {A B : Type 0} (f : A → B) (xs : List A) → length (map f xs) ≡ length xs
 length_map f [] = refl
@@ -31,19 +32,39 @@ handles_of_one (Some s) = refl
 pub handles_bare : (ss : List PlainSpan) (id : ℕ) → handles_of kin_in (map bare_span ss) id ≡ handles_of kin_in ss id
 handles_bare ss id = ap (Rattle.span_registry_layers_store.specs.Spans.handles_in kin_in) (found_bare ss id) ∙ handles_of_one (found kin_in ss id)
 
-callsite_of_one : (f : ℕ → Option PlainMetadata) (o : Option PlainSpan) → option_and_then (λ (x : PlainSpan). f x.metadata.callsite) (option_map bare_span o) ≡ option_and_then f (option_map (λ (s : PlainSpan). s.metadata.callsite) o)
-callsite_of_one f None = refl
-callsite_of_one f (Some s) = refl
+-- the number of an open span's callsite
+number_of_one : (o : Option PlainSpan) → option_map (λ (s : PlainSpan). s.metadata.callsite) (option_map bare_span o) ≡ option_map (λ (s : PlainSpan). s.metadata.callsite) o
+number_of_one None = refl
+number_of_one (Some s) = refl
 
-pub callsite_bare : (f : ℕ → Option PlainMetadata) (ss : List PlainSpan) (id : ℕ) → option_and_then (λ (x : PlainSpan). f x.metadata.callsite) (found kin_in (map bare_span ss) id) ≡ option_and_then f (option_map (λ (s : PlainSpan). s.metadata.callsite) (found kin_in ss id))
-callsite_bare f ss id = ap (option_and_then (λ (x : PlainSpan). f x.metadata.callsite)) (found_bare ss id) ∙ callsite_of_one f (found kin_in ss id)
+pub number_bare : (ss : List PlainSpan) (id : ℕ) → option_map (λ (s : PlainSpan). s.metadata.callsite) (found kin_in (map bare_span ss) id) ≡ option_map (λ (s : PlainSpan). s.metadata.callsite) (found kin_in ss id)
+number_bare ss id = ap (option_map (λ (s : PlainSpan). s.metadata.callsite)) (found_bare ss id) ∙ number_of_one (found kin_in ss id)
 
--- the callsite of an open span of a stack
-pub callsite_by : {T : Type 0} (registry_of : T → RegistryValue) (f : ℕ → Option PlainMetadata) (stack : Option T) (id : ℕ) →
-    option_and_then (λ (x : PlainSpan). f x.metadata.callsite) (found kin_in (registry_in registry_of stack).spans id)
-    ≡ option_and_then f (option_and_then (λ x. option_map (λ (s : PlainSpan). s.metadata.callsite) (found kin_in (registry_of x).spans id)) stack)
-callsite_by registry_of f None id = refl
-callsite_by registry_of f (Some x) id = callsite_bare f (registry_of x).spans id
+-- the callsite of an open span is the one of that number
+pub callsite_by : (f : ℕ → Option PlainMetadata) (o : Option PlainSpan) → option_and_then (λ (x : PlainSpan). f x.metadata.callsite) o ≡ option_and_then f (option_map (λ (s : PlainSpan). s.metadata.callsite) o)
+callsite_by f None = refl
+callsite_by f (Some s) = refl
+
+-- the one stack is the first
+after_first : (n : ℕ) → (suc n == 0) ≡ false
+after_first n = grind (arith, nat_tests)
+
+none_below : (n : ℕ) → nat_lt n 0 ≡ false
+none_below n = grind (arith, nat_tests)
+
+below_one : (n : ℕ) → nat_lt n 1 ≡ (n == 0)
+below_one zero = refl
+below_one (suc n) = grind (arith, nat_tests)
+
+pub registry_by : {T : Type 0} (registry_of : T → RegistryValue) (o : Option T) (stack : ℕ) → get_or (registries_in registry_of o) stack new_registry ≡ (if stack == 0 then registry_in registry_of o else new_registry)
+registry_by registry_of None zero = refl
+registry_by registry_of None (suc stack) = ap (λ (b : Bool). if b then new_registry else new_registry) (sym (after_first stack))
+registry_by registry_of (Some x) zero = refl
+registry_by registry_of (Some x) (suc stack) = ap (λ (b : Bool). if b then bare (registry_of x) else new_registry) (sym (after_first stack))
+
+pub first_alone : {T : Type 0} (registry_of : T → RegistryValue) (o : Option T) (stack : ℕ) → nat_lt stack (length (registries_in registry_of o)) ≡ (is_some o && (stack == 0))
+first_alone registry_of None stack = none_below stack
+first_alone registry_of (Some x) stack = below_one stack
 
 pub map_more : {A B : Type 0} (f : A → B) (xs : List A) (x : A) → map f (xs ++ x ∷ []) ≡ map f xs ++ f x ∷ []
 map_more f [] x = refl

@@ -12,8 +12,7 @@ use Rattle.tracing_core_hub.specs.declared.hub.index.CallsiteIndex.{CallsiteInde
 use Rattle.tracing_core_hub.specs.declared.hub.indexed.RequestParent.{RequestParent}
 use Rattle.span_registry_layers_store.specs.Registries.{RegistryValue}
 use Rattle.span_tracing_skeleton.specs.Machine.{callsite_of, first, ids_refusal, known, knows_stack, named, refusal_of, request_refusal, told_parent, when}
-use Rattle.span_tracing_skeleton.specs.Skeleton.{Skeleton}
-use Rattle.span_tracing_skeleton.specs.PlainData.{PlainStep, EnabledStep, EventStep, RecordStep, SpanStep}
+use Rattle.span_tracing_skeleton.specs.PlainData.{PlainStep, GlobalStep, EnabledStep, EventStep, RecordStep, SpanStep}
 use Rattle.span_tracing_skeleton.specs.declared.call.EnabledCall.{EnabledCall}
 use Rattle.span_tracing_skeleton.specs.declared.call.Reply.{Reply}
 use Rattle.span_tracing_skeleton.specs.declared.call.Reply.TheVariants.{Done, Enabled}
@@ -23,7 +22,7 @@ use Rattle.span_tracing_skeleton.specs.declared.refusal.Refusal.TheVariants.{Glo
 use Rattle.span_tracing_steps.specs.Actions.{plain_record, plain_request}
 use Rattle.span_tracing_steps.specs.Finding.{FoundFor, StaysAt}
 use Rattle.span_tracing_steps.specs.Sound.{IsSound}
-use Rattle.span_tracing_steps.specs.States.{StateValue, at_index, skeleton_of, value_in}
+use Rattle.span_tracing_steps.specs.States.{StateValue, at_index, default_in, skeleton_of, value_in}
 use Rattle.span_tracing_steps.specs.Steps.{CallGoesIn, EventGoes, QuestionGoes, RecordGoes, SpanGoes, StepGives, StepGoes, StepUnless, span_reply}
 use Rattle.span_tracing_steps.specs.Telling.{place_at, request_of}
 use Rattle.span_tracing_steps.specs.contracts.callsite.TraceCallsiteCallsite.TheImpl.{ghosts}
@@ -95,11 +94,11 @@ module _ {T : Type 0} (g : Ghosts T) (registry_of : T → RegistryValue) (p : Tr
 
   -- values for an open span
   pub values_given : (r : RecordRequest) (name : SpanName) (found : Option CallsiteIndex) (index : CallsiteIndex) (result : Option (Result (Unit {0}) RequestError)) → r.span ≡ Some name → found ≡ Some index →
-      at_index (value_in p).callsites found ≡ callsite_of (skeleton_of registry_of (value_in p)) name.id → is_some found ≡ is_some (callsite_of (skeleton_of registry_of (value_in p)) name.id) →
+      at_index (value_in p).callsites found ≡ callsite_of (skeleton_of registry_of (value_in p)) name → is_some found ≡ is_some (callsite_of (skeleton_of registry_of (value_in p)) name) →
       refusal_of (skeleton_of registry_of (value_in p)) (RecordStep (plain_record r)) ≡ None →
       RecordAtGives g ghosts (slice_get p.hub.callsites index.0) name.id r.values.now (place_at r.lane r.moment) dispatch p.hub result u → IsSound later × StepGives g registry_of (value_in p) (RecordStep (plain_record r)) Done (value_in later)
   values_given r name found index result on is names there none w =
-      let m = callsite_of (skeleton_of registry_of (value_in p)) name.id in
+      let m = callsite_of (skeleton_of registry_of (value_in p)) name in
       let goes = values_at_row g p u dispatch handle sound keeps (slice_get p.hub.callsites index.0) m name.id r result (row_at p.hub.callsites index.0 ∙ ap (at_index (value_in p).callsites) (sym is) ∙ names) (sym there ∙ ap is_some is) w in
       (goes.0, given (RecordStep (plain_record r)) Done none (refl, subst (λ (o : Option SpanName). RecordGoes g registry_of o (value_in p) (plain_record r) (value_in later)) (sym on) goes.1))
 
@@ -112,5 +111,11 @@ when_not : (test : Bool) (refusal : Refusal) → when test refusal ≡ None → 
 when_not true refusal none = absurd (cc)
 when_not false refusal none = refl
 
-pub unset_by : (s : Skeleton) (handle : ℕ) → first (when (not (knows_stack s handle)) UnknownStack) (when s.is_global GlobalSet) ≡ None → s.is_global ≡ false
-unset_by s handle none = when_not s.is_global GlobalSet (first_later (when (not (knows_stack s handle)) UnknownStack) (when s.is_global GlobalSet) none)
+unset_of : (is_set : Bool) → is_some (default_in is_set) ≡ false → is_set ≡ false
+unset_of true none = absurd (cc)
+unset_of false none = refl
+
+pub unset_by : {T : Type 0} (registry_of : T → RegistryValue) (v : StateValue T) (handle : ℕ) → refusal_of (skeleton_of registry_of v) (GlobalStep handle) ≡ None → v.is_global ≡ false
+unset_by registry_of v handle none =
+    let s = skeleton_of registry_of v in
+    unset_of v.is_global (when_not (is_some s.default) GlobalSet (first_later (when (not (knows_stack s handle)) UnknownStack) (when (is_some s.default) GlobalSet) none))

@@ -1,5 +1,5 @@
 -- What a trace is without where it lies in memory.
-use Rattle.std.specs.Prelude.{ℕ, List, [], length, map, Bool, false, Option, Some, None, is_some, string_bytes, slice_get}
+use Rattle.std.specs.Prelude.{ℕ, List, [], ◌∷◌, length, map, Bool, true, false, Option, Some, None, string_bytes, slice_get}
 use Rattle.std.specs.Option.{option_map}
 use Rattle.tracing_core_fields.specs.PlainMetadata.{PlainMetadata}
 use Rattle.tracing_core_requests.specs.Interests.{PlainInterest}
@@ -54,19 +54,28 @@ value_in p = record {
   stack = stack_in p;
 }
 
--- the spans of a stack, without slots; where there is none, what a new one would have
-abbrev pub registry_in : {T : Type 0} → (T → RegistryValue) → Option T → RegistryValue
-registry_in registry_of None = new_registry
-registry_in registry_of (Some x) = bare (registry_of x)
+-- the registry of the one stack that there may be, without slots
+abbrev pub registries_in : {T : Type 0} → (T → RegistryValue) → Option T → List RegistryValue
+registries_in registry_of None = []
+registries_in registry_of (Some x) = bare (registry_of x) ∷ []
+
+-- the one stack is the first
+abbrev pub default_in : Bool → Option ℕ
+default_in false = None
+default_in true = Some 0
 
 abbrev pub skeleton_of : {T : Type 0} → (T → RegistryValue) → StateValue T → Skeleton
 skeleton_of registry_of v = record {
   callsites = v.callsites;
   lanes = length v.threads;
-  registry = registry_in registry_of v.stack;
-  has_stack = is_some v.stack;
-  is_global = v.is_global;
+  stacks = registries_in registry_of v.stack;
+  default = default_in v.is_global;
 }
+
+-- the registry of a stack without its slots; where there is none, what a new one would have
+abbrev pub registry_in : {T : Type 0} → (T → RegistryValue) → Option T → RegistryValue
+registry_in registry_of None = new_registry
+registry_in registry_of (Some x) = bare (registry_of x)
 
 -- the callsite at an index, where one is told
 abbrev pub at_index : List PlainMetadata → Option CallsiteIndex → Option PlainMetadata

@@ -69,7 +69,7 @@ module _ {T : Type 0} (g : Ghosts T) where
     -- values for a span, or for none
     abbrev pub RecordGoes : Option SpanName → StateValue T → RecordRequest → StateValue T → Type 0
     RecordGoes None v r w = w ≡ v
-    RecordGoes (Some name) v r w = ValuesGo name.id (callsite_of (skeleton_of registry_of v) name.id) v r w
+    RecordGoes (Some name) v r w = ValuesGo name.id (callsite_of (skeleton_of registry_of v) name) v r w
 
   -- a span follows another one, where both are named
   abbrev pub FollowsGoes : Option SpanName → Option SpanName → StateValue T → FollowsCall → StateValue T → Type 0

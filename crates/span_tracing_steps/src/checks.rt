@@ -3,12 +3,12 @@ ghost use Rattle.std.specs.Prelude.{◌≡◌, if◌then◌else◌, not, Some, N
 ghost use Rattle.std.specs.Option.{option_copied, option_map};
 ghost use Rattle.span_registry_layers_store.specs.Registries.{PlainSpan, kin_in};
 ghost use Rattle.span_registry_layers_store.specs.Spans.{found};
-ghost use Rattle.span_tracing_skeleton.specs.Machine.{call_refusal, callsite_of, count_refusal, enabled_refusal, first, follows_refusal, handle_refusal, handles_in, has_open, ids_refusal, if_kind, known, knows_stack, lane_refusal, moment_refusal, named, open_refusal, pair_refusal, parent_refusal, span_refusal, stack_refusal, when};
+ghost use Rattle.span_tracing_skeleton.specs.Machine.{call_refusal, callsite_of, count_refusal, enabled_refusal, first, follows_refusal, foreign_refusal, handle_refusal, handles_in, has_open, ids_refusal, if_kind, known, knows_stack, lane_refusal, moment_refusal, named, open_refusal, pair_refusal, parent_refusal, registry_at, span_refusal, stack_refusal, when};
 ghost use Rattle.span_tracing_skeleton.specs.declared.refusal.Refusal.TheVariants.{GlobalSet, UnknownStack};
 ghost use Rattle.span_tracing_skeleton.specs.PlainData.{on_span};
 ghost use Rattle.span_tracing_steps.specs.Actions.{plain_record};
 ghost use Rattle.span_tracing_steps.specs.Finding.{FoundFor};
-ghost use Rattle.span_tracing_steps.specs.States.{at_index, skeleton_of, stack_in, value_in};
+ghost use Rattle.span_tracing_steps.specs.States.{at_index, registry_in, skeleton_of, value_in};
 
 use crate::action::{RecordRequest, Request};
 use crate::parts::TraceParts;
@@ -66,37 +66,47 @@ impl<T: Subscriber + HasRegistry> TraceParts<T> {
         }
     }
 
+    // The stack with this number, where it was given.
+    #[inline(always)]
+    #[tactic(auto, using(crate::proofs::Bare::registry_by))]
+    fn stack_at(&self, number: usize) -> Option<&T>
+        ensures { registry_in T.registry_of (option_copied result) ≡ registry_at (skeleton_of T.registry_of (value_in self.now)) number }
+    {
+        if number == 0 { self.stack() } else { None }
+    }
+
     /// Whether the span is open.
     #[inline(never)]
     #[tactic(auto, using(crate::proofs::Bare::open_bare))]
-    fn is_open(&self, id: Id) -> bool
-        ensures { result ≡ has_open (skeleton_of T.registry_of (value_in self.now)) id }
+    fn is_open(&self, name: SpanName) -> bool
+        ensures { result ≡ has_open (skeleton_of T.registry_of (value_in self.now)) name }
     {
-        match self.stack() {
+        match self.stack_at(name.stack) {
             None => false,
-            Some(stack) => stack.registry().is_open(&id),
+            Some(stack) => stack.registry().is_open(&name.id),
         }
     }
 
     /// How many handles the span has, and 0 where it is not open.
     #[tactic(auto, using(crate::proofs::Bare::handles_bare))]
-    fn handles_of(&self, id: Id) -> usize
-        ensures { result ≡ handles_in (skeleton_of T.registry_of (value_in self.now)) id }
+    fn handles_of(&self, name: SpanName) -> usize
+        ensures { result ≡ handles_in (skeleton_of T.registry_of (value_in self.now)) name }
     {
-        match self.stack() {
+        match self.stack_at(name.stack) {
             None => 0,
-            Some(stack) => stack.registry().handles_of(&id),
+            Some(stack) => stack.registry().handles_of(&name.id),
         }
     }
 
     // The identifier of an open span's callsite.
-    fn number_of(&self, id: Id) -> Option<u64>
-        ensures { result ≡ option_and_then (λ x. option_map (λ (s : PlainSpan). s.metadata.callsite)
-            (found kin_in (T.registry_of x).spans id)) (stack_in self.now) }
+    #[tactic(auto, using(crate::proofs::Bare::number_bare))]
+    fn number_of(&self, name: SpanName) -> Option<u64>
+        ensures { result ≡ option_map (λ (s : PlainSpan). s.metadata.callsite)
+            (found kin_in (registry_at (skeleton_of T.registry_of (value_in self.now)) name.stack).spans name.id) }
     {
-        match self.stack() {
+        match self.stack_at(name.stack) {
             None => None,
-            Some(stack) => match stack.registry().span(&id) {
+            Some(stack) => match stack.registry().span(&name.id) {
                 None => None,
                 Some(span) => Some(span.fields().callsite().0),
             },
@@ -104,19 +114,19 @@ impl<T: Subscriber + HasRegistry> TraceParts<T> {
     }
 
     /// Where the callsite of an open span stands.
-    #[tactic(auto, using(crate::proofs::Bare::callsite_bare))]
-    pub(crate) fn callsite_of(&self, id: Id) -> Option<CallsiteIndex>
+    pub(crate) fn callsite_of(&self, name: SpanName) -> Option<CallsiteIndex>
         requires { IsSound self.now }
         ensures names { at_index (value_in self.now).callsites result
-            ≡ callsite_of (skeleton_of T.registry_of (value_in self.now)) id }
-        ensures there { is_some result ≡ is_some (callsite_of (skeleton_of T.registry_of (value_in self.now)) id) }
+            ≡ callsite_of (skeleton_of T.registry_of (value_in self.now)) name }
+        ensures there { is_some result ≡ is_some (callsite_of (skeleton_of T.registry_of (value_in self.now)) name) }
     {
-        match self.number_of(id) {
+        match self.number_of(name) {
             None => None,
             Some(number) => self.find(number),
         }
     }
 
+    #[tactic(auto, using(crate::proofs::Bare::first_alone))]
     fn knows_stack(&self, stack: usize) -> bool
         ensures { result ≡ knows_stack (skeleton_of T.registry_of (value_in self.now)) stack }
     {
@@ -136,7 +146,7 @@ impl<T: Subscriber + HasRegistry> TraceParts<T> {
                 if !self.hub.has_been_set() {
                     return Some(Refusal::ForeignParent);
                 }
-                if !self.is_open(name.id) {
+                if !self.is_open(name) {
                     return Some(Refusal::UnknownSpan);
                 }
                 None
@@ -225,7 +235,7 @@ impl<T: Subscriber + HasRegistry> TraceParts<T> {
                 if !self.knows_stack(name.stack) {
                     return Some(Refusal::UnknownStack);
                 }
-                if !self.is_open(name.id) {
+                if !self.is_open(name) {
                     return Some(Refusal::UnknownSpan);
                 }
                 None
@@ -275,12 +285,25 @@ impl<T: Subscriber + HasRegistry> TraceParts<T> {
         match span {
             None => None,
             Some(name) => {
-                if self.is_open(name.id) {
+                if self.is_open(name) {
                     None
                 } else {
                     Some(Refusal::UnknownSpan)
                 }
             }
+        }
+    }
+
+    // A span follows spans of its own stack.
+    fn foreign_refusal(&self, span: Option<SpanName>, follows: Option<SpanName>) -> Option<Refusal>
+        ensures { result ≡ foreign_refusal span follows }
+    {
+        let name = span?;
+        let followed = follows?;
+        if followed.stack == name.stack {
+            None
+        } else {
+            Some(Refusal::ForeignParent)
         }
     }
 
@@ -294,6 +317,10 @@ impl<T: Subscriber + HasRegistry> TraceParts<T> {
             return refusal;
         }
         let refusal = self.stack_refusal(call.follows);
+        if refusal.is_some() {
+            return refusal;
+        }
+        let refusal = self.foreign_refusal(call.span, call.follows);
         if refusal.is_some() {
             return refusal;
         }
@@ -320,7 +347,7 @@ impl<T: Subscriber + HasRegistry> TraceParts<T> {
         match span {
             None => None,
             Some(name) => {
-                if self.handles_of(name.id) == usize::MAX {
+                if self.handles_of(name) == usize::MAX {
                     return Some(Refusal::TooManyHandles);
                 }
                 None
@@ -334,7 +361,7 @@ impl<T: Subscriber + HasRegistry> TraceParts<T> {
         match span {
             None => None,
             Some(name) => {
-                if self.handles_of(name.id) == 0 {
+                if self.handles_of(name) == 0 {
                     return Some(Refusal::UnknownSpan);
                 }
                 None
@@ -369,7 +396,7 @@ impl<T: Subscriber + HasRegistry> TraceParts<T> {
     /// Why the stack with this handle isn't made the one that lanes reach.
     pub(crate) fn global_refusal(&self, handle: usize) -> Option<Refusal>
         ensures { result ≡ first (when (not (knows_stack (skeleton_of T.registry_of (value_in self.now)) handle))
-            UnknownStack) (when (skeleton_of T.registry_of (value_in self.now)).is_global GlobalSet) }
+            UnknownStack) (when (is_some (skeleton_of T.registry_of (value_in self.now)).default) GlobalSet) }
     {
         if !self.knows_stack(handle) {
             return Some(Refusal::UnknownStack);

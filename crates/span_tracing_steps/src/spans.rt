@@ -45,7 +45,7 @@ impl<T: Subscriber + HasRegistry> TraceParts<T> {
         let Some(name) = request.span else {
             return Reply::Done;
         };
-        let Some(index) = self.callsite_of(name.id) else {
+        let Some(index) = self.callsite_of(name) else {
             return Reply::Done;
         };
         let Some(handle) = &self.handle else {
