@@ -1,17 +1,18 @@
 -- What a step that reading doesn't refuse finds.
-use Rattle.std.proofs.Common.{◌≡◌, ℕ, Bool, true, false, not, ◌==◌, nat_lt, List, [], ◌∷◌, map, Option, Some, None, refl, sym, ap, ◌∙◌}
-use Rattle.std.specs.Prelude.{if◌then◌else◌, ◌&&◌, ◌||◌}
+use Rattle.std.proofs.Common.{◌≡◌, ◌≤◌, ℕ, suc, Bool, true, false, not, ◌==◌, nat_lt, List, [], ◌∷◌, length, map, Option, Some, None, refl, sym, ap, ◌∙◌, arith}
+use Rattle.std.specs.Prelude.{if◌then◌else◌, ◌||◌, get_or, set}
 use Rattle.std.specs.Option.{option_map}
 use Rattle.std.proofs.lemmas.Bool.{not-false}
+use Rattle.std.proofs.lemmas.Bool.Decides.{nat_tests}
 use Rattle.tracing_core_requests.specs.PlainRequests.{explicit_parent}
 use Rattle.tracing_core_requests.specs.declared.refusal.RequestError.{RequestError}
 use Rattle.tracing_core_requests.specs.declared.refusal.RequestError.TheVariants as errors
 use Rattle.span_registry_layers_store.specs.Aside.{bare, bare_span}
 use Rattle.span_registry_layers_store.specs.Gives as gives
-use Rattle.span_registry_layers_store.specs.Registries.{PlainSpan, RegistryValue, kin_in, knows, one_more, with_handle}
+use Rattle.span_registry_layers_store.specs.Registries.{PlainSpan, RegistryValue, kin_in, knows, new_registry, one_more, with_handle}
 use Rattle.span_registry_layers_store.specs.Spans.{changed, found, handles_of, is_open}
 use Rattle.span_registry_layers_store.specs.Spans as spans
-use Rattle.span_tracing_skeleton.specs.Machine.{call_refusal, first, handles_in, has_open, ids_refusal, knows_stack, lane_refusal, moment_refusal, parent_refusal, span_refusal, told_parent, when}
+use Rattle.span_tracing_skeleton.specs.Machine.{call_refusal, first, handles_in, has_open, ids_refusal, knows_stack, lane_refusal, leads_to, moment_refusal, parent_refusal, reached, registry_at, span_refusal, told_parent, when, with_registry}
 use Rattle.span_tracing_skeleton.specs.Skeleton.{Skeleton}
 use Rattle.span_tracing_skeleton.specs.declared.call.Parent.{Parent}
 use Rattle.span_tracing_skeleton.specs.declared.call.Parent.TheVariants.{Contextual, Root, Explicit}
@@ -68,37 +69,68 @@ more_bare (s ∷ ss) id = more_if (s.kin.id == id) s (changed kin_in one_more (m
 pub handle_bare : (x : RegistryValue) (id : ℕ) → bare (with_handle x id) ≡ with_handle (bare x) id
 handle_bare x id = ap (λ (ss : List PlainSpan). record x { spans = ss }) (sym (more_bare x.spans id))
 
+-- where a skeleton has one stack, and a number is known, it is this stack's
+pub below_one : (n : ℕ) → nat_lt n 1 ≡ true → n ≡ 0
+below_one n below = grind (arith, nat_tests)
+
+pub none_below : {A : Type 0} (n : ℕ) → nat_lt n 0 ≡ true → A
+none_below n below = absurd (let never : suc n ≤ 0 = grind (arith, nat_tests) in omega arith)
+
+pub record OneStack (s : Skeleton) (kept : RegistryValue) (stack : ℕ) : Type 0 where
+  pub at : registry_at s stack ≡ kept
+  pub alone : (y : RegistryValue) → get_or (y ∷ []) stack new_registry ≡ y
+  pub with_other : (y : RegistryValue) → record s { stacks = y ∷ [] } ≡ with_registry s stack y
+
+pub one_stack : (s : Skeleton) (kept : RegistryValue) (stack : ℕ) → s.stacks ≡ kept ∷ [] → knows_stack s stack ≡ true → OneStack s kept stack
+one_stack s kept stack is known =
+    let first_one = below_one stack (sym (ap (λ (ys : List RegistryValue). nat_lt stack (length ys)) is) ∙ known) in
+    record {
+      at = ap (λ (ys : List RegistryValue). get_or ys stack new_registry) is ∙ ap (λ (k : ℕ). get_or (kept ∷ []) k new_registry) first_one;
+      alone = λ y. ap (λ (k : ℕ). get_or (y ∷ []) k new_registry) first_one;
+      with_other = λ y. sym (ap (λ (ys : List RegistryValue). record s { stacks = set ys stack y }) is ∙ ap (λ (k : ℕ). record s { stacks = set (kept ∷ []) k y }) first_one);
+    }
+
+-- the first stack is the one that lanes reach
+pub reaches_first : (y : RegistryValue) (stack : ℕ) → (stack == 0) ≡ true → get_or (y ∷ []) stack new_registry ≡ y
+reaches_first y stack is = let first_one : stack ≡ 0 = grind (arith, nat_tests) in ap (λ (k : ℕ). get_or (y ∷ []) k new_registry) first_one
+
 -- the parent of a request that is not refused is open
-pub parent_known : (s : Skeleton) (x : RegistryValue) (parent : Parent) → s.registry ≡ bare x → parent_refusal s parent ≡ None → knows x (explicit_parent (told_parent parent)) ≡ true
+pub parent_known : (s : Skeleton) (x : RegistryValue) (parent : Parent) → ((stack : ℕ) → leads_to s.default stack ≡ true → registry_at s stack ≡ bare x) → parent_refusal s parent ≡ None → knows x (explicit_parent (told_parent parent)) ≡ true
 parent_known s x Contextual is passes = refl
 parent_known s x Root is passes = refl
 parent_known s x (Explicit name) is passes =
-    let at_home : Option Refusal = when (not s.is_global) ForeignParent in
-    let at_open : Option Refusal = when (not (has_open s name.id)) UnknownSpan in
-    sym (open_bare x.spans name.id) ∙ ap (λ (y : RegistryValue). is_open kin_in y.spans name.id) (sym is) ∙ open_by (has_open s name.id) UnknownSpan (second_none at_home at_open (second_none (when (not (knows_stack s name.stack)) UnknownStack) (first at_home at_open) passes))
+    let at_home : Option Refusal = when (not (leads_to s.default name.stack)) ForeignParent in
+    let at_open : Option Refusal = when (not (has_open s name)) UnknownSpan in
+    let both = second_none (when (not (knows_stack s name.stack)) UnknownStack) (first at_home at_open) passes in
+    sym (open_bare x.spans name.id) ∙ ap (λ (y : RegistryValue). is_open kin_in y.spans name.id) (sym (is name.stack (open_by (leads_to s.default name.stack) ForeignParent (first_none at_home at_open both)))) ∙ open_by (has_open s name) UnknownSpan (second_none at_home at_open both)
+
+-- the span of a call that is not refused, where it names one
+named_passes : (s : Skeleton) (call : SpanCall) (name : SpanName) → call.span ≡ Some name → call_refusal s call ≡ None → span_refusal s (Some name) ≡ None
+named_passes s call name named passes = ap (span_refusal s) (sym named) ∙ second_none (moment_refusal call.moment) (span_refusal s call.span) (second_none (lane_refusal s call.lane) (first (moment_refusal call.moment) (span_refusal s call.span)) passes)
+
+pub call_knows : (s : Skeleton) (call : SpanCall) (name : SpanName) → call.span ≡ Some name → call_refusal s call ≡ None → knows_stack s name.stack ≡ true
+call_knows s call name named passes = open_by (knows_stack s name.stack) UnknownStack (first_none (when (not (knows_stack s name.stack)) UnknownStack) (when (not (has_open s name)) UnknownSpan) (named_passes s call name named passes))
 
 -- a span of a call that is not refused is open
-span_open : (s : Skeleton) (name : SpanName) → span_refusal s (Some name) ≡ None → has_open s name.id ≡ true
-span_open s name passes = open_by (has_open s name.id) UnknownSpan (second_none (when (not (knows_stack s name.stack)) UnknownStack) (when (not (has_open s name.id)) UnknownSpan) passes)
+span_open : (s : Skeleton) (name : SpanName) → span_refusal s (Some name) ≡ None → has_open s name ≡ true
+span_open s name passes = open_by (has_open s name) UnknownSpan (second_none (when (not (knows_stack s name.stack)) UnknownStack) (when (not (has_open s name)) UnknownSpan) passes)
 
-pub call_open : (s : Skeleton) (x : RegistryValue) (call : SpanCall) (name : SpanName) → s.registry ≡ bare x → call.span ≡ Some name → call_refusal s call ≡ None → gives.open_refusal x name.id ≡ None
+pub call_open : (s : Skeleton) (x : RegistryValue) (call : SpanCall) (name : SpanName) → registry_at s name.stack ≡ bare x → call.span ≡ Some name → call_refusal s call ≡ None → gives.open_refusal x name.id ≡ None
 call_open s x call name is named passes =
-    let on_span : span_refusal s (Some name) ≡ None =
-    ap (span_refusal s) (sym named) ∙ second_none (moment_refusal call.moment) (span_refusal s call.span) (second_none (lane_refusal s call.lane) (first (moment_refusal call.moment) (span_refusal s call.span)) passes) in
-    ap (λ (b : Bool). gives.when (not b) errors.UnknownSpan) (sym (open_bare x.spans name.id) ∙ ap (λ (y : RegistryValue). is_open kin_in y.spans name.id) (sym is) ∙ span_open s name on_span)
+    ap (λ (b : Bool). gives.when (not b) errors.UnknownSpan) (sym (open_bare x.spans name.id) ∙ ap (λ (y : RegistryValue). is_open kin_in y.spans name.id) (sym is) ∙ span_open s name (named_passes s call name named passes))
 
 -- ids are left where the stack is reached
-pub ids_left : (s : Skeleton) → s.is_global ≡ true → ids_refusal s ≡ None → nat_lt gives.most s.registry.next_id ≡ false
-ids_left s global passes = sym (ap (λ (b : Bool). b && nat_lt gives.most s.registry.next_id) global) ∙ when_none (s.is_global && nat_lt gives.most s.registry.next_id) IdsSpent passes
+pub ids_left : (s : Skeleton) → ids_refusal s ≡ None → nat_lt gives.most (reached s).next_id ≡ false
+ids_left s passes = when_none (nat_lt gives.most (reached s).next_id) IdsSpent passes
 
 -- a handle that is not refused
-pub clone_none : (s : Skeleton) (x : RegistryValue) (id stack : ℕ) → s.registry ≡ bare x → gives.open_refusal x id ≡ None → when (handles_in s id == 18446744073709551615) TooManyHandles ≡ None → gives.clone_refusal x id ≡ None
-clone_none s x id stack is opened passes =
-    let same : handles_in s id ≡ handles_of kin_in x.spans id = ap (λ (y : RegistryValue). handles_of kin_in y.spans id) is ∙ handles_bare x.spans id in
-    ap (λ (o : Option RequestError). gives.first o (gives.when (handles_of kin_in x.spans id == gives.most) errors.TooManyHandles)) opened
-    ∙ ap (λ (b : Bool). gives.when b errors.TooManyHandles) (ap (λ (k : ℕ). k == 18446744073709551615) (sym same) ∙ when_none (handles_in s id == 18446744073709551615) TooManyHandles passes)
+pub clone_none : (s : Skeleton) (x : RegistryValue) (name : SpanName) → registry_at s name.stack ≡ bare x → gives.open_refusal x name.id ≡ None → when (handles_in s name == 18446744073709551615) TooManyHandles ≡ None → gives.clone_refusal x name.id ≡ None
+clone_none s x name is opened passes =
+    let same : handles_in s name ≡ handles_of kin_in x.spans name.id = ap (λ (y : RegistryValue). handles_of kin_in y.spans name.id) is ∙ handles_bare x.spans name.id in
+    ap (λ (o : Option RequestError). gives.first o (gives.when (handles_of kin_in x.spans name.id == gives.most) errors.TooManyHandles)) opened
+    ∙ ap (λ (b : Bool). gives.when b errors.TooManyHandles) (ap (λ (k : ℕ). k == 18446744073709551615) (sym same) ∙ when_none (handles_in s name == 18446744073709551615) TooManyHandles passes)
 
-pub close_none : (s : Skeleton) (x : RegistryValue) (id : ℕ) → s.registry ≡ bare x → when (handles_in s id == 0) UnknownSpan ≡ None → gives.close_refusal x id ≡ None
-close_none s x id is passes =
-    let same : handles_in s id ≡ handles_of kin_in x.spans id = ap (λ (y : RegistryValue). handles_of kin_in y.spans id) is ∙ handles_bare x.spans id in
-    ap (λ (b : Bool). gives.when b errors.UnknownSpan) (ap (λ (k : ℕ). k == 0) (sym same) ∙ when_none (handles_in s id == 0) UnknownSpan passes)
+pub close_none : (s : Skeleton) (x : RegistryValue) (name : SpanName) → registry_at s name.stack ≡ bare x → when (handles_in s name == 0) UnknownSpan ≡ None → gives.close_refusal x name.id ≡ None
+close_none s x name is passes =
+    let same : handles_in s name ≡ handles_of kin_in x.spans name.id = ap (λ (y : RegistryValue). handles_of kin_in y.spans name.id) is ∙ handles_bare x.spans name.id in
+    ap (λ (b : Bool). gives.when b errors.UnknownSpan) (ap (λ (k : ℕ). k == 0) (sym same) ∙ when_none (handles_in s name == 0) UnknownSpan passes)

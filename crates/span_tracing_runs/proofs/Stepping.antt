@@ -1,5 +1,5 @@
 -- Each step follows the skeleton and the output machines.
-use Rattle.std.proofs.Common.{◌≡◌, inl, inr, ℕ, Bool, true, false, not, nat_lt, List, [], Option, Some, None, is_some, Result, Ok, Err, refl, sym, ap, ◌∙◌, subst}
+use Rattle.std.proofs.Common.{◌≡◌, inl, inr, ℕ, Bool, true, false, not, nat_lt, List, [], ◌∷◌, length, Option, Some, None, is_some, Result, Ok, Err, refl, sym, ap, ◌∙◌, subst}
 use Rattle.std.specs.Prelude.{IsSome}
 use Rattle.tracing_core_fields.specs.PlainMetadata.{PlainMetadata}
 use Rattle.tracing_core_requests.specs.Calls.{Call, ReplyTo, Asked, SpanMade, FollowsRecorded, EventDispatched, Entered, Exited, Cloned, CloseTried}
@@ -31,7 +31,7 @@ use Rattle.span_tracing_outputs.specs.StackFollows.{IfTaken}
 use Rattle.span_tracing_outputs.specs.TraceFollows.{CloseIf, EventIf, IsReady, RefusedBy, Rests, StepGoes as OutputsStep, TraceFollows, TraceGoes, numbers_in, verdicts_from}
 use Rattle.span_tracing_outputs.specs.TraceStacks.{TraceMoves, TraceStackValue}
 use Rattle.span_tracing_outputs.specs.Turns.{Lines}
-use Rattle.span_tracing_skeleton.specs.Machine.{acted, after, answered, call_refusal, callsite_of, callsite_refusal, cloned, count_refusal, entered, first, given_up, handle_refusal, ids_refusal, is_closed, known, knows_stack, lane_refusal, left, made_by, moment_refusal, named, or_refused, or_same, parent_id, parent_refusal, refusal_of, reply_of, request_refusal, told_parent, when}
+use Rattle.span_tracing_skeleton.specs.Machine.{acted, after, answered, call_refusal, callsite_of, callsite_refusal, cloned, count_refusal, entered, first, given_up, handle_refusal, has_open, ids_refusal, is_closed, known, knows_stack, lane_refusal, leads_to, left, made_by, moment_refusal, named, or_refused, or_same, parent_id, parent_refusal, reached, refusal_of, registry_at, reply_of, request_refusal, told_parent, when}
 use Rattle.span_tracing_skeleton.specs.PlainData.{PlainStep, Request, RecordRequest, on_span, GlobalStep, EventStep, EnabledStep, SpanStep, RecordStep, FollowsFromStep, EnterStep, ExitStep, CloneStep, CloseStep}
 use Rattle.span_tracing_skeleton.specs.Skeleton.{Skeleton, Answers, Unasked, Wanted, Dropped, Passed, Heard}
 use Rattle.span_tracing_skeleton.specs.declared.call.EnabledCall.{EnabledCall}
@@ -43,13 +43,13 @@ use Rattle.span_tracing_skeleton.specs.declared.call.Reply.TheVariants.{Done, Sp
 use Rattle.span_tracing_skeleton.specs.declared.call.SpanCall.{SpanCall}
 use Rattle.span_tracing_skeleton.specs.declared.call.SpanName.{SpanName}
 use Rattle.span_tracing_skeleton.specs.declared.refusal.Refusal.{Refusal}
-use Rattle.span_tracing_skeleton.specs.declared.refusal.Refusal.TheVariants.{OutOfMemory}
-use Rattle.span_tracing_steps.specs.States.{PlainThread, registry_in}
+use Rattle.span_tracing_skeleton.specs.declared.refusal.Refusal.TheVariants.{GlobalSet, OutOfMemory, UnknownStack}
+use Rattle.span_tracing_steps.specs.States.{PlainThread, registries_in}
 use Rattle.span_tracing_steps.specs.Steps.{CallGoesIn, CloneGoes, CloseGoes, EnterGoes, EventGoes, ExitGoes, FollowsGoes, QuestionGoes, RecordGoes, SpanGoes, StepGives, StepGoes, StepUnless, ValuesGo, span_reply}
 use Rattle.span_tracing_steps.specs.Telling.{own_values, place_at, request_of}
 use Rattle.span_tracing_runs.specs.Follows.{AnswersEvent, AnswersQuestion, AnswersSpan, AskedWhere, Follows, FollowsStep, IsAnswered, OutputsFollow, StackFollows, StackIsReady, Traced, registry_of, skeleton_of}
 use Rattle.span_tracing_runs.specs.Told.{Told, close_told_by, enter_told_by, event_told_by, exit_told_by, record_told_by, span_told_by, told_by, told_of, values_told_by}
-use Rattle.span_tracing_runs.proofs.Reading.{call_open, clone_none, close_none, first_none, handle_bare, ids_left, open_bare, parent_known, second_none}
+use Rattle.span_tracing_runs.proofs.Reading.{below_one, call_knows, call_open, clone_none, close_none, first_none, handle_bare, ids_left, none_below, one_stack, open_bare, open_by, parent_known, reaches_first, second_none}
 
 module _ {N E F S : Type 0} (n : Ghosts N) (line_of : E → Settings → PlainContext → PlainEvent → Option (List ℕ)) (g : FilterGhosts F) (takes : S → At → PlainLine → S → Type 0) (h : LayerGhosts (Lines N E)) where
   abbrev Stack : Type 0
@@ -112,7 +112,7 @@ module _ {N E F S : Type 0} (n : Ghosts N) (line_of : E → Settings → PlainCo
   dropped_untold s e (Some m) = refl
 
   -- the skeleton over another stack
-  skeleton_after : (v w : Traced N E F S) (y : Stack) → w ≡ record v { stack = Some y } → skeleton_of w ≡ record (skeleton_of v) { registry = bare y.stack.registry; has_stack = true }
+  skeleton_after : (v w : Traced N E F S) (y : Stack) → w ≡ record v { stack = Some y } → skeleton_of w ≡ record (skeleton_of v) { stacks = bare y.stack.registry ∷ [] }
   skeleton_after v w y is = ap skeleton_of is
 
   outputs_after : (v w : Traced N E F S) (x y : Stack) (told : Option (Told N)) (fates : Fates) → v.stack ≡ Some x → w ≡ record v { stack = Some y } → StackFollows n line_of g takes told fates x y → OutputsFollow n line_of g takes told fates v.stack w.stack
@@ -150,10 +150,10 @@ module _ {N E F S : Type 0} (n : Ghosts N) (line_of : E → Settings → PlainCo
         let q = request_of m e in
         let call = called x (EventDispatched q at) goes.0 v w ready goes.1 in
         let parent = parent_passed s e.lane e.moment (known s e.callsite false) e.parent none in
-        let told = (subst (λ (b : Bool). EventIf n line_of g takes b q at x goes.0 call.0) (parent_known s x.stack.registry e.parent refl parent) call.1).1 in (
+        let told = (subst (λ (b : Bool). EventIf n line_of g takes b q at x goes.0 call.0) (parent_known s x.stack.registry e.parent (reaches_first (bare x.stack.registry)) parent) call.1).1 in (
           made v (EventStep e) reply w (Heard told.0 told.1) told.3.fates none
               (subst (λ (c : Option PlainMetadata). AskedWhere true c (λ (d : PlainMetadata) (a : Answers). AnswersEvent g h (Some x) (request_of d e) at a) (Heard told.0 told.1)) (sym is) told.2) done
-              (ap skeleton_of call.3 ∙ ap (λ (y : RegistryValue). record s { registry = y }) told.3.skeleton)
+              (ap skeleton_of call.3 ∙ ap (λ (y : RegistryValue). record s { stacks = y ∷ [] }) told.3.skeleton)
               (subst (λ (u : Traced N E F S). OutputsFollow n line_of g takes (event_told_by N s e (known s e.callsite false) (Heard told.0 told.1)) told.3.fates (Some x) u.stack) (sym call.3)
               (subst (λ (c : Option PlainMetadata). StackFollows n line_of g takes (event_told_by N s e c (Heard told.0 told.1)) told.3.fates x call.0) (sym is) told.3.outputs)),
           ready_after v w call.0 call.2 call.3,
@@ -176,12 +176,12 @@ module _ {N E F S : Type 0} (n : Ghosts N) (line_of : E → Settings → PlainCo
         (call.3 ∙ ap (λ (y : Stack). record v { stack = Some y }) call.1.1) ready
 
     -- a new span that finds no memory, or none that reading could tell of
-    span_refused : (s : Skeleton) (x : Stack) (parent : Parent) (error : RequestError) → s.registry ≡ bare x.stack.registry → s.is_global ≡ true → parent_refusal s parent ≡ None → ids_refusal s ≡ None →
+    span_refused : (s : Skeleton) (x : Stack) (parent : Parent) (error : RequestError) → reached s ≡ bare x.stack.registry → ((stack : ℕ) → leads_to s.default stack ≡ true → registry_at s stack ≡ bare x.stack.registry) → parent_refusal s parent ≡ None → ids_refusal s ≡ None →
         RefusedBy (gives.span_refusal x.stack.registry (told_parent parent)) error → span_reply (Err error) ≡ Refused OutOfMemory
-    span_refused s x parent error is global known left w =
-        let left_there : nat_lt gives.most x.stack.registry.next_id ≡ false = sym (ap (λ (y : RegistryValue). nat_lt gives.most y.next_id) is) ∙ ids_left s global left in
+    span_refused s x parent error is leads known left w =
+        let left_there : nat_lt gives.most x.stack.registry.next_id ≡ false = sym (ap (λ (y : RegistryValue). nat_lt gives.most y.next_id) is) ∙ ids_left s left in
         let none : gives.span_refusal x.stack.registry (told_parent parent) ≡ None =
-        ap (λ (b : Bool). gives.first (gives.when (not b) errors.UnknownParent) (gives.when (nat_lt gives.most x.stack.registry.next_id) errors.IdsSpent)) (parent_known s x.stack.registry parent is known) ∙ ap (λ (b : Bool). gives.when b errors.IdsSpent) left_there in
+        ap (λ (b : Bool). gives.first (gives.when (not b) errors.UnknownParent) (gives.when (nat_lt gives.most x.stack.registry.next_id) errors.IdsSpent)) (parent_known s x.stack.registry parent leads known) ∙ ap (λ (b : Bool). gives.when b errors.IdsSpent) left_there in
         ap (λ (e : RequestError). span_reply (Err e)) (subst (λ (o : Option RequestError). RefusedBy o error) none w)
 
     -- a new span
@@ -198,7 +198,7 @@ module _ {N E F S : Type 0} (n : Ghosts N) (line_of : E → Settings → PlainCo
         let call = called x (SpanMade (request_of m q) (place_at q.lane q.moment)) (Err error) v w ready goes in
         let asked = first_none (request_refusal s q.lane q.moment q.callsite true q.parent) (ids_refusal s) none in
         let same : w ≡ v = call.3 ∙ ap (λ (y : Stack). record v { stack = Some y }) call.1.1 in (
-          inr (told ∙ span_refused s x q.parent error refl refl (parent_passed s q.lane q.moment (known s q.callsite true) q.parent asked) (second_none (request_refusal s q.lane q.moment q.callsite true q.parent) (ids_refusal s) none) call.1.0, none, refl, same),
+          inr (told ∙ span_refused s x q.parent error refl (reaches_first (bare x.stack.registry)) (parent_passed s q.lane q.moment (known s q.callsite true) q.parent asked) (second_none (request_refusal s q.lane q.moment q.callsite true q.parent) (ids_refusal s) none) call.1.0, none, refl, same),
           subst (λ (u : Traced N E F S). StackIsReady g h u.stack) (sym same) ready,
         )
     span_goes cs js ts true (Some x) q reply w (Some m) is ready none (Ok None, goes, told) =
@@ -207,7 +207,7 @@ module _ {N E F S : Type 0} (n : Ghosts N) (line_of : E → Settings → PlainCo
         let call = called x (SpanMade (request_of m q) (place_at q.lane q.moment)) (Ok None) v w ready goes in (
           made v (SpanStep q) reply w Dropped [] none
               (subst (λ (c : Option PlainMetadata). AskedWhere true c (λ (d : PlainMetadata) (a : Answers). AnswersSpan g h (Some x) d (place_at q.lane q.moment) a) Dropped) (sym is) call.1.1) told
-              (ap skeleton_of call.3 ∙ ap (λ (z : StackValue (Filtered (Lines N E) F)). record s { registry = bare z.registry }) call.1.2)
+              (ap skeleton_of call.3 ∙ ap (λ (z : StackValue (Filtered (Lines N E) F)). record s { stacks = bare z.registry ∷ [] }) call.1.2)
               (subst (λ (u : Traced N E F S). OutputsFollow n line_of g takes (span_told_by N s q (known s q.callsite true) Dropped) [] (Some x) u.stack) (sym call.3)
               (subst (λ (t : Option (Told N)). StackFollows n line_of g takes t [] x call.0) (sym (dropped_untold s q (known s q.callsite true))) call.1.3)),
           ready_after v w call.0 call.2 call.3,
@@ -221,39 +221,40 @@ module _ {N E F S : Type 0} (n : Ghosts N) (line_of : E → Settings → PlainCo
           made v (SpanStep q) reply w (Passed passed) outs.fates none
               (subst (λ (c : Option PlainMetadata). AskedWhere true c (λ (d : PlainMetadata) (a : Answers). AnswersSpan g h (Some x) d (place_at q.lane q.moment) a) (Passed passed)) (sym is) (call.1.0, call.1.1, call.1.2, refl))
               (told ∙ ap (λ (k : ℕ). Span (Some (record { stack = 0; id = k }))) call.1.4)
-              (ap skeleton_of call.3 ∙ ap (λ (y : RegistryValue). record s { registry = y }) outs.skeleton ∙ ap (λ (c : Option PlainMetadata). Rattle.span_tracing_skeleton.specs.Machine.with_made s q c passed) (sym is))
+              (ap skeleton_of call.3 ∙ ap (λ (y : RegistryValue). record s { stacks = y ∷ [] }) outs.skeleton ∙ ap (λ (c : Option PlainMetadata). Rattle.span_tracing_skeleton.specs.Machine.with_made s q c passed) (sym is))
               (subst (λ (u : Traced N E F S). OutputsFollow n line_of g takes (span_told_by N s q (known s q.callsite true) (Passed passed)) outs.fates (Some x) u.stack) (sym call.3)
               (subst (λ (c : Option PlainMetadata). StackFollows n line_of g takes (span_told_by N s q c (Passed passed)) outs.fates x call.0) (sym is) outs.outputs)),
           ready_after v w call.0 call.2 call.3,
         )
 
     -- values for a span
-    values_go : (v : Traced N E F S) (o : Option Stack) (r : RecordRequest) (name : SpanName) (reply : Reply) (w : Traced N E F S) (k : Option PlainMetadata) → v.stack ≡ o → r.span ≡ Some name → callsite_of (skeleton_of v) name.id ≡ k → StackIsReady g h o → refusal_of (skeleton_of v) (RecordStep r) ≡ None → reply ≡ Done → ValuesGo sg name.id k v r w → Goes v (RecordStep r) reply w
+    values_go : (v : Traced N E F S) (o : Option Stack) (r : RecordRequest) (name : SpanName) (reply : Reply) (w : Traced N E F S) (k : Option PlainMetadata) → v.stack ≡ o → r.span ≡ Some name → callsite_of (skeleton_of v) name ≡ k → StackIsReady g h o → refusal_of (skeleton_of v) (RecordStep r) ≡ None → reply ≡ Done → ValuesGo sg name.id k v r w → Goes v (RecordStep r) reply w
     values_go v o r name reply w None stack on is ready none done same =
         rested v (RecordStep r) reply w Unasked none refl done refl
-        (ap (record_told_by N (skeleton_of v) r) on ∙ ap (values_told_by N (skeleton_of v) r name.id) is) same (subst (StackIsReady g h) (sym stack) ready)
+        (ap (record_told_by N (skeleton_of v) r) on ∙ ap (values_told_by N (skeleton_of v) r name) is) same (subst (StackIsReady g h) (sym stack) ready)
     values_go v None r name reply w (Some m) stack on is ready none done goes = absurd (subst (λ (o : Option Stack). CallGoesIn sg o v (calls.Recorded name.id (own_values m r.values) (place_at r.lane r.moment)) goes.0 w) stack goes.1)
     values_go v (Some x) r name reply w (Some m) stack on is ready none done goes =
         let s = skeleton_of v in
         let at = place_at r.lane r.moment in
-        let bared : s.registry ≡ bare x.stack.registry = ap (registry_in registry_of) stack in
+        let stacks : s.stacks ≡ bare x.stack.registry ∷ [] = ap (registries_in registry_of) stack in
+        let one = one_stack s (bare x.stack.registry) name.stack stacks (call_knows s (on_span r) name on none) in
         let call = called x (calls.Recorded name.id (own_values m r.values) at) goes.0 v w ready (subst (λ (o : Option Stack). CallGoesIn sg o v (calls.Recorded name.id (own_values m r.values) at) goes.0 w) stack goes.1) in
-        let opened = call_open s x.stack.registry (on_span r) name bared on none in
+        let opened = call_open s x.stack.registry (on_span r) name one.at on none in
         let answer : goes.0 ≡ Ok tt = call.1.0 ∙ ap (λ (o : Option RequestError). or_error o tt) opened in
         let kept = bare x.stack.registry in
         let outs : OutputsStep n line_of g takes at (call_lists (span_told kept at (Recorded (own_values m r.values)) name.id)) kept x call.0 =
         subst (λ (a : Result (Unit {0}) RequestError). IfTaken a x (OutputsStep n line_of g takes at (call_lists (span_told kept at (Recorded (own_values m r.values)) name.id)) kept x call.0) call.0) answer call.1.1 in (
           made v (RecordStep r) reply w Unasked outs.fates none refl done
-              (skeleton_after v w call.0 call.3 ∙ ap (λ (y : RegistryValue). record s { registry = y; has_stack = true }) (outs.skeleton ∙ sym bared) ∙ ap (λ (b : Bool). record s { has_stack = b }) (sym (ap is_some stack)))
+              (skeleton_after v w call.0 call.3 ∙ ap (λ (y : RegistryValue). record s { stacks = y ∷ [] }) outs.skeleton ∙ ap (λ (ys : List RegistryValue). record s { stacks = ys }) (sym stacks))
               (outputs_after v w x call.0 (record_told_by N s r r.span) outs.fates stack call.3
               (subst (λ (t : Option (Told N)). StackFollows n line_of g takes t outs.fates x call.0)
-              (sym (ap (record_told_by N s r) on ∙ ap (values_told_by N s r name.id) is ∙ ap (λ (y : RegistryValue). Some (record { at = at; lists = call_lists (span_told y at (Recorded (own_values m r.values)) name.id) })) bared)) outs.outputs)),
+              (sym (ap (record_told_by N s r) on ∙ ap (values_told_by N s r name) is ∙ ap (λ (y : RegistryValue). Some (record { at = at; lists = call_lists (span_told y at (Recorded (own_values m r.values)) name.id) })) one.at)) outs.outputs)),
           ready_after v w call.0 call.2 call.3,
         )
 
     record_goes : (v : Traced N E F S) (r : RecordRequest) (span : Option SpanName) (reply : Reply) (w : Traced N E F S) → r.span ≡ span → StackIsReady g h v.stack → refusal_of (skeleton_of v) (RecordStep r) ≡ None → reply ≡ Done → RecordGoes sg registry_of span v r w → Goes v (RecordStep r) reply w
     record_goes v r None reply w on ready none done same = rested v (RecordStep r) reply w Unasked none refl done refl (ap (record_told_by N (skeleton_of v) r) on) same ready
-    record_goes v r (Some name) reply w on ready none done goes = values_go v v.stack r name reply w (callsite_of (skeleton_of v) name.id) refl on refl ready none done goes
+    record_goes v r (Some name) reply w on ready none done goes = values_go v v.stack r name reply w (callsite_of (skeleton_of v) name) refl on refl ready none done goes
 
     -- a span follows another one
     follows_goes : (v : Traced N E F S) (o : Option Stack) (ask : FollowsCall) (span follows : Option SpanName) (reply : Reply) (w : Traced N E F S) → v.stack ≡ o → StackIsReady g h v.stack → refusal_of (skeleton_of v) (FollowsFromStep ask) ≡ None → reply ≡ Done → FollowsGoes sg span follows v ask w → Goes v (FollowsFromStep ask) reply w
@@ -273,14 +274,14 @@ module _ {N E F S : Type 0} (n : Ghosts N) (line_of : E → Settings → PlainCo
         let s = skeleton_of v in
         let at = place_at ask.lane ask.moment in
         let kept = bare x.stack.registry in
-        let bared : s.registry ≡ kept = ap (registry_in registry_of) stack in
+        let one = one_stack s kept name.stack (ap (registries_in registry_of) stack) (call_knows s ask name on none) in
         let call = called x (Entered name.id at) (Ok done) v w (subst (StackIsReady g h) stack ready) (subst (λ (o : Option Stack). CallGoesIn sg o v (Entered name.id at) (Ok done) w) stack goes) in
         let outs = call.1.1 in (
           made v (EnterStep ask) reply w Unasked outs.fates none refl told
-              (skeleton_after v w call.0 call.3 ∙ ap (λ (y : RegistryValue). record s { registry = y; has_stack = true }) (outs.skeleton ∙ ap (λ (y : RegistryValue). with_entry y ask.lane name.id) (sym bared)) ∙ ap (λ (b : Bool). record s { registry = with_entry s.registry ask.lane name.id; has_stack = b }) (sym (ap is_some stack)) ∙ ap (entered s ask.lane) (sym on))
+              (skeleton_after v w call.0 call.3 ∙ ap (λ (y : RegistryValue). record s { stacks = y ∷ [] }) (outs.skeleton ∙ ap (λ (y : RegistryValue). with_entry y ask.lane name.id) (sym one.at)) ∙ one.with_other (with_entry (registry_at s name.stack) ask.lane name.id) ∙ ap (entered s ask.lane) (sym on))
               (outputs_after v w x call.0 (enter_told_by N s ask ask.span) outs.fates stack call.3
               (subst (λ (t : Option (Told N)). StackFollows n line_of g takes t outs.fates x call.0)
-              (sym (ap (enter_told_by N s ask) on ∙ ap (λ (y : RegistryValue). Some (record { at = at; lists = call_lists (enter_told y at name.id) })) bared)) outs.outputs)),
+              (sym (ap (enter_told_by N s ask) on ∙ ap (λ (y : RegistryValue). Some (record { at = at; lists = call_lists (enter_told y at name.id) })) one.at)) outs.outputs)),
           ready_after v w call.0 call.2 call.3,
         )
     enter_goes v (Some x) ask (Some name) reply w stack on ready none (Err error, goes, told) =
@@ -297,14 +298,14 @@ module _ {N E F S : Type 0} (n : Ghosts N) (line_of : E → Settings → PlainCo
         let s = skeleton_of v in
         let at = place_at ask.lane ask.moment in
         let kept = bare x.stack.registry in
-        let bared : s.registry ≡ kept = ap (registry_in registry_of) stack in
+        let one = one_stack s kept name.stack (ap (registries_in registry_of) stack) (call_knows s ask name on none) in
         let call = called x (Exited name.id at) tt v w (subst (StackIsReady g h) stack ready) (subst (λ (o : Option Stack). CallGoesIn sg o v (Exited name.id at) tt w) stack goes) in
         let outs = call.1 in (
           made v (ExitStep ask) reply w Unasked outs.fates none refl done
-              (skeleton_after v w call.0 call.3 ∙ ap (λ (y : RegistryValue). record s { registry = y; has_stack = true }) (outs.skeleton ∙ ap (λ (y : RegistryValue). swept (without_entry y ask.lane name.id)) (sym bared)) ∙ ap (λ (b : Bool). record s { registry = swept (without_entry s.registry ask.lane name.id); has_stack = b }) (sym (ap is_some stack)) ∙ ap (left s ask.lane) (sym on))
+              (skeleton_after v w call.0 call.3 ∙ ap (λ (y : RegistryValue). record s { stacks = y ∷ [] }) (outs.skeleton ∙ ap (λ (y : RegistryValue). swept (without_entry y ask.lane name.id)) (sym one.at)) ∙ one.with_other (swept (without_entry (registry_at s name.stack) ask.lane name.id)) ∙ ap (left s ask.lane) (sym on))
               (outputs_after v w x call.0 (exit_told_by N s ask ask.span) outs.fates stack call.3
               (subst (λ (t : Option (Told N)). StackFollows n line_of g takes t outs.fates x call.0)
-              (sym (ap (exit_told_by N s ask) on ∙ ap (λ (y : RegistryValue). Some (record { at = at; lists = call_lists (exit_told y at name.id) })) bared)) outs.outputs)),
+              (sym (ap (exit_told_by N s ask) on ∙ ap (λ (y : RegistryValue). Some (record { at = at; lists = call_lists (exit_told y at name.id) })) one.at)) outs.outputs)),
           ready_after v w call.0 call.2 call.3,
         )
 
@@ -316,13 +317,13 @@ module _ {N E F S : Type 0} (n : Ghosts N) (line_of : E → Settings → PlainCo
         let s = skeleton_of v in
         let at = place_at ask.lane ask.moment in
         let kept = bare x.stack.registry in
-        let bared : s.registry ≡ kept = ap (registry_in registry_of) stack in
+        let one = one_stack s kept name.stack (ap (registries_in registry_of) stack) (call_knows s ask name on (first_none (call_refusal s ask) (count_refusal s ask.span) none)) in
         let call = called x (Cloned name.id at) goes.0 v w (subst (StackIsReady g h) stack ready) (subst (λ (o : Option Stack). CallGoesIn sg o v (Cloned name.id at) goes.0 w) stack goes.1) in
-        let opened = call_open s x.stack.registry ask name bared on (first_none (call_refusal s ask) (count_refusal s ask.span) none) in
-        let free = clone_none s x.stack.registry name.id name.stack bared opened (ap (count_refusal s) (sym on) ∙ second_none (call_refusal s ask) (count_refusal s ask.span) none) in
+        let opened = call_open s x.stack.registry ask name one.at on (first_none (call_refusal s ask) (count_refusal s ask.span) none) in
+        let free = clone_none s x.stack.registry name one.at opened (ap (count_refusal s) (sym on) ∙ second_none (call_refusal s ask) (count_refusal s ask.span) none) in
         let registry : call.0.stack.registry ≡ with_handle x.stack.registry name.id = ap (λ (p : Result ℕ RequestError × RegistryValue). p.1) call.1.0 ∙ ap (λ (o : Option RequestError). refusals.or_same o x.stack.registry (with_handle x.stack.registry name.id)) free in (
           made v (CloneStep ask) reply w Unasked [] none refl done
-              (skeleton_after v w call.0 call.3 ∙ ap (λ (y : RegistryValue). record s { registry = y; has_stack = true }) (ap bare registry ∙ handle_bare x.stack.registry name.id ∙ ap (λ (y : RegistryValue). with_handle y name.id) (sym bared)) ∙ ap (λ (b : Bool). record s { registry = with_handle s.registry name.id; has_stack = b }) (sym (ap is_some stack)) ∙ ap (cloned s) (sym on))
+              (skeleton_after v w call.0 call.3 ∙ ap (λ (y : RegistryValue). record s { stacks = y ∷ [] }) (ap bare registry ∙ handle_bare x.stack.registry name.id ∙ ap (λ (y : RegistryValue). with_handle y name.id) (sym one.at)) ∙ one.with_other (with_handle (registry_at s name.stack) name.id) ∙ ap (cloned s) (sym on))
               (outputs_after v w x call.0 None [] stack call.3 call.1.2),
           ready_after v w call.0 call.2 call.3,
         )
@@ -335,25 +336,37 @@ module _ {N E F S : Type 0} (n : Ghosts N) (line_of : E → Settings → PlainCo
         let s = skeleton_of v in
         let at = place_at ask.lane ask.moment in
         let kept = bare x.stack.registry in
-        let bared : s.registry ≡ kept = ap (registry_in registry_of) stack in
+        let one = one_stack s kept name.stack (ap (registries_in registry_of) stack) (call_knows s ask name on (first_none (call_refusal s ask) (handle_refusal s ask.span) none)) in
         let call = called x (CloseTried name.id at) goes.0 v w (subst (StackIsReady g h) stack ready) (subst (λ (o : Option Stack). CallGoesIn sg o v (CloseTried name.id at) goes.0 w) stack goes.1) in
-        let held = close_none s x.stack.registry name.id bared (ap (handle_refusal s) (sym on) ∙ second_none (call_refusal s ask) (handle_refusal s ask.span) none) in
+        let held = close_none s x.stack.registry name one.at (ap (handle_refusal s) (sym on) ∙ second_none (call_refusal s ask) (handle_refusal s ask.span) none) in
         let closed = subst (λ (o : Option RequestError). CloseIf n line_of g takes o name.id at x goes.0 call.0) held call.1 in
         let outs = closed.1 in
-        let registry : bare call.0.stack.registry ≡ swept (without_handle s.registry name.id) = outs.skeleton ∙ ap (λ (y : RegistryValue). swept (without_handle y name.id)) (sym bared) in (
+        let registry : bare call.0.stack.registry ≡ swept (without_handle (registry_at s name.stack) name.id) = outs.skeleton ∙ ap (λ (y : RegistryValue). swept (without_handle y name.id)) (sym one.at) in
+        let later = swept (without_handle (registry_at s name.stack) name.id) in
+        let open_later : is_open kin_in later.spans name.id ≡ has_open (given_up s (Some name)) name = ap (λ (y : RegistryValue). is_open kin_in y.spans name.id) (sym (one.alone later)) ∙ ap (λ (t : Skeleton). has_open t name) (one.with_other later) in (
           made v (CloseStep ask) reply w Unasked outs.fates none refl
-              (goes.2 ∙ ap (λ (b : Bool). Closed b) (closed.0 ∙ ap not (sym (open_bare call.0.stack.registry.spans name.id) ∙ ap (λ (y : RegistryValue). is_open kin_in y.spans name.id) registry)) ∙ ap (λ (span : Option SpanName). Closed (is_closed s span)) (sym on))
-              (skeleton_after v w call.0 call.3 ∙ ap (λ (y : RegistryValue). record s { registry = y; has_stack = true }) registry ∙ ap (λ (b : Bool). record s { registry = swept (without_handle s.registry name.id); has_stack = b }) (sym (ap is_some stack)) ∙ ap (given_up s) (sym on))
+              (goes.2 ∙ ap (λ (b : Bool). Closed b) (closed.0 ∙ ap not (sym (open_bare call.0.stack.registry.spans name.id) ∙ ap (λ (y : RegistryValue). is_open kin_in y.spans name.id) registry ∙ open_later)) ∙ ap (λ (span : Option SpanName). Closed (is_closed s span)) (sym on))
+              (skeleton_after v w call.0 call.3 ∙ ap (λ (y : RegistryValue). record s { stacks = y ∷ [] }) registry ∙ one.with_other (swept (without_handle (registry_at s name.stack) name.id)) ∙ ap (given_up s) (sym on))
               (outputs_after v w x call.0 (close_told_by N s ask ask.span) outs.fates stack call.3
               (subst (λ (t : Option (Told N)). StackFollows n line_of g takes t outs.fates x call.0)
-              (sym (ap (close_told_by N s ask) on ∙ ap (λ (y : RegistryValue). Some (record { at = at; lists = call_lists (close_told y at name.id) })) bared)) outs.outputs)),
+              (sym (ap (close_told_by N s ask) on ∙ ap (λ (y : RegistryValue). Some (record { at = at; lists = call_lists (close_told y at name.id) })) one.at)) outs.outputs)),
           ready_after v w call.0 call.2 call.3,
         )
+
+    -- the one stack that may become the default is the first
+    first_by : (o : Option Stack) (handle : ℕ) → nat_lt handle (length (registries_in registry_of o)) ≡ true → handle ≡ 0
+    first_by None handle known = none_below handle known
+    first_by (Some x) handle known = below_one handle known
+
+    global_first : (v : Traced N E F S) (handle : ℕ) → refusal_of (skeleton_of v) (GlobalStep handle) ≡ None → handle ≡ 0
+    global_first v handle none =
+        let s = skeleton_of v in
+        first_by v.stack handle (open_by (knows_stack s handle) UnknownStack (first_none (when (not (knows_stack s handle)) UnknownStack) (when (is_some s.default) GlobalSet) none))
 
     -- a step that isn't refused
     step_goes : (v : Traced N E F S) (step : PlainStep) (reply : Reply) (w : Traced N E F S) → StackIsReady g h v.stack → refusal_of (skeleton_of v) step ≡ None → StepGoes sg registry_of v step reply w → Goes v step reply w
     step_goes v (GlobalStep handle) reply w ready none goes = (
-      made v (GlobalStep handle) reply w Unasked [] none refl goes.0 (ap skeleton_of goes.1) (subst (λ (u : Traced N E F S). OutputsFollow n line_of g takes None [] v.stack u.stack) (sym goes.1) (rest_same [] v.stack)),
+      made v (GlobalStep handle) reply w Unasked [] none refl goes.0 (ap skeleton_of goes.1 ∙ ap (λ (k : ℕ). record (skeleton_of v) { default = Some k }) (sym (global_first v handle none))) (subst (λ (u : Traced N E F S). OutputsFollow n line_of g takes None [] v.stack u.stack) (sym goes.1) (rest_same [] v.stack)),
       subst (λ (u : Traced N E F S). StackIsReady g h u.stack) (sym goes.1) ready,
     )
     step_goes v (EventStep e) reply w ready none goes = event_goes v.callsites v.interests v.threads v.is_global v.stack e reply w (known (skeleton_of v) e.callsite false) refl ready none goes.0 goes.1

@@ -1,12 +1,12 @@
--- What the outputs of the one stack are told of a step, as the skeleton decides it.
-use Rattle.std.specs.Prelude.{ℕ, true, false, List, Option, Some, None}
+-- What the outputs of a stack are told of a step, as the skeleton decides it: of a request those of the stack that lanes reach, else those of the span's stack.
+use Rattle.std.specs.Prelude.{true, false, List, Option, Some, None}
 use Rattle.tracing_core_fields.specs.PlainMetadata.{PlainMetadata}
 use Rattle.tracing_core_requests.specs.declared.at.At.{At}
 use Rattle.span_registry_layers_store.specs.Registries.{with_span}
 use Rattle.span_tracing_outputs.specs.Heards.{Notice, close_told, enter_told, exit_told, span_told}
 use Rattle.span_tracing_outputs.specs.Outs.{Made, Recorded}
 use Rattle.span_tracing_outputs.specs.Plain.{Numbered, call_lists, event_lists}
-use Rattle.span_tracing_skeleton.specs.Machine.{callsite_of, known, or_same, parent_id, refusal_of}
+use Rattle.span_tracing_skeleton.specs.Machine.{callsite_of, known, or_same, parent_id, reached, refusal_of, registry_at}
 use Rattle.span_tracing_skeleton.specs.PlainData.{PlainStep, Request, RecordRequest, GlobalStep, EventStep, EnabledStep, SpanStep, RecordStep, FollowsFromStep, EnterStep, ExitStep, CloneStep, CloseStep}
 use Rattle.span_tracing_skeleton.specs.Skeleton.{Skeleton, Answers, Unasked, Wanted, Dropped, Passed, Heard}
 use Rattle.span_tracing_skeleton.specs.declared.call.SpanCall.{SpanCall}
@@ -27,7 +27,7 @@ module _ (N : Type 0) where
   event_told_by s e (Some m) (Wanted b) = None
   event_told_by s e (Some m) Dropped = None
   event_told_by s e (Some m) (Passed passed) = None
-  event_told_by s e (Some m) (Heard passed told) = Some (record { at = place_at e.lane e.moment; lists = event_lists s.registry (place_at e.lane e.moment) (request_of m e) told })
+  event_told_by s e (Some m) (Heard passed told) = Some (record { at = place_at e.lane e.moment; lists = event_lists (reached s) (place_at e.lane e.moment) (request_of m e) told })
 
   -- a new span at a callsite is told to the outputs that see it, whose filters passed it
   abbrev pub span_told_by : Skeleton → Request → Option PlainMetadata → Answers → Option (Told N)
@@ -36,29 +36,29 @@ module _ (N : Type 0) where
   span_told_by s n (Some m) (Wanted b) = None
   span_told_by s n (Some m) Dropped = None
   span_told_by s n (Some m) (Passed passed) =
-      Some (record { at = place_at n.lane n.moment; lists = call_lists (span_told (with_span s.registry m (parent_id s.registry n.lane n.parent) passed) (place_at n.lane n.moment) (Made (request_of m n)) s.registry.next_id) })
+      Some (record { at = place_at n.lane n.moment; lists = call_lists (span_told (with_span (reached s) m (parent_id (reached s) n.lane n.parent) passed) (place_at n.lane n.moment) (Made (request_of m n)) (reached s).next_id) })
   span_told_by s n (Some m) (Heard passed told) = None
 
-  abbrev pub values_told_by : Skeleton → RecordRequest → ℕ → Option PlainMetadata → Option (Told N)
-  values_told_by s r id None = None
-  values_told_by s r id (Some m) = Some (record { at = place_at r.lane r.moment; lists = call_lists (span_told s.registry (place_at r.lane r.moment) (Recorded (own_values m r.values)) id) })
+  abbrev pub values_told_by : Skeleton → RecordRequest → SpanName → Option PlainMetadata → Option (Told N)
+  values_told_by s r name None = None
+  values_told_by s r name (Some m) = Some (record { at = place_at r.lane r.moment; lists = call_lists (span_told (registry_at s name.stack) (place_at r.lane r.moment) (Recorded (own_values m r.values)) name.id) })
 
   abbrev pub record_told_by : Skeleton → RecordRequest → Option SpanName → Option (Told N)
   record_told_by s r None = None
-  record_told_by s r (Some name) = values_told_by s r name.id (callsite_of s name.id)
+  record_told_by s r (Some name) = values_told_by s r name (callsite_of s name)
 
   abbrev pub enter_told_by : Skeleton → SpanCall → Option SpanName → Option (Told N)
   enter_told_by s call None = None
-  enter_told_by s call (Some name) = Some (record { at = place_at call.lane call.moment; lists = call_lists (enter_told s.registry (place_at call.lane call.moment) name.id) })
+  enter_told_by s call (Some name) = Some (record { at = place_at call.lane call.moment; lists = call_lists (enter_told (registry_at s name.stack) (place_at call.lane call.moment) name.id) })
 
   -- an exit is told, and then the closes, a child before its parent
   abbrev pub exit_told_by : Skeleton → SpanCall → Option SpanName → Option (Told N)
   exit_told_by s call None = None
-  exit_told_by s call (Some name) = Some (record { at = place_at call.lane call.moment; lists = call_lists (exit_told s.registry (place_at call.lane call.moment) name.id) })
+  exit_told_by s call (Some name) = Some (record { at = place_at call.lane call.moment; lists = call_lists (exit_told (registry_at s name.stack) (place_at call.lane call.moment) name.id) })
 
   abbrev pub close_told_by : Skeleton → SpanCall → Option SpanName → Option (Told N)
   close_told_by s call None = None
-  close_told_by s call (Some name) = Some (record { at = place_at call.lane call.moment; lists = call_lists (close_told s.registry (place_at call.lane call.moment) name.id) })
+  close_told_by s call (Some name) = Some (record { at = place_at call.lane call.moment; lists = call_lists (close_told (registry_at s name.stack) (place_at call.lane call.moment) name.id) })
 
   -- of a step that is not refused; none where the outputs rest
   abbrev pub told_by : Skeleton → PlainStep → Answers → Option (Told N)
