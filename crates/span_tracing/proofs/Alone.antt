@@ -13,7 +13,7 @@ use Rattle.span_tracing_outputs.specs.Plain.{Fates, Numbered, call_lists, event_
 use Rattle.span_tracing_outputs.specs.TraceFollows.{at_rest, lines_offered}
 use Rattle.span_tracing_sinks.specs.Each.{joined}
 use Rattle.span_tracing_sinks.specs.Runs.{lines_at}
-use Rattle.span_tracing_skeleton.specs.Machine.{callsite_of, known, or_same, refusal_of}
+use Rattle.span_tracing_skeleton.specs.Machine.{callsite_of, known, or_same, reached, refusal_of}
 use Rattle.span_tracing_skeleton.specs.PlainData.{PlainStep, Request, RecordRequest, GlobalStep, EventStep, EnabledStep, SpanStep, RecordStep, FollowsFromStep, EnterStep, ExitStep, CloneStep, CloseStep}
 use Rattle.span_tracing_skeleton.specs.Skeleton.{Skeleton, Answers, Unasked, Wanted, Dropped, Passed, Heard}
 use Rattle.span_tracing_skeleton.specs.declared.call.SpanName.{SpanName}
@@ -93,7 +93,7 @@ module _ (N : Type 0) (place : ℕ) where
   event_is_local s e (Some m) (Wanted b) = tt
   event_is_local s e (Some m) Dropped = tt
   event_is_local s e (Some m) (Passed passed) = tt
-  event_is_local s e (Some m) (Heard passed told) = λ outs others same. event_local N place s.registry _ _ told outs others same
+  event_is_local s e (Some m) (Heard passed told) = λ outs others same. event_local N place (reached s) _ _ told outs others same
 
   span_is_local : (s : Skeleton) (e : Request) (m : Option PlainMetadata) (a : Answers) → IsLocalIf place (span_told_by N s e m a)
   span_is_local s e None a = tt
@@ -103,9 +103,9 @@ module _ (N : Type 0) (place : ℕ) where
   span_is_local s e (Some m) (Passed passed) = λ outs others same. call_local N place _ outs others same
   span_is_local s e (Some m) (Heard passed told) = tt
 
-  values_are_local : (s : Skeleton) (r : RecordRequest) (id : ℕ) (m : Option PlainMetadata) → IsLocalIf place (values_told_by N s r id m)
-  values_are_local s r id None = tt
-  values_are_local s r id (Some m) = λ outs others same. call_local N place _ outs others same
+  values_are_local : (s : Skeleton) (r : RecordRequest) (name : SpanName) (m : Option PlainMetadata) → IsLocalIf place (values_told_by N s r name m)
+  values_are_local s r name None = tt
+  values_are_local s r name (Some m) = λ outs others same. call_local N place _ outs others same
 
   step_is_local : (s : Skeleton) (step : PlainStep) (a : Answers) → IsLocalIf place (told_by N s step a)
   step_is_local s (GlobalStep handle) a = tt
@@ -116,7 +116,7 @@ module _ (N : Type 0) (place : ℕ) where
     where
       by_span : (span : Option SpanName) → IsLocalIf place (told_by N s (RecordStep (record r { span = span })) a)
       by_span None = tt
-      by_span (Some name) = values_are_local s (record r { span = Some name }) name.id (callsite_of s name.id)
+      by_span (Some name) = values_are_local s (record r { span = Some name }) name (callsite_of s name)
   step_is_local s (FollowsFromStep call) a = tt
   step_is_local s (EnterStep call) a = by_span call.span
     where

@@ -2,21 +2,21 @@
 use Rattle.std.proofs.Common.{◌==◌, ℕ, Bool, true, false, if◌then◌else◌, List, [], ◌∷◌, Option, Some, None, IfSome}
 use Rattle.std.proofs.ByRecursion.{All-append, all_kept_by}
 use Rattle.std.specs.List.{AllByRecursion}
-use Rattle.std.specs.Prelude.{nat_lt, length}
+use Rattle.std.specs.Prelude.{get_or, nat_lt, length, set, suc, zero}
 use Rattle.tracing_core_fields.specs.PlainMetadata.{PlainMetadata}
 use Rattle.tracing_core_fields.specs.PlainValue.{PlainValue, debug_of}
 use Rattle.tracing_core_requests.specs.PlainRequests.{PlainEvent}
 use Rattle.tracing_core_requests.specs.declared.at.At.{At}
 use Rattle.span_registry_layers_store.specs.Aside.{ids_of}
 use Rattle.span_registry_layers_store.specs.Gives.{dropped}
-use Rattle.span_registry_layers_store.specs.Registries.{PlainSpan, RegistryValue, closing_in, kin_in, one_less, one_more, with_span, without_entry, without_handle}
+use Rattle.span_registry_layers_store.specs.Registries.{PlainSpan, RegistryValue, closing_in, kin_in, new_registry, one_less, one_more, with_span, without_entry, without_handle}
 use Rattle.span_registry_layers_store.specs.Spans.{changed, found, keep_if, open_of, stays}
 use Rattle.span_registry_layers_store.specs.Views.{seen, seen_if, sees}
 use Rattle.event_formatter_text.specs.JsonLaws.{IsInRange}
 use Rattle.span_tracing_outputs.specs.Heards.{Notice, call_told, closes_told, event_told, exit_told, forgetting, span_told, sweep_told}
 use Rattle.span_tracing_outputs.specs.Outs.{Call, Closed, Entered, Happened, Left, Made, OnSpan, Recorded, Said}
 use Rattle.span_tracing_outputs.specs.Plain.{Numbered, call_lists, event_lists}
-use Rattle.span_tracing_skeleton.specs.Machine.{acted, after, callsite_of, cloned, entered, given_up, if_kind, is_kind, known, left, made_by, named, or_same, parent_id, refusal_of, with_made}
+use Rattle.span_tracing_skeleton.specs.Machine.{acted, after, callsite_of, cloned, entered, given_up, if_kind, is_kind, known, left, made_by, named, or_same, parent_id, reached, reached_by, refusal_of, registry_at, with_made, with_made_by, with_registry}
 use Rattle.span_tracing_skeleton.specs.PlainData.{PlainStep, Request, RecordRequest, GlobalStep, EventStep, EnabledStep, SpanStep, RecordStep, FollowsFromStep, EnterStep, ExitStep, CloneStep, CloseStep}
 use Rattle.span_tracing_skeleton.specs.Skeleton.{Skeleton, Answers, Unasked, Wanted, Dropped, Passed, Heard}
 use Rattle.span_tracing_skeleton.specs.declared.call.SpanCall.{SpanCall}
@@ -91,9 +91,36 @@ own_in_range m values all = all_kept_by (λ (v : ℕ × PlainValue). nat_lt v.0 
 with_span_is : (x : RegistryValue) (m : PlainMetadata) (parent : Option ℕ) (passed : List Bool) → SpansInRange x.spans → IsPlaceInRange m → SpansInRange (with_span x m parent passed).spans
 with_span_is x m parent passed all is = All-append IsSpanInRange x.spans _ all (is, tt)
 
+abbrev IsRegistryInRange : RegistryValue → Type 0
+IsRegistryInRange x = SpansInRange x.spans
+
+stack_is : (xs : List RegistryValue) (stack : ℕ) → AllByRecursion IsRegistryInRange xs → SpansInRange (get_or xs stack new_registry).spans
+stack_is [] stack all = tt
+stack_is (x ∷ xs) zero all = all.0
+stack_is (x ∷ xs) (suc stack) all = stack_is xs stack all.1
+
+other_is : (xs : List RegistryValue) (stack : ℕ) (y : RegistryValue) → AllByRecursion IsRegistryInRange xs → SpansInRange y.spans → AllByRecursion IsRegistryInRange (set xs stack y)
+other_is [] stack y all is = tt
+other_is (x ∷ xs) zero y all is = (is, all.1)
+other_is (x ∷ xs) (suc stack) y all is = (all.0, other_is xs stack y all.1 is)
+
+spans_are : (s : Skeleton) (stack : ℕ) → IsSkeletonInRange s → SpansInRange (registry_at s stack).spans
+spans_are s stack range = stack_is s.stacks stack range.spans
+
+reached_is : (s : Skeleton) (default : Option ℕ) → IsSkeletonInRange s → SpansInRange (reached_by s default).spans
+reached_is s None range = tt
+reached_is s (Some stack) range = spans_are s stack range
+
+with_is : (s : Skeleton) (stack : ℕ) (y : RegistryValue) → IsSkeletonInRange s → SpansInRange y.spans → IsSkeletonInRange (with_registry s stack y)
+with_is s stack y range is = record { callsites = range.callsites; spans = other_is s.stacks stack y range.spans is }
+
+made_in : (default : Option ℕ) (s : Skeleton) (n : Request) (o : Option PlainMetadata) (passed : List Bool) → IfSome o IsPlaceInRange → IsSkeletonInRange s → IsSkeletonInRange (with_made_by default s n o passed)
+made_in None s n o passed is range = range
+made_in (Some stack) s n None passed is range = range
+made_in (Some stack) s n (Some m) passed is range = with_is s stack _ range (with_span_is (registry_at s stack) m (parent_id (registry_at s stack) n.lane n.parent) passed (spans_are s stack range) is)
+
 made_is : (s : Skeleton) (n : Request) (o : Option PlainMetadata) (passed : List Bool) → IfSome o IsPlaceInRange → IsSkeletonInRange s → IsSkeletonInRange (with_made s n o passed)
-made_is s n None passed is range = range
-made_is s n (Some m) passed is range = record { callsites = range.callsites; spans = with_span_is s.registry m (parent_id s.registry n.lane n.parent) passed range.spans is }
+made_is s n o passed is range = made_in s.default s n o passed is range
 
 made_by_is : (s : Skeleton) (n : Request) (a : Answers) → IsSkeletonInRange s → IsSkeletonInRange (made_by s n a)
 made_by_is s n Unasked range = range
@@ -104,19 +131,19 @@ made_by_is s n (Heard passed told) range = range
 
 cloned_is : (s : Skeleton) (o : Option SpanName) → IsSkeletonInRange s → IsSkeletonInRange (cloned s o)
 cloned_is s None range = range
-cloned_is s (Some name) range = record { callsites = range.callsites; spans = changed_is one_more (λ x is. is) s.registry.spans name.id range.spans }
+cloned_is s (Some name) range = with_is s name.stack _ range (changed_is one_more (λ x is. is) (registry_at s name.stack).spans name.id (spans_are s name.stack range))
 
 entered_is : (s : Skeleton) (lane : ℕ) (o : Option SpanName) → IsSkeletonInRange s → IsSkeletonInRange (entered s lane o)
 entered_is s lane None range = range
-entered_is s lane (Some name) range = record { callsites = range.callsites; spans = range.spans }
+entered_is s lane (Some name) range = with_is s name.stack _ range (spans_are s name.stack range)
 
 left_is : (s : Skeleton) (lane : ℕ) (o : Option SpanName) → IsSkeletonInRange s → IsSkeletonInRange (left s lane o)
 left_is s lane None range = range
-left_is s lane (Some name) range = record { callsites = range.callsites; spans = open_is _ s.registry.spans range.spans }
+left_is s lane (Some name) range = with_is s name.stack _ range (open_is _ (registry_at s name.stack).spans (spans_are s name.stack range))
 
 given_up_is : (s : Skeleton) (o : Option SpanName) → IsSkeletonInRange s → IsSkeletonInRange (given_up s o)
 given_up_is s None range = range
-given_up_is s (Some name) range = record { callsites = range.callsites; spans = open_is _ _ (changed_is one_less (λ x is. is) s.registry.spans name.id range.spans) }
+given_up_is s (Some name) range = with_is s name.stack _ range (open_is _ _ (changed_is one_less (λ x is. is) (registry_at s name.stack).spans name.id (spans_are s name.stack range)))
 
 acted_is : (s : Skeleton) (step : PlainStep) (a : Answers) → IsSkeletonInRange s → IsSkeletonInRange (acted s step a)
 acted_is s (GlobalStep handle) a range = record { callsites = range.callsites; spans = range.spans }
@@ -192,7 +219,7 @@ module _ (Q : PlainEvent → Type 0) where
     event_told_is s e (Some m) (Wanted b) is brings = tt
     event_told_is s e (Some m) Dropped is brings = tt
     event_told_is s e (Some m) (Passed passed) is brings = tt
-    event_told_is s e (Some m) (Heard passed told) is brings = λ outs. events_are_said s.registry (place_at e.lane e.moment) (request_of m e) told outs (event_is m e is brings)
+    event_told_is s e (Some m) (Heard passed told) is brings = λ outs. events_are_said (reached s) (place_at e.lane e.moment) (request_of m e) told outs (event_is m e is brings)
 
     span_told_is : (s : Skeleton) (n : Request) (o : Option PlainMetadata) (a : Answers) → IfSome o IsPlaceInRange → IsSkeletonInRange s → ValuesInRange n.values → IfSome (span_told_by N s n o a) ListsAreSaid
     span_told_is s n None a is range brings = tt
@@ -200,29 +227,29 @@ module _ (Q : PlainEvent → Type 0) where
     span_told_is s n (Some m) (Wanted b) is range brings = tt
     span_told_is s n (Some m) Dropped is range brings = tt
     span_told_is s n (Some m) (Passed passed) is range brings =
-        λ outs. calls_are_said _ outs (λ number. span_is_said _ (place_at n.lane n.moment) (Made (request_of m n)) s.registry.next_id number (with_span_is s.registry m (parent_id s.registry n.lane n.parent) passed range.spans is) (own_in_range m n.values brings))
+        λ outs. calls_are_said _ outs (λ number. span_is_said _ (place_at n.lane n.moment) (Made (request_of m n)) (reached s).next_id number (with_span_is (reached s) m (parent_id (reached s) n.lane n.parent) passed (reached_is s s.default range) is) (own_in_range m n.values brings))
     span_told_is s n (Some m) (Heard passed told) is range brings = tt
 
-    values_told_is : (s : Skeleton) (r : RecordRequest) (id : ℕ) (o : Option PlainMetadata) → IsSkeletonInRange s → ValuesInRange r.values → IfSome (values_told_by N s r id o) ListsAreSaid
-    values_told_is s r id None range brings = tt
-    values_told_is s r id (Some m) range brings = λ outs. calls_are_said _ outs (λ number. span_is_said s.registry (place_at r.lane r.moment) (Recorded (own_values m r.values)) id number range.spans (own_in_range m r.values brings))
+    values_told_is : (s : Skeleton) (r : RecordRequest) (name : SpanName) (o : Option PlainMetadata) → IsSkeletonInRange s → ValuesInRange r.values → IfSome (values_told_by N s r name o) ListsAreSaid
+    values_told_is s r name None range brings = tt
+    values_told_is s r name (Some m) range brings = λ outs. calls_are_said _ outs (λ number. span_is_said (registry_at s name.stack) (place_at r.lane r.moment) (Recorded (own_values m r.values)) name.id number (spans_are s name.stack range) (own_in_range m r.values brings))
 
     record_told_is : (s : Skeleton) (r : RecordRequest) (o : Option SpanName) → IsSkeletonInRange s → ValuesInRange r.values → IfSome (record_told_by N s r o) ListsAreSaid
     record_told_is s r None range brings = tt
-    record_told_is s r (Some name) range brings = values_told_is s r name.id (callsite_of s name.id) range brings
+    record_told_is s r (Some name) range brings = values_told_is s r name (callsite_of s name) range brings
 
     enter_told_is : (s : Skeleton) (call : SpanCall) (o : Option SpanName) → IsSkeletonInRange s → IfSome (enter_told_by N s call o) ListsAreSaid
     enter_told_is s call None range = tt
-    enter_told_is s call (Some name) range = λ outs. calls_are_said _ outs (λ number. span_is_said _ (place_at call.lane call.moment) Entered name.id number range.spans tt)
+    enter_told_is s call (Some name) range = λ outs. calls_are_said _ outs (λ number. span_is_said _ (place_at call.lane call.moment) Entered name.id number (spans_are s name.stack range) tt)
 
     exit_told_is : (s : Skeleton) (call : SpanCall) (o : Option SpanName) → IsSkeletonInRange s → IfSome (exit_told_by N s call o) ListsAreSaid
     exit_told_is s call None range = tt
-    exit_told_is s call (Some name) range = λ outs. calls_are_said _ outs (λ number. exit_is_said s.registry (place_at call.lane call.moment) name.id number range.spans)
+    exit_told_is s call (Some name) range = λ outs. calls_are_said _ outs (λ number. exit_is_said (registry_at s name.stack) (place_at call.lane call.moment) name.id number (spans_are s name.stack range))
 
     close_told_is : (s : Skeleton) (call : SpanCall) (o : Option SpanName) → IsSkeletonInRange s → IfSome (close_told_by N s call o) ListsAreSaid
     close_told_is s call None range = tt
     close_told_is s call (Some name) range =
-        λ outs. calls_are_said _ outs (λ number. sweep_is_said (without_handle s.registry name.id) (place_at call.lane call.moment) number (changed_is one_less (λ x is. is) s.registry.spans name.id range.spans))
+        λ outs. calls_are_said _ outs (λ number. sweep_is_said (without_handle (registry_at s name.stack) name.id) (place_at call.lane call.moment) number (changed_is one_less (λ x is. is) (registry_at s name.stack).spans name.id (spans_are s name.stack range)))
 
     told_is : (s : Skeleton) (step : PlainStep) (a : Answers) → IsSkeletonInRange s → Brings R ValuesInRange step → IfSome (told_by N s step a) ListsAreSaid
     told_is s (GlobalStep handle) a range brings = tt

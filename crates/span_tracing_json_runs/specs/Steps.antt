@@ -2,7 +2,7 @@
 use Rattle.std.specs.Prelude.{ℕ, List, IsSome}
 use Rattle.std.specs.List.{AllByRecursion}
 use Rattle.tracing_core_fields.specs.PlainValue.{PlainValue, debug_of}
-use Rattle.span_registry_layers_store.specs.Registries.{PlainSpan}
+use Rattle.span_registry_layers_store.specs.Registries.{PlainSpan, RegistryValue}
 use Rattle.event_formatter_text.specs.JsonLaws.{IsInRange}
 use Rattle.event_formatter_text.specs.JsonTexts.{json_value}
 use Rattle.span_tracing_skeleton.specs.PlainData.{PlainStep, GlobalStep, EventStep, EnabledStep, SpanStep, RecordStep, FollowsFromStep, EnterStep, ExitStep, CloneStep, CloseStep}
@@ -42,7 +42,7 @@ StepsInRange steps = AllByRecursion (Brings ValuesInRange ValuesInRange) steps
 abbrev pub EventsAreFormatted : List PlainStep → Type 0
 EventsAreFormatted steps = AllByRecursion (Brings ValuesAreFormatted AnyValues) steps
 
--- the numbers of the lines in the source of callsites and of open spans are in range
+-- the numbers of the lines in the source of callsites and of the stacks' open spans are in range
 pub record IsSkeletonInRange (s : Skeleton) : Type 0 where
   pub callsites : AllByRecursion IsPlaceInRange s.callsites
-  pub spans : AllByRecursion (λ (x : PlainSpan). IsPlaceInRange x.metadata) s.registry.spans
+  pub spans : AllByRecursion (λ (x : RegistryValue). AllByRecursion (λ (y : PlainSpan). IsPlaceInRange y.metadata) x.spans) s.stacks
