@@ -37,7 +37,7 @@ fn is_above(hint: Option<LevelFilter>, level: Level) -> bool
 {
     match hint {
         None => false,
-        Some(top) => LevelFilter::from_level(level) > top,
+        Some(top) => !top.passes(level),
     }
 }
 

@@ -1,5 +1,5 @@
 //! Which steps are refused, by reading alone.
-ghost use Rattle.std.specs.Prelude.{◌≡◌, if◌then◌else◌, not, Some, None, length, map, option_and_then, is_some};
+ghost use Rattle.std.specs.Prelude.{◌≡◌, false, IfSome, Ok, if◌then◌else◌, not, Some, None, length, map, option_and_then, is_some};
 ghost use Rattle.std.specs.Option.{option_copied, option_map};
 ghost use Rattle.span_registry_layers_store.specs.Registries.{PlainSpan, kin_in};
 ghost use Rattle.span_registry_layers_store.specs.Spans.{found};
@@ -189,6 +189,28 @@ impl<T: Subscriber + HasRegistry> TraceParts<T> {
         match self.parent_refusal(request.parent) {
             Some(refusal) => Err(refusal),
             None => Ok(index),
+        }
+    }
+
+    /// Where the callsite of an event stands that nothing refuses, where a few looks tell it. `None` tells nothing.
+    #[inline(always)]
+    pub(crate) fn found_at_once(&self, event: &Request<'_>) -> Option<CallsiteIndex>
+        requires { IsSound self.now }
+        ensures { IfSome result (λ index. FoundFor T.registry_of (value_in self.now) event.now.lane event.now.moment
+            event.now.callsite false event.now.parent (Ok index)) }
+    {
+        match event.parent {
+            Parent::Explicit(_) => return None,
+            Parent::Contextual | Parent::Root => {}
+        }
+        if self.place_refusal(event.lane, event.moment).is_some() {
+            return None;
+        }
+        let index = self.hub.counted_index_of(Identifier(event.callsite))?;
+        if self.is_kind(index, false) {
+            Some(index)
+        } else {
+            None
         }
     }
 

@@ -1,9 +1,10 @@
 //! Events, questions and new spans.
-ghost use Rattle.std.specs.Prelude.{◌≡◌, IsTrue, None, Ok, Some, false};
+ghost use Rattle.std.specs.Prelude.{◌≡◌, IsTrue, None, Ok, Some, false, true};
+ghost use Rattle.tracing_core_fields.specs.OwnedValues.{owned_entries};
 ghost use Rattle.tracing_core_hub.specs.Indexed.{plain_parent};
 ghost use Rattle.tracing_core_requests.specs.PlainRequests.{explicit_parent};
 ghost use Rattle.tracing_core_requests.specs.declared.refusal.RequestError.{RequestError};
-ghost use Rattle.span_tracing_skeleton.specs.Machine.{told_parent};
+ghost use Rattle.span_tracing_skeleton.specs.Machine.{or_refused, told_parent};
 ghost use Rattle.span_tracing_skeleton.specs.declared.call.Reply.TheVariants.{Done, Refused};
 ghost use Rattle.span_tracing_skeleton.specs.PlainData.{EnabledStep, EventStep, SpanStep};
 ghost use Rattle.span_tracing_steps.specs.Actions.{plain_request};
@@ -16,7 +17,7 @@ use crate::action::Request;
 use crate::parts::TraceParts;
 use span_tracing_skeleton::{EnabledCall, HasRegistry, Parent, Refusal, Reply, SpanName};
 use tracing_appender_folders::Moment;
-use tracing_core_fields::Id;
+use tracing_core_fields::{FieldValue, Id};
 use tracing_core_hub::{CallsiteIndex, RequestParent};
 use tracing_core_requests::{At, RequestError, Subscriber};
 
@@ -121,28 +122,100 @@ impl<T: Subscriber + HasRegistry> TraceParts<T> {
         if self.ignores(index, event.parent) {
             return;
         }
+        self.hand(
+            index,
+            event.lane,
+            event.moment,
+            event.callsite,
+            event.parent,
+            event.values,
+        );
+    }
+
+    // Hands an event to the stack, which is reached. It stands apart, so that an event that the stack ignores saves no registers for it.
+    #[inline(never)]
+    fn hand(
+        &mut self,
+        index: CallsiteIndex,
+        lane: usize,
+        moment: Moment,
+        callsite: u64,
+        parent: Parent,
+        values: &[FieldValue],
+    )
+        requires sound { IsSound self.old }
+        requires found { FoundFor T.registry_of (value_in self.old) lane moment callsite false parent (Ok index) }
+        requires reached { (value_in self.old).is_global ≡ true }
+        ensures sound { IsSound self.new }
+        ensures gives { StepGives ⟦<T as Subscriber>⟧ T.registry_of (value_in self.old) (EventStep
+            (record { lane = lane; moment = moment; callsite = callsite; parent = parent; values = owned_entries values.now }))
+            Done (value_in self.new) }
+    {
         let Some(handle) = &self.handle else {
             unreachable!()
         };
         // The refusals were looked for, so nothing stands in its way.
-        let at = at_of(event.lane, event.moment);
-        let parent = parent_of(event.parent);
-        let _told = self.hub.event_at(handle, index, parent, event.values, at);
+        let at = at_of(lane, moment);
+        let parent = parent_of(parent);
+        let _told = self.hub.event_at(handle, index, parent, values, at);
+    }
+
+    // An event, whatever is to be said of it.
+    #[inline(never)]
+    fn event_apart(
+        &mut self,
+        lane: usize,
+        moment: Moment,
+        callsite: u64,
+        parent: Parent,
+        values: &[FieldValue],
+    ) -> Option<Refusal>
+        requires { IsSound self.old }
+        ensures sound { IsSound self.new }
+        ensures gives { StepGives ⟦<T as Subscriber>⟧ T.registry_of (value_in self.old) (EventStep
+            (record { lane = lane; moment = moment; callsite = callsite; parent = parent; values = owned_entries values.now }))
+            (or_refused result Done) (value_in self.new) }
+    {
+        let event = Request {
+            lane,
+            moment,
+            callsite,
+            parent,
+            values,
+        };
+        match self.find_for(&event, false) {
+            Err(refusal) => Some(refusal),
+            Ok(index) => {
+                self.tell(index, &event);
+                None
+            }
+        }
     }
 
     /// An event on a lane.
+    #[inline(always)]
     pub fn event(&mut self, event: &Request<'_>) -> Reply
         requires { IsSound self.old }
         ensures sound { IsSound self.new }
         ensures gives { StepGives ⟦<T as Subscriber>⟧ T.registry_of (value_in self.old) (EventStep
             (plain_request event.now)) result (value_in self.new) }
     {
-        match self.find_for(event, false) {
-            Err(refusal) => refused(refusal),
-            Ok(index) => {
+        let refusal = match self.found_at_once(event) {
+            None => self.event_apart(
+                event.lane,
+                event.moment,
+                event.callsite,
+                event.parent,
+                event.values,
+            ),
+            Some(index) => {
                 self.tell(index, event);
-                Reply::Done
+                None
             }
+        };
+        match refusal {
+            None => Reply::Done,
+            Some(refusal) => Reply::Refused(refusal),
         }
     }
 

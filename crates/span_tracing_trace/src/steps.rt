@@ -74,6 +74,7 @@ impl<N: FormatFields + Drop, E: FormatEvent, F: Filter, S: LineSink> Trace<Trace
     }
 
     /// An event on a lane. A line that finds no memory is missing alone, and counted.
+    #[inline(always)]
     pub fn event(
         &mut self,
         lane: usize,

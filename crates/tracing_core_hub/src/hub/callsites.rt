@@ -62,7 +62,8 @@ impl<C> Callsites<C> {
     }
 
     // The index of the callsite with the identifier, where identifiers rise by one from the first callsite's to it.
-    fn counted_index(&self, identifier: u64) -> Option<usize>
+    #[inline(always)]
+    pub(crate) fn counted_index(&self, identifier: u64) -> Option<usize>
         ensures { IfSome result (λ index. index_of_callsite identifier self.now ≡ Some index) }
     {
         let first = self.callsites.first()?;

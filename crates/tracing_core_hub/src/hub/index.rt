@@ -1,5 +1,5 @@
 //! Callsites by where they stand in a hub.
-ghost use Rattle.std.specs.Prelude.{◌≡◌, Bool, Some, slice_get};
+ghost use Rattle.std.specs.Prelude.{◌≡◌, IfSome, Some, Bool, Some, slice_get};
 ghost use Rattle.std.specs.Option.{option_map};
 ghost use Rattle.tracing_core_fields.specs.Metadata.{plain_metadata};
 ghost use Rattle.tracing_core_hub.specs.Commands.{GateGivesAt, reached};
@@ -24,6 +24,18 @@ impl<S, C> Hub<S, C> {
         ensures { option_map (λ index. index.0) result ≡ index_of_callsite identifier.0 self.now.callsites }
     {
         match self.callsites.index_of(identifier.0) {
+            None => None,
+            Some(index) => Some(CallsiteIndex(index)),
+        }
+    }
+
+    /// Where the callsite with the identifier stands, where identifiers were counted on by one from the first callsite's to it. It takes
+    /// a few comparisons. `None` tells nothing: [`index_of`](Hub::index_of) then looks in a map.
+    #[inline(always)]
+    pub fn counted_index_of(&self, identifier: Identifier) -> Option<CallsiteIndex>
+        ensures { IfSome result (λ index. index_of_callsite identifier.0 self.now.callsites ≡ Some index.0) }
+    {
+        match self.callsites.counted_index(identifier.0) {
             None => None,
             Some(index) => Some(CallsiteIndex(index)),
         }
