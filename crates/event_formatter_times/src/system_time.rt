@@ -19,6 +19,9 @@ const LAST_DAY: i64 = 2_932_896;
 // How many bytes `YYYY-MM-DDTHH:MM:SS.` has.
 const START_LEN: usize = 20;
 
+// How many bytes `ffffffZ` has.
+const FRACTION_LEN: usize = 7;
+
 // A second of the years 0 to 9999 with its text and a point, kept since the next line is mostly of the same second.
 #[derive(Drop)]
 struct LastSecond {
@@ -77,12 +80,35 @@ fn second_with_text(alloc: Global, second: i64) -> Result<LastSecond, AllocError
 
 // Appends the microseconds and the sign of UTC.
 #[inline(always)]
+fn push_micros(out: &mut String, microseconds: u32) -> Result<(), AllocError>
+    requires { microseconds < 1000000 }
+    ensures { OnOk result (string_bytes out.new ≡ string_bytes out.old ++ (six_digits microseconds ++ codes "Z")) }
+{
+    push_six(out, microseconds)?;
+    out.push('Z')
+}
+
+// The same where there is too little room, so that some is made.
+#[cold]
+#[inline(never)]
+fn push_micros_apart(out: &mut String, microseconds: u32) -> Result<(), AllocError>
+    requires { microseconds < 1000000 }
+    ensures { OnOk result (string_bytes out.new ≡ string_bytes out.old ++ (six_digits microseconds ++ codes "Z")) }
+{
+    push_micros(out, microseconds)
+}
+
+// Appends the microseconds and the sign of UTC. Where room is looked for before the digits are made, the compiler holds none of them
+// while it looks, and copies two at a time.
+#[inline(always)]
 fn push_fraction(out: &mut String, nanoseconds: u32) -> Result<(), AllocError>
     requires { nanoseconds < 1000000000 }
     ensures { OnOk result (string_bytes out.new ≡ string_bytes out.old ++ (six_digits (nanoseconds / 1000) ++ codes "Z")) }
 {
-    push_six(out, nanoseconds / 1000)?;
-    out.push('Z')
+    if out.capacity() - out.len() < FRACTION_LEN {
+        return push_micros_apart(out, nanoseconds / 1000);
+    }
+    push_micros(out, nanoseconds / 1000)
 }
 
 impl SystemTime {
