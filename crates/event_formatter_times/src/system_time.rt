@@ -38,6 +38,14 @@ pub struct SystemTime {
     last: Option<LastSecond>,
 }
 
+// The same error. A call of it tells the compiler which way is seldom gone, so that pushes on the other way are inlined.
+#[cold]
+fn seldom<E>(error: E) -> E
+    ensures { result ≡ error }
+{
+    error
+}
+
 // Whether the day is of the years 0 to 9999.
 fn is_date_day(day: i64) -> bool
     ensures { result ≡ is_date day }
@@ -84,7 +92,9 @@ fn push_micros(out: &mut String, microseconds: u32) -> Result<(), AllocError>
     requires { microseconds < 1000000 }
     ensures { OnOk result (string_bytes out.new ≡ string_bytes out.old ++ (six_digits microseconds ++ codes "Z")) }
 {
-    push_six(out, microseconds)?;
+    let Ok(()) = push_six(out, microseconds) else {
+        return Err(seldom(AllocError));
+    };
     out.push('Z')
 }
 
@@ -119,6 +129,7 @@ impl SystemTime {
 
     // Appends the text of a second that isn't the last one, and a point, and keeps both. It stands apart, as it is seldom
     // needed.
+    #[cold]
     #[inline(never)]
     fn push_next_second(
         &mut self,
@@ -150,7 +161,9 @@ impl SystemTime {
     {
         match &self.last {
             Some(last) if last.second == second && last.text.len() == START_LEN => {
-                out.push_str(last.text.as_str())?;
+                let Ok(()) = out.push_str(last.text.as_str()) else {
+                    return Err(seldom(FormatError::OutOfMemory));
+                };
                 Ok(())
             }
             _ => self.push_next_second(alloc, out, second),
@@ -161,7 +174,7 @@ impl SystemTime {
 impl FormatTime for SystemTime {
     ghost text_at = { λ timer s n. moment_text s n };
 
-    #[inline(never)]
+    #[inline(always)]
     fn format_time(
         &mut self,
         alloc: Global,
@@ -170,10 +183,14 @@ impl FormatTime for SystemTime {
         nanoseconds: u32,
     ) -> Result<(), FormatError> {
         if nanoseconds >= 1_000_000_000 {
-            return Err(FormatError::Failed);
+            return Err(seldom(FormatError::Failed));
         }
-        self.push_second(alloc, out, seconds)?;
-        push_fraction(out, nanoseconds)?;
+        if let Err(error) = self.push_second(alloc, out, seconds) {
+            return Err(seldom(error));
+        }
+        let Ok(()) = push_fraction(out, nanoseconds) else {
+            return Err(seldom(FormatError::OutOfMemory));
+        };
         Ok(())
     }
 }
