@@ -20,15 +20,17 @@ three_behind old front a b c mid new m n =
     (then old (front ++ a) b (mid ++ a) ((mid ++ a) ++ b) (then old front a mid (mid ++ a) m refl) refl)
     (three mid a b c new n)
 
--- what stands before the fields was appended in five calls
-pub in_turn : (old time level name id spans target file line timed levelled placed spanned new : List ℕ) → timed ≡ old ++ time →
-    levelled ≡ timed ++ level → placed ≡ levelled ++ (name ++ id) → spanned ≡ placed ++ spans →
+-- what stands before the fields was appended in four calls
+pub in_turn : (old time level name id spans target file line levelled placed spanned new : List ℕ) → levelled ≡ old ++ (time ++ level) →
+    placed ≡ levelled ++ (name ++ id) → spanned ≡ placed ++ spans →
     new ≡ spanned ++ (target ++ (file ++ line)) → new ≡ old ++ (((((((time ++ level) ++ name) ++ id) ++ spans) ++ target) ++ file) ++ line)
-in_turn old time level name id spans target file line timed levelled placed spanned new t l p s n =
+in_turn old time level name id spans target file line levelled placed spanned new l p s n =
     let threaded = ((time ++ level) ++ name) ++ id in
     three_behind old (threaded ++ spans) target file line spanned new
     (then old threaded spans placed spanned
-    (three_behind old time level name id timed placed t (p ∙ ap (λ (x : List ℕ). x ++ (name ++ id)) l ∙ append_assoc timed level (name ++ id)))
+    (then old ((time ++ level) ++ name) id (levelled ++ name) placed
+    (then old (time ++ level) name levelled (levelled ++ name) l refl)
+    (p ∙ sym (append_assoc levelled name id)))
     s)
     n
 

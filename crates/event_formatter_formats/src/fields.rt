@@ -1,5 +1,7 @@
 //! The field formatters as one type.
 ghost use Rattle.std.specs.Prelude.{[]};
+ghost use Rattle.event_formatter_text.specs.Lists.{Formats};
+ghost use Rattle.event_formatter_text.specs.Writers.{IsSameWriter, settings_of, written};
 ghost use Rattle.event_formatter_formats.specs.FieldFormats.{added, started_text, text_of};
 
 use crate::line_format::Pretty;
@@ -22,6 +24,28 @@ pub enum Fields {
     Json,
 }
 
+impl Fields {
+    // Appends the text of the fields by whatever formatter it is. It stands apart, as most are the default one.
+    #[inline(never)]
+    fn format_by_kind<R: RecordFields>(
+        &self,
+        alloc: Global,
+        writer: &mut Writer<'_>,
+        fields: &R,
+    ) -> Result<(), FormatError>
+        ensures same { IsSameWriter writer.old writer.new }
+        ensures text { Formats (text_of self.now (settings_of writer.old) (R.values fields.now))
+            (written writer.old) result (written writer.new) }
+    {
+        match self {
+            Fields::Default => DefaultFields.format_fields(alloc, writer, fields),
+            Fields::Pretty => Pretty::new().format_fields(alloc, writer, fields),
+            Fields::PrettyFields => PrettyFields.format_fields(alloc, writer, fields),
+            Fields::Json => JsonFields.format_fields(alloc, writer, fields),
+        }
+    }
+}
+
 impl FormatFields for Fields {
     ghost text_of = { text_of };
 
@@ -36,12 +60,10 @@ impl FormatFields for Fields {
         writer: &mut Writer<'_>,
         fields: &R,
     ) -> Result<(), FormatError> {
-        match self {
-            Fields::Default => DefaultFields.format_fields(alloc, writer, fields),
-            Fields::Pretty => Pretty::new().format_fields(alloc, writer, fields),
-            Fields::PrettyFields => PrettyFields.format_fields(alloc, writer, fields),
-            Fields::Json => JsonFields.format_fields(alloc, writer, fields),
+        if matches!(self, Fields::Default) {
+            return DefaultFields.format_fields(alloc, writer, fields);
         }
+        self.format_by_kind(alloc, writer, fields)
     }
 
     fn start(&self, alloc: Global, settings: Settings) -> Result<FormattedFields, AllocError> {

@@ -38,9 +38,13 @@ pub(crate) fn fill_time<T: FormatTime>(
     Ok(true)
 }
 
-// Appends the text of the moment, and another one where the timer has none.
+/// Appends the text of the moment, and another one where the timer has none.
+///
+/// # Errors
+///
+/// Want of memory.
 #[inline(always)]
-fn push_moment<T: FormatTime>(
+pub(crate) fn push_moment<T: FormatTime>(
     alloc: Global,
     out: &mut String,
     timer: &mut T,

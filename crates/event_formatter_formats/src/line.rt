@@ -62,9 +62,9 @@ pub(crate) fn head_with<'a>(
 pub(crate) fn with_styles(ansi: Option<bool>, settings: Settings) -> Settings
     ensures { result ≡ with_styles ansi settings }
 {
-    match ansi {
-        None => settings,
-        Some(styles) => Settings { styles, ..settings },
+    Settings {
+        styles: ansi.unwrap_or(settings.styles),
+        ..settings
     }
 }
 

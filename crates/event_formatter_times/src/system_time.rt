@@ -19,6 +19,9 @@ const LAST_DAY: i64 = 2_932_896;
 // How many bytes `YYYY-MM-DDTHH:MM:SS.` has.
 const START_LEN: usize = 20;
 
+// How many bytes `ffffffZ` has.
+const FRACTION_LEN: usize = 7;
+
 // A second of the years 0 to 9999 with its text and a point, kept since the next line is mostly of the same second.
 #[derive(Drop)]
 struct LastSecond {
@@ -33,6 +36,14 @@ struct LastSecond {
 #[derive(Drop)]
 pub struct SystemTime {
     last: Option<LastSecond>,
+}
+
+// The same error. A call of it tells the compiler which way is seldom gone, so that pushes on the other way are inlined.
+#[cold]
+fn seldom<E>(error: E) -> E
+    ensures { result ≡ error }
+{
+    error
 }
 
 // Whether the day is of the years 0 to 9999.
@@ -77,12 +88,37 @@ fn second_with_text(alloc: Global, second: i64) -> Result<LastSecond, AllocError
 
 // Appends the microseconds and the sign of UTC.
 #[inline(always)]
+fn push_micros(out: &mut String, microseconds: u32) -> Result<(), AllocError>
+    requires { microseconds < 1000000 }
+    ensures { OnOk result (string_bytes out.new ≡ string_bytes out.old ++ (six_digits microseconds ++ codes "Z")) }
+{
+    let Ok(()) = push_six(out, microseconds) else {
+        return Err(seldom(AllocError));
+    };
+    out.push('Z')
+}
+
+// The same where there is too little room, so that some is made.
+#[cold]
+#[inline(never)]
+fn push_micros_apart(out: &mut String, microseconds: u32) -> Result<(), AllocError>
+    requires { microseconds < 1000000 }
+    ensures { OnOk result (string_bytes out.new ≡ string_bytes out.old ++ (six_digits microseconds ++ codes "Z")) }
+{
+    push_micros(out, microseconds)
+}
+
+// Appends the microseconds and the sign of UTC. Where room is looked for before the digits are made, the compiler holds none of them
+// while it looks, and copies two at a time.
+#[inline(always)]
 fn push_fraction(out: &mut String, nanoseconds: u32) -> Result<(), AllocError>
     requires { nanoseconds < 1000000000 }
     ensures { OnOk result (string_bytes out.new ≡ string_bytes out.old ++ (six_digits (nanoseconds / 1000) ++ codes "Z")) }
 {
-    push_six(out, nanoseconds / 1000)?;
-    out.push('Z')
+    if out.capacity() - out.len() < FRACTION_LEN {
+        return push_micros_apart(out, nanoseconds / 1000);
+    }
+    push_micros(out, nanoseconds / 1000)
 }
 
 impl SystemTime {
@@ -93,6 +129,7 @@ impl SystemTime {
 
     // Appends the text of a second that isn't the last one, and a point, and keeps both. It stands apart, as it is seldom
     // needed.
+    #[cold]
     #[inline(never)]
     fn push_next_second(
         &mut self,
@@ -124,7 +161,9 @@ impl SystemTime {
     {
         match &self.last {
             Some(last) if last.second == second && last.text.len() == START_LEN => {
-                out.push_str(last.text.as_str())?;
+                let Ok(()) = out.push_str(last.text.as_str()) else {
+                    return Err(seldom(FormatError::OutOfMemory));
+                };
                 Ok(())
             }
             _ => self.push_next_second(alloc, out, second),
@@ -135,7 +174,7 @@ impl SystemTime {
 impl FormatTime for SystemTime {
     ghost text_at = { λ timer s n. moment_text s n };
 
-    #[inline(never)]
+    #[inline(always)]
     fn format_time(
         &mut self,
         alloc: Global,
@@ -144,10 +183,14 @@ impl FormatTime for SystemTime {
         nanoseconds: u32,
     ) -> Result<(), FormatError> {
         if nanoseconds >= 1_000_000_000 {
-            return Err(FormatError::Failed);
+            return Err(seldom(FormatError::Failed));
         }
-        self.push_second(alloc, out, seconds)?;
-        push_fraction(out, nanoseconds)?;
+        if let Err(error) = self.push_second(alloc, out, seconds) {
+            return Err(seldom(error));
+        }
+        let Ok(()) = push_fraction(out, nanoseconds) else {
+            return Err(seldom(FormatError::OutOfMemory));
+        };
         Ok(())
     }
 }

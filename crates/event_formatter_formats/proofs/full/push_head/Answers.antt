@@ -19,10 +19,9 @@ returns-clause-text g c =
     let context = plain_context g.N.FormatFields.text_of c.args.context.now in
     let thread = plain_thread c.args.context.now.thread in
     let old = string_bytes c.args.out.now in
-    let timed = string_bytes c.push_shown_time.new.out in
-    let levelled = string_bytes c.push_shown_level.new.out in
+    let levelled = string_bytes c.push_time_and_level.new.out in
     let placed = string_bytes c.push_shown_thread.new.out in
-    let spanned = string_bytes c.push_spans.new.out in
+    let spanned = string_bytes c.push_scope.new.out in
     let time = λ (at : At). time_piece settings (time_shown parts (g.T.FormatTime.text_at c.args.timer.now at.seconds at.nanoseconds)) in
     let line = asked parts.line_number m.line in
     in_turn old
@@ -34,10 +33,9 @@ returns-clause-text g c =
     (target_piece settings (asked parts.target (Some m.target)))
     (file_piece settings (is_some line) (asked parts.file m.file))
     (line_piece settings line)
-    timed levelled placed spanned
+    levelled placed spanned
     (string_bytes c.push_source.new.out)
-    (c.in-Ok.ensures.text ∙ ap (λ (at : At). old ++ time at) c.at.ensures)
-    c.in-Ok-push_shown_level.ensures
+    (c.in-Ok.ensures.text ∙ ap (λ (at : At). old ++ (time at ++ level_piece settings (asked parts.level (Some m.level)))) c.at-at.ensures)
     (c.in-Ok-push_shown_thread.ensures ∙ ap (λ (t : PlainThread). levelled ++ (plain_piece (name_shown true parts t) ++ plain_piece (id_shown true parts t))) c.thread.ensures)
-    (c.in-Ok-push_spans.ensures ∙ ap (λ (spans : List PlainShown). placed ++ spans_text settings spans) c.strict_spans.ensures)
+    (c.in-Ok-push_scope.ensures ∙ ap (λ (spans : List PlainShown). placed ++ spans_text settings spans) c.strict_spans.ensures)
     c.in_ok-push_source.ensures

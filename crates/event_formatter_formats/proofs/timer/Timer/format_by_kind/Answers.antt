@@ -1,7 +1,7 @@
 use Rattle.std.proofs.Common.{ap, sym, ◌∙◌}
 use Rattle.event_formatter_formats.specs.Timers.{text_at}
 use Rattle.event_formatter_formats.specs.declared.timer.Timer.{Timer}
-use Rattle.event_formatter_formats.proofs.timer.TimerFormatTime.format_time.Goals as goal
+use Rattle.event_formatter_formats.proofs.timer.Timer.format_by_kind.Goals as goal
 
 pub returns-in-Fixed-clause-timer : goal.returns-in-Fixed-clause-timer
 returns-in-Fixed-clause-timer c s n =
