@@ -1,5 +1,5 @@
 //! Which steps are refused, by reading alone.
-ghost use Rattle.std.specs.Prelude.{◌≡◌, false, IfSome, Ok, if◌then◌else◌, not, Some, None, length, map, option_and_then, is_some};
+ghost use Rattle.std.specs.Prelude.{◌≡◌, false, true, IfSome, Ok, if◌then◌else◌, not, Some, None, length, map, option_and_then, is_some};
 ghost use Rattle.std.specs.Option.{option_copied, option_map};
 ghost use Rattle.span_registry_layers_store.specs.Registries.{PlainSpan, kin_in};
 ghost use Rattle.span_registry_layers_store.specs.Spans.{found};
@@ -192,6 +192,23 @@ impl<T: Subscriber + HasRegistry> TraceParts<T> {
         }
     }
 
+    // Where an event's callsite with the identifier stands, where counting finds it. `None` tells nothing.
+    #[inline(always)]
+    fn counted_event(&self, number: u64) -> Option<CallsiteIndex>
+        requires { IsSound self.now }
+        ensures { IfSome result (λ index. (at_index (value_in self.now).callsites (Some index) ≡ known (skeleton_of T.registry_of
+            (value_in self.now)) number false) × (is_some (known (skeleton_of T.registry_of (value_in self.now)) number false) ≡ true)) }
+    {
+        let Some(index) = self.hub.counted_index_of(Identifier(number)) else {
+            return None;
+        };
+        if self.is_kind(index, false) {
+            Some(index)
+        } else {
+            None
+        }
+    }
+
     /// Where the callsite of an event stands that nothing refuses, where a few looks tell it. `None` tells nothing.
     #[inline(always)]
     pub(crate) fn found_at_once(&self, event: &Request<'_>) -> Option<CallsiteIndex>
@@ -203,15 +220,13 @@ impl<T: Subscriber + HasRegistry> TraceParts<T> {
             Parent::Explicit(_) => return None,
             Parent::Contextual | Parent::Root => {}
         }
-        if self.place_refusal(event.lane, event.moment).is_some() {
+        if let Some(_) = self.place_refusal(event.lane, event.moment) {
             return None;
         }
-        let index = self.hub.counted_index_of(Identifier(event.callsite))?;
-        if self.is_kind(index, false) {
-            Some(index)
-        } else {
-            None
-        }
+        let Some(index) = self.counted_event(event.callsite) else {
+            return None;
+        };
+        Some(index)
     }
 
     /// Why no span is made: the stack is reached, and all ids were given.

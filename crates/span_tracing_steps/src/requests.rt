@@ -53,16 +53,6 @@ fn names_none(parent: Parent) -> bool
     }
 }
 
-// The answer of a refusal. It stands apart: put together beside the answer of an event that is told, it would make each event
-// copy unused bytes.
-#[cold]
-#[inline(never)]
-fn refused(refusal: Refusal) -> Reply
-    ensures { result ≡ Refused refusal }
-{
-    Reply::Refused(refusal)
-}
-
 // The name of the span that was made.
 fn name_of(id: Option<Id>) -> Option<SpanName>
     ensures { result ≡ named_as id }

@@ -35,10 +35,8 @@ impl<S, C> Hub<S, C> {
     pub fn counted_index_of(&self, identifier: Identifier) -> Option<CallsiteIndex>
         ensures { IfSome result (λ index. index_of_callsite identifier.0 self.now.callsites ≡ Some index.0) }
     {
-        match self.callsites.counted_index(identifier.0) {
-            None => None,
-            Some(index) => Some(CallsiteIndex(index)),
-        }
+        let index = self.callsites.counted_index(identifier.0)?;
+        Some(CallsiteIndex(index))
     }
 
     /// The common interest that is kept of the callsite at the index, or `None` where none stands there.
