@@ -50,6 +50,9 @@ fn callsites_stand_at_an_index(rt: HostRuntime) -> Result<(), Fail> {
         hub.index_of(Identifier(3))
             .is_some_and(|other| other != index)
     );
+    // 9 isn't the number behind 3, so counting doesn't find it.
+    assert_eq!(rt; hub.counted_index_of(Identifier(3)), hub.index_of(Identifier(3)));
+    assert!(rt; hub.counted_index_of(Identifier(9)).is_none());
     assert!(rt;
         hub.interest_at(index)
             .is_some_and(|interest| interest.is_always())
