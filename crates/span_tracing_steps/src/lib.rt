@@ -4,6 +4,7 @@
 mod action;
 mod callsite;
 mod checks;
+mod finding;
 mod interest;
 mod laws;
 mod parts;

@@ -51,7 +51,10 @@ fn callsites_stand_at_an_index(rt: HostRuntime) -> Result<(), Fail> {
             .is_some_and(|other| other != index)
     );
     // 9 isn't the number behind 3, so counting doesn't find it.
-    assert_eq!(rt; hub.counted_index_of(Identifier(3)), hub.index_of(Identifier(3)));
+    assert_eq!(rt;
+        hub.counted_index_of(Identifier(3)),
+        hub.index_of(Identifier(3))
+    );
     assert!(rt; hub.counted_index_of(Identifier(9)).is_none());
     assert!(rt;
         hub.interest_at(index)
