@@ -185,9 +185,14 @@ OTHERS = re.compile(r"it calls `|depends on|which is not proved|was not admitted
 NAMES = re.compile(r"depends? on .*(rejected|not admitted)|has no field|is not in scope|has no `")
 
 
+def messages(out):
+    """Returns the lines of the output, each with those that go on with it: they begin with two blanks."""
+    return re.sub(r"\n  +", " ", out).split("\n")
+
+
 def states(out):
     """Returns by function whether it is proved, refused by itself, inherits from another, or is unclear."""
-    lines, found = out.split("\n"), {}
+    lines, found = messages(out), {}
     for name, what in re.findall(r"(?m)^fn (\S+?): (.*)$", out):
         folder = f"./proofs/{'/'.join(name.split('::')[1:])}/"
         errors = [it for it in lines if it.startswith(folder) and ": error: " in it]
@@ -243,7 +248,7 @@ def tried_alone(crate, edit, kept):
     if ran.returncode == 0:
         return False, "NOT REFUSED: the crate is still proved with it"
     if ran.returncode == 1 and lines[-1].startswith("logic=not-proved"):
-        told = [it for it in lines if re.match(r"(note: )?\S+:\d+:\d+: ", it) and ("it is not proved" in it or ": error" in it)]
+        told = [it for it in messages(ran.stdout) if re.match(r"(note: )?\S+:\d+:\d+: ", it) and ("it is not proved" in it or ": error" in it)]
         plain = [it for it in told if not NAMES.search(it) and "was not admitted" not in it]
         weak = "" if plain or not told else " (only by a proof that names what it takes away: weak evidence)"
         return True, f"refused, tried alone{weak}: {[*plain, *told, 'the crate is not proved'][0][:160]}"

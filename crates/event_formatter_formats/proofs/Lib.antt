@@ -1,3 +1,4 @@
+mod Alone
 mod Heads
 mod Scopes
 mod Handing

@@ -1,19 +1,23 @@
 //! What a line shows of an event, and how.
-ghost use Rattle.std.specs.Prelude.{◌≡◌, ℕ, ℤ, false, true, Some, None, string_bytes};
+ghost use Rattle.std.specs.Prelude.{◌≡◌, ℕ, ℤ, false, true, Some, None, length, string_bytes};
 ghost use Rattle.tracing_core_requests.specs.PlainRequests.{plain_event};
 ghost use Rattle.event_formatter_text.specs.Lists.{Formats};
-ghost use Rattle.event_formatter_lines.specs.Json.{default_shape};
+ghost use Rattle.event_formatter_lines.specs.Heads.{usual_head};
+ghost use Rattle.event_formatter_lines.specs.Json.{default_shape, json_line};
 ghost use Rattle.event_formatter_formats.specs.Contexts.{plain_context};
+ghost use Rattle.event_formatter_formats.specs.Headings.{time_or_unknown};
 ghost use Rattle.event_formatter_formats.specs.Lines.{line_in, with_styles};
 ghost use Rattle.event_formatter_formats.specs.Parts.{default_parts};
 
 use crate::context::FmtContext;
 use crate::format_event::FormatEvent;
 use crate::full::push_full;
-use crate::heading::{fill_id, fill_name, fill_time};
+use crate::heading::{fill_id, fill_moment, fill_name, fill_time};
 use crate::line::{head_with, push_line, shown, with_styles};
 use crate::line_format::{Compact, EventShape, Full, Json, LineFormat, Pretty};
 use crate::parts::Parts;
+use crate::seldom::out_of_memory;
+use event_formatter_lines::{ShownSpans, push_json_line_in_span};
 use event_formatter_text::{FormatError, FormatFields, Settings};
 use event_formatter_times::{FormatTime, SystemTime};
 use std::alloc::Global;
@@ -247,7 +251,7 @@ impl<T: Drop> Format<Json, T> {
 }
 
 impl<F: Drop, T: FormatTime + Drop> Format<F, T> {
-    // Appends the line of an event in any format. It stands apart, so that full lines need no room for the others.
+    // Appends the line of an event in any format. It stands apart, so that other lines need no room for what it needs.
     #[inline(never)]
     fn push_shaped<N: FormatFields>(
         &mut self,
@@ -278,7 +282,41 @@ impl<F: Drop, T: FormatTime + Drop> Format<F, T> {
         push_line(alloc, out, settings, shape, parts, &head, context, event)
     }
 
-    // The same, which lends a copy of the context, so that full lines, which share the caller's, read it from registers.
+    // Appends the JSON line of an event in one span, with no other part than time, level and target.
+    #[inline(never)]
+    fn push_json_in_span<N: FormatFields>(
+        &mut self,
+        alloc: Global,
+        context: &FmtContext<'_, '_, N>,
+        out: &mut String,
+        event: &Event<'_, '_>,
+    ) -> Result<(), FormatError>
+        requires { length context.now.ids.now ≡ 1 }
+        ensures rest { (self.new.shape ≡ self.old.shape) × (self.new.parts ≡ self.old.parts) × (self.new.ansi ≡ self.old.ansi) }
+        ensures timer { (s : ℤ) (n : ℕ) → T.text_at self.new.timer s n ≡ T.text_at self.old.timer s n }
+        ensures text { let c = plain_context N.text_of context.now in let m = (plain_event event.now).metadata in
+            let time = time_or_unknown (T.text_at self.old.timer c.seconds c.nanoseconds) in
+            Formats (json_line default_shape (usual_head time m.level m.target) c.loose (plain_event event.now).values)
+            (string_bytes out.old) result (string_bytes out.new) }
+    {
+        let Ok(()) = fill_moment(alloc, &mut self.time, &mut self.timer, context.at()) else {
+            return Err(out_of_memory());
+        };
+        let metadata = event.metadata();
+        let spans = context.loose_spans();
+        let span = spans.span(0);
+        push_json_line_in_span(
+            out,
+            self.time.as_str(),
+            *metadata.level(),
+            metadata.target(),
+            &span,
+            event,
+        )
+    }
+
+    // Appends the line of an event in any format. It lends a copy of the context, so that full lines, which share the caller's, read it
+    // from registers.
     #[inline(always)]
     fn push_apart<N: FormatFields>(
         &mut self,
@@ -296,6 +334,9 @@ impl<F: Drop, T: FormatTime + Drop> Format<F, T> {
             (plain_event event.now)) (string_bytes out.old) result (string_bytes out.new) }
     {
         let apart = context.apart();
+        if self.parts.are_default() && shape.is_default_json() && apart.loose_spans().count() == 1 {
+            return self.push_json_in_span(alloc, &apart, out, event);
+        }
         self.push_shaped(alloc, &apart, out, settings, shape, event)
     }
 }

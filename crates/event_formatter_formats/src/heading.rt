@@ -14,7 +14,7 @@ use event_formatter_times::{FormatTime, push_thread_id, push_thread_name};
 use std::alloc::{AllocError, Global};
 use tracing_core_requests::At;
 
-/// Puts the text of the moment in place of what `out` held, and answers whether a time is shown.
+/// Where a time is shown, puts the text of the moment in place of what `out` held. It answers whether one is.
 ///
 /// # Errors
 ///
@@ -30,12 +30,30 @@ pub(crate) fn fill_time<T: FormatTime>(
     ensures text { Shows (time_shown parts (T.text_at timer.old at.seconds at.nanoseconds)) result
         (string_bytes out.new) }
 {
-    out.clear();
     if !parts.timestamp {
         return Ok(false);
     }
-    push_moment(alloc, out, timer, at.seconds, at.nanoseconds)?;
+    fill_moment(alloc, out, timer, at)?;
     Ok(true)
+}
+
+/// Puts the text of the moment in place of what `out` held.
+///
+/// # Errors
+///
+/// Want of memory.
+#[inline(always)]
+pub(crate) fn fill_moment<T: FormatTime>(
+    alloc: Global,
+    out: &mut String,
+    timer: &mut T,
+    at: At,
+) -> Result<(), AllocError>
+    ensures timer { (s : ℤ) (n : ℕ) → T.text_at timer.new s n ≡ T.text_at timer.old s n }
+    ensures text { OnOk result (string_bytes out.new ≡ time_or_unknown (T.text_at timer.old at.seconds at.nanoseconds)) }
+{
+    out.clear();
+    push_moment(alloc, out, timer, at.seconds, at.nanoseconds)
 }
 
 /// Appends the text of the moment, and another one where the timer has none.

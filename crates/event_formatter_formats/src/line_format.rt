@@ -1,5 +1,5 @@
 //! The formats, by what stands where in a line.
-ghost use Rattle.std.specs.Prelude.{◌≡◌, true};
+ghost use Rattle.std.specs.Prelude.{◌≡◌, IsTrue, true};
 ghost use Rattle.event_formatter_lines.specs.Json.{default_shape};
 ghost use Rattle.event_formatter_formats.specs.Lines.{is_padded};
 ghost use Rattle.event_formatter_formats.specs.declared.line_format.LineFormat.{LineFormat};
@@ -130,6 +130,16 @@ impl LineFormat {
             LineFormat::Full | LineFormat::Compact => true,
             LineFormat::Pretty(_) | LineFormat::Json(_) => false,
         }
+    }
+
+    // Whether it is JSON in the default shape.
+    pub(crate) fn is_default_json(self) -> bool
+        ensures { IsTrue result → self ≡ format.Json (record { shape = default_shape }) }
+    {
+        let LineFormat::Json(json) = self else {
+            return false;
+        };
+        !json.shape.flatten_event && json.shape.current_span && json.shape.span_list
     }
 }
 

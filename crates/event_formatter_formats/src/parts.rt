@@ -1,5 +1,5 @@
 //! Which parts a line shows.
-ghost use Rattle.std.specs.Prelude.{◌≡◌};
+ghost use Rattle.std.specs.Prelude.{◌≡◌, IsTrue};
 ghost use Rattle.event_formatter_formats.specs.Parts.{default_parts};
 
 /// Which parts a line shows beside its fields and spans.
@@ -35,5 +35,16 @@ impl Default for Parts {
             file: false,
             line_number: false,
         }
+    }
+}
+
+impl Parts {
+    // Whether time, level and target are shown, and nothing else.
+    pub(crate) fn are_default(&self) -> bool
+        ensures { IsTrue result → self.now ≡ default_parts }
+    {
+        let shows_thread = self.thread_names || self.thread_ids;
+        let shows_place = self.file || self.line_number;
+        self.timestamp && self.level && self.target && !shows_thread && !shows_place
     }
 }

@@ -1,5 +1,6 @@
 mod Framing
 mod LeafFirst
+mod InSpan
 mod Members
 mod Levels
 mod Braces

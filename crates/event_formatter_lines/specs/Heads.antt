@@ -60,3 +60,16 @@ plain_head head =
       file = option_map (λ text. text.now) head.file;
       line = head.line;
     }
+
+-- a time, a level and a target, and nothing else
+abbrev pub usual_head : List ℕ → ℕ → List ℕ → PlainHead
+usual_head time level target =
+    record {
+      time = Some time;
+      level = Some level;
+      thread_name = None;
+      thread_id = None;
+      target = Some target;
+      file = None;
+      line = None;
+    }

@@ -108,3 +108,14 @@ object_line before fields behind = option_map (λ members. object_of (before ++ 
 abbrev pub json_line : JsonShape → PlainHead → List PlainShown → PlainValues → Option (List ℕ)
 json_line shape head spans values =
     object_line (first_members head) (field_members shape.flatten_event values) (last_members shape head spans)
+
+-- what stands before the fields of a line that shows time and level, and the fields in an object of their own
+abbrev pub before_fields : List ℕ → ℕ → List ℕ
+before_fields time level =
+    codes "{\"timestamp\":" ++ json_string time ++ codes ",\"level\":" ++ json_string (level_name level) ++ codes ",\"fields\":{"
+
+-- what stands behind the fields of a line that shows its target and one span
+abbrev pub behind_fields : List ℕ → PlainShown → List ℕ
+behind_fields target span =
+    codes "},\"target\":" ++ json_string target ++ codes ",\"span\":" ++ span_object span ++ codes ",\"spans\":["
+    ++ span_object span ++ codes "]}\n"

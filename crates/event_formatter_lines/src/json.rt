@@ -1,5 +1,6 @@
 //! The JSON format: an event as an object on a line of its own.
 
+mod in_span;
 mod key;
 mod members;
 mod spans;
@@ -13,6 +14,7 @@ ghost use Rattle.event_formatter_lines.specs.Json.{field_members, json_line, key
 use crate::head::Head;
 use crate::shown::ShownSpans;
 use event_formatter_text::{FormatError, RecordFields, push_json_members};
+pub use in_span::push_json_line_in_span;
 use members::{begin_with_first_members, push_place_members, push_thread_members};
 use spans::push_span_members;
 use std::alloc::AllocError;

@@ -16,7 +16,7 @@ pub use compact::{push_compact_head, push_compact_line};
 pub use fmt_span::FmtSpan;
 pub use full::{push_full_head, push_full_line, push_place, push_spans, push_target};
 pub use head::{Head, push_level};
-pub use json::{JsonShape, push_json_line};
+pub use json::{JsonShape, push_json_line, push_json_line_in_span};
 pub use laws::{
     json_fields_keep_objects, json_lines_end_once, lines_are_json, spans_extend_objects,
 };

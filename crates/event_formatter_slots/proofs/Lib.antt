@@ -1,3 +1,4 @@
+mod Untimed
 mod Ordering
 mod Tagged
 mod Writing

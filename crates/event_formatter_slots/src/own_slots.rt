@@ -9,6 +9,7 @@ use span_registry_layers_store::{Extensions, OutputKey, Slot, Tag};
 use std::alloc::Global;
 
 /// Puts a slot there, and answers whether that found memory. Where there is a slot it needs none.
+#[inline(never)]
 pub(crate) fn put(slots: &mut Extensions, key: OutputKey, tag: Tag, slot: Slot) -> bool
     ensures { Puts tag (plain_slot slot) (by_tag key.0 slots.old) result (by_tag key.0 slots.new) }
 {

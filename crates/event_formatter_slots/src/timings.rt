@@ -1,5 +1,5 @@
 //! How long spans were busy and idle, as it is kept.
-ghost use Rattle.std.specs.Prelude.{◌≡◌};
+ghost use Rattle.std.specs.Prelude.{◌≡◌, is_some};
 ghost use Rattle.std.specs.Option.{option_map};
 ghost use Rattle.span_registry_layers_layers.specs.Looks.{SameLoan, left, view};
 ghost use Rattle.event_formatter_slots.specs.ByTag.{Leaves, by_tag, kept_by};
@@ -52,6 +52,17 @@ fn step_kept(slots: &mut Extensions, key: OutputKey, step: TimingStep, at: At) -
     }
 }
 
+// Whether timings are kept with the span, where the context sees it.
+#[inline(always)]
+fn keeps_timings(context: &Context<'_>, span: &Id, key: OutputKey) -> bool
+    ensures { result ≡ is_some (kept_in (view context.now) span.now key.0).timings }
+{
+    match context.span(span) {
+        None => false,
+        Some(found) => matches!(found.slot(key, Tag::Timings), Some(Slot::Timings(_))),
+    }
+}
+
 /// Brings the timings that are kept with a span up to the context's moment, and answers them.
 ///
 /// Where the context doesn't see the span, or no timings are kept, there is nothing to answer and nothing happens.
@@ -67,6 +78,10 @@ pub fn step_timings(
     ensures answered { let v = view context.old in
         result ≡ (kept_stepped step v.at (kept_in v span.now key.0)).timings }
 {
+    // Most spans keep none, and a look costs less than a loan of what is to be changed.
+    if !keeps_timings(context, span, key) {
+        return None;
+    }
     let at = context.at();
     match context.extensions_mut(span) {
         None => None,

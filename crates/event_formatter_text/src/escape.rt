@@ -2,7 +2,7 @@
 //!
 //! Most texts have no such character. So their bytes are looked at first, those of a longer text by blocks, and a text that has none is
 //! appended as it is.
-ghost use Rattle.std.specs.Prelude.{◌≡◌, ◌+◌, ◌≤◌, ◌++◌, IsTrue, OnOk, codes, length, string_bytes};
+ghost use Rattle.std.specs.Prelude.{◌≡◌, ◌+◌, ◌≤◌, ◌++◌, IsTrue, OnOk, codes, length, not, string_bytes};
 ghost use Rattle.std.specs.List.{list_any};
 ghost use Rattle.tracing_core_fields.specs.Quoted.{quoted, quoted_char};
 ghost use Rattle.event_formatter_text.specs.Escapes.{escaped, is_special, json_char, json_string, sanitized_char, written_char};
@@ -262,6 +262,27 @@ pub(crate) fn push_escaped(out: &mut String, escape: Escape, text: &str) -> Resu
     }
 }
 
+/// Whether nothing of the text is written out in a JSON string, so that it stands there as it is.
+#[inline(always)]
+pub fn is_plain_json(text: &str) -> bool
+    ensures bytes { result ≡ not (list_any (is_special Json) text.now) }
+    ensures plain { IsTrue result → escaped json_char text.now ≡ text.now }
+{
+    !has_special(Escape::Json, text.as_bytes())
+}
+
+/// Appends what stands between the quotes of the text as a JSON string.
+///
+/// # Errors
+///
+/// Want of memory. What was appended before is to be dropped.
+#[inline(always)]
+pub fn push_json_inside(out: &mut String, text: &str) -> Result<(), AllocError>
+    ensures { OnOk result (string_bytes out.new ≡ string_bytes out.old ++ escaped json_char text.now) }
+{
+    push_escaped(out, Escape::Json, text)
+}
+
 /// Appends what stands behind the first quote of the text as a JSON string, up to the last quote.
 ///
 /// # Errors
@@ -272,7 +293,7 @@ pub fn push_json_rest(out: &mut String, text: &str) -> Result<(), AllocError>
     ensures { OnOk result (string_bytes out.new ≡ string_bytes out.old
         ++ (escaped json_char text.now ++ codes "\"")) }
 {
-    push_escaped(out, Escape::Json, text)?;
+    push_json_inside(out, text)?;
     out.push('"')
 }
 

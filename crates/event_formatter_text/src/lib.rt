@@ -22,7 +22,7 @@ mod writer;
 
 pub use default_fields::DefaultFields;
 pub use error::FormatError;
-pub use escape::{push_json_rest, push_json_string};
+pub use escape::{is_plain_json, push_json_inside, push_json_rest, push_json_string};
 pub use format_fields::FormatFields;
 pub use formatted_fields::FormattedFields;
 pub use json_fields::JsonFields;

@@ -108,8 +108,8 @@ fn push_micros_apart(out: &mut String, microseconds: u32) -> Result<(), AllocErr
     push_micros(out, microseconds)
 }
 
-// Appends the microseconds and the sign of UTC. Where room is looked for before the digits are made, the compiler holds none of them
-// while it looks, and copies two at a time.
+// Appends the microseconds of so many nanoseconds, and the sign of UTC. Room is looked for before the digits are made: the compiler then
+// holds none of them while it looks, and copies two at a time.
 #[inline(always)]
 fn push_fraction(out: &mut String, nanoseconds: u32) -> Result<(), AllocError>
     requires { nanoseconds < 1000000000 }

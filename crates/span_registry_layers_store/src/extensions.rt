@@ -116,6 +116,7 @@ fn insert_place(
 }
 
 /// Puts a slot there, and answers the one that was there.
+#[inline(always)]
 fn replace_place(
     places: &mut Vec<Place>,
     key: OutputKey,
@@ -217,6 +218,7 @@ impl Extensions {
     /// # Errors
     ///
     /// The slot comes back for want of memory, which changes nothing.
+    #[inline(always)]
     pub fn replace(&mut self, key: OutputKey, tag: Tag, slot: Slot) -> Result<Option<Slot>, Slot>
         ensures state { ReplaceGives self.old key.0 tag (plain_slot slot) result self.new }
         ensures order { AreInOrder self.new }

@@ -39,7 +39,7 @@ heard_call v s call =
       strict = seen_from v (Some s);
     }
 
--- what the skeleton tells an output: the notice, and the skeleton at that time, which filters may look at. The skeleton is a registry without slots
+-- what an output hears, and the registry of its stack at that time, without slots, which filters may look at
 pub record Notice : Type 0 where
   pub heard : Heard
   pub within : RegistryValue

@@ -31,7 +31,7 @@ use Rattle.span_tracing_outputs.specs.StackFollows.{IfTaken}
 use Rattle.span_tracing_outputs.specs.TraceFollows.{CloseIf, EventIf, IsReady, RefusedBy, Rests, StepGoes as OutputsStep, TraceFollows, TraceGoes, numbers_in, verdicts_from}
 use Rattle.span_tracing_outputs.specs.TraceStacks.{TraceMoves, TraceStackValue}
 use Rattle.span_tracing_outputs.specs.Turns.{Lines}
-use Rattle.span_tracing_skeleton.specs.Machine.{acted, after, answered, call_refusal, callsite_of, callsite_refusal, cloned, count_refusal, entered, first, given_up, handle_refusal, has_open, ids_refusal, is_closed, known, knows_stack, lane_refusal, leads_to, left, made_by, moment_refusal, named, or_refused, or_same, parent_id, parent_refusal, reached, refusal_of, registry_at, reply_of, request_refusal, told_parent, when}
+use Rattle.span_tracing_skeleton.specs.Machine.{acted, after, answered, call_refusal, callsite_of, callsite_refusal, cloned, count_refusal, entered, first, given_up, handle_refusal, has_open, ids_refusal, is_closed, known, knows_stack, lane_refusal, leads_to, left, moment_refusal, named, or_refused, or_same, parent_refusal, reached, refusal_of, registry_at, request_refusal, told_parent, when}
 use Rattle.span_tracing_skeleton.specs.PlainData.{PlainStep, Request, RecordRequest, on_span, GlobalStep, EventStep, EnabledStep, SpanStep, RecordStep, FollowsFromStep, EnterStep, ExitStep, CloneStep, CloseStep}
 use Rattle.span_tracing_skeleton.specs.Skeleton.{Skeleton, Answers, Unasked, Wanted, Dropped, Passed, Heard}
 use Rattle.span_tracing_skeleton.specs.declared.call.EnabledCall.{EnabledCall}

@@ -119,7 +119,7 @@ span_refusal s (Some name) =
 abbrev pub call_refusal : Skeleton → SpanCall → Option Refusal
 call_refusal s call = first (lane_refusal s call.lane) (first (moment_refusal call.moment) (span_refusal s call.span))
 
--- the stacks of both spans are looked at first, then whether they are one stack, then whether the spans are open
+-- the stack of a span that is named has to be known
 abbrev pub stack_refusal : Skeleton → Option SpanName → Option Refusal
 stack_refusal s None = None
 stack_refusal s (Some name) = when (not (knows_stack s name.stack)) UnknownStack
@@ -134,6 +134,7 @@ foreign_refusal None follows = None
 foreign_refusal (Some name) None = None
 foreign_refusal (Some name) (Some followed) = when (not (followed.stack == name.stack)) ForeignParent
 
+-- the stacks of both spans are looked at first, then whether they are one stack, then whether the spans are open
 abbrev pub pair_refusal : Skeleton → Option SpanName → Option SpanName → Option Refusal
 pair_refusal s span follows =
     first (stack_refusal s span)

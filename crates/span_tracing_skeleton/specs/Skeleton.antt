@@ -1,4 +1,4 @@
--- What decides replies: callsites, lanes and the registry of spans, without texts, values, filters and files.
+-- What decides replies: callsites, lanes, the registries of the stacks and the global default, without texts, values, filters and files.
 use Rattle.std.specs.Prelude.{ℕ, List, [], Bool, Option, None}
 use Rattle.tracing_core_fields.specs.PlainMetadata.{PlainMetadata}
 use Rattle.span_registry_layers_store.specs.Registries.{RegistryValue}

@@ -1,9 +1,9 @@
 //! Which steps are refused, by reading alone.
-ghost use Rattle.std.specs.Prelude.{◌≡◌, if◌then◌else◌, not, Some, None, length, map, option_and_then, is_some};
+ghost use Rattle.std.specs.Prelude.{◌≡◌, not, Some, None, is_some};
 ghost use Rattle.std.specs.Option.{option_copied, option_map};
 ghost use Rattle.span_registry_layers_store.specs.Registries.{PlainSpan, kin_in};
 ghost use Rattle.span_registry_layers_store.specs.Spans.{found};
-ghost use Rattle.span_tracing_skeleton.specs.Machine.{call_refusal, callsite_of, count_refusal, enabled_refusal, first, follows_refusal, foreign_refusal, handle_refusal, handles_in, has_open, ids_refusal, if_kind, known, knows_stack, lane_refusal, moment_refusal, named, open_refusal, pair_refusal, parent_refusal, registry_at, span_refusal, stack_refusal, when};
+ghost use Rattle.span_tracing_skeleton.specs.Machine.{call_refusal, callsite_of, count_refusal, enabled_refusal, first, follows_refusal, foreign_refusal, handle_refusal, handles_in, has_open, ids_refusal, knows_stack, lane_refusal, moment_refusal, named, open_refusal, pair_refusal, parent_refusal, registry_at, span_refusal, stack_refusal, when};
 ghost use Rattle.span_tracing_skeleton.specs.declared.refusal.Refusal.TheVariants.{GlobalSet, UnknownStack};
 ghost use Rattle.span_tracing_skeleton.specs.PlainData.{on_span};
 ghost use Rattle.span_tracing_steps.specs.Actions.{plain_record};
@@ -240,7 +240,7 @@ impl<T: Subscriber + HasRegistry> TraceParts<T> {
         }
     }
 
-    // The stacks of both are looked at before whether they are open.
+    // The stacks of both are looked at first, then whether they are one stack, and then whether the spans are open.
     fn pair_refusal(&self, call: &FollowsCall) -> Option<Refusal>
         ensures { result ≡ pair_refusal (skeleton_of T.registry_of (value_in self.now)) call.now.span
             call.now.follows }

@@ -97,7 +97,8 @@ impl<T: Subscriber + HasRegistry> TraceParts<T> {
         }
     }
 
-    /// Where the callsite of an event stands that nothing refuses, where a few looks tell it. `None` tells nothing.
+    /// Where the callsite of an event stands that nothing refuses. A few looks tell it of an event that names no parent, and whose callsite
+    /// is found by counting. `None` tells nothing, not even a refusal.
     #[inline(always)]
     pub(crate) fn found_at_once(&self, event: &Request<'_>) -> Option<CallsiteIndex>
         requires { IsSound self.now }
@@ -111,6 +112,7 @@ impl<T: Subscriber + HasRegistry> TraceParts<T> {
         if let Some(_) = self.place_refusal(event.lane, event.moment) {
             return None;
         }
+        // Matched here, the answer costs the caller fewer instructions than where the call is the last expression.
         let Some(index) = self.counted_event(event.callsite) else {
             return None;
         };

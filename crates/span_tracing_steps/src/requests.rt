@@ -3,9 +3,8 @@ ghost use Rattle.std.specs.Prelude.{◌≡◌, IsTrue, None, Ok, Some, false, tr
 ghost use Rattle.tracing_core_fields.specs.OwnedValues.{owned_entries};
 ghost use Rattle.tracing_core_hub.specs.Indexed.{plain_parent};
 ghost use Rattle.tracing_core_requests.specs.PlainRequests.{explicit_parent};
-ghost use Rattle.tracing_core_requests.specs.declared.refusal.RequestError.{RequestError};
 ghost use Rattle.span_tracing_skeleton.specs.Machine.{or_refused, told_parent};
-ghost use Rattle.span_tracing_skeleton.specs.declared.call.Reply.TheVariants.{Done, Refused};
+ghost use Rattle.span_tracing_skeleton.specs.declared.call.Reply.TheVariants.{Done};
 ghost use Rattle.span_tracing_skeleton.specs.PlainData.{EnabledStep, EventStep, SpanStep};
 ghost use Rattle.span_tracing_steps.specs.Actions.{plain_request};
 ghost use Rattle.span_tracing_steps.specs.Finding.{FoundFor, StaysAt};

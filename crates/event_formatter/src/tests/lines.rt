@@ -3,6 +3,7 @@
 mod fmt_span;
 mod full;
 mod json;
+mod json_in_span;
 mod pretty;
 
 ghost use Rattle.std.specs.Prelude.{◌≡◌, map};
@@ -36,6 +37,7 @@ const BARE: Head<'static> = Head {
 };
 
 // A span of a test.
+#[derive(Clone, Copy, Drop)]
 struct Row {
     name: &'static str,
     target: &'static str,

@@ -83,9 +83,9 @@ pub(super) fn push_line_number(
     Ok(false)
 }
 
-// Appends the level behind another member. The key and the name of most levels are one text.
+/// Appends the level behind another member. The key and the name of most levels are one text.
 #[inline(always)]
-fn push_later_level(out: &mut String, level: Level) -> Result<(), AllocError>
+pub(super) fn push_later_level(out: &mut String, level: Level) -> Result<(), AllocError>
     ensures { OnOk result (string_bytes out.new ≡ string_bytes out.old
         ++ (codes "," ++ (key_text (codes "level") ++ json_string (level_name level)))) }
 {

@@ -13,8 +13,8 @@ use super::members::{push_key, push_text_member};
 use crate::shown::{ShownSpan, ShownSpans};
 use std::alloc::AllocError;
 
-// The text without its last brace, where it begins and ends with braces. Each is one byte, so that no character has to be read.
-fn begun_object(text: &str) -> Option<&str>
+/// The text without its last brace, where it begins and ends with braces. Each is one byte, so that no character has to be read.
+pub(super) fn begun_object(text: &str) -> Option<&str>
     ensures { option_map (λ begun. begun.now) result ≡ option_map (λ members. codes "{" ++ members) (inside_braces text.now) }
 {
     match text.as_bytes() {
@@ -58,9 +58,9 @@ fn begin_object(out: &mut String, text: &str) -> Result<bool, AllocError>
     }
 }
 
-// Appends the object of a span.
+/// Appends the object of a span.
 #[tactic(auto, using(crate::proofs::Members::object), unfolding(crate::specs::Json::span_object))]
-fn push_span(out: &mut String, span: &ShownSpan<'_>) -> Result<(), AllocError>
+pub(super) fn push_span(out: &mut String, span: &ShownSpan<'_>) -> Result<(), AllocError>
     ensures { OnOk result (string_bytes out.new ≡ string_bytes out.old ++ span_object (plain_shown span.now)) }
 {
     let is_first = begin_object(out, span.text)?;

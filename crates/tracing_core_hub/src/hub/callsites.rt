@@ -61,7 +61,7 @@ impl<C> Callsites<C> {
         }
     }
 
-    // The index of the callsite with the identifier, where identifiers rise by one from the first callsite's to it.
+    // The index of the callsite with the identifier, where that index is the identifier less the first callsite's.
     #[inline(always)]
     pub(crate) fn counted_index(&self, identifier: u64) -> Option<usize>
         ensures { IfSome result (λ index. index_of_callsite identifier self.now ≡ Some index) }

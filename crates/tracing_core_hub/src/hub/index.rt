@@ -1,5 +1,5 @@
 //! Callsites by where they stand in a hub.
-ghost use Rattle.std.specs.Prelude.{◌≡◌, IfSome, Some, Bool, Some, slice_get};
+ghost use Rattle.std.specs.Prelude.{◌≡◌, IfSome, Some, Bool, slice_get};
 ghost use Rattle.std.specs.Option.{option_map};
 ghost use Rattle.tracing_core_fields.specs.Metadata.{plain_metadata};
 ghost use Rattle.tracing_core_hub.specs.Commands.{GateGivesAt, reached};
@@ -29,8 +29,8 @@ impl<S, C> Hub<S, C> {
         }
     }
 
-    /// Where the callsite with the identifier stands, where identifiers were counted on by one from the first callsite's to it. It takes
-    /// a few comparisons. `None` tells nothing: [`index_of`](Hub::index_of) then looks in a map.
+    /// Where the callsite with the identifier stands, where its index is the identifier less the first callsite's. It takes a few
+    /// comparisons. `None` tells nothing: [`index_of`](Hub::index_of) then looks in a map.
     #[inline(always)]
     pub fn counted_index_of(&self, identifier: Identifier) -> Option<CallsiteIndex>
         ensures { IfSome result (λ index. index_of_callsite identifier.0 self.now.callsites ≡ Some index.0) }

@@ -65,3 +65,41 @@ fn line_without_spans(rt: HostRuntime) -> Result<(), Fail> {
     );
     Ok(())
 }
+
+#[test]
+fn usual_line(rt: HostRuntime) -> Result<(), Fail> {
+    let mut registry = in_json_span(rt.alloc())?;
+    let mut format = Format::new(rt.alloc())
+        .with_timer(fake_time(rt.alloc())?)
+        .json();
+    let line = line_of(
+        rt.alloc(),
+        &mut registry,
+        &mut format,
+        Fields::Json,
+        &json_message(),
+    )?;
+    assert_eq!(rt;
+        line.as_str(),
+        "{\"timestamp\":\"fake time\",\"level\":\"INFO\",\"fields\":{\"message\":\"some json test\"},\"target\":\"app\",\
+         \"span\":{\"answer\":42,\"number\":3,\"name\":\"json_span\"},\
+         \"spans\":[{\"answer\":42,\"number\":3,\"name\":\"json_span\"}]}\n"
+    );
+    // One part more than the usual ones.
+    let mut format = Format::new(rt.alloc())
+        .with_timer(fake_time(rt.alloc())?)
+        .with_thread_ids(true)
+        .json();
+    let line = line_of(
+        rt.alloc(),
+        &mut registry,
+        &mut format,
+        Fields::Json,
+        &json_message(),
+    )?;
+    assert!(rt;
+        line.as_str()
+            .ends_with("}],\"threadId\":\"ThreadId(1)\"}\n")
+    );
+    Ok(())
+}

@@ -4,8 +4,13 @@ use Rattle.span_registry_layers_layers.specs.Looks.{view}
 use Rattle.event_formatter_slots.specs.ByTag.{Leaves, by_tag, kept_by}
 use Rattle.event_formatter_slots.specs.Kept.{PlainKept}
 use Rattle.event_formatter_slots.specs.SteppedTimings.{kept_stepped}
+use Rattle.event_formatter_slots.proofs.Untimed.{untimed}
 use Rattle.event_formatter_slots.proofs.Writing.{kept_of_lent, rekept_by}
 use Rattle.event_formatter_slots.proofs.timings.step_timings.Goals as goal
+
+pub returns-then-not-keeps_timings-clause-kept : goal.returns-then-not-keeps_timings-clause-kept
+returns-then-not-keeps_timings-clause-kept c =
+    untimed c.args.context.now c.args.span.now c.args.key.0 c.args.step (sym c.keeps_timings.ensures ∙ c.if-not-keeps_timings.true)
 
 pub returns-in-Some-clause-kept : goal.returns-in-Some-clause-kept
 returns-in-Some-clause-kept c =
