@@ -1,6 +1,6 @@
 """What the gate takes of the toolchain: its command `rt`, loaded as a module, so that the rules of a verdict are the toolchain's own.
 
-Nothing of the toolchain is copied here. All that the gate names of it is in this file, in `edits.py`, in `tests.py` and in `gate.py`'s `refusal_of_text`."""
+Nothing of the toolchain is copied here. The scripts that import this file name all that the gate takes of it."""
 import importlib.machinery
 import importlib.util
 import os

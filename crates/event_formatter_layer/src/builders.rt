@@ -65,6 +65,25 @@ impl<W> Layer<DefaultFields, Format<Full, SystemTime>, W> {
             },
         }
     }
+
+    /// The same as [`Layer::new`].
+    pub fn default(
+        alloc: Global,
+        key: OutputKey,
+        maker: W,
+    ) -> Layer<DefaultFields, Format<Full, SystemTime>, W>
+        ensures key { result.config.key ≡ key }
+        ensures maker { result.output.maker ≡ maker }
+        ensures settings { result.config.settings ≡ record { styles = false; sanitizes = true } }
+        ensures events { result.config.span_events ≡ no_span_events }
+        ensures timer { result.config.has_timer ≡ true }
+        ensures faults { result.config.log_internal_errors ≡ true }
+        ensures format { (result.format.parts ≡ default_parts) × (result.format.ansi ≡ None) }
+        ensures threads { (plain_lanes result.threads ≡ []) × (result.threads.longest ≡ 0) }
+        ensures starved { result.output.starved ≡ 0 }
+    {
+        Layer::new(alloc, key, maker)
+    }
 }
 
 impl<N: Drop, E: Drop, W: Drop> Layer<N, E, W> {

@@ -61,12 +61,19 @@ separated : (punctuation : Punctuation) → Passes (separator punctuation)
 separated Default = harmless_pass (codes " ") refl
 separated Pretty = harmless_pass (codes ", ") refl
 
-module _ (settings : Settings) (harmless : AreHarmless settings) (punctuation : Punctuation) (name : List ℕ) (is : steers (plain_name name) ≡ false) where
-  later_pass : (texts : List (List ℕ)) → Passes (shown_later settings texts)
-  later_pass [] rest = refl
-  later_pass (text ∷ texts) rest =
-      both_pass (codes ", " ++ shown settings text) (shown_later settings texts) (both_pass (codes ", ") (shown settings text) (harmless_pass (codes ", ") refl) (shown_passes settings harmless.1 text)) (later_pass texts) rest
+later_pass : (settings : Settings) → settings.sanitizes ≡ true → (texts : List (List ℕ)) → Passes (shown_later settings texts)
+later_pass settings on [] rest = refl
+later_pass settings on (text ∷ texts) rest =
+    both_pass (codes ", " ++ shown settings text) (shown_later settings texts) (both_pass (codes ", ") (shown settings text) (harmless_pass (codes ", ") refl) (shown_passes settings on text)) (later_pass settings on texts) rest
 
+list_passes : (settings : Settings) → settings.sanitizes ≡ true → (texts : List (List ℕ)) → Passes (shown_list settings texts)
+list_passes settings on [] rest = refl
+list_passes settings on (text ∷ texts) = both_pass (shown settings text) (shown_later settings texts) (shown_passes settings on text) (later_pass settings on texts)
+
+pub error_texts_are : (settings : Settings) → AreHarmless settings → (text : List ℕ) (sources : List (List ℕ)) → (steers (shown settings text) ≡ false) × (steers (shown_list settings sources) ≡ false)
+error_texts_are settings harmless text sources = (passing_is (shown settings text) (shown_passes settings harmless.1 text), passing_is (shown_list settings sources) (list_passes settings harmless.1 sources))
+
+module _ (settings : Settings) (harmless : AreHarmless settings) (punctuation : Punctuation) (name : List ℕ) (is : steers (plain_name name) ≡ false) where
   label_passes : Passes (label settings punctuation name)
   label_passes = by_test (is_message name)
     where
@@ -91,7 +98,7 @@ module _ (settings : Settings) (harmless : AreHarmless settings) (punctuation : 
   sources_pass [] rest = refl
   sources_pass (source ∷ sources) rest =
       let all : List ℕ = shown_list settings (source ∷ sources) in
-      let all_pass : Passes all = both_pass (shown settings source) (shown_later settings sources) (shown_passes settings harmless.1 source) (later_pass sources) in
+      let all_pass : Passes all = list_passes settings harmless.1 (source ∷ sources) in
       let labelled : List ℕ = separator punctuation ++ sources_label settings punctuation name in
       let labelled_pass : Passes labelled = both_pass (separator punctuation) (sources_label settings punctuation name) (separated punctuation) sources_label_passes in
       let opened_pass : Passes (labelled ++ codes "[") = both_pass labelled (codes "[") labelled_pass (harmless_pass (codes "[") refl) in

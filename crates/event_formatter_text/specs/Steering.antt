@@ -2,7 +2,7 @@
 use Rattle.std.specs.Prelude.{◌≡◌, ℕ, List, [], ◌∷◌, Bool, true, false, ◌&&◌, ◌||◌, ◌==◌, nat_le, IfSome, codes}
 use Rattle.tracing_core_fields.specs.PlainDebug.{OfError, OfText, Written}
 use Rattle.event_formatter_text.specs.Escapes.{sanitized}
-use Rattle.event_formatter_text.specs.FieldTexts.{field_piece, plain_name}
+use Rattle.event_formatter_text.specs.FieldTexts.{field_piece, plain_name, shown, shown_list}
 use Rattle.event_formatter_text.specs.declared.field_text.Punctuation.{Punctuation}
 use Rattle.event_formatter_text.specs.declared.settings.Settings.{Settings}
 
@@ -42,3 +42,9 @@ ErrorsAreHarmless =
     (settings : Settings) → AreHarmless settings → (punctuation : Punctuation) (name : List ℕ) →
     steers (plain_name name) ≡ false → (text : List ℕ) (sources : List (List ℕ)) →
     IfSome (field_piece settings punctuation name (OfError text sources)) (λ piece. steers piece ≡ false)
+
+-- nor do an error's own text and the list of its sources' texts, whatever the field's name is
+abbrev pub ErrorTextsAreHarmless : Type 0
+ErrorTextsAreHarmless =
+    (settings : Settings) → AreHarmless settings → (text : List ℕ) (sources : List (List ℕ)) →
+    (steers (shown settings text) ≡ false) × (steers (shown_list settings sources) ≡ false)

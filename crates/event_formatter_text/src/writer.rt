@@ -113,7 +113,7 @@ impl<'w> Writer<'w> {
     ///
     /// # Errors
     ///
-    /// Want of memory, or a value that could not be formatted; nothing was appended then.
+    /// Want of memory, or a value that could not be formatted. What was appended before is to be dropped.
     pub fn write_fmt<D: Display + Drop>(&mut self, value: D) -> Result<(), AllocError>
         ensures same { IsSameWriter self.old self.new }
         ensures text { OnOk result (AppendsText (written self.old) (written self.new) (D.output value)) }

@@ -103,7 +103,7 @@ fn serve(
     Some(trace.try_close(0, now, request))
 }
 
-/// Some seconds past 2025-02-17T10:01:00Z. A program with a clock takes `Moment::new` of its time.
+/// Some seconds past 2025-02-17T10:01:00Z. A program with a clock asks `SystemClock`.
 fn moment_at(second: u32) -> Moment {
     Moment {
         seconds: 1_739_786_460 + i64::from(second % 60),

@@ -31,7 +31,7 @@ pub enum Refusal {
     BadMoment,
     #[error("out of memory")]
     OutOfMemory,
-    #[error("the route names a sink that the output lacks")]
+    #[error("the route names a sink that the output lacks, or one twice, or its `or_else` begins without a bound")]
     BadRoute,
     #[error("a line of JSON needs fields in JSON")]
     JsonFieldsNeeded,

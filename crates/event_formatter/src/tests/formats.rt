@@ -1,6 +1,7 @@
 //! Lines of events in a registry.
 
 mod builders;
+mod context;
 mod fields;
 mod json;
 mod own;

@@ -1,4 +1,5 @@
 use super::*;
+use std::io::Write;
 use tracing_core_fields::{DebugText, Field, Visit};
 
 // Writes the names of fields as bytes.
@@ -91,5 +92,105 @@ fn surface_usual_formats(rt: HostRuntime) -> Result<(), Fail> {
     let format = Format::default(rt.alloc()).json();
     let _ = json(rt.alloc());
     let _ = format.flatten_event(true);
+    Ok(())
+}
+
+#[test]
+fn surface_delimiters(rt: HostRuntime) -> Result<(), Fail> {
+    let set = FieldSet::new(&NAMES, Identifier(1));
+    let values = values();
+    let mut out = String::new(rt.alloc());
+    let mut visitor = VisitDelimited::new(";", DefaultVisitor::new(Writer::new(&mut out), true));
+    set.value_set_all(&values).record(&mut visitor)?;
+    visitor.finish();
+    let maker = Delimited::new(";", DefaultFields);
+    maker.visit_with(Writer::new(&mut out), &set.value_set_all(&values))?;
+    assert_eq!(rt; out.as_str(), "hi; n=-3hi; n=-3");
+    Ok(())
+}
+
+// Refuses each line.
+#[derive(Drop)]
+struct Refusing;
+
+impl MakeWriter for Refusing {
+    ghost takes = { λ maker m b. Unit {0} };
+
+    ghost writes = { λ maker m line answer after. Unit {0} };
+
+    fn writes_for(&self, _metadata: &Metadata<'_>) -> bool {
+        true
+    }
+
+    fn write_for(&mut self, _metadata: &Metadata<'_>, _line: &[u8]) -> io::Result<()> {
+        Err(io::Error::from(ErrorKind::WriteZero))
+    }
+}
+
+// Whether the maker takes a line of this level, and what it answers to one.
+fn asked<M: MakeWriter>(maker: &mut M, level: Level) -> (bool, bool) {
+    let fields = FieldSet::new(&NAMES, Identifier(1));
+    let metadata = Metadata::new("ev", "app", level, None, None, None, fields, Kind::EVENT);
+    let takes = maker.writes_for(&metadata);
+    (takes, maker.write_for(&metadata, b"line").is_ok())
+}
+
+#[test]
+fn surface_makers(rt: HostRuntime) -> Result<(), Fail> {
+    let mut most = WithMaxLevel::new(Refusing, Level::INFO);
+    assert!(rt; asked(&mut most, Level::INFO) == (true, false));
+    assert!(rt; asked(&mut most, Level::DEBUG) == (false, true));
+    let mut least = WithMinLevel::new(Refusing, Level::INFO);
+    assert!(rt; asked(&mut least, Level::INFO) == (true, false));
+    assert!(rt; asked(&mut least, Level::WARN) == (false, true));
+    let test: MetadataTest = Box::new(
+        rt.alloc(),
+        |metadata: &Metadata<'_>| *metadata.level() == Level::DEBUG,
+    )?;
+    let mut filtered = WithFilter::new(Refusing, test);
+    assert!(rt; asked(&mut filtered, Level::DEBUG) == (true, false));
+    assert!(rt; asked(&mut filtered, Level::INFO) == (false, true));
+    let mut both = Tee::new(WithMinLevel::new(Refusing, Level::DEBUG), Refusing);
+    assert!(rt; asked(&mut both, Level::INFO) == (true, false));
+    let rest = WithMinLevel::new(Refusing, Level::TRACE);
+    let mut either = OrElse::new(most, rest);
+    assert!(rt; asked(&mut either, Level::INFO) == (true, false));
+    assert!(rt; asked(&mut either, Level::DEBUG) == (true, true));
+    assert!(rt; asked(&mut either, Level::TRACE) == (true, false));
+    let mut some = OptionalWriter::some(Vec::new(rt.alloc()));
+    some.write_all(b"ab")?;
+    assert!(rt; matches!(some, EitherWriter::A(bytes) if bytes.as_slice() == b"ab".as_slice()));
+    let mut none = OptionalWriter::<Vec<u8>>::none();
+    none.write_all(b"ab")?;
+    assert!(rt; matches!(none, EitherWriter::B(_)));
+    Ok(())
+}
+
+#[test]
+fn surface_usual_layers(rt: HostRuntime) -> Result<(), Fail> {
+    let made = Layer::default(rt.alloc(), OutputKey(1), Refusing);
+    assert!(rt; made.starved() == 0);
+    let mut outputs = Vec::new(rt.alloc());
+    let lines = Lines {
+        alloc: rt.alloc(),
+        lines: Vec::new(rt.alloc()),
+    };
+    let layer = made
+        .with_writer(lines)
+        .event_format(
+            format(rt.alloc())
+                .with_timer(Timer::System(time()))
+                .with_shape(LineFormat::Full),
+        )
+        .fmt_fields(Fields::Default);
+    let output = Filtered::new(layer, LevelFilter::INFO);
+    let output = Output {
+        key: OutputKey(1),
+        output,
+    };
+    outputs.push(output).ok().ok_or("room")?;
+    let mut stack = Stack::new(rt.alloc(), outputs).ok().ok_or("a stack")?;
+    tell(&mut stack, Level::INFO, "hi")?;
+    assert!(rt; wrote(&stack, 0, &["2025-02-17T10:01:00.000000Z  INFO app: hi\n"]));
     Ok(())
 }
