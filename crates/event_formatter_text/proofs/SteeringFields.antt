@@ -68,7 +68,7 @@ later_pass settings on (text ∷ texts) rest =
 
 list_passes : (settings : Settings) → settings.sanitizes ≡ true → (texts : List (List ℕ)) → Passes (shown_list settings texts)
 list_passes settings on [] rest = refl
-list_passes settings on (text ∷ texts) = both_pass (shown settings text) (shown_later settings texts) (shown_passes settings on text) (later_pass settings on texts)
+list_passes settings on (text ∷ texts) rest = both_pass (shown settings text) (shown_later settings texts) (shown_passes settings on text) (later_pass settings on texts) rest
 
 pub error_texts_are : (settings : Settings) → AreHarmless settings → (text : List ℕ) (sources : List (List ℕ)) → (steers (shown settings text) ≡ false) × (steers (shown_list settings sources) ≡ false)
 error_texts_are settings harmless text sources = (passing_is (shown settings text) (shown_passes settings harmless.1 text), passing_is (shown_list settings sources) (list_passes settings harmless.1 sources))
