@@ -70,8 +70,11 @@ list_passes : (settings : Settings) → settings.sanitizes ≡ true → (texts :
 list_passes settings on [] rest = refl
 list_passes settings on (text ∷ texts) rest = both_pass (shown settings text) (shown_later settings texts) (shown_passes settings on text) (later_pass settings on texts) rest
 
-pub error_texts_are : (settings : Settings) → AreHarmless settings → (text : List ℕ) (sources : List (List ℕ)) → (steers (shown settings text) ≡ false) × (steers (shown_list settings sources) ≡ false)
-error_texts_are settings harmless text sources = (passing_is (shown settings text) (shown_passes settings harmless.1 text), passing_is (shown_list settings sources) (list_passes settings harmless.1 sources))
+pub error_text_is : (settings : Settings) → AreHarmless settings → (text : List ℕ) → steers (shown settings text) ≡ false
+error_text_is settings harmless text = passing_is (shown settings text) (shown_passes settings harmless.1 text)
+
+pub source_texts_are : (settings : Settings) → AreHarmless settings → (sources : List (List ℕ)) → steers (shown_list settings sources) ≡ false
+source_texts_are settings harmless sources = passing_is (shown_list settings sources) (list_passes settings harmless.1 sources)
 
 module _ (settings : Settings) (harmless : AreHarmless settings) (punctuation : Punctuation) (name : List ℕ) (is : steers (plain_name name) ≡ false) where
   label_passes : Passes (label settings punctuation name)

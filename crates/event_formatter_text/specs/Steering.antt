@@ -43,8 +43,13 @@ ErrorsAreHarmless =
     steers (plain_name name) ≡ false → (text : List ℕ) (sources : List (List ℕ)) →
     IfSome (field_piece settings punctuation name (OfError text sources)) (λ piece. steers piece ≡ false)
 
--- nor do an error's own text and the list of its sources' texts, whatever the field's name is
+-- nor does an error's own text, whatever the field's name is
 abbrev pub ErrorTextsAreHarmless : Type 0
 ErrorTextsAreHarmless =
-    (settings : Settings) → AreHarmless settings → (text : List ℕ) (sources : List (List ℕ)) →
-    (steers (shown settings text) ≡ false) × (steers (shown_list settings sources) ≡ false)
+    (settings : Settings) → AreHarmless settings → (text : List ℕ) → steers (shown settings text) ≡ false
+
+-- nor does the list of the texts of its sources
+abbrev pub SourceTextsAreHarmless : Type 0
+SourceTextsAreHarmless =
+    (settings : Settings) → AreHarmless settings → (sources : List (List ℕ)) →
+    steers (shown_list settings sources) ≡ false
