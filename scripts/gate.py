@@ -5,7 +5,7 @@ usage: scripts/gate.py [CRATE..] [--tests try|prove] [--edits new|all|drawn]
 
 CRATE..          these crates and those below them alone
 --tests prove    proves the tests too, over what the crates' proofs kept, and then runs them; without it they run unproved
---edits drawn    judges each edit that docs/edits.ledger lacks, and all edits of some crates, a random twelfth; writes nothing (this is what .ci/run does)
+--edits drawn    judges each edit that docs/edits.ledger lacks, and all edits of some crates, one of 24 shares at random; writes nothing (this is what .ci/run does)
 --edits new      judges each edit that the ledger lacks, and writes the ledger
 --edits all      judges each edit, and writes the ledger
 

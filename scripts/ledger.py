@@ -7,8 +7,8 @@ import os
 
 from kit import LOGIC, rtlib
 
-# Into how many shares the crates are parted, of which a run draws one. The crate with the most edits has about as many as a share.
-SHARES = 12
+# Into how many shares the crates are parted, of which a run draws one. A crate with more edits than a share should have is a share by itself.
+SHARES = 24
 HEAD = "# Each edit that was refused, and the sum of what that rests on. Written by scripts/gate.py --edits all (or new); see docs/GATE.md.\n"
 
 
@@ -70,7 +70,7 @@ def sum_of(edit, base_of_crate):
 
 
 def drawn(counts, seed):
-    """Returns the crates whose edits are judged again in the run with this seed, whatever the ledger says: one of twelve shares, into which the crates are
+    """Returns the crates whose edits are judged again in the run with this seed, whatever the ledger says: one of 24 shares, into which the crates are
     parted so that each has about as many edits. `counts` has the number of edits of each crate. A crate's edits are drawn together, since those that
     go into one check share its beginning."""
     shares = [[] for _ in range(SHARES)]
