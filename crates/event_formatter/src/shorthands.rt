@@ -1,9 +1,8 @@
 //! The usual formats, timers and layer, by the names under which they are known.
-ghost use Rattle.std.specs.Prelude.{◌≡◌, [], None, false, true};
+ghost use Rattle.std.specs.Prelude.{◌≡◌, None};
 ghost use Rattle.event_formatter_lines.specs.Json.{default_shape};
 ghost use Rattle.event_formatter_formats.specs.Parts.{default_parts};
-ghost use Rattle.event_formatter_layer.specs.Builders.{no_span_events};
-ghost use Rattle.event_formatter_layer.specs.Threads.{plain_lanes};
+ghost use Rattle.event_formatter_layer.specs.Builders.{IsNew};
 
 use event_formatter_formats::{Format, Full, Json};
 use event_formatter_layer::Layer;
@@ -48,15 +47,7 @@ pub fn layer<W>(
     key: OutputKey,
     maker: W,
 ) -> Layer<DefaultFields, Format<Full, SystemTime>, W>
-    ensures key { result.config.key ≡ key }
-    ensures maker { result.output.maker ≡ maker }
-    ensures settings { result.config.settings ≡ record { styles = false; sanitizes = true } }
-    ensures events { result.config.span_events ≡ no_span_events }
-    ensures timer { result.config.has_timer ≡ true }
-    ensures faults { result.config.log_internal_errors ≡ true }
-    ensures format { (result.format.parts ≡ default_parts) × (result.format.ansi ≡ None) }
-    ensures threads { (plain_lanes result.threads ≡ []) × (result.threads.longest ≡ 0) }
-    ensures starved { result.output.starved ≡ 0 }
+    ensures { IsNew key maker result }
 {
     Layer::new(alloc, key, maker)
 }

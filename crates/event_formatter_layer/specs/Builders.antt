@@ -1,11 +1,32 @@
 -- How a layer is made.
-use Rattle.std.specs.Prelude.{◌≡◌, false}
+use Rattle.std.specs.Prelude.{◌≡◌, [], None, false, true}
+use Rattle.span_registry_layers_store.specs.declared.slot.OutputKey.{OutputKey}
+use Rattle.event_formatter_text.specs.declared.default_fields.DefaultFields.{DefaultFields}
+use Rattle.event_formatter_times.specs.declared.system_time.SystemTime.{SystemTime}
 use Rattle.event_formatter_lines.specs.declared.fmt_span.FmtSpan.{FmtSpan}
+use Rattle.event_formatter_formats.specs.declared.format.Format.{Format}
+use Rattle.event_formatter_formats.specs.declared.line_format.Full.{Full}
+use Rattle.event_formatter_formats.specs.Parts.{default_parts}
 use Rattle.event_formatter_layer.specs.declared.layer.Config.{Config}
 use Rattle.event_formatter_layer.specs.declared.layer.Layer.{Layer}
+use Rattle.event_formatter_layer.specs.Threads.{plain_lanes}
 
 abbrev pub no_span_events : FmtSpan
 no_span_events = record { new = false; enter = false; exit = false; close = false }
+
+-- a layer that shows time, level and target without styles, sanitizes messages, tells of events that it can't format
+-- and of no span's own, knows no lane, and has missed nothing
+pub record IsNew {W : Type 0} (own : OutputKey) (given : W) (layer : Layer DefaultFields (Format Full SystemTime) W) : Type 0 where
+  pub key : layer.config.key ≡ own
+  pub maker : layer.output.maker ≡ given
+  pub settings : layer.config.settings ≡ record { styles = false; sanitizes = true }
+  pub span_events : layer.config.span_events ≡ no_span_events
+  pub timer : layer.config.has_timer ≡ true
+  pub faults : layer.config.log_internal_errors ≡ true
+  pub parts : layer.format.parts ≡ default_parts
+  pub ansi : layer.format.ansi ≡ None
+  pub threads : (plain_lanes layer.threads ≡ []) × (layer.threads.longest ≡ 0)
+  pub starved : layer.output.starved ≡ 0
 
 -- the same with other formatters of fields
 abbrev pub with_fields : {N M : Type 0} → M → Config N → Config M

@@ -1,9 +1,8 @@
 //! How a layer is made.
 ghost use Rattle.std.specs.Borrow.{sem};
-ghost use Rattle.std.specs.Prelude.{◌≡◌, [], ◌++◌, ◌∷◌, None, false, if◌then◌else◌, true};
+ghost use Rattle.std.specs.Prelude.{◌≡◌, [], ◌++◌, ◌∷◌, if◌then◌else◌};
 ghost use Rattle.std.specs.Result.{is_ok};
-ghost use Rattle.event_formatter_formats.specs.Parts.{default_parts};
-ghost use Rattle.event_formatter_layer.specs.Builders.{SameButLanes, no_span_events, with_fields};
+ghost use Rattle.event_formatter_layer.specs.Builders.{IsNew, SameButLanes, with_fields};
 ghost use Rattle.event_formatter_layer.specs.Lending.{LendsMaker};
 ghost use Rattle.event_formatter_layer.specs.Threads.{plain_lane, plain_lanes};
 
@@ -28,15 +27,7 @@ impl<W> Layer<DefaultFields, Format<Full, SystemTime>, W> {
         key: OutputKey,
         maker: W,
     ) -> Layer<DefaultFields, Format<Full, SystemTime>, W>
-        ensures key { result.config.key ≡ key }
-        ensures maker { result.output.maker ≡ maker }
-        ensures settings { result.config.settings ≡ record { styles = false; sanitizes = true } }
-        ensures events { result.config.span_events ≡ no_span_events }
-        ensures timer { result.config.has_timer ≡ true }
-        ensures faults { result.config.log_internal_errors ≡ true }
-        ensures format { (result.format.parts ≡ default_parts) × (result.format.ansi ≡ None) }
-        ensures threads { (plain_lanes result.threads ≡ []) × (result.threads.longest ≡ 0) }
-        ensures starved { result.output.starved ≡ 0 }
+        ensures { IsNew key maker result }
     {
         Layer {
             alloc,
@@ -72,15 +63,7 @@ impl<W> Layer<DefaultFields, Format<Full, SystemTime>, W> {
         key: OutputKey,
         maker: W,
     ) -> Layer<DefaultFields, Format<Full, SystemTime>, W>
-        ensures key { result.config.key ≡ key }
-        ensures maker { result.output.maker ≡ maker }
-        ensures settings { result.config.settings ≡ record { styles = false; sanitizes = true } }
-        ensures events { result.config.span_events ≡ no_span_events }
-        ensures timer { result.config.has_timer ≡ true }
-        ensures faults { result.config.log_internal_errors ≡ true }
-        ensures format { (result.format.parts ≡ default_parts) × (result.format.ansi ≡ None) }
-        ensures threads { (plain_lanes result.threads ≡ []) × (result.threads.longest ≡ 0) }
-        ensures starved { result.output.starved ≡ 0 }
+        ensures { IsNew key maker result }
     {
         Layer::new(alloc, key, maker)
     }
