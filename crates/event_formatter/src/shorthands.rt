@@ -1,13 +1,13 @@
 //! The usual formats, timers and layer, by the names under which they are known.
 ghost use Rattle.std.specs.Prelude.{◌≡◌, None};
 ghost use Rattle.event_formatter_lines.specs.Json.{default_shape};
-ghost use Rattle.event_formatter_formats.specs.Parts.{default_parts};
-ghost use Rattle.event_formatter_layer.specs.Builders.{IsNew};
+ghost use Rattle.event_formatter.specs.formats.Parts.{default_parts};
+ghost use Rattle.event_formatter.specs.fmt_layer.Builders.{IsNew};
 
-use event_formatter_formats::{Format, Full, Json};
-use event_formatter_layer::Layer;
+use crate::fmt_layer::Layer;
+use crate::formats::{Format, Full, Json};
+use event_formatter_lines::{SystemTime, Uptime};
 use event_formatter_text::DefaultFields;
-use event_formatter_times::{SystemTime, Uptime};
 use span_registry_layers_store::OutputKey;
 use std::alloc::Global;
 

@@ -12,15 +12,17 @@ mod times;
 mod visitors;
 
 use super::*;
+use span_registry_layers::{Output, Stack};
 use span_registry_layers_layers::Filtered;
-use span_registry_layers_stack::{Output, Stack};
 use span_registry_layers_store::OutputKey;
 use std::alloc::Global;
 use std::io;
 use std::io::ErrorKind;
 use std::test::Fail;
-use tracing_core_fields::{AnyValue, FieldSet, Id, Identifier, Kind, Level, LevelFilter, Metadata};
-use tracing_core_requests::{At, Attributes, Event};
+use tracing_core_fields::{
+    AnyValue, Attributes, Event, FieldSet, Id, Identifier, Kind, Level, LevelFilter, Metadata,
+};
+use tracing_core_moments::At;
 
 const NAMES: [&str; 2] = ["message", "n"];
 

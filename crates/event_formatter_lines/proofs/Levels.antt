@@ -35,15 +35,18 @@ pub warn : (level : ℕ) → level ≡ 2 → codes "," ++ (key_text (codes "leve
 unfolding level_member
 warn level is = ap level_member is ∙ warn_text
 
-pub error : (level : ℕ) → level ≡ 1 → codes "," ++ (key_text (codes "level") ++ json_string (level_name level)) ≡ codes ",\"level\":\"ERROR\""
+pub error : (level : ℕ) → level ≡ 1 → codes "," ++ (key_text (codes "level") ++ json_string (level_name level)) ≡ codes
+    ",\"level\":\"ERROR\""
 unfolding level_member
 error level is = ap level_member is ∙ error_text
 
-pub debug : (level : ℕ) → level ≡ 4 → codes "," ++ (key_text (codes "level") ++ json_string (level_name level)) ≡ codes ",\"level\":\"DEBUG\""
+pub debug : (level : ℕ) → level ≡ 4 → codes "," ++ (key_text (codes "level") ++ json_string (level_name level)) ≡ codes
+    ",\"level\":\"DEBUG\""
 unfolding level_member
 debug level is = ap level_member is ∙ debug_text
 
 -- what a push of a text leaves, as a clause says it
-pub appended : {E : Type 0} (r : Result (Unit {0}) E) (old text new : List ℕ) → new ≡ (if is_ok r then old ++ text else old) → OnOk r (new ≡ old ++ text)
+pub appended : {E : Type 0} (r : Result (Unit {0}) E) (old text new : List ℕ) → new ≡ (if is_ok r then old ++ text else old) →
+    OnOk r (new ≡ old ++ text)
 appended (Ok done) old text new e = e
 appended (Err error) old text new e = tt

@@ -1,14 +1,14 @@
-mod Framing
+mod Frames
 mod LeafFirst
 mod InSpan
 mod Members
 mod Levels
 mod Braces
-mod Joining
+mod Separators
 mod LastSpan
 mod Lines
 mod SpanObjects
 mod Moments
 mod JsonLines
 mod KeptObjects
-mod Printed
+mod PrintableJson

@@ -4,7 +4,10 @@ use Rattle.event_formatter_lines.specs.FmtSpans.{debug_text, name_behind}
 
 -- the names of the moments, one after the other, where there are any
 pub shown : (new enter exit close : Bool) → (new || (enter || (exit || close))) ≡ true →
-    name_behind true new (codes "FmtSpan::NEW") ++ (name_behind (not new) enter (codes "FmtSpan::ENTER") ++ (name_behind (not new && not enter) exit (codes "FmtSpan::EXIT") ++ name_behind (not new && (not enter && not exit)) close (codes "FmtSpan::CLOSE")))
+    name_behind true new (codes "FmtSpan::NEW") ++
+    (name_behind (not new) enter (codes "FmtSpan::ENTER") ++
+    (name_behind (not new && not enter) exit (codes "FmtSpan::EXIT") ++ name_behind (not new && (not enter && not exit)) close
+    (codes "FmtSpan::CLOSE")))
     ≡ debug_text record { new = new; enter = enter; exit = exit; close = close }
 shown false false false false some = absurd (cc)
 shown false false false true some = refl

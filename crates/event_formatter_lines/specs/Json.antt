@@ -1,11 +1,12 @@
 -- The JSON format.
-use Rattle.std.specs.Prelude.{ℕ, Bool, true, false, ◌&&◌, ◌-◌, nat_eq, if◌then◌else◌, List, [], ◌∷◌, ◌++◌, length, Option, Some, None, codes}
+use Rattle.std.specs.Prelude.{ℕ, Bool, true, false, ◌&&◌, ◌-◌, nat_eq, if◌then◌else◌, List, [], ◌∷◌, ◌++◌, length, Option, Some, None}
+use Rattle.std.specs.Prelude.{codes}
 use Rattle.std.specs.Fmt.{decimal}
 use Rattle.std.specs.List.{ends_with, join_by, last_or, slice_range, starts_with}
 use Rattle.std.specs.Option.{option_map}
 use Rattle.tracing_core_fields.specs.Level.{level_name}
-use Rattle.tracing_core_requests.specs.PlainRequests.{PlainValues}
-use Rattle.event_formatter_text.specs.Chains.{members_of}
+use Rattle.tracing_core_fields.specs.requests.PlainRequests.{PlainValues}
+use Rattle.event_formatter_text.specs.MemberChains.{members_of}
 use Rattle.event_formatter_text.specs.Escapes.{json_string}
 use Rattle.event_formatter_lines.specs.Heads.{PlainHead}
 use Rattle.event_formatter_lines.specs.Shown.{PlainShown}

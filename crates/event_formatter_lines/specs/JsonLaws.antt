@@ -2,12 +2,12 @@
 use Rattle.std.specs.Prelude.{◌≡◌, ◌<◌, ◌≤◌, ◌^◌, ◌⊎◌, ℕ, List, [], ◌∷◌, ◌++◌, None, IfSome, codes}
 use Rattle.std.specs.List.{AllByRecursion}
 use Rattle.tracing_core_fields.specs.PlainValue.{debug_of}
-use Rattle.tracing_core_requests.specs.PlainRequests.{PlainValues}
+use Rattle.tracing_core_fields.specs.requests.PlainRequests.{PlainValues}
 use Rattle.event_formatter_text.specs.Escapes.{json_string}
 use Rattle.event_formatter_text.specs.IsJson.{IsJson, Kind, Value}
 use Rattle.event_formatter_text.specs.JsonLaws.{IsInRange}
 use Rattle.event_formatter_text.specs.JsonObjects.{Pair, object_text, words_of}
-use Rattle.event_formatter_text.specs.Kept.{PlainFields}
+use Rattle.event_formatter_text.specs.SpanFields.{PlainFields}
 use Rattle.event_formatter_text.specs.declared.format_fields.FormatFields.{Ghosts}
 use Rattle.event_formatter_text.specs.declared.settings.Settings.{Settings}
 use Rattle.event_formatter_lines.specs.Heads.{PlainHead}

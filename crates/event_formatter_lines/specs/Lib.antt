@@ -1,3 +1,5 @@
+pub mod slots
+pub mod times
 pub mod Shown
 pub mod Frames
 pub mod Heads

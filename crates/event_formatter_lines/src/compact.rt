@@ -3,7 +3,8 @@ ghost use Rattle.std.specs.Prelude.{◌≡◌, ◌<◌, ◌++◌, OnOk, length, 
 ghost use Rattle.std.specs.List.{flat_map};
 ghost use Rattle.std.specs.Option.{option_map};
 ghost use Rattle.event_formatter_text.specs.Lists.{Formats};
-ghost use Rattle.event_formatter_lines.specs.Compact.{behind_space, compact_head, compact_line, compact_tail, file_text, line_text, name_piece, names_text, places_text, shows_place, space_if, text_piece, with_colon};
+ghost use Rattle.event_formatter_lines.specs.Compact.{behind_space, compact_head, compact_line, compact_tail, file_text, line_text};
+ghost use Rattle.event_formatter_lines.specs.Compact.{name_piece, names_text, places_text, shows_place, space_if, text_piece, with_colon};
 ghost use Rattle.event_formatter_lines.specs.Heads.{plain_head};
 ghost use Rattle.event_formatter_lines.specs.Shown.{span_at};
 
@@ -139,7 +140,7 @@ fn push_places(out: &mut String, settings: Settings, head: &Head<'_>) -> Result<
 ///
 /// # Errors
 ///
-/// Want of memory. What was appended before is to be dropped.
+/// Out of memory. What was appended before is to be dropped.
 pub fn push_compact_head<S: ShownSpans>(
     out: &mut String,
     settings: Settings,
@@ -214,7 +215,7 @@ fn push_tail<S: ShownSpans>(
 ///
 /// # Errors
 ///
-/// A value that can't be formatted, or want of memory. What was appended before is to be dropped.
+/// A value that can't be formatted, or out of memory. What was appended before is to be dropped.
 pub fn push_compact_line<S: ShownSpans, F: FormatFields, R: RecordFields>(
     alloc: Global,
     out: &mut String,

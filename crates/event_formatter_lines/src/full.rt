@@ -5,7 +5,8 @@ ghost use Rattle.std.specs.List.{flat_map};
 ghost use Rattle.std.specs.Option.{is_some, option_map};
 ghost use Rattle.event_formatter_text.specs.Lists.{Formats};
 ghost use Rattle.event_formatter_text.specs.Styles.{dimmed};
-ghost use Rattle.event_formatter_lines.specs.Full.{braced, file_piece, full_head, full_line, line_piece, span_piece, spans_text, target_piece};
+ghost use Rattle.event_formatter_lines.specs.Full.{braced, file_piece, full_head, full_line, line_piece, span_piece, spans_text};
+ghost use Rattle.event_formatter_lines.specs.Full.{target_piece};
 ghost use Rattle.event_formatter_lines.specs.Heads.{plain_head};
 ghost use Rattle.event_formatter_lines.specs.Shown.{span_at};
 
@@ -93,7 +94,7 @@ fn push_each_span<S: ShownSpans>(
 ///
 /// # Errors
 ///
-/// Want of memory. What was appended before is to be dropped.
+/// Out of memory. What was appended before is to be dropped.
 #[inline(always)]
 pub fn push_spans<S: ShownSpans>(
     out: &mut String,
@@ -142,7 +143,7 @@ fn push_target_in_style(
 ///
 /// # Errors
 ///
-/// Want of memory. What was appended before is to be dropped.
+/// Out of memory. What was appended before is to be dropped.
 #[inline(always)]
 #[tactic(auto, unfolding(event_formatter_text::specs::Styles::styled))]
 pub fn push_target(
@@ -223,7 +224,7 @@ fn push_line(out: &mut String, settings: Settings, line: Option<u32>) -> Result<
 ///
 /// # Errors
 ///
-/// Want of memory. What was appended before is to be dropped.
+/// Out of memory. What was appended before is to be dropped.
 pub fn push_place(
     out: &mut String,
     settings: Settings,
@@ -241,7 +242,7 @@ pub fn push_place(
 ///
 /// # Errors
 ///
-/// Want of memory. What was appended before is to be dropped.
+/// Out of memory. What was appended before is to be dropped.
 pub fn push_full_head<S: ShownSpans>(
     out: &mut String,
     settings: Settings,
@@ -265,8 +266,8 @@ pub fn push_full_head<S: ShownSpans>(
 ///
 /// # Errors
 ///
-/// A value that can't be formatted, or want of memory. What was appended before is to be dropped.
-#[tactic(auto, using(crate::proofs::Framing::framed, crate::proofs::Framing::refused))]
+/// A value that can't be formatted, or out of memory. What was appended before is to be dropped.
+#[tactic(auto, using(crate::proofs::Frames::framed, crate::proofs::Frames::refused))]
 pub fn push_full_line<S: ShownSpans, F: FormatFields, R: RecordFields>(
     alloc: Global,
     out: &mut String,

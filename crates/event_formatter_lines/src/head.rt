@@ -27,7 +27,7 @@ pub struct Head<'a> {
     pub line: Option<u32>,
 }
 
-/// Want of memory. A call of it tells the compiler which way is seldom gone, so that pushes on the other way are inlined.
+/// Out of memory. A call of it tells the compiler which way is cold, so that pushes on the other way are inlined.
 #[cold]
 pub(crate) fn refused() -> AllocError {
     AllocError
@@ -98,7 +98,7 @@ fn push_level_in_style(out: &mut String, settings: Settings, level: Level) -> Re
 ///
 /// # Errors
 ///
-/// Want of memory. What was appended before is to be dropped.
+/// Out of memory. What was appended before is to be dropped.
 #[inline(always)]
 #[tactic(auto, unfolding(event_formatter_text::specs::Styles::styled))]
 pub fn push_level(

@@ -6,7 +6,7 @@ mod members;
 mod spans;
 
 ghost use Rattle.std.specs.Prelude.{◌≡◌, ◌++◌, IfOk, OnOk, codes, string_bytes};
-ghost use Rattle.event_formatter_text.specs.Chains.{Extends, ExtendsWhole};
+ghost use Rattle.event_formatter_text.specs.MemberChains.{Extends, ExtendsWhole};
 ghost use Rattle.event_formatter_text.specs.Lists.{Formats, further};
 ghost use Rattle.event_formatter_lines.specs.Heads.{plain_head};
 ghost use Rattle.event_formatter_lines.specs.Json.{field_members, json_line, key_text, last_members};
@@ -95,7 +95,7 @@ fn push_last_members<S: ShownSpans>(
     Ok(is_first)
 }
 
-// Ends the object and its line. It stands apart, so that both of its pushes are inlined.
+// Ends the object and its line. It stands out of line, so that both of its pushes are inlined.
 #[inline(never)]
 fn end_line(out: &mut String) -> Result<(), AllocError>
     ensures { OnOk result (string_bytes out.new ≡ string_bytes out.old ++ codes "}\n") }
@@ -109,7 +109,7 @@ fn end_line(out: &mut String) -> Result<(), AllocError>
 ///
 /// # Errors
 ///
-/// A value that can't be formatted, or want of memory. What was appended before is to be dropped.
+/// A value that can't be formatted, or out of memory. What was appended before is to be dropped.
 #[tactic(auto, using(crate::proofs::Lines::written, crate::proofs::Lines::refused))]
 pub fn push_json_line<S: ShownSpans, R: RecordFields>(
     out: &mut String,

@@ -1,5 +1,6 @@
 //! Laws of the formats.
-ghost use Rattle.event_formatter_lines.specs.JsonLaws.{JsonIsPrinted, KeepsObjects, LinesAreJson, LinesEndOnce, ObjectsAreKept, SpansExtendObjects};
+ghost use Rattle.event_formatter_lines.specs.JsonLaws.{JsonIsPrinted, KeepsObjects, LinesAreJson, LinesEndOnce, ObjectsAreKept};
+ghost use Rattle.event_formatter_lines.specs.JsonLaws.{SpansExtendObjects};
 
 use event_formatter_text::{
     FormatFields, JsonFields, numbers_are_json, objects_are_json, texts_are_strings,
@@ -36,7 +37,7 @@ pub fn json_fields_keep_objects()
 }
 
 /// No byte below 32 stands in JSON as it is written here, and in a line of the JSON format none but the newline at its end.
-#[tactic(auto, using(crate::proofs::Printed::json_is_printed, crate::proofs::Printed::lines_end_once))]
+#[tactic(auto, using(crate::proofs::PrintableJson::json_is_printed, crate::proofs::PrintableJson::lines_end_once))]
 pub fn json_lines_end_once()
     ensures printed { JsonIsPrinted }
     ensures line { LinesEndOnce }

@@ -11,6 +11,8 @@ mod laws;
 mod place;
 mod pretty;
 mod shown;
+mod slots;
+mod times;
 
 pub use compact::{push_compact_head, push_compact_line};
 pub use fmt_span::FmtSpan;
@@ -23,3 +25,11 @@ pub use laws::{
 pub use place::{Place, Thread};
 pub use pretty::push_pretty_line;
 pub use shown::{ShownSpan, ShownSpans};
+pub use slots::{
+    FirstText, TimingStep, add_record, keep_new, kept_text, rekeeping_is_local, step_timings,
+};
+pub use times::{
+    DateTime, FixedText, FormatTime, SystemTime, Uptime, push_duration, push_thread_id,
+    push_thread_name, timings_after_close, timings_after_enter, timings_after_exit,
+    timings_at_start,
+};

@@ -4,7 +4,10 @@ ghost use Rattle.std.specs.Fmt.{decimal};
 ghost use Rattle.std.specs.Option.{option_map};
 ghost use Rattle.event_formatter_text.specs.Lists.{Formats};
 ghost use Rattle.event_formatter_lines.specs.Heads.{plain_head};
-ghost use Rattle.event_formatter_lines.specs.Pretty.{file_part, from_leaf, id_part, level_part, line_part, name_part, newline_if, number_part, path_part, place_text, plain_place, plain_thread, pretty_head, pretty_line, pretty_tail, space_before_id, span_line, target_part, thread_part, thread_start, with_part};
+ghost use Rattle.event_formatter_lines.specs.Pretty.{file_part, from_leaf, id_part, level_part, line_part, name_part, newline_if};
+ghost use Rattle.event_formatter_lines.specs.Pretty.{number_part, path_part, place_text, plain_place, plain_thread, pretty_head};
+ghost use Rattle.event_formatter_lines.specs.Pretty.{pretty_line, pretty_tail, space_before_id, span_line, target_part, thread_part};
+ghost use Rattle.event_formatter_lines.specs.Pretty.{thread_start, with_part};
 ghost use Rattle.event_formatter_lines.specs.Shown.{span_at};
 
 use crate::fields::push_fields;
@@ -242,8 +245,8 @@ fn push_tail<S: ShownSpans>(
 ///
 /// # Errors
 ///
-/// A value that can't be formatted, or want of memory. What was appended before is to be dropped.
-#[tactic(auto, using(crate::proofs::Framing::framed, crate::proofs::Framing::refused))]
+/// A value that can't be formatted, or out of memory. What was appended before is to be dropped.
+#[tactic(auto, using(crate::proofs::Frames::framed, crate::proofs::Frames::refused))]
 pub fn push_pretty_line<S: ShownSpans, F: FormatFields, R: RecordFields>(
     alloc: Global,
     out: &mut String,

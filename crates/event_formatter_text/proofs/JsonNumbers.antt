@@ -1,5 +1,6 @@
 -- Numbers as JSON.
-use Rattle.std.proofs.Common.{arith, ◌≡◌, ◌<◌, ◌/◌, ◌%◌, ◌*◌, ◌^◌, ◌==◌, ℕ, zero, suc, Bool, true, false, ◌&&◌, not, if◌then◌else◌, List, [], ◌∷◌, refl, pow-suc}
+use Rattle.std.proofs.Common.{arith, ◌≡◌, ◌<◌, ◌/◌, ◌%◌, ◌*◌, ◌^◌, ◌==◌, ℕ, zero, suc, Bool, true, false, ◌&&◌, not, if◌then◌else◌, List}
+use Rattle.std.proofs.Common.{[], ◌∷◌, refl, pow-suc}
 use Rattle.std.proofs.lemmas.Bool.{and_parts}
 use Rattle.std.proofs.lemmas.Bool.Decides.{nat_tests}
 use Rattle.std.specs.Fmt.{decimal, digit_glyph, digits, digits_onto}
@@ -24,16 +25,20 @@ digits_started : (k n : ℕ) (acc : List ℕ) → 0 < n → n < 10 ^ k → are_d
 digits_started zero n acc some below all = absurd (omega arith)
 digits_started (suc k) n acc some below all = by_test (n / 10 == 0) refl (λ m bs high low more. digits_started k m bs high low more)
   where
-    by_test : (test : Bool) → (n / 10 == 0) ≡ test → ((m : ℕ) (bs : List ℕ) → 0 < m → m < 10 ^ k → are_digits bs ≡ true → is_started (digits_onto k 10 false m bs) ≡ true) →
-        is_started (if test then digit_glyph false (n % 10) ∷ acc else digits_onto k 10 false (n / 10) (digit_glyph false (n % 10) ∷ acc)) ≡ true
+    by_test : (test : Bool) → (n / 10 == 0) ≡ test →
+        ((m : ℕ) (bs : List ℕ) → 0 < m → m < 10 ^ k → are_digits bs ≡ true → is_started (digits_onto k 10 false m bs) ≡ true) →
+        is_started (if test then digit_glyph false (n % 10) ∷ acc else digits_onto k 10 false (n / 10) (digit_glyph false (n % 10) ∷ acc))
+        ≡ true
     by_test true e later =
         let low : n / 10 ≡ 0 = grind (arith, nat_tests) in
-        both (is_digit (digit_glyph false (n % 10))) (not (digit_glyph false (n % 10) == 48) && are_digits acc) (glyph_digit n) (both (not (digit_glyph false (n % 10) == 48)) (are_digits acc) (glyph_start n low some) all)
+        both (is_digit (digit_glyph false (n % 10))) (not (digit_glyph false (n % 10) == 48) && are_digits acc) (glyph_digit n)
+        (both (not (digit_glyph false (n % 10) == 48)) (are_digits acc) (glyph_start n low some) all)
     by_test false e later =
         let high : 0 < n / 10 = grind (arith, nat_tests) in
         let power : 10 ^ suc k ≡ 10 ^ k * 10 = pow-suc 10 k in
         let less : n / 10 < 10 ^ k = omega (arith, power, below) in
-        later (n / 10) (digit_glyph false (n % 10) ∷ acc) high less (both (is_digit (digit_glyph false (n % 10))) (are_digits acc) (glyph_digit n) all)
+        later (n / 10) (digit_glyph false (n % 10) ∷ acc) high less
+        (both (is_digit (digit_glyph false (n % 10))) (are_digits acc) (glyph_digit n) all)
 
 started_whole : (text : List ℕ) → is_started text ≡ true → is_whole text ≡ true
 started_whole [] e = absurd (cc)

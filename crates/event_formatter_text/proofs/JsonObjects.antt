@@ -15,7 +15,8 @@ one : (p : Pair) → IsJson Value p.1 → IsJson Members (member_text p)
 unfolding json_string
 one p value = member (escaped json_char p.0) p.1 (text_inside p.0) value
 
-pub all : (p : Pair) (ps : List Pair) → IsJson Value p.1 → AllByRecursion (λ q. IsJson Value q.1) ps → IsJson Members (members_inside (p ∷ ps))
+pub all : (p : Pair) (ps : List Pair) → IsJson Value p.1 → AllByRecursion (λ q. IsJson Value q.1) ps →
+    IsJson Members (members_inside (p ∷ ps))
 all p [] value rest = subst (IsJson Members) (sym (append-nil (member_text p))) (one p value)
 all p (q ∷ qs) value rest = members (member_text p) (members_inside (q ∷ qs)) (one p value) (all q qs rest.0 rest.1)
 

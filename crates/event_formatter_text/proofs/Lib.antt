@@ -1,15 +1,15 @@
 mod Blocks
-mod Plain
-mod Shown
-pub mod Visiting
-mod Lending
-mod Putting
-mod Keeping
-mod Objects
-mod Chaining
+mod UnescapedText
+mod MessageText
+pub mod PieceVisits
+mod VisitorText
+mod MemberPlaces
+mod KeptMembers
+mod GivenMembers
+mod MemberChains
 mod JsonStrings
 mod JsonObjects
 mod JsonNumbers
 mod JsonValues
-mod Steering
-mod SteeringFields
+mod TerminalControls
+mod TerminalSafeFields

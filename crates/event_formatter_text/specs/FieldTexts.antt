@@ -4,7 +4,8 @@ use Rattle.std.specs.Fmt.{signed_decimal, decimal}
 use Rattle.std.specs.List.{flat_map, starts_with}
 use Rattle.std.specs.Option.{option_map}
 use Rattle.std.specs.Str.{bytes_eq}
-use Rattle.tracing_core_fields.specs.PlainDebug.{PlainDebug, Written, Unwritable, OfSigned, OfUnsigned, OfWideSigned, OfWideUnsigned, OfTruth, OfText, OfBytes, OfError, bytes_text}
+use Rattle.tracing_core_fields.specs.PlainDebug.{PlainDebug, Written, Unwritable, OfSigned, OfUnsigned, OfWideSigned, OfWideUnsigned}
+use Rattle.tracing_core_fields.specs.PlainDebug.{OfTruth, OfText, OfBytes, OfError, bytes_text}
 use Rattle.tracing_core_fields.specs.Quoted.{quoted}
 use Rattle.event_formatter_text.specs.Escapes.{sanitized}
 use Rattle.event_formatter_text.specs.Styles.{italic, dimmed}

@@ -2,10 +2,11 @@
 use Rattle.std.specs.Prelude.{◌≡◌, ◌<◌, ◌^◌, ℕ, ℤ, pos, negsuc, true, List, ◌∷◌, IfSome}
 use Rattle.std.specs.Fmt.{decimal}
 use Rattle.std.specs.List.{AllByRecursion}
-use Rattle.tracing_core_fields.specs.PlainDebug.{PlainDebug, Written, Unwritable, OfSigned, OfUnsigned, OfWideSigned, OfWideUnsigned, OfTruth, OfText, OfBytes, OfError}
+use Rattle.tracing_core_fields.specs.PlainDebug.{PlainDebug, Written, Unwritable, OfSigned, OfUnsigned, OfWideSigned, OfWideUnsigned}
+use Rattle.tracing_core_fields.specs.PlainDebug.{OfTruth, OfText, OfBytes, OfError}
 use Rattle.tracing_core_fields.specs.PlainValue.{debug_of}
-use Rattle.tracing_core_requests.specs.PlainRequests.{PlainValues}
-use Rattle.event_formatter_text.specs.Chains.{members_of}
+use Rattle.tracing_core_fields.specs.requests.PlainRequests.{PlainValues}
+use Rattle.event_formatter_text.specs.MemberChains.{members_of}
 use Rattle.event_formatter_text.specs.Escapes.{escaped, json_char, json_string}
 use Rattle.event_formatter_text.specs.IsJson.{Anywhere, IsJson, Members, Value, is_inside}
 use Rattle.event_formatter_text.specs.JsonObjects.{Pair, members_inside, object_text}

@@ -1,9 +1,10 @@
 -- The texts of lists of values, and what writes them piece by piece.
-use Rattle.std.specs.Prelude.{◌≡◌, ℕ, Bool, true, false, List, [], ◌++◌, if◌then◌else◌, Option, Some, None, is_none, Result, Ok, Err, OnOk, slice_index_or}
+use Rattle.std.specs.Prelude.{◌≡◌, ℕ, Bool, true, false, List, [], ◌++◌, if◌then◌else◌, Option, Some, None, is_none, Result, Ok, Err, OnOk}
+use Rattle.std.specs.Prelude.{slice_index_or}
 use Rattle.std.specs.List.{filter_map, flat_map, join_by, list_any}
 use Rattle.std.specs.Option.{option_map}
 use Rattle.tracing_core_fields.specs.PlainValue.{PlainValue}
-use Rattle.tracing_core_requests.specs.PlainRequests.{PlainValues}
+use Rattle.tracing_core_fields.specs.requests.PlainRequests.{PlainValues}
 use Rattle.event_formatter_text.specs.declared.error.FormatError.{FormatError}
 use Rattle.event_formatter_text.specs.declared.error.FormatError.TheVariants.{Failed, OutOfMemory}
 
@@ -34,7 +35,7 @@ pieces_text separator piece is_first names entries =
 abbrev pub list_text : List ℕ → (List ℕ → PlainValue → Option (List ℕ)) → PlainValues → Option (List ℕ)
 list_text separator piece values = pieces_text separator piece true values.names values.entries
 
--- The text was appended, or it can't be formatted. Want of memory says nothing of what was appended.
+-- The text was appended, or it can't be formatted. Out of memory says nothing of what was appended.
 abbrev pub Formats : Option (List ℕ) → List ℕ → Result (Unit {0}) FormatError → List ℕ → Type 0
 Formats (Some text) old (Ok done) new = new ≡ old ++ text
 Formats None old (Ok done) new = ⊥
@@ -43,7 +44,8 @@ Formats None old (Err Failed) new = Unit {0}
 Formats text old (Err OutOfMemory) new = Unit {0}
 
 -- A call of a visitor appended its piece, behind the separator unless it is the first; `frame` is what stays.
-abbrev pub WrotePiece : {V S : Type 0} → (V → List ℕ) → (V → Bool) → (V → S) → List ℕ → V → Option (List ℕ) → Result (Unit {0}) FormatError → V → Type 0
+abbrev pub WrotePiece : {V S : Type 0} → (V → List ℕ) → (V → Bool) → (V → S) → List ℕ → V → Option (List ℕ) →
+    Result (Unit {0}) FormatError → V → Type 0
 WrotePiece text is_first frame separator before piece answer after =
     (frame after ≡ frame before) × OnOk answer (is_first after ≡ false)
     × Formats (option_map (further separator (is_first before)) piece) (text before) answer (text after)

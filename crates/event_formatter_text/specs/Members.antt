@@ -3,11 +3,11 @@ use Rattle.std.specs.Prelude.{◌≡◌, ℕ, List, [], Option, Some, None, Resu
 use Rattle.std.specs.Option.{option_map}
 use Rattle.tracing_core_fields.specs.PlainDebug.{PlainDebug}
 use Rattle.tracing_core_fields.specs.PlainField.{PlainField}
-use Rattle.tracing_core_requests.specs.PlainRequests.{PlainValues}
+use Rattle.tracing_core_fields.specs.requests.PlainRequests.{PlainValues}
 use Rattle.event_formatter_text.specs.FieldTexts.{plain_name}
 use Rattle.event_formatter_text.specs.JsonObjects.{Pair, object_text, pair_of, pairs_in, put, put_all, words_of}
 use Rattle.event_formatter_text.specs.JsonTexts.{json_value}
-use Rattle.event_formatter_text.specs.Kept.{PlainFields}
+use Rattle.event_formatter_text.specs.SpanFields.{PlainFields}
 use Rattle.event_formatter_text.specs.declared.error.FormatError.{FormatError}
 use Rattle.event_formatter_text.specs.declared.error.FormatError.TheVariants.{Failed, OutOfMemory}
 use Rattle.event_formatter_text.specs.declared.members.MembersVisitor.{MembersVisitor}

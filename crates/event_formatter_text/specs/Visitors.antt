@@ -5,7 +5,7 @@ use Rattle.tracing_core_fields.specs.PlainDebug.{PlainDebug}
 use Rattle.tracing_core_fields.specs.PlainField.{PlainField}
 use Rattle.event_formatter_text.specs.FieldTexts.{field_piece}
 use Rattle.tracing_core_fields.specs.PlainValue.{PlainValue, debug_of}
-use Rattle.tracing_core_requests.specs.PlainRequests.{PlainValues}
+use Rattle.tracing_core_fields.specs.requests.PlainRequests.{PlainValues}
 use Rattle.event_formatter_text.specs.Lists.{WrotePiece, list_text}
 use Rattle.event_formatter_text.specs.JsonTexts.{json_piece}
 use Rattle.event_formatter_text.specs.Writers.{written, without_styles}

@@ -1,6 +1,6 @@
 //! The formatter of fields as `name=value`.
 ghost use Rattle.std.specs.Prelude.{[]};
-ghost use Rattle.event_formatter_text.specs.Kept.{behind_space};
+ghost use Rattle.event_formatter_text.specs.SpanFields.{behind_space};
 ghost use Rattle.event_formatter_text.specs.Visitors.{default_text};
 
 use crate::error::FormatError;

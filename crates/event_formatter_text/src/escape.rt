@@ -73,7 +73,7 @@ fn has_special_near(escape: Escape, bytes: &[u8]) -> bool
     }
 }
 
-// The same of a long text. It stands apart, as it is asked only where the blocks have such a byte.
+// The same of a long text. It stands out of line, as it is asked only where the blocks have such a byte.
 #[inline(never)]
 #[cold]
 fn has_special_far(escape: Escape, bytes: &[u8]) -> bool
@@ -275,7 +275,7 @@ pub fn is_plain_json(text: &str) -> bool
 ///
 /// # Errors
 ///
-/// Want of memory. What was appended before is to be dropped.
+/// Out of memory. What was appended before is to be dropped.
 #[inline(always)]
 pub fn push_json_inside(out: &mut String, text: &str) -> Result<(), AllocError>
     ensures { OnOk result (string_bytes out.new ≡ string_bytes out.old ++ escaped json_char text.now) }
@@ -287,7 +287,7 @@ pub fn push_json_inside(out: &mut String, text: &str) -> Result<(), AllocError>
 ///
 /// # Errors
 ///
-/// Want of memory. What was appended before is to be dropped.
+/// Out of memory. What was appended before is to be dropped.
 #[inline(always)]
 pub fn push_json_rest(out: &mut String, text: &str) -> Result<(), AllocError>
     ensures { OnOk result (string_bytes out.new ≡ string_bytes out.old
@@ -301,7 +301,7 @@ pub fn push_json_rest(out: &mut String, text: &str) -> Result<(), AllocError>
 ///
 /// # Errors
 ///
-/// Want of memory. What was appended before is to be dropped.
+/// Out of memory. What was appended before is to be dropped.
 #[tactic(auto, unfolding(crate::specs::Escapes::json_string))]
 pub fn push_json_string(out: &mut String, text: &str) -> Result<(), AllocError>
     ensures { OnOk result (string_bytes out.new ≡ string_bytes out.old ++ json_string text.now) }

@@ -7,7 +7,8 @@ ghost use Rattle.tracing_core_fields.specs.Quoted.{quoted};
 ghost use Rattle.tracing_core_fields.specs.Texts.{texts_in};
 ghost use Rattle.std.specs.Fmt.{decimal};
 ghost use Rattle.std.specs.Option.{option_map};
-ghost use Rattle.event_formatter_text.specs.FieldTexts.{field_piece, is_message, label, mark, plain_name, separator, shown, shown_later, shown_list, sources_label, sources_text, truth_text, value_text};
+ghost use Rattle.event_formatter_text.specs.FieldTexts.{field_piece, is_message, label, mark, plain_name, separator, shown, shown_later};
+ghost use Rattle.event_formatter_text.specs.FieldTexts.{shown_list, sources_label, sources_text, truth_text, value_text};
 ghost use Rattle.event_formatter_text.specs.Lists.{Formats, further};
 ghost use Rattle.event_formatter_text.specs.Styles.{dimmed};
 

@@ -1,7 +1,7 @@
 //! Field formatters.
 ghost use Rattle.std.specs.Prelude.{◌≡◌, ℕ, List, IfOk, Option};
-ghost use Rattle.tracing_core_requests.specs.PlainRequests.{PlainValues};
-ghost use Rattle.event_formatter_text.specs.Kept.{Adds, PlainFields, plain_fields};
+ghost use Rattle.tracing_core_fields.specs.requests.PlainRequests.{PlainValues};
+ghost use Rattle.event_formatter_text.specs.SpanFields.{Adds, PlainFields, plain_fields};
 ghost use Rattle.event_formatter_text.specs.Lists.{Formats};
 ghost use Rattle.event_formatter_text.specs.Writers.{IsSameWriter, settings_of, written};
 ghost use Rattle.event_formatter_text.specs.declared.settings.Settings.{Settings};
@@ -32,7 +32,7 @@ pub trait FormatFields {
     ///
     /// # Errors
     ///
-    /// A value that can't be formatted, or want of memory. What was appended before is to be dropped.
+    /// A value that can't be formatted, or out of memory. What was appended before is to be dropped.
     fn format_fields<R: RecordFields>(
         &self,
         alloc: Global,
@@ -47,7 +47,7 @@ pub trait FormatFields {
     ///
     /// # Errors
     ///
-    /// Want of memory.
+    /// Out of memory.
     fn start(&self, alloc: Global, settings: Settings) -> Result<FormattedFields, AllocError>
         ensures { IfOk result (λ fields. plain_fields fields ≡ started self.now settings) };
 
@@ -55,7 +55,7 @@ pub trait FormatFields {
     ///
     /// # Errors
     ///
-    /// A value that can't be formatted, or want of memory. What was kept stays as it was.
+    /// A value that can't be formatted, or out of memory. What was kept stays as it was.
     fn add_fields<R: RecordFields>(
         &self,
         alloc: Global,

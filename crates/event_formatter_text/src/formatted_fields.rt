@@ -2,7 +2,7 @@
 ghost use Rattle.std.specs.Prelude.{◌≡◌, ◌++◌, [], IfOk, Some, false, if◌then◌else◌, map, string_bytes, true};
 ghost use Rattle.std.specs.Borrow.{sem};
 ghost use Rattle.std.specs.Result.{is_ok};
-ghost use Rattle.event_formatter_text.specs.Kept.{plain_fields, space_behind};
+ghost use Rattle.event_formatter_text.specs.SpanFields.{plain_fields, space_behind};
 ghost use Rattle.event_formatter_text.specs.Loans.{LendsKept};
 ghost use Rattle.event_formatter_text.specs.Writers.{settings_of, written};
 
@@ -73,7 +73,7 @@ impl FormattedFields {
     ///
     /// # Errors
     ///
-    /// Want of memory.
+    /// Out of memory.
     pub fn begin_more(&self, alloc: Global) -> Result<String, AllocError>
         ensures { IfOk result (λ more. string_bytes more ≡ space_behind (plain_fields self.now).text) }
     {
@@ -87,7 +87,7 @@ impl FormattedFields {
     ///
     /// # Errors
     ///
-    /// Want of memory.
+    /// Out of memory.
     pub fn push_more(&mut self, more: &str) -> Result<(), AllocError>
         ensures { plain_fields self.new ≡ (if is_ok result then (record (plain_fields self.old)
             { text = (plain_fields self.old).text ++ more.now }) else plain_fields self.old) }

@@ -32,7 +32,7 @@ impl FormatFields for JsonFields {
 
     ghost added = { λ _ fields values. with_members values fields };
 
-    #[tactic(auto, using(crate::proofs::Objects::object_written, crate::proofs::Objects::object_refused))]
+    #[tactic(auto, using(crate::proofs::GivenMembers::object_written, crate::proofs::GivenMembers::object_refused))]
     fn format_fields<R: RecordFields>(
         &self,
         alloc: Global,
@@ -49,7 +49,7 @@ impl FormatFields for JsonFields {
         Ok(FormattedFields::from_parts(text, Vec::new(alloc), settings))
     }
 
-    #[tactic(auto, using(crate::proofs::Objects::members_added, crate::proofs::Objects::members_refused))]
+    #[tactic(auto, using(crate::proofs::GivenMembers::members_added, crate::proofs::GivenMembers::members_refused))]
     fn add_fields<R: RecordFields>(
         &self,
         alloc: Global,

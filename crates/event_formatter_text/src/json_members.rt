@@ -1,6 +1,6 @@
 //! Values as members of an object that has others too.
 ghost use Rattle.std.specs.Prelude.{string_bytes};
-ghost use Rattle.event_formatter_text.specs.Chains.{ExtendsWhole, members_of};
+ghost use Rattle.event_formatter_text.specs.MemberChains.{ExtendsWhole, members_of};
 
 use crate::error::FormatError;
 use crate::record_fields::RecordFields;
@@ -12,7 +12,7 @@ use crate::writer::Writer;
 ///
 /// # Errors
 ///
-/// A value that can't be formatted, or want of memory. What was appended before is to be dropped.
+/// A value that can't be formatted, or out of memory. What was appended before is to be dropped.
 pub fn push_json_members<R: RecordFields>(
     out: &mut String,
     is_first: bool,

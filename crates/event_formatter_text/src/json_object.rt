@@ -1,6 +1,7 @@
 //! The members of a JSON object, in order of their keys.
 ghost use Rattle.std.specs.Prelude.{◌≡◌, ◌≤◌, ◌++◌, ◌∷◌, [], List, ℕ, OnOk, codes, drop, length, map, string_bytes, take};
-ghost use Rattle.event_formatter_text.specs.JsonObjects.{is_first_key, later_members, member_text, members_inside, object_text, pair_of, put, put_first};
+ghost use Rattle.event_formatter_text.specs.JsonObjects.{is_first_key, later_members, member_text, members_inside, object_text, pair_of};
+ghost use Rattle.event_formatter_text.specs.JsonObjects.{put, put_first};
 
 use crate::escape::push_json_string;
 use std::alloc::AllocError;

@@ -1,6 +1,8 @@
 //! Laws of the texts.
-ghost use Rattle.event_formatter_text.specs.JsonLaws.{InsidesAreJson, MembersAreJson, NumbersAreJson, ObjectsAreJson, StringsAreJson, TextsAreStrings, ValuesAreJson};
-ghost use Rattle.event_formatter_text.specs.Steering.{ErrorTextsAreHarmless, ErrorsAreHarmless, MessagesAreHarmless, SanitizedTextsAreHarmless, SourceTextsAreHarmless};
+ghost use Rattle.event_formatter_text.specs.JsonLaws.{InsidesAreJson, MembersAreJson, NumbersAreJson, ObjectsAreJson, StringsAreJson};
+ghost use Rattle.event_formatter_text.specs.JsonLaws.{TextsAreStrings, ValuesAreJson};
+ghost use Rattle.event_formatter_text.specs.TerminalControls.{ErrorTextsAreHarmless, ErrorsAreHarmless, MessagesAreHarmless};
+ghost use Rattle.event_formatter_text.specs.TerminalControls.{SanitizedTextsAreHarmless, SourceTextsAreHarmless};
 
 /// What stands for a text in a JSON string may stand there by JSON's grammar, and the string is a value of JSON.
 #[tactic(auto, using(crate::proofs::JsonStrings::text_inside, crate::proofs::JsonObjects::string_is))]
@@ -30,14 +32,14 @@ pub fn numbers_are_json()
 {}
 
 /// No sanitized text steers a terminal.
-#[tactic(auto, using(crate::proofs::Steering::texts_are))]
+#[tactic(auto, using(crate::proofs::TerminalControls::texts_are))]
 pub fn sanitized_texts_are_harmless()
     ensures { SanitizedTextsAreHarmless }
 {}
 
 /// Where texts are sanitized and there are no styles, no message steers a terminal, nor does an error with its sources
 /// under a name that doesn't, nor the texts of any error.
-#[tactic(auto, using(crate::proofs::SteeringFields::messages_are, crate::proofs::SteeringFields::errors_are, crate::proofs::SteeringFields::error_text_is, crate::proofs::SteeringFields::source_texts_are))]
+#[tactic(auto, using(crate::proofs::TerminalSafeFields::messages_are, crate::proofs::TerminalSafeFields::errors_are, crate::proofs::TerminalSafeFields::error_text_is, crate::proofs::TerminalSafeFields::source_texts_are))]
 pub fn messages_and_errors_are_harmless()
     ensures messages { MessagesAreHarmless }
     ensures errors { ErrorsAreHarmless }

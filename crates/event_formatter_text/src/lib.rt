@@ -4,6 +4,7 @@
 mod default_fields;
 mod error;
 mod escape;
+mod field;
 mod field_text;
 mod format_fields;
 mod formatted_fields;
@@ -12,6 +13,7 @@ mod json_members;
 mod json_object;
 mod json_text;
 mod laws;
+mod makers;
 mod members;
 mod pretty_fields;
 mod record_fields;
@@ -23,6 +25,11 @@ mod writer;
 pub use default_fields::DefaultFields;
 pub use error::FormatError;
 pub use escape::{is_plain_json, push_json_inside, push_json_rest, push_json_string};
+pub use field::{
+    AppendField, Delimited, FieldClosure, FieldFn, FieldFnVisitor, MakeExt, MakeOutput,
+    MakeVisitor, VisitDelimited, VisitFmt, VisitOutput, VisitWrite, WriteField, WritePiece,
+    debug_fn,
+};
 pub use format_fields::FormatFields;
 pub use formatted_fields::FormattedFields;
 pub use json_fields::JsonFields;
@@ -30,6 +37,10 @@ pub use json_members::push_json_members;
 pub use laws::{
     messages_and_errors_are_harmless, numbers_are_json, objects_are_json,
     sanitized_texts_are_harmless, texts_are_strings, values_are_json,
+};
+pub use makers::{
+    BadRoute, BoxMakeWriter, ClosureWriter, EitherWriter, LineTaker, MakeWriter, MakeWriterExt,
+    MetadataTest, OptionalWriter, OrElse, Route, Tee, WithFilter, WithMaxLevel, WithMinLevel,
 };
 pub use pretty_fields::PrettyFields;
 pub use record_fields::RecordFields;

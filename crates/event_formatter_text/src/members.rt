@@ -57,7 +57,7 @@ impl Visit for MembersVisitor {
 ///
 /// # Errors
 ///
-/// A value that can't be formatted, or want of memory.
+/// A value that can't be formatted, or out of memory.
 pub(crate) fn with_fields<R: RecordFields>(
     alloc: Global,
     members: Vec<Member>,

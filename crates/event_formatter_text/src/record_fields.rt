@@ -1,10 +1,9 @@
 //! What has values of fields to hand out.
 ghost use Rattle.std.specs.Prelude.{◌≡◌};
 ghost use Rattle.tracing_core_fields.specs.Visits.{Visits};
-ghost use Rattle.tracing_core_requests.specs.PlainRequests.{PlainValues, plain_attributes, plain_event, plain_record, plain_values};
+ghost use Rattle.tracing_core_fields.specs.requests.PlainRequests.{PlainValues, plain_attributes, plain_event, plain_record, plain_values};
 
-use tracing_core_fields::{ValueSet, VisitKinds};
-use tracing_core_requests::{Attributes, Event, Record};
+use tracing_core_fields::{Attributes, Event, Record, ValueSet, VisitKinds};
 
 /// Hands the values of fields to a visitor.
 pub trait RecordFields {

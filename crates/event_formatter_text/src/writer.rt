@@ -89,7 +89,7 @@ impl<'w> Writer<'w> {
     ///
     /// # Errors
     ///
-    /// Want of memory; nothing was appended then.
+    /// Out of memory; nothing was appended then.
     pub fn write_str(&mut self, text: &str) -> Result<(), AllocError>
         ensures same { IsSameWriter self.old self.new }
         ensures text { written self.new ≡ (if is_ok result then written self.old ++ text.now else written self.old) }
@@ -101,7 +101,7 @@ impl<'w> Writer<'w> {
     ///
     /// # Errors
     ///
-    /// Want of memory; nothing was appended then.
+    /// Out of memory; nothing was appended then.
     pub fn write_char(&mut self, c: char) -> Result<(), AllocError>
         ensures same { IsSameWriter self.old self.new }
         ensures text { written self.new ≡ (if is_ok result then written self.old ++ encode_utf8 c else written self.old) }
@@ -113,7 +113,7 @@ impl<'w> Writer<'w> {
     ///
     /// # Errors
     ///
-    /// Want of memory, or a value that could not be formatted. What was appended before is to be dropped.
+    /// Out of memory, or a value that could not be formatted. What was appended before is to be dropped.
     pub fn write_fmt<D: Display + Drop>(&mut self, value: D) -> Result<(), AllocError>
         ensures same { IsSameWriter self.old self.new }
         ensures text { OnOk result (AppendsText (written self.old) (written self.new) (D.output value)) }

@@ -117,7 +117,7 @@ fn print_file(rt: &HostRuntime, path: &str) -> Result<(), std::io::Error> {
     println!(rt; "{path}:\n{text}")
 }
 
-/// Whether an output missed nothing for want of memory, and its files took all.
+/// Whether an output missed nothing where memory ran out, and its files took all.
 fn is_whole(trace: &FileTrace, output: usize) -> Option<bool> {
     let sink = trace.sink(output, 0)?;
     let faults = sink.appender().faults();

@@ -1,61 +1,65 @@
+pub mod OutputSlots
+pub mod InterestCache
+pub mod Refusals
+pub mod CommonAnswers
+pub mod Stacks
+pub mod CacheValidity
+pub mod SpanNotices
+pub mod SpanSteps
+pub mod Calls
+pub mod NewStack
+pub mod Swaps
+pub mod TakenOutputs
+pub mod Loans
+pub mod Moves
+pub mod Steps
+pub mod Caches
+pub mod Steadiness
+pub mod Numbers
+pub mod Soundness
+pub mod RegistryIndependence
+pub mod Keys
 pub use Rattle.span_registry_layers_store.specs.Spans
 pub use Rattle.span_registry_layers_store.specs.Lanes
 pub use Rattle.span_registry_layers_store.specs.Verdicts
 pub use Rattle.span_registry_layers_store.specs.Places
 pub use Rattle.span_registry_layers_store.specs.Registries
-pub use Rattle.span_registry_layers_store.specs.Gives
+pub use Rattle.span_registry_layers_store.specs.RegistryCalls
 pub use Rattle.span_registry_layers_store.specs.Slots
-pub use Rattle.span_registry_layers_store.specs.Keeping
+pub use Rattle.span_registry_layers_store.specs.SlotCalls
 pub use Rattle.span_registry_layers_store.specs.Views
 pub use Rattle.span_registry_layers_store.specs.References
 pub use Rattle.span_registry_layers_store.specs.Laws
-pub use Rattle.span_registry_layers_store.specs.Aside
+pub use Rattle.span_registry_layers_store.specs.SlotIndependence
 pub use Rattle.span_registry_layers_store.specs.Copies
 pub use Rattle.span_registry_layers_store.specs.SlotLoans
 pub use Rattle.span_registry_layers_store.specs.Lookups
-pub use Rattle.span_registry_layers_layers.specs.Looks
+pub use Rattle.span_registry_layers_layers.specs.FilterViews
 pub use Rattle.span_registry_layers_layers.specs.SpanCalls
-pub use Rattle.span_registry_layers_layers.specs.Told as ToldNotices
+pub use Rattle.span_registry_layers_layers.specs.LayerNotices as ToldNotices
 pub use Rattle.span_registry_layers_layers.specs.Honesty
 pub use Rattle.span_registry_layers_layers.specs.Combined
-pub use Rattle.span_registry_layers_layers.specs.Optional
+pub use Rattle.span_registry_layers_layers.specs.OptionalFilter
 pub use Rattle.span_registry_layers_layers.specs.Functions
 pub use Rattle.span_registry_layers_layers.specs.Notices
-pub use Rattle.span_registry_layers_layers.specs.Lending
+pub use Rattle.span_registry_layers_layers.specs.FilteredLoans
 pub use Rattle.span_registry_layers_layers.specs.ContextLoans
 pub use Rattle.span_registry_layers_layers.specs.Contexts
 pub use Rattle.span_registry_layers_layers.specs.Dynamic
 pub use Rattle.span_registry_layers_layers.specs.Layereds
 pub use Rattle.span_registry_layers_layers.specs.Identities
-pub use Rattle.span_registry_layers_layers.specs.Absent
+pub use Rattle.span_registry_layers_layers.specs.OptionalLayer
 pub use Rattle.span_registry_layers_layers.specs.Several
-pub use Rattle.span_registry_layers_layers.specs.Numbering
+pub use Rattle.span_registry_layers_layers.specs.FilterNumbers
 pub use Rattle.span_registry_layers_layers.specs.Filtereds
 pub use Rattle.span_registry_layers_layers.specs.FilteredWords
 pub use Rattle.span_registry_layers_layers.specs.Singles
 pub use Rattle.span_registry_layers_layers.specs.Firms
 pub use Rattle.span_registry_layers_layers.specs.Trees
-pub use Rattle.span_registry_layers_layers.specs.Staying
-pub use Rattle.span_registry_layers_layers.specs.Listenings
+pub use Rattle.span_registry_layers_layers.specs.TreeConsistency
+pub use Rattle.span_registry_layers_layers.specs.ListenerLayer
 pub use Rattle.span_registry_layers_layers.specs.Ways
 pub use Rattle.span_registry_layers_layers.specs.Soundness as TreeSoundness
-pub use Rattle.span_registry_layers_stack.specs.Rows
-pub use Rattle.span_registry_layers_stack.specs.Sites
-pub use Rattle.span_registry_layers_stack.specs.Asked
-pub use Rattle.span_registry_layers_stack.specs.Stacks
-pub use Rattle.span_registry_layers_stack.specs.CacheValidity
-pub use Rattle.span_registry_layers_stack.specs.Hearing
-pub use Rattle.span_registry_layers_stack.specs.Calls
-pub use Rattle.span_registry_layers_stack.specs.New
-pub use Rattle.span_registry_layers_stack.specs.Swaps
-pub use Rattle.span_registry_layers_stack.specs.Taking
-pub use Rattle.span_registry_layers_stack.specs.Loans
-pub use Rattle.span_registry_layers_stack.specs.Moves
-pub use Rattle.span_registry_layers_stack.specs.Steps
-pub use Rattle.span_registry_layers_stack.specs.Caches
-pub use Rattle.span_registry_layers_stack.specs.Steadiness
-pub use Rattle.span_registry_layers_stack.specs.Numbers
-pub use Rattle.span_registry_layers_stack.specs.Soundness
 pub use Rattle.span_registry_layers_store.specs.declared.filter_map.FilterId
 pub use Rattle.span_registry_layers_store.specs.declared.filter_map.TooManyFilters
 pub use Rattle.span_registry_layers_store.specs.declared.record.SpanRecord
@@ -81,18 +85,6 @@ pub use Rattle.span_registry_layers_layers.specs.declared.layer.listening.Listen
 pub use Rattle.span_registry_layers_layers.specs.declared.layer.listening.Listening
 pub use Rattle.span_registry_layers_layers.specs.declared.way.Way
 pub use Rattle.span_registry_layers_layers.specs.declared.attached.AttachError
-pub use Rattle.span_registry_layers_stack.specs.declared.output.Output
-pub use Rattle.span_registry_layers_stack.specs.declared.output.StackError
-pub use Rattle.span_registry_layers_stack.specs.declared.output.StackRefusal
-pub use Rattle.span_registry_layers_stack.specs.declared.output.UnknownOutput
-pub use Rattle.span_registry_layers_stack.specs.declared.stack.taking.IntoOutputs
 pub use Rattle.span_registry_layers_layers.specs.declared.layer.identity.Identity
-pub use Rattle.span_registry_layers_stack.specs.declared.row.Row
-pub use Rattle.span_registry_layers_stack.specs.Alone
-pub use Rattle.span_registry_layers_stack.specs.Keys
-pub use Rattle.span_registry_layers_stack.proofs.Numbering as NumberingProofs
-pub use Rattle.span_registry_layers_stack.proofs.Alone as AloneProofs
-pub use Rattle.span_registry_layers_stack.proofs.Single as SingleProofs
-pub use Rattle.span_registry_layers_stack.proofs.Written as WrittenProofs
-pub use Rattle.span_registry_layers_store.proofs.Keyed as KeyedProofs
-pub use Rattle.span_registry_layers_layers.proofs.Writing as WritingProofs
+pub use Rattle.span_registry_layers_store.proofs.SlotsByKey as KeyedProofs
+pub use Rattle.span_registry_layers_layers.proofs.LentSlots as WritingProofs

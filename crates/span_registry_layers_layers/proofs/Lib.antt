@@ -1,10 +1,10 @@
 pub mod Boxes
-pub mod Attaching
-pub mod Loops
-pub mod Numbers
-pub mod Joining
-pub mod Closing
+pub mod AttachedLayers
+pub mod EachElement
+pub mod FilterNumbers
+pub mod FurtherLayer
+pub mod NextSpanClose
 pub mod Soundness
-mod Turns
+mod SharedLoans
 pub mod Spans
-pub mod Writing
+pub mod LentSlots

@@ -2,12 +2,12 @@
 use Rattle.std.specs.Prelude.{◌≡◌, ◌<◌, ℕ, Bool, true, false, not, nat_le, min, max, Option, Some, None, refl}
 use Rattle.std.proofs.Common.{sym, ap, subst, ◌∙◌, arith, true≢false}
 use Rattle.std.proofs.lemmas.Bool.Decides.{nat_tests}
-use Rattle.tracing_core_requests.specs.Interests.{PlainInterest}
-use Rattle.tracing_core_requests.specs.declared.interest.InterestInner.TheVariants.{Never, Sometimes, Always}
+use Rattle.tracing_core_fields.specs.requests.Interests.{PlainInterest}
+use Rattle.tracing_core_fields.specs.declared.requests.interest.InterestInner.TheVariants.{Never, Sometimes, Always}
 use Rattle.tracing_core_fields.specs.PlainMetadata.{PlainMetadata}
-use Rattle.tracing_core_requests.specs.Steady.{HintFits, InterestFits, SameWord}
+use Rattle.tracing_core_fields.specs.requests.Steady.{HintFits, InterestFits, SameWord}
 use Rattle.span_registry_layers_layers.specs.Honesty.{Fair}
-use Rattle.span_registry_layers_layers.specs.Looks.{View}
+use Rattle.span_registry_layers_layers.specs.FilterViews.{View}
 
 -- nothing of the word changes
 pub same_word : (says : PlainMetadata → PlainInterest → Type 0) (hint : Option ℕ) → SameWord says says hint hint
@@ -71,7 +71,8 @@ turned_interest Never = Always
 turned_interest Sometimes = Sometimes
 turned_interest Always = Never
 
-abbrev pub SaysOf : (PlainInterest → PlainInterest → PlainInterest) → (PlainInterest → Type 0) → (PlainInterest → Type 0) → PlainInterest → Type 0
+abbrev pub SaysOf : (PlainInterest → PlainInterest → PlainInterest) → (PlainInterest → Type 0) → (PlainInterest → Type 0) → PlainInterest →
+    Type 0
 SaysOf joined P Q r = (k : PlainInterest) × P k × ((j : PlainInterest) × Q j × (r ≡ joined k j))
 
 abbrev pub SaysTurned : (PlainInterest → Type 0) → PlainInterest → Type 0
@@ -105,7 +106,8 @@ else_refused : (Q : Bool → Type 0) (p r : Bool) → Else Q p r → p ≡ false
 else_refused Q true r t e = absurd (true≢false e)
 else_refused Q false r t e = t
 
-both_fit : (k j : PlainInterest) (p r : Bool) → InterestFits k p → (p ≡ true → InterestFits j r) → (p ≡ false → r ≡ false) → InterestFits (both_interests k j) r
+both_fit : (k j : PlainInterest) (p r : Bool) → InterestFits k p → (p ≡ true → InterestFits j r) → (p ≡ false → r ≡ false) →
+    InterestFits (both_interests k j) r
 both_fit Never j p r a b c = c a
 both_fit Sometimes Never true r a b c = b refl
 both_fit Sometimes Never false r a b c = c refl
@@ -113,13 +115,15 @@ both_fit Sometimes Sometimes p r a b c = tt
 both_fit Sometimes Always p r a b c = tt
 both_fit Always j p r a b c = b a
 
-both_below : (h i : Option ℕ) (level : ℕ) (p r : Bool) → HintFits h level p → (p ≡ true → HintFits i level r) → (p ≡ false → r ≡ false) → HintFits (both_hints h i) level r
+both_below : (h i : Option ℕ) (level : ℕ) (p r : Bool) → HintFits h level p → (p ≡ true → HintFits i level r) → (p ≡ false → r ≡ false) →
+    HintFits (both_hints h i) level r
 both_below None i level p r a b c = tt
 both_below (Some x) None level p r a b c = tt
 both_below (Some x) (Some y) level true r a b c = λ lt. b refl (let no : x < level → ⊥ = λ h. true≢false (a h) in omega (arith, lt, no))
 both_below (Some x) (Some y) level false r a b c = λ lt. c refl
 
-either_fit : (k j : PlainInterest) (p r : Bool) → InterestFits k p → (p ≡ false → InterestFits j r) → (p ≡ true → r ≡ true) → InterestFits (either_interest k j) r
+either_fit : (k j : PlainInterest) (p r : Bool) → InterestFits k p → (p ≡ false → InterestFits j r) → (p ≡ true → r ≡ true) →
+    InterestFits (either_interest k j) r
 either_fit Always j p r a b c = c a
 either_fit Sometimes Always true r a b c = c refl
 either_fit Sometimes Always false r a b c = b refl
@@ -127,7 +131,8 @@ either_fit Sometimes Sometimes p r a b c = tt
 either_fit Sometimes Never p r a b c = tt
 either_fit Never j p r a b c = b a
 
-either_below : (h i : Option ℕ) (level : ℕ) (p r : Bool) → HintFits h level p → (p ≡ false → HintFits i level r) → HintFits (either_hint h i) level r
+either_below : (h i : Option ℕ) (level : ℕ) (p r : Bool) → HintFits h level p → (p ≡ false → HintFits i level r) →
+    HintFits (either_hint h i) level r
 either_below None i level p r a b = tt
 either_below (Some x) None level p r a b = tt
 either_below (Some x) (Some y) level p r a b = λ lt. b (a (omega (arith, lt))) (omega (arith, lt))
@@ -139,27 +144,37 @@ turned_fit Always p a = rw a refl
 
 module _ {A B : PlainMetadata → View → Bool → Type 0} {S T : PlainMetadata → PlainInterest → Type 0} {h i : Option ℕ} where
   -- both asked in turn, what they say joined in a way that fits
-  pub joined_fair : (say : PlainInterest → PlainInterest → PlainInterest) (top : Option ℕ → Option ℕ → Option ℕ) → ((k j : PlainInterest) (p r : Bool) → InterestFits k p → (p ≡ true → InterestFits j r) → (p ≡ false → r ≡ false) → InterestFits (say k j) r) → ((h i : Option ℕ) (level : ℕ) (p r : Bool) → HintFits h level p → (p ≡ true → HintFits i level r) → (p ≡ false → r ≡ false) → HintFits (top h i) level r) → Fair A S h → Fair B T i → Fair (λ m v r. Both (A m v) (B m v) r) (λ m k. SaysOf say (S m) (T m) k) (top h i)
+  pub joined_fair : (say : PlainInterest → PlainInterest → PlainInterest) (top : Option ℕ → Option ℕ → Option ℕ) →
+      ((k j : PlainInterest) (p r : Bool) → InterestFits k p → (p ≡ true → InterestFits j r) → (p ≡ false → r ≡ false) →
+      InterestFits (say k j) r) → ((h i : Option ℕ) (level : ℕ) (p r : Bool) → HintFits h level p → (p ≡ true → HintFits i level r) →
+      (p ≡ false → r ≡ false) → HintFits (top h i) level r) → Fair A S h → Fair B T i →
+      Fair (λ m v r. Both (A m v) (B m v) r) (λ m k. SaysOf say (S m) (T m) k) (top h i)
   joined_fair say top fit below f g = record {
     interest = λ m v r k a s.
         subst (λ z. InterestFits z r) (sym s.2.2)
-        (fit s.0 s.2.0 a.0 r (f.interest m v a.0 s.0 a.1 s.1) (λ e. g.interest m v r s.2.0 (then_passed (B m v) a.0 r a.2 e) s.2.1) (then_refused (B m v) a.0 r a.2));
-    below = λ m v r a. below h i m.level a.0 r (f.below m v a.0 a.1) (λ e. g.below m v r (then_passed (B m v) a.0 r a.2 e)) (then_refused (B m v) a.0 r a.2);
+        (fit s.0 s.2.0 a.0 r (f.interest m v a.0 s.0 a.1 s.1) (λ e. g.interest m v r s.2.0 (then_passed (B m v) a.0 r a.2 e) s.2.1)
+        (then_refused (B m v) a.0 r a.2));
+    below = λ m v r a. below h i m.level a.0 r (f.below m v a.0 a.1) (λ e. g.below m v r (then_passed (B m v) a.0 r a.2 e))
+        (then_refused (B m v) a.0 r a.2);
   }
 
-  pub both_fair : Fair A S h → Fair B T i → Fair (λ m v r. Both (A m v) (B m v) r) (λ m k. SaysOf both_interests (S m) (T m) k) (both_hints h i)
+  pub both_fair : Fair A S h → Fair B T i → Fair (λ m v r. Both (A m v) (B m v) r) (λ m k. SaysOf both_interests (S m) (T m) k)
+      (both_hints h i)
   both_fair f g = joined_fair both_interests both_hints both_fit both_below f g
 
-  pub either_fair : Fair A S h → Fair B T i → Fair (λ m v r. Either (A m v) (B m v) r) (λ m k. SaysOf either_interest (S m) (T m) k) (either_hint h i)
+  pub either_fair : Fair A S h → Fair B T i → Fair (λ m v r. Either (A m v) (B m v) r) (λ m k. SaysOf either_interest (S m) (T m) k)
+      (either_hint h i)
   either_fair f g = record {
     interest = λ m v r k a s.
         subst (λ z. InterestFits z r) (sym s.2.2)
-        (either_fit s.0 s.2.0 a.0 r (f.interest m v a.0 s.0 a.1 s.1) (λ e. g.interest m v r s.2.0 (else_refused (B m v) a.0 r a.2 e) s.2.1) (else_passed (B m v) a.0 r a.2));
+        (either_fit s.0 s.2.0 a.0 r (f.interest m v a.0 s.0 a.1 s.1) (λ e. g.interest m v r s.2.0 (else_refused (B m v) a.0 r a.2 e) s.2.1)
+        (else_passed (B m v) a.0 r a.2));
     below = λ m v r a. either_below h i m.level a.0 r (f.below m v a.0 a.1) (λ e. g.below m v r (else_refused (B m v) a.0 r a.2 e));
   }
 
 module _ {S S' T T' : PlainMetadata → PlainInterest → Type 0} {h h' i i' : Option ℕ} where
-  pub joined_word : (joined : PlainInterest → PlainInterest → PlainInterest) (hints : Option ℕ → Option ℕ → Option ℕ) → SameWord S S' h h' → SameWord T T' i i' → SameWord (λ m k. SaysOf joined (S m) (T m) k) (λ m k. SaysOf joined (S' m) (T' m) k) (hints h i) (hints h' i')
+  pub joined_word : (joined : PlainInterest → PlainInterest → PlainInterest) (hints : Option ℕ → Option ℕ → Option ℕ) → SameWord S S' h h' →
+      SameWord T T' i i' → SameWord (λ m k. SaysOf joined (S m) (T m) k) (λ m k. SaysOf joined (S' m) (T' m) k) (hints h i) (hints h' i')
   joined_word joined hints a b = record {
     onward = λ m k s. (s.0, a.onward m s.0 s.1, (s.2.0, b.onward m s.2.0 s.2.1, s.2.2));
     back = λ m k s. (s.0, a.back m s.0 s.1, (s.2.0, b.back m s.2.0 s.2.1, s.2.2));
@@ -169,7 +184,8 @@ module _ {S S' T T' : PlainMetadata → PlainInterest → Type 0} {h h' i i' : O
 module _ {A : PlainMetadata → View → Bool → Type 0} {S : PlainMetadata → PlainInterest → Type 0} {h : Option ℕ} where
   pub turned_fair : Fair A S h → Fair (λ m v r. Turned (A m v) r) (λ m k. SaysTurned (S m) k) None
   turned_fair f = record {
-    interest = λ m v r k a s. subst (λ z. InterestFits z r) (sym s.2) (subst (λ b. InterestFits (turned_interest s.0) b) (sym a.2) (turned_fit s.0 a.0 (f.interest m v a.0 s.0 a.1 s.1)));
+    interest = λ m v r k a s. subst (λ z. InterestFits z r) (sym s.2)
+        (subst (λ b. InterestFits (turned_interest s.0) b) (sym a.2) (turned_fit s.0 a.0 (f.interest m v a.0 s.0 a.1 s.1)));
     below = λ m v r a. tt;
   }
 

@@ -2,7 +2,7 @@
 use Rattle.std.specs.Prelude.{◌≡◌, [], ℕ, List, Option}
 use Rattle.std.specs.Borrow.{LendsIf, MutBor, Fml}
 use mir.Syntax.{named}
-use Rattle.span_registry_layers_store.specs.Keeping.{with_slots}
+use Rattle.span_registry_layers_store.specs.SlotCalls.{with_slots}
 use Rattle.span_registry_layers_store.specs.Registries.{PlainSpan, RegistryValue}
 use Rattle.span_registry_layers_store.specs.Slots.{PlainPlace}
 use Rattle.span_registry_layers_store.specs.contracts.extensions.Extensions as extensions
@@ -20,6 +20,7 @@ slots_in s = s.slots
 abbrev pub writing : Context → ℕ → List PlainPlace → Context
 writing c id places = record c { registry = record c.registry { now = with_slots c.registry.now id places } }
 
--- it ends with the last value behind r as the slots of that span; `named 1` is the lifetime parameter of contexts, in the terms of the toolchain
+-- it ends with the last value behind r as the slots of that span; `named 1` is the lifetime parameter of contexts, in the terms of the
+-- toolchain
 abbrev pub LendsSlots : MutBor Context → ℕ → Option (MutBor (List PlainPlace)) → Fml
 LendsSlots c id r = LendsIf (context.the_row (record { mir = named 1; lft = [] })) extensions.the_row c r (λ w. writing c.now id w) c.now

@@ -1,15 +1,15 @@
 -- What a context shows.
 use Rattle.std.specs.Prelude.{ℕ, List, Option, Some, None}
-use Rattle.tracing_core_requests.specs.declared.current_span.CurrentSpan.{CurrentSpan}
-use Rattle.tracing_core_requests.specs.declared.current_span.CurrentSpan.TheVariants.{Inside, Outside}
-use Rattle.tracing_core_requests.specs.declared.requests.parent.Parent.{Parent}
-use Rattle.tracing_core_requests.specs.declared.requests.parent.Parent.TheVariants.{Root, Current, Explicit}
+use Rattle.tracing_core_fields.specs.declared.requests.current_span.CurrentSpan.{CurrentSpan}
+use Rattle.tracing_core_fields.specs.declared.requests.current_span.CurrentSpan.TheVariants.{Inside, Outside}
+use Rattle.tracing_core_fields.specs.declared.requests.arguments.parent.Parent.{Parent}
+use Rattle.tracing_core_fields.specs.declared.requests.arguments.parent.Parent.TheVariants.{Root, Current, Explicit}
 use Rattle.tracing_core_fields.specs.PlainMetadata.{PlainMetadata}
 use Rattle.span_registry_layers_store.specs.References.{PlainRef, ref_of, refs_of}
 use Rattle.span_registry_layers_store.specs.Registries.{PlainSpan, kin_in}
 use Rattle.span_registry_layers_store.specs.Spans.{line_of}
 use Rattle.span_registry_layers_store.specs.Views.{current_under, seen}
-use Rattle.span_registry_layers_layers.specs.Looks.{View}
+use Rattle.span_registry_layers_layers.specs.FilterViews.{View}
 
 -- the span that the lane is in, of those that are seen
 abbrev pub lane_span : View → Option PlainSpan

@@ -2,15 +2,15 @@
 use Rattle.std.specs.Prelude.{◌≡◌, ◌&&◌, ℕ, suc, Bool, true, false, List, ◌∷◌, Option, Some, None, Result, is_some}
 use Rattle.std.specs.Result.{result_ok}
 use Rattle.tracing_core_fields.specs.PlainMetadata.{PlainMetadata}
-use Rattle.tracing_core_requests.specs.PlainRequests.{PlainEvent}
-use Rattle.span_registry_layers_store.specs.Gives.{FilterGives}
+use Rattle.tracing_core_fields.specs.requests.PlainRequests.{PlainEvent}
+use Rattle.span_registry_layers_store.specs.RegistryCalls.{FilterGives}
 use Rattle.span_registry_layers_store.specs.Registries.{RegistryValue}
 use Rattle.span_registry_layers_store.specs.Verdicts.{passes_at}
 use Rattle.span_registry_layers_store.specs.declared.filter_map.FilterId.{FilterId}
 use Rattle.span_registry_layers_store.specs.declared.filter_map.TooManyFilters.{TooManyFilters}
 use Rattle.span_registry_layers_layers.specs.Combined.{Both, Then}
 use Rattle.span_registry_layers_layers.specs.Contexts.{span_in}
-use Rattle.span_registry_layers_layers.specs.Looks.{View}
+use Rattle.span_registry_layers_layers.specs.FilterViews.{View}
 use Rattle.span_registry_layers_layers.specs.Notices.{Attached, Called, Dispatched, Notice, OnEvent, OnFollows, OnIdChange, OnSpan}
 use Rattle.span_registry_layers_layers.specs.declared.filter.Filter.{Ghosts}
 use Rattle.span_registry_layers_layers.specs.declared.filtered.Filtered.{Filtered}
@@ -33,7 +33,8 @@ module _ {F : Type 0} (g : Ghosts F) where
   abbrev pub MayPass : F → PlainEvent → View → Bool → Type 0
   MayPass filter e v b = Both (g.answers filter e.metadata v) (g.event_answers filter e v) b
 
-  -- whether the layer may be told: of a span that it sees, of both that one follows from the other, of an event that the filter, asked again, passes, and of a new id where it sees the old one
+  -- whether the layer may be told: of a span that it sees, of both that one follows from the other, of an event that the filter, asked
+  -- again, passes, and of a new id where it sees the old one
   abbrev pub MayHear : F → Notice → Bool → Type 0
   MayHear filter (Called (OnSpan id call) v left) b = b ≡ is_seen v id
   MayHear filter (Called (OnFollows span follows) v left) b = b ≡ (is_seen v span && is_seen v follows)
@@ -74,7 +75,8 @@ module _ {L F : Type 0} (g : Ghosts F) (h : LayerGhosts L) where
   -- the registry numbers its filter, where it has room for one more, and the layer is attached to the registry as it is then
   abbrev pub Attaches : Filtered L F → Notice → Filtered L F → Type 0
   Attaches x (Attached r) y =
-      (given : Result FilterId TooManyFilters) × (later : RegistryValue) × FilterGives r given later × h.told x.layer (Attached later) y.layer
+      (given : Result FilterId TooManyFilters) × (later : RegistryValue) × FilterGives r given later ×
+      h.told x.layer (Attached later) y.layer
       × (y ≡ record x { layer = y.layer; id = result_ok given })
   Attaches x other y = Unit {0}
 

@@ -3,17 +3,18 @@ use Rattle.std.specs.Prelude.{◌≡◌, ◌<◌, ◌⊎◌, ℕ, Bool, true, fa
 use Rattle.std.specs.Borrow.{Bor}
 use Rattle.std.proofs.Common.{inl, inr, sym, ap, subst, ◌∙◌, arith, true≢false}
 use Rattle.std.proofs.lemmas.Bool.Decides.{nat_tests}
-use Rattle.tracing_core_requests.specs.declared.interest.InterestInner.TheVariants.{Never, Sometimes, Always}
-use Rattle.tracing_core_requests.specs.Interests.{PlainInterest}
+use Rattle.tracing_core_fields.specs.declared.requests.interest.InterestInner.TheVariants.{Never, Sometimes, Always}
+use Rattle.tracing_core_fields.specs.requests.Interests.{PlainInterest}
 use Rattle.tracing_core_fields.specs.Metadata.{plain_metadata}
 use Rattle.tracing_core_fields.specs.PlainMetadata.{PlainMetadata}
-use Rattle.tracing_core_requests.specs.Steady.{HintFits}
+use Rattle.tracing_core_fields.specs.requests.Steady.{HintFits}
 use Rattle.tracing_core_fields.specs.declared.metadata.Metadata.{Metadata}
-use Rattle.span_registry_layers_layers.specs.Combined.{SaysOf, SaysTurned, both_hints, both_interests, either_hint, either_interest, kept_by, level_interest, turned_interest}
+use Rattle.span_registry_layers_layers.specs.Combined.{SaysOf, SaysTurned, both_hints, both_interests, either_hint, either_interest}
+use Rattle.span_registry_layers_layers.specs.Combined.{kept_by, level_interest, turned_interest}
 use Rattle.span_registry_layers_layers.specs.Dynamic.{SaysIn, hinted_interest}
 use Rattle.span_registry_layers_layers.specs.Functions.{AnswersBy, IsDetermined, SaysBy}
 use Rattle.span_registry_layers_layers.specs.Honesty.{Fair, Firm}
-use Rattle.span_registry_layers_layers.specs.Looks.{View}
+use Rattle.span_registry_layers_layers.specs.FilterViews.{View}
 
 always_passed : (p : Bool) → Always ≡ kept_by p → p ≡ true
 always_passed true e = refl
@@ -22,11 +23,13 @@ always_passed false e = absurd (cc)
 pub level_firm : (filter : ℕ) → Firm (λ m k. k ≡ level_interest filter m.level) (Some filter)
 level_firm filter = record {
   one = λ m j k x y. x ∙ sym y;
-  below = λ m v s lt. let passed : nat_le m.level filter ≡ true = always_passed (nat_le m.level filter) s in absurd (grind (arith, nat_tests, passed, lt));
+  below = λ m v s lt. let passed : nat_le m.level filter ≡ true = always_passed (nat_le m.level filter) s in
+      absurd (grind (arith, nat_tests, passed, lt));
 }
 
 -- what is determined by the metadata is said once
-pub closure_firm : (P : Bor Metadata → Bool → Type 0) (hint : Option ℕ) → IsDetermined P → Fair (AnswersBy P) (SaysBy P) hint → Firm (SaysBy P) hint
+pub closure_firm : (P : Bor Metadata → Bool → Type 0) (hint : Option ℕ) → IsDetermined P → Fair (AnswersBy P) (SaysBy P) hint →
+    Firm (SaysBy P) hint
 closure_firm P hint d f = record {
   one = λ m j k x y. x.4 ∙ ap kept_by (d x.0 y.0 x.1 y.1 (x.2 ∙ sym y.2) x.3 y.3) ∙ sym y.4;
   below = λ m v s. subst (HintFits hint m.level) (always_passed s.1 s.4) (f.below m v s.1 (s.0, s.2, s.3));
@@ -47,7 +50,8 @@ not_always (Some top) level e = neither (nat_lt top level) e
     neither true e = absurd (cc)
     neither false e = absurd (cc)
 
-pub dynamic_firm : {G : Type 0} (post : G → Bor Metadata → PlainInterest → Type 0) (callsite : Option G) (hint : Option ℕ) → CallsitesAreFirm post callsite hint → Firm (SaysIn post callsite hint) hint
+pub dynamic_firm : {G : Type 0} (post : G → Bor Metadata → PlainInterest → Type 0) (callsite : Option G) (hint : Option ℕ) →
+    CallsitesAreFirm post callsite hint → Firm (SaysIn post callsite hint) hint
 dynamic_firm post None hint w = record { one = λ m j k x y. x ∙ sym y; below = λ m v s. absurd (not_always hint m.level s) }
 dynamic_firm post (Some g) hint w = record {
   one = λ m j k x y. w.0 x.0 y.0 j k (x.1 ∙ sym y.1) x.2 y.2;
@@ -84,7 +88,8 @@ either_right (Some x) None level a = tt
 either_right (Some x) (Some y) level a = λ lt. a (omega (arith, lt))
 
 module _ {S T : PlainMetadata → PlainInterest → Type 0} {h i : Option ℕ} where
-  joined_one : (joined : PlainInterest → PlainInterest → PlainInterest) → Firm S h → Firm T i → (m : PlainMetadata) (j k : PlainInterest) → SaysOf joined (S m) (T m) j → SaysOf joined (S m) (T m) k → j ≡ k
+  joined_one : (joined : PlainInterest → PlainInterest → PlainInterest) → Firm S h → Firm T i → (m : PlainMetadata) (j k : PlainInterest) →
+      SaysOf joined (S m) (T m) j → SaysOf joined (S m) (T m) k → j ≡ k
   joined_one joined f g m j k x y =
       x.2.2 ∙ ap (λ z. joined z x.2.0) (f.one m x.0 y.0 x.1 y.1) ∙ ap (joined y.0) (g.one m x.2.0 y.2.0 x.2.1 y.2.1) ∙ sym y.2.2
 
@@ -102,7 +107,8 @@ module _ {S T : PlainMetadata → PlainInterest → Type 0} {h i : Option ℕ} w
     below = λ m v s. by_side m v s (either_always s.0 s.2.0 s.2.2);
   }
     where
-      by_side : (m : PlainMetadata) (v : View) (s : SaysOf either_interest (S m) (T m) Always) → (s.0 ≡ Always) ⊎ (s.2.0 ≡ Always) → HintFits (either_hint h i) m.level true
+      by_side : (m : PlainMetadata) (v : View) (s : SaysOf either_interest (S m) (T m) Always) → (s.0 ≡ Always) ⊎ (s.2.0 ≡ Always) →
+          HintFits (either_hint h i) m.level true
       by_side m v s (inl e) = either_left h i m.level (f.below m v (subst (S m) e s.1))
       by_side m v s (inr e) = either_right h i m.level (g.below m v (subst (T m) e s.2.1))
 

@@ -1,8 +1,8 @@
 -- A layer that does nothing.
 use Rattle.std.specs.Prelude.{◌≡◌, true, None}
 use Rattle.std.proofs.Common.{sym, subst}
-use Rattle.tracing_core_requests.specs.declared.interest.InterestInner.TheVariants.{Always}
-use Rattle.tracing_core_requests.specs.Steady.{InterestFits}
+use Rattle.tracing_core_fields.specs.declared.requests.interest.InterestInner.TheVariants.{Always}
+use Rattle.tracing_core_fields.specs.requests.Steady.{InterestFits}
 use Rattle.span_registry_layers_layers.specs.Honesty.{Fair}
 
 -- it passes all, and says so

@@ -1,11 +1,12 @@
 -- What an output is told.
 use Rattle.std.specs.Prelude.{◌≡◌, ◌+◌, ℕ, Bool, Option}
-use Rattle.tracing_core_requests.specs.PlainRequests.{PlainEvent}
-use Rattle.span_registry_layers_store.specs.Aside.{SameButKeys, SameButSlots, keys_equal}
+use Rattle.tracing_core_fields.specs.requests.PlainRequests.{PlainEvent}
+use Rattle.span_registry_layers_store.specs.SlotIndependence.{SameButKeys, SameButSlots, keys_equal}
 use Rattle.span_registry_layers_store.specs.Registries.{RegistryValue}
-use Rattle.span_registry_layers_layers.specs.Looks.{Hook, View}
+use Rattle.span_registry_layers_layers.specs.FilterViews.{Hook, View}
 
--- what is said of spans and events: a call on a span that its filter is told too, a span that follows another one, an event, and a span's new id
+-- what is said of spans and events: a call on a span that its filter is told too, a span that follows another one, an event, and a span's
+-- new id
 pub data Said : Type 0 where
   OnSpan : ℕ → (View → Hook) → Said
   OnFollows : ℕ → ℕ → Said
@@ -49,7 +50,8 @@ abbrev pub WritesUnder : (ℕ → Bool) → Notice → Type 0
 WritesUnder keys n = Leaves (SameButKeys keys) n
 
 -- what is so related by the one is by the other
-pub leaves_by : (R S : RegistryValue → RegistryValue → Type 0) → ((x y : RegistryValue) → R x y → S x y) → (n : Notice) → Leaves R n → Leaves S n
+pub leaves_by : (R S : RegistryValue → RegistryValue → Type 0) → ((x y : RegistryValue) → R x y → S x y) → (n : Notice) → Leaves R n →
+    Leaves S n
 leaves_by R S f (Called said v y) w = f v.registry y w
 leaves_by R S f (Dispatched handle) w = tt
 leaves_by R S f (Attached x) w = tt

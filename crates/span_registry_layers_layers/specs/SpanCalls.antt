@@ -1,6 +1,6 @@
 -- What filters are told of spans, as hooks.
-use Rattle.tracing_core_requests.specs.PlainRequests.{plain_attributes, plain_record}
-use Rattle.span_registry_layers_layers.specs.Looks.{Closed, Entered, Exited, Hook, Recorded, SpanMade, View}
+use Rattle.tracing_core_fields.specs.requests.PlainRequests.{plain_attributes, plain_record}
+use Rattle.span_registry_layers_layers.specs.FilterViews.{Closed, Entered, Exited, Hook, Recorded, SpanMade, View}
 use Rattle.span_registry_layers_layers.specs.declared.filter.span_call.SpanCall.{SpanCall}
 use Rattle.span_registry_layers_layers.specs.declared.filter.span_call.SpanCall.TheVariants as call
 

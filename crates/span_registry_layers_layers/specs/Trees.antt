@@ -1,23 +1,26 @@
 -- A tree of layers over a registry: each layer is told what all filters on the way down to it pass.
 use Rattle.std.specs.Prelude.{◌≡◌, ◌<◌, ◌≤◌, ◌+◌, ℕ, Bool, true, false, List, [], ◌∷◌, Option, Some, None, Result, Ok, Err}
-use Rattle.tracing_core_requests.specs.declared.at.At.{At}
-use Rattle.tracing_core_requests.specs.Calls.{Call, ReplyTo, DispatchRegistered, CallsiteRegistered, Asked, HintAsked, SpanMade, Recorded, FollowsRecorded, EventAsked, EventDispatched, Entered, Exited, Cloned, Dropped, CloseTried, CurrentAsked}
-use Rattle.tracing_core_requests.specs.declared.current_span.CurrentSpan.{CurrentSpan}
-use Rattle.tracing_core_requests.specs.declared.current_span.CurrentSpan.TheVariants.{Inside, Outside}
-use Rattle.tracing_core_requests.specs.Refusals.{or_refused}
-use Rattle.tracing_core_requests.specs.declared.interest.InterestInner.TheVariants.{Sometimes}
+use Rattle.tracing_core_moments.specs.declared.at.At.{At}
+use Rattle.tracing_core_fields.specs.requests.Calls.{Call, ReplyTo, DispatchRegistered, CallsiteRegistered, Asked, HintAsked, SpanMade}
+use Rattle.tracing_core_fields.specs.requests.Calls.{Recorded, FollowsRecorded, EventAsked, EventDispatched, Entered, Exited, Cloned}
+use Rattle.tracing_core_fields.specs.requests.Calls.{Dropped, CloseTried, CurrentAsked}
+use Rattle.tracing_core_fields.specs.declared.requests.current_span.CurrentSpan.{CurrentSpan}
+use Rattle.tracing_core_fields.specs.declared.requests.current_span.CurrentSpan.TheVariants.{Inside, Outside}
+use Rattle.tracing_core_fields.specs.requests.Refusals.{or_refused}
+use Rattle.tracing_core_fields.specs.declared.requests.interest.InterestInner.TheVariants.{Sometimes}
 use Rattle.tracing_core_fields.specs.PlainMetadata.{PlainMetadata}
-use Rattle.tracing_core_requests.specs.PlainRequests.{PlainAttributes, PlainEvent, PlainValues, explicit_parent}
-use Rattle.tracing_core_requests.specs.declared.refusal.RequestError.{RequestError}
-use Rattle.tracing_core_requests.specs.declared.refusal.RequestError.TheVariants.{UnknownParent}
-use Rattle.span_registry_layers_store.specs.Gives.{ClosesNext, EntryGives, IsSettled, SpanGives, clone_gives, close_refusal, follow_refusal, is_closed, open_refusal}
-use Rattle.span_registry_layers_store.specs.Aside.{SameButSlots, ids_of}
+use Rattle.tracing_core_fields.specs.requests.PlainRequests.{PlainAttributes, PlainEvent, PlainValues, explicit_parent}
+use Rattle.tracing_core_fields.specs.declared.requests.refusal.RequestError.{RequestError}
+use Rattle.tracing_core_fields.specs.declared.requests.refusal.RequestError.TheVariants.{UnknownParent}
+use Rattle.span_registry_layers_store.specs.RegistryCalls.{ClosesNext, EntryGives, IsSettled, SpanGives, clone_gives, close_refusal}
+use Rattle.span_registry_layers_store.specs.RegistryCalls.{follow_refusal, is_closed, open_refusal}
+use Rattle.span_registry_layers_store.specs.SlotIndependence.{SameButSlots, ids_of}
 use Rattle.span_registry_layers_store.specs.Registries.{RegistryValue, closing_in, current_on, knows, swept, without_entry, without_handle}
 use Rattle.span_registry_layers_layers.specs.Combined.{Both}
-use Rattle.span_registry_layers_layers.specs.Looks.{Hook, View}
-use Rattle.span_registry_layers_layers.specs.Looks as looks
+use Rattle.span_registry_layers_layers.specs.FilterViews.{Hook, View}
+use Rattle.span_registry_layers_layers.specs.FilterViews as looks
 use Rattle.span_registry_layers_layers.specs.Notices.{Attached, Dispatched, Followed, Happened, Notice, Spanned}
-use Rattle.span_registry_layers_layers.specs.Numbering.{AreNumbers, more_filters, numbers_from}
+use Rattle.span_registry_layers_layers.specs.FilterNumbers.{AreNumbers, more_filters, numbers_from}
 use Rattle.span_registry_layers_layers.specs.declared.attached.AttachError.{AttachError}
 use Rattle.span_registry_layers_layers.specs.declared.layer.Layer.{Ghosts}
 use Rattle.span_registry_layers_layers.specs.declared.layer.layered.Layered.{Layered}
@@ -63,7 +66,8 @@ module _ {L : Type 0} (g : Ghosts L) where
 
   -- some layer is to be told of a request on the callsite: no layer vetoes it, and all filters down to that one pass it
   abbrev pub IsMade : Layered L RegistryValue → PlainMetadata → At → Bool → Type 0
-  IsMade s m at b = Both (g.answers s.layer m (whole at s.inner)) (λ some. (verdicts : List Bool) × g.kept s.layer m (whole at s.inner) true verdicts some) b
+  IsMade s m at b = Both (g.answers s.layer m (whole at s.inner)) (λ some. (verdicts : List Bool) ×
+      g.kept s.layer m (whole at s.inner) true verdicts some) b
 
   -- an event that no layer vetoes is told
   abbrev pub TellsEvent : PlainEvent → At → Layered L RegistryValue → Layered L RegistryValue → Type 0
@@ -73,16 +77,20 @@ module _ {L : Type 0} (g : Ghosts L) where
 
   -- a parent that is named has to be open
   abbrev pub EventGives : PlainEvent → At → Layered L RegistryValue → Result (Unit {0}) RequestError → Layered L RegistryValue → Type 0
-  EventGives e at s r t = Where (knows s.inner (explicit_parent e.parent)) ((r ≡ Ok tt) × TellsEvent e at s t) ((r ≡ Err UnknownParent) × (t ≡ s))
+  EventGives e at s r t = Where (knows s.inner (explicit_parent e.parent)) ((r ≡ Ok tt) × TellsEvent e at s t) ((r ≡ Err UnknownParent) ×
+      (t ≡ s))
 
-  abbrev pub Made : PlainAttributes → At → Layered L RegistryValue → RegistryValue → Result ℕ RequestError → Result (Option ℕ) RequestError → Layered L RegistryValue → Type 0
+  abbrev pub Made : PlainAttributes → At → Layered L RegistryValue → RegistryValue → Result ℕ RequestError →
+      Result (Option ℕ) RequestError → Layered L RegistryValue → Type 0
   Made a at s x (Ok id) r t = (r ≡ Ok (Some id)) × LayersTold (Spanned id (looks.SpanMade a id) (whole at x)) (over x s) t
   Made a at s x (Err e) r t = (r ≡ Err e) × (t ≡ s)
 
   -- the registry makes the span with these verdicts, and the layers are told
-  abbrev pub MakesSpan : PlainAttributes → At → List Bool → Layered L RegistryValue → Result (Option ℕ) RequestError → Layered L RegistryValue → Type 0
+  abbrev pub MakesSpan : PlainAttributes → At → List Bool → Layered L RegistryValue → Result (Option ℕ) RequestError →
+      Layered L RegistryValue → Type 0
   MakesSpan a at verdicts s r t =
-      (given : Result ℕ RequestError) × (x : RegistryValue) × SpanGives s.inner a.metadata a.parent at.lane verdicts given x × Made a at s x given r t
+      (given : Result ℕ RequestError) × (x : RegistryValue) × SpanGives s.inner a.metadata a.parent at.lane verdicts given x ×
+      Made a at s x given r t
 
   abbrev pub IsDropped : Layered L RegistryValue → Result (Option ℕ) RequestError → Layered L RegistryValue → Type 0
   IsDropped s r t = (r ≡ Ok None) × (t ≡ s)
@@ -90,17 +98,22 @@ module _ {L : Type 0} (g : Ghosts L) where
   -- a span is made with what its filters say of it, asked again, where one of the layers is to be told
   abbrev pub AsksSpan : PlainAttributes → At → Layered L RegistryValue → Result (Option ℕ) RequestError → Layered L RegistryValue → Type 0
   AsksSpan a at s r t =
-      (verdicts : List Bool) × (some : Bool) × g.kept s.layer a.metadata (whole at s.inner) true verdicts some × Where some (MakesSpan a at verdicts s r t) (IsDropped s r t)
+      (verdicts : List Bool) × (some : Bool) × g.kept s.layer a.metadata (whole at s.inner) true verdicts some ×
+      Where some (MakesSpan a at verdicts s r t) (IsDropped s r t)
 
   -- a named parent has to be open, and a span that a layer vetoes is dropped
-  abbrev pub NewSpanGives : PlainAttributes → At → Layered L RegistryValue → Result (Option ℕ) RequestError → Layered L RegistryValue → Type 0
+  abbrev pub NewSpanGives : PlainAttributes → At → Layered L RegistryValue → Result (Option ℕ) RequestError → Layered L RegistryValue →
+      Type 0
   NewSpanGives a at s r t =
       Where (knows s.inner (explicit_parent a.parent))
-      ((b : Bool) × g.answers s.layer a.metadata (whole at s.inner) b × Where b (AsksSpan a at s r t) (IsDropped s r t)) ((r ≡ Err UnknownParent) × (t ≡ s))
+      ((b : Bool) × g.answers s.layer a.metadata (whole at s.inner) b × Where b (AsksSpan a at s r t) (IsDropped s r t))
+      ((r ≡ Err UnknownParent) × (t ≡ s))
 
-  abbrev pub RecordGives : ℕ → PlainValues → At → Layered L RegistryValue → Result (Unit {0}) RequestError → Layered L RegistryValue → Type 0
+  abbrev pub RecordGives : ℕ → PlainValues → At → Layered L RegistryValue → Result (Unit {0}) RequestError → Layered L RegistryValue →
+      Type 0
   RecordGives id values at s r t =
-      (r ≡ or_refused (open_refusal s.inner id) tt) × WhereTaken r s (LayersTold (Spanned id (looks.Recorded id values) (whole at s.inner)) s) t
+      (r ≡ or_refused (open_refusal s.inner id) tt) ×
+      WhereTaken r s (LayersTold (Spanned id (looks.Recorded id values) (whole at s.inner)) s) t
 
   abbrev pub FollowsGives : ℕ → ℕ → At → Layered L RegistryValue → Result (Unit {0}) RequestError → Layered L RegistryValue → Type 0
   FollowsGives id follows at s r t =
@@ -108,7 +121,8 @@ module _ {L : Type 0} (g : Ghosts L) where
 
   abbrev pub EnterGives : ℕ → At → Layered L RegistryValue → Result (Unit {0}) RequestError → Layered L RegistryValue → Type 0
   EnterGives id at s r t =
-      (x : RegistryValue) × EntryGives s.inner at.lane id r x × WhereTaken r s (LayersTold (Spanned id (looks.Entered id) (whole at x)) (over x s)) t
+      (x : RegistryValue) × EntryGives s.inner at.lane id r x ×
+      WhereTaken r s (LayersTold (Spanned id (looks.Entered id) (whole at x)) (over x s)) t
 
   -- the spans of these ids close, each told once, in this order, and then forgotten
   abbrev pub ClosesEach : List ℕ → At → RegistryValue → L → RegistryValue → L → Type 0
@@ -178,7 +192,8 @@ module _ {L : Type 0} (g : Ghosts L) where
 
 module _ {L M : Type 0} (g : Ghosts L) (h : Ghosts M) (k : Ghosts (Layered L M)) where
   -- the filters of a further layer are numbered after those that are there, where the registry takes them; else both come back
-  abbrev pub JoinGives : L → Layered M RegistryValue → Result (Layered (Layered L M) RegistryValue) (AttachError L (Layered M RegistryValue)) → Type 0
+  abbrev pub JoinGives : L → Layered M RegistryValue →
+      Result (Layered (Layered L M) RegistryValue) (AttachError L (Layered M RegistryValue)) → Type 0
   JoinGives layer s (Ok t) =
       (s.inner.filters + g.filters layer ≤ 64) × g.told layer (Attached s.inner) t.layer.layer × (t.layer.inner ≡ s.layer)
       × (t.inner ≡ more_filters (g.filters layer) s.inner) × (IsAttached h s → IsAttached k t)

@@ -2,13 +2,15 @@
 ghost use Rattle.std.specs.Prelude.{◌≡◌, ◌≤◌, ◌+◌, nat_le, true};
 ghost use Rattle.std.specs.Option.{option_copied};
 ghost use Rattle.tracing_core_fields.specs.Metadata.{plain_metadata};
-ghost use Rattle.tracing_core_requests.specs.PlainRequests.{plain_attributes, plain_event, plain_record};
+ghost use Rattle.tracing_core_fields.specs.requests.PlainRequests.{plain_attributes, plain_event, plain_record};
 ghost use Rattle.span_registry_layers_store.specs.Registries.{knows, without_entry};
 ghost use Rattle.span_registry_layers_layers.specs.Combined.{Both};
-ghost use Rattle.span_registry_layers_layers.specs.Looks.{Exited};
+ghost use Rattle.span_registry_layers_layers.specs.FilterViews.{Exited};
 ghost use Rattle.span_registry_layers_layers.specs.Notices.{Attached, Spanned};
-ghost use Rattle.span_registry_layers_layers.specs.Numbering.{more_filters, numbers_from};
-ghost use Rattle.span_registry_layers_layers.specs.Trees.{AnswersOf, AsksSpan, AttachGives, CloseGives, Closes, ClosesOne, EnterGives, EventGives, ExitGives, FollowsGives, IsAttached, LayersTold, MakesSpan, NewSpanGives, RecordGives, TellsEvent, over, whole};
+ghost use Rattle.span_registry_layers_layers.specs.FilterNumbers.{more_filters, numbers_from};
+ghost use Rattle.span_registry_layers_layers.specs.Trees.{AnswersOf, AsksSpan, AttachGives, CloseGives, Closes, ClosesOne, EnterGives};
+ghost use Rattle.span_registry_layers_layers.specs.Trees.{EventGives, ExitGives, FollowsGives, IsAttached, LayersTold, MakesSpan};
+ghost use Rattle.span_registry_layers_layers.specs.Trees.{NewSpanGives, RecordGives, TellsEvent, over, whole};
 
 mod subscriber;
 
@@ -16,8 +18,8 @@ use crate::context::Context;
 use crate::layer::{Layer, Layered};
 use span_registry_layers_store::{FilterMap, Registry};
 use thiserror::Error;
-use tracing_core_fields::{Id, Metadata};
-use tracing_core_requests::{At, Attributes, Event, Record, RequestError};
+use tracing_core_fields::{Attributes, Event, Id, Metadata, Record, RequestError};
+use tracing_core_moments::At;
 
 /// A registry has at most 64 filters, and so has no room for those of a layer. Both parts are as they were.
 #[derive(Debug, Drop, Error)]

@@ -3,16 +3,16 @@ ghost use Rattle.std.specs.Borrow.{sem};
 ghost use Rattle.std.specs.Option.{option_map};
 ghost use Rattle.std.specs.Prelude.{◌≡◌, is_some};
 ghost use Rattle.tracing_core_fields.specs.Metadata.{plain_metadata};
-ghost use Rattle.tracing_core_requests.specs.PlainRequests.{plain_event};
+ghost use Rattle.tracing_core_fields.specs.requests.PlainRequests.{plain_event};
 ghost use Rattle.span_registry_layers_store.specs.References.{plain_ref, scope_left};
 ghost use Rattle.span_registry_layers_store.specs.Views.{mask_of};
 ghost use Rattle.span_registry_layers_layers.specs.Contexts.{current_told, event_span, lane_span, metadata_in, ref_in, scope_in, span_in};
-ghost use Rattle.span_registry_layers_layers.specs.Looks.{view};
+ghost use Rattle.span_registry_layers_layers.specs.FilterViews.{view};
 ghost use Rattle.span_registry_layers_layers.specs.ContextLoans.{IsLoanOf, LendsSlots, slots_in};
 
 use span_registry_layers_store::{ExtensionsMut, FilterId, Registry, Scope, SpanRef};
-use tracing_core_fields::{Id, Metadata};
-use tracing_core_requests::{At, CurrentSpan, Event};
+use tracing_core_fields::{CurrentSpan, Event, Id, Metadata};
+use tracing_core_moments::At;
 
 /// Where and when a request is made, and the registry as one filter sees it: without the spans that it refused.
 ///

@@ -1,12 +1,12 @@
 //! What decides which spans and events an output is told.
 ghost use Rattle.std.specs.Prelude.{◌≡◌, ℕ, Bool, true, Option};
-ghost use Rattle.tracing_core_requests.specs.Interests.{PlainInterest};
+ghost use Rattle.tracing_core_fields.specs.requests.Interests.{PlainInterest};
 ghost use Rattle.tracing_core_fields.specs.Metadata.{plain_metadata};
 ghost use Rattle.tracing_core_fields.specs.PlainMetadata.{PlainMetadata};
-ghost use Rattle.tracing_core_requests.specs.PlainRequests.{PlainEvent, plain_attributes, plain_event, plain_record};
-ghost use Rattle.tracing_core_requests.specs.Steady.{SameWord};
+ghost use Rattle.tracing_core_fields.specs.requests.PlainRequests.{PlainEvent, plain_attributes, plain_event, plain_record};
+ghost use Rattle.tracing_core_fields.specs.requests.Steady.{SameWord};
 ghost use Rattle.span_registry_layers_layers.specs.Honesty.{Fair, Firm, Single};
-ghost use Rattle.span_registry_layers_layers.specs.Looks.{Closed, Entered, Exited, Hook, Recorded, SpanMade, View, view};
+ghost use Rattle.span_registry_layers_layers.specs.FilterViews.{Closed, Entered, Exited, Hook, Recorded, SpanMade, View, view};
 ghost use Rattle.span_registry_layers_layers.specs.SpanCalls.{hook};
 
 mod boxed;
@@ -25,8 +25,7 @@ pub use dynamic::{CallsiteTest, ContextTest, DynFilterFn, dynamic_filter_fn};
 pub use ext::FilterExt;
 pub use function::{FilterFn, MetadataTest, filter_fn};
 pub use span_call::SpanCall;
-use tracing_core_fields::{Id, LevelFilter, Metadata};
-use tracing_core_requests::{Attributes, Event, Interest, Record};
+use tracing_core_fields::{Attributes, Event, Id, Interest, LevelFilter, Metadata, Record};
 
 /// Decides which spans and events an output is told.
 ///

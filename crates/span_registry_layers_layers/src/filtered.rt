@@ -1,7 +1,7 @@
 //! A layer with a filter of its own.
 ghost use Rattle.std.specs.Borrow.{sem};
 ghost use Rattle.std.specs.Prelude.{◌≡◌, None};
-ghost use Rattle.span_registry_layers_layers.specs.Lending.{LendsFilter, LendsLayer};
+ghost use Rattle.span_registry_layers_layers.specs.FilteredLoans.{LendsFilter, LendsLayer};
 
 use span_registry_layers_store::FilterId;
 

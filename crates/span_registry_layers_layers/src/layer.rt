@@ -1,16 +1,18 @@
 //! What an output does with what it is told.
 ghost use Rattle.std.specs.Prelude.{◌≡◌, ◌≤◌, ◌+◌, ℕ, Bool, true, false, List, [], Option, None, length};
-ghost use Rattle.tracing_core_requests.specs.declared.interest.InterestInner.TheVariants.{Always};
-ghost use Rattle.tracing_core_requests.specs.Interests.{PlainInterest};
+ghost use Rattle.tracing_core_fields.specs.declared.requests.interest.InterestInner.TheVariants.{Always};
+ghost use Rattle.tracing_core_fields.specs.requests.Interests.{PlainInterest};
 ghost use Rattle.tracing_core_fields.specs.Metadata.{plain_metadata};
 ghost use Rattle.tracing_core_fields.specs.PlainMetadata.{PlainMetadata};
-ghost use Rattle.tracing_core_requests.specs.PlainRequests.{PlainEvent, plain_attributes, plain_event, plain_record};
-ghost use Rattle.tracing_core_requests.specs.Steady.{SameWord};
+ghost use Rattle.tracing_core_fields.specs.requests.PlainRequests.{PlainEvent, plain_attributes, plain_event, plain_record};
+ghost use Rattle.tracing_core_fields.specs.requests.Steady.{SameWord};
 ghost use Rattle.span_registry_layers_layers.specs.Honesty.{Fair, OneAnswer};
-ghost use Rattle.span_registry_layers_layers.specs.Looks.{Closed, Entered, Exited, Recorded, SameLoan, SpanMade, View, left, view};
-ghost use Rattle.span_registry_layers_layers.specs.Notices.{AddsFilters, Attached, Dispatched, Followed, Happened, Notice, Renamed, Spanned, Untouched, WritesUnder};
-ghost use Rattle.span_registry_layers_layers.specs.Told.{notice};
-ghost use Rattle.span_registry_layers_layers.specs.Numbering.{AreNumbers, NumbersStay, SameBut, SameOf, more_filters, numbers_from, room_after};
+ghost use Rattle.span_registry_layers_layers.specs.FilterViews.{Closed, Entered, Exited, Recorded, SameLoan, SpanMade, View, left, view};
+ghost use Rattle.span_registry_layers_layers.specs.Notices.{AddsFilters, Attached, Dispatched, Followed, Happened, Notice, Renamed};
+ghost use Rattle.span_registry_layers_layers.specs.Notices.{Spanned, Untouched, WritesUnder};
+ghost use Rattle.span_registry_layers_layers.specs.LayerNotices.{notice};
+ghost use Rattle.span_registry_layers_layers.specs.FilterNumbers.{AreNumbers, NumbersStay, SameBut, SameOf, more_filters, numbers_from};
+ghost use Rattle.span_registry_layers_layers.specs.FilterNumbers.{room_after};
 
 mod boxed;
 mod ext;
@@ -30,8 +32,9 @@ pub use layered::Layered;
 pub use listening::{Listener, Listening};
 use span_registry_layers_store::{FilterMap, Registry};
 pub use told::Told;
-use tracing_core_fields::{Id, LevelFilter, Metadata};
-use tracing_core_requests::{Attributes, Event, Interest, Record, WeakDispatch};
+use tracing_core_fields::{
+    Attributes, Event, Id, Interest, LevelFilter, Metadata, Record, WeakDispatch,
+};
 
 /// What an output does with the spans and events that it is told.
 ///

@@ -1,7 +1,7 @@
 //! Ways down a tree of layers to one of them. They are values for laws, which say what is told to the layer at the end.
 ghost use Rattle.std.specs.Prelude.{◌≡◌, ℕ, Bool, true};
 ghost use Rattle.tracing_core_fields.specs.PlainMetadata.{PlainMetadata};
-ghost use Rattle.span_registry_layers_layers.specs.Looks.{View};
+ghost use Rattle.span_registry_layers_layers.specs.FilterViews.{View};
 ghost use Rattle.span_registry_layers_layers.specs.Notices.{Said};
 
 use crate::filter::Filter;

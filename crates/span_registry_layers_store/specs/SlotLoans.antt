@@ -2,7 +2,7 @@
 use Rattle.std.specs.Prelude.{◌≡◌, ℕ, List, Option, Some, map, slice_get, slice_set}
 use Rattle.std.specs.Borrow.{LendsIf, MutBor, Fml}
 use Rattle.std.specs.Option.{option_map}
-use Rattle.span_registry_layers_store.specs.Keeping.{with_places, with_slots}
+use Rattle.span_registry_layers_store.specs.SlotCalls.{with_places, with_slots}
 use Rattle.span_registry_layers_store.specs.Registries.{PlainSpan, RegistryValue, kin_in, plain_span}
 use Rattle.span_registry_layers_store.specs.Slots.{PlainPlace, plain_place, plain_slot, slot_at, with_slot}
 use Rattle.span_registry_layers_store.specs.Spans.{changed, found}
@@ -19,7 +19,8 @@ use Rattle.span_registry_layers_store.specs.contracts.extensions.Extensions as e
 abbrev pub IsSlotToLend : List Place → ℕ → Tag → ℕ → Type 0
 IsSlotToLend ps key t place =
     (option_map (λ (p : Place). plain_slot p.slot) (slice_get ps place) ≡ slot_at (map plain_place ps) key t)
-    × ((w : Slot) (p : Place) → slice_get ps place ≡ Some p → with_slot (map plain_place ps) key t (plain_slot w) ≡ map plain_place (slice_set ps place (record p { slot = w })))
+    × ((w : Slot) (p : Place) → slice_get ps place ≡ Some p → with_slot (map plain_place ps) key t (plain_slot w) ≡ map plain_place
+    (slice_set ps place (record p { slot = w })))
 
 -- the slots end with the last value behind r in place of that slot
 abbrev pub LendsSlot : MutBor (List PlainPlace) → ℕ → Tag → Option (MutBor Slot) → Fml
@@ -32,7 +33,8 @@ slots_of s = s.slots
 abbrev pub IsSpanToLend : List Span → ℕ → ℕ → Type 0
 IsSpanToLend ss id place =
     (option_map (λ (s : Span). s.slots) (slice_get ss place) ≡ option_map slots_of (found kin_in (map plain_span ss) id))
-    × ((w : List PlainPlace) (s : Span) → slice_get ss place ≡ Some s → changed kin_in (with_places w) (map plain_span ss) id ≡ map plain_span (slice_set ss place (record s { slots = w })))
+    × ((w : List PlainPlace) (s : Span) → slice_get ss place ≡ Some s →
+    changed kin_in (with_places w) (map plain_span ss) id ≡ map plain_span (slice_set ss place (record s { slots = w })))
 
 -- the spans end with the last value behind r as the slots of that span
 abbrev pub LendsSlotsOf : MutBor (List PlainSpan) → ℕ → Option (MutBor (List PlainPlace)) → Fml

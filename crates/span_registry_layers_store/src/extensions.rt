@@ -4,7 +4,8 @@ ghost use Rattle.std.specs.Prelude.{◌≡◌, [], MatchOption, None, map};
 ghost use Rattle.std.specs.Borrow.{sem};
 ghost use Rattle.std.specs.Option.{option_map};
 ghost use Rattle.span_registry_layers_store.specs.SlotLoans.{IsSlotToLend, LendsSlot};
-ghost use Rattle.span_registry_layers_store.specs.Slots.{AreInOrder, InsertGives, IsPlaceFor, IsSlotPlace, PutGives, RemoveGives, ReplaceGives, is_at, is_before, plain_place, plain_slot, rank, slot_at};
+ghost use Rattle.span_registry_layers_store.specs.Slots.{AreInOrder, InsertGives, IsPlaceFor, IsSlotPlace, PutGives, RemoveGives};
+ghost use Rattle.span_registry_layers_store.specs.Slots.{ReplaceGives, is_at, is_before, plain_place, plain_slot, rank, slot_at};
 
 use crate::slot::{InsertError, OutputKey, Place, Slot, Tag};
 use std::alloc::Global;
@@ -217,7 +218,7 @@ impl Extensions {
     ///
     /// # Errors
     ///
-    /// The slot comes back for want of memory, which changes nothing.
+    /// The slot comes back for lack of memory, which changes nothing.
     #[inline(always)]
     pub fn replace(&mut self, key: OutputKey, tag: Tag, slot: Slot) -> Result<Option<Slot>, Slot>
         ensures state { ReplaceGives self.old key.0 tag (plain_slot slot) result self.new }

@@ -1,6 +1,7 @@
 //! Spans, lane stacks, and what is kept with spans.
 #![tactic(auto)]
 
+mod close_candidates;
 mod extensions;
 mod filter_count;
 mod filter_map;
@@ -17,7 +18,6 @@ mod span;
 mod span_ref;
 mod spans;
 mod table;
-mod unsettled;
 
 pub use extensions::{Extensions, ExtensionsMut};
 pub use filter_map::{FilterId, FilterMap, TooManyFilters};

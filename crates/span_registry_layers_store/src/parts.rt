@@ -2,14 +2,15 @@
 
 ghost use Rattle.std.specs.Prelude.{◌≡◌, ◌<◌, ◌≤◌, ◌+◌, IfOk, None, OnErr, OnOk, Some, get_or, length, reverse, take, true};
 ghost use Rattle.std.specs.Option.{option_map};
-ghost use Rattle.tracing_core_requests.specs.Refusals.{or_refused};
+ghost use Rattle.tracing_core_fields.specs.requests.Refusals.{or_refused};
 ghost use Rattle.tracing_core_fields.specs.Metadata.{plain_metadata};
-ghost use Rattle.tracing_core_requests.specs.PlainRequests.{explicit_parent, plain_attributes};
+ghost use Rattle.tracing_core_fields.specs.requests.PlainRequests.{explicit_parent, plain_attributes};
 ghost use Rattle.span_registry_layers_store.specs.Copies.{CopyOf};
-ghost use Rattle.span_registry_layers_store.specs.Gives.{EntryGives, FilterGives, SpanGives, clone_gives, follow_refusal, open_refusal};
+ghost use Rattle.span_registry_layers_store.specs.RegistryCalls.{EntryGives, FilterGives, SpanGives, clone_gives, follow_refusal};
+ghost use Rattle.span_registry_layers_store.specs.RegistryCalls.{open_refusal};
 ghost use Rattle.span_registry_layers_store.specs.Lanes.{lane_at};
-ghost use Rattle.span_registry_layers_store.specs.Rising.{IsBelow};
-ghost use Rattle.span_registry_layers_store.specs.Settled.{IsWhole};
+ghost use Rattle.span_registry_layers_store.specs.IdOrder.{IsBelow};
+ghost use Rattle.span_registry_layers_store.specs.CloseCandidates.{IsWhole};
 ghost use Rattle.span_registry_layers_store.specs.Parts.{next_number, plain_registry};
 ghost use Rattle.span_registry_layers_store.specs.Registries.{current_on, kin_in, knows, plain_span, under, with_span};
 ghost use Rattle.span_registry_layers_store.specs.Spans.{handles_of, is_open, parent_of};
@@ -17,6 +18,7 @@ ghost use Rattle.span_registry_layers_store.specs.Views.{current_under, entry_se
 
 mod closing;
 
+use crate::close_candidates::CloseCandidates;
 use crate::extensions::Extensions;
 use crate::filter_count::FilterCount;
 use crate::filter_map::{FilterId, FilterMap, TooManyFilters};
@@ -26,10 +28,8 @@ use crate::record::SpanRecord;
 use crate::span::Span;
 use crate::spans::Spans;
 use crate::table::{RegistryTable, copy_lanes};
-use crate::unsettled::Unsettled;
 use std::alloc::{AllocError, Global};
-use tracing_core_fields::{Id, Metadata};
-use tracing_core_requests::{Attributes, RequestError};
+use tracing_core_fields::{Attributes, Id, Metadata, RequestError};
 
 /// Open spans, lane stacks, and the metadata of callsites that spans were made at.
 #[derive(Debug, Drop)]
@@ -38,7 +38,7 @@ pub(crate) struct RegistryParts {
     pub(crate) lanes: Vec<Vec<Id>>,
     pub(crate) spans: Spans,
     /// Which of the spans may not stay.
-    pub(crate) unsettled: Unsettled,
+    pub(crate) close_candidates: CloseCandidates,
     /// The next span's id; none where all are given.
     pub(crate) next_id: Option<Id>,
     pub(crate) callsites: KeptMetadata,
@@ -203,7 +203,7 @@ impl RegistryParts {
         ensures ok { OnOk result (plain_registry self.new
             ≡ with_span (plain_registry self.old) (plain_metadata metadata.now) parent passed.passed) }
         ensures err { OnErr result (plain_registry self.new ≡ plain_registry self.old) }
-        ensures same { self.new.unsettled ≡ self.old.unsettled }
+        ensures same { self.new.close_candidates ≡ self.old.close_candidates }
         ensures fits { id ≤ 18446744073709551615 }
     {
         let metadata = self.callsites.share(metadata)?;
@@ -229,11 +229,11 @@ impl RegistryParts {
         lane: u64,
         passed: FilterMap,
     ) -> Result<Id, RequestError>
-        requires { IsWhole self.old.unsettled (plain_registry self.old) }
+        requires { IsWhole self.old.close_candidates (plain_registry self.old) }
         ensures gives { let a = plain_attributes attributes.now in
             SpanGives (plain_registry self.old) a.metadata a.parent lane passed.passed result
             (plain_registry self.new) }
-        ensures whole { IsWhole self.new.unsettled (plain_registry self.new) }
+        ensures whole { IsWhole self.new.close_candidates (plain_registry self.new) }
     {
         if !self.knows_parent(attributes) {
             return Err(RequestError::UnknownParent);
@@ -272,9 +272,9 @@ impl RegistryParts {
 
     /// Counts one more filter.
     pub(crate) fn register_filter(&mut self) -> Result<FilterId, TooManyFilters>
-        requires { IsWhole self.old.unsettled (plain_registry self.old) }
+        requires { IsWhole self.old.close_candidates (plain_registry self.old) }
         ensures gives { FilterGives (plain_registry self.old) result (plain_registry self.new) }
-        ensures whole { IsWhole self.new.unsettled (plain_registry self.new) }
+        ensures whole { IsWhole self.new.close_candidates (plain_registry self.new) }
     {
         let filter = self.filters.next()?;
         Ok(filter)
@@ -282,9 +282,9 @@ impl RegistryParts {
 
     /// Adds an entry of a span on a lane.
     pub(crate) fn enter(&mut self, id: Id, lane: u64) -> Result<(), RequestError>
-        requires { IsWhole self.old.unsettled (plain_registry self.old) }
+        requires { IsWhole self.old.close_candidates (plain_registry self.old) }
         ensures gives { EntryGives (plain_registry self.old) lane id result (plain_registry self.new) }
-        ensures whole { IsWhole self.new.unsettled (plain_registry self.new) }
+        ensures whole { IsWhole self.new.close_candidates (plain_registry self.new) }
     {
         if !self.is_open(id) {
             return Err(RequestError::UnknownSpan);
@@ -297,9 +297,9 @@ impl RegistryParts {
 
     /// Counts one more handle of a span.
     pub(crate) fn take_one(&mut self, id: Id) -> Result<Id, RequestError>
-        requires { IsWhole self.old.unsettled (plain_registry self.old) }
+        requires { IsWhole self.old.close_candidates (plain_registry self.old) }
         ensures gives { (result, plain_registry self.new) ≡ clone_gives (plain_registry self.old) id }
-        ensures whole { IsWhole self.new.unsettled (plain_registry self.new) }
+        ensures whole { IsWhole self.new.close_candidates (plain_registry self.new) }
     {
         self.spans.take_one(id)
     }

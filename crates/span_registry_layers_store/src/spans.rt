@@ -5,12 +5,13 @@ ghost use Rattle.std.specs.Borrow.{sem};
 ghost use Rattle.std.specs.List.{AllByRecursion};
 ghost use Rattle.std.specs.Option.{option_map};
 ghost use Rattle.span_registry_layers_store.specs.Copies.{plain_row, row_of};
-ghost use Rattle.span_registry_layers_store.specs.Gives.{ClosesFirst, dropped, handle_given_up, handle_taken};
+ghost use Rattle.span_registry_layers_store.specs.RegistryCalls.{ClosesFirst, dropped, handle_given_up, handle_taken};
 ghost use Rattle.span_registry_layers_store.specs.Lanes.{plain_lanes};
 ghost use Rattle.span_registry_layers_store.specs.Places.{HasId, IsPlace, kin_of};
 ghost use Rattle.span_registry_layers_store.specs.Registries.{PlainSpan, kin_in, plain_span};
 ghost use Rattle.span_registry_layers_store.specs.SlotLoans.{IsSpanToLend, LendsSlotsOf, slots_of};
-ghost use Rattle.span_registry_layers_store.specs.Spans.{AllStay, ClosesNext, Rises, found, handles_of, has_child, is_open, is_parent, keeps, parent_of, stays};
+ghost use Rattle.span_registry_layers_store.specs.Spans.{AllStay, ClosesNext, Rises, found, handles_of, has_child, is_open, is_parent};
+ghost use Rattle.span_registry_layers_store.specs.Spans.{keeps, parent_of, stays};
 
 use crate::extensions::Extensions;
 use crate::lanes::is_entered;
@@ -18,8 +19,7 @@ use crate::span::Span;
 use crate::table::{SpanRow, copy_spans};
 use std::alloc::{AllocError, Global};
 use std::marker::Model;
-use tracing_core_fields::Id;
-use tracing_core_requests::RequestError;
+use tracing_core_fields::{Id, RequestError};
 
 /// Open spans, in order of making, so that ids rise. A contract sees the list of them.
 ///

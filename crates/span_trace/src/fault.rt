@@ -2,7 +2,7 @@
 
 ghost use Rattle.std.specs.Prelude.{◌≡◌, ◌≤◌};
 
-use span_trace_lines::LineFault;
+use crate::lines::LineFault;
 use span_tracing::Refusal;
 use std::alloc::{AllocError, AllocFailed};
 use std::io::Write;

@@ -2,6 +2,7 @@
 #![tactic(auto)]
 
 mod fault;
+mod lines;
 mod output;
 mod program;
 mod read;
@@ -11,14 +12,13 @@ mod setup;
 mod stack;
 
 pub use program::main_with;
-
-#[cfg(test)]
-mod tests;
-
 use std::alloc::AllocError;
 use std::io::ErrorKind;
 use std::process::ExitCode;
 use std::{env, io};
+
+#[cfg(test)]
+mod tests;
 
 /// The words behind the program's name; none where some word is no text.
 fn arguments_of(rt: &HostRuntime) -> Result<Vec<String>, AllocError> {

@@ -1,6 +1,6 @@
 //! How the lines of an output look, as its line asks for it.
 
-use span_trace_lines::{FormatName, SpanEvent, TimeLine};
+use crate::lines::{FormatName, SpanEvent, TimeLine};
 use span_tracing::{FixedText, FmtSpan, LineSettings, SystemTime, Timer};
 
 /// How lines of the format look. They show no threads, and have no styles; the place in the source stands in the

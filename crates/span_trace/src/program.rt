@@ -4,12 +4,12 @@ ghost use Rattle.std.specs.Prelude.{◌≡◌, ◌≤◌, ◌⊎◌, false, map,
 ghost use Rattle.span_trace.specs.Arguments.{asks_replay};
 
 use crate::fault::Stop;
+use crate::lines::{PrintFault, write_files, write_replies};
 use crate::read::Input;
 use crate::run::run_steps;
 use crate::script::Script;
 use crate::setup::Stage;
 use crate::stack::{LogFolder, LogStack};
-use span_trace_lines::{PrintFault, write_files, write_replies};
 use span_tracing::{EitherFolder, Reply, RollingSink, RoutedSinks, Trace};
 use std::alloc::Global;
 use std::io::{Read, Write};

@@ -1,7 +1,7 @@
 //! The steps of a script, run on a trace.
 
+use crate::lines::{CallsiteLine, NamedValue, RecordLine, StepLine};
 use crate::stack::LogStack;
-use span_trace_lines::{CallsiteLine, NamedValue, RecordLine, StepLine};
 use span_tracing::{FieldValue, RecordCall, Reply, SpanName, Step, Trace};
 use std::alloc::{AllocError, Global};
 use std::rt::Files;

@@ -1,8 +1,8 @@
 //! The whole input, as setup calls and the steps after them.
 
 use crate::fault::{Fault, Stop};
+use crate::lines::{Line, LineFault, Setup, StepLine, decode_line};
 use crate::read::Input;
-use span_trace_lines::{Line, LineFault, Setup, StepLine, decode_line};
 use std::alloc::Global;
 
 /// What an input asks for. The setup call of line N stands at place N - 1.

@@ -1,8 +1,8 @@
 //! The setup calls of a script, made on a new trace.
 
 use crate::fault::{Fault, Stop};
+use crate::lines::{CallsiteLine, LaneLine, LineFault, Setup, StackLine};
 use crate::stack::{LogStack, stack_of};
-use span_trace_lines::{CallsiteLine, LaneLine, LineFault, Setup, StackLine};
 use span_tracing::{Refusal, Trace};
 use std::alloc::{AllocError, Global};
 use std::rt::Files;

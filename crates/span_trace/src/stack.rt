@@ -1,8 +1,8 @@
 //! The outputs of a script, with their sinks.
 
 use crate::fault::Fault;
+use crate::lines::{FolderLine, OutputLine, SinkLine, StackLine};
 use crate::output::settings_of;
-use span_trace_lines::{FolderLine, OutputLine, SinkLine, StackLine};
 use span_tracing::{
     Builder, DiskFolder, EitherFolder, FileStack, MemoryFolder, OutputKey, OutputSpec, Refusal,
     Rotation, SinkSpec, open_stack,
@@ -25,7 +25,7 @@ type LeveledOutput<X> = OutputSpec<LevelFilter, LogFolder<X>>;
 ///
 /// # Errors
 ///
-/// What is refused of an output or of the stack, else want of memory.
+/// What is refused of an output or of the stack, else out of memory.
 pub(crate) fn stack_of<X: Files + AllocGlobal + Clone + Drop>(
     rt: &X,
     line: StackLine,

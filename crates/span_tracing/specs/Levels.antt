@@ -6,16 +6,17 @@ use Rattle.span_registry_layers_layers.specs.declared.filter.Filter.{Ghosts as F
 use Rattle.span_registry_layers_layers.specs.declared.layer.Layer.{Ghosts as LayerGhosts}
 use Rattle.event_formatter_text.specs.declared.format_fields.FormatFields.{Ghosts}
 use Rattle.event_formatter_text.specs.declared.settings.Settings.{Settings}
-use Rattle.event_formatter_formats.specs.Contexts.{PlainContext}
-use Rattle.tracing_core_requests.specs.PlainRequests.{PlainEvent}
-use Rattle.span_tracing_outputs.specs.Heards.{Notice}
+use Rattle.event_formatter.specs.formats.Contexts.{PlainContext}
+use Rattle.tracing_core_fields.specs.requests.PlainRequests.{PlainEvent}
+use Rattle.span_tracing_outputs.specs.OutputNotices.{Notice}
 use Rattle.span_tracing_outputs.specs.TraceFollows.{numbers_in, some_passes, verdicts_from}
 use Rattle.span_tracing_outputs.specs.TraceStacks.{TraceStackValue}
 use Rattle.span_tracing_outputs.specs.Turns.{FilterHears, Lined, Lines}
 use Rattle.span_tracing_skeleton.specs.Machine.{known, named}
-use Rattle.span_tracing_skeleton.specs.PlainData.{PlainStep, GlobalStep, EventStep, EnabledStep, SpanStep, RecordStep, FollowsFromStep, EnterStep, ExitStep, CloneStep, CloseStep}
+use Rattle.span_tracing_skeleton.specs.PlainData.{PlainStep, GlobalStep, EventStep, EnabledStep, SpanStep, RecordStep, FollowsFromStep}
+use Rattle.span_tracing_skeleton.specs.PlainData.{EnterStep, ExitStep, CloneStep, CloseStep}
 use Rattle.span_tracing_skeleton.specs.Skeleton.{Answers, Unasked, Wanted, Dropped, Passed, Heard}
-use Rattle.span_tracing_runs.specs.Follows.{IsAnswered, Traced, skeleton_of}
+use Rattle.span_tracing_laws.specs.runs.StepFollows.{IsAnswered, Traced, skeleton_of}
 
 -- where the stack is reached, and the callsite is known; else nobody is asked
 abbrev pub if_asked : Bool → Option PlainMetadata → (PlainMetadata → Answers) → Answers
@@ -61,6 +62,7 @@ module _ {N E : Type 0} where
     level_answers v (CloseStep call) = Unasked
 
 -- Asked of a step, levels answer just that, and whatever they are told they stay.
-pub record LevelsAnswer {N E : Type 0} (S : Type 0) (n : Ghosts N) (line_of : E → Settings → PlainContext → PlainEvent → Option (List ℕ)) (g : FilterGhosts ℕ) (h : LayerGhosts (Lines N E)) : Type 0 where
+pub record LevelsAnswer {N E : Type 0} (S : Type 0) (n : Ghosts N) (line_of : E → Settings → PlainContext → PlainEvent → Option (List ℕ))
+    (g : FilterGhosts ℕ) (h : LayerGhosts (Lines N E)) : Type 0 where
   pub answers : (v : Traced N E ℕ S) (step : PlainStep) (a : Answers) → IsAnswered g h v step a → a ≡ level_answers v step
   pub stays : (number level : ℕ) (notices : List Notice) (later : ℕ) → FilterHears n line_of g number level notices later → later ≡ level

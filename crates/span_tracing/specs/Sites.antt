@@ -1,8 +1,8 @@
 -- Callsites that an application registers.
 use Rattle.std.specs.Prelude.{◌≡◌, Some, Result, Ok, Err}
 use Rattle.tracing_core_fields.specs.PlainMetadata.{PlainMetadata}
-use Rattle.tracing_core_requests.specs.Interests.{PlainInterest}
-use Rattle.tracing_core_requests.specs.declared.subscriber.Subscriber.{Ghosts}
+use Rattle.tracing_core_fields.specs.requests.Interests.{PlainInterest}
+use Rattle.tracing_core_fields.specs.declared.requests.subscriber.Subscriber.{Ghosts}
 use Rattle.span_tracing_skeleton.specs.Machine.{named}
 use Rattle.span_tracing_skeleton.specs.declared.refusal.Refusal.{Refusal}
 use Rattle.span_tracing_steps.specs.Setup.{RegisterGives, own_at}
@@ -13,5 +13,6 @@ module _ {T : Type 0} (g : Ghosts T) (v : StateValue T) (m : PlainMetadata) wher
   -- a site that is answered was registered under its identifier, and stands at its index; else what is answered is why it was refused
   abbrev pub RegistersSite : Result Site Refusal → StateValue T → Type 0
   RegistersSite (Ok site) w =
-      (k : PlainInterest) × RegisterGives g v (own_at m.callsite m) (Ok k) w × (site.identifier.0 ≡ m.callsite) × (at_index w.callsites (Some site.index) ≡ named w.callsites m.callsite)
+      (k : PlainInterest) × RegisterGives g v (own_at m.callsite m) (Ok k) w × (site.identifier.0 ≡ m.callsite) ×
+      (at_index w.callsites (Some site.index) ≡ named w.callsites m.callsite)
   RegistersSite (Err refusal) w = RegisterGives g v (own_at m.callsite m) (Err refusal) w

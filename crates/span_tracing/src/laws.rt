@@ -1,13 +1,13 @@
 //! Laws over what a trace does.
 ghost use Rattle.std.specs.Prelude.{List};
-ghost use Rattle.tracing_core_requests.specs.Lists.{Every};
-ghost use Rattle.span_tracing.specs.Alone.{OutputsGoAlone};
+ghost use Rattle.tracing_core_fields.specs.requests.Lists.{Every};
+ghost use Rattle.span_tracing.specs.OutputIndependence.{OutputsGoAlone};
 ghost use Rattle.span_tracing.specs.Levels.{LevelsAnswer};
 ghost use Rattle.span_registry_layers_layers.specs.declared.filtered.Filtered.{Filtered};
-ghost use Rattle.span_registry_layers_stack.specs.declared.output.Output.{Output};
-ghost use Rattle.span_tracing_files.specs.declared.output_spec.OutputSpec.{OutputSpec};
+ghost use Rattle.span_registry_layers.specs.declared.output.Output.{Output};
+ghost use Rattle.span_tracing_outputs.specs.declared.files.output_spec.OutputSpec.{OutputSpec};
 
-use event_formatter_formats::FormatEvent;
+use event_formatter::FormatEvent;
 use event_formatter_text::FormatFields;
 use span_registry_layers_layers::{Filter, Layer};
 use span_tracing_outputs::PendingLines;
@@ -40,5 +40,5 @@ pub fn outputs_go_alone<N: FormatFields>()
 #[tactic(auto, using(crate::proofs::Answers::levels_answer))]
 pub fn levels_answer<N: FormatFields + Drop, E: FormatEvent, S>()
     ensures { LevelsAnswer S ⟦<N as FormatFields>⟧ E.line_of ⟦<LevelFilter as Filter>⟧
-        ⟦<event_formatter_layer::Layer<N, E, PendingLines> as Layer>⟧ }
+        ⟦<event_formatter::Layer<N, E, PendingLines> as Layer>⟧ }
 {}

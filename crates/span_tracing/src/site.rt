@@ -2,10 +2,10 @@
 ghost use Rattle.tracing_core_fields.specs.Metadata.{plain_metadata};
 ghost use Rattle.span_tracing.specs.Sites.{RegistersSite};
 
+use crate::Trace;
 use span_tracing_skeleton::{HasRegistry, Refusal};
-use span_tracing_trace::{CallsiteIndex, Trace};
-use tracing_core_fields::{Identifier, Metadata};
-use tracing_core_requests::Subscriber;
+use tracing_core::CallsiteIndex;
+use tracing_core_fields::{Identifier, Metadata, Subscriber};
 
 /// A callsite that is registered with a trace, for [`event!`](crate::event) and [`span!`](crate::span). An application keeps its own in a
 /// struct.

@@ -1,12 +1,14 @@
 -- A stack with the sinks of its outputs, and what a call makes of both.
 use Rattle.std.specs.Prelude.{◌≡◌, List, length, map, Result, Ok, Err}
-use Rattle.tracing_core_requests.specs.declared.at.At.{At}
-use Rattle.tracing_core_requests.specs.Calls.{Call, ReplyTo, DispatchRegistered, CallsiteRegistered, Asked, HintAsked, SpanMade, Recorded, FollowsRecorded, EventAsked, EventDispatched, Entered, Exited, Cloned, Dropped, CloseTried, CurrentAsked}
+use Rattle.tracing_core_moments.specs.declared.at.At.{At}
+use Rattle.tracing_core_fields.specs.requests.Calls.{Call, ReplyTo, DispatchRegistered, CallsiteRegistered, Asked, HintAsked, SpanMade}
+use Rattle.tracing_core_fields.specs.requests.Calls.{Recorded, FollowsRecorded, EventAsked, EventDispatched, Entered, Exited, Cloned}
+use Rattle.tracing_core_fields.specs.requests.Calls.{Dropped, CloseTried, CurrentAsked}
 use Rattle.span_registry_layers_layers.specs.declared.filter.Filter.{Ghosts as FilterGhosts}
 use Rattle.span_registry_layers_layers.specs.declared.layer.Layer.{Ghosts as LayerGhosts}
-use Rattle.span_registry_layers_stack.specs.Moves.{Moves}
-use Rattle.span_tracing_outputs.specs.Hands.{HandsOver, NoLines, cleared_row}
-use Rattle.span_tracing_outputs.specs.Outs.{PlainLine}
+use Rattle.span_registry_layers.specs.Moves.{Moves}
+use Rattle.span_tracing_outputs.specs.SinkLines.{HandsOver, NoLines, cleared_row}
+use Rattle.span_tracing_outputs.specs.OutputMachines.{PlainLine}
 use Rattle.span_tracing_outputs.specs.StackFollows.{LinedStack}
 use Rattle.span_tracing_outputs.specs.Turns.{Lines}
 use Rattle.span_tracing_outputs.specs.declared.trace_stack.UnpairedSinks.{UnpairedSinks}
@@ -22,7 +24,8 @@ IsAtRest stack sinks = (length sinks ≡ length stack.rows) × NoLines stack.row
 
 -- as many sinks as outputs, whose lines are forgotten, or both come back
 abbrev pub NewGives : {N E F S : Type 0} → LinedStack N E F → List S → Result (TraceStackValue N E F S) (UnpairedSinks N E F S) → Type 0
-NewGives stack sinks (Ok made) = (length sinks ≡ length stack.rows) × (made ≡ record { stack = record stack { rows = map cleared_row stack.rows }; sinks = sinks })
+NewGives stack sinks (Ok made) = (length sinks ≡ length stack.rows) ×
+    (made ≡ record { stack = record stack { rows = map cleared_row stack.rows }; sinks = sinks })
 NewGives stack sinks (Err back) = (length sinks ≡ length stack.rows → ⊥) × (back.stack ≡ stack) × (back.sinks.items ≡ sinks)
 
 module _ {N E F S : Type 0} (g : FilterGhosts F) (h : LayerGhosts (Lines N E)) (takes : S → At → PlainLine → S → Type 0) where

@@ -1,21 +1,22 @@
 -- How the outputs of a stack go through what they are told.
 use Rattle.std.specs.Prelude.{◌≡◌, ℕ, List, [], ◌∷◌, Bool, false, Option, Some, None}
-use Rattle.tracing_core_requests.specs.PlainRequests.{PlainEvent}
-use Rattle.span_registry_layers_store.specs.Aside.{bare}
+use Rattle.tracing_core_fields.specs.requests.PlainRequests.{PlainEvent}
+use Rattle.span_registry_layers_store.specs.SlotIndependence.{bare}
 use Rattle.span_registry_layers_store.specs.Registries.{RegistryValue}
 use Rattle.span_registry_layers_store.specs.Spans.{is_member}
-use Rattle.span_registry_layers_layers.specs.Looks as looks
-use Rattle.span_registry_layers_layers.specs.Looks.{Hook, View}
+use Rattle.span_registry_layers_layers.specs.FilterViews as looks
+use Rattle.span_registry_layers_layers.specs.FilterViews.{Hook, View}
 use Rattle.span_registry_layers_layers.specs.declared.filter.Filter.{Ghosts as FilterGhosts}
 use Rattle.span_registry_layers_layers.specs.declared.filtered.Filtered.{Filtered}
-use Rattle.span_registry_layers_stack.specs.declared.row.Row.{Row}
+use Rattle.span_registry_layers.specs.declared.output_slot.OutputSlot.{OutputSlot}
 use Rattle.event_formatter_text.specs.declared.format_fields.FormatFields.{Ghosts}
 use Rattle.event_formatter_text.specs.declared.settings.Settings.{Settings}
-use Rattle.event_formatter_formats.specs.Contexts.{PlainContext}
-use Rattle.event_formatter_layer.specs.declared.layer.Layer.{Layer}
-use Rattle.span_tracing_outputs.specs.Agreeing.{Agrees, AgreesBut, none_excepted}
-use Rattle.span_tracing_outputs.specs.Heards.{Notice, heards}
-use Rattle.span_tracing_outputs.specs.Outs.{Call, Closed, Entered, Fated, Happened, Left, Made, OnSpan, PlainLine, PlainOut, Recorded, Said, heards_of, out_run, starved_by}
+use Rattle.event_formatter.specs.formats.Contexts.{PlainContext}
+use Rattle.event_formatter.specs.declared.fmt_layer.layer.Layer.{Layer}
+use Rattle.span_tracing_outputs.specs.LayerAgreement.{Agrees, AgreesBut, none_excepted}
+use Rattle.span_tracing_outputs.specs.OutputNotices.{Notice, heards}
+use Rattle.span_tracing_outputs.specs.OutputMachines.{Call, Closed, Entered, Fated, Happened, Left, Made, OnSpan, PlainLine, PlainOut}
+use Rattle.span_tracing_outputs.specs.OutputMachines.{Recorded, Said, heards_of, out_run, starved_by}
 
 -- a layer that keeps its lines until they are handed on
 abbrev pub Lines : Type 0 → Type 0 → Type 0
@@ -23,7 +24,7 @@ Lines N E = Layer N E (List PlainLine)
 
 -- an output of a stack of such layers
 abbrev pub Lined : Type 0 → Type 0 → Type 0 → Type 0
-Lined N E F = Row (Filtered (Lines N E) F)
+Lined N E F = OutputSlot (Filtered (Lines N E) F)
 
 abbrev pub own : List PlainLine → List PlainLine
 own lines = lines
@@ -58,11 +59,14 @@ module _ {N E F : Type 0} (n : Ghosts N) (line_of : E → Settings → PlainCont
   abbrev pub FilterHears : ℕ → F → List Notice → F → Type 0
   FilterHears number f [] later = later ≡ f
   FilterHears number f (t ∷ ts) later =
-      (v : View) × (v.at ≡ t.heard.at) × (v.mask ≡ Some number) × (bare v.registry ≡ t.within) × FilterHears number (filter_after f (hook_of t.heard.said v)) ts later
+      (v : View) × (v.at ≡ t.heard.at) × (v.mask ≡ Some number) × (bare v.registry ≡ t.within) ×
+      FilterHears number (filter_after f (hook_of t.heard.said v)) ts later
 
-  -- an output goes through these notices, some of whose texts and lines may find no memory: from each output machine that it agrees with to what the
+  -- an output goes through these notices, some of whose texts and lines may find no memory: from each output machine that it agrees with to
+  -- what the
   -- notices make of that
-  pub record RowFollowsBut (but : ℕ → Bool) (x : RegistryValue) (row : Lined N E F) (ns : List Notice) (y : RegistryValue) (later : Lined N E F) : Type 0 where
+  pub record RowFollowsBut (but : ℕ → Bool) (x : RegistryValue) (row : Lined N E F) (ns : List Notice) (y : RegistryValue)
+      (later : Lined N E F) : Type 0 where
     pub fated : List Fated
     pub told : heards_of fated ≡ heards ns
     pub number : later.id ≡ row.id
@@ -75,7 +79,8 @@ module _ {N E F : Type 0} (n : Ghosts N) (line_of : E → Settings → PlainCont
   abbrev pub RowFollows : RegistryValue → Lined N E F → List Notice → RegistryValue → Lined N E F → Type 0
   RowFollows x row ns y later = RowFollowsBut none_excepted x row ns y later
 
-  abbrev pub EachFollowsBut : (ℕ → Bool) → (Lined N E F → List Notice) → RegistryValue → List (Lined N E F) → RegistryValue → List (Lined N E F) → Type 0
+  abbrev pub EachFollowsBut : (ℕ → Bool) → (Lined N E F → List Notice) → RegistryValue → List (Lined N E F) → RegistryValue →
+      List (Lined N E F) → Type 0
   EachFollowsBut but ns x [] y [] = Unit {0}
   EachFollowsBut but ns x [] y (m ∷ ms) = ⊥
   EachFollowsBut but ns x (l ∷ ls) y [] = ⊥

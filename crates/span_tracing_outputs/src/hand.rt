@@ -1,15 +1,14 @@
 //! The lines of a request, handed to the sinks of their outputs.
 ghost use Rattle.std.specs.Prelude.{◌≡◌, ◌<◌, length, map, slice_get};
-ghost use Rattle.span_tracing_outputs.specs.Hands.{HandsOver, LinesIf, cleared_at, cleared_row};
+ghost use Rattle.span_tracing_outputs.specs.SinkLines.{HandsOver, LinesIf, cleared_at, cleared_row};
 
 use crate::pending::PendingLines;
 use crate::sink::{LineSink, take_all};
-use event_formatter_formats::FormatEvent;
-use event_formatter_layer::Layer;
+use event_formatter::{FormatEvent, Layer};
 use event_formatter_text::FormatFields;
+use span_registry_layers::Stack;
 use span_registry_layers_layers::{Filter, Filtered};
-use span_registry_layers_stack::Stack;
-use tracing_core_requests::At;
+use tracing_core_moments::At;
 
 // The lines of the output at a place go to the sink there.
 fn hand_lines<N: FormatFields + Drop, E: FormatEvent, F: Filter, S: LineSink>(

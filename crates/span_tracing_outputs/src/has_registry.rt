@@ -2,7 +2,7 @@
 
 use crate::sink::LineSink;
 use crate::trace_stack::TraceStack;
-use event_formatter_formats::FormatEvent;
+use event_formatter::FormatEvent;
 use event_formatter_text::FormatFields;
 use span_registry_layers_layers::Filter;
 use span_registry_layers_store::Registry;

@@ -1,24 +1,22 @@
 //! A layer of lines, and a stack of them, go along with output machines.
 ghost use Rattle.std.specs.Prelude.{List};
-ghost use Rattle.span_tracing_outputs.specs.Agreeing.{KeepsLines, LayerFollows};
-ghost use Rattle.span_tracing_outputs.specs.Outs.{PlainLine};
-ghost use Rattle.span_tracing_outputs.specs.Plain.{FollowingFolds};
+ghost use Rattle.span_tracing_outputs.specs.LayerAgreement.{KeepsLines, LayerFollows};
+ghost use Rattle.span_tracing_outputs.specs.OutputMachines.{PlainLine};
+ghost use Rattle.span_tracing_outputs.specs.OutputFolds.{FollowingFolds};
 ghost use Rattle.span_tracing_outputs.specs.StackFollows.{StackFollows};
 ghost use Rattle.span_tracing_outputs.specs.TraceFollows.{TraceFollows};
 ghost use Rattle.span_tracing_outputs.specs.TraceStarts.{TraceStarts};
 
 use crate::pending::PendingLines;
 use crate::sink::LineSink;
-use event_formatter_formats::FormatEvent;
-use event_formatter_layer::Layer;
-use event_formatter_makers::MakeWriter;
-use event_formatter_slots::rekeeping_is_local;
-use event_formatter_text::FormatFields;
+use event_formatter::{FormatEvent, Layer};
+use event_formatter_lines::rekeeping_is_local;
+use event_formatter_text::{FormatFields, MakeWriter};
+use span_registry_layers::stack_registry_stays_sound;
 use span_registry_layers_layers::Filter;
-use span_registry_layers_stack::stack_registry_stays_sound;
 
 /// What a layer makes of an event, or of a call on a span that it sees, is one step of an output machine. The maker may
-/// be any that keeps the lines that it is handed, and refuses one for want of memory alone.
+/// be any that keeps the lines that it is handed, and refuses one for lack of memory alone.
 pub fn layer_follows<N: FormatFields, E: FormatEvent, W: MakeWriter>()
     ensures { (lines_in : W → List PlainLine) → KeepsLines W.writes lines_in →
         LayerFollows ⟦<N as FormatFields>⟧ E.line_of lines_in W.writes }

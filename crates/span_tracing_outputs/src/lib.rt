@@ -2,15 +2,26 @@
 //! lines to sinks.
 #![tactic(auto)]
 
+mod files;
 mod hand;
 mod has_registry;
 mod laws;
 mod pending;
 mod sink;
+mod sinks;
 mod trace_stack;
 
+pub use files::{
+    EitherFolder, FileStack, LaneThread, LineSettings, Lines, OpenStackError, OutputSpec, SinkSpec,
+    SpecRefusal, open_stack, open_stack_with_threads,
+};
 pub use hand::hand_over;
 pub use laws::{layer_follows, outputs_fold, stack_follows, trace_follows, trace_starts};
 pub use pending::{PendingLine, PendingLines};
 pub use sink::LineSink;
+pub use sinks::{
+    RollingSink, RoutedSinks, UnroutedSinks, drops_are_counted, each_sink_has_its_run,
+    kept_lines_go_in_turn, lines_reach_files, lines_stand_in_files, routed_sinks_take_theirs,
+    runs_are_told, runs_compose,
+};
 pub use trace_stack::{TraceStack, UnpairedSinks};

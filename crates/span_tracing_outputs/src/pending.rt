@@ -1,10 +1,10 @@
 //! The lines of a request, until they are handed on.
 ghost use Rattle.std.specs.Prelude.{◌≡◌, ◌≤◌, [], length, map};
 ghost use Rattle.std.specs.Result.{is_ok};
-ghost use Rattle.span_tracing_outputs.specs.Outs.{one_more_line};
-ghost use Rattle.span_tracing_outputs.specs.Pending.{TakesLine, lines_of, plain_line};
+ghost use Rattle.span_tracing_outputs.specs.OutputMachines.{one_more_line};
+ghost use Rattle.span_tracing_outputs.specs.BufferedLines.{TakesLine, lines_of, plain_line};
 
-use event_formatter_makers::MakeWriter;
+use event_formatter_text::MakeWriter;
 use std::alloc::{AllocError, Global};
 use std::io;
 use std::io::ErrorKind;
@@ -32,8 +32,8 @@ pub struct PendingLines {
 
 impl Model for PendingLines {
     ghost use Rattle.std.specs.Prelude.{List, ◌≤◌, length};
-    ghost use Rattle.span_tracing_outputs.specs.Outs.{PlainLine};
-    ghost use Rattle.span_tracing_outputs.specs.Pending.{lines_of};
+    ghost use Rattle.span_tracing_outputs.specs.OutputMachines.{PlainLine};
+    ghost use Rattle.span_tracing_outputs.specs.BufferedLines.{lines_of};
 
     ghost Value = { List PlainLine };
 
@@ -89,7 +89,7 @@ impl PendingLines {
 
 impl MakeWriter for PendingLines {
     ghost use Rattle.std.specs.Prelude.{◌≡◌, true};
-    ghost use Rattle.span_tracing_outputs.specs.Pending.{TakesLine};
+    ghost use Rattle.span_tracing_outputs.specs.BufferedLines.{TakesLine};
 
     ghost takes = { λ maker m b. b ≡ true };
 

@@ -1,13 +1,13 @@
 //! Where the lines of an output go.
 ghost use Rattle.std.specs.Prelude.{◌≡◌, List, ℕ, map};
-ghost use Rattle.tracing_core_requests.specs.declared.at.At.{At};
-ghost use Rattle.span_tracing_outputs.specs.Hands.{TakesAll};
-ghost use Rattle.span_tracing_outputs.specs.Outs.{PlainLine};
-ghost use Rattle.span_tracing_outputs.specs.Pending.{plain_line};
+ghost use Rattle.tracing_core_moments.specs.declared.at.At.{At};
+ghost use Rattle.span_tracing_outputs.specs.SinkLines.{TakesAll};
+ghost use Rattle.span_tracing_outputs.specs.OutputMachines.{PlainLine};
+ghost use Rattle.span_tracing_outputs.specs.BufferedLines.{plain_line};
 
 use crate::pending::PendingLine;
 use tracing_core_fields::Level;
-use tracing_core_requests::At;
+use tracing_core_moments::At;
 
 /// Takes the lines of an output. What becomes of a line is the sink's own affair, also whether it counts what it loses.
 pub trait LineSink: Drop {

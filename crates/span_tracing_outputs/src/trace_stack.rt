@@ -1,22 +1,22 @@
 //! A stack whose outputs have sinks, as a subscriber.
 ghost use Rattle.std.specs.Prelude.{◌≡◌, IfOk, IsTrue, length, nat_eq, true};
-ghost use Rattle.span_registry_layers_stack.specs.CacheValidity.{CacheIsValid};
-ghost use Rattle.span_registry_layers_stack.specs.Stacks.{cleared, is_above};
+ghost use Rattle.span_registry_layers.specs.CacheValidity.{CacheIsValid};
+ghost use Rattle.span_registry_layers.specs.Stacks.{cleared, is_above};
 ghost use Rattle.span_tracing_outputs.specs.TraceStacks.{IsAtRest, NewGives};
 
 use crate::hand::{clear_lines, hand_over};
 use crate::pending::PendingLines;
 use crate::sink::LineSink;
-use event_formatter_formats::FormatEvent;
-use event_formatter_layer::Layer;
+use event_formatter::{FormatEvent, Layer};
 use event_formatter_text::FormatFields;
+use span_registry_layers::Stack;
 use span_registry_layers_layers::{Filter, Filtered};
-use span_registry_layers_stack::Stack;
 use std::marker::Model;
-use tracing_core_fields::{Id, Level, LevelFilter, Metadata};
-use tracing_core_requests::{
-    At, Attributes, CurrentSpan, Event, Interest, Record, RequestError, Subscriber, WeakDispatch,
+use tracing_core_fields::{
+    Attributes, CurrentSpan, Event, Id, Interest, Level, LevelFilter, Metadata, Record,
+    RequestError, Subscriber, WeakDispatch,
 };
+use tracing_core_moments::At;
 
 /// A stack of outputs, and for each output a sink that takes its lines. They go there at the end of each
 /// request, after all outputs were told, so that no output keeps a line between requests.
@@ -56,7 +56,7 @@ pub struct UnpairedSinks<N, E, F, S> {
     pub sinks: Vec<S>,
 }
 
-#[tactic(auto, using(crate::proofs::Paired::counted))]
+#[tactic(auto, using(crate::proofs::OutputSinkPairs::counted))]
 fn has_exactly<O>(stack: &Stack<O>, count: usize) -> bool
     ensures { result ≡ nat_eq (length stack.now.rows) count }
 {
@@ -122,11 +122,11 @@ impl<N, E, F, S> TraceStack<N, E, F, S> {
 impl<N: FormatFields + Drop, E: FormatEvent, F: Filter, S: LineSink> Subscriber
     for TraceStack<N, E, F, S> {
     ghost use Rattle.std.specs.Prelude.{Some};
-    ghost use Rattle.span_registry_layers_stack.specs.Asked.{CommonInterest, common_hint};
-    ghost use Rattle.span_registry_layers_stack.specs.CacheValidity.{CacheIsValid};
-    ghost use Rattle.span_registry_layers_stack.specs.Rows.{filters_of};
-    ghost use Rattle.span_registry_layers_stack.specs.Stacks.{PassesCached};
-    ghost use Rattle.span_registry_layers_stack.specs.Steadiness.{asked_stays, stack_fair, stack_quiet, stack_single};
+    ghost use Rattle.span_registry_layers.specs.CommonAnswers.{CommonInterest, common_hint};
+    ghost use Rattle.span_registry_layers.specs.CacheValidity.{CacheIsValid};
+    ghost use Rattle.span_registry_layers.specs.OutputSlots.{filters_of};
+    ghost use Rattle.span_registry_layers.specs.Stacks.{PassesCached};
+    ghost use Rattle.span_registry_layers.specs.Steadiness.{asked_stays, stack_fair, stack_quiet, stack_single};
     ghost use Rattle.span_tracing_outputs.specs.TraceStacks.{TraceMoves};
     ghost use Rattle.span_tracing_outputs.specs.TraceSteadiness.{trace_stays};
 

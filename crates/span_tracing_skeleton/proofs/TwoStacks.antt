@@ -1,9 +1,13 @@
--- What the machine makes of a skeleton with two stacks. No trace has two yet. These rows compute: they show to which stack a step goes, and which of two refusals comes first.
+-- What the machine makes of a skeleton with two stacks. No trace has two yet. These rows compute: they show to which stack a step goes, and
+-- which of two refusals comes first.
 use Rattle.std.proofs.Common.{◌≡◌, ℕ, true, not, [], ◌∷◌, Option, Some, None, refl}
 use Rattle.tracing_core_fields.specs.PlainMetadata.{PlainMetadata}
-use Rattle.span_registry_layers_store.specs.Registries.{RegistryValue, kin_in, new_registry, swept, with_entry, with_handle, with_span, without_entry, without_handle}
+use Rattle.span_registry_layers_store.specs.Registries.{RegistryValue, kin_in, new_registry, swept, with_entry, with_handle, with_span}
+use Rattle.span_registry_layers_store.specs.Registries.{without_entry, without_handle}
 use Rattle.span_registry_layers_store.specs.Spans.{is_open}
-use Rattle.span_tracing_skeleton.specs.Machine.{acted, callsite_of, cloned, entered, given_up, handles_in, ids_refusal, is_closed, left, named, next_name, pair_refusal, parent_id, parent_refusal, refusal_of, span_refusal, with_made}
+use Rattle.span_tracing_skeleton.specs.Machine.{acted, callsite_of, cloned, entered, given_up, handles_in, ids_refusal, is_closed, left}
+use Rattle.span_tracing_skeleton.specs.Machine.{named, next_name, pair_refusal, parent_id, parent_refusal, refusal_of, span_refusal}
+use Rattle.span_tracing_skeleton.specs.Machine.{with_made}
 use Rattle.span_tracing_skeleton.specs.PlainData.{GlobalStep, Request}
 use Rattle.span_tracing_skeleton.specs.Skeleton.{Skeleton, Unasked}
 use Rattle.span_tracing_skeleton.specs.declared.call.Parent.TheVariants.{Explicit}
@@ -25,7 +29,8 @@ module _ (m : PlainMetadata) where
   abbrev span : ℕ → ℕ → SpanName
   span stack id = record { stack = stack; id = id }
 
-  -- a parent stands in the stack that lanes reach, and is open; an unknown stack is told before a foreign parent, and that before an unknown span
+  -- a parent stands in the stack that lanes reach, and is open; an unknown stack is told before a foreign parent, and that before an
+  -- unknown span
   own_parent : parent_refusal (reaching (Some 1)) (Explicit (span 1 2)) ≡ None
   own_parent = refl
 
@@ -64,13 +69,15 @@ module _ (m : PlainMetadata) where
   enters : entered (reaching (Some 0)) 0 (Some (span 1 2)) ≡ record (reaching (Some 0)) { stacks = one_open ∷ with_entry two_open 0 2 ∷ [] }
   enters = refl
 
-  leaves : left (reaching (Some 0)) 0 (Some (span 1 2)) ≡ record (reaching (Some 0)) { stacks = one_open ∷ swept (without_entry two_open 0 2) ∷ [] }
+  leaves : left (reaching (Some 0)) 0 (Some (span 1 2)) ≡ record (reaching (Some 0))
+      { stacks = one_open ∷ swept (without_entry two_open 0 2) ∷ [] }
   leaves = refl
 
   clones : cloned (reaching (Some 0)) (Some (span 1 2)) ≡ record (reaching (Some 0)) { stacks = one_open ∷ with_handle two_open 2 ∷ [] }
   clones = refl
 
-  gives_up : given_up (reaching (Some 0)) (Some (span 1 2)) ≡ record (reaching (Some 0)) { stacks = one_open ∷ swept (without_handle two_open 2) ∷ [] }
+  gives_up : given_up (reaching (Some 0)) (Some (span 1 2)) ≡ record (reaching (Some 0))
+      { stacks = one_open ∷ swept (without_handle two_open 2) ∷ [] }
   gives_up = refl
 
   closes : is_closed (reaching (Some 0)) (Some (span 1 2)) ≡ not (is_open kin_in (swept (without_handle two_open 2)).spans 2)
@@ -90,7 +97,8 @@ module _ (m : PlainMetadata) where
   none_follows = refl
 
   -- a new span is of the stack that lanes reach, and gets its next id; where nothing is reached there is none, and no id is asked for
-  made_in_second : (n : Request) → with_made (reaching (Some 1)) n (Some m) [] ≡ record (reaching (Some 1)) { stacks = one_open ∷ with_span two_open m (parent_id two_open n.lane n.parent) [] ∷ [] }
+  made_in_second : (n : Request) → with_made (reaching (Some 1)) n (Some m) [] ≡ record (reaching (Some 1))
+      { stacks = one_open ∷ with_span two_open m (parent_id two_open n.lane n.parent) [] ∷ [] }
   made_in_second n = refl
 
   made_nowhere : (n : Request) → with_made (reaching None) n (Some m) [] ≡ reaching None
@@ -99,10 +107,12 @@ module _ (m : PlainMetadata) where
   named_by_second : next_name (reaching (Some 1)) (Some 1) ≡ Some (span 1 3)
   named_by_second = refl
 
-  spent : ids_refusal (record (reaching (Some 1)) { stacks = one_open ∷ record two_open { next_id = 18446744073709551616 } ∷ [] }) ≡ Some IdsSpent
+  spent : ids_refusal (record (reaching (Some 1)) { stacks = one_open ∷ record two_open { next_id = 18446744073709551616 } ∷ [] }) ≡ Some
+      IdsSpent
   spent = refl
 
-  spent_elsewhere : ids_refusal (record (reaching (Some 0)) { stacks = one_open ∷ record two_open { next_id = 18446744073709551616 } ∷ [] }) ≡ None
+  spent_elsewhere : ids_refusal (record (reaching (Some 0)) { stacks = one_open ∷ record two_open { next_id = 18446744073709551616 } ∷ [] })
+      ≡ None
   spent_elsewhere = refl
 
   spent_unreached : ids_refusal (record (reaching None) { stacks = record one_open { next_id = 18446744073709551616 } ∷ [] }) ≡ None

@@ -2,4 +2,4 @@ pub mod Refusals
 pub mod PlainData
 pub mod Skeleton
 pub mod Machine
-pub mod Ignoring
+pub mod IgnoredEvents

@@ -1,18 +1,22 @@
 -- The machine on skeletons: which step is refused, what it answers, and what it leaves.
-use Rattle.std.specs.Prelude.{ℕ, List, [], ◌∷◌, length, get_or, set, Bool, true, false, not, ◌==◌, nat_lt, nat_le, if◌then◌else◌, Option, Some, None, is_some, option_and_then}
+use Rattle.std.specs.Prelude.{ℕ, List, [], ◌∷◌, length, get_or, set, Bool, true, false, not, ◌==◌, nat_lt, nat_le, if◌then◌else◌, Option}
+use Rattle.std.specs.Prelude.{Some, None, is_some, option_and_then}
 use Rattle.tracing_core_fields.specs.PlainMetadata.{PlainMetadata}
-use Rattle.tracing_core_requests.specs.declared.requests.parent.Parent as core
-use Rattle.tracing_core_requests.specs.declared.requests.parent.Parent.TheVariants as core_parents
-use Rattle.tracing_appender_folders.specs.declared.moment.Moment.{Moment}
-use Rattle.tracing_appender_folders.specs.Moments.{is_moment}
-use Rattle.span_registry_layers_store.specs.Registries.{PlainSpan, RegistryValue, kin_in, new_registry, swept, under, with_entry, with_handle, with_span, without_entry, without_handle}
+use Rattle.tracing_core_fields.specs.declared.requests.arguments.parent.Parent as core
+use Rattle.tracing_core_fields.specs.declared.requests.arguments.parent.Parent.TheVariants as core_parents
+use Rattle.tracing_core_moments.specs.declared.moment.Moment.{Moment}
+use Rattle.tracing_core_moments.specs.Moments.{is_moment}
+use Rattle.span_registry_layers_store.specs.Registries.{PlainSpan, RegistryValue, kin_in, new_registry, swept, under, with_entry}
+use Rattle.span_registry_layers_store.specs.Registries.{with_handle, with_span, without_entry, without_handle}
 use Rattle.span_registry_layers_store.specs.Spans.{found, handles_of, is_open}
-use Rattle.span_tracing_skeleton.specs.PlainData.{PlainStep, Request, on_span, GlobalStep, EventStep, EnabledStep, SpanStep, RecordStep, FollowsFromStep, EnterStep, ExitStep, CloneStep, CloseStep}
+use Rattle.span_tracing_skeleton.specs.PlainData.{PlainStep, Request, on_span, GlobalStep, EventStep, EnabledStep, SpanStep, RecordStep}
+use Rattle.span_tracing_skeleton.specs.PlainData.{FollowsFromStep, EnterStep, ExitStep, CloneStep, CloseStep}
 use Rattle.span_tracing_skeleton.specs.declared.call.SpanName.{SpanName}
 use Rattle.span_tracing_skeleton.specs.declared.call.Parent.{Parent}
 use Rattle.span_tracing_skeleton.specs.declared.call.Parent.TheVariants.{Contextual, Root, Explicit}
 use Rattle.span_tracing_skeleton.specs.declared.refusal.Refusal.{Refusal}
-use Rattle.span_tracing_skeleton.specs.declared.refusal.Refusal.TheVariants.{UnknownCallsite, UnknownStack, UnknownSpan, ForeignParent, BadMoment, UnknownLane, GlobalSet, TooManyHandles, IdsSpent}
+use Rattle.span_tracing_skeleton.specs.declared.refusal.Refusal.TheVariants.{UnknownCallsite, UnknownStack, UnknownSpan, ForeignParent}
+use Rattle.span_tracing_skeleton.specs.declared.refusal.Refusal.TheVariants.{BadMoment, UnknownLane, GlobalSet, TooManyHandles, IdsSpent}
 use Rattle.span_tracing_skeleton.specs.declared.call.Reply.{Reply}
 use Rattle.span_tracing_skeleton.specs.declared.call.Reply.TheVariants.{Done, Enabled, Span, Closed, Refused}
 use Rattle.span_tracing_skeleton.specs.declared.call.SpanCall.{SpanCall}
@@ -184,7 +188,8 @@ parent_id x lane parent = under x lane (told_parent parent)
 
 -- with a span of the stack at a callsite, which these filters passed
 abbrev pub with_made_at : Skeleton → ℕ → Request → PlainMetadata → List Bool → Skeleton
-with_made_at s stack n m passed = with_registry s stack (with_span (registry_at s stack) m (parent_id (registry_at s stack) n.lane n.parent) passed)
+with_made_at s stack n m passed =
+    with_registry s stack (with_span (registry_at s stack) m (parent_id (registry_at s stack) n.lane n.parent) passed)
 
 -- of the stack that lanes reach
 abbrev pub with_made_by : Option ℕ → Skeleton → Request → Option PlainMetadata → List Bool → Skeleton
@@ -205,7 +210,8 @@ made_by s n (Heard passed told) = s
 
 -- the callsite of an open span
 abbrev pub callsite_of : Skeleton → SpanName → Option PlainMetadata
-callsite_of s name = option_and_then (λ (x : PlainSpan). named s.callsites x.metadata.callsite) (found kin_in (registry_at s name.stack).spans name.id)
+callsite_of s name = option_and_then (λ (x : PlainSpan). named s.callsites x.metadata.callsite)
+    (found kin_in (registry_at s name.stack).spans name.id)
 
 abbrev pub cloned : Skeleton → Option SpanName → Skeleton
 cloned s None = s

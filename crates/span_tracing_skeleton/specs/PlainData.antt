@@ -2,7 +2,7 @@
 use Rattle.std.specs.Prelude.{ℕ, List, map, Option}
 use Rattle.tracing_core_fields.specs.OwnedValues.{owned_entries}
 use Rattle.tracing_core_fields.specs.PlainValue.{PlainValue}
-use Rattle.tracing_appender_folders.specs.declared.moment.Moment.{Moment}
+use Rattle.tracing_core_moments.specs.declared.moment.Moment.{Moment}
 use Rattle.span_tracing_skeleton.specs.declared.call.Parent.{Parent}
 use Rattle.span_tracing_skeleton.specs.declared.call.SpanCall.{SpanCall}
 use Rattle.span_tracing_skeleton.specs.declared.call.SpanName.{SpanName}
@@ -47,10 +47,24 @@ pub data PlainStep : Type 0 where
   CloseStep : SpanCall → PlainStep
 
 abbrev pub event_request : EventCall → Request
-event_request e = record { lane = e.lane; moment = e.moment; callsite = e.callsite.0; parent = e.parent; values = owned_entries e.values.items }
+event_request e = record {
+  lane = e.lane;
+  moment = e.moment;
+  callsite = e.callsite.0;
+  parent = e.parent;
+  values =
+      owned_entries e.values.items;
+}
 
 abbrev pub span_request : NewSpanCall → Request
-span_request n = record { lane = n.lane; moment = n.moment; callsite = n.callsite.0; parent = n.parent; values = owned_entries n.values.items }
+span_request n = record {
+  lane = n.lane;
+  moment = n.moment;
+  callsite = n.callsite.0;
+  parent = n.parent;
+  values =
+      owned_entries n.values.items;
+}
 
 abbrev pub record_request : RecordCall → RecordRequest
 record_request r = record { lane = r.lane; moment = r.moment; span = r.span; values = owned_entries r.values.items }

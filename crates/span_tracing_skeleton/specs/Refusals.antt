@@ -1,7 +1,11 @@
 -- The numbers of refusals.
 use Rattle.std.specs.Prelude.{ℕ}
 use Rattle.span_tracing_skeleton.specs.declared.refusal.Refusal.{Refusal}
-use Rattle.span_tracing_skeleton.specs.declared.refusal.Refusal.TheVariants.{UnknownCallsite, UnknownStack, UnknownSpan, ForeignParent, NoOutput, TooManyFilters, EqualKeys, BadLinkName, BadName, FolderRefused, BadMoment, OutOfMemory, BadRoute, JsonFieldsNeeded, UnknownLane, GlobalSet, Taken, TooManyHandles, IdsSpent}
+use Rattle.span_tracing_skeleton.specs.declared.refusal.Refusal.TheVariants.{UnknownCallsite, UnknownStack, UnknownSpan, ForeignParent}
+use Rattle.span_tracing_skeleton.specs.declared.refusal.Refusal.TheVariants.{NoOutput, TooManyFilters, EqualKeys, BadLinkName, BadName}
+use Rattle.span_tracing_skeleton.specs.declared.refusal.Refusal.TheVariants.{FolderRefused, BadMoment, OutOfMemory, BadRoute}
+use Rattle.span_tracing_skeleton.specs.declared.refusal.Refusal.TheVariants.{JsonFieldsNeeded, UnknownLane, GlobalSet, Taken}
+use Rattle.span_tracing_skeleton.specs.declared.refusal.Refusal.TheVariants.{TooManyHandles, IdsSpent}
 
 abbrev pub refusal_number : Refusal → ℕ
 refusal_number UnknownCallsite = 1

@@ -1,8 +1,8 @@
 //! The steps of a trace and its replies.
 
 use crate::refusal::Refusal;
-use tracing_appender_folders::Moment;
 use tracing_core_fields::{FieldValue, Id, Identifier};
+use tracing_core_moments::Moment;
 
 /// A span, by its stack's number and its id in that stack.
 #[derive(Clone, Copy, Debug, PartialEq, Eq)]

@@ -1,9 +1,9 @@
-pub mod Bare
+pub mod SlotlessRegistry
 pub mod Callsites
-pub mod Called
-pub mod Indexed
-pub mod Going
-pub mod Anew
-pub mod Registering
+pub mod StackCalls
+pub mod IndexedRequests
+pub mod UnrefusedRequests
+pub mod FullRefresh
+pub mod Registration
 pub mod Stackless
-pub mod Words
+pub mod InterestPreservation

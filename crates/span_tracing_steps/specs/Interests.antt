@@ -1,10 +1,10 @@
 -- What is kept of the interest in callsites.
 use Rattle.std.specs.Prelude.{◌≡◌, Bool, true, false, List, [], ◌∷◌, Option, Some, None, slice_get}
 use Rattle.tracing_core_fields.specs.PlainMetadata.{PlainMetadata}
-use Rattle.tracing_core_hub.specs.declared.hub.index.CallsiteIndex.{CallsiteIndex}
-use Rattle.tracing_core_requests.specs.Interests.{PlainInterest}
-use Rattle.tracing_core_requests.specs.declared.interest.InterestInner.TheVariants.{Never, Sometimes, Always}
-use Rattle.tracing_core_requests.specs.declared.subscriber.Subscriber.{Ghosts}
+use Rattle.tracing_core.specs.declared.hub.index.CallsiteIndex.{CallsiteIndex}
+use Rattle.tracing_core_fields.specs.requests.Interests.{PlainInterest}
+use Rattle.tracing_core_fields.specs.declared.requests.interest.InterestInner.TheVariants.{Never, Sometimes, Always}
+use Rattle.tracing_core_fields.specs.declared.requests.subscriber.Subscriber.{Ghosts}
 use Rattle.span_tracing_steps.specs.States.{StateValue}
 
 abbrev pub is_never : Option PlainInterest → Bool

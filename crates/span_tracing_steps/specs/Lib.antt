@@ -1,10 +1,10 @@
 pub mod Callsites
 pub mod Actions
 pub mod States
-pub mod Sound
-pub mod Telling
+pub mod TraceInvariant
+pub mod StackRequests
 pub mod Steps
 pub mod Setup
 pub mod Interests
-pub mod Words
-pub mod Finding
+pub mod InterestPreservation
+pub mod RequestTarget

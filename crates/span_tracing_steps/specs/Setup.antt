@@ -1,10 +1,10 @@
 -- What setup calls leave of a trace.
 use Rattle.std.specs.Prelude.{◌≡◌, ◌⊎◌, ◌==◌, if◌then◌else◌, ℕ, List, [], ◌∷◌, ◌++◌, Bool, true, false, Option, Some, None, Result, Ok, Err}
 use Rattle.tracing_core_fields.specs.PlainMetadata.{PlainMetadata, is_same_metadata}
-use Rattle.tracing_core_requests.specs.Calls.{CallsiteRegistered, DispatchRegistered, HintAsked}
-use Rattle.tracing_core_requests.specs.Interests.{PlainInterest}
-use Rattle.tracing_core_requests.specs.declared.interest.InterestInner.TheVariants.{Never}
-use Rattle.tracing_core_requests.specs.declared.subscriber.Subscriber.{Ghosts}
+use Rattle.tracing_core_fields.specs.requests.Calls.{CallsiteRegistered, DispatchRegistered, HintAsked}
+use Rattle.tracing_core_fields.specs.requests.Interests.{PlainInterest}
+use Rattle.tracing_core_fields.specs.declared.requests.interest.InterestInner.TheVariants.{Never}
+use Rattle.tracing_core_fields.specs.declared.requests.subscriber.Subscriber.{Ghosts}
 use Rattle.span_tracing_skeleton.specs.Machine.{named}
 use Rattle.span_tracing_skeleton.specs.declared.refusal.Refusal.{Refusal}
 use Rattle.span_tracing_skeleton.specs.declared.refusal.Refusal.TheVariants.{OutOfMemory, Taken}
@@ -35,7 +35,8 @@ module _ {T : Type 0} (g : Ghosts T) where
   -- the stack was asked of the callsite, where there is one; else nobody is interested
   abbrev pub StackRegisters : Option T → StateValue T → PlainMetadata → PlainInterest → StateValue T → Type 0
   StackRegisters None v m k w = (k ≡ Never) × (w ≡ with_callsite v m k)
-  StackRegisters (Some x) v m k w = (y : T) × g.says x m k × g.moves x (CallsiteRegistered m) k y × (w ≡ record (with_callsite v m k) { stack = Some y })
+  StackRegisters (Some x) v m k w = (y : T) × g.says x m k × g.moves x (CallsiteRegistered m) k y ×
+      (w ≡ record (with_callsite v m k) { stack = Some y })
 
   abbrev pub NewRegisters : StateValue T → PlainMetadata → Result PlainInterest Refusal → StateValue T → Type 0
   NewRegisters v m (Ok k) w = StackRegisters v.stack v m k w
@@ -43,7 +44,8 @@ module _ {T : Type 0} (g : Ghosts T) where
 
   abbrev pub RegisterGivesAt : Option PlainMetadata → StateValue T → PlainMetadata → Result PlainInterest Refusal → StateValue T → Type 0
   RegisterGivesAt None v m r w = NewRegisters v m r w
-  RegisterGivesAt (Some known) v m r w = KnownGives (is_same_metadata known m) (interest_named v.callsites v.interests m.callsite) r × (w ≡ v)
+  RegisterGivesAt (Some known) v m r w = KnownGives (is_same_metadata known m) (interest_named v.callsites v.interests m.callsite) r ×
+      (w ≡ v)
 
   -- a callsite that isn't known is taken, where there is memory for it; a known one changes nothing
   abbrev pub RegisterGives : StateValue T → PlainMetadata → Result PlainInterest Refusal → StateValue T → Type 0
@@ -59,6 +61,7 @@ module _ {T : Type 0} (g : Ghosts T) where
   -- the stack was told of its handle, asked of each callsite and for its hint, and is kept with what it said; or it came back
   abbrev pub AddGives : StateValue T → T → Result (Unit {0}) T → StateValue T → Type 0
   AddGives v x (Ok done) w =
-      (number : ℕ) × (z : T) × (a : T) × (y : T) × (ks : List PlainInterest) × g.moves x (DispatchRegistered (Some number)) tt z × AskedInTurn v.callsites ks z a × g.moves a HintAsked (g.hint a) y
+      (number : ℕ) × (z : T) × (a : T) × (y : T) × (ks : List PlainInterest) × g.moves x (DispatchRegistered (Some number)) tt z ×
+      AskedInTurn v.callsites ks z a × g.moves a HintAsked (g.hint a) y
       × (w ≡ record v { stack = Some y; interests = ks })
   AddGives v x (Err back) w = (back ≡ x) × (w ≡ v)

@@ -2,12 +2,12 @@
 use Rattle.std.specs.Prelude.{ℕ, List, [], ◌∷◌, length, map, Bool, true, false, Option, Some, None, string_bytes, slice_get}
 use Rattle.std.specs.Option.{option_map}
 use Rattle.tracing_core_fields.specs.PlainMetadata.{PlainMetadata}
-use Rattle.tracing_core_requests.specs.Interests.{PlainInterest}
-use Rattle.tracing_core_hub.specs.Defaults.{was_set}
-use Rattle.tracing_core_hub.specs.Kept.{KeptCallsite, KeptSubscriber}
-use Rattle.tracing_core_hub.specs.Lent.{living_of}
-use Rattle.tracing_core_hub.specs.declared.hub.index.CallsiteIndex.{CallsiteIndex}
-use Rattle.span_registry_layers_store.specs.Aside.{bare}
+use Rattle.tracing_core_fields.specs.requests.Interests.{PlainInterest}
+use Rattle.tracing_core.specs.Defaults.{was_set}
+use Rattle.tracing_core.specs.TableRows.{KeptCallsite, KeptSubscriber}
+use Rattle.tracing_core.specs.HandleSubscribers.{living_of}
+use Rattle.tracing_core.specs.declared.hub.index.CallsiteIndex.{CallsiteIndex}
+use Rattle.span_registry_layers_store.specs.SlotIndependence.{bare}
 use Rattle.span_registry_layers_store.specs.Registries.{RegistryValue, new_registry}
 use Rattle.span_tracing_skeleton.specs.Skeleton.{Skeleton}
 use Rattle.span_tracing_steps.specs.Callsites.{own_metadata}
@@ -23,7 +23,8 @@ pub record PlainThread : Type 0 where
 abbrev pub plain_thread : Thread → PlainThread
 plain_thread thread = record { name = option_map string_bytes thread.name; number = thread.thread_id }
 
--- callsites in order of registering, what is kept of the interest in each, the lanes' threads, whether the stack is the global default, and the stack, where there is one
+-- callsites in order of registering, what is kept of the interest in each, the lanes' threads, whether the stack is the global default, and
+-- the stack, where there is one
 pub record StateValue (T : Type 0) : Type 0 where
   pub callsites : List PlainMetadata
   pub interests : List PlainInterest

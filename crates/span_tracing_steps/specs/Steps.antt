@@ -1,13 +1,15 @@
 -- What a step does: it is refused, or the stack takes a call.
 use Rattle.std.specs.Prelude.{◌≡◌, ℕ, Bool, true, false, Option, Some, None, Result, Ok, Err}
 use Rattle.tracing_core_fields.specs.PlainMetadata.{PlainMetadata}
-use Rattle.tracing_core_requests.specs.Calls.{Call, ReplyTo, Asked, SpanMade, Recorded, FollowsRecorded, EventDispatched, Entered, Exited, Cloned, CloseTried}
-use Rattle.tracing_core_requests.specs.declared.refusal.RequestError.{RequestError}
-use Rattle.tracing_core_requests.specs.declared.refusal.RequestError.TheVariants as errors
-use Rattle.tracing_core_requests.specs.declared.subscriber.Subscriber.{Ghosts}
+use Rattle.tracing_core_fields.specs.requests.Calls.{Call, ReplyTo, Asked, SpanMade, Recorded, FollowsRecorded, EventDispatched, Entered}
+use Rattle.tracing_core_fields.specs.requests.Calls.{Exited, Cloned, CloseTried}
+use Rattle.tracing_core_fields.specs.declared.requests.refusal.RequestError.{RequestError}
+use Rattle.tracing_core_fields.specs.declared.requests.refusal.RequestError.TheVariants as errors
+use Rattle.tracing_core_fields.specs.declared.requests.subscriber.Subscriber.{Ghosts}
 use Rattle.span_registry_layers_store.specs.Registries.{RegistryValue}
 use Rattle.span_tracing_skeleton.specs.Machine.{callsite_of, known, named, refusal_of}
-use Rattle.span_tracing_skeleton.specs.PlainData.{PlainStep, Request, RecordRequest, GlobalStep, EventStep, EnabledStep, SpanStep, RecordStep, FollowsFromStep, EnterStep, ExitStep, CloneStep, CloseStep}
+use Rattle.span_tracing_skeleton.specs.PlainData.{PlainStep, Request, RecordRequest, GlobalStep, EventStep, EnabledStep, SpanStep}
+use Rattle.span_tracing_skeleton.specs.PlainData.{RecordStep, FollowsFromStep, EnterStep, ExitStep, CloneStep, CloseStep}
 use Rattle.span_tracing_skeleton.specs.declared.call.EnabledCall.{EnabledCall}
 use Rattle.span_tracing_skeleton.specs.declared.call.FollowsCall.{FollowsCall}
 use Rattle.span_tracing_skeleton.specs.declared.call.Reply.{Reply}
@@ -17,7 +19,7 @@ use Rattle.span_tracing_skeleton.specs.declared.call.SpanName.{SpanName}
 use Rattle.span_tracing_skeleton.specs.declared.refusal.Refusal.{Refusal}
 use Rattle.span_tracing_skeleton.specs.declared.refusal.Refusal.TheVariants.{IdsSpent, OutOfMemory}
 use Rattle.span_tracing_steps.specs.States.{StateValue, skeleton_of}
-use Rattle.span_tracing_steps.specs.Telling.{named_as, own_values, place_at, request_of}
+use Rattle.span_tracing_steps.specs.StackRequests.{named_as, own_values, place_at, request_of}
 
 -- how the stack's answer to a new span is told: its parent was looked for, and that ids are left
 abbrev pub span_reply : Result (Option ℕ) RequestError → Reply
@@ -46,7 +48,8 @@ module _ {T : Type 0} (g : Ghosts T) where
   abbrev pub EventGoes : Bool → Option PlainMetadata → StateValue T → Request → StateValue T → Type 0
   EventGoes false callsite v e w = w ≡ v
   EventGoes true None v e w = ⊥
-  EventGoes true (Some m) v e w = (r : Result (Unit {0}) RequestError) × CallGoes v (EventDispatched (request_of m e) (place_at e.lane e.moment)) r w
+  EventGoes true (Some m) v e w = (r : Result (Unit {0}) RequestError) ×
+      CallGoes v (EventDispatched (request_of m e) (place_at e.lane e.moment)) r w
 
   -- a question, where it is
   abbrev pub QuestionGoes : Bool → Option PlainMetadata → StateValue T → EnabledCall → Reply → StateValue T → Type 0
@@ -58,12 +61,14 @@ module _ {T : Type 0} (g : Ghosts T) where
   abbrev pub SpanGoes : Bool → Option PlainMetadata → StateValue T → Request → Reply → StateValue T → Type 0
   SpanGoes false callsite v n reply w = (reply ≡ Span None) × (w ≡ v)
   SpanGoes true None v n reply w = ⊥
-  SpanGoes true (Some m) v n reply w = (r : Result (Option ℕ) RequestError) × CallGoes v (SpanMade (request_of m n) (place_at n.lane n.moment)) r w × (reply ≡ span_reply r)
+  SpanGoes true (Some m) v n reply w = (r : Result (Option ℕ) RequestError) ×
+      CallGoes v (SpanMade (request_of m n) (place_at n.lane n.moment)) r w × (reply ≡ span_reply r)
 
   -- values for a span
   abbrev pub ValuesGo : ℕ → Option PlainMetadata → StateValue T → RecordRequest → StateValue T → Type 0
   ValuesGo id None v r w = w ≡ v
-  ValuesGo id (Some m) v r w = (answer : Result (Unit {0}) RequestError) × CallGoes v (Recorded id (own_values m r.values) (place_at r.lane r.moment)) answer w
+  ValuesGo id (Some m) v r w = (answer : Result (Unit {0}) RequestError) ×
+      CallGoes v (Recorded id (own_values m r.values) (place_at r.lane r.moment)) answer w
 
   module _ (registry_of : T → RegistryValue) where
     -- values for a span, or for none
@@ -75,11 +80,13 @@ module _ {T : Type 0} (g : Ghosts T) where
   abbrev pub FollowsGoes : Option SpanName → Option SpanName → StateValue T → FollowsCall → StateValue T → Type 0
   FollowsGoes None follows v call w = w ≡ v
   FollowsGoes (Some name) None v call w = w ≡ v
-  FollowsGoes (Some name) (Some followed) v call w = (r : Result (Unit {0}) RequestError) × CallGoes v (FollowsRecorded name.id followed.id (place_at call.lane call.moment)) r w
+  FollowsGoes (Some name) (Some followed) v call w = (r : Result (Unit {0}) RequestError) ×
+      CallGoes v (FollowsRecorded name.id followed.id (place_at call.lane call.moment)) r w
 
   abbrev pub EnterGoes : Option SpanName → StateValue T → SpanCall → Reply → StateValue T → Type 0
   EnterGoes None v call reply w = (reply ≡ Done) × (w ≡ v)
-  EnterGoes (Some name) v call reply w = (r : Result (Unit {0}) RequestError) × CallGoes v (Entered name.id (place_at call.lane call.moment)) r w × (reply ≡ enter_reply r)
+  EnterGoes (Some name) v call reply w = (r : Result (Unit {0}) RequestError) ×
+      CallGoes v (Entered name.id (place_at call.lane call.moment)) r w × (reply ≡ enter_reply r)
 
   abbrev pub ExitGoes : Option SpanName → StateValue T → SpanCall → StateValue T → Type 0
   ExitGoes None v call w = w ≡ v
@@ -91,7 +98,8 @@ module _ {T : Type 0} (g : Ghosts T) where
 
   abbrev pub CloseGoes : Option SpanName → StateValue T → SpanCall → Reply → StateValue T → Type 0
   CloseGoes None v call reply w = (reply ≡ Closed false) × (w ≡ v)
-  CloseGoes (Some name) v call reply w = (r : Bool) × CallGoes v (CloseTried name.id (place_at call.lane call.moment)) r w × (reply ≡ Closed r)
+  CloseGoes (Some name) v call reply w = (r : Bool) × CallGoes v (CloseTried name.id (place_at call.lane call.moment)) r w ×
+      (reply ≡ Closed r)
 
   module _ (registry_of : T → RegistryValue) where
     -- a step that is not refused by reading

@@ -1,8 +1,8 @@
 //! Requests whose values are lent.
 
 use span_tracing_skeleton::{Parent, SpanName};
-use tracing_appender_folders::Moment;
 use tracing_core_fields::FieldValue;
+use tracing_core_moments::Moment;
 
 /// An event or a new span on a lane.
 #[derive(Clone, Copy, Debug)]

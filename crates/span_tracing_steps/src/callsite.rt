@@ -4,8 +4,7 @@ ghost use Rattle.tracing_core_fields.specs.Metadata.{plain_metadata};
 ghost use Rattle.span_tracing_steps.specs.Callsites.{own_metadata};
 
 use std::alloc::{AllocError, Global};
-use tracing_core_fields::{Identifier, Metadata, OwnedMetadata};
-use tracing_core_requests::{Callsite, Interest};
+use tracing_core_fields::{Callsite, Identifier, Interest, Metadata, OwnedMetadata};
 
 /// A copy of a callsite's metadata, with the interest that the hub tells it.
 #[derive(Drop)]
@@ -20,7 +19,7 @@ impl TraceCallsite {
     ///
     /// # Errors
     ///
-    /// Want of memory.
+    /// Out of memory.
     pub fn new(
         alloc: Global,
         identifier: Identifier,

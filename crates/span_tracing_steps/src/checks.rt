@@ -3,7 +3,10 @@ ghost use Rattle.std.specs.Prelude.{◌≡◌, not, Some, None, is_some};
 ghost use Rattle.std.specs.Option.{option_copied, option_map};
 ghost use Rattle.span_registry_layers_store.specs.Registries.{PlainSpan, kin_in};
 ghost use Rattle.span_registry_layers_store.specs.Spans.{found};
-ghost use Rattle.span_tracing_skeleton.specs.Machine.{call_refusal, callsite_of, count_refusal, enabled_refusal, first, follows_refusal, foreign_refusal, handle_refusal, handles_in, has_open, ids_refusal, knows_stack, lane_refusal, moment_refusal, named, open_refusal, pair_refusal, parent_refusal, registry_at, span_refusal, stack_refusal, when};
+ghost use Rattle.span_tracing_skeleton.specs.Machine.{call_refusal, callsite_of, count_refusal, enabled_refusal, first, follows_refusal};
+ghost use Rattle.span_tracing_skeleton.specs.Machine.{foreign_refusal, handle_refusal, handles_in, has_open, ids_refusal, knows_stack};
+ghost use Rattle.span_tracing_skeleton.specs.Machine.{lane_refusal, moment_refusal, named, open_refusal, pair_refusal, parent_refusal};
+ghost use Rattle.span_tracing_skeleton.specs.Machine.{registry_at, span_refusal, stack_refusal, when};
 ghost use Rattle.span_tracing_skeleton.specs.declared.refusal.Refusal.TheVariants.{GlobalSet, UnknownStack};
 ghost use Rattle.span_tracing_skeleton.specs.PlainData.{on_span};
 ghost use Rattle.span_tracing_steps.specs.Actions.{plain_record};
@@ -14,16 +17,16 @@ use crate::parts::TraceParts;
 use span_tracing_skeleton::{
     EnabledCall, FollowsCall, HasRegistry, Parent, Refusal, SpanCall, SpanName,
 };
-use tracing_appender_folders::Moment;
-use tracing_core_hub::CallsiteIndex;
-use tracing_core_requests::Subscriber;
+use tracing_core::CallsiteIndex;
+use tracing_core_fields::Subscriber;
+use tracing_core_moments::Moment;
 
 impl<T: Subscriber + HasRegistry> TraceParts<T> {
-    ghost use Rattle.span_tracing_steps.specs.Sound.{IsSound};
+    ghost use Rattle.span_tracing_steps.specs.TraceInvariant.{IsSound};
 
     // The stack with this number, where it was given.
     #[inline(always)]
-    #[tactic(auto, using(crate::proofs::Bare::registry_by))]
+    #[tactic(auto, using(crate::proofs::SlotlessRegistry::registry_by))]
     fn stack_at(&self, number: usize) -> Option<&T>
         ensures { registry_in T.registry_of (option_copied result) ≡ registry_at (skeleton_of T.registry_of (value_in self.now)) number }
     {
@@ -32,7 +35,7 @@ impl<T: Subscriber + HasRegistry> TraceParts<T> {
 
     /// Whether the span is open.
     #[inline(never)]
-    #[tactic(auto, using(crate::proofs::Bare::open_bare))]
+    #[tactic(auto, using(crate::proofs::SlotlessRegistry::open_bare))]
     fn is_open(&self, name: SpanName) -> bool
         ensures { result ≡ has_open (skeleton_of T.registry_of (value_in self.now)) name }
     {
@@ -43,7 +46,7 @@ impl<T: Subscriber + HasRegistry> TraceParts<T> {
     }
 
     /// How many handles the span has, and 0 where it is not open.
-    #[tactic(auto, using(crate::proofs::Bare::handles_bare))]
+    #[tactic(auto, using(crate::proofs::SlotlessRegistry::handles_bare))]
     fn handles_of(&self, name: SpanName) -> usize
         ensures { result ≡ handles_in (skeleton_of T.registry_of (value_in self.now)) name }
     {
@@ -54,7 +57,7 @@ impl<T: Subscriber + HasRegistry> TraceParts<T> {
     }
 
     // The identifier of an open span's callsite.
-    #[tactic(auto, using(crate::proofs::Bare::number_bare))]
+    #[tactic(auto, using(crate::proofs::SlotlessRegistry::number_bare))]
     fn number_of(&self, name: SpanName) -> Option<u64>
         ensures { result ≡ option_map (λ (s : PlainSpan). s.metadata.callsite)
             (found kin_in (registry_at (skeleton_of T.registry_of (value_in self.now)) name.stack).spans name.id) }
@@ -81,7 +84,7 @@ impl<T: Subscriber + HasRegistry> TraceParts<T> {
         }
     }
 
-    #[tactic(auto, using(crate::proofs::Bare::first_alone))]
+    #[tactic(auto, using(crate::proofs::SlotlessRegistry::first_alone))]
     fn knows_stack(&self, stack: usize) -> bool
         ensures { result ≡ knows_stack (skeleton_of T.registry_of (value_in self.now)) stack }
     {
@@ -111,7 +114,7 @@ impl<T: Subscriber + HasRegistry> TraceParts<T> {
     }
 
     /// The refusal of a lane, and then of a moment.
-    #[tactic(auto, using(crate::proofs::Bare::length_map))]
+    #[tactic(auto, using(crate::proofs::SlotlessRegistry::length_map))]
     pub(crate) fn place_refusal(&self, lane: usize, moment: Moment) -> Option<Refusal>
         ensures { result ≡ first (lane_refusal (skeleton_of T.registry_of (value_in self.now)) lane)
             (moment_refusal moment) }

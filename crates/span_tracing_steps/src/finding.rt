@@ -1,18 +1,17 @@
 //! Where callsites stand, and which requests at them are refused.
 ghost use Rattle.std.specs.Prelude.{◌≡◌, false, true, if◌then◌else◌, IfSome, None, Ok, Some, is_some};
 ghost use Rattle.span_tracing_skeleton.specs.Machine.{if_kind, known, named};
-ghost use Rattle.span_tracing_steps.specs.Finding.{FoundFor};
+ghost use Rattle.span_tracing_steps.specs.RequestTarget.{FoundFor};
 ghost use Rattle.span_tracing_steps.specs.States.{at_index, skeleton_of, value_in};
 
 use crate::action::Request;
 use crate::parts::TraceParts;
 use span_tracing_skeleton::{HasRegistry, Parent, Refusal};
-use tracing_core_fields::Identifier;
-use tracing_core_hub::CallsiteIndex;
-use tracing_core_requests::Subscriber;
+use tracing_core::CallsiteIndex;
+use tracing_core_fields::{Identifier, Subscriber};
 
 impl<T: Subscriber + HasRegistry> TraceParts<T> {
-    ghost use Rattle.span_tracing_steps.specs.Sound.{IsSound};
+    ghost use Rattle.span_tracing_steps.specs.TraceInvariant.{IsSound};
 
     /// Where the callsite with the identifier stands.
     #[tactic(auto, using(crate::proofs::Callsites::index_names, crate::proofs::Callsites::index_there))]

@@ -6,12 +6,11 @@ ghost use Rattle.span_tracing_steps.specs.States.{at_index, value_in};
 
 use crate::parts::TraceParts;
 use span_tracing_skeleton::HasRegistry;
-use tracing_core_fields::Identifier;
-use tracing_core_hub::CallsiteIndex;
-use tracing_core_requests::Subscriber;
+use tracing_core::CallsiteIndex;
+use tracing_core_fields::{Identifier, Subscriber};
 
 impl<T: Subscriber + HasRegistry> TraceParts<T> {
-    ghost use Rattle.span_tracing_steps.specs.Sound.{IsSound};
+    ghost use Rattle.span_tracing_steps.specs.TraceInvariant.{IsSound};
 
     /// Where the callsite with the identifier stands, where it is registered.
     pub fn callsite(&self, identifier: Identifier) -> Option<CallsiteIndex>

@@ -14,5 +14,5 @@ mod spans;
 
 pub use action::{RecordRequest, Request};
 pub use callsite::TraceCallsite;
-pub use laws::words_stay;
+pub use laws::cache_stays_valid;
 pub use parts::{Thread, TraceParts};

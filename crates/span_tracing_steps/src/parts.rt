@@ -5,8 +5,8 @@ ghost use Rattle.std.specs.Option.{option_copied};
 use crate::callsite::TraceCallsite;
 use span_tracing_skeleton::HasRegistry;
 use std::alloc::Global;
-use tracing_core_hub::{Dispatch, Hub};
-use tracing_core_requests::Subscriber;
+use tracing_core::{Dispatch, Hub};
+use tracing_core_fields::Subscriber;
 
 /// A lane's name and thread.
 #[derive(Debug, Drop)]
@@ -39,7 +39,7 @@ impl<T: Drop> Drop for TraceParts<T> {
 }
 
 impl<T: Subscriber> TraceParts<T> {
-    ghost use Rattle.span_tracing_steps.specs.Sound.{IsSound};
+    ghost use Rattle.span_tracing_steps.specs.TraceInvariant.{IsSound};
     ghost use Rattle.span_tracing_steps.specs.States.{stack_in};
 
     /// The allocator that was given at first.

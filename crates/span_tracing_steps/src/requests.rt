@@ -1,24 +1,23 @@
 //! Events, questions and new spans.
 ghost use Rattle.std.specs.Prelude.{◌≡◌, IsTrue, None, Ok, Some, false, true};
 ghost use Rattle.tracing_core_fields.specs.OwnedValues.{owned_entries};
-ghost use Rattle.tracing_core_hub.specs.Indexed.{plain_parent};
-ghost use Rattle.tracing_core_requests.specs.PlainRequests.{explicit_parent};
+ghost use Rattle.tracing_core.specs.IndexedRequests.{plain_parent};
+ghost use Rattle.tracing_core_fields.specs.requests.PlainRequests.{explicit_parent};
 ghost use Rattle.span_tracing_skeleton.specs.Machine.{or_refused, told_parent};
 ghost use Rattle.span_tracing_skeleton.specs.declared.call.Reply.TheVariants.{Done};
 ghost use Rattle.span_tracing_skeleton.specs.PlainData.{EnabledStep, EventStep, SpanStep};
 ghost use Rattle.span_tracing_steps.specs.Actions.{plain_request};
-ghost use Rattle.span_tracing_steps.specs.Finding.{FoundFor, StaysAt};
+ghost use Rattle.span_tracing_steps.specs.RequestTarget.{FoundFor, StaysAt};
 ghost use Rattle.span_tracing_steps.specs.States.{at_index, value_in};
 ghost use Rattle.span_tracing_steps.specs.Steps.{StepGives, span_reply};
-ghost use Rattle.span_tracing_steps.specs.Telling.{named_as, place_at};
+ghost use Rattle.span_tracing_steps.specs.StackRequests.{named_as, place_at};
 
 use crate::action::Request;
 use crate::parts::TraceParts;
 use span_tracing_skeleton::{EnabledCall, HasRegistry, Parent, Refusal, Reply, SpanName};
-use tracing_appender_folders::Moment;
-use tracing_core_fields::{FieldValue, Id};
-use tracing_core_hub::{CallsiteIndex, RequestParent};
-use tracing_core_requests::{At, RequestError, Subscriber};
+use tracing_core::{CallsiteIndex, RequestParent};
+use tracing_core_fields::{FieldValue, Id, RequestError, Subscriber};
+use tracing_core_moments::{At, Moment};
 
 /// Where and when.
 pub(crate) fn at_of(lane: usize, moment: Moment) -> At
@@ -62,7 +61,7 @@ fn name_of(id: Option<Id>) -> Option<SpanName>
     }
 }
 
-// A parent was looked for, and that ids are left, so that only want of memory is new.
+// A parent was looked for, and that ids are left, so that only out of memory is new.
 fn reply_of(made: Result<Option<Id>, RequestError>) -> Reply
     ensures { result ≡ span_reply made }
 {
@@ -74,7 +73,7 @@ fn reply_of(made: Result<Option<Id>, RequestError>) -> Reply
 }
 
 impl<T: Subscriber + HasRegistry> TraceParts<T> {
-    ghost use Rattle.span_tracing_steps.specs.Sound.{IsSound};
+    ghost use Rattle.span_tracing_steps.specs.TraceInvariant.{IsSound};
 
     // Whether the stack stays as it is at each event of the callsite at the index under this parent.
     #[inline(always)]
@@ -121,7 +120,8 @@ impl<T: Subscriber + HasRegistry> TraceParts<T> {
         );
     }
 
-    // Hands an event to the stack, which is reached. It stands apart, so that an event that the stack ignores saves no registers for it.
+    // Hands an event to the stack, which is reached. It stands out of line, so that an event that the stack ignores saves no registers for
+    // it.
     #[inline(never)]
     fn hand(
         &mut self,

@@ -9,12 +9,11 @@ use crate::callsite::TraceCallsite;
 use crate::parts::{Thread, TraceParts};
 use span_tracing_skeleton::Refusal;
 use std::alloc::{AllocError, Global};
-use tracing_core_fields::{Identifier, Metadata};
-use tracing_core_hub::{AddError, Hub, RegisterError};
-use tracing_core_requests::{Interest, Subscriber};
+use tracing_core::{AddError, Hub, RegisterError};
+use tracing_core_fields::{Identifier, Interest, Metadata, Subscriber};
 
 impl<T: Subscriber> TraceParts<T> {
-    ghost use Rattle.span_tracing_steps.specs.Sound.{IsSound};
+    ghost use Rattle.span_tracing_steps.specs.TraceInvariant.{IsSound};
 
     /// No stack, no lane and no callsite.
     pub fn new(alloc: Global) -> TraceParts<T>
@@ -33,8 +32,8 @@ impl<T: Subscriber> TraceParts<T> {
     ///
     /// # Errors
     ///
-    /// Want of memory, which changes nothing.
-    #[tactic(auto, using(crate::proofs::Bare::length_map, crate::proofs::Bare::map_more))]
+    /// Out of memory, which changes nothing.
+    #[tactic(auto, using(crate::proofs::SlotlessRegistry::length_map, crate::proofs::SlotlessRegistry::map_more))]
     pub fn thread(&mut self, name: Option<String>, thread_id: u64) -> Result<usize, AllocError>
         requires { IsSound self.old }
         ensures sound { IsSound self.new }
@@ -80,7 +79,7 @@ impl<T: Subscriber> TraceParts<T> {
     ///
     /// # Errors
     ///
-    /// Want of memory, which changes nothing and gives the stack back.
+    /// Out of memory, which changes nothing and gives the stack back.
     pub fn add_stack(&mut self, stack: T) -> Result<(), T>
         requires sound { IsSound self.old }
         requires none { (value_in self.old).stack ≡ None }

@@ -9,10 +9,10 @@ use crate::action::RecordRequest;
 use crate::parts::TraceParts;
 use crate::requests::at_of;
 use span_tracing_skeleton::{FollowsCall, HasRegistry, Refusal, Reply, SpanCall};
-use tracing_core_requests::Subscriber;
+use tracing_core_fields::Subscriber;
 
 impl<T: Subscriber + HasRegistry> TraceParts<T> {
-    ghost use Rattle.span_tracing_steps.specs.Sound.{IsSound};
+    ghost use Rattle.span_tracing_steps.specs.TraceInvariant.{IsSound};
 
     /// Makes the stack with this handle the one that lanes reach.
     pub fn set_global_default(&mut self, handle: usize) -> Reply

@@ -1,1 +1,1 @@
-mod Current
+mod CurrentFileWrites

@@ -2,14 +2,14 @@
 use Rattle.std.specs.Prelude.{◌≡◌, ℕ, true, List, Option, Result}
 use Rattle.std.specs.Borrow.{Lends, MutBor, Fml, RattleType}
 use Rattle.std.specs.declared.io.Error.{Error}
-use Rattle.tracing_appender_rolling.specs.Moment.{Moment}
-use Rattle.tracing_appender_rolling.specs.Moments.{is_moment}
-use Rattle.tracing_appender_rolling.specs.FolderError.{FolderError}
-use Rattle.tracing_appender_rolling.specs.Contents.{Contents}
+use Rattle.tracing_core_moments.specs.declared.moment.Moment.{Moment}
+use Rattle.tracing_core_moments.specs.Moments.{is_moment}
+use Rattle.tracing_appender_rolling.specs.declared.folders.fault.FolderError.{FolderError}
+use Rattle.tracing_appender_rolling.specs.folders.Contents.{Contents}
 use Rattle.tracing_appender.specs.declared.clocked.ClockedAppender.{ClockedAppender}
 use Rattle.tracing_appender.specs.contracts.clocked.ClockedAppender.{the_row}
 use Rattle.tracing_appender.specs.Refusals.{Tells}
-use Rattle.tracing_appender.specs.Went.{FlushWent, LineWent, WriteWent}
+use Rattle.tracing_appender.specs.AppenderCalls.{FlushWent, LineWent, WriteWent}
 
 module _ {D C : Type 0} (contents : D → Option Contents) (failed : D → ℕ) (reads : C → Moment → C → Type 0) where
   -- the clock was read once, at the moment it told the appender wrote until all was taken, and its answer was told

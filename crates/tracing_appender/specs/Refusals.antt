@@ -4,10 +4,10 @@ use Rattle.std.specs.IoError.{error_kind}
 use Rattle.std.specs.declared.io.Error.{Error}
 use Rattle.std.specs.declared.io.ErrorKind.{ErrorKind}
 use Rattle.std.specs.declared.io.ErrorKind.TheVariants as kinds
-use Rattle.tracing_appender_rolling.specs.FolderError.{FolderError}
-use Rattle.tracing_appender_rolling.specs.FolderError.TheVariants.{Fault, OutOfMemory}
+use Rattle.tracing_appender_rolling.specs.declared.folders.fault.FolderError.{FolderError}
+use Rattle.tracing_appender_rolling.specs.declared.folders.fault.FolderError.TheVariants.{Fault, OutOfMemory}
 
--- a fault has a kind of its own, and want of memory that of want of memory
+-- a fault has a kind of its own, and out of memory that of running out of memory
 abbrev pub kind_of : FolderError → ErrorKind
 kind_of OutOfMemory = kinds.OutOfMemory
 kind_of (Fault fault) = kinds.Other

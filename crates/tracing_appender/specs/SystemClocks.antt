@@ -1,8 +1,8 @@
 -- What a reading of the machine's clock answers.
 use Rattle.std.specs.Prelude.{◌≡◌, ℕ, Option, unwrap_or}
-use Rattle.tracing_appender_rolling.specs.Moment.{Moment}
+use Rattle.tracing_core_moments.specs.declared.moment.Moment.{Moment}
 use Rattle.tracing_appender.specs.declared.system.SystemClock.{SystemClock}
-use Rattle.tracing_appender.specs.Told.{told}
+use Rattle.tracing_appender.specs.ClockMoments.{told}
 
 -- the machine told so many nanoseconds since 1970, or nothing; where that is no moment in range the last one is answered again
 pub record ReadsMachine {R : Type 0} (old : SystemClock R) (moment : Moment) (new : SystemClock R) : Type 0 where

@@ -1,9 +1,9 @@
 //! What tells the time.
 ghost use Rattle.std.specs.Prelude.{◌≡◌, true};
-ghost use Rattle.tracing_appender_rolling.specs.Moment.{Moment};
-ghost use Rattle.tracing_appender_rolling.specs.Moments.{is_moment};
+ghost use Rattle.tracing_core_moments.specs.declared.moment.Moment.{Moment};
+ghost use Rattle.tracing_core_moments.specs.Moments.{is_moment};
 
-use tracing_appender_rolling::Moment;
+use tracing_core_moments::Moment;
 
 /// Tells what moment it is.
 pub trait Clock: Drop {

@@ -7,7 +7,7 @@ ghost use Rattle.tracing_appender.specs.Clocked.{Flushed, LendsClock, WroteLine,
 
 use crate::clock::Clock;
 use crate::refusal::io_result;
-use event_formatter_makers::MakeWriter;
+use event_formatter_text::MakeWriter;
 use std::io;
 use std::io::Write;
 use tracing_appender_rolling::{Folder, RollingFileAppender};
@@ -52,7 +52,7 @@ impl<D: Folder, C: Clock> ClockedAppender<D, C> {
     }
 }
 
-/// A fault of the folder is an error of the kind `Other`, and want of memory one of the kind `OutOfMemory`. What the
+/// A fault of the folder is an error of the kind `Other`, and out of memory one of the kind `OutOfMemory`. What the
 /// appender's own calls promise of each holds here at the moment that the clock told.
 impl<D: Folder, C: Clock> Write for ClockedAppender<D, C> {
     /// Looks at the clock once, then as `RollingFileAppender::write_at` at the moment that it tells.

@@ -1,9 +1,9 @@
 //! A clock that is set by hand.
 ghost use Rattle.std.specs.Prelude.{◌≡◌, true};
-ghost use Rattle.tracing_appender_rolling.specs.Moments.{is_moment};
+ghost use Rattle.tracing_core_moments.specs.Moments.{is_moment};
 
 use crate::clock::Clock;
-use tracing_appender_rolling::Moment;
+use tracing_core_moments::Moment;
 
 /// A clock that stands at a moment until it is set to another, for tests and for replays.
 #[derive(Clone, Copy, Debug, Drop)]

@@ -19,12 +19,14 @@ pub use clocked::ClockedAppender;
 pub use fixed::FixedClock;
 pub use system::SystemClock;
 pub use tracing_appender_rolling::{
-    BadMoment, BuildError, BuildRefusal, Builder, DiskFolder, Entry, Faults, FaultyFolder,
-    FileEntry, FileNumber, Folder, FolderError, FolderFault, InitContext, InitError, MemoryFolder,
-    Moment, RollingFileAppender, Rotation, daily, date_text, dates_count_days, files_by_period,
-    files_go_by_tries, files_read_in_order, hourly, later_periods_are_due, lines_have_one_end,
-    lines_stand_whole, minutely, names_differ, names_rise, never, retention_spares_others, weekly,
-    worked_dates,
+    BuildError, BuildRefusal, Builder, DiskFolder, Entry, Faults, FaultyFolder, FileEntry,
+    FileNumber, Folder, FolderError, FolderFault, InitContext, InitError, MemoryFolder,
+    RollingFileAppender, Rotation, daily, files_by_period, files_go_by_tries, files_read_in_order,
+    hourly, later_periods_are_due, lines_have_one_end, lines_stand_whole, minutely, names_differ,
+    never, retention_spares_others, weekly,
+};
+pub use tracing_core_moments::{
+    BadMoment, Moment, date_text, dates_count_days, names_rise, worked_dates,
 };
 pub use writer::RollingWriter;
 

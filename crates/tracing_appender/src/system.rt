@@ -1,13 +1,13 @@
 //! The clock of the machine.
 ghost use Rattle.std.specs.Prelude.{◌≡◌, ℕ, Option, Some, true};
-ghost use Rattle.tracing_appender_rolling.specs.Moments.{is_moment};
+ghost use Rattle.tracing_core_moments.specs.Moments.{is_moment};
 ghost use Rattle.std.specs.Duration.{as_nanos};
-ghost use Rattle.tracing_appender.specs.Told.{told};
+ghost use Rattle.tracing_appender.specs.ClockMoments.{told};
 
 use crate::clock::Clock;
 use std::rt;
 use std::time::{Duration, SystemTime, UNIX_EPOCH};
-use tracing_appender_rolling::Moment;
+use tracing_core_moments::Moment;
 
 /// The clock of the machine, as a runtime reads it. Where it can't be read, or reads a moment before 1970 or after
 /// 9998-12-31, the clock answers again what it answered last, at first the moment that it was made with.

@@ -1,7 +1,7 @@
 //! Lines by a clock that is set, by one that runs, and by the machine's.
 
 ghost use Rattle.std.specs.Prelude.{◌≡◌, IfOk, true};
-ghost use Rattle.tracing_appender_rolling.specs.Moments.{is_moment};
+ghost use Rattle.tracing_core_moments.specs.Moments.{is_moment};
 
 mod clocks;
 mod refused;
@@ -11,7 +11,7 @@ use crate::{
     RollingFileAppender, Rotation,
 };
 use clocks::{FEBRUARY, HourClock};
-use event_formatter_makers::MakeWriter;
+use event_formatter_text::MakeWriter;
 use std::alloc::{AllocError, Global};
 use std::io;
 use std::io::Write;

@@ -2,15 +2,16 @@
 ghost use Rattle.std.specs.Prelude.{◌≡◌, None, OnOk, false, true};
 ghost use Rattle.std.specs.Io.{WritesAtMost};
 ghost use Rattle.std.specs.Io.KnownBytes.{Appends, Keeps, WriteAppends};
-ghost use Rattle.tracing_appender_rolling.specs.Moments.{is_due, is_moment};
-ghost use Rattle.tracing_appender.specs.Keeping.{KeptFlush, KeptLine, KeptOnce, LookedAt};
+ghost use Rattle.tracing_core_moments.specs.Moments.{is_due, is_moment};
+ghost use Rattle.tracing_appender.specs.CurrentFileWrites.{KeptFlush, KeptLine, KeptOnce, LookedAt};
 
 use crate::clock::Clock;
 use crate::clocked::ClockedAppender;
 use crate::refusal::io_result;
 use std::io;
 use std::io::Write;
-use tracing_appender_rolling::{Folder, Moment, RollingFileAppender};
+use tracing_appender_rolling::{Folder, RollingFileAppender};
+use tracing_core_moments::Moment;
 
 /// A writer to the file that was current when it was lent. It never changes the file, whatever the time gets to
 /// meanwhile, and reads no clock.
@@ -38,7 +39,7 @@ impl<D: Folder, C: Clock> ClockedAppender<D, C> {
     /// Looks at the clock once, changes the file where its period is over, and lends a writer to the current file.
     ///
     /// Where that fails the writer writes to the file before, as lines do until the period of that moment ends. A
-    /// folder's fault is counted then, and want of memory isn't.
+    /// folder's fault is counted then, and out of memory isn't.
     pub fn make_writer(&mut self) -> RollingWriter<'_, D, C>
         ensures loan { IsLoanOf self.entry result }
         ensures read { C.reads self.old.clock result.moment result.clocked.now.clock }
@@ -59,7 +60,7 @@ impl<D: Folder, C: Clock> Write for RollingWriter<'_, D, C> {
     ghost use Rattle.tracing_appender.specs.Writers.{IsSameWriter};
 
     /// As `RollingFileAppender::write_at` at the moment when the writer was lent.
-    #[tactic(auto, using(crate::proofs::Current::write_to_file))]
+    #[tactic(auto, using(crate::proofs::CurrentFileWrites::write_to_file))]
     fn write(&mut self, buf: &[u8]) -> io::Result<usize>
         ensures bound { WritesAtMost result buf.now }
         ensures bytes { WriteAppends None None result buf.now }
@@ -81,7 +82,7 @@ impl<D: Folder, C: Clock> Write for RollingWriter<'_, D, C> {
     }
 
     /// As `RollingFileAppender::write_all_at` at the moment when the writer was lent.
-    #[tactic(auto, using(crate::proofs::Current::line_to_file))]
+    #[tactic(auto, using(crate::proofs::CurrentFileWrites::line_to_file))]
     fn write_all(&mut self, buf: &[u8]) -> io::Result<()>
         ensures bytes { OnOk result (Appends None None buf.now) }
         ensures same { IsSameWriter self.old self.new }

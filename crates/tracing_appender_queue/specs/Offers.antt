@@ -14,6 +14,7 @@ Offers q line (Closed back) new = (accepts q ≡ false) × (q.lossy ≡ false) �
 
 -- the next line before the mark, else the mark at the head, else nothing
 abbrev pub Takes : Queue → Option Taken → Queue → Type 0
-Takes q (Some (Line n line)) new = (mark_next q ≡ false) × (n ≡ q.handed) × ((rest : List (List ℕ)) × (q.queued ≡ line.items ∷ rest) × (new ≡ line_taken q rest))
+Takes q (Some (Line n line)) new = (mark_next q ≡ false) × (n ≡ q.handed) ×
+    ((rest : List (List ℕ)) × (q.queued ≡ line.items ∷ rest) × (new ≡ line_taken q rest))
 Takes q (Some Mark) new = (mark_next q ≡ true) × (new ≡ closed q)
 Takes q None new = (mark_next q ≡ false) × (q.queued ≡ []) × (new ≡ q)

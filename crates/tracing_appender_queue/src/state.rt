@@ -1,7 +1,9 @@
 //! The state of a queue.
 
-ghost use Rattle.std.specs.Prelude.{◌≡◌, ◌+◌, ◌≤◌, ◌<◌, ℕ, List, [], IfOk, OnErr, IfErr, OnOk, length, map, true, false, IsErrOf, ◌↔◌, if◌then◌else◌};
-ghost use Rattle.tracing_appender_queue.specs.Queue.{Queue, new_queue, accepts, accepted, after_offer, after_take, after_mark, mark_next, at_head, one_less};
+ghost use Rattle.std.specs.Prelude.{◌≡◌, ◌+◌, ◌≤◌, ◌<◌, ℕ, List, [], IfOk, OnErr, IfErr, OnOk, length, map, true, false, IsErrOf, ◌↔◌};
+ghost use Rattle.std.specs.Prelude.{if◌then◌else◌};
+ghost use Rattle.tracing_appender_queue.specs.Queue.{Queue, new_queue, accepts, accepted, after_offer, after_take, after_mark, mark_next};
+ghost use Rattle.tracing_appender_queue.specs.Queue.{at_head, one_less};
 ghost use Rattle.tracing_appender_queue.specs.Offers.{Offers, Takes};
 
 use std::alloc::{AllocFailed, Global};
@@ -105,7 +107,7 @@ impl QueueState {
     ///
     /// # Errors
     ///
-    /// Want of memory, with the line; nothing is changed.
+    /// Out of memory, with the line; nothing is changed.
     pub fn offer(&mut self, line: Vec<u8>) -> Result<Offered, AllocFailed<Vec<u8>>>
         ensures ok { IfOk result (λ offered. Offers self.old line.items offered self.new) }
         ensures next { OnOk result (self.new ≡ after_offer self.old line.items) }

@@ -7,8 +7,8 @@ use Rattle.std.specs.declared.cmp.Ordering.TheVariants.{Less, Equal, Greater}
 use Rattle.std.proofs.lemmas.Bool.{ltb-true, ltb-false}
 use Rattle.std.proofs.lemmas.Cmp.{nat_list_cmp_total}
 use Rattle.jiff_core.proofs.SignedLemmas.{signed_arith}
-use Rattle.tracing_appender_folders.specs.declared.moment.Moment.{Moment}
-use Rattle.tracing_appender_folders.specs.Moments.{is_earlier}
+use Rattle.tracing_core_moments.specs.declared.moment.Moment.{Moment}
+use Rattle.tracing_core_moments.specs.Moments.{is_earlier}
 use Rattle.tracing_appender_rolling.specs.Retention.{PlainCandidate, is_before}
 
 -- an earlier moment, and the same one
@@ -25,16 +25,19 @@ first_true false b e = cc
 pub to_earlier : (a b : Moment) → is_earlier a b ≡ true → Earlier a b
 to_earlier a b e = by_case (int_le b.seconds a.seconds) refl e
   where
-    by_case : (t : Bool) → int_le b.seconds a.seconds ≡ t → cond t (int_le a.seconds b.seconds && nat_lt a.nanoseconds b.nanoseconds) true ≡ true → Earlier a b
+    by_case : (t : Bool) → int_le b.seconds a.seconds ≡ t → cond t (int_le a.seconds b.seconds && nat_lt a.nanoseconds b.nanoseconds)
+        true ≡ true → Earlier a b
     by_case true h f =
         let both = first_true (int_le a.seconds b.seconds) (nat_lt a.nanoseconds b.nanoseconds) f in
         inr (omega (arith, signed_arith, h, both.0), ltb-true a.nanoseconds b.nanoseconds both.1)
     by_case false h f = inl (omega (arith, signed_arith, h))
 
 pub to_no_earlier : (a b : Moment) → is_earlier a b ≡ false → NoEarlier a b
-to_no_earlier a b e = by_case (int_le b.seconds a.seconds) (int_le a.seconds b.seconds) (nat_lt a.nanoseconds b.nanoseconds) refl refl refl e
+to_no_earlier a b e = by_case (int_le b.seconds a.seconds) (int_le a.seconds b.seconds) (nat_lt a.nanoseconds b.nanoseconds) refl refl refl
+    e
   where
-    by_case : (t u v : Bool) → int_le b.seconds a.seconds ≡ t → int_le a.seconds b.seconds ≡ u → nat_lt a.nanoseconds b.nanoseconds ≡ v → cond t (u && v) true ≡ false → NoEarlier a b
+    by_case : (t u v : Bool) → int_le b.seconds a.seconds ≡ t → int_le a.seconds b.seconds ≡ u → nat_lt a.nanoseconds b.nanoseconds ≡ v →
+        cond t (u && v) true ≡ false → NoEarlier a b
     by_case false u v h k l f = cc
     by_case true false v h k l f = inl (omega (arith, signed_arith, k))
     by_case true true true h k l f = cc
@@ -72,7 +75,8 @@ less_is Greater e = cc
 pub to_before : (a b : PlainCandidate) → is_before a b ≡ true → Earlier a.made b.made ⊎ NameBefore a b
 to_before a b e = by_case (is_earlier a.made b.made) (is_earlier b.made a.made) refl refl e
   where
-    by_case : (t u : Bool) → is_earlier a.made b.made ≡ t → is_earlier b.made a.made ≡ u → (t || (not u && is_lt (slice_cmp nat_cmp a.name b.name))) ≡ true → Earlier a.made b.made ⊎ NameBefore a b
+    by_case : (t u : Bool) → is_earlier a.made b.made ≡ t → is_earlier b.made a.made ≡ u →
+        (t || (not u && is_lt (slice_cmp nat_cmp a.name b.name))) ≡ true → Earlier a.made b.made ⊎ NameBefore a b
     by_case true u h k f = inl (to_earlier a.made b.made h)
     by_case false true h k f = cc
     by_case false false h k f = inr (to_no_earlier b.made a.made k, less_is (slice_cmp nat_cmp a.name b.name) f)
@@ -82,7 +86,8 @@ either_true true = refl
 either_true false = refl
 
 pub from_before : (a b : PlainCandidate) → Earlier a.made b.made ⊎ NameBefore a b → is_before a b ≡ true
-from_before a b (inl earlier) = ap (λ t. t || (not (is_earlier b.made a.made) && is_lt (slice_cmp nat_cmp a.name b.name))) (from_earlier a.made b.made earlier)
+from_before a b (inl earlier) = ap (λ t. t || (not (is_earlier b.made a.made) && is_lt (slice_cmp nat_cmp a.name b.name)))
+    (from_earlier a.made b.made earlier)
 from_before a b (inr (late, less)) =
     ap (λ t. is_earlier a.made b.made || (not t && is_lt (slice_cmp nat_cmp a.name b.name))) (from_no_earlier b.made a.made late)
     ∙ ap (λ o. is_earlier a.made b.made || is_lt o) less
@@ -120,4 +125,5 @@ before_then a b c first second = from_before a c (by_case (to_before a b first) 
     by_case (inl x) (inl y) = inl (earlier_then a.made b.made c.made x y)
     by_case (inl x) (inr (late, less)) = inl (earlier_not a.made b.made c.made x late)
     by_case (inr (late, less)) (inl y) = inl (not_earlier a.made b.made c.made late y)
-    by_case (inr (late, less)) (inr (later, more)) = inr (not_then a.made b.made c.made late later, nat_list_cmp_total.trans a.name b.name c.name less more)
+    by_case (inr (late, less)) (inr (later, more)) =
+        inr (not_then a.made b.made c.made late later, nat_list_cmp_total.trans a.name b.name c.name less more)

@@ -5,15 +5,15 @@ use Rattle.std.proofs.lemmas.Bool.{false_from_ne_true, true_from_ne_false}
 use Rattle.std.proofs.Common.{w64, to_z, of_z}
 use Rattle.std.proofs.lemmas.Int.{to_z-of_z}
 use Rattle.jiff_core.proofs.SignedLemmas.{signed_arith, fits_between}
-use Rattle.tracing_appender_dates.proofs.Range.{second_range}
-use Rattle.tracing_appender_dates.specs.declared.period.PeriodKind.{PeriodKind}
-use Rattle.tracing_appender_dates.specs.declared.period.PeriodKind.TheVariants.{Minute, Hour, Day, Week, Whole}
-use Rattle.tracing_appender_dates.specs.Days.{is_second}
-use Rattle.tracing_appender_dates.specs.Periods.{period_of, first_second}
-use Rattle.tracing_appender_dates.specs.Stamps.{stamp, or_itself}
-use Rattle.tracing_appender_dates.specs.Names as dated
-use Rattle.tracing_appender_folders.specs.declared.moment.Moment.{Moment}
-use Rattle.tracing_appender_folders.specs.Moments.{period_at, end_of, is_due, is_earlier, latest_of, is_moment}
+use Rattle.tracing_core_moments.proofs.Range.{second_range}
+use Rattle.tracing_core_moments.specs.declared.period.PeriodKind.{PeriodKind}
+use Rattle.tracing_core_moments.specs.declared.period.PeriodKind.TheVariants.{Minute, Hour, Day, Week, Whole}
+use Rattle.tracing_core_moments.specs.Days.{is_second}
+use Rattle.tracing_core_moments.specs.Periods.{period_of, first_second}
+use Rattle.tracing_core_moments.specs.Stamps.{stamp, or_itself}
+use Rattle.tracing_core_moments.specs.Names as dated
+use Rattle.tracing_core_moments.specs.declared.moment.Moment.{Moment}
+use Rattle.tracing_core_moments.specs.Moments.{period_at, end_of, is_due, is_earlier, latest_of, is_moment}
 use Rattle.tracing_appender_rolling.specs.Names.{FileNames, joined, file_name}
 use Rattle.tracing_appender_rolling.specs.Looks.{LaterPeriodsAreDue}
 
@@ -28,7 +28,8 @@ moment_second m is = first_holds (is_second m.seconds) (nat_lt m.nanoseconds 100
 pub earlier_seconds : (a b : Moment) → is_earlier a b ≡ true → a.seconds ≤ℤ b.seconds
 earlier_seconds a b e = by_case (int_le b.seconds a.seconds) refl e
   where
-    by_case : (t : Bool) → int_le b.seconds a.seconds ≡ t → cond t (int_le a.seconds b.seconds && nat_lt a.nanoseconds b.nanoseconds) true ≡ true → a.seconds ≤ℤ b.seconds
+    by_case : (t : Bool) → int_le b.seconds a.seconds ≡ t → cond t (int_le a.seconds b.seconds && nat_lt a.nanoseconds b.nanoseconds)
+        true ≡ true → a.seconds ≤ℤ b.seconds
     by_case true h f = omega (arith, signed_arith, first_holds (int_le a.seconds b.seconds) (nat_lt a.nanoseconds b.nanoseconds) f)
     by_case false h f = omega (arith, signed_arith, h)
 
@@ -70,7 +71,8 @@ later_due kind r s = (past kind r s, λ lt. true_from_ne_false (is_due (end_of k
 latest_seconds : (r m : Moment) → m.seconds ≤ℤ (latest_of r m).seconds
 latest_seconds r m = by_case (is_earlier r m) refl
   where
-    not_earlier : (t : Bool) → int_le m.seconds r.seconds ≡ t → cond t (int_le r.seconds m.seconds && nat_lt r.nanoseconds m.nanoseconds) true ≡ false → m.seconds ≤ℤ r.seconds
+    not_earlier : (t : Bool) → int_le m.seconds r.seconds ≡ t → cond t (int_le r.seconds m.seconds && nat_lt r.nanoseconds m.nanoseconds)
+        true ≡ false → m.seconds ≤ℤ r.seconds
     not_earlier true h f = omega (arith, signed_arith, h)
     not_earlier false h f = cc
 
@@ -81,14 +83,17 @@ latest_seconds r m = by_case (is_earlier r m) refl
 pub latest_not_due : (kind : PeriodKind) (r m : Moment) → is_due (end_of kind (period_at kind (latest_of r m))) m.seconds ≡ false
 latest_not_due kind r m =
     let le = latest_seconds r m in
-    false_from_ne_true (is_due (end_of kind (period_at kind (latest_of r m))) m.seconds) (λ e. let more = beyond kind (latest_of r m).seconds m.seconds e in omega (arith, signed_arith, le, more))
+    false_from_ne_true (is_due (end_of kind (period_at kind (latest_of r m))) m.seconds)
+    (λ e. let more = beyond kind (latest_of r m).seconds m.seconds e in omega (arith, signed_arith, le, more))
 
 pub own_not_due : (kind : PeriodKind) (m : Moment) → is_due (end_of kind (period_at kind m)) m.seconds ≡ false
 own_not_due kind m =
-    false_from_ne_true (is_due (end_of kind (period_at kind m)) m.seconds) (λ e. let more = beyond kind m.seconds m.seconds e in omega (arith, signed_arith, more))
+    false_from_ne_true (is_due (end_of kind (period_at kind m)) m.seconds) (λ e. let more = beyond kind m.seconds m.seconds e in
+    omega (arith, signed_arith, more))
 
 -- a moment before the end of the greatest one's period leaves that period
-pub same_period : (kind : PeriodKind) (r m : Moment) → is_due (end_of kind (period_at kind r)) m.seconds ≡ false → period_at kind (latest_of r m) ≡ period_at kind r
+pub same_period : (kind : PeriodKind) (r m : Moment) → is_due (end_of kind (period_at kind r)) m.seconds ≡ false →
+    period_at kind (latest_of r m) ≡ period_at kind r
 same_period kind r m e = by_case (is_earlier r m) refl
   where
     by_case : (b : Bool) → is_earlier r m ≡ b → period_at kind (cond b m r) ≡ period_at kind r
@@ -102,19 +107,23 @@ later_period kind r m e =
     let after = false_from_ne_true (int_le m.seconds r.seconds) (λ h. omega (arith, signed_arith, h, more)) in
     ap (λ t. cond (cond t (int_le r.seconds m.seconds && nat_lt r.nanoseconds m.nanoseconds) true) m r) after
 
-name_by_kind : (kind : PeriodKind) (prefix suffix : Option (List ℕ)) (s : ℤ) → dated.name_at kind prefix suffix s ≡ joined kind prefix (stamp kind (or_itself (first_second kind (period_of kind s)) s)) suffix
+name_by_kind : (kind : PeriodKind) (prefix suffix : Option (List ℕ)) (s : ℤ) →
+    dated.name_at kind prefix suffix s ≡ joined kind prefix (stamp kind (or_itself (first_second kind (period_of kind s)) s)) suffix
 name_by_kind Minute prefix suffix s = refl
 name_by_kind Hour prefix suffix s = refl
 name_by_kind Day prefix suffix s = refl
 name_by_kind Week prefix suffix s = refl
 name_by_kind Whole prefix suffix s = refl
 
-pub name_is : (names : FileNames) (s : ℤ) → dated.name_at names.kind names.prefix names.suffix s ≡ file_name names s (period_of names.kind s)
+pub name_is : (names : FileNames) (s : ℤ) → dated.name_at names.kind names.prefix names.suffix s ≡ file_name names s
+    (period_of names.kind s)
 unfolding file_name
 name_is names s = name_by_kind names.kind names.prefix names.suffix s
 
 -- the opening has no part in the name where there is more than one period
-free_by_kind : (kind : PeriodKind) (prefix suffix : Option (List ℕ)) (a b p q s : ℤ) → is_due (end_of kind q) s ≡ true → joined kind prefix (stamp kind (or_itself (first_second kind p) a)) suffix ≡ joined kind prefix (stamp kind (or_itself (first_second kind p) b)) suffix
+free_by_kind : (kind : PeriodKind) (prefix suffix : Option (List ℕ)) (a b p q s : ℤ) → is_due (end_of kind q) s ≡ true →
+    joined kind prefix (stamp kind (or_itself (first_second kind p) a)) suffix ≡ joined kind prefix
+    (stamp kind (or_itself (first_second kind p) b)) suffix
 free_by_kind Minute prefix suffix a b p q s e = refl
 free_by_kind Hour prefix suffix a b p q s e = refl
 free_by_kind Day prefix suffix a b p q s e = refl
@@ -127,4 +136,5 @@ opening_free names a b p q s e = free_by_kind names.kind names.prefix names.suff
 
 -- a moment's second as a function takes it
 pub taken_second : (m : Moment) → is_moment m ≡ true → to_z w64 (of_z w64 m.seconds) ≡ m.seconds
-taken_second m is = let r = second_range m.seconds (moment_second m is) in to_z-of_z w64 m.seconds (fits_between w64 m.seconds (omega (arith, signed_arith, r.0, r.1)))
+taken_second m is = let r = second_range m.seconds (moment_second m is) in
+    to_z-of_z w64 m.seconds (fits_between w64 m.seconds (omega (arith, signed_arith, r.0, r.1)))

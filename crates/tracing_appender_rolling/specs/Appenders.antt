@@ -1,19 +1,19 @@
 -- What an appender stands for, and what its building leaves, whatever the folder refuses.
 use Rattle.std.specs.Prelude.{◌≡◌, ℤ, Option, Some, None, Result, Ok, Err}
-use Rattle.tracing_appender_folders.specs.declared.moment.Moment.{Moment}
-use Rattle.tracing_appender_folders.specs.declared.fault.FileNumber.{FileNumber}
-use Rattle.tracing_appender_folders.specs.declared.fault.FolderError.{FolderError}
-use Rattle.tracing_appender_folders.specs.declared.fault.FolderError.TheVariants.{Fault, OutOfMemory}
-use Rattle.tracing_appender_folders.specs.declared.fault.FolderFault.{FolderFault}
+use Rattle.tracing_core_moments.specs.declared.moment.Moment.{Moment}
+use Rattle.tracing_appender_rolling.specs.declared.folders.fault.FileNumber.{FileNumber}
+use Rattle.tracing_appender_rolling.specs.declared.folders.fault.FolderError.{FolderError}
+use Rattle.tracing_appender_rolling.specs.declared.folders.fault.FolderError.TheVariants.{Fault, OutOfMemory}
+use Rattle.tracing_appender_rolling.specs.declared.folders.fault.FolderFault.{FolderFault}
 use Rattle.tracing_appender_rolling.specs.declared.init.InitContext.{InitContext}
 use Rattle.tracing_appender_rolling.specs.declared.faults.Faults.{Faults}
 use Rattle.tracing_appender_rolling.specs.declared.init.InitFailure.{InitFailure}
 use Rattle.tracing_appender_rolling.specs.declared.appender.Opened.{Opened}
 use Rattle.tracing_appender_rolling.specs.declared.appender.RollingFileAppender.{RollingFileAppender}
 use Rattle.tracing_appender_rolling.specs.Names.{FileNames}
-use Rattle.tracing_appender_folders.specs.Contents.{Contents}
+use Rattle.tracing_appender_rolling.specs.folders.Contents.{Contents}
 use Rattle.tracing_appender_rolling.specs.Faults.{no_faults}
-use Rattle.tracing_appender_rolling.specs.Pruning.{pruned}
+use Rattle.tracing_appender_rolling.specs.RetentionRemovals.{pruned}
 use Rattle.tracing_appender_rolling.specs.Tries.{failure}
 use Rattle.tracing_appender_rolling.specs.Looks.{Held, IsHeld, look_at, LookMissed, Starved, end_at, try_at}
 
@@ -30,7 +30,8 @@ abbrev pub MissesAt : {D : Type 0} → (D → Option Contents) → FileNames →
 MissesAt contents names m h a = LookMissed names m h a.boundary a.current a.faults (contents a.folder)
 
 -- the appender stands where retention and the try at that moment left the folder
-pub record IsOpenedAt (names : FileNames) (m : Moment) (c : Contents) (current : FileNumber) (boundary : Option ℤ) (faults : Faults) (after : Option Contents) : Type 0 where
+pub record IsOpenedAt (names : FileNames) (m : Moment) (c : Contents) (current : FileNumber) (boundary : Option ℤ) (faults : Faults)
+    (after : Option Contents) : Type 0 where
   pub counts : faults ≡ (pruned names no_faults c).0
   pub answered : (try_at names m (pruned names no_faults c).1).0 ≡ Ok current
   pub left : after ≡ Some (try_at names m (pruned names no_faults c).1).1
@@ -42,7 +43,8 @@ IsOpened contents names m c a = IsOpenedAt names m c a.current a.boundary a.faul
 -- the try at that moment failed so, and left the folder so
 abbrev pub FailedTry : FileNames → Moment → Contents → InitContext → FolderFault → Option Contents → Type 0
 FailedTry names m c context fault after =
-    ((try_at names m (pruned names no_faults c).1).0 ≡ Err (failure context (Fault fault))) × (after ≡ Some (try_at names m (pruned names no_faults c).1).1)
+    ((try_at names m (pruned names no_faults c).1).0 ≡ Err (failure context (Fault fault))) ×
+    (after ≡ Some (try_at names m (pruned names no_faults c).1).1)
 
 -- or there was no memory
 abbrev pub FailedAt : FileNames → Moment → Contents → InitContext → FolderError → Option Contents → Type 0

@@ -1,8 +1,8 @@
 -- What a builder sets.
 use Rattle.std.specs.Prelude.{ℕ, List, None, string_bytes}
 use Rattle.std.specs.Option.{option_map}
-use Rattle.tracing_appender_dates.specs.declared.period.PeriodKind.{PeriodKind}
-use Rattle.tracing_appender_dates.specs.declared.period.PeriodKind.TheVariants.{Whole}
+use Rattle.tracing_core_moments.specs.declared.period.PeriodKind.{PeriodKind}
+use Rattle.tracing_core_moments.specs.declared.period.PeriodKind.TheVariants.{Whole}
 use Rattle.tracing_appender_rolling.specs.declared.rotation.Rotation.{Rotation}
 use Rattle.tracing_appender_rolling.specs.declared.builder.Builder.{Builder}
 use Rattle.tracing_appender_rolling.specs.Names.{FileNames, text_or_none}

@@ -1,9 +1,9 @@
 -- What a building answers.
 use Rattle.std.specs.Prelude.{◌≡◌, ℕ, true, false, Option, Some, Result, Ok, Err}
-use Rattle.tracing_appender_folders.specs.declared.moment.Moment.{Moment}
-use Rattle.tracing_appender_folders.specs.declared.fault.FolderError.{FolderError}
-use Rattle.tracing_appender_folders.specs.declared.fault.FolderError.TheVariants.{Fault}
-use Rattle.tracing_appender_folders.specs.declared.fault.FolderError.TheVariants as errors
+use Rattle.tracing_core_moments.specs.declared.moment.Moment.{Moment}
+use Rattle.tracing_appender_rolling.specs.declared.folders.fault.FolderError.{FolderError}
+use Rattle.tracing_appender_rolling.specs.declared.folders.fault.FolderError.TheVariants.{Fault}
+use Rattle.tracing_appender_rolling.specs.declared.folders.fault.FolderError.TheVariants as errors
 use Rattle.tracing_appender_rolling.specs.declared.init.InitContext.{InitContext}
 use Rattle.tracing_appender_rolling.specs.declared.init.InitError.{InitError}
 use Rattle.tracing_appender_rolling.specs.declared.build.BuildError.{BuildError}
@@ -12,11 +12,11 @@ use Rattle.tracing_appender_rolling.specs.declared.build.BuildRefusal.{BuildRefu
 use Rattle.tracing_appender_rolling.specs.declared.appender.RollingFileAppender.{RollingFileAppender}
 use Rattle.tracing_appender_rolling.specs.Names.{FileNames, is_bad_name, HasBadLink, HasGoodLink}
 use Rattle.tracing_appender_rolling.specs.Builders.{builder_names}
-use Rattle.tracing_appender_folders.specs.Contents.{Contents}
-use Rattle.tracing_appender_rolling.specs.Remaining.{KeepsEveryFile, MayOpen, HandsBack, OpensSink}
+use Rattle.tracing_appender_rolling.specs.folders.Contents.{Contents}
+use Rattle.tracing_appender_rolling.specs.PrunedSinks.{KeepsEveryFile, MayOpen, HandsBack, OpensSink}
 use Rattle.tracing_appender_rolling.specs.declared.faults.Faults.{Faults}
 use Rattle.tracing_appender_rolling.specs.Faults.{no_faults}
-use Rattle.tracing_appender_rolling.specs.Telling.{DoesNotFall, Rises, CountsRetention}
+use Rattle.tracing_appender_rolling.specs.FaultReports.{DoesNotFall, Rises, CountsRetention}
 use Rattle.tracing_appender_rolling.specs.Looks.{Starved}
 use Rattle.tracing_appender_rolling.specs.Appenders.{IsOpened, FailedAt}
 
@@ -24,8 +24,10 @@ abbrev pub build_error : InitContext → FolderError → BuildError
 build_error context (Fault fault) = Init (record { context = context; source = fault })
 build_error context errors.OutOfMemory = OutOfMemory
 
--- names are good, the appender stands where retention and the try at the moment left the folder, and it keeps its sink where the folder allows that
-pub record IsBuilt {D : Type 0} (contents : D → Option Contents) (failed : D → ℕ) (names : FileNames) (folder : D) (m : Moment) (a : RollingFileAppender D) : Type 0 where
+-- names are good, the appender stands where retention and the try at the moment left the folder, and it keeps its sink where the folder
+-- allows that
+pub record IsBuilt {D : Type 0} (contents : D → Option Contents) (failed : D → ℕ) (names : FileNames) (folder : D) (m : Moment)
+    (a : RollingFileAppender D) : Type 0 where
   pub good_name : is_bad_name names ≡ false
   pub good_link : HasGoodLink names
   pub names_same : builder_names a.builder ≡ names
@@ -33,13 +35,15 @@ pub record IsBuilt {D : Type 0} (contents : D → Option Contents) (failed : D �
   pub sink : (c : Contents) → contents folder ≡ Some c → MayOpen c names → OpensSink contents names m c a
   pub counted : CountsRetention (failed folder) no_faults a.faults (failed a.folder)
 
--- there was no memory: what the folder has then, which is the same bytes under each name where it refuses nothing and the sink keeps all files
+-- there was no memory: what the folder has then, which is the same bytes under each name where it refuses nothing and the sink keeps all
+-- files
 pub record IsStarved {D : Type 0} (contents : D → Option Contents) (names : FileNames) (folder : D) (m : Moment) (back : D) : Type 0 where
   pub left : (c : Contents) → contents folder ≡ Some c → (counted : Faults) × Starved names m no_faults c counted (contents back)
   pub handed_back : (c : Contents) → contents folder ≡ Some c → MayOpen c names → KeepsEveryFile names → HandsBack c names (contents back)
 
 -- a fault is that of the try, which fails over no folder that refuses nothing
-pub record IsFailed {D : Type 0} (contents : D → Option Contents) (names : FileNames) (folder : D) (m : Moment) (e : InitError) (back : D) : Type 0 where
+pub record IsFailed {D : Type 0} (contents : D → Option Contents) (names : FileNames) (folder : D) (m : Moment) (e : InitError)
+    (back : D) : Type 0 where
   pub failed : (c : Contents) → contents folder ≡ Some c → FailedAt names m c e.context (Fault e.source) (contents back)
   pub refused : (c : Contents) → contents folder ≡ Some c → MayOpen c names → ⊥
 
@@ -57,11 +61,13 @@ ReportsBuild n BadLinkName m = m ≡ n
 ReportsBuild n (Init e) m = Rises n m
 ReportsBuild n OutOfMemory m = DoesNotFall n m
 
-pub record IsRefused {D : Type 0} (contents : D → Option Contents) (failed : D → ℕ) (names : FileNames) (folder : D) (m : Moment) (r : BuildRefusal D) : Type 0 where
+pub record IsRefused {D : Type 0} (contents : D → Option Contents) (failed : D → ℕ) (names : FileNames) (folder : D) (m : Moment)
+    (r : BuildRefusal D) : Type 0 where
   pub names_same : builder_names r.builder ≡ names
   pub explained : Explains contents names folder m r.error r.folder
   pub told : ReportsBuild (failed folder) r.error (failed r.folder)
 
-abbrev pub Builds : {D : Type 0} → (D → Option Contents) → (D → ℕ) → FileNames → D → Moment → Result (RollingFileAppender D) (BuildRefusal D) → Type 0
+abbrev pub Builds : {D : Type 0} → (D → Option Contents) → (D → ℕ) → FileNames → D → Moment →
+    Result (RollingFileAppender D) (BuildRefusal D) → Type 0
 Builds contents failed names folder m (Ok a) = IsBuilt contents failed names folder m a
 Builds contents failed names folder m (Err r) = IsRefused contents failed names folder m r

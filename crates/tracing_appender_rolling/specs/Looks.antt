@@ -1,17 +1,17 @@
 -- A look at a moment, whatever the folder refuses.
 use Rattle.std.specs.Prelude.{◌≡◌, ◌⊎◌, ℤ, ◌<ℤ◌, List, ℕ, Bool, true, false, Option, Some, None, Result, Ok, Err}
-use Rattle.tracing_appender_dates.specs.declared.period.PeriodKind.{PeriodKind}
-use Rattle.tracing_appender_dates.specs.Periods.{period_of}
-use Rattle.tracing_appender_folders.specs.declared.moment.Moment.{Moment}
+use Rattle.tracing_core_moments.specs.declared.period.PeriodKind.{PeriodKind}
+use Rattle.tracing_core_moments.specs.Periods.{period_of}
+use Rattle.tracing_core_moments.specs.declared.moment.Moment.{Moment}
 use Rattle.tracing_appender_rolling.specs.declared.faults.Faults.{Faults}
-use Rattle.tracing_appender_folders.specs.declared.fault.FileNumber.{FileNumber}
-use Rattle.tracing_appender_folders.specs.declared.fault.FolderError.{FolderError}
-use Rattle.tracing_appender_folders.specs.declared.fault.FolderError.TheVariants.{Fault, OutOfMemory}
-use Rattle.tracing_appender_folders.specs.Moments.{period_at, end_of, is_due}
+use Rattle.tracing_appender_rolling.specs.declared.folders.fault.FileNumber.{FileNumber}
+use Rattle.tracing_appender_rolling.specs.declared.folders.fault.FolderError.{FolderError}
+use Rattle.tracing_appender_rolling.specs.declared.folders.fault.FolderError.TheVariants.{Fault, OutOfMemory}
+use Rattle.tracing_core_moments.specs.Moments.{period_at, end_of, is_due}
 use Rattle.tracing_appender_rolling.specs.Names.{FileNames, file_name}
-use Rattle.tracing_appender_folders.specs.Contents.{Contents, closed}
+use Rattle.tracing_appender_rolling.specs.folders.Contents.{Contents, closed}
 use Rattle.tracing_appender_rolling.specs.Faults.{after_switch}
-use Rattle.tracing_appender_rolling.specs.Pruning.{pruned, Unpruned}
+use Rattle.tracing_appender_rolling.specs.RetentionRemovals.{pruned, Unpruned}
 use Rattle.tracing_appender_rolling.specs.Tries.{Tried, MissedFile, opened_linked}
 
 -- an appender over a folder whose contents are known
@@ -58,7 +58,8 @@ tried h (Err f, c) = failed_by h c f.error
 
 -- after retention the moment's period is tried, and is the last one that was
 abbrev pub after_pruning : FileNames → Moment → Held → Faults × Contents → Held
-after_pruning names m h at = tried (record { boundary = end_at names m; current = h.current; faults = at.0; contents = at.1 }) (try_at names m at.1)
+after_pruning names m h at = tried (record { boundary = end_at names m; current = h.current; faults = at.0; contents = at.1 })
+    (try_at names m at.1)
 
 abbrev pub switch_at : FileNames → Moment → Held → Held
 switch_at names m h = after_pruning names m h (pruned names h.faults h.contents)
@@ -80,18 +81,22 @@ abbrev pub Starved : FileNames → Moment → Faults → Contents → Faults →
 Starved names m f c left after = ((left ≡ f) × (after ≡ Some c)) ⊎ (Unpruned names f c left after ⊎ StarvedTry names m f c left after)
 
 -- the switch left the one or the other
-abbrev pub SwitchedKnown : {E : Type 0} → FileNames → Moment → Held → Result (Unit {0}) E → Option ℤ → FileNumber → Faults → Option Contents → Type 0
+abbrev pub SwitchedKnown : {E : Type 0} → FileNames → Moment → Held → Result (Unit {0}) E → Option ℤ → FileNumber → Faults →
+    Option Contents → Type 0
 SwitchedKnown names m h (Ok done) boundary current faults after = IsHeld after boundary current faults (switch_at names m h)
 SwitchedKnown names m h (Err e) boundary current faults after = Starved names m h.faults h.contents faults after
 
 -- contents that aren't known stay so
-abbrev pub Switches : {E : Type 0} → FileNames → Moment → Option ℤ → FileNumber → Faults → Option Contents → Result (Unit {0}) E → Option ℤ → FileNumber → Faults → Option Contents → Type 0
+abbrev pub Switches : {E : Type 0} → FileNames → Moment → Option ℤ → FileNumber → Faults → Option Contents → Result (Unit {0}) E →
+    Option ℤ → FileNumber → Faults → Option Contents → Type 0
 Switches names m boundary current faults None result b f l after = after ≡ None
 Switches names m boundary current faults (Some c) result b f l after =
     SwitchedKnown names m (record { boundary = boundary; current = current; faults = faults; contents = c }) result b f l after
 
--- a look that found no memory: it was due, the end of the period has moved all the same, the file is the one before, and what was lost until then is counted
-pub record LookMissed (names : FileNames) (m : Moment) (h : Held) (boundary : Option ℤ) (current : FileNumber) (faults : Faults) (after : Option Contents) : Type 0 where
+-- a look that found no memory: it was due, the end of the period has moved all the same, the file is the one before, and what was lost
+-- until then is counted
+pub record LookMissed (names : FileNames) (m : Moment) (h : Held) (boundary : Option ℤ) (current : FileNumber) (faults : Faults)
+    (after : Option Contents) : Type 0 where
   pub due : is_due h.boundary m.seconds ≡ true
   pub until : boundary ≡ end_at names m
   pub open_file : current ≡ h.current

@@ -2,15 +2,16 @@
 use Rattle.std.specs.Prelude.{◌≡◌, ◌≢◌, ℕ, ℤ, List, [], ◌∷◌, Bool, true, false, ◌||◌, ◌==◌, if◌then◌else◌, Option, Some, None}
 use Rattle.std.specs.List.{list_any}
 use Rattle.std.specs.Str.{bytes_eq}
-use Rattle.tracing_appender_dates.specs.declared.period.PeriodKind.{PeriodKind}
-use Rattle.tracing_appender_dates.specs.declared.period.PeriodKind.TheVariants.{Minute, Hour, Day, Week, Whole}
-use Rattle.tracing_appender_dates.specs.Periods.{first_second}
-use Rattle.tracing_appender_dates.specs.Stamps.{stamp, or_itself}
-use Rattle.tracing_appender_dates.specs.Names.{around, lasting_name}
-use Rattle.tracing_appender_folders.specs.declared.moment.Moment.{Moment}
-use Rattle.tracing_appender_folders.specs.Moments.{is_moment, period_at}
+use Rattle.tracing_core_moments.specs.declared.period.PeriodKind.{PeriodKind}
+use Rattle.tracing_core_moments.specs.declared.period.PeriodKind.TheVariants.{Minute, Hour, Day, Week, Whole}
+use Rattle.tracing_core_moments.specs.Periods.{first_second}
+use Rattle.tracing_core_moments.specs.Stamps.{stamp, or_itself}
+use Rattle.tracing_core_moments.specs.Names.{around, lasting_name}
+use Rattle.tracing_core_moments.specs.declared.moment.Moment.{Moment}
+use Rattle.tracing_core_moments.specs.Moments.{is_moment, period_at}
 
--- how long a file's period is, what stands before and after the date in its name, how many files are kept, and the name of a link to the latest one
+-- how long a file's period is, what stands before and after the date in its name, how many files are kept, and the name of a link to the
+-- latest one
 pub record FileNames : Type 0 where
   pub kind : PeriodKind
   pub prefix : Option (List ℕ)
@@ -26,9 +27,11 @@ joined Day prefix date suffix = around prefix date suffix
 joined Week prefix date suffix = around prefix date suffix
 joined Whole prefix date suffix = lasting_name prefix date suffix
 
--- the name of a period's file, which has the date of the period's first second; where there is one period alone, that of the second of the opening
+-- the name of a period's file, which has the date of the period's first second; where there is one period alone, that of the second of the
+-- opening
 unfoldable pub file_name : FileNames → ℤ → ℤ → List ℕ
-file_name names opened period = joined names.kind names.prefix (stamp names.kind (or_itself (first_second names.kind period) opened)) names.suffix
+file_name names opened period = joined names.kind names.prefix (stamp names.kind (or_itself (first_second names.kind period) opened))
+    names.suffix
 
 -- an empty text means none
 abbrev pub text_or_none : List ℕ → Option (List ℕ)
@@ -61,7 +64,8 @@ is_lasting_dots _ prefix suffix = false
 -- prefix, suffix or link have a slash or a NUL, or the link or a log file would be `.` or `..`
 abbrev pub is_bad_name : FileNames → Bool
 is_bad_name names =
-    has_bad_byte names.prefix || has_bad_byte names.suffix || has_bad_byte names.latest || is_dots_or_none names.latest || is_lasting_dots names.kind names.prefix names.suffix
+    has_bad_byte names.prefix || has_bad_byte names.suffix || has_bad_byte names.latest || is_dots_or_none names.latest ||
+    is_lasting_dots names.kind names.prefix names.suffix
 
 -- the link has the name of a log file of some moment
 abbrev pub HasBadLink : FileNames → Type 0
@@ -73,4 +77,5 @@ HasGoodLink names = (m : Moment) → is_moment m ≡ true → names.latest ≢ S
 -- different periods have different names
 abbrev pub NamesDiffer : Type 0
 NamesDiffer = (names : FileNames) (opened : ℤ) (a b : Moment) → is_moment a ≡ true → is_moment b ≡ true →
-    file_name names opened (period_at names.kind a) ≡ file_name names opened (period_at names.kind b) → period_at names.kind a ≡ period_at names.kind b
+    file_name names opened (period_at names.kind a) ≡ file_name names opened (period_at names.kind b) →
+    period_at names.kind a ≡ period_at names.kind b

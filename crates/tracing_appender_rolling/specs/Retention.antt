@@ -1,15 +1,16 @@
 -- Which files retention may remove, and which of them go.
-use Rattle.std.specs.Prelude.{◌≡◌, ℕ, zero, suc, ◌+◌, ◌-◌, ℤ, pos, negsuc, ◌+ℤ◌, Bool, true, not, ◌&&◌, ◌||◌, nat_lt, if◌then◌else◌, List, [], ◌∷◌, length, take, drop, is_some, Option, Some, None}
+use Rattle.std.specs.Prelude.{◌≡◌, ℕ, zero, suc, ◌+◌, ◌-◌, ℤ, pos, negsuc, ◌+ℤ◌, Bool, true, not, ◌&&◌, ◌||◌, nat_lt, if◌then◌else◌, List}
+use Rattle.std.specs.Prelude.{[], ◌∷◌, length, take, drop, is_some, Option, Some, None}
 use Rattle.std.specs.Str.{bytes_eq}
 use Rattle.std.specs.Cmp.Lexicographic.{slice_cmp}
 use Rattle.std.specs.Ordering.{nat_cmp, is_lt}
-use Rattle.tracing_appender_dates.specs.Stamps.{stamp}
-use Rattle.tracing_appender_dates.specs.Names.{around}
-use Rattle.tracing_appender_folders.specs.declared.moment.Moment.{Moment}
+use Rattle.tracing_core_moments.specs.Stamps.{stamp}
+use Rattle.tracing_core_moments.specs.Names.{around}
+use Rattle.tracing_core_moments.specs.declared.moment.Moment.{Moment}
 use Rattle.tracing_appender_rolling.specs.declared.retention.Candidate.{Candidate}
-use Rattle.tracing_appender_folders.specs.Moments.{is_earlier}
+use Rattle.tracing_core_moments.specs.Moments.{is_earlier}
 use Rattle.tracing_appender_rolling.specs.Names.{FileNames}
-use Rattle.tracing_appender_folders.specs.Contents.{Listed}
+use Rattle.tracing_appender_rolling.specs.folders.Contents.{Listed}
 
 abbrev pub text_or_empty : Option (List ℕ) → List ℕ
 text_or_empty None = []
@@ -30,7 +31,8 @@ asked_prefix names = text_or_empty names.prefix
 -- the least second, from one on and among so many, whose stamp stands in the name between prefix and suffix, with a point between two
 abbrev pub dated_from : FileNames → List ℕ → ℕ → ℤ → Option ℤ
 dated_from names name zero s = None
-dated_from names name (suc n) s = if bytes_eq name (around names.prefix (stamp names.kind s) names.suffix) then Some s else dated_from names name n (s +ℤ pos 1)
+dated_from names name (suc n) s = if bytes_eq name (around names.prefix (stamp names.kind s) names.suffix) then Some s else dated_from names
+    name n (s +ℤ pos 1)
 
 -- the second that the date in a name tells, where it has one: the least of the years 0 to 9999 with that stamp
 unfoldable pub date_in : FileNames → List ℕ → Option ℤ
@@ -42,7 +44,8 @@ counted_from (Some made) date = Some made
 counted_from None (Some s) = Some (record { seconds = s; nanoseconds = 0 })
 counted_from None None = None
 
--- a plain file whose name begins with the prefix and ends with the suffix, and is a date where there are neither, counts from a moment; else there is none
+-- a plain file whose name begins with the prefix and ends with the suffix, and is a date where there are neither, counts from a moment;
+-- else there is none
 abbrev pub made_of : FileNames → Listed → Option ℤ → Option Moment
 made_of names l date =
     if l.plain && begins names.prefix l.name && ends names.suffix l.name && (is_some names.prefix || is_some names.suffix || is_some date)

@@ -3,9 +3,9 @@ use Rattle.std.specs.Prelude.{ℕ, ℤ, List, [], ◌∷◌, ◌++◌, Bool, ◌
 use Rattle.std.specs.List.{filter, flat_map, list_any}
 use Rattle.std.specs.Ordering.{int_eq}
 use Rattle.std.specs.Str.{bytes_eq}
-use Rattle.tracing_appender_dates.specs.declared.period.PeriodKind.{PeriodKind}
-use Rattle.tracing_appender_folders.specs.declared.moment.Moment.{Moment}
-use Rattle.tracing_appender_folders.specs.Moments.{latest_of, period_at, end_of, is_due}
+use Rattle.tracing_core_moments.specs.declared.period.PeriodKind.{PeriodKind}
+use Rattle.tracing_core_moments.specs.declared.moment.Moment.{Moment}
+use Rattle.tracing_core_moments.specs.Moments.{latest_of, period_at, end_of, is_due}
 use Rattle.tracing_appender_rolling.specs.Names.{FileNames, file_name}
 
 -- a handed line, with the moment at which it was handed over; a line that was looked at and then found no memory has no bytes

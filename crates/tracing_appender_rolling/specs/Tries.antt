@@ -1,12 +1,12 @@
 -- A try to open a file and to link it, whatever the folder refuses.
 use Rattle.std.specs.Prelude.{◌≡◌, ◌⊎◌, List, ℕ, Option, Some, None, Result, Ok, Err}
-use Rattle.tracing_appender_folders.specs.declared.fault.FolderError.{FolderError}
-use Rattle.tracing_appender_folders.specs.declared.fault.FolderError.TheVariants.{Fault, OutOfMemory}
+use Rattle.tracing_appender_rolling.specs.declared.folders.fault.FolderError.{FolderError}
+use Rattle.tracing_appender_rolling.specs.declared.folders.fault.FolderError.TheVariants.{Fault, OutOfMemory}
 use Rattle.tracing_appender_rolling.specs.declared.init.InitContext.{InitContext}
 use Rattle.tracing_appender_rolling.specs.declared.init.InitContext.TheVariants.{Directory, File, Link}
 use Rattle.tracing_appender_rolling.specs.declared.init.InitFailure.{InitFailure}
-use Rattle.tracing_appender_folders.specs.declared.fault.FileNumber.{FileNumber}
-use Rattle.tracing_appender_folders.specs.Contents.{Contents, Answer, called, opened, dirs_made, linked, closed}
+use Rattle.tracing_appender_rolling.specs.declared.folders.fault.FileNumber.{FileNumber}
+use Rattle.tracing_appender_rolling.specs.folders.Contents.{Contents, Answer, called, opened, dirs_made, linked, closed}
 use Rattle.tracing_appender_rolling.specs.Writes.{Fruitless}
 
 -- what a try answers, and what it leaves
@@ -54,7 +54,8 @@ abbrev pub opened_linked : Option (List ℕ) → List ℕ → Contents → Tried
 opened_linked None name c = opened_twice name c
 opened_linked (Some link) name c = after_file link name (opened_twice name c)
 
--- The try answered and left the contents as said, or some call of it found no memory; then `missed` holds of what is left. Contents that aren't known stay so.
+-- The try answered and left the contents as said, or some call of it found no memory; then `missed` holds of what is left. Contents that
+-- aren't known stay so.
 abbrev pub MissesOr : (Option Contents → Type 0) → Tried → InitFailure → FolderError → Option Contents → Type 0
 MissesOr missed tried f OutOfMemory after = missed after
 MissesOr missed tried f (Fault fault) after = (tried.0 ≡ Err f) × (after ≡ Some tried.1)
@@ -63,7 +64,8 @@ abbrev pub Gave : (Option Contents → Type 0) → Tried → Result FileNumber I
 Gave missed tried (Ok file) after = (tried.0 ≡ Ok file) × (after ≡ Some tried.1)
 Gave missed tried (Err f) after = MissesOr missed tried f f.error after
 
-abbrev pub Tries : (Contents → Option Contents → Type 0) → (Contents → Tried) → Option Contents → Result FileNumber InitFailure → Option Contents → Type 0
+abbrev pub Tries : (Contents → Option Contents → Type 0) → (Contents → Tried) → Option Contents → Result FileNumber InitFailure →
+    Option Contents → Type 0
 Tries missed call None result after = after ≡ None
 Tries missed call (Some c) result after = Gave (missed c) (call c) result after
 
@@ -78,7 +80,8 @@ pub record OpenedUnlinked (name : List ℕ) (c : Contents) (after : Option Conte
   pub opened : opened_twice name c ≡ (Ok file, middle)
   pub left : Unlinked file middle after
 
--- what a try leaves that found no memory in one of its calls: all as it was, or, where there is a link, the file that was opened closed again
+-- what a try leaves that found no memory in one of its calls: all as it was, or, where there is a link, the file that was opened closed
+-- again
 abbrev pub MissedFile : Option (List ℕ) → List ℕ → Contents → Option Contents → Type 0
 MissedFile None name c after = Fruitless c after
 MissedFile (Some link) name c after = Fruitless c after ⊎ OpenedUnlinked name c after

@@ -1,10 +1,10 @@
 -- Writes until all bytes are taken.
 use Rattle.std.specs.Prelude.{◌≡◌, ◌<◌, ◌+◌, ◌-◌, ℕ, zero, suc, Bool, true, List, Option, Some, None, Result, Ok, Err, length, take}
-use Rattle.tracing_appender_folders.specs.declared.fault.FolderError.{FolderError}
-use Rattle.tracing_appender_folders.specs.declared.fault.FolderError.TheVariants.{Fault, OutOfMemory}
-use Rattle.tracing_appender_folders.specs.declared.fault.FolderFault.TheVariants.{WriteZero}
-use Rattle.tracing_appender_folders.specs.declared.fault.FileNumber.{FileNumber}
-use Rattle.tracing_appender_folders.specs.Contents.{Contents, StoredFile, Outcome, Done, Refuses, Short, appended, taken, on_file}
+use Rattle.tracing_appender_rolling.specs.declared.folders.fault.FolderError.{FolderError}
+use Rattle.tracing_appender_rolling.specs.declared.folders.fault.FolderError.TheVariants.{Fault, OutOfMemory}
+use Rattle.tracing_appender_rolling.specs.declared.folders.fault.FolderFault.TheVariants.{WriteZero}
+use Rattle.tracing_appender_rolling.specs.declared.folders.fault.FileNumber.{FileNumber}
+use Rattle.tracing_appender_rolling.specs.folders.Contents.{Contents, StoredFile, Outcome, Done, Refuses, Short, appended, taken, on_file}
 
 -- these files, these directories or none, and links, open files and the last flush as before, after so many calls
 pub record Left (c : Contents) (files : List StoredFile) (dirs : Bool) (calls : ℕ) (after : Option Contents) : Type 0 where
@@ -38,7 +38,8 @@ pub record Takes (c : Contents) (writes len all : ℕ) : Type 0 where
   pub some : (n : ℕ) → n < writes → 0 < taken (c.coming n) (len - taken_by c n len)
   pub sum : taken_by c writes len ≡ all
 
--- what a write of some bytes fails with: its refusal's fault, or a fault of its own where it takes none; want of memory may come at any write
+-- what a write of some bytes fails with: its refusal's fault, or a fault of its own where it takes none; out of memory may come at any
+-- write
 abbrev pub FailsWith : Outcome → FolderError → Type 0
 FailsWith o OutOfMemory = Unit {0}
 FailsWith (Refuses refusal) (Fault fault) = fault ≡ refusal

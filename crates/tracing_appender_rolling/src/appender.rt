@@ -1,26 +1,28 @@
 //! A file that changes by the period.
 
-ghost use Rattle.std.specs.Prelude.{◌≡◌, ◌≤◌, List, [], Option, Some, None, IfOk, IfErr, OnOk, OnErr, Ok, true, false, length, drop, string_bytes};
+ghost use Rattle.std.specs.Prelude.{◌≡◌, ◌≤◌, List, [], Option, Some, None, IfOk, IfErr, OnOk, OnErr, Ok, true, false, length, drop};
+ghost use Rattle.std.specs.Prelude.{string_bytes};
 ghost use Rattle.std.specs.Option.{option_map};
-ghost use Rattle.tracing_appender_folders.specs.Moments.{is_moment, period_at, end_of, is_due};
-ghost use Rattle.tracing_appender_folders.specs.Contents.{Contents};
+ghost use Rattle.tracing_core_moments.specs.Moments.{is_moment, period_at, end_of, is_due};
+ghost use Rattle.tracing_appender_rolling.specs.folders.Contents.{Contents};
 ghost use Rattle.tracing_appender_rolling.specs.Names.{HasGoodLink};
 ghost use Rattle.tracing_appender_rolling.specs.Builders.{builder_names};
 ghost use Rattle.tracing_appender_rolling.specs.Tries.{TriesFile};
 ghost use Rattle.tracing_appender_rolling.specs.Writes.{WritesAll};
-ghost use Rattle.tracing_appender_rolling.specs.Telling.{CountsRetention, ReportsAll, ReportsError, ReportsTry};
+ghost use Rattle.tracing_appender_rolling.specs.FaultReports.{CountsRetention, ReportsAll, ReportsError, ReportsTry};
 ghost use Rattle.tracing_appender_rolling.specs.Faults.{no_faults};
-ghost use Rattle.tracing_appender_rolling.specs.Anywhere.{Rolls};
+ghost use Rattle.tracing_appender_rolling.specs.AnyFolder.{Rolls};
 ghost use Rattle.tracing_appender_rolling.specs.Appenders.{Begins};
-ghost use Rattle.tracing_appender_rolling.specs.Remaining.{MayOpen, OpensSink};
+ghost use Rattle.tracing_appender_rolling.specs.PrunedSinks.{MayOpen, OpensSink};
 
 use crate::builder::Builder;
 use crate::faults::Faults;
+use crate::folders::{FileNumber, Folder, FolderError, FolderFault};
 use crate::init::{InitContext, InitFailure};
 use crate::opening::create_writer;
 use crate::retention::prune_old_logs;
 use std::alloc::{AllocError, Global};
-use tracing_appender_folders::{FileNumber, Folder, FolderError, FolderFault, Moment};
+use tracing_core_moments::Moment;
 
 /// Why a file could not be opened, with what was handed in: the folder as the calls until then left it.
 #[derive(Drop)]
@@ -53,9 +55,9 @@ pub struct RollingFileAppender<D> {
 impl<D: Folder> RollingFileAppender<D> {
     ghost use Rattle.tracing_appender_rolling.specs.Appenders.{Holds, LooksAt, MissesAt, IsOpened, FailedAt};
     ghost use Rattle.tracing_appender_rolling.specs.Looks.{Held, Switches, end_at};
-    ghost use Rattle.tracing_appender_rolling.specs.Anywhere.{RollsAt};
+    ghost use Rattle.tracing_appender_rolling.specs.AnyFolder.{RollsAt};
     ghost use Rattle.tracing_appender_rolling.specs.Faults.{after_write};
-    ghost use Rattle.tracing_appender_rolling.specs.Remaining.{PrunedSink, AgreesSink, RollsSink, WritesSink};
+    ghost use Rattle.tracing_appender_rolling.specs.PrunedSinks.{PrunedSink, AgreesSink, RollsSink, WritesSink};
 
     /// Opens the file of the moment's period, after retention. Names are not looked at.
     ///
@@ -118,7 +120,7 @@ impl<D: Folder> RollingFileAppender<D> {
 
     /// Looks at a moment before a line is written: from the end of the file's period on that end moves, retention
     /// runs, and the file of the moment's period is opened. A folder's fault keeps the old file until the moment's
-    /// period ends, and is counted. Want of memory keeps it too, and is not counted.
+    /// period ends, and is counted. Out of memory keeps it too, and is not counted.
     pub(crate) fn roll(&mut self, moment: Moment) -> Result<(), AllocError>
         requires { is_moment moment ≡ true }
         ensures looked { (h : Held) → Holds D.contents self.old h →
@@ -181,7 +183,7 @@ impl<D: Folder> RollingFileAppender<D> {
     ///
     /// # Errors
     ///
-    /// The fault, or want of memory, which is no fault.
+    /// The fault, or out of memory, which is no fault.
     pub(crate) fn push(&mut self, bytes: &[u8]) -> Result<(), FolderError>
         ensures written { WritesAll (D.contents self.old.folder) self.old.current bytes.now result
             (D.contents self.new.folder) }

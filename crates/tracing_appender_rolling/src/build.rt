@@ -1,18 +1,19 @@
 //! Building an appender.
 
 ghost use Rattle.std.specs.Prelude.{◌≡◌, true, string_bytes};
-ghost use Rattle.tracing_appender_dates.specs.declared.period.PeriodKind.TheVariants.{Minute, Hour, Day, Week, Whole};
-ghost use Rattle.tracing_appender_folders.specs.Moments.{is_moment};
+ghost use Rattle.tracing_core_moments.specs.declared.period.PeriodKind.TheVariants.{Minute, Hour, Day, Week, Whole};
+ghost use Rattle.tracing_core_moments.specs.Moments.{is_moment};
 ghost use Rattle.tracing_appender_rolling.specs.Builders.{builder_names, plain_names, prefixed_names, kind_of};
 ghost use Rattle.tracing_appender_rolling.specs.Builds.{Builds, build_error};
 
 use crate::appender::{OpenRefusal, RollingFileAppender};
 use crate::builder::Builder;
+use crate::folders::{Folder, FolderError};
 use crate::init::{InitContext, InitError};
 use crate::rotation::Rotation;
 use std::alloc::Global;
 use thiserror::Error;
-use tracing_appender_folders::{Folder, FolderError, Moment};
+use tracing_core_moments::Moment;
 
 /// Why an appender was not built.
 #[derive(Clone, Copy, Debug, PartialEq, Eq, Error)]

@@ -2,13 +2,13 @@
 
 ghost use Rattle.std.specs.Prelude.{◌≡◌, IfOk, string_bytes, true, false};
 ghost use Rattle.std.specs.Option.{option_map};
-ghost use Rattle.tracing_appender_folders.specs.Moments.{is_moment, period_at};
-ghost use Rattle.tracing_appender_rolling.specs.Names.{text_or_none, count_or_none, has_bad_byte, is_dots_or_none, is_lasting_dots, file_name};
+ghost use Rattle.tracing_core_moments.specs.Moments.{is_moment, period_at};
+ghost use Rattle.tracing_appender_rolling.specs.Names.{text_or_none, count_or_none, has_bad_byte, is_dots_or_none, is_lasting_dots};
+ghost use Rattle.tracing_appender_rolling.specs.Names.{file_name};
 
 use crate::rotation::Rotation;
 use std::alloc::{AllocError, Global};
-use tracing_appender_dates::{PeriodKind, name_text, second_named};
-use tracing_appender_folders::Moment;
+use tracing_core_moments::{Moment, PeriodKind, name_text, second_named};
 
 /// The names of a sink's files, when they change, how many are kept, and the link to the latest one.
 #[derive(Debug, Drop)]

@@ -2,7 +2,7 @@
 
 ghost use Rattle.std.specs.Prelude.{◌≡◌};
 
-use tracing_appender_folders::{FolderError, FolderFault};
+use crate::folders::{FolderError, FolderFault};
 
 /// What was lost to a folder's faults. Each count stops at the greatest number.
 #[derive(Clone, Copy, Debug, PartialEq, Eq)]

@@ -1,7 +1,7 @@
 //! Why a log file could not be opened.
 
+use crate::folders::{FolderError, FolderFault};
 use thiserror::Error;
-use tracing_appender_folders::{FolderError, FolderFault};
 
 /// What a try to open a log file was doing.
 #[derive(Clone, Copy, Debug, PartialEq, Eq, Error)]

@@ -1,11 +1,11 @@
 //! Laws over the definitions.
 
-ghost use Rattle.tracing_appender_rolling.specs.Handing.{LinesHaveOneEnd};
+ghost use Rattle.tracing_appender_rolling.specs.LineHandover.{LinesHaveOneEnd};
 ghost use Rattle.tracing_appender_rolling.specs.Looks.{LaterPeriodsAreDue};
 ghost use Rattle.tracing_appender_rolling.specs.Names.{NamesDiffer};
-ghost use Rattle.tracing_appender_rolling.specs.Reading.{LinesStandWhole, FilesReadInOrder, OwnFilesReadInOrder, RetentionSpares};
-ghost use Rattle.tracing_appender_rolling.specs.Remaining.{FilesByPeriod};
-ghost use Rattle.tracing_appender_rolling.specs.Pieces.{FilesGoByTries};
+ghost use Rattle.tracing_appender_rolling.specs.FilesInOrder.{LinesStandWhole, FilesReadInOrder, OwnFilesReadInOrder, RetentionSpares};
+ghost use Rattle.tracing_appender_rolling.specs.PrunedSinks.{FilesByPeriod};
+ghost use Rattle.tracing_appender_rolling.specs.FilesByTries.{FilesGoByTries};
 
 /// Different periods have different file names.
 pub fn names_differ()

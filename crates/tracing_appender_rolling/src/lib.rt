@@ -5,6 +5,7 @@ mod appender;
 mod build;
 mod builder;
 mod faults;
+mod folders;
 mod init;
 mod laws;
 mod lines;
@@ -16,17 +17,16 @@ pub use appender::RollingFileAppender;
 pub use build::{BuildError, BuildRefusal, daily, hourly, minutely, never, weekly};
 pub use builder::Builder;
 pub use faults::Faults;
+pub use folders::{
+    DiskFolder, Entry, FaultyFolder, FileEntry, FileNumber, Folder, FolderError, FolderFault,
+    MemoryFolder,
+};
 pub use init::{InitContext, InitError};
 pub use laws::{
     files_by_period, files_go_by_tries, files_read_in_order, later_periods_are_due,
     lines_have_one_end, lines_stand_whole, names_differ, retention_spares_others,
 };
 pub use rotation::Rotation;
-pub use tracing_appender_dates::{date_text, dates_count_days, names_rise, worked_dates};
-pub use tracing_appender_folders::{
-    BadMoment, DiskFolder, Entry, FaultyFolder, FileEntry, FileNumber, Folder, FolderError,
-    FolderFault, MemoryFolder, Moment,
-};
 
 #[cfg(test)]
 mod tests;

@@ -1,28 +1,29 @@
 //! Lines that are handed over at moments.
 
 ghost use Rattle.std.specs.Prelude.{◌≡◌, ◌≢◌, ◌≤◌, Some, IfOk, IfErr, true, length, take};
-ghost use Rattle.tracing_appender_folders.specs.Moments.{is_moment};
+ghost use Rattle.tracing_core_moments.specs.Moments.{is_moment};
 ghost use Rattle.tracing_appender_rolling.specs.Builders.{builder_names};
-ghost use Rattle.tracing_appender_folders.specs.Contents.{Contents, Gives, failures_after, flushed, written};
+ghost use Rattle.tracing_appender_rolling.specs.folders.Contents.{Contents, Gives, failures_after, flushed, written};
 ghost use Rattle.tracing_appender_rolling.specs.Faults.{after_write, unit_of};
-ghost use Rattle.tracing_appender_rolling.specs.Telling.{ReportsCall, ReportsWrites};
+ghost use Rattle.tracing_appender_rolling.specs.FaultReports.{ReportsCall, ReportsWrites};
 
 use crate::appender::RollingFileAppender;
-use tracing_appender_folders::{Folder, FolderError, Moment};
+use crate::folders::{Folder, FolderError};
+use tracing_core_moments::Moment;
 
 impl<D: Folder> RollingFileAppender<D> {
     ghost use Rattle.tracing_appender_rolling.specs.Appenders.{Holds};
     ghost use Rattle.tracing_appender_rolling.specs.Looks.{Held};
-    ghost use Rattle.tracing_appender_rolling.specs.Anywhere.{LineAnywhere, WriteAnywhere};
-    ghost use Rattle.tracing_appender_rolling.specs.Remaining.{PrunedSink, AgreesSink, LeavesSink, WritesSink};
-    ghost use Rattle.tracing_appender_rolling.specs.Handing.{HandsLine, WritesOnce};
+    ghost use Rattle.tracing_appender_rolling.specs.AnyFolder.{LineAnywhere, WriteAnywhere};
+    ghost use Rattle.tracing_appender_rolling.specs.PrunedSinks.{PrunedSink, AgreesSink, LeavesSink, WritesSink};
+    ghost use Rattle.tracing_appender_rolling.specs.LineHandover.{HandsLine, WritesOnce};
 
     /// Looks at the moment, also for no bytes, and writes until all bytes are taken. A fault loses the rest,
     /// and is counted.
     ///
     /// # Errors
     ///
-    /// The fault of a write, or want of memory, which is no fault. A failed switch is only counted. Behind a look
+    /// The fault of a write, or out of memory, which is no fault. A failed switch is only counted. Behind a look
     /// that found no memory nothing is written; the next lines of the period go to the old file.
     pub fn write_all_at(&mut self, bytes: &[u8], moment: Moment) -> Result<(), FolderError>
         requires { is_moment moment ≡ true }

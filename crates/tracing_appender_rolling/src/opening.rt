@@ -3,11 +3,11 @@
 ghost use Rattle.std.specs.Prelude.{◌≡◌, string_bytes};
 ghost use Rattle.std.specs.Option.{option_map};
 ghost use Rattle.tracing_appender_rolling.specs.Tries.{Tries, TriesFile, Unlinked, made_again, opened_twice, linked_to};
-ghost use Rattle.tracing_appender_rolling.specs.Telling.{ReportsTry};
+ghost use Rattle.tracing_appender_rolling.specs.FaultReports.{ReportsTry};
 ghost use Rattle.tracing_appender_rolling.specs.Writes.{Fruitless};
 
+use crate::folders::{FileNumber, Folder, FolderError};
 use crate::init::{InitContext, InitFailure};
-use tracing_appender_folders::{FileNumber, Folder, FolderError};
 
 /// Opens a file. Where that is refused, the directories are made and it is tried once more.
 fn open_twice<D: Folder>(folder: &mut D, name: &str) -> Result<FileNumber, InitFailure>

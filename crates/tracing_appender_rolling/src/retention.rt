@@ -5,18 +5,18 @@ ghost use Rattle.std.specs.Option.{option_map};
 ghost use Rattle.std.specs.Ordering.{is_lt};
 ghost use Rattle.std.specs.List.Sorted.{IsPermutation, IsSortedBy};
 ghost use Rattle.tracing_appender_rolling.specs.Builders.{builder_names};
-ghost use Rattle.tracing_appender_folders.specs.Listings.{listed_of};
+ghost use Rattle.tracing_appender_rolling.specs.folders.ListedEntries.{listed_of};
 ghost use Rattle.tracing_appender_rolling.specs.Retention.{date_in, made_of, begins, ends, is_before, goes_by};
 ghost use Rattle.tracing_appender_rolling.specs.Retention.{GoesBy, candidate_first, candidates_in, candidate_of, asked_prefix};
-ghost use Rattle.tracing_appender_rolling.specs.Pruning.{Removes, RemovesDoomed, Prunes, names_by};
-ghost use Rattle.tracing_appender_rolling.specs.Telling.{CountsOnly};
+ghost use Rattle.tracing_appender_rolling.specs.RetentionRemovals.{Removes, RemovesDoomed, Prunes, names_by};
+ghost use Rattle.tracing_appender_rolling.specs.FaultReports.{CountsOnly};
 
 use crate::builder::Builder;
 use crate::faults::Faults;
+use crate::folders::{Entry, Folder, FolderError};
 use std::alloc::{AllocError, Global};
 use std::cmp::Ordering;
-use tracing_appender_dates::read_name;
-use tracing_appender_folders::{Entry, Folder, FolderError, Moment};
+use tracing_core_moments::{Moment, read_name};
 
 /// A file that retention may remove, with the moment from which it counts.
 #[derive(Clone, Copy, Debug)]
@@ -165,7 +165,7 @@ fn is_doomed(last: &Option<Candidate<'_>>, candidate: &Candidate<'_>) -> bool
 fn remove_file<D: Folder>(folder: &mut D, name: &str, faults: &mut Faults) -> Result<(), AllocError>
     ensures removes { Removes (name.now ∷ []) faults.old (D.contents folder.old) result faults.new
         (D.contents folder.new) }
-    // exactly, so that a refusal is not told as want of memory
+    // exactly, so that a refusal is not told as out of memory
     ensures counts { CountsOnly (D.failed folder.old) faults.old faults.new (D.failed folder.new) }
 {
     match folder.remove(name) {
@@ -244,7 +244,7 @@ fn asked_prefix(builder: &Builder) -> &str
 }
 
 /// Removes the files that go where one more is to be opened, where there is a limit. A fault is counted, and
-/// the work goes on; want of memory ends it.
+/// the work goes on; out of memory ends it.
 pub(crate) fn prune_old_logs<D: Folder>(
     alloc: Global,
     builder: &Builder,
@@ -253,7 +253,7 @@ pub(crate) fn prune_old_logs<D: Folder>(
 ) -> Result<(), AllocError>
     ensures pruned { Prunes (builder_names builder.now) faults.old (D.contents folder.old) result faults.new
         (D.contents folder.new) }
-    // exactly, so that a refused listing is not told as want of memory
+    // exactly, so that a refused listing is not told as out of memory
     ensures counts { CountsOnly (D.failed folder.old) faults.old faults.new (D.failed folder.new) }
 {
     let Some(limit) = builder.limit else {

@@ -1,11 +1,10 @@
 //! How often a log file changes.
 
 ghost use Rattle.std.specs.Prelude.{◌≡◌, true};
-ghost use Rattle.tracing_appender_dates.specs.Periods.{first_second};
-ghost use Rattle.tracing_appender_folders.specs.Moments.{is_moment, period_at, end_of};
+ghost use Rattle.tracing_core_moments.specs.Periods.{first_second};
+ghost use Rattle.tracing_core_moments.specs.Moments.{is_moment, period_at, end_of};
 
-use tracing_appender_dates::PeriodKind;
-use tracing_appender_folders::Moment;
+use tracing_core_moments::{Moment, PeriodKind};
 
 /// How often a log file changes. Periods are those of UTC time.
 #[derive(Clone, Copy, Debug, PartialEq, Eq)]

@@ -1,20 +1,19 @@
 //! Names, days, a folder that fails, and each call once.
 
 ghost use Rattle.std.specs.Prelude.{◌≡◌, true};
-ghost use Rattle.tracing_appender_folders.specs.Moments.{is_moment};
+ghost use Rattle.tracing_core_moments.specs.Moments.{is_moment};
 
 mod many;
 mod moments;
 mod rolling;
 mod system;
 
-use crate::{
-    BuildError, Builder, Entry, FileNumber, Folder, FolderError, FolderFault, InitContext,
-    InitError, MemoryFolder, Moment, Rotation, date_text,
-};
+use crate::folders::{Entry, FileNumber, Folder, FolderError, FolderFault, MemoryFolder};
+use crate::{BuildError, Builder, InitContext, InitError, Rotation};
 use moments::{MONDAY_MIDNIGHT, TUESDAY_MIDNIGHT};
 use std::alloc::{AllocError, Global};
 use std::test::Fail;
+use tracing_core_moments::{Moment, date_text};
 
 /// A folder that opens so many files and lists so many times, with no memory after that, and takes one byte at a
 /// write.

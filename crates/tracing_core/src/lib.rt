@@ -1,25 +1,34 @@
 //! The core of tracing: levels, metadata, fields, values, visits, span ids, and the hub of subscribers.
 #![tactic(auto)]
 
+mod callsite;
+mod dispatch;
+mod guard;
+mod hub;
 mod macros;
+mod refusal;
+mod run;
 
+pub use callsite::DefaultCallsite;
+pub use dispatch::Dispatch;
+pub use guard::{DefaultGuard, WrongLane};
+pub use hub::{
+    CallsiteIndex, HandleCount, Hub, HubTable, KeptInterest, Lane, LaneDefault, RequestParent,
+};
+pub use refusal::{
+    AddError, HandleError, RegisterError, SetDefaultError, SetGlobalDefaultError, TooManyHandles,
+    UnknownLane,
+};
+pub use run::{Book, Command, CommandError, CommandReply, NoRoom};
 pub use tracing_core_fields::{
-    AnyValue, DebugText, ErrorText, Field, FieldSet, FieldValue, Id, Identifier, Iter, Kind, Level,
-    LevelFilter, Metadata, OwnedMetadata, OwnedValue, ParseLevelError, ParseLevelFilterError,
-    Texts, ValueSet, Visit, VisitKinds, constant_kinds, filters_read_their_names,
-    levels_read_their_names, numbers_are_read_as_usize,
+    AnyValue, Attributes, Callsite, Current, CurrentSpan, DebugText, DebugValue, DisplayValue,
+    Empty, ErrorText, Event, Field, FieldSet, FieldValue, Id, Identifier, Interest, Iter, Kind,
+    Level, LevelFilter, Metadata, NoSubscriber, OwnedMetadata, OwnedValue, ParseLevelError,
+    ParseLevelFilterError, Record, RequestError, Subscriber, Texts, Value, ValueSet, Visit,
+    VisitKinds, WeakDispatch, constant_kinds, debug, display, filters_read_their_names,
+    interests_join_in_any_order, levels_read_their_names, numbers_are_read_as_usize,
 };
-pub use tracing_core_hub::{
-    AddError, Book, CallsiteIndex, Command, CommandError, CommandReply, DefaultCallsite,
-    DefaultGuard, Dispatch, HandleCount, HandleError, Hub, HubTable, KeptInterest, Lane,
-    LaneDefault, NoRoom, RegisterError, RequestParent, SetDefaultError, SetGlobalDefaultError,
-    TooManyHandles, UnknownLane, WrongLane,
-};
-pub use tracing_core_requests::{
-    At, Attributes, Callsite, Current, CurrentSpan, Event, Interest, NoSubscriber, Record,
-    RequestError, Subscriber, WeakDispatch, interests_join_in_any_order,
-};
-pub use tracing_core_values::{DebugValue, DisplayValue, Empty, Value, debug, display};
+pub use tracing_core_moments::At;
 
 #[cfg(test)]
 mod surface_tracing_core;

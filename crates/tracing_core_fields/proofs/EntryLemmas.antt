@@ -1,5 +1,6 @@
 -- Which entry stands at a place, among values that are given by their places.
-use Rattle.std.proofs.Common.{◌≡◌, ℕ, ◌+◌, ◌<◌, ◌==◌, ◌&&◌, ◌||◌, Bool, true, false, List, [], ◌∷◌, Option, Some, None, refl, ◌∙◌, ap, arith, zero, suc, slice_get, option_and_then}
+use Rattle.std.proofs.Common.{◌≡◌, ℕ, ◌+◌, ◌<◌, ◌==◌, ◌&&◌, ◌||◌, Bool, true, false, List, [], ◌∷◌, Option, Some, None, refl, ◌∙◌, ap}
+use Rattle.std.proofs.Common.{arith, zero, suc, slice_get, option_and_then}
 use Rattle.std.specs.List.{enumerate_from, filter_map, cons_option}
 use Rattle.std.specs.Option.{is_some, option_map}
 use Rattle.std.proofs.lemmas.Bool.{eq-eqb, ne_eqb, or_from, and_right}
@@ -14,7 +15,8 @@ has_entry-first None n place rest = refl
 has_entry-first (Some given) n place rest = refl
 
 -- nothing stands at a place before the first value's
-has_entry-before : (n place : ℕ) (values : List (Option AnyValue)) → place < n → has_entry place (filter_map placed_entry (enumerate_from n values)) ≡ false
+has_entry-before : (n place : ℕ) (values : List (Option AnyValue)) → place < n →
+    has_entry place (filter_map placed_entry (enumerate_from n values)) ≡ false
 has_entry-before n place [] before = refl
 has_entry-before n place (value ∷ values) before =
     has_entry-first (present_value value) n place _

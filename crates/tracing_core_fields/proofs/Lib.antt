@@ -1,3 +1,4 @@
+mod DraftLemmas
 mod EntryLemmas
 mod FieldLemmas
 mod TextLemmas

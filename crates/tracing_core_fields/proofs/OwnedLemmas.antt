@@ -11,13 +11,15 @@ abbrev pub is_below : ℕ → ℕ × PlainValue → Bool
 is_below count entry = nat_lt entry.0 count
 
 first_kept : (index count : ℕ) (value : Option PlainValue) (b : Bool) → nat_lt index count ≡ b → (rest : List (ℕ × PlainValue)) →
-    cons_option (if b then option_map (λ v. (index, v)) value else None) (filter (is_below count) rest) ≡ filter (is_below count) (cons_option (option_map (λ v. (index, v)) value) rest)
+    cons_option (if b then option_map (λ v. (index, v)) value else None) (filter (is_below count) rest) ≡ filter (is_below count)
+    (cons_option (option_map (λ v. (index, v)) value) rest)
 first_kept index count None true is rest = refl
 first_kept index count None false is rest = refl
 first_kept index count (Some v) true is rest = rw is refl
 first_kept index count (Some v) false is rest = rw is refl
 
-pub indexed_are_owned : (count : ℕ) (values : List FieldValue) → indexed_entries count values ≡ filter (is_below count) (owned_entries values)
+pub indexed_are_owned : (count : ℕ) (values : List FieldValue) →
+    indexed_entries count values ≡ filter (is_below count) (owned_entries values)
 indexed_are_owned count [] = refl
 indexed_are_owned count (given ∷ values) =
     ap (cons_option (indexed_entry count given)) (indexed_are_owned count values)

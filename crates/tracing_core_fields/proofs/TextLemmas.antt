@@ -8,7 +8,8 @@ use Rattle.std.proofs.lemmas.Str.Parse.{numerals_by_value, tells_all_ascii_digit
 use Rattle.tracing_core_fields.specs.Text.{is_number_text, number_of_text}
 
 -- a number text has digits alone after its plus, and its number fits
-pub is_number_text-numeral : (text : List ℕ) → is_number_text text ≡ true → IsNumeral 10 (without_leading_plus text) × (digits_value 10 (without_leading_plus text) < 2 ^ 64)
+pub is_number_text-numeral : (text : List ℕ) → is_number_text text ≡ true → IsNumeral 10 (without_leading_plus text) ×
+    (digits_value 10 (without_leading_plus text) < 2 ^ 64)
 is_number_text-numeral text passes =
     let digits = without_leading_plus text in
     let outer = and_parts _ (nat_lt (digits_value 10 digits) (2 ^ 64)) passes in
@@ -16,13 +17,15 @@ is_number_text-numeral text passes =
     let model = numerals_by_value _ tells_all_ascii_digits in
     ((ltb-true _ _ inner.0, model.to digits inner.1), ltb-true _ _ outer.1)
 
-pub numeral-is_number_text : (text : List ℕ) → IsNumeral 10 (without_leading_plus text) → digits_value 10 (without_leading_plus text) < 2 ^ 64 → is_number_text text ≡ true
+pub numeral-is_number_text : (text : List ℕ) → IsNumeral 10 (without_leading_plus text) →
+    digits_value 10 (without_leading_plus text) < 2 ^ 64 → is_number_text text ≡ true
 numeral-is_number_text text numeral fits =
     let digits = without_leading_plus text in
     let model = numerals_by_value _ tells_all_ascii_digits in
     and_from _ _ (and_from _ _ (lt-ltb _ _ numeral.0) (model.from digits numeral.1)) (lt-ltb _ _ fits)
 
-pub result_ok-number_of_text : {E : Type 0} (text : List ℕ) (r : Result ℕ E) → ParsesUnsigned 64 10 text r → result_ok r ≡ number_of_text text
+pub result_ok-number_of_text : {E : Type 0} (text : List ℕ) (r : Result ℕ E) → ParsesUnsigned 64 10 text r →
+    result_ok r ≡ number_of_text text
 result_ok-number_of_text text (Ok x) parses =
     ap Some parses.1 ∙ sym (cond-true (is_number_text text) _ _ (numeral-is_number_text text parses.0.0 parses.0.1))
 result_ok-number_of_text text (Err e) parses =

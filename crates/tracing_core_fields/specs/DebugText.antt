@@ -1,6 +1,7 @@
 -- What a debug text is, with no borrowed parts.
 use Rattle.tracing_core_fields.specs.ErrorText.{error_text, source_texts}
-use Rattle.tracing_core_fields.specs.PlainDebug.{PlainDebug, Written, Unwritable, OfSigned, OfUnsigned, OfWideSigned, OfWideUnsigned, OfTruth, OfText, OfBytes, OfError}
+use Rattle.tracing_core_fields.specs.PlainDebug.{PlainDebug, Written, Unwritable, OfSigned, OfUnsigned, OfWideSigned, OfWideUnsigned}
+use Rattle.tracing_core_fields.specs.PlainDebug.{OfTruth, OfText, OfBytes, OfError}
 use Rattle.tracing_core_fields.specs.declared.debug_text.DebugText.{DebugText}
 use Rattle.tracing_core_fields.specs.declared.debug_text.DebugText.TheVariants as text
 

@@ -14,7 +14,8 @@ rank_of Trace = 5
 -- the filter of a rank from 0 to 5
 abbrev pub inner_of : ℕ → FilterInner
 inner_of rank =
-    if rank == 0 then Off else if rank == 1 then Error else if rank == 2 then Warn else if rank == 3 then Info else if rank == 4 then Debug else Trace
+    if rank == 0 then Off else if rank == 1 then Error else if rank == 2 then Warn else if rank == 3 then Info else if rank ==
+    4 then Debug else Trace
 
 pub inner_of-rank_of : (filter : FilterInner) → inner_of (rank_of filter) ≡ filter
 inner_of-rank_of Off = refl

@@ -1,5 +1,6 @@
 -- Levels by their ranks: ERROR is 1, WARN 2, INFO 3, DEBUG 4 and TRACE 5.
-use Rattle.std.specs.Prelude.{◌≡◌, ℕ, ◌+◌, ◌-◌, ◌≤◌, ◌&&◌, List, [], ◌∷◌, Option, Some, None, Result, Ok, codes, nat_le, slice_get, unwrap_or, option_and_then, if◌then◌else◌, MatchOption, IsErr}
+use Rattle.std.specs.Prelude.{◌≡◌, ℕ, ◌+◌, ◌-◌, ◌≤◌, ◌&&◌, List, [], ◌∷◌, Option, Some, None, Result, Ok, codes, nat_le, slice_get}
+use Rattle.std.specs.Prelude.{unwrap_or, option_and_then, if◌then◌else◌, MatchOption, IsErr}
 use Rattle.std.specs.Option.{option_map, option_or}
 use Rattle.tracing_core_fields.specs.Text.{number_of_text, place_of_name}
 

@@ -1,5 +1,6 @@
 -- Filters by their ranks: OFF is 0, and the others have the ranks of their levels.
-use Rattle.std.specs.Prelude.{◌≡◌, ℕ, ◌≤◌, ◌==◌, List, [], ◌∷◌, ◌++◌, Option, Some, None, codes, nat_le, slice_get, unwrap_or, option_and_then, if◌then◌else◌}
+use Rattle.std.specs.Prelude.{◌≡◌, ℕ, ◌≤◌, ◌==◌, List, [], ◌∷◌, ◌++◌, Option, Some, None, codes, nat_le, slice_get, unwrap_or}
+use Rattle.std.specs.Prelude.{option_and_then, if◌then◌else◌}
 use Rattle.std.specs.Option.{option_or}
 use Rattle.tracing_core_fields.specs.Text.{number_of_text, place_of_name}
 use Rattle.tracing_core_fields.specs.Level.{level_names}

@@ -1,3 +1,5 @@
+pub mod requests
+pub mod Shown
 pub mod Text
 pub mod LevelInner
 pub mod Level

@@ -2,7 +2,8 @@
 use Rattle.std.specs.Prelude.{ℕ, List, Option, Some, None, codes, if◌then◌else◌}
 use Rattle.std.specs.Fmt.{formatter_spec, spec_alternate, styled_decimal, styled_signed_decimal, styled_text}
 use Rattle.std.specs.declared.fmt.Formatter.{Formatter}
-use Rattle.tracing_core_fields.specs.PlainDebug.{PlainDebug, Written, Unwritable, OfSigned, OfUnsigned, OfWideSigned, OfWideUnsigned, OfTruth, OfText, OfBytes, OfError, plain_output, bytes_text}
+use Rattle.tracing_core_fields.specs.PlainDebug.{PlainDebug, Written, Unwritable, OfSigned, OfUnsigned, OfWideSigned, OfWideUnsigned}
+use Rattle.tracing_core_fields.specs.PlainDebug.{OfTruth, OfText, OfBytes, OfError, plain_output, bytes_text}
 use Rattle.tracing_core_fields.specs.Quoted.{quoted}
 
 -- the alternate text under `#`; numbers and bools with the width, fill and sign that are asked for; any other text as it is

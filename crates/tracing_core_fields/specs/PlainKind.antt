@@ -25,7 +25,8 @@ is_same_kind-decides a b = (
       let hint = (booleans_Decides _ _).0 outer.1 in
       λ i. record { is_event = event i; is_span = span i; is_hint = hint i },
   λ same. and_from _ _
-      (and_from _ _ ((booleans_Decides _ _).1 (ap (λ kind. kind.is_event) same)) ((booleans_Decides _ _).1 (ap (λ kind. kind.is_span) same)))
+      (and_from _ _ ((booleans_Decides _ _).1 (ap (λ kind. kind.is_event) same))
+      ((booleans_Decides _ _).1 (ap (λ kind. kind.is_span) same)))
       ((booleans_Decides _ _).1 (ap (λ kind. kind.is_hint) same)),
 )
 

@@ -40,7 +40,8 @@ is_same_shape a b =
 abbrev pub is_same_metadata : PlainMetadata → PlainMetadata → Bool
 is_same_metadata a b = is_same_shape a b && is_same_label a b && is_same_place a b
 
-pub option_eq-decides : {A : Type 0} (E : A → A → Bool) → ((x y : A) → Decides (E x y) (x ≡ y)) → (o p : Option A) → Decides (option_eq E o p) (o ≡ p)
+pub option_eq-decides : {A : Type 0} (E : A → A → Bool) → ((x y : A) → Decides (E x y) (x ≡ y)) → (o p : Option A) →
+    Decides (option_eq E o p) (o ≡ p)
 option_eq-decides E decides None None = (λ _. refl, λ _. refl)
 option_eq-decides E decides None (Some y) = (λ same. absurd (false≢true same), λ same. absurd (none-some y same))
 option_eq-decides E decides (Some x) None = (λ same. absurd (false≢true same), λ same. absurd (none-some x (sym same)))
@@ -66,16 +67,28 @@ is_same_metadata-decides a b = (
       let callsite = (unsigned_Decides _ _).0 set.0 in
       let names = (pointwise_decides bytes_decides _ _).0 set.1 in
       let kind = (is_same_kind-decides _ _).0 shape.1 in
-      λ i. record { name = name i; target = target i; level = level i; module_path = module_path i; file = file i; line = line i; field_names = names i; callsite = callsite i; kind = kind i },
+      λ i. record {
+        name = name i;
+        target = target i;
+        level = level i;
+        module_path = module_path i;
+        file = file i;
+        line = line i;
+        field_names = names i;
+        callsite = callsite i;
+        kind = kind i;
+      },
   λ same.
       let label = and_from _ _
       (and_from _ _ ((bytes_decides _ _).1 (ap (λ m. m.name) same)) ((bytes_decides _ _).1 (ap (λ m. m.target) same)))
       ((unsigned_Decides _ _).1 (ap (λ m. m.level) same)) in
       let place = and_from _ _
-      (and_from _ _ ((option_eq-decides bytes_eq bytes_decides _ _).1 (ap (λ m. m.module_path) same)) ((option_eq-decides bytes_eq bytes_decides _ _).1 (ap (λ m. m.file) same)))
+      (and_from _ _ ((option_eq-decides bytes_eq bytes_decides _ _).1 (ap (λ m. m.module_path) same))
+      ((option_eq-decides bytes_eq bytes_decides _ _).1 (ap (λ m. m.file) same)))
       ((option_eq-decides nat_eq unsigned_Decides _ _).1 (ap (λ m. m.line) same)) in
       let shape = and_from _ _
-      (and_from _ _ ((unsigned_Decides _ _).1 (ap (λ m. m.callsite) same)) ((pointwise_decides bytes_decides _ _).1 (ap (λ m. m.field_names) same)))
+      (and_from _ _ ((unsigned_Decides _ _).1 (ap (λ m. m.callsite) same))
+      ((pointwise_decides bytes_decides _ _).1 (ap (λ m. m.field_names) same)))
       ((is_same_kind-decides _ _).1 (ap (λ m. m.kind) same)) in
       and_from _ _ (and_from _ _ shape label) place,
 )

@@ -2,7 +2,8 @@
 use Rattle.std.specs.Prelude.{ℕ, ℤ, Bool, List, Option, Some, None, option_and_then}
 use Rattle.tracing_core_fields.specs.DebugText.{plain_debug}
 use Rattle.tracing_core_fields.specs.ErrorText.{error_text, source_texts}
-use Rattle.tracing_core_fields.specs.PlainDebug.{PlainDebug, OfSigned, OfUnsigned, OfWideSigned, OfWideUnsigned, OfTruth, OfText, OfBytes, OfError}
+use Rattle.tracing_core_fields.specs.PlainDebug.{PlainDebug, OfSigned, OfUnsigned, OfWideSigned, OfWideUnsigned, OfTruth, OfText, OfBytes}
+use Rattle.tracing_core_fields.specs.PlainDebug.{OfError}
 use Rattle.tracing_core_fields.specs.declared.value_set.AnyValue.{AnyValue}
 use Rattle.tracing_core_fields.specs.declared.value_set.AnyValue.TheVariants as any
 

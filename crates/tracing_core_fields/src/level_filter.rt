@@ -3,7 +3,8 @@ ghost use Rattle.std.specs.Prelude.{◌≡◌, ◌≤◌, Some, nat_le, unwrap_o
 ghost use Rattle.std.specs.Fmt.{padded};
 ghost use Rattle.std.specs.Ordering.{nat_cmp, as_partial_cmp};
 ghost use Rattle.tracing_core_fields.specs.Level.{IsRank, IsParsed};
-ghost use Rattle.tracing_core_fields.specs.LevelFilter.{filter_name, filter_debug_name, filter_named, filter_numbered, filter_of_text, highest_level, ReadsItsName};
+ghost use Rattle.tracing_core_fields.specs.LevelFilter.{filter_name, filter_debug_name, filter_named, filter_numbered, filter_of_text};
+ghost use Rattle.tracing_core_fields.specs.LevelFilter.{highest_level, ReadsItsName};
 
 use crate::level::Level;
 use crate::parse::number_in;

@@ -3,6 +3,7 @@
 
 mod callsite;
 mod debug_text;
+mod draft;
 mod error_text;
 mod field;
 mod hex;
@@ -10,13 +11,17 @@ mod kind;
 mod level;
 mod level_filter;
 mod metadata;
+mod number;
 mod owned_metadata;
 mod owned_value;
 mod parse;
 mod quoted;
 mod record;
+mod requests;
+mod shown;
 mod span;
 mod texts;
+mod value;
 mod value_set;
 mod visit;
 mod visit_kinds;
@@ -32,8 +37,15 @@ pub use metadata::Metadata;
 pub use owned_metadata::OwnedMetadata;
 pub use owned_value::{FieldValue, OwnedValue};
 pub use parse::numbers_are_read_as_usize;
+pub use requests::{
+    Attributes, Callsite, Current, CurrentSpan, Event, Interest, InterestInner, NoSubscriber,
+    Record, RequestError, Subscriber, WeakDispatch, inner_of, interest_of,
+    interests_join_in_any_order, serial_of, weak_of,
+};
+pub use shown::{DebugValue, DisplayValue, debug, display};
 pub use span::Id;
 pub use texts::Texts;
+pub use value::{Empty, Value};
 pub use value_set::{AnyValue, ValueSet};
 pub use visit::Visit;
 pub use visit_kinds::VisitKinds;

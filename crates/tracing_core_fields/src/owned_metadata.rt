@@ -63,7 +63,7 @@ impl OwnedMetadata {
     ///
     /// # Errors
     ///
-    /// Want of memory.
+    /// Out of memory.
     pub fn new(alloc: Global, metadata: &Metadata<'_>) -> Result<OwnedMetadata, AllocError>
         ensures { IfOk result (λ copy. owned_plain copy ≡ plain_metadata metadata.now) }
     {

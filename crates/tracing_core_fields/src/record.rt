@@ -69,7 +69,7 @@ fn record_given<'a, V: VisitKinds>(
     Ok(())
 }
 
-// Hands on the value of the field at the index. It stands apart, for the kinds that are seldom met.
+// Hands on the value of the field at the index. It stands out of line, for the rare kinds.
 #[inline(never)]
 fn record_other<V: VisitKinds>(
     fields: &FieldSet<'_>,
@@ -120,7 +120,7 @@ fn record_placed<V: VisitKinds>(
     Ok(())
 }
 
-// Hands on the owned value of the field at the index, and stands apart as well.
+// Hands on the owned value of the field at the index, and stands out of line as well.
 #[inline(never)]
 fn record_other_owned<V: VisitKinds>(
     fields: &FieldSet<'_>,

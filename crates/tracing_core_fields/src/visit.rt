@@ -3,7 +3,8 @@ ghost use Rattle.std.specs.Prelude.{Result};
 ghost use Rattle.tracing_core_fields.specs.DebugText.{plain_debug};
 ghost use Rattle.tracing_core_fields.specs.ErrorText.{error_text, source_texts};
 ghost use Rattle.tracing_core_fields.specs.Field.{plain_field};
-ghost use Rattle.tracing_core_fields.specs.PlainDebug.{PlainDebug, OfSigned, OfUnsigned, OfWideSigned, OfWideUnsigned, OfTruth, OfText, OfBytes, OfError};
+ghost use Rattle.tracing_core_fields.specs.PlainDebug.{PlainDebug, OfSigned, OfUnsigned, OfWideSigned, OfWideUnsigned, OfTruth, OfText};
+ghost use Rattle.tracing_core_fields.specs.PlainDebug.{OfBytes, OfError};
 ghost use Rattle.tracing_core_fields.specs.PlainField.{PlainField};
 
 use crate::debug_text::DebugText;

@@ -4,7 +4,8 @@ ghost use Rattle.tracing_core_fields.specs.DebugText.{plain_debug};
 ghost use Rattle.tracing_core_fields.specs.ErrorText.{error_text, source_texts};
 ghost use Rattle.tracing_core_fields.specs.Field.{plain_field};
 ghost use Rattle.tracing_core_fields.specs.PlainField.{PlainField};
-ghost use Rattle.tracing_core_fields.specs.PlainValue.{PlainValue, Signed, Unsigned, WideSigned, WideUnsigned, Truth, Text, Bytes, Error, Debug, debug_of};
+ghost use Rattle.tracing_core_fields.specs.PlainValue.{PlainValue, Signed, Unsigned, WideSigned, WideUnsigned, Truth, Text, Bytes, Error};
+ghost use Rattle.tracing_core_fields.specs.PlainValue.{Debug, debug_of};
 
 use crate::debug_text::DebugText;
 use crate::error_text::ErrorText;

@@ -12,10 +12,14 @@ ok_again (Err e) p f = tt
 
 module _ {V E : Type 0} (letters : V → List ℕ) (letter : PlainValue → ℕ) (callsite : ℕ) (names : List (List ℕ)) where
   -- all that was handed over has its letter
-  pub written : {entries : List (ℕ × PlainValue)} {before after : V} {answer : Result (Unit {0}) E} → Visits (λ (b : V) (field : PlainField) (value : PlainValue) (r : Result (Unit {0}) E) (a : V). AddsLetter (letters b) (letter value) r (letters a)) callsite names entries before answer after → OnOk answer (letters after ≡ letters before ++ map (λ (e : ℕ × PlainValue). letter e.1) entries)
+  pub written : {entries : List (ℕ × PlainValue)} {before after : V} {answer : Result (Unit {0}) E} →
+      Visits (λ (b : V) (field : PlainField) (value : PlainValue) (r : Result (Unit {0}) E) (a : V). AddsLetter (letters b) (letter value) r
+      (letters a)) callsite names entries before answer after →
+      OnOk answer (letters after ≡ letters before ++ map (λ (e : ℕ × PlainValue). letter e.1) entries)
   written {before = before} all_taken = sym (append-nil (letters before))
   written (refused field is t) = tt
   written {before = before} {after = after} {answer = answer} (taken {value = value} {entries = es} {next = next} field is t rest) =
       ok_again answer (written rest)
       (λ (more : letters after ≡ letters next ++ map (λ (e : ℕ × PlainValue). letter e.1) es).
-      more ∙ ap (λ (bs : List ℕ). bs ++ map (λ (e : ℕ × PlainValue). letter e.1) es) t ∙ append_assoc (letters before) (letter value ∷ []) (map (λ (e : ℕ × PlainValue). letter e.1) es))
+      more ∙ ap (λ (bs : List ℕ). bs ++ map (λ (e : ℕ × PlainValue). letter e.1) es) t ∙ append_assoc (letters before) (letter value ∷ [])
+      (map (λ (e : ℕ × PlainValue). letter e.1) es))

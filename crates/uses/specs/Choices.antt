@@ -6,7 +6,7 @@ use Rattle.tracing_core.specs.PlainRequests.{PlainEvent}
 use Rattle.tracing_core.specs.Steady.{SameWord}
 use Rattle.span_registry_layers.specs.Filter.{Ghosts}
 use Rattle.span_registry_layers.specs.Honesty.{Fair, Firm, Single}
-use Rattle.span_registry_layers.specs.Looks.{Hook, View}
+use Rattle.span_registry_layers.specs.FilterViews.{Hook, View}
 use Rattle.uses.specs.declared.choice.Choice.{Choice}
 use Rattle.uses.specs.declared.choice.Choice.TheVariants.{First, Second}
 
@@ -39,7 +39,8 @@ module _ {A B : Type 0} (g : Ghosts A) (h : Ghosts B) where
   choice_fair (First a) k = g.fair a k
   choice_fair (Second b) k = h.fair b k
 
-  pub choice_stays : (c : Choice A B) (call : Hook) → IsHonest c → IsHonest (after_of c call) × SameWord (Says c) (Says (after_of c call)) (hint_of c) (hint_of (after_of c call))
+  pub choice_stays : (c : Choice A B) (call : Hook) → IsHonest c → IsHonest (after_of c call) ×
+      SameWord (Says c) (Says (after_of c call)) (hint_of c) (hint_of (after_of c call))
   choice_stays (First a) call k = g.stays a call k
   choice_stays (Second b) call k = h.stays b call k
 

@@ -1,6 +1,6 @@
 -- What a notice adds to counts of events and spans.
 use Rattle.std.specs.Prelude.{ℕ}
-use Rattle.span_registry_layers.specs.Looks.{Hook, SpanMade}
+use Rattle.span_registry_layers.specs.FilterViews.{Hook, SpanMade}
 use Rattle.span_registry_layers.specs.Notices.{Called, Notice, OnEvent, OnSpan}
 use Rattle.uses.specs.Tallies.{counted}
 use Rattle.uses.specs.declared.layer.Counts.{Counts}

@@ -1,7 +1,7 @@
 -- The steps of a program that logs.
 use Rattle.std.specs.Prelude.{ℕ, List, [], ◌∷◌}
 use Rattle.tracing_core.specs.PlainValue.{Text}
-use Rattle.tracing_appender_rolling.specs.Moment.{Moment}
+use Rattle.tracing_core_moments.specs.declared.moment.Moment.{Moment}
 use Rattle.span_tracing_skeleton.specs.PlainData.{PlainStep, EventStep}
 use Rattle.span_tracing_skeleton.specs.declared.call.Parent.TheVariants.{Contextual}
 

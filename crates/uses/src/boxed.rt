@@ -15,7 +15,7 @@ use tracing_core::LevelFilter;
 ///
 /// # Errors
 ///
-/// Want of memory.
+/// Out of memory.
 pub fn under_box(
     alloc: Global,
     filter: Box<dyn Filter>,
@@ -31,7 +31,7 @@ pub fn under_box(
 ///
 /// # Errors
 ///
-/// Want of memory.
+/// Out of memory.
 pub fn under_context_closure(
     alloc: Global,
     filter: DynFilterFn,
@@ -46,7 +46,7 @@ pub fn under_context_closure(
 ///
 /// # Errors
 ///
-/// Want of memory.
+/// Out of memory.
 pub fn under_both(
     alloc: Global,
     level: LevelFilter,

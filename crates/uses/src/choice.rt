@@ -101,7 +101,7 @@ pub fn by_closure(test: MetadataTest) -> Choice<LevelFilter, FilterFn>
 ///
 /// # Errors
 ///
-/// Want of memory.
+/// Out of memory.
 pub fn under_choice(
     alloc: Global,
     choice: Choice<LevelFilter, FilterFn>,

@@ -66,7 +66,7 @@ impl Filter for Verbosity {
 ///
 /// # Errors
 ///
-/// Want of memory.
+/// Out of memory.
 pub fn stack_under<F: Filter>(
     alloc: Global,
     filter: F,
@@ -110,7 +110,7 @@ pub fn hand<F: Filter>(
 ///
 /// # Errors
 ///
-/// Want of memory.
+/// Out of memory.
 pub fn under_level(
     alloc: Global,
     level: LevelFilter,
@@ -124,7 +124,7 @@ pub fn under_level(
 ///
 /// # Errors
 ///
-/// Want of memory.
+/// Out of memory.
 pub fn under_verbosity(
     alloc: Global,
     most: LevelFilter,
@@ -139,7 +139,7 @@ pub fn under_verbosity(
 ///
 /// # Errors
 ///
-/// Want of memory.
+/// Out of memory.
 pub fn under_closure(
     alloc: Global,
     test: MetadataTest,

@@ -3,14 +3,14 @@
 ghost use Rattle.std.specs.Prelude.{◌≡◌, nat_le, false, if◌then◌else◌, None, Some, OnOk, OnErr, IfOk, ℕ, slice_get};
 ghost use Rattle.std.specs.Option.{option_map};
 ghost use Rattle.tracing_core.specs.Commands.{reached, callsite_with};
-ghost use Rattle.tracing_core.specs.Kept.{KeptCallsite, KeptSubscriber};
+ghost use Rattle.tracing_core.specs.TableRows.{KeptCallsite, KeptSubscriber};
 ghost use Rattle.tracing_core.specs.Handles.{subscriber_with};
-ghost use Rattle.tracing_core.specs.Keeping.{PreservesCaches};
+ghost use Rattle.tracing_core.specs.CachePreservation.{PreservesCaches};
 ghost use Rattle.tracing_core.specs.ValidCaches.{HasValidCache};
-ghost use Rattle.tracing_core.specs.Lent.{living_of};
+ghost use Rattle.tracing_core.specs.HandleSubscribers.{living_of};
 ghost use Rattle.tracing_core.specs.PlainRequests.{plain_event};
-ghost use Rattle.tracing_core.specs.LaneDefault.TheVariants.{Unset};
-ghost use Rattle.tracing_core.specs.Sound.{IsSound};
+ghost use Rattle.tracing_core.specs.declared.hub.parts.LaneDefault.TheVariants.{Unset};
+ghost use Rattle.tracing_core.specs.HubInvariant.{IsSound};
 ghost use Rattle.tracing_core.specs.Table.{own_setting};
 ghost use Rattle.span_registry_layers.specs.Combined.{level_interest, same_word};
 ghost use Rattle.uses.specs.Tallies.{counted, events_after, level_agrees, tally_reply};
@@ -142,7 +142,7 @@ impl Subscriber for Tally {
 ///
 /// # Errors
 ///
-/// Want of memory; the subscriber comes back.
+/// Out of memory; the subscriber comes back.
 pub fn hub_of<S: Subscriber, C: Callsite>(
     alloc: Global,
     subscriber: S,

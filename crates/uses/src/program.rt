@@ -3,15 +3,15 @@
 ghost use Rattle.std.specs.Prelude.{◌≡◌, ◌∷◌, [], IfOk, OnErr, length, true, false, Err};
 ghost use Rattle.tracing_core.specs.OwnedValues.{owned_entries};
 ghost use Rattle.tracing_core.specs.PlainValue.{Text};
-ghost use Rattle.tracing_appender_rolling.specs.Moments.{is_moment};
+ghost use Rattle.tracing_core_moments.specs.Moments.{is_moment};
 ghost use Rattle.span_tracing_outputs.specs.TraceFollows.{IsReady};
 ghost use Rattle.span_tracing_steps.specs.Steps.{StepGives};
-ghost use Rattle.span_tracing_runs.specs.Follows.{StackIsReady, registry_of};
-ghost use Rattle.span_tracing_runs.specs.Runs.{RunGives};
-ghost use Rattle.span_tracing_trace.specs.Ready.{RunsReady};
+ghost use Rattle.span_tracing_laws.specs.runs.StepFollows.{StackIsReady, registry_of};
+ghost use Rattle.span_tracing_laws.specs.runs.Runs.{RunGives};
+ghost use Rattle.span_tracing.specs.Ready.{RunsReady};
 ghost use Rattle.uses.specs.Programs.{message_step};
 
-use event_formatter_formats::FormatEvent;
+use event_formatter::FormatEvent;
 use event_formatter_text::FormatFields;
 use span_registry_layers::Filter;
 use span_tracing::{
@@ -140,7 +140,7 @@ fn message(alloc: Global, text: &str) -> Result<FieldValue, AllocError>
 ///
 /// # Errors
 ///
-/// Want of memory for the text; the trace is as it was.
+/// Out of memory for the text; the trace is as it was.
 pub fn log_text(
     alloc: Global,
     trace: &mut MemoryTrace,
@@ -161,7 +161,7 @@ pub fn log_text(
 ///
 /// # Errors
 ///
-/// Want of memory for the texts; the trace is as it was.
+/// Out of memory for the texts; the trace is as it was.
 pub fn log_both(
     alloc: Global,
     trace: &mut MemoryTrace,

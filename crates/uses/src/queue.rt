@@ -22,7 +22,7 @@ pub fn dropping_queue(alloc: Global, limit: usize) -> QueueState
 ///
 /// # Errors
 ///
-/// Want of memory; the queue is as it was.
+/// Out of memory; the queue is as it was.
 pub fn offer_text(alloc: Global, queue: &mut QueueState, text: &str) -> Result<bool, AllocError>
     ensures taken { IfOk result (λ taken. taken ≡ accepts queue.old) }
     ensures next { OnOk result (queue.new ≡ after_offer queue.old text.now) }
@@ -54,7 +54,7 @@ pub fn next_line(queue: &mut QueueState) -> Option<Vec<u8>>
 ///
 /// # Errors
 ///
-/// Want of memory.
+/// Out of memory.
 pub fn two_in_order(
     alloc: Global,
     first: &str,

@@ -1,17 +1,18 @@
 //! A log file that changes by the day, alone: the program writes its own lines.
 
 ghost use Rattle.std.specs.Prelude.{◌≡◌, true, Some, IfOk, ℕ, List, string_bytes};
-ghost use Rattle.tracing_appender_rolling.specs.PeriodKind.TheVariants.{Day};
-ghost use Rattle.tracing_appender_rolling.specs.Moments.{is_moment};
-ghost use Rattle.tracing_appender_rolling.specs.Memory.{memory_contents, nothing_there};
-ghost use Rattle.tracing_appender_rolling.specs.Entries.{entry_at};
+ghost use Rattle.tracing_core_moments.specs.declared.period.PeriodKind.TheVariants.{Day};
+ghost use Rattle.tracing_core_moments.specs.Moments.{is_moment};
+ghost use Rattle.tracing_appender_rolling.specs.folders.Memory.{memory_contents, nothing_there};
+ghost use Rattle.tracing_appender_rolling.specs.folders.Entries.{entry_at};
 ghost use Rattle.tracing_appender_rolling.specs.Builders.{prefixed_names};
-ghost use Rattle.tracing_appender_rolling.specs.Remaining.{PrunedSink, AgreesSink, LeavesSink, fresh_sink, pruned_text};
+ghost use Rattle.tracing_appender_rolling.specs.PrunedSinks.{PrunedSink, AgreesSink, LeavesSink, fresh_sink, pruned_text};
 
 use std::alloc::{AllocError, Global};
 use tracing_appender_rolling::{
-    BuildError, FileEntry, FolderError, MemoryFolder, Moment, RollingFileAppender, daily,
+    BuildError, FileEntry, FolderError, MemoryFolder, RollingFileAppender, daily,
 };
+use tracing_core_moments::Moment;
 
 /// Opens the log of the moment's day in an empty folder in memory. Its files have this prefix and the day in
 /// their names.
@@ -39,7 +40,7 @@ pub fn open_daily(
 ///
 /// # Errors
 ///
-/// Want of memory: the line may be missing.
+/// Out of memory: the line may be missing.
 pub fn write_line(
     log: &mut RollingFileAppender<MemoryFolder>,
     line: &str,
@@ -58,7 +59,7 @@ pub fn write_line(
 ///
 /// # Errors
 ///
-/// Want of memory.
+/// Out of memory.
 pub fn files_of(log: &RollingFileAppender<MemoryFolder>) -> Result<Vec<FileEntry<'_>>, AllocError>
     ensures { IfOk result (λ entries. (p : PrunedSink) → AgreesSink (λ folder. Some (memory_contents folder)) log.now p →
         (name : List ℕ) → entry_at entries.items name ≡ pruned_text p name) }

@@ -22,11 +22,11 @@ use span_registry_layers::{
 };
 use span_tracing::Reply;
 use std::test::Fail;
-use tracing_appender_rolling::Moment;
 use tracing_core::{
     AnyValue, At, Attributes, DebugText, DefaultCallsite, Event, FieldSet, Identifier, Kind, Level,
     LevelFilter, Metadata,
 };
+use tracing_core_moments::Moment;
 
 /// 2025-02-17T10:01:00Z.
 const MONDAY: Moment = Moment {

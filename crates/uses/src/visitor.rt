@@ -79,7 +79,7 @@ impl VisitKinds for Kinds {
 ///
 /// # Errors
 ///
-/// Want of memory.
+/// Out of memory.
 pub fn kinds_of(alloc: Global, values: &ValueSet<'_>) -> Result<String, AllocError>
     ensures { IfOk result (λ letters. string_bytes letters ≡ map (λ entry. kind_letter entry.1)
         (entries_of values.now)) }
@@ -120,7 +120,7 @@ impl Visit for Texts {
 ///
 /// # Errors
 ///
-/// Want of memory.
+/// Out of memory.
 pub fn texts_of(alloc: Global, values: &ValueSet<'_>) -> Result<String, AllocError>
     ensures { IfOk result (λ letters. string_bytes letters ≡ map (λ entry. text_letter (debug_of entry.1))
         (entries_of values.now)) }

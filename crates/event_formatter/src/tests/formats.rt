@@ -9,16 +9,17 @@ mod scopes;
 mod spans;
 mod threads;
 
-use event_formatter_formats::*;
-use event_formatter_slots::keep_new;
+use crate::formats::*;
+use event_formatter_lines::{FixedText, keep_new};
 use event_formatter_text::{FormatError, Settings};
-use event_formatter_times::FixedText;
 use span_registry_layers_layers::Context;
 use span_registry_layers_store::{FilterId, FilterMap, OutputKey, Registry};
 use std::alloc::Global;
 use std::test::Fail;
-use tracing_core_fields::{AnyValue, FieldSet, Id, Identifier, Kind, Level, Metadata};
-use tracing_core_requests::{At, Attributes, Event};
+use tracing_core_fields::{
+    AnyValue, Attributes, Event, FieldSet, Id, Identifier, Kind, Level, Metadata,
+};
+use tracing_core_moments::At;
 
 const NAMES: [&str; 2] = ["message", "n"];
 

@@ -8,20 +8,21 @@ mod span_events;
 mod spans;
 mod threads;
 
-use event_formatter_formats::{Format, FormatEvent, Full};
-use event_formatter_layer::*;
-use event_formatter_lines::FmtSpan;
-use event_formatter_makers::MakeWriter;
-use event_formatter_text::{DefaultFields, FormatFields};
-use event_formatter_times::FixedText;
+use crate::fmt_layer::*;
+use crate::formats::{Format, FormatEvent, Full};
+use event_formatter_lines::{FixedText, FmtSpan};
+use event_formatter_text::{DefaultFields, FormatFields, MakeWriter};
 use span_registry_layers_layers::{LayerExt, Layered, SubscriberExt};
 use span_registry_layers_store::{OutputKey, Registry};
 use std::alloc::{AllocError, Global};
 use std::io;
 use std::io::ErrorKind;
 use std::test::Fail;
-use tracing_core_fields::{AnyValue, DebugText, FieldSet, Id, Identifier, Kind, Level, Metadata};
-use tracing_core_requests::{At, Attributes, Event, Record, Subscriber};
+use tracing_core_fields::{
+    AnyValue, Attributes, DebugText, Event, FieldSet, Id, Identifier, Kind, Level, Metadata,
+    Record, Subscriber,
+};
+use tracing_core_moments::At;
 
 const NAMES: [&str; 3] = ["message", "n", "x"];
 

@@ -3,7 +3,7 @@ use super::*;
 use span_registry_layers_layers::{LayerExt, Layered, SubscriberExt};
 use span_registry_layers_store::Registry;
 use std::alloc::AllocError;
-use tracing_core_requests::{Record, Subscriber};
+use tracing_core_fields::{Record, Subscriber};
 
 // Finds no memory for the texts of spans.
 #[derive(Drop)]

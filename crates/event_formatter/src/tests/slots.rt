@@ -4,14 +4,16 @@ mod fields;
 mod memory;
 mod timings;
 
-use event_formatter_slots::*;
+use event_formatter_lines::*;
 use event_formatter_text::{DefaultFields, FormatFields, JsonFields, Settings};
 use span_registry_layers_layers::Context;
 use span_registry_layers_store::{FilterId, FilterMap, OutputKey, Registry, Slot, Tag};
 use std::alloc::Global;
 use std::test::Fail;
-use tracing_core_fields::{AnyValue, DebugText, FieldSet, Id, Identifier, Kind, Level, Metadata};
-use tracing_core_requests::{At, Attributes};
+use tracing_core_fields::{
+    AnyValue, Attributes, DebugText, FieldSet, Id, Identifier, Kind, Level, Metadata,
+};
+use tracing_core_moments::At;
 
 const NAMES: [&str; 3] = ["message", "n", "d"];
 

@@ -1,6 +1,6 @@
 //! The texts of moments, of durations and of threads.
+use event_formatter_lines::*;
 use event_formatter_text::FormatError;
-use event_formatter_times::*;
 use std::alloc::Global;
 use std::test::Fail;
 

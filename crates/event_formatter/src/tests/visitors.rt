@@ -7,10 +7,9 @@ mod formatters;
 ghost use Rattle.std.specs.Prelude.{◌≡◌, ◌++◌, Some};
 ghost use Rattle.event_formatter_text.specs.Lists.{Formats};
 ghost use Rattle.event_formatter_text.specs.Writers.{IsSameWriter, written};
-ghost use Rattle.event_formatter_visitors.specs.Pairs.{pair_text};
+ghost use Rattle.event_formatter_text.specs.field.Pairs.{pair_text};
 
-use event_formatter_text::{DefaultFields, FormatError, JsonFields, PrettyFields, Writer};
-use event_formatter_visitors::*;
+use event_formatter_text::{DefaultFields, FormatError, JsonFields, PrettyFields, Writer, *};
 use std::alloc::Global;
 use std::test::Fail;
 use tracing_core_fields::{AnyValue, DebugText, Field, FieldSet, Identifier, Visit};

@@ -136,7 +136,7 @@ fn end(out: &mut String, target: &str, span: &ShownSpan<'_>) -> Result<(), Alloc
     push_span_twice(out, span)
 }
 
-// Answers the refusal as it is. It is cold, which tells the compiler that this way is seldom gone.
+// Answers the refusal as it is. It is cold, which tells the compiler that this way is cold.
 #[cold]
 fn refused_with(error: FormatError) -> FormatError
     ensures { result ≡ error }
@@ -149,7 +149,7 @@ fn refused_with(error: FormatError) -> FormatError
 ///
 /// # Errors
 ///
-/// A value that can't be formatted, or want of memory. What was appended before is to be dropped.
+/// A value that can't be formatted, or out of memory. What was appended before is to be dropped.
 #[inline(never)]
 pub fn push_json_line_in_span<R: RecordFields>(
     out: &mut String,

@@ -3,7 +3,7 @@ ghost use Rattle.std.specs.Prelude.{◌≡◌, ◌++◌, IfOk, OnOk, codes, stri
 ghost use Rattle.std.specs.Fmt.{decimal};
 ghost use Rattle.std.specs.Option.{option_map};
 ghost use Rattle.tracing_core_fields.specs.Level.{level_name};
-ghost use Rattle.event_formatter_text.specs.Chains.{Extends};
+ghost use Rattle.event_formatter_text.specs.MemberChains.{Extends};
 ghost use Rattle.event_formatter_text.specs.Escapes.{json_string};
 ghost use Rattle.event_formatter_text.specs.Lists.{further};
 ghost use Rattle.event_formatter_lines.specs.Heads.{plain_head};
@@ -103,7 +103,7 @@ pub(super) fn push_later_level(out: &mut String, level: Level) -> Result<(), All
     }
 }
 
-// Appends the level as the first member. It stands apart, as a line mostly begins with its time.
+// Appends the level as the first member. It stands out of line, as a line mostly begins with its time.
 #[inline(never)]
 fn push_first_level(out: &mut String, level: Level) -> Result<(), AllocError>
     ensures { OnOk result (string_bytes out.new ≡ string_bytes out.old

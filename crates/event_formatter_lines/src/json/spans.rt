@@ -2,9 +2,10 @@
 ghost use Rattle.std.specs.Prelude.{◌≡◌, ◌+◌, ◌≤◌, ◌++◌, IfOk, List, ℕ, OnOk, Some, codes, length, string_bytes, take, true};
 ghost use Rattle.std.specs.List.{join_by};
 ghost use Rattle.std.specs.Option.{option_map};
-ghost use Rattle.event_formatter_text.specs.Chains.{Extends};
+ghost use Rattle.event_formatter_text.specs.MemberChains.{Extends};
 ghost use Rattle.event_formatter_text.specs.Lists.{further};
-ghost use Rattle.event_formatter_lines.specs.Json.{field_as_kept, inside_braces, kept_members, key_text, member_if, members_as_kept, span_members, span_object, where_asked};
+ghost use Rattle.event_formatter_lines.specs.Json.{field_as_kept, inside_braces, kept_members, key_text, member_if, members_as_kept};
+ghost use Rattle.event_formatter_lines.specs.Json.{span_members, span_object, where_asked};
 ghost use Rattle.event_formatter_lines.specs.Shown.{plain_shown, span_at};
 
 use super::JsonShape;

@@ -2,7 +2,7 @@
 ghost use Rattle.std.specs.Prelude.{◌≡◌};
 ghost use Rattle.std.specs.Borrow.{sem};
 ghost use Rattle.tracing_core_fields.specs.DebugText.{plain_debug};
-ghost use Rattle.event_formatter_text.specs.Handing.{alternate, messaged};
+ghost use Rattle.event_formatter_text.specs.VisitorAdapters.{alternate, messaged};
 ghost use Rattle.event_formatter_text.specs.Loans.{LendsInAlt, LendsInMessages};
 
 use crate::field_text::is_message;

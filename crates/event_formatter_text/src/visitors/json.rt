@@ -32,7 +32,7 @@ impl<'w> JsonVisitor<'w> {
     ///
     /// # Errors
     ///
-    /// Want of memory; nothing was appended then.
+    /// Out of memory; nothing was appended then.
     pub fn write_str(&mut self, text: &str) -> Result<(), AllocError>
         ensures same { IsSameWriter self.old.writer self.new.writer }
         ensures empty { self.new.is_empty ≡ self.old.is_empty }

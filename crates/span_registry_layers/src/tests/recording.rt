@@ -1,7 +1,7 @@
 // Layers that pass all, and hand what they are told to an observer.
 ghost use Rattle.std.specs.Prelude.{◌≡◌, ℕ, Bool, false};
-ghost use Rattle.span_registry_layers.specs.Aside.{SameButKeys};
-ghost use Rattle.span_registry_layers.specs.Looks.{SameLoan, left};
+ghost use Rattle.span_registry_layers.specs.SlotIndependence.{SameButKeys};
+ghost use Rattle.span_registry_layers.specs.FilterViews.{SameLoan, left};
 
 use crate::{Context, FilterMap, Layer, Registry, Told};
 use std::alloc::Global;
@@ -58,7 +58,7 @@ impl<O: Observer> Layer for Observing<O> {
     ghost use Rattle.span_registry_layers.specs.Combined.{same_word};
     ghost use Rattle.span_registry_layers.specs.Identities.{idle_fair};
     ghost use Rattle.span_registry_layers.specs.Notices.{WritesUnder};
-    ghost use Rattle.span_registry_layers.specs.Numbering.{no_numbers};
+    ghost use Rattle.span_registry_layers.specs.FilterNumbers.{no_numbers};
     ghost use Rattle.span_registry_layers.specs.Singles.{leaf_once};
 
     ghost told = { λ x n y. ((key : ℕ) → O.keys y.observer key ≡ O.keys x.observer key) ×

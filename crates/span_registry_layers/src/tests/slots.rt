@@ -1,8 +1,8 @@
 // What a layer keeps with spans, from its hooks.
 ghost use Rattle.std.specs.Prelude.{◌≡◌, ◌==◌};
-ghost use Rattle.span_registry_layers.specs.Aside.{SameButKeys};
+ghost use Rattle.span_registry_layers.specs.SlotIndependence.{SameButKeys};
 ghost use Rattle.span_registry_layers.specs.Keys.{WritesUnderOne};
-ghost use Rattle.span_registry_layers.specs.Looks.{SameLoan, left};
+ghost use Rattle.span_registry_layers.specs.FilterViews.{SameLoan, left};
 
 use super::recording::{Notification, Observer, Observing};
 use super::*;

@@ -1,10 +1,11 @@
 //! Layers over a registry, as a subscriber.
 use crate::layer::{Layer, Layered};
 use span_registry_layers_store::Registry;
-use tracing_core_fields::{Id, LevelFilter, Metadata};
-use tracing_core_requests::{
-    At, Attributes, CurrentSpan, Event, Interest, Record, RequestError, Subscriber, WeakDispatch,
+use tracing_core_fields::{
+    Attributes, CurrentSpan, Event, Id, Interest, LevelFilter, Metadata, Record, RequestError,
+    Subscriber, WeakDispatch,
 };
+use tracing_core_moments::At;
 
 /// Each layer is told what all filters on the way down to it pass, asked again; of a span what they said when
 /// it was made.
@@ -14,8 +15,8 @@ use tracing_core_requests::{
 impl<L: Layer> Subscriber for Layered<L, Registry> {
     ghost use Rattle.std.specs.Prelude.{◌≡◌, ◌↔◌, None};
     ghost use Rattle.std.proofs.Common.{subst, sym};
-    ghost use Rattle.span_registry_layers_layers.specs.Staying as staying;
-    ghost use Rattle.tracing_core_requests.specs.declared.interest.InterestInner.TheVariants.{Sometimes};
+    ghost use Rattle.span_registry_layers_layers.specs.TreeConsistency as staying;
+    ghost use Rattle.tracing_core_fields.specs.declared.requests.interest.InterestInner.TheVariants.{Sometimes};
     ghost use Rattle.span_registry_layers_layers.specs.Trees as trees;
 
     ghost answers = { trees.AnswersOf ⟦<L as Layer>⟧ };

@@ -1,8 +1,7 @@
 //! A boxed filter is one.
 use crate::context::Context;
 use crate::filter::{Filter, SpanCall};
-use tracing_core_fields::{LevelFilter, Metadata};
-use tracing_core_requests::{Event, Interest};
+use tracing_core_fields::{Event, Interest, LevelFilter, Metadata};
 
 /// The box answers what the filter in it does.
 impl Filter for Box<dyn Filter> {

@@ -6,8 +6,7 @@ ghost use Rattle.span_registry_layers_layers.specs.Singles.{both_single, either_
 
 use crate::context::Context;
 use crate::filter::{Filter, SpanCall};
-use tracing_core_fields::{LevelFilter, Metadata};
-use tracing_core_requests::{Event, Interest};
+use tracing_core_fields::{Event, Interest, LevelFilter, Metadata};
 
 /// Passes what both filters pass.
 #[derive(Clone, Copy, Debug, Drop)]

@@ -1,15 +1,15 @@
 //! A stored closure that looks at the context, as a filter.
 ghost use Rattle.std.specs.Prelude.{◌≡◌, IfSome, IsSome, None, Some, true};
 ghost use Rattle.span_registry_layers_layers.specs.Combined.{same_word};
-ghost use Rattle.span_registry_layers_layers.specs.Dynamic.{AnswersIn, CallsitesFit, IsDeterminedIn, RefusesAboveHintIn, RefusesAboveIn, SaysIn};
+ghost use Rattle.span_registry_layers_layers.specs.Dynamic.{AnswersIn, CallsitesFit, IsDeterminedIn, RefusesAboveHintIn, RefusesAboveIn};
+ghost use Rattle.span_registry_layers_layers.specs.Dynamic.{SaysIn};
 ghost use Rattle.span_registry_layers_layers.specs.Firms.{CallsitesAreFirm};
 ghost use Rattle.span_registry_layers_layers.specs.Honesty.{Fair, Firm};
 ghost use Rattle.span_registry_layers_layers.specs.Singles.{dynamic_single};
 
 use crate::context::Context;
 use crate::filter::{Filter, SpanCall};
-use tracing_core_fields::{LevelFilter, Metadata};
-use tracing_core_requests::{Event, Interest};
+use tracing_core_fields::{Event, Interest, LevelFilter, Metadata};
 
 /// Decides by metadata and by what the context shows.
 pub type ContextTest = Box<dyn Fn(&Metadata<'_>, &Context<'_>) -> bool>;

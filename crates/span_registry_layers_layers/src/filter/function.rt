@@ -8,8 +8,7 @@ ghost use Rattle.span_registry_layers_layers.specs.Singles.{closure_single};
 
 use crate::context::Context;
 use crate::filter::{Filter, SpanCall};
-use tracing_core_fields::{LevelFilter, Metadata};
-use tracing_core_requests::{Event, Interest};
+use tracing_core_fields::{Event, Interest, LevelFilter, Metadata};
 
 /// Decides by metadata alone.
 pub type MetadataTest = Box<dyn Fn(&Metadata<'_>) -> bool>;

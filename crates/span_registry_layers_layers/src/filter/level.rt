@@ -6,8 +6,7 @@ ghost use Rattle.span_registry_layers_layers.specs.Singles.{function_single};
 
 use crate::context::Context;
 use crate::filter::{Filter, SpanCall};
-use tracing_core_fields::{LevelFilter, Metadata};
-use tracing_core_requests::{Event, Interest};
+use tracing_core_fields::{Event, Interest, LevelFilter, Metadata};
 
 /// Passes what is at most as verbose as the filter's level.
 impl Filter for LevelFilter {

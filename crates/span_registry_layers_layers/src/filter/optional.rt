@@ -1,13 +1,12 @@
 //! A filter that may be absent.
 use crate::context::Context;
 use crate::filter::{Filter, SpanCall};
-use tracing_core_fields::{LevelFilter, Metadata};
-use tracing_core_requests::{Event, Interest};
+use tracing_core_fields::{Event, Interest, LevelFilter, Metadata};
 
 /// Passes all where it is absent.
 impl<F: Filter> Filter for Option<F> {
-    ghost use Rattle.span_registry_layers_layers.specs.Optional as optional;
-    ghost use Rattle.span_registry_layers_layers.specs.Optional.{AnswersIf, EventAnswersIf, SaysIf};
+    ghost use Rattle.span_registry_layers_layers.specs.OptionalFilter as optional;
+    ghost use Rattle.span_registry_layers_layers.specs.OptionalFilter.{AnswersIf, EventAnswersIf, SaysIf};
 
     ghost answers = { AnswersIf F.answers };
 

@@ -1,6 +1,5 @@
 //! What filters are told of spans, as a value.
-use tracing_core_fields::Id;
-use tracing_core_requests::{Attributes, Record};
+use tracing_core_fields::{Attributes, Id, Record};
 
 /// A call of a filter's on a span that it passed.
 #[derive(Clone, Copy, Drop)]

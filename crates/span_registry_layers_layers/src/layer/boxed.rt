@@ -1,14 +1,13 @@
 //! A boxed layer is one.
 ghost use Rattle.std.proofs.Common.{subst, sym};
 ghost use Rattle.std.specs.Prelude.{◌≡◌};
-ghost use Rattle.tracing_core_requests.specs.Steady.{SameWord};
-ghost use Rattle.span_registry_layers_layers.specs.Numbering.{NumbersStay};
+ghost use Rattle.tracing_core_fields.specs.requests.Steady.{SameWord};
+ghost use Rattle.span_registry_layers_layers.specs.FilterNumbers.{NumbersStay};
 
 use crate::context::Context;
 use crate::layer::{Layer, Told};
 use span_registry_layers_store::{FilterMap, Registry};
-use tracing_core_fields::{LevelFilter, Metadata};
-use tracing_core_requests::{Event, Interest, WeakDispatch};
+use tracing_core_fields::{Event, Interest, LevelFilter, Metadata, WeakDispatch};
 
 /// The box does and answers what the layer in it does.
 impl Layer for Box<dyn Layer> {

@@ -1,20 +1,19 @@
 //! A layer below a filter, as a layer.
 ghost use Rattle.std.specs.Prelude.{◌≡◌, ◌&&◌, None, true};
-ghost use Rattle.tracing_core_requests.specs.declared.interest.InterestInner.TheVariants.{Always};
-ghost use Rattle.tracing_core_requests.specs.PlainRequests.{plain_event};
+ghost use Rattle.tracing_core_fields.specs.declared.requests.interest.InterestInner.TheVariants.{Always};
+ghost use Rattle.tracing_core_fields.specs.requests.PlainRequests.{plain_event};
 ghost use Rattle.span_registry_layers_store.specs.Registries.{RegistryValue};
 ghost use Rattle.span_registry_layers_layers.specs.Filtereds.{Hears, HearsAt, MayHear, MayPass, heard, is_seen};
 ghost use Rattle.span_registry_layers_layers.specs.Identities.{idle_fair};
-ghost use Rattle.span_registry_layers_layers.specs.Looks.{SameLoan, left, view};
-ghost use Rattle.span_registry_layers_layers.specs.Told.{notice};
+ghost use Rattle.span_registry_layers_layers.specs.FilterViews.{SameLoan, left, view};
+ghost use Rattle.span_registry_layers_layers.specs.LayerNotices.{notice};
 
 use crate::context::Context;
 use crate::filter::Filter;
 use crate::filtered::Filtered;
 use crate::layer::{Layer, Told};
 use span_registry_layers_store::{FilterMap, Registry};
-use tracing_core_fields::{Id, LevelFilter, Metadata};
-use tracing_core_requests::{Event, Interest, Record, WeakDispatch};
+use tracing_core_fields::{Event, Id, Interest, LevelFilter, Metadata, Record, WeakDispatch};
 
 /// The layer is told of the events that its filter, asked again, passes, and of calls on the spans that the filter and
 /// all filters above it passed when they were made. It vetoes nothing, whatever the layer says.

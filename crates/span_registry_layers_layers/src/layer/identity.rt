@@ -1,17 +1,16 @@
 //! A layer that does nothing.
 ghost use Rattle.std.specs.Prelude.{◌≡◌, None, true, false, refl};
-ghost use Rattle.tracing_core_requests.specs.declared.interest.InterestInner.TheVariants.{Always};
+ghost use Rattle.tracing_core_fields.specs.declared.requests.interest.InterestInner.TheVariants.{Always};
 ghost use Rattle.span_registry_layers_layers.specs.Combined.{same_word};
 ghost use Rattle.span_registry_layers_layers.specs.Identities.{idle_fair};
 ghost use Rattle.span_registry_layers_layers.specs.Notices.{untouched_writes};
-ghost use Rattle.span_registry_layers_layers.specs.Numbering.{no_numbers};
+ghost use Rattle.span_registry_layers_layers.specs.FilterNumbers.{no_numbers};
 ghost use Rattle.span_registry_layers_layers.specs.Singles.{leaf_once};
 
 use crate::context::Context;
 use crate::layer::{Layer, Told};
 use span_registry_layers_store::{FilterMap, Registry};
-use tracing_core_fields::{LevelFilter, Metadata};
-use tracing_core_requests::{Event, Interest, WeakDispatch};
+use tracing_core_fields::{Event, Interest, LevelFilter, Metadata, WeakDispatch};
 
 /// A layer that does nothing with what it is told, and vetoes nothing.
 #[derive(Clone, Copy, Debug, Drop)]

@@ -5,8 +5,7 @@ ghost use Rattle.span_registry_layers_layers.specs.Layereds.{picked_hint, picked
 use crate::context::Context;
 use crate::layer::{Layer, Told};
 use span_registry_layers_store::{FilterMap, Registry};
-use tracing_core_fields::{LevelFilter, Metadata};
-use tracing_core_requests::{Event, Interest, WeakDispatch};
+use tracing_core_fields::{Event, Interest, LevelFilter, Metadata, WeakDispatch};
 
 /// A layer over an inner one, or over a registry.
 ///

@@ -1,14 +1,13 @@
 //! What only listens, as a layer.
 ghost use Rattle.std.specs.Prelude.{◌≡◌};
-ghost use Rattle.span_registry_layers_layers.specs.Looks.{left, view};
+ghost use Rattle.span_registry_layers_layers.specs.FilterViews.{left, view};
 ghost use Rattle.span_registry_layers_layers.specs.Notices.{Notice};
-ghost use Rattle.span_registry_layers_layers.specs.Told.{notice};
+ghost use Rattle.span_registry_layers_layers.specs.LayerNotices.{notice};
 
 use crate::context::Context;
 use crate::layer::{Layer, Told};
 use span_registry_layers_store::{FilterMap, Registry};
-use tracing_core_fields::{LevelFilter, Metadata};
-use tracing_core_requests::{Event, Interest, WeakDispatch};
+use tracing_core_fields::{Event, Interest, LevelFilter, Metadata, WeakDispatch};
 
 /// What only listens: as a layer it passes all, has no filters, and writes nothing to the registry.
 ///
@@ -57,12 +56,12 @@ impl<T> Listening<T> {
 
 impl<T: Listener> Layer for Listening<T> {
     ghost use Rattle.std.specs.Prelude.{◌≡◌, None, false, refl, true};
-    ghost use Rattle.tracing_core_requests.specs.declared.interest.InterestInner.TheVariants.{Always};
+    ghost use Rattle.tracing_core_fields.specs.declared.requests.interest.InterestInner.TheVariants.{Always};
     ghost use Rattle.span_registry_layers_layers.specs.Combined.{same_word};
     ghost use Rattle.span_registry_layers_layers.specs.Identities.{idle_fair};
-    ghost use Rattle.span_registry_layers_layers.specs.Listenings.{Listens};
+    ghost use Rattle.span_registry_layers_layers.specs.ListenerLayer.{Listens};
     ghost use Rattle.span_registry_layers_layers.specs.Notices.{Untouched, untouched_writes};
-    ghost use Rattle.span_registry_layers_layers.specs.Numbering.{no_numbers};
+    ghost use Rattle.span_registry_layers_layers.specs.FilterNumbers.{no_numbers};
     ghost use Rattle.span_registry_layers_layers.specs.Singles.{leaf_once};
 
     ghost told = { λ x n y. Listens ⟦<T as Listener>⟧ x n y × Untouched n };

@@ -2,14 +2,13 @@
 use crate::context::Context;
 use crate::layer::{Layer, Told};
 use span_registry_layers_store::{FilterMap, Registry};
-use tracing_core_fields::{LevelFilter, Metadata};
-use tracing_core_requests::{Event, Interest, WeakDispatch};
+use tracing_core_fields::{Event, Interest, LevelFilter, Metadata, WeakDispatch};
 
 /// Where it is absent it vetoes nothing, but its hint is that it passes nothing: an absent layer doesn't keep its
 /// word.
 impl<L: Layer> Layer for Option<L> {
-    ghost use Rattle.span_registry_layers_layers.specs.Absent as absent;
-    ghost use Rattle.span_registry_layers_layers.specs.Optional.{AnswersIf, EventAnswersIf, SaysIf};
+    ghost use Rattle.span_registry_layers_layers.specs.OptionalLayer as absent;
+    ghost use Rattle.span_registry_layers_layers.specs.OptionalFilter.{AnswersIf, EventAnswersIf, SaysIf};
 
     ghost answers = { AnswersIf L.answers };
 

@@ -1,25 +1,25 @@
 //! Several layers as one.
 ghost use Rattle.std.specs.Prelude.{◌≡◌, ◌≤◌, ◌+◌, Bool, List, length, Some};
 ghost use Rattle.tracing_core_fields.specs.Metadata.{plain_metadata};
-ghost use Rattle.tracing_core_requests.specs.PlainRequests.{plain_event};
-ghost use Rattle.tracing_core_requests.specs.declared.interest.InterestInner.TheVariants.{Never};
-ghost use Rattle.span_registry_layers_layers.specs.Looks.{SameLoan, left, view};
+ghost use Rattle.tracing_core_fields.specs.requests.PlainRequests.{plain_event};
+ghost use Rattle.tracing_core_fields.specs.declared.requests.interest.InterestInner.TheVariants.{Never};
+ghost use Rattle.span_registry_layers_layers.specs.FilterViews.{SameLoan, left, view};
 ghost use Rattle.span_registry_layers_layers.specs.Notices.{AddsFilters, Attached, Dispatched};
-ghost use Rattle.span_registry_layers_layers.specs.Several.{AllAnswer, AllAnswerEvents, EachTold, KeptByEach, SaysFrom, TellsInTurn, NotifiedEach, filters_of, hint_from, numbers_of};
-ghost use Rattle.span_registry_layers_layers.specs.Told.{notice};
-ghost use Rattle.span_registry_layers_layers.specs.Numbering.{AreNumbers, SameBut, SameOf, more_filters, numbers_from, room_after};
+ghost use Rattle.span_registry_layers_layers.specs.Several.{AllAnswer, AllAnswerEvents, EachTold, KeptByEach, SaysFrom, TellsInTurn};
+ghost use Rattle.span_registry_layers_layers.specs.Several.{NotifiedEach, filters_of, hint_from, numbers_of};
+ghost use Rattle.span_registry_layers_layers.specs.LayerNotices.{notice};
+ghost use Rattle.span_registry_layers_layers.specs.FilterNumbers.{AreNumbers, SameBut, SameOf, more_filters, numbers_from, room_after};
 
 use crate::context::Context;
 use crate::filter::{either_hint, either_interest};
 use crate::layer::{Layer, Told};
 use span_registry_layers_store::{FilterMap, Registry};
-use tracing_core_fields::{LevelFilter, Metadata};
-use tracing_core_requests::{Event, Interest, WeakDispatch};
+use tracing_core_fields::{Event, Interest, LevelFilter, Metadata, WeakDispatch};
 
 /// Each layer is told in turn, and where one refuses, nobody is. They are consistent where there is one, and
 /// each of them keeps its own and always wants all.
 impl<L: Layer> Layer for Vec<L> {
-    ghost use Rattle.tracing_core_requests.specs.declared.interest.InterestInner.TheVariants.{Never};
+    ghost use Rattle.tracing_core_fields.specs.declared.requests.interest.InterestInner.TheVariants.{Never};
     ghost use Rattle.std.specs.Prelude.{Some};
     ghost use Rattle.span_registry_layers_layers.specs.Several as several;
 

@@ -1,6 +1,5 @@
 //! What layers are told of spans and events, as a value.
-use tracing_core_fields::Id;
-use tracing_core_requests::{Attributes, Event, Record};
+use tracing_core_fields::{Attributes, Event, Id, Record};
 
 /// A call of a layer's on a span or an event.
 #[derive(Clone, Copy, Drop)]

@@ -2,15 +2,14 @@
 ghost use Rattle.std.specs.Prelude.{◌≡◌, false, refl};
 ghost use Rattle.span_registry_layers_layers.specs.Honesty.{Fair};
 ghost use Rattle.span_registry_layers_layers.specs.Notices.{Untouched, untouched_writes};
-ghost use Rattle.span_registry_layers_layers.specs.Numbering.{no_numbers};
+ghost use Rattle.span_registry_layers_layers.specs.FilterNumbers.{no_numbers};
 ghost use Rattle.span_registry_layers_layers.specs.Singles.{leaf_once};
 
 use crate::context::Context;
 use crate::filter::{DynFilterFn, Filter, FilterFn};
 use crate::layer::{Layer, Told};
 use span_registry_layers_store::{FilterMap, Registry};
-use tracing_core_fields::{LevelFilter, Metadata};
-use tracing_core_requests::{Event, Interest, WeakDispatch};
+use tracing_core_fields::{Event, Interest, LevelFilter, Metadata, WeakDispatch};
 
 /// A filter of this crate that is a layer as well: nobody is told of what it refuses, and no notice changes it.
 pub trait Veto: Filter {}

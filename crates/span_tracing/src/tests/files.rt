@@ -1,15 +1,15 @@
 //! Outputs that are refused, in the order in which refusals are told, and outputs whose files are opened.
 
-use event_formatter_formats::Fields;
-use event_formatter_makers::Route;
+use event_formatter::Fields;
+use event_formatter_text::Route;
 use span_registry_layers_store::OutputKey;
-use span_tracing_files::{FileStack, LineSettings, OutputSpec, SinkSpec, open_stack};
+use span_tracing_outputs::{FileStack, LineSettings, OutputSpec, SinkSpec, open_stack};
 use span_tracing_skeleton::Refusal;
 use std::alloc::Global;
 use std::test::Fail;
-use tracing_appender_folders::{FaultyFolder, MemoryFolder, Moment};
-use tracing_appender_rolling::{Builder, Rotation};
+use tracing_appender_rolling::{Builder, FaultyFolder, MemoryFolder, Rotation};
 use tracing_core_fields::LevelFilter;
+use tracing_core_moments::Moment;
 
 type Outputs = Vec<OutputSpec<LevelFilter, MemoryFolder>>;
 

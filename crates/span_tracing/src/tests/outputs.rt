@@ -1,18 +1,19 @@
 //! Lines that outputs keep until they are handed on.
 
-use event_formatter_formats::{Fields, Format, Json, LineFormat, Timer};
-use event_formatter_layer::Layer;
-use event_formatter_lines::FmtSpan;
-use event_formatter_makers::MakeWriter;
-use event_formatter_times::FixedText;
+use event_formatter::{Fields, Format, Json, Layer, LineFormat, Timer};
+use event_formatter_lines::{FixedText, FmtSpan};
+use event_formatter_text::MakeWriter;
+use span_registry_layers::{Output, Stack};
 use span_registry_layers_layers::Filtered;
-use span_registry_layers_stack::{Output, Stack};
 use span_registry_layers_store::OutputKey;
 use span_tracing_outputs::*;
 use std::alloc::Global;
 use std::test::Fail;
-use tracing_core_fields::{AnyValue, FieldSet, Id, Identifier, Kind, Level, LevelFilter, Metadata};
-use tracing_core_requests::{At, Attributes, Event, Subscriber};
+use tracing_core_fields::{
+    AnyValue, Attributes, Event, FieldSet, Id, Identifier, Kind, Level, LevelFilter, Metadata,
+    Subscriber,
+};
+use tracing_core_moments::At;
 
 const NAMES: [&str; 1] = ["message"];
 

@@ -8,7 +8,7 @@ use crate::{
 use std::alloc::Global;
 use std::process::Abort;
 use std::test::Fail;
-use tracing_appender_folders::Folder;
+use tracing_appender_rolling::Folder;
 use tracing_core_fields::{FieldSet, Identifier, Kind, Level, LevelFilter, Metadata};
 
 type Outputs = FileStack<LevelFilter, MemoryFolder>;

@@ -1,15 +1,14 @@
 //! Lines that a sink takes, over folders that keep them and folders that refuse them.
 
-use span_tracing_outputs::LineSink;
-use span_tracing_sinks::RollingSink;
+use span_tracing_outputs::{LineSink, RollingSink};
 use std::alloc::{AllocError, Global};
 use std::test::Fail;
 use tracing_appender_rolling::{
-    Entry, FaultyFolder, FileNumber, Folder, FolderError, FolderFault, MemoryFolder, Moment,
+    Entry, FaultyFolder, FileNumber, Folder, FolderError, FolderFault, MemoryFolder,
     RollingFileAppender, Rotation,
 };
 use tracing_core_fields::Level;
-use tracing_core_requests::At;
+use tracing_core_moments::{At, Moment};
 
 /// 2025-02-17T10:01:00Z.
 const MONDAY: Moment = Moment {

@@ -2,7 +2,7 @@
 //! fewer ids than there are, so that too many handles are met by no test, and spent ids by the subscriber's answer.
 
 ghost use Rattle.std.specs.Prelude.{◌≡◌, IfOk};
-ghost use Rattle.span_tracing_steps.specs.Sound.{IsSound};
+ghost use Rattle.span_tracing_steps.specs.TraceInvariant.{IsSound};
 
 mod keeper;
 mod refusing;
@@ -14,11 +14,11 @@ use span_tracing_skeleton::{EnabledCall, FollowsCall, Parent, Refusal, Reply, Sp
 use span_tracing_steps::{RecordRequest, Request, TraceParts};
 use std::alloc::Global;
 use std::test::Fail;
-use tracing_appender_folders::Moment;
 use tracing_core_fields::{
-    FieldSet, FieldValue, Id, Identifier, Kind, Level, Metadata, OwnedValue,
+    FieldSet, FieldValue, Id, Identifier, Kind, Level, Metadata, OwnedValue, RequestError,
+    Subscriber,
 };
-use tracing_core_requests::{RequestError, Subscriber};
+use tracing_core_moments::Moment;
 
 /// 2025-02-17T10:01:00Z.
 const OPENED: Moment = Moment {

@@ -1,19 +1,19 @@
 //! Lines that show the threads of lanes.
 
-use event_formatter_makers::Route;
+use crate::Trace;
+use event_formatter_text::Route;
 use span_registry_layers_store::OutputKey;
-use span_tracing_files::{
+use span_tracing_outputs::{
     FileStack, LaneThread, LineSettings, OutputSpec, SinkSpec, open_stack_with_threads,
 };
 use span_tracing_skeleton::{Parent, Reply};
-use span_tracing_trace::Trace;
 use std::alloc::Global;
 use std::test::Fail;
-use tracing_appender_folders::{MemoryFolder, Moment};
-use tracing_appender_rolling::Builder;
+use tracing_appender_rolling::{Builder, MemoryFolder};
 use tracing_core_fields::{
     FieldSet, FieldValue, Identifier, Kind, Level, LevelFilter, Metadata, OwnedValue,
 };
+use tracing_core_moments::Moment;
 
 type ThreadTrace = Trace<FileStack<LevelFilter, MemoryFolder>>;
 

@@ -1,7 +1,7 @@
 //! Clocks of the tests, and the machine's.
 
 ghost use Rattle.std.specs.Prelude.{◌≡◌, true};
-ghost use Rattle.tracing_appender_rolling.specs.Moments.{is_moment};
+ghost use Rattle.tracing_core_moments.specs.Moments.{is_moment};
 
 use crate::{Clock, FixedClock, Moment, SystemClock};
 use std::test::Fail;

@@ -1,9 +1,11 @@
 //! Retention where many files lie in the folder.
 
+use crate::folders::{Entry, FileNumber, Folder, FolderError, MemoryFolder};
 use crate::tests::moments::{FEBRUARY, MONDAY};
-use crate::{Builder, Entry, FileNumber, Folder, FolderError, MemoryFolder, Moment, Rotation};
+use crate::{Builder, Rotation};
 use std::alloc::{AllocError, Global};
 use std::test::Fail;
+use tracing_core_moments::Moment;
 
 /// So many files does the folder list.
 const FILES: i64 = 100_000;

@@ -1,5 +1,5 @@
 //! Moments of the tests.
-use crate::Moment;
+use tracing_core_moments::Moment;
 
 /// 2025-02-17T00:00:00Z.
 pub const MONDAY_MIDNIGHT: Moment = Moment {

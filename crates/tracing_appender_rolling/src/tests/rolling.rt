@@ -1,17 +1,18 @@
 //! Rotations, retention, links, and builders that are refused.
 
 ghost use Rattle.std.specs.Prelude.{◌≡◌, IfOk, true};
-ghost use Rattle.tracing_appender_folders.specs.Moments.{is_moment};
+ghost use Rattle.tracing_core_moments.specs.Moments.{is_moment};
 
 mod refused_calls;
 
+use crate::folders::MemoryFolder;
 use crate::tests::moments::{ELEVEN, FEBRUARY, FIRST, LAST, MONDAY};
 use crate::{
-    BuildError, Builder, MemoryFolder, Moment, RollingFileAppender, Rotation, daily, hourly,
-    minutely, never, weekly,
+    BuildError, Builder, RollingFileAppender, Rotation, daily, hourly, minutely, never, weekly,
 };
 use std::alloc::{AllocError, Global};
 use std::test::Fail;
+use tracing_core_moments::Moment;
 
 /// So many seconds after 2020-02-01T10:01:00Z.
 fn later(seconds: i64) -> Result<Moment, Fail>

@@ -1,15 +1,15 @@
 //! Files over a folder of the system.
 
 ghost use Rattle.std.specs.Prelude.{◌≡◌, true};
-ghost use Rattle.tracing_appender_folders.specs.Moments.{is_moment};
+ghost use Rattle.tracing_core_moments.specs.Moments.{is_moment};
 
+use crate::folders::{DiskFolder, Folder, FolderFault};
 use crate::tests::moments::{ELEVEN, FEBRUARY, NOON};
-use crate::{
-    BuildError, Builder, DiskFolder, Folder, FolderFault, InitContext, InitError, Moment, Rotation,
-};
+use crate::{BuildError, Builder, InitContext, InitError, Rotation};
 use std::alloc::{AllocError, Global};
 use std::fs;
 use std::test::Fail;
+use tracing_core_moments::Moment;
 
 /// Hourly files with the prefix `t`, at most two.
 fn hourly_files(alloc: Global) -> Result<Builder, AllocError> {

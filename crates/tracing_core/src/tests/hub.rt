@@ -1,7 +1,7 @@
+use crate::*;
 use std::alloc::Global;
 use std::test::Fail;
 use tracing_core_fields::{FieldSet, Id, Identifier, Kind, Level, LevelFilter, Metadata};
-use tracing_core_hub::*;
 
 mod everything;
 mod indexed;
@@ -14,10 +14,11 @@ mod scoped;
 
 use everything::Everything;
 use owned_callsite::OwnedCallsite;
-use tracing_core_requests::{
-    At, Attributes, Callsite, CurrentSpan, Event, Interest, NoSubscriber, Record, RequestError,
+use tracing_core_fields::{
+    Attributes, Callsite, CurrentSpan, Event, Interest, NoSubscriber, Record, RequestError,
     Subscriber,
 };
+use tracing_core_moments::At;
 
 fn at(lane: u64) -> At {
     At {

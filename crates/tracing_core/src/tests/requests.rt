@@ -1,4 +1,4 @@
-use tracing_core_requests::Interest;
+use tracing_core_fields::Interest;
 
 #[test]
 fn interests_have_one_answer(rt: HostRuntime) {

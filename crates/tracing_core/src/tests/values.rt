@@ -1,8 +1,7 @@
 use std::fmt;
 use std::num::{NonZeroI128, NonZeroU8, Wrapping};
 use std::test::Fail;
-use tracing_core_fields::{AnyValue, DebugText, ErrorText};
-use tracing_core_values::*;
+use tracing_core_fields::{AnyValue, DebugText, ErrorText, *};
 
 // A value whose `fmt` fails half way.
 struct Broken;

@@ -1,5 +1,5 @@
 use super::*;
-use event_formatter_times::{FormatTime, SystemTime, Uptime};
+use event_formatter_lines::{FormatTime, SystemTime, Uptime};
 
 // The line of an event with a place in the source, outside of all spans.
 fn placed_line<F: FormatEvent>(alloc: Global, format: &mut F) -> Result<String, Fail> {

@@ -1,7 +1,7 @@
 // What a format may ask of its context.
 use super::*;
 use event_formatter_lines::ShownSpans;
-use tracing_core_requests::CurrentSpan;
+use tracing_core_fields::CurrentSpan;
 
 // A lane in a span `outer` with x = 42, in which it is in a span that the filter refused.
 fn in_refused(alloc: Global, registry: &mut Registry) -> Result<(FilterId, Id, Id), Fail> {

@@ -1,6 +1,6 @@
 use super::*;
+use event_formatter_lines::timings_at_start;
 use event_formatter_text::{FormatError, FormattedFields, RecordFields, Writer};
-use event_formatter_times::timings_at_start;
 use std::alloc::AllocError;
 
 // Finds no memory for a list of values, and for the start of a text only where there is room for it.

@@ -1,5 +1,5 @@
 use super::*;
-use event_formatter_times::timings_at_start;
+use event_formatter_lines::timings_at_start;
 use span_registry_layers_store::Timings;
 
 // Tells a span of a step at a moment.

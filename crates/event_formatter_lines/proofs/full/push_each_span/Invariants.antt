@@ -4,4 +4,5 @@ use Rattle.event_formatter_lines.specs.Full.{span_piece}
 use Rattle.event_formatter_lines.proofs.full.push_each_span.Given as goal
 
 abbrev pub invariant-loop-index : goal.invariant-loop-index
-invariant-loop-index g l = string_bytes l.out ≡ string_bytes l.fn.out ++ flat_map (span_piece l.settings) (take l.index (g.S.ShownSpans.spans l.spans))
+invariant-loop-index g l = string_bytes l.out ≡ string_bytes l.fn.out ++
+    flat_map (span_piece l.settings) (take l.index (g.S.ShownSpans.spans l.spans))

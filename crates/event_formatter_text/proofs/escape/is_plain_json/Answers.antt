@@ -2,7 +2,7 @@ use Rattle.std.proofs.Common.{◌≡◌, IsTrue, Bool, true, false, not, refl, s
 use Rattle.std.specs.List.{list_any}
 use Rattle.event_formatter_text.specs.Escapes.{is_special}
 use Rattle.event_formatter_text.specs.declared.escape.Escape.TheVariants.{Json}
-use Rattle.event_formatter_text.proofs.Plain.{stands}
+use Rattle.event_formatter_text.proofs.UnescapedText.{stands}
 use Rattle.event_formatter_text.proofs.escape.is_plain_json.Goals as goal
 
 is_false : (b : Bool) → IsTrue (not b) → b ≡ false

@@ -10,6 +10,7 @@ use Rattle.event_formatter_text.proofs.escape.push_each.Goals as goal
 pub returns : goal.returns
 unfolding escaped
 returns c =
-    let t = YieldsList-end (YieldsList-from_chars c.args.text.now c.utf8.text cc) c.loop-c.yielded _ c.loop-c.yielded_by _ _ c.in-None.is c.next.ensures.steps in
+    let t = YieldsList-end (YieldsList-from_chars c.args.text.now c.utf8.text cc) c.loop-c.yielded _ c.loop-c.yielded_by _ _ c.in-None.is
+    c.next.ensures.steps in
     let e : c.loop-c.yielded ≡ chars c.args.text.now = sym (map-id c.loop-c.yielded) ∙ t.0 in
     grind (arith, common_steps)

@@ -1,5 +1,5 @@
-use Rattle.event_formatter_text.proofs.Keeping.{kept}
-use Rattle.event_formatter_text.proofs.Objects.{given, refused}
+use Rattle.event_formatter_text.proofs.KeptMembers.{kept}
+use Rattle.event_formatter_text.proofs.GivenMembers.{given, refused}
 use Rattle.event_formatter_text.proofs.members.with_fields.Goals as goal
 
 pub returns-in-Ok : goal.returns-in-Ok

@@ -1,7 +1,7 @@
 use Rattle.std.proofs.Common.{◌≡◌, ◌+◌, ◌≤◌, ℕ, ap, sym, subst, ◌∙◌, arith}
 use Rattle.span_registry_layers_store.specs.Registries.{RegistryValue}
-use Rattle.span_registry_layers_layers.specs.Numbering.{AreNumbers, numbers_from}
-use Rattle.span_registry_layers_layers.proofs.Numbers.{fits_within, numbers_apart}
+use Rattle.span_registry_layers_layers.specs.FilterNumbers.{AreNumbers, numbers_from}
+use Rattle.span_registry_layers_layers.proofs.FilterNumbers.{fits_within, numbers_apart}
 use Rattle.span_registry_layers_layers.proofs.attached.attach.Goals as goal
 
 pub returns-then-has_room : goal.returns-then-has_room
@@ -15,5 +15,9 @@ returns-then-has_room g c =
       c.number.ensures.notified,
       attached.0,
       attached.1,
-      (subst (AreNumbers c.number.result.inner.filters) (sym attached.1) (subst (λ (n : ℕ). AreNumbers n (numbers_from x count)) (sym filters) (numbers_apart (x + count) x count (omega arith))), subst (λ (n : ℕ). n ≤ 64) (sym filters) fits),
+      (
+        subst (AreNumbers c.number.result.inner.filters) (sym attached.1)
+            (subst (λ (n : ℕ). AreNumbers n (numbers_from x count)) (sym filters) (numbers_apart (x + count) x count (omega arith))),
+        subst (λ (n : ℕ). n ≤ 64) (sym filters) fits,
+      ),
     )

@@ -8,4 +8,5 @@ pub returns-clause-event : goal.returns-clause-event
 returns-clause-event g c = λ w. tells_events g.T.Layer g.L.Layer (g.W.Way.leads w) (g.W.Way.passes w) (g.met.W.Way.tells w)
 
 pub returns-clause-span : goal.returns-clause-span
-returns-clause-span g c = λ w. tells_spans g.T.Layer g.L.Layer (g.W.Way.leads w) (g.W.Way.passes w) (g.W.Way.asks w) (g.met.W.Way.tells w) (g.met.W.Way.keeps w)
+returns-clause-span g c = λ w. tells_spans g.T.Layer g.L.Layer (g.W.Way.leads w) (g.W.Way.passes w) (g.W.Way.asks w) (g.met.W.Way.tells w)
+    (g.met.W.Way.keeps w)

@@ -1,4 +1,4 @@
-use Rattle.span_registry_layers_layers.specs.Staying.{stay_attached}
+use Rattle.span_registry_layers_layers.specs.TreeConsistency.{stay_attached}
 use Rattle.span_registry_layers_layers.proofs.laws.trees_stay_attached.Goals as goal
 
 pub returns : goal.returns

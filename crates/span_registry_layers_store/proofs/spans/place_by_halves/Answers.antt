@@ -1,7 +1,7 @@
 use Rattle.std.proofs.Common.{rules}
 use Rattle.std.proofs.lemmas.List.Sorted.{answers_always}
 use Rattle.span_registry_layers_store.specs.declared.span.Span.{Span}
-use Rattle.span_registry_layers_store.proofs.Rising.{searched_none, searched_there}
+use Rattle.span_registry_layers_store.proofs.IdOrder.{searched_none, searched_there}
 use Rattle.span_registry_layers_store.proofs.spans.place_by_halves.Goals as goal
 
 -- the closure gives a span's id

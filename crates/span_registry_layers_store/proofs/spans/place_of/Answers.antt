@@ -1,4 +1,4 @@
-use Rattle.span_registry_layers_store.proofs.Rising.{place_in}
+use Rattle.span_registry_layers_store.proofs.IdOrder.{place_in}
 use Rattle.span_registry_layers_store.proofs.spans.place_of.Goals as goal
 
 pub returns-in-Some : goal.returns-in-Some

@@ -1,4 +1,4 @@
-use Rattle.span_registry_layers_store.proofs.Lending.{no_span_to_lend, span_to_lend}
+use Rattle.span_registry_layers_store.proofs.SlotLoans.{no_span_to_lend, span_to_lend}
 use Rattle.span_registry_layers_store.proofs.spans.place_to_lend.Goals as goal
 
 pub returns-in-None : goal.returns-in-None

@@ -1,4 +1,4 @@
-use Rattle.span_tracing.proofs.Alone.{outputs_go_alone}
+use Rattle.span_tracing.proofs.OutputIndependence.{outputs_go_alone}
 use Rattle.span_tracing.proofs.laws.outputs_go_alone.Goals as goal
 
 pub returns : goal.returns

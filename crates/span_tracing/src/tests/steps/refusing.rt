@@ -1,5 +1,5 @@
 // Refusals, each in its order.
-ghost use Rattle.span_tracing_steps.specs.Sound.{IsSound};
+ghost use Rattle.span_tracing_steps.specs.TraceInvariant.{IsSound};
 
 use super::*;
 

@@ -1,6 +1,6 @@
 // Setup calls.
 use super::*;
-use tracing_core_requests::Interest;
+use tracing_core_fields::Interest;
 
 #[test]
 fn lanes_are_numbered_from_zero(rt: HostRuntime) -> Result<(), Fail> {

@@ -1,10 +1,11 @@
 // Calls that are refused.
 
+use crate::Trace;
 use crate::tests::trace::stage::{
     EVENT_FIELDS, OPENED, OUTER, TOO_EARLY, WARNING, Written, has_file, made, set_trace, span_name,
     trace_of_two,
 };
-use span_tracing_trace::{EnabledCall, FollowsCall, Parent, Refusal, Reply, Step, Trace};
+use span_tracing_skeleton::{EnabledCall, FollowsCall, Parent, Refusal, Reply, Step};
 use std::test::Fail;
 use tracing_core_fields::{FieldSet, Identifier, Kind, Level, Metadata};
 

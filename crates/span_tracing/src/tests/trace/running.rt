@@ -4,7 +4,7 @@ use crate::tests::trace::stage::{
     NEXT_DAY, OPENED, OUTER, WARNING, has_file, made, number_field, set_trace, span_name,
     text_field, trace_of_two,
 };
-use span_tracing_trace::{EventCall, NewSpanCall, Parent, Refusal, Reply, SpanCall, Step};
+use span_tracing_skeleton::{EventCall, NewSpanCall, Parent, Refusal, Reply, SpanCall, Step};
 use std::alloc::Global;
 use std::test::Fail;
 

@@ -1,19 +1,21 @@
 // A trace over two outputs.
 
-use event_formatter_formats::Json;
-use event_formatter_lines::FmtSpan;
-use event_formatter_times::FixedText;
+use crate::Trace;
+use event_formatter::{Fields, Format, Json, Layer, LineFormat, Timer};
+use event_formatter_lines::{FixedText, FmtSpan};
+use span_registry_layers::{Output, Stack};
 use span_registry_layers_layers::Filtered;
-use span_tracing_trace::{
-    FieldValue, Fields, Format, Layer, LineFormat, MemoryFolder, Moment, Output, OutputKey,
-    OwnedValue, PendingLines, Refusal, Reply, RollingFileAppender, RollingSink, Rotation,
-    RoutedSinks, SpanName, Stack, Timer, Trace, TraceStack,
-};
+use span_registry_layers_store::OutputKey;
+use span_tracing_outputs::{PendingLines, RollingSink, RoutedSinks, TraceStack};
+use span_tracing_skeleton::{Refusal, Reply, SpanName};
 use std::alloc::{AllocError, Global};
 use std::process::Abort;
 use std::test::Fail;
-use tracing_core_fields::{FieldSet, Id, Identifier, Kind, Level, LevelFilter, Metadata};
-use tracing_core_requests::Interest;
+use tracing_appender_rolling::{MemoryFolder, RollingFileAppender, Rotation};
+use tracing_core_fields::{
+    FieldSet, FieldValue, Id, Identifier, Interest, Kind, Level, LevelFilter, Metadata, OwnedValue,
+};
+use tracing_core_moments::Moment;
 
 /// 2025-02-17T10:01:00Z.
 pub(crate) const OPENED: Moment = Moment {

@@ -1,8 +1,8 @@
 use Rattle.std.proofs.Common.{◌≤◌, ℕ, List, Option, slice_get, ap, sym, ◌∙◌, subst, add-one, rules}
-use Rattle.span_tracing_outputs.specs.Hands.{cleared_at}
+use Rattle.span_tracing_outputs.specs.SinkLines.{cleared_at}
 use Rattle.span_tracing_outputs.specs.StackFollows.{LinedStack}
 use Rattle.span_tracing_outputs.specs.Turns.{Lined}
-use Rattle.span_tracing_outputs.proofs.Handing.{all_cleared, clears_next, cleared_to, next_is}
+use Rattle.span_tracing_outputs.proofs.SinkLines.{all_cleared, clears_next, cleared_to, next_is}
 use Rattle.span_tracing_outputs.proofs.hand.clear_lines.Goals as goal
 
 pub loop-place-preserved : goal.loop-place-preserved
@@ -22,4 +22,5 @@ returns g c =
     let rows = s.rows in
     let place = c.loop-place.place in
     let past : c.args.count ≤ place = search rules in
-    c.loop-place.invariant ∙ ap (λ (ls : List (Lined _ _ _)). record s { rows = ls }) (all_cleared place rows (subst (λ (n : ℕ). n ≤ place) (sym c.requires) past))
+    c.loop-place.invariant ∙ ap (λ (ls : List (Lined _ _ _)). record s { rows = ls })
+    (all_cleared place rows (subst (λ (n : ℕ). n ≤ place) (sym c.requires) past))

@@ -1,5 +1,5 @@
 use Rattle.std.proofs.Common.{◌≡◌}
-use Rattle.span_tracing_outputs.proofs.Handing.{cleared_to}
+use Rattle.span_tracing_outputs.proofs.SinkLines.{cleared_to}
 use Rattle.span_tracing_outputs.proofs.hand.clear_lines.Given as goal
 
 abbrev pub invariant-loop-place : goal.invariant-loop-place

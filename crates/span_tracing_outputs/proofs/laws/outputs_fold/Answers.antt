@@ -1,4 +1,4 @@
-use Rattle.span_tracing_outputs.proofs.Folding.{folded}
+use Rattle.span_tracing_outputs.proofs.OutputFolds.{folded}
 use Rattle.span_tracing_outputs.proofs.laws.outputs_fold.Goals as goal
 
 pub returns : goal.returns

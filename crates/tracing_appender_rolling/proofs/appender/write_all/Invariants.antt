@@ -1,5 +1,5 @@
 use Rattle.std.proofs.Common.{◌≡◌, length, ◌-◌, ◌≤◌}
-use Rattle.tracing_appender_rolling.proofs.Writing.{Going}
+use Rattle.tracing_appender_rolling.proofs.WriteLoop.{Going}
 use Rattle.tracing_appender_rolling.proofs.appender.write_all.Given as goal
 
 abbrev pub invariant-loop-from : goal.invariant-loop-from

@@ -1,4 +1,4 @@
-use Rattle.tracing_appender_rolling.proofs.Lasting.{files_by_period}
+use Rattle.tracing_appender_rolling.proofs.FaultlessSwitch.{files_by_period}
 use Rattle.tracing_appender_rolling.proofs.laws.files_by_period.Goals as goal
 
 pub returns : goal.returns

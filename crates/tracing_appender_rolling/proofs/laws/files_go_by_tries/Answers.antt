@@ -1,4 +1,4 @@
-use Rattle.tracing_appender_rolling.proofs.Trying.{files_by_tries}
+use Rattle.tracing_appender_rolling.proofs.FilesByTries.{files_by_tries}
 use Rattle.tracing_appender_rolling.proofs.laws.files_go_by_tries.Goals as goal
 
 pub returns : goal.returns

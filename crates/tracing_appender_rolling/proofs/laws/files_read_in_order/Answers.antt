@@ -1,4 +1,4 @@
-use Rattle.tracing_appender_rolling.proofs.InOrder.{in_order, own_in_order}
+use Rattle.tracing_appender_rolling.proofs.FilesInOrder.{in_order, own_in_order}
 use Rattle.tracing_appender_rolling.proofs.laws.files_read_in_order.Goals as goal
 
 pub returns-clause-all : goal.returns-clause-all

@@ -1,4 +1,4 @@
-use Rattle.tracing_appender_rolling.proofs.Sparing.{spares}
+use Rattle.tracing_appender_rolling.proofs.SparedFiles.{spares}
 use Rattle.tracing_appender_rolling.proofs.laws.retention_spares_others.Goals as goal
 
 pub returns : goal.returns

@@ -1,13 +1,12 @@
 //! Folders that refuse a call, or take few bytes.
 
 use super::{holds, later, named};
+use crate::folders::{FaultyFolder, Folder, FolderError, FolderFault, MemoryFolder};
 use crate::tests::moments::{FEBRUARY, MONDAY};
-use crate::{
-    BuildError, FaultyFolder, Folder, FolderError, FolderFault, InitContext, InitError,
-    MemoryFolder, Moment, RollingFileAppender, Rotation, daily, hourly,
-};
+use crate::{BuildError, InitContext, InitError, RollingFileAppender, Rotation, daily, hourly};
 use std::alloc::Global;
 use std::test::Fail;
+use tracing_core_moments::Moment;
 
 /// What the calls of a script told, and what was counted.
 #[derive(Clone, Copy, Debug, PartialEq, Eq)]

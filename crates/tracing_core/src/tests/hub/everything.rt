@@ -1,11 +1,12 @@
 // A subscriber that says and answers always the same.
 ghost use Rattle.std.specs.Prelude.{◌≡◌, None};
-ghost use Rattle.tracing_core_requests.specs.Interests.{says_always};
+ghost use Rattle.tracing_core_fields.specs.requests.Interests.{says_always};
 
-use tracing_core_fields::{Id, LevelFilter, Metadata};
-use tracing_core_requests::{
-    At, Attributes, CurrentSpan, Event, Interest, Record, RequestError, Subscriber, WeakDispatch,
+use tracing_core_fields::{
+    Attributes, CurrentSpan, Event, Id, Interest, LevelFilter, Metadata, Record, RequestError,
+    Subscriber, WeakDispatch,
 };
+use tracing_core_moments::At;
 
 #[derive(Drop)]
 pub struct Everything {
@@ -30,8 +31,8 @@ impl Everything {
 impl Subscriber for Everything {
     ghost use Rattle.std.specs.Prelude.{refl};
     ghost use Rattle.std.proofs.Common.{sym, subst, ap, ◌∙◌};
-    ghost use Rattle.tracing_core_requests.specs.Steady.{InterestFits};
-    ghost use Rattle.tracing_core_requests.specs.declared.interest.InterestInner.TheVariants.{Never, Sometimes, Always};
+    ghost use Rattle.tracing_core_fields.specs.requests.Steady.{InterestFits};
+    ghost use Rattle.tracing_core_fields.specs.declared.requests.interest.InterestInner.TheVariants.{Never, Sometimes, Always};
 
     ghost answers = { λ x m at b. b ≡ says_always x.interest };
 

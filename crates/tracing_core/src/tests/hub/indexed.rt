@@ -1,12 +1,12 @@
 // Requests at callsites that are told by their index.
 use crate::tests::hub::at;
 use crate::tests::hub::listener::{Listener, Place};
+use crate::*;
 use std::alloc::Global;
 use std::test::Fail;
 use tracing_core_fields::{
     FieldSet, FieldValue, Id, Identifier, Kind, Level, Metadata, OwnedValue,
 };
-use tracing_core_hub::*;
 
 const NAMES: [&str; 2] = ["n", "m"];
 

@@ -1,11 +1,12 @@
 // A subscriber that keeps what it was told last.
 ghost use Rattle.std.specs.Prelude.{◌≡◌, None};
-ghost use Rattle.tracing_core_requests.specs.declared.interest.InterestInner.TheVariants.{Sometimes};
+ghost use Rattle.tracing_core_fields.specs.declared.requests.interest.InterestInner.TheVariants.{Sometimes};
 
-use tracing_core_fields::{DebugText, Field, Id, LevelFilter, Metadata, Visit};
-use tracing_core_requests::{
-    At, Attributes, CurrentSpan, Event, Interest, Record, RequestError, Subscriber, WeakDispatch,
+use tracing_core_fields::{
+    Attributes, CurrentSpan, DebugText, Event, Field, Id, Interest, LevelFilter, Metadata, Record,
+    RequestError, Subscriber, Visit, WeakDispatch,
 };
+use tracing_core_moments::At;
 
 // The digits of numbers, in the order in which they are told.
 #[derive(Drop)]
@@ -74,7 +75,7 @@ impl Listener {
 impl Subscriber for Listener {
     ghost use Rattle.std.specs.Prelude.{true, refl};
     ghost use Rattle.std.proofs.Common.{sym, subst, ◌∙◌};
-    ghost use Rattle.tracing_core_requests.specs.Steady.{InterestFits};
+    ghost use Rattle.tracing_core_fields.specs.requests.Steady.{InterestFits};
 
     ghost answers = { λ x m at b. b ≡ true };
 

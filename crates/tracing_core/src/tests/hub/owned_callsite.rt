@@ -1,8 +1,7 @@
 // A callsite that owns what it is made of.
-ghost use Rattle.tracing_core_requests.specs.Interests.{PlainInterest};
+ghost use Rattle.tracing_core_fields.specs.requests.Interests.{PlainInterest};
 
-use tracing_core_fields::{FieldSet, Identifier, Kind, Level, Metadata};
-use tracing_core_requests::{Callsite, Interest};
+use tracing_core_fields::{Callsite, FieldSet, Identifier, Interest, Kind, Level, Metadata};
 
 #[derive(Drop)]
 pub struct OwnedCallsite {

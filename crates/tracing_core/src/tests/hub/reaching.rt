@@ -2,10 +2,11 @@
 use crate::tests::hub::everything::Everything;
 use crate::tests::hub::owned_callsite::OwnedCallsite;
 use crate::tests::hub::{add, at, hub_of, metadata_of};
+use crate::*;
 use std::test::Fail;
-use tracing_core_fields::{FieldSet, Id, Identifier, Level, LevelFilter};
-use tracing_core_hub::*;
-use tracing_core_requests::{Attributes, CurrentSpan, Event, Interest};
+use tracing_core_fields::{
+    Attributes, CurrentSpan, Event, FieldSet, Id, Identifier, Interest, Level, LevelFilter,
+};
 
 #[test]
 fn the_table_is_a_copy(rt: HostRuntime) -> Result<(), Fail> {

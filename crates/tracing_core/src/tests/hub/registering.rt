@@ -2,10 +2,9 @@
 use crate::tests::hub::everything::Everything;
 use crate::tests::hub::owned_callsite::OwnedCallsite;
 use crate::tests::hub::{at, hub_of, metadata_of};
+use crate::*;
 use std::test::Fail;
-use tracing_core_fields::{FieldSet, Identifier, Level};
-use tracing_core_hub::*;
-use tracing_core_requests::Interest;
+use tracing_core_fields::{FieldSet, Identifier, Interest, Level};
 
 #[test]
 fn a_callsite_is_registered_once(rt: HostRuntime) -> Result<(), Fail> {

@@ -1,11 +1,11 @@
 // Commands by number.
 use crate::tests::hub::everything::Everything;
 use crate::tests::hub::owned_callsite::OwnedCallsite;
+use crate::*;
 use std::alloc::{AllocError, Global};
 use std::test::Fail;
-use tracing_core_fields::{Identifier, Level, LevelFilter};
-use tracing_core_hub::*;
-use tracing_core_requests::{At, Interest};
+use tracing_core_fields::{Identifier, Interest, Level, LevelFilter};
+use tracing_core_moments::At;
 
 type AnyReply = CommandReply<Everything, OwnedCallsite>;
 

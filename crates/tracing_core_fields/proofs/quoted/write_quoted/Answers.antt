@@ -12,7 +12,8 @@ use Rattle.tracing_core_fields.proofs.quoted.write_quoted.Goals as goal
 pub returns : goal.returns
 unfolding quoted
 returns g c = λ flush ok.
-    let t = YieldsList-end (YieldsList-from_chars c.args.text.now c.utf8.text cc) c.loop-c.yielded _ c.loop-c.yielded_by _ _ c.in-None.is c.next.ensures.steps in
+    let t = YieldsList-end (YieldsList-from_chars c.args.text.now c.utf8.text cc) c.loop-c.yielded _ c.loop-c.yielded_by _ _ c.in-None.is
+    c.next.ensures.steps in
     let e : c.loop-c.yielded ≡ chars c.args.text.now = sym (map-id c.loop-c.yielded) ∙ t.0 in
     let before = c.loop-c.invariant flush in
     let last = c.write_str-2.ensures.styled before.flush ok in

@@ -6,4 +6,6 @@ use Rattle.tracing_core_fields.proofs.record.record_indexed.Given as goal
 
 abbrev pub invariant-loop-given : goal.invariant-loop-given
 invariant-loop-given g l =
-    Leads g.V.VisitKinds.takes (set_callsite l.fields) (field_names l.fields) (indexed_entries (length (field_names l.fields)) (drop l.given-index l.values)) l.visitor (indexed_entries (length (field_names l.fields)) l.values) l.initial.visitor
+    Leads g.V.VisitKinds.takes (set_callsite l.fields) (field_names l.fields)
+    (indexed_entries (length (field_names l.fields)) (drop l.given-index l.values)) l.visitor
+    (indexed_entries (length (field_names l.fields)) l.values) l.initial.visitor

@@ -7,4 +7,5 @@ use Rattle.tracing_core_fields.proofs.record.record_placed.Given as goal
 
 abbrev pub invariant-loop-index : goal.invariant-loop-index
 invariant-loop-index g l =
-    Leads g.V.VisitKinds.takes (set_callsite l.fields) (field_names l.fields) (filter_map placed_entry (enumerate_from l.index (drop l.index l.values))) l.visitor (placed_entries l.values) l.initial.visitor
+    Leads g.V.VisitKinds.takes (set_callsite l.fields) (field_names l.fields)
+    (filter_map placed_entry (enumerate_from l.index (drop l.index l.values))) l.visitor (placed_entries l.values) l.initial.visitor

@@ -12,11 +12,13 @@ returns-in-Some c =
     let values = c.args.values.now in
     let found = slice_get_read values (length values) c.args.index c.in-Some.value.now refl read.3.0 read.1 in
     c.is_present.ensures
-    ∙ sym (has_entry-at 0 c.args.index c.args.index values (omega arith) ∙ ap (λ (value : Option (Option AnyValue)). is_some (option_and_then present_value value)) found)
+    ∙ sym (has_entry-at 0 c.args.index c.args.index values (omega arith) ∙
+    ap (λ (value : Option (Option AnyValue)). is_some (option_and_then present_value value)) found)
 
 pub returns-in-None : goal.returns-in-None
 returns-in-None c =
     let read = c.in-None.ensures.lookup in
     let values = c.args.values.now in
     let none = slice_get_past values c.args.index read.3 in
-    sym (has_entry-at 0 c.args.index c.args.index values (omega arith) ∙ ap (λ (value : Option (Option AnyValue)). is_some (option_and_then present_value value)) none)
+    sym (has_entry-at 0 c.args.index c.args.index values (omega arith) ∙
+    ap (λ (value : Option (Option AnyValue)). is_some (option_and_then present_value value)) none)

@@ -14,4 +14,5 @@ pub returns : goal.returns
 returns c =
     let fields = fields_of_values c.args.values.now in
     written (λ (v : Texts). string_bytes v.letters) debug_letter (set_callsite fields) (field_names fields) c.in_ok-record.ensures
-    ∙ ap (λ (bytes : List ℕ). bytes ++ map (λ (entry : ℕ × PlainValue). debug_letter entry.1) (entries_of c.args.values.now)) c.new.ensures.bytes
+    ∙ ap (λ (bytes : List ℕ). bytes ++ map (λ (entry : ℕ × PlainValue). debug_letter entry.1) (entries_of c.args.values.now))
+    c.new.ensures.bytes

@@ -13,5 +13,6 @@ returns c =
     let mid = string_bytes c.push_json_inside.new.out in
     let last = c.push_level in
     subst (λ (text : List ℕ). OnOk last.result (string_bytes last.new.out ≡ old ++ text)) (before_is c.args.time.now c.args.level)
-    (behind last.result old (key ++ time) (codes "\"" ++ (codes "," ++ (key_text (codes "level") ++ json_string (level_name c.args.level))) ++ codes ",\"fields\":{") mid (string_bytes last.new.out)
+    (behind last.result old (key ++ time)
+    (codes "\"" ++ (codes "," ++ (key_text (codes "level") ++ json_string (level_name c.args.level))) ++ codes ",\"fields\":{") mid (string_bytes last.new.out)
     (joined_to old key time _ mid c.in-Ok.ensures.bytes c.in-Ok-push_json_inside.ensures) last.ensures)

@@ -13,6 +13,8 @@ returns c =
     let span = span_object (plain_shown c.args.span.now) in
     let mid = string_bytes c.push_json_inside.new.out in
     let last = c.push_span_twice in
-    subst (λ (text : List ℕ). OnOk last.result (string_bytes last.new.out ≡ old ++ text)) (behind_is c.args.target.now (plain_shown c.args.span.now))
-    (behind last.result old (key ++ target) (codes "\",\"span\":" ++ span ++ codes ",\"spans\":[" ++ span ++ codes "]}\n") mid (string_bytes last.new.out)
+    subst (λ (text : List ℕ). OnOk last.result (string_bytes last.new.out ≡ old ++ text))
+    (behind_is c.args.target.now (plain_shown c.args.span.now))
+    (behind last.result old (key ++ target)
+    (codes "\",\"span\":" ++ span ++ codes ",\"spans\":[" ++ span ++ codes "]}\n") mid (string_bytes last.new.out)
     (joined_to old key target _ mid c.in-Ok.ensures.bytes c.in-Ok-push_json_inside.ensures) last.ensures)

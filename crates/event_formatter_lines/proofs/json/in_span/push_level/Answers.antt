@@ -7,5 +7,6 @@ returns-then-eq c =
     let push = c.push_str in
     let old = string_bytes c.args.out.now in
     let new = string_bytes push.new.self in
-    subst (λ (level : List ℕ). OnOk push.result (new ≡ old ++ (codes "\"" ++ level ++ codes ",\"fields\":{"))) (sym (info c.args.level (search rules)))
+    subst (λ (level : List ℕ). OnOk push.result
+    (new ≡ old ++ (codes "\"" ++ level ++ codes ",\"fields\":{"))) (sym (info c.args.level (search rules)))
     (appended push.result old (codes "\",\"level\":\"INFO\",\"fields\":{") new push.ensures.bytes)

@@ -10,5 +10,6 @@ returns c =
     let span = plain_shown c.args.span.now in
     let last = c.push_members_twice in
     let object = object_is span begun (sym c.in-Some.ensures) (search rules) (search rules) in
-    subst (λ (object : List ℕ). OnOk last.result (string_bytes last.new.out ≡ old ++ (codes "\",\"span\":" ++ object ++ codes ",\"spans\":[" ++ object ++ codes "]}\n"))) (sym object)
+    subst (λ (object : List ℕ). OnOk last.result (string_bytes last.new.out ≡ old ++
+    (codes "\",\"span\":" ++ object ++ codes ",\"spans\":[" ++ object ++ codes "]}\n"))) (sym object)
     (subst (λ (text : List ℕ). OnOk last.result (string_bytes last.new.out ≡ old ++ text)) (twice_is begun span.name) last.ensures)

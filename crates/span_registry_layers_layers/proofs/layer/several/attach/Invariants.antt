@@ -1,7 +1,7 @@
 use Rattle.std.proofs.Common.{◌≡◌, take, drop}
 use Rattle.span_registry_layers_layers.specs.Notices.{AddsFilters}
 use Rattle.span_registry_layers_layers.specs.Several.{AttachesOne, EachInTurn}
-use Rattle.span_registry_layers_layers.proofs.Attaching.{Numbered}
+use Rattle.span_registry_layers_layers.proofs.AttachedLayers.{Numbered}
 use Rattle.span_registry_layers_layers.proofs.layer.several.attach.Given as goal
 
 abbrev pub invariant-loop-layer : goal.invariant-loop-layer

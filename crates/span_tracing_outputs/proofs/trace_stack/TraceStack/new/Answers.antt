@@ -1,6 +1,6 @@
 use Rattle.std.proofs.Common.{◌≡◌, length, nat_eq, true, sym, ◌∙◌, rules}
-use Rattle.span_tracing_outputs.proofs.Paired.{cleared_rest}
-use Rattle.span_tracing_outputs.proofs.Starting.{valid_rested}
+use Rattle.span_tracing_outputs.proofs.OutputSinkPairs.{cleared_rest}
+use Rattle.span_tracing_outputs.proofs.TraceStarts.{valid_rested}
 use Rattle.span_tracing_outputs.proofs.trace_stack.TraceStack.new.Goals as goal
 
 pub invariant_of-result : goal.invariant_of-result

@@ -11,7 +11,9 @@ returns-then-is_kind g c =
     let rows = c.args.self.now.hub.callsites in
     let found = slice_get (callsites_of rows) c.in-Some.index.0 in
     let stands = sym c.in-Some.ensures in
-    let names : found ≡ named (callsites_of rows) c.args.number = index_names rows c.args.number (Some c.in-Some.index) c.requires.hub.sites stands in
+    let names : found ≡ named (callsites_of rows) c.args.number = index_names rows c.args.number (Some c.in-Some.index) c.requires.hub.sites
+    stands in
     let is : if_kind (named (callsites_of rows) c.args.number) false ≡ found =
-    ap (λ (o : Option PlainMetadata). if_kind o false) (sym names) ∙ c.is_kind.ensures ∙ ap (λ (b : Bool). if b then found else None) c.if-is_kind.true in
+    ap (λ (o : Option PlainMetadata). if_kind o false) (sym names) ∙ c.is_kind.ensures ∙
+    ap (λ (b : Bool). if b then found else None) c.if-is_kind.true in
     (sym is, ap is_some is ∙ ap is_some names ∙ sym (index_there rows c.args.number (Some c.in-Some.index) c.requires.hub.sites stands))

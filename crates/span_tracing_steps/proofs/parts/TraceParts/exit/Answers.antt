@@ -1,7 +1,8 @@
-use Rattle.tracing_core_requests.specs.Calls.{Exited}
-use Rattle.span_tracing_steps.proofs.Called.{called_sound}
+use Rattle.tracing_core_fields.specs.requests.Calls.{Exited}
+use Rattle.span_tracing_steps.proofs.StackCalls.{called_sound}
 use Rattle.span_tracing_steps.proofs.parts.TraceParts.exit.Goals as goal
 
 pub returns-clause-sound : goal.returns-clause-sound
 returns-clause-sound g c =
-    called_sound g.T.Subscriber c.args.self.now c.exit.new.self c.in-Some-handle.handle c.in-Some-handle.is c.requires (Exited c.in-Some-span.name.id c.at_of.result) tt c.exit.ensures.gives c.exit.ensures.keeps
+    called_sound g.T.Subscriber c.args.self.now c.exit.new.self c.in-Some-handle.handle c.in-Some-handle.is c.requires
+    (Exited c.in-Some-span.name.id c.at_of.result) tt c.exit.ensures.gives c.exit.ensures.keeps

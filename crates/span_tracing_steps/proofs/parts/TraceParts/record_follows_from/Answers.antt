@@ -1,7 +1,9 @@
-use Rattle.tracing_core_requests.specs.Calls.{FollowsRecorded}
-use Rattle.span_tracing_steps.proofs.Called.{called_sound}
+use Rattle.tracing_core_fields.specs.requests.Calls.{FollowsRecorded}
+use Rattle.span_tracing_steps.proofs.StackCalls.{called_sound}
 use Rattle.span_tracing_steps.proofs.parts.TraceParts.record_follows_from.Goals as goal
 
 pub returns-clause-sound : goal.returns-clause-sound
 returns-clause-sound g c =
-    called_sound g.T.Subscriber c.args.self.now c.record_follows_from-told.new.self c.in-Some-handle.handle c.in-Some-handle.is c.requires (FollowsRecorded c.in-Some-span.name.id c.in-Some-follows.followed.id c.at_of-at.result) c.record_follows_from-told.result c.record_follows_from-told.ensures.gives c.record_follows_from-told.ensures.keeps
+    called_sound g.T.Subscriber c.args.self.now c.record_follows_from-told.new.self c.in-Some-handle.handle c.in-Some-handle.is c.requires
+    (FollowsRecorded c.in-Some-span.name.id c.in-Some-follows.followed.id c.at_of-at.result) c.record_follows_from-told.result
+    c.record_follows_from-told.ensures.gives c.record_follows_from-told.ensures.keeps

@@ -12,4 +12,12 @@ returns-clause-taken c =
     let none : mark_next (queue_of s) ≡ false = sym c.at_head.ensures ∙ c.if-at_head.false in
     let some : 0 < length s.lines.items = grind (arith, common_steps) in
     let rest = map (λ (l : Vec ℕ Global). l.items) (drop 1 s.lines.items) in
-    rw (← c.self.view_is) (none, refl, (rest, first_off s.lines.items c.remove-line.result some c.remove-line.ensures.value, rw (c.remove-line.ensures.items, c.one_less-self-inside.ensures) refl))
+    rw (← c.self.view_is) (
+      none,
+      refl,
+      (
+        rest,
+        first_off s.lines.items c.remove-line.result some c.remove-line.ensures.value,
+        rw (c.remove-line.ensures.items, c.one_less-self-inside.ensures) refl,
+      ),
+    )

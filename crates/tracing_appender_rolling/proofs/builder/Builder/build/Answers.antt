@@ -2,7 +2,7 @@ use Rattle.std.proofs.Common.{sym, ◌∙◌, subst, refl}
 use Rattle.tracing_appender_rolling.specs.Builders.{builder_names}
 use Rattle.tracing_appender_rolling.specs.declared.build.BuildError.{BuildError}
 use Rattle.tracing_appender_rolling.specs.Builds.{Explains, ReportsBuild}
-use Rattle.tracing_appender_rolling.proofs.Building.{explained, told_build}
+use Rattle.tracing_appender_rolling.proofs.BuildRefusals.{explained, told_build}
 use Rattle.tracing_appender_rolling.proofs.builder.Builder.build.Goals as goal
 
 pub returns-in-Err : goal.returns-in-Err
@@ -11,9 +11,12 @@ returns-in-Err g c =
     let r = c.in-Err.refused in
     record {
       names_same = c.in-Err.ensures.back;
-      explained = subst (λ (e : BuildError). Explains g.D.Folder.contents names c.args.folder c.args.moment e r.folder) (sym c.build_error.ensures)
-          (explained g.D.Folder.contents names c.args.folder c.args.moment r.context r.error r.folder (sym c.has_bad_name.ensures ∙ c.if-has_bad_name.false) (c.if-has_bad_link.ensures.good refl) c.in-Err.ensures.failed c.in-Err.ensures.starved);
-      told = subst (λ (e : BuildError). ReportsBuild (g.D.Folder.failed c.args.folder) e (g.D.Folder.failed r.folder)) (sym c.build_error.ensures)
+      explained = subst (λ (e : BuildError). Explains g.D.Folder.contents names c.args.folder c.args.moment e r.folder)
+          (sym c.build_error.ensures)
+          (explained g.D.Folder.contents names c.args.folder c.args.moment r.context r.error r.folder (sym c.has_bad_name.ensures ∙
+          c.if-has_bad_name.false) (c.if-has_bad_link.ensures.good refl) c.in-Err.ensures.failed c.in-Err.ensures.starved);
+      told = subst (λ (e : BuildError). ReportsBuild (g.D.Folder.failed c.args.folder) e (g.D.Folder.failed r.folder))
+          (sym c.build_error.ensures)
           (told_build (g.D.Folder.failed c.args.folder) (g.D.Folder.failed r.folder) r.context r.error c.in-Err.ensures.error);
     }
 

@@ -7,7 +7,8 @@ use Rattle.tracing_core_fields.proofs.field.IterIterator.next.Goals as goal
 pub returns-then-self-len-clause-steps : goal.returns-then-self-len-clause-steps
 returns-then-self-len-clause-steps c =
     let set = c.args.self.now.fields in
-    let none = drop_all c.args.self.now.next_index (plain_fields set) (omega (arith, length-fields_named (set_callsite set) 0 (field_names set), c.len.ensures, c.if-self-len.true)) in
+    let none = drop_all c.args.self.now.next_index (plain_fields set)
+    (omega (arith, length-fields_named (set_callsite set) 0 (field_names set), c.len.ensures, c.if-self-len.true)) in
     (none, none)
 
 pub returns-clause-steps : goal.returns-clause-steps
@@ -20,7 +21,18 @@ returns-clause-goes c =
     let set = c.args.self.now.fields in
     let place = c.args.self.now.next_index in
     record {
-      on = λ _. (tt, tt, omega (arith, length-drop place (plain_fields set), length-drop (place + 1) (plain_fields set), length-fields_named (set_callsite set) 0 (field_names set), c.len.ensures, c.if-self-len.false));
+      on = λ _. (
+        tt,
+        tt,
+        omega (
+          arith,
+          length-drop place (plain_fields set),
+          length-drop (place + 1) (plain_fields set),
+          length-fields_named (set_callsite set) 0 (field_names set),
+          c.len.ensures,
+          c.if-self-len.false,
+        ),
+      );
       keeps = tt;
       rests = λ _. tt;
     }

@@ -6,4 +6,5 @@ use Rattle.tracing_core_fields.proofs.texts.Texts.index_of.Given as goal
 
 abbrev pub invariant-loop-index : goal.invariant-loop-index
 invariant-loop-index l =
-    position_from (λ other. bytes_eq other l.text) l.index (drop l.index (texts_in l.self)) ≡ position_from (λ other. bytes_eq other l.text) 0 (texts_in l.self)
+    position_from (λ other. bytes_eq other l.text) l.index (drop l.index (texts_in l.self)) ≡ position_from (λ other. bytes_eq other l.text)
+    0 (texts_in l.self)

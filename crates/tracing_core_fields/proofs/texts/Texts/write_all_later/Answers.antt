@@ -9,4 +9,5 @@ pub loop-index-preserved : goal.loop-index-preserved
 loop-index-preserved g c = λ plain.
     let before = c.loop-index.invariant plain in
     let now = c.in_ok-write_later.ensures before.plain refl in
-    put_two _ _ _ _ _ _ _ before now (later_more (λ name. comma_space ++ name) (texts_in c.args.self.now) c.loop-index.index (omega arith) (omega arith))
+    put_two _ _ _ _ _ _ _ before now (later_more (λ name. comma_space ++ name) (texts_in c.args.self.now) c.loop-index.index (omega arith)
+    (omega arith))

@@ -6,4 +6,5 @@ use Rattle.tracing_core_fields.proofs.texts.Texts.write_all_later.Given as goal
 
 abbrev pub invariant-loop-index : goal.invariant-loop-index
 invariant-loop-index g l =
-    IsPlainFormatter l.initial.f → HasWritten g.W.Write.write_str_gives l.initial.f (flat_map (λ name. comma_space ++ name) (drop 1 (take l.index (texts_in l.self)))) l.f
+    IsPlainFormatter l.initial.f → HasWritten g.W.Write.write_str_gives l.initial.f
+    (flat_map (λ name. comma_space ++ name) (drop 1 (take l.index (texts_in l.self)))) l.f

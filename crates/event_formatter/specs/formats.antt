@@ -1,0 +1,9 @@
+pub mod Parts
+pub mod Scopes
+pub mod ScopeIds
+pub mod EventSpans
+pub mod Contexts
+pub mod Headings
+pub mod Lines
+pub mod Timers
+pub mod FieldFormats

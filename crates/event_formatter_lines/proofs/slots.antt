@@ -1,0 +1,5 @@
+mod Untimed
+mod DistinctSlots
+mod SlotsByTag
+mod LentSlots
+mod Locality

@@ -1,0 +1,4 @@
+pub mod FieldsAndTimings
+pub mod SlotsByTag
+pub mod SpanUpdates
+pub mod SteppedTimings

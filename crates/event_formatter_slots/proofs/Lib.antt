@@ -1,5 +1,0 @@
-mod Untimed
-mod Ordering
-mod Tagged
-mod Writing
-mod Locality

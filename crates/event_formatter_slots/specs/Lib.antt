@@ -1,4 +1,0 @@
-pub mod Kept
-pub mod ByTag
-pub mod Rekeeping
-pub mod SteppedTimings

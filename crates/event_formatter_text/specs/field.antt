@@ -1,0 +1,9 @@
+pub mod VisitResults
+pub mod AppendedText
+pub mod Delimiters
+pub mod DelimitedFields
+pub mod Functions
+pub mod Pieces
+pub mod ShownPieces
+pub mod Pairs
+pub mod Closures

@@ -1,0 +1,14 @@
+use Rattle.std.proofs.Common.{◌≡◌, take, drop}
+use Rattle.tracing_core_fields.specs.requests.PlainRequests.{plain_attributes}
+use Rattle.span_registry_layers_layers.specs.FilterViews.{SpanMade}
+use Rattle.span_registry_layers_layers.specs.Several.{EachInTurn}
+use Rattle.span_registry_layers.specs.SpanNotices.{TellsMade}
+use Rattle.span_registry_layers.proofs.output_slots.spans.tell_new_span.Given as goal
+
+abbrev pub invariant-loop-row : goal.invariant-loop-row
+invariant-loop-row g l =
+    record {
+      done : EachInTurn (TellsMade g.F.Filter g.L.Layer (SpanMade (plain_attributes l.attributes) l.span) l.span l.at) l.fn.registry
+          (take l.row-index l.fn.rows) l.registry (take l.row-index l.rows);
+      left : drop l.row-index l.rows ≡ drop l.row-index l.fn.rows;
+    }

@@ -1,0 +1,71 @@
+//! Reading a stack.
+ghost use Rattle.std.specs.Prelude.{◌≡◌, IfOk, IsTrue, slice_get, true};
+ghost use Rattle.std.specs.Option.{option_map};
+ghost use Rattle.span_registry_layers_store.specs.Copies.{CopyOf};
+ghost use Rattle.span_registry_layers.specs.Stacks.{cleared, is_above};
+
+use crate::stack::Stack;
+use span_registry_layers_store::{Registry, RegistryTable};
+use std::alloc::AllocError;
+use tracing_core_fields::Level;
+
+impl<O> Stack<O> {
+    /// The spans and the entries of lanes.
+    pub fn registry(&self) -> &Registry
+        ensures { result.now ≡ self.now.registry }
+    {
+        &self.parts.registry
+    }
+
+    /// A copy of the open spans and of the lanes' entries.
+    ///
+    /// # Errors
+    ///
+    /// Out of memory.
+    pub fn table(&self) -> Result<RegistryTable, AllocError>
+        ensures { IfOk result (λ copy. CopyOf self.now.registry copy) }
+    {
+        self.parts.registry.table()
+    }
+
+    /// The output at this place, counted from 0.
+    pub fn output(&self, output: usize) -> Option<&O>
+        ensures { option_map (λ read. read.now) result
+            ≡ option_map (λ row. row.output) (slice_get self.now.rows output) }
+    {
+        match self.parts.rows.get(output) {
+            None => None,
+            Some(row) => Some(&row.output),
+        }
+    }
+
+    /// Whether the filter of the output at this place passed the callsite of the last event or new span that
+    /// was handed over.
+    pub fn passed(&self, output: usize) -> Option<bool>
+        ensures { result ≡ option_map (λ row. row.passed) (slice_get self.now.rows output) }
+    {
+        match self.parts.rows.get(output) {
+            None => None,
+            Some(row) => Some(row.passed),
+        }
+    }
+
+    /// Whether the output at this place was told of the last event or new span that was handed over: its
+    /// filter passed the callsite and, of an event, the event itself.
+    pub fn told(&self, output: usize) -> Option<bool>
+        ensures { result ≡ option_map (λ row. row.told) (slice_get self.now.rows output) }
+    {
+        match self.parts.rows.get(output) {
+            None => None,
+            Some(row) => Some(row.told),
+        }
+    }
+
+    /// Whether it is sure that what is kept refuses every callsite of this level, and that the last request left no
+    /// output marked. By what `event` promises, an event at such a callsite that names no parent then leaves the stack as it is.
+    pub fn ignores(&self, level: Level) -> bool
+        ensures { IsTrue result → (is_above self.now.hint level ≡ true) × (cleared self.now ≡ self.now) }
+    {
+        self.parts.ignores(level)
+    }
+}

@@ -1,5 +1,0 @@
-use Rattle.span_registry_layers_stack.proofs.Single.{one_decides}
-use Rattle.span_registry_layers_stack.proofs.laws.one_output_decides.Goals as goal
-
-pub returns : goal.returns
-returns g c = one_decides g.F.Filter g.L.Layer

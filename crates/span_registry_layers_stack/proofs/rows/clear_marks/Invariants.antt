@@ -1,7 +1,0 @@
-use Rattle.std.proofs.Common.{◌≡◌, false}
-use Rattle.span_registry_layers_stack.specs.Rows.{marked}
-use Rattle.span_registry_layers_stack.proofs.Loops.{so_far}
-use Rattle.span_registry_layers_stack.proofs.rows.clear_marks.Given as goal
-
-abbrev pub invariant-loop-row : goal.invariant-loop-row
-invariant-loop-row g l = l.rows ≡ so_far (marked false) l.row-index l.fn.rows

@@ -1,0 +1,14 @@
+//! Setup calls and steps read from JSON lines, and replies and files written as JSON lines.
+
+mod decode;
+mod fault;
+mod print;
+#[cfg(test)]
+mod tests;
+
+pub use decode::{
+    CallsiteLine, FolderLine, FormatName, LaneLine, Line, NamedValue, OutputLine, RecordLine,
+    Setup, SinkLine, SpanEvent, StackLine, StepLine, TimeLine, decode_line,
+};
+pub use fault::LineFault;
+pub use print::{PrintFault, write_files, write_replies};

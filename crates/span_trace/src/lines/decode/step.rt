@@ -1,0 +1,241 @@
+//! Step lines.
+
+use crate::lines::decode::members::{Members, owned_text, pair};
+use crate::lines::decode::setup::{CallsiteLine, Setup};
+use crate::lines::decode::value::value_of;
+use crate::lines::fault::LineFault;
+use serde_json::Value as Json;
+use span_tracing_skeleton::{
+    EnabledCall, EventCall, FollowsCall, NewSpanCall, Parent, SpanCall, SpanName, Step,
+};
+use std::alloc::Global;
+use tracing_core::{FieldValue, Id, Identifier, OwnedValue};
+use tracing_core_moments::Moment;
+
+/// A step, as far as its line tells it.
+#[derive(Drop)]
+pub enum StepLine {
+    /// All of it.
+    Whole(Step),
+    /// Values whose fields are named: their places are known once the span's callsite is.
+    Record(RecordLine),
+}
+
+/// Values for a span.
+#[derive(Drop)]
+pub struct RecordLine {
+    pub lane: usize,
+    pub moment: Moment,
+    pub span: Option<SpanName>,
+    pub values: Vec<NamedValue>,
+}
+
+/// A value and the name of its field.
+#[derive(Drop)]
+pub struct NamedValue {
+    pub name: String,
+    pub value: OwnedValue,
+}
+
+/// The step of that name.
+pub(crate) fn step_line(
+    alloc: Global,
+    setup: &[Setup],
+    name: &str,
+    members: Members<'_>,
+) -> Result<StepLine, LineFault> {
+    match name {
+        "record" => Ok(StepLine::Record(record_line(alloc, setup, members)?)),
+        _ => Ok(StepLine::Whole(whole_step(alloc, setup, name, members)?)),
+    }
+}
+
+fn whole_step(
+    alloc: Global,
+    setup: &[Setup],
+    name: &str,
+    members: Members<'_>,
+) -> Result<Step, LineFault> {
+    match name {
+        "set_global_default" => {
+            members.only(&["do", "handle"])?;
+            Ok(Step::SetGlobalDefault(members.size("handle")?))
+        }
+        "event" => Ok(Step::Event(event_call(alloc, setup, members)?)),
+        "enabled" => Ok(Step::Enabled(enabled_call(members)?)),
+        "new_span" => Ok(Step::NewSpan(new_span_call(alloc, setup, members)?)),
+        "record_follows_from" => Ok(Step::RecordFollowsFrom(follows_call(members)?)),
+        "enter" => Ok(Step::Enter(span_call(members)?)),
+        "exit" => Ok(Step::Exit(span_call(members)?)),
+        "clone_span" => Ok(Step::CloneSpan(span_call(members)?)),
+        "try_close" => Ok(Step::TryClose(span_call(members)?)),
+        _ => Err(LineFault::NotReadable),
+    }
+}
+
+const REQUEST_KEYS: [&str; 6] = ["do", "lane", "moment", "callsite", "parent", "values"];
+
+fn event_call(
+    alloc: Global,
+    setup: &[Setup],
+    members: Members<'_>,
+) -> Result<EventCall, LineFault> {
+    members.only(&REQUEST_KEYS)?;
+    let id = members.number("callsite")?;
+    Ok(EventCall {
+        lane: members.size("lane")?,
+        moment: members.moment()?,
+        callsite: Identifier(id),
+        parent: parent_of(members)?,
+        values: field_values(alloc, first_callsite(setup, id), members.list("values")?)?,
+    })
+}
+
+fn new_span_call(
+    alloc: Global,
+    setup: &[Setup],
+    members: Members<'_>,
+) -> Result<NewSpanCall, LineFault> {
+    members.only(&REQUEST_KEYS)?;
+    let id = members.number("callsite")?;
+    Ok(NewSpanCall {
+        lane: members.size("lane")?,
+        moment: members.moment()?,
+        callsite: Identifier(id),
+        parent: parent_of(members)?,
+        values: field_values(alloc, first_callsite(setup, id), members.list("values")?)?,
+    })
+}
+
+fn record_line(
+    alloc: Global,
+    setup: &[Setup],
+    members: Members<'_>,
+) -> Result<RecordLine, LineFault> {
+    members.only(&["do", "lane", "moment", "span", "values"])?;
+    Ok(RecordLine {
+        lane: members.size("lane")?,
+        moment: members.moment()?,
+        span: span_or_none(members.get("span")?)?,
+        values: named_values(alloc, setup, members.list("values")?)?,
+    })
+}
+
+fn enabled_call(members: Members<'_>) -> Result<EnabledCall, LineFault> {
+    members.only(&["do", "lane", "moment", "callsite"])?;
+    Ok(EnabledCall {
+        lane: members.size("lane")?,
+        moment: members.moment()?,
+        callsite: Identifier(members.number("callsite")?),
+    })
+}
+
+fn span_call(members: Members<'_>) -> Result<SpanCall, LineFault> {
+    members.only(&["do", "lane", "moment", "span"])?;
+    Ok(SpanCall {
+        lane: members.size("lane")?,
+        moment: members.moment()?,
+        span: span_or_none(members.get("span")?)?,
+    })
+}
+
+fn follows_call(members: Members<'_>) -> Result<FollowsCall, LineFault> {
+    members.only(&["do", "lane", "moment", "span", "follows"])?;
+    Ok(FollowsCall {
+        lane: members.size("lane")?,
+        moment: members.moment()?,
+        span: span_or_none(members.get("span")?)?,
+        follows: span_or_none(members.get("follows")?)?,
+    })
+}
+
+/// A span, or none for null.
+fn span_or_none(value: &Json) -> Result<Option<SpanName>, LineFault> {
+    if value.is_null() {
+        return Ok(None);
+    }
+    Ok(Some(span_name(value)?))
+}
+
+/// A stack's number and a span's id in it, which is not 0.
+fn span_name(value: &Json) -> Result<SpanName, LineFault> {
+    let (first, second) = pair(value)?;
+    let stack = first.as_u64().ok_or(LineFault::NotReadable)? as usize;
+    let number = second.as_u64().ok_or(LineFault::NotReadable)?;
+    let id = Id::from_u64(number).ok_or(LineFault::NotReadable)?;
+    Ok(SpanName { stack, id })
+}
+
+fn parent_of(members: Members<'_>) -> Result<Parent, LineFault> {
+    let Some(value) = members.find("parent") else {
+        return Ok(Parent::Contextual);
+    };
+    if value.as_str() == Some("root") {
+        return Ok(Parent::Root);
+    }
+    Ok(Parent::Explicit(span_name(value)?))
+}
+
+/// The first callsite of that id.
+fn first_callsite(setup: &[Setup], id: u64) -> Option<&CallsiteLine> {
+    for line in setup {
+        if let Setup::Callsite(callsite) = line
+            && callsite.id == id
+        {
+            return Some(callsite);
+        }
+    }
+    None
+}
+
+/// A list of names and values. Each name has to be that of a field of the callsite.
+fn field_values(
+    alloc: Global,
+    callsite: Option<&CallsiteLine>,
+    list: &[Json],
+) -> Result<Vec<FieldValue>, LineFault> {
+    let mut values = Vec::new(alloc);
+    for entry in list {
+        let (first, second) = pair(entry)?;
+        let name = first.as_str().ok_or(LineFault::NotReadable)?;
+        let field = field_named(callsite, name).ok_or(LineFault::NotReadable)?;
+        values.push(FieldValue {
+            field,
+            value: value_of(alloc, second)?,
+        })?;
+    }
+    Ok(values)
+}
+
+/// A list of names and values. Each name has to be that of a field of some callsite.
+fn named_values(
+    alloc: Global,
+    setup: &[Setup],
+    list: &[Json],
+) -> Result<Vec<NamedValue>, LineFault> {
+    let mut values = Vec::new(alloc);
+    for entry in list {
+        let (first, second) = pair(entry)?;
+        let name = owned_text(alloc, first)?;
+        if !setup.iter().any(|line| declares(line, name.as_str())) {
+            return Err(LineFault::NotReadable);
+        }
+        values.push(NamedValue {
+            name,
+            value: value_of(alloc, second)?,
+        })?;
+    }
+    Ok(values)
+}
+
+/// Whether the line is a callsite with a field of that name.
+fn declares(line: &Setup, name: &str) -> bool {
+    match line {
+        Setup::Callsite(callsite) => callsite.field_index(name).is_some(),
+        Setup::Stack(_) | Setup::Lane(_) => false,
+    }
+}
+
+fn field_named(callsite: Option<&CallsiteLine>, name: &str) -> Option<usize> {
+    callsite?.field_index(name)
+}

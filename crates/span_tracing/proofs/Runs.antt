@@ -1,0 +1,45 @@
+-- Runs grow by a step.
+use Rattle.std.proofs.Common.{◌≡◌, ℕ, ◌+◌, ◌<◌, List, [], ◌∷◌, ◌++◌, length, take, map, get_or, refl, sym, ap, ◌∙◌, subst}
+use Rattle.std.proofs.lemmas.List.{take_more, map-append}
+use Rattle.tracing_core_fields.specs.declared.requests.subscriber.Subscriber.{Ghosts as SubscriberGhosts}
+use Rattle.span_tracing_outputs.specs.TraceStacks.{TraceStackValue}
+use Rattle.span_tracing_outputs.specs.sinks.Routed.{Routed}
+use Rattle.span_tracing_outputs.specs.declared.sinks.sink.RollingSink.{RollingSink}
+use Rattle.span_tracing_laws.specs.runs.StepFollows.{Traced, registry_of}
+use Rattle.span_tracing_laws.specs.runs.Runs.{RunGives}
+use Rattle.span_tracing_skeleton.specs.PlainData.{PlainStep, plain_step, plain_steps}
+use Rattle.span_tracing_skeleton.specs.declared.call.Reply.{Reply}
+use Rattle.span_tracing_skeleton.specs.declared.call.Step.{Step}
+use Rattle.span_tracing_steps.specs.Steps.{StepGives}
+use Rattle.span_tracing.specs.Calls.{CallsMakeRuns}
+
+-- the first steps and the one at an index
+pub take_step : (steps : List Step) (i : ℕ) (x : Step) → i < length steps → x ≡ get_or steps i x →
+    plain_steps (take (i + 1) steps) ≡ plain_steps (take i steps) ++ plain_step x ∷ []
+take_step steps i x h e = ap (map plain_step) (take_more steps i x h ∙ ap (λ y. take i steps ++ y ∷ []) (sym e)) ∙
+    map-append plain_step (take i steps) (x ∷ [])
+
+-- a run, and one that begins where it ended
+pub run_joins : {N E F S : Type 0} (sg : SubscriberGhosts (TraceStackValue N E F S)) (v : Traced N E F S) (steps : List PlainStep)
+    (replies : List Reply) (mid : Traced N E F S) (more : List PlainStep) (later : List Reply) (w : Traced N E F S) →
+    RunGives sg v steps replies mid →
+    RunGives sg mid more later w → RunGives sg v (steps ++ more) (replies ++ later) w
+run_joins sg v [] [] mid more later w same last = subst (λ u. RunGives sg u more later w) same last
+run_joins sg v [] (r ∷ rs) mid more later w goes last = absurd goes
+run_joins sg v (s ∷ ss) [] mid more later w goes last = absurd goes
+run_joins sg v (s ∷ ss) (r ∷ rs) mid more later w (next, first, rest) last =
+    (next, first, run_joins sg next ss rs mid more later w rest last)
+
+pub calls_make_runs : {N E F D : Type 0} (sg : SubscriberGhosts (TraceStackValue N E F (Routed (RollingSink D)))) → CallsMakeRuns sg
+calls_make_runs sg = record {
+  call = λ v step reply w gives. (w, gives, refl);
+  joined = λ v steps replies mid more later w before after. run_joins sg v steps replies mid more later w before after;
+}
+
+-- a step behind a run
+pub run_more : {N E F S : Type 0} (sg : SubscriberGhosts (TraceStackValue N E F S)) (v : Traced N E F S) (steps : List PlainStep)
+    (replies : List Reply) (mid : Traced N E F S) (step : PlainStep) (reply : Reply) (w : Traced N E F S) →
+    RunGives sg v steps replies mid → StepGives sg registry_of mid step reply w →
+    RunGives sg v (steps ++ step ∷ []) (replies ++ reply ∷ []) w
+run_more sg v steps replies mid step reply w before last = run_joins sg v steps replies mid (step ∷ []) (reply ∷ []) w before
+    (w, last, refl)

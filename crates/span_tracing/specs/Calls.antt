@@ -1,0 +1,36 @@
+-- Calls that are made one by one, seen as a run.
+use Rattle.std.specs.Prelude.{ℕ, List, [], ◌∷◌, ◌++◌, Option}
+use Rattle.tracing_core_fields.specs.requests.PlainRequests.{PlainEvent}
+use Rattle.tracing_core_fields.specs.declared.requests.subscriber.Subscriber.{Ghosts as SubscriberGhosts}
+use Rattle.span_registry_layers_layers.specs.declared.filter.Filter.{Ghosts as FilterGhosts}
+use Rattle.span_registry_layers_layers.specs.declared.layer.Layer.{Ghosts as LayerGhosts}
+use Rattle.event_formatter_text.specs.declared.format_fields.FormatFields.{Ghosts}
+use Rattle.event_formatter_text.specs.declared.settings.Settings.{Settings}
+use Rattle.event_formatter.specs.formats.Contexts.{PlainContext}
+use Rattle.tracing_appender_rolling.specs.folders.Contents.{Contents}
+use Rattle.span_tracing_outputs.specs.TraceStacks.{TraceStackValue}
+use Rattle.span_tracing_outputs.specs.Turns.{Lines}
+use Rattle.span_tracing_outputs.specs.sinks.Routed.{Routed}
+use Rattle.span_tracing_outputs.specs.declared.sinks.sink.RollingSink.{RollingSink}
+use Rattle.span_tracing_skeleton.specs.PlainData.{PlainStep}
+use Rattle.span_tracing_skeleton.specs.declared.call.Reply.{Reply}
+use Rattle.span_tracing_steps.specs.Steps.{StepGives}
+use Rattle.span_tracing_laws.specs.runs.Files.{FileTrace}
+use Rattle.span_tracing_laws.specs.runs.StepFollows.{registry_of}
+use Rattle.span_tracing_laws.specs.runs.Runs.{RunGives}
+use Rattle.span_tracing.specs.Ready.{RunsReady}
+
+module _ {N E F D : Type 0} (sg : SubscriberGhosts (TraceStackValue N E F (Routed (RollingSink D)))) where
+  -- a call is a run of one step, and a run with one that begins where it ended is one run
+  pub record CallsMakeRuns : Type 0 where
+    pub call : (v : FileTrace N E F D) (step : PlainStep) (reply : Reply) (w : FileTrace N E F D) →
+        StepGives sg registry_of v step reply w → RunGives sg v (step ∷ []) (reply ∷ []) w
+    pub joined : (v : FileTrace N E F D) (steps : List PlainStep) (replies : List Reply) (mid : FileTrace N E F D) (more : List PlainStep)
+        (later : List Reply) (w : FileTrace N E F D) → RunGives sg v steps replies mid → RunGives sg mid more later w →
+        RunGives sg v (steps ++ more) (replies ++ later) w
+
+  -- what becomes of replies, sinks and files in a run, however its steps were called
+  abbrev pub EachRunIsReady : (D → Option Contents) → (D → ℕ) → Ghosts N → (E → Settings → PlainContext → PlainEvent → Option (List ℕ)) →
+      FilterGhosts F → LayerGhosts (Lines N E) → Type 0
+  EachRunIsReady contents failed n line_of g h = (v : FileTrace N E F D) (steps : List PlainStep) (replies : List Reply)
+      (w : FileTrace N E F D) → RunGives sg v steps replies w → RunsReady contents failed n line_of g h v steps replies w

@@ -1,0 +1,33 @@
+-- Steps and runs of a trace whose stack is ready.
+use Rattle.std.specs.Prelude.{ℕ, List, Option}
+use Rattle.tracing_core_fields.specs.requests.PlainRequests.{PlainEvent}
+use Rattle.tracing_core_moments.specs.declared.at.At.{At}
+use Rattle.span_registry_layers_layers.specs.declared.filter.Filter.{Ghosts as FilterGhosts}
+use Rattle.span_registry_layers_layers.specs.declared.layer.Layer.{Ghosts as LayerGhosts}
+use Rattle.event_formatter_text.specs.declared.format_fields.FormatFields.{Ghosts}
+use Rattle.event_formatter_text.specs.declared.settings.Settings.{Settings}
+use Rattle.event_formatter.specs.formats.Contexts.{PlainContext}
+use Rattle.tracing_appender_rolling.specs.folders.Contents.{Contents}
+use Rattle.span_tracing_outputs.specs.OutputMachines.{PlainLine}
+use Rattle.span_tracing_outputs.specs.Turns.{Lines}
+use Rattle.span_tracing_outputs.specs.sinks.Routed.{Routed}
+use Rattle.span_tracing_outputs.specs.declared.sinks.sink.RollingSink.{RollingSink}
+use Rattle.span_tracing_skeleton.specs.PlainData.{PlainStep}
+use Rattle.span_tracing_skeleton.specs.declared.call.Reply.{Reply}
+use Rattle.span_tracing_laws.specs.runs.Files.{RunsToFiles}
+use Rattle.span_tracing_laws.specs.runs.StepFollows.{Follows, StackIsReady, Traced}
+
+-- A step follows the skeleton and the output machines where the stack is ready, as it is where there is none, when it comes with its sinks
+-- and is honest, and
+-- after each step; and it leaves the stack ready.
+abbrev pub FollowsReady : {N E F S : Type 0} → Ghosts N → (E → Settings → PlainContext → PlainEvent → Option (List ℕ)) → FilterGhosts F →
+    (S → At → PlainLine → S → Type 0) → LayerGhosts (Lines N E) → Traced N E F S → PlainStep → Reply → Traced N E F S → Type 0
+FollowsReady n line_of g takes h v step reply w = StackIsReady g h v.stack → Follows n line_of g takes h v step reply w ×
+    StackIsReady g h w.stack
+
+-- so does a run, and its sinks and files are told of
+abbrev pub RunsReady : {N E F D : Type 0} → (D → Option Contents) → (D → ℕ) → Ghosts N →
+    (E → Settings → PlainContext → PlainEvent → Option (List ℕ)) → FilterGhosts F → LayerGhosts (Lines N E) →
+    Traced N E F (Routed (RollingSink D)) → List PlainStep → List Reply → Traced N E F (Routed (RollingSink D)) → Type 0
+RunsReady contents failed n line_of g h v steps replies w = StackIsReady g h v.stack →
+    RunsToFiles contents failed n line_of g h v steps replies w × StackIsReady g h w.stack

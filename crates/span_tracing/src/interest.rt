@@ -1,0 +1,31 @@
+//! What a trace keeps of the interest in its callsites.
+ghost use Rattle.std.specs.Prelude.{◌≡◌};
+ghost use Rattle.span_tracing_skeleton.specs.Machine.{named};
+ghost use Rattle.span_tracing_steps.specs.Interests.{is_off_at};
+ghost use Rattle.span_tracing_steps.specs.States.{at_index};
+
+use crate::trace::Trace;
+use span_tracing_skeleton::HasRegistry;
+use tracing_core::CallsiteIndex;
+use tracing_core_fields::{Identifier, Subscriber};
+
+impl<T: Subscriber + HasRegistry> Trace<T> {
+    /// Where the callsite with the identifier stands, for [`is_off`](Trace::is_off); none where it isn't registered. It stays the same
+    /// while the trace lives.
+    pub fn callsite(&self, identifier: Identifier) -> Option<CallsiteIndex>
+        ensures { at_index self.now.callsites result ≡ named self.now.callsites identifier.0 }
+    {
+        self.parts.callsite(identifier)
+    }
+}
+
+impl<T: Subscriber> Trace<T> {
+    /// Whether nobody is interested in the callsite, so that an event there would reach no output, and a span wouldn't be made. Whoever
+    /// makes no request then misses no line (`skipping_misses_nothing`). He isn't told of a lane that isn't there, of a moment out of
+    /// range, or of a parent that is closed.
+    pub fn is_off(&self, callsite: CallsiteIndex) -> bool
+        ensures { result ≡ is_off_at self.now.interests callsite }
+    {
+        self.parts.is_off(callsite)
+    }
+}

@@ -1,0 +1,292 @@
+//! Steps of a trace, one at a time and in runs.
+ghost use Rattle.std.specs.Prelude.{◌≡◌, IfOk, OnErr};
+ghost use Rattle.tracing_core_fields.specs.OwnedValues.{owned_entries};
+ghost use Rattle.span_tracing.specs.Ready.{FollowsReady, RunsReady};
+ghost use Rattle.span_tracing_laws.specs.runs.StepFollows.{registry_of};
+ghost use Rattle.span_tracing_laws.specs.runs.Runs.{RunGives};
+ghost use Rattle.span_tracing_outputs.specs.sinks.Takes.{TakesLine};
+ghost use Rattle.span_tracing_skeleton.specs.PlainData.{CloneStep, CloseStep, EnabledStep, EnterStep, EventStep, ExitStep, FollowsFromStep};
+ghost use Rattle.span_tracing_skeleton.specs.PlainData.{GlobalStep, RecordStep, SpanStep, plain_step, plain_steps};
+ghost use Rattle.span_tracing_steps.specs.Steps.{StepGives};
+
+use crate::trace::Trace;
+use event_formatter::{FormatEvent, Layer};
+use event_formatter_text::FormatFields;
+use span_registry_layers_layers::Filter;
+use span_tracing_laws::{files_follow, runs_follow, steps_follow};
+use span_tracing_outputs::{LineSink, PendingLines, RollingSink, RoutedSinks, TraceStack};
+use span_tracing_skeleton::{
+    EnabledCall, FollowsCall, HasRegistry, Parent, Reply, SpanCall, SpanName, Step,
+};
+use span_tracing_steps::{RecordRequest, Request};
+use std::alloc::AllocError;
+use tracing_appender_rolling::Folder;
+use tracing_core_fields::{FieldValue, Identifier, Subscriber};
+use tracing_core_moments::Moment;
+
+impl<T: Subscriber + HasRegistry> Trace<T> {
+    // A step, as its parts take it.
+    fn act(&mut self, step: &Step) -> Reply
+        ensures { StepGives ⟦<T as Subscriber>⟧ T.registry_of self.old (plain_step step.now) result self.new }
+    {
+        match step {
+            Step::SetGlobalDefault(handle) => self.parts.set_global_default(*handle),
+            Step::Event(event) => self.parts.event(&Request {
+                lane: event.lane,
+                moment: event.moment,
+                callsite: event.callsite.0,
+                parent: event.parent,
+                values: event.values.as_slice(),
+            }),
+            Step::Enabled(call) => self.parts.enabled(call),
+            Step::NewSpan(span) => self.parts.new_span(&Request {
+                lane: span.lane,
+                moment: span.moment,
+                callsite: span.callsite.0,
+                parent: span.parent,
+                values: span.values.as_slice(),
+            }),
+            Step::Record(record) => self.parts.record(&RecordRequest {
+                lane: record.lane,
+                moment: record.moment,
+                span: record.span,
+                values: record.values.as_slice(),
+            }),
+            Step::RecordFollowsFrom(call) => self.parts.record_follows_from(call),
+            Step::Enter(call) => self.parts.enter(call),
+            Step::Exit(call) => self.parts.exit(call),
+            Step::CloneSpan(call) => self.parts.clone_span(call),
+            Step::TryClose(call) => self.parts.try_close(call),
+        }
+    }
+}
+
+impl<N: FormatFields + Drop, E: FormatEvent, F: Filter, S: LineSink> Trace<TraceStack<N, E, F, S>> {
+    /// Makes the stack with this handle the one that lanes reach. Takes no memory.
+    pub fn set_global_default(&mut self, handle: usize) -> Reply
+        ensures gives { StepGives ⟦<TraceStack<N, E, F, S> as Subscriber>⟧ registry_of self.old (GlobalStep handle) result self.new }
+        ensures follows { FollowsReady ⟦<N as FormatFields>⟧ E.line_of ⟦<F as Filter>⟧ S.takes
+            ⟦<Layer<N, E, PendingLines> as span_registry_layers_layers::Layer>⟧ self.old (GlobalStep handle) result self.new }
+    {
+        steps_follow::<N, E, F, S>();
+        self.parts.set_global_default(handle)
+    }
+
+    /// An event on a lane. A line that finds no memory is missing alone, and counted.
+    #[inline(always)]
+    pub fn event(
+        &mut self,
+        lane: usize,
+        moment: Moment,
+        callsite: Identifier,
+        parent: Parent,
+        values: &[FieldValue],
+    ) -> Reply
+        ensures gives { StepGives ⟦<TraceStack<N, E, F, S> as Subscriber>⟧ registry_of self.old
+            (EventStep (record { lane = lane; moment = moment; callsite = callsite.0; parent = parent; values = owned_entries values.now }))
+            result self.new }
+        ensures follows { FollowsReady ⟦<N as FormatFields>⟧ E.line_of ⟦<F as Filter>⟧ S.takes
+            ⟦<Layer<N, E, PendingLines> as span_registry_layers_layers::Layer>⟧ self.old
+            (EventStep (record { lane = lane; moment = moment; callsite = callsite.0; parent = parent; values = owned_entries values.now }))
+            result self.new }
+    {
+        steps_follow::<N, E, F, S>();
+        self.parts.event(&Request {
+            lane,
+            moment,
+            callsite: callsite.0,
+            parent,
+            values,
+        })
+    }
+
+    /// Asks whether some output's filter passes a callsite on a lane: by it a new span would be made, and an event unless the filters
+    /// refuse the event itself. Asking leaves no mark, and takes no memory.
+    pub fn enabled(&mut self, lane: usize, moment: Moment, callsite: Identifier) -> Reply
+        ensures gives { StepGives ⟦<TraceStack<N, E, F, S> as Subscriber>⟧ registry_of self.old
+            (EnabledStep (record { lane = lane; moment = moment; callsite = callsite })) result self.new }
+        ensures follows { FollowsReady ⟦<N as FormatFields>⟧ E.line_of ⟦<F as Filter>⟧ S.takes
+            ⟦<Layer<N, E, PendingLines> as span_registry_layers_layers::Layer>⟧ self.old
+            (EnabledStep (record { lane = lane; moment = moment; callsite = callsite })) result self.new }
+    {
+        steps_follow::<N, E, F, S>();
+        self.parts.enabled(&EnabledCall {
+            lane,
+            moment,
+            callsite,
+        })
+    }
+
+    /// A new span on a lane; answers its name, or none where it is dropped. A text that finds no memory is missing alone, and counted.
+    pub fn new_span(
+        &mut self,
+        lane: usize,
+        moment: Moment,
+        callsite: Identifier,
+        parent: Parent,
+        values: &[FieldValue],
+    ) -> Reply
+        ensures gives { StepGives ⟦<TraceStack<N, E, F, S> as Subscriber>⟧ registry_of self.old
+            (SpanStep (record { lane = lane; moment = moment; callsite = callsite.0; parent = parent; values = owned_entries values.now }))
+            result self.new }
+        ensures follows { FollowsReady ⟦<N as FormatFields>⟧ E.line_of ⟦<F as Filter>⟧ S.takes
+            ⟦<Layer<N, E, PendingLines> as span_registry_layers_layers::Layer>⟧ self.old
+            (SpanStep (record { lane = lane; moment = moment; callsite = callsite.0; parent = parent; values = owned_entries values.now }))
+            result self.new }
+    {
+        steps_follow::<N, E, F, S>();
+        self.parts.new_span(&Request {
+            lane,
+            moment,
+            callsite: callsite.0,
+            parent,
+            values,
+        })
+    }
+
+    /// Adds values to a span's. A field is told by its place among those of the span's callsite; one that the callsite lacks is passed
+    /// over.
+    pub fn record(
+        &mut self,
+        lane: usize,
+        moment: Moment,
+        span: Option<SpanName>,
+        values: &[FieldValue],
+    ) -> Reply
+        ensures gives { StepGives ⟦<TraceStack<N, E, F, S> as Subscriber>⟧ registry_of self.old
+            (RecordStep (record { lane = lane; moment = moment; span = span; values = owned_entries values.now })) result self.new }
+        ensures follows { FollowsReady ⟦<N as FormatFields>⟧ E.line_of ⟦<F as Filter>⟧ S.takes
+            ⟦<Layer<N, E, PendingLines> as span_registry_layers_layers::Layer>⟧ self.old
+            (RecordStep (record { lane = lane; moment = moment; span = span; values = owned_entries values.now })) result self.new }
+    {
+        steps_follow::<N, E, F, S>();
+        self.parts.record(&RecordRequest {
+            lane,
+            moment,
+            span,
+            values,
+        })
+    }
+
+    /// Records that a span follows from another one. Nothing shows it yet.
+    pub fn record_follows_from(
+        &mut self,
+        lane: usize,
+        moment: Moment,
+        span: Option<SpanName>,
+        follows: Option<SpanName>,
+    ) -> Reply
+        ensures gives { StepGives ⟦<TraceStack<N, E, F, S> as Subscriber>⟧ registry_of self.old
+            (FollowsFromStep (record { lane = lane; moment = moment; span = span; follows = follows })) result self.new }
+        ensures follows { FollowsReady ⟦<N as FormatFields>⟧ E.line_of ⟦<F as Filter>⟧ S.takes
+            ⟦<Layer<N, E, PendingLines> as span_registry_layers_layers::Layer>⟧ self.old
+            (FollowsFromStep (record { lane = lane; moment = moment; span = span; follows = follows })) result self.new }
+    {
+        steps_follow::<N, E, F, S>();
+        self.parts.record_follows_from(&FollowsCall {
+            lane,
+            moment,
+            span,
+            follows,
+        })
+    }
+
+    /// Enters a span on a lane.
+    pub fn enter(&mut self, lane: usize, moment: Moment, span: Option<SpanName>) -> Reply
+        ensures gives { StepGives ⟦<TraceStack<N, E, F, S> as Subscriber>⟧ registry_of self.old
+            (EnterStep (record { lane = lane; moment = moment; span = span })) result self.new }
+        ensures follows { FollowsReady ⟦<N as FormatFields>⟧ E.line_of ⟦<F as Filter>⟧ S.takes
+            ⟦<Layer<N, E, PendingLines> as span_registry_layers_layers::Layer>⟧ self.old
+            (EnterStep (record { lane = lane; moment = moment; span = span })) result self.new }
+    {
+        steps_follow::<N, E, F, S>();
+        self.parts.enter(&SpanCall { lane, moment, span })
+    }
+
+    /// Leaves a span on a lane: its last entry there goes.
+    pub fn exit(&mut self, lane: usize, moment: Moment, span: Option<SpanName>) -> Reply
+        ensures gives { StepGives ⟦<TraceStack<N, E, F, S> as Subscriber>⟧ registry_of self.old
+            (ExitStep (record { lane = lane; moment = moment; span = span })) result self.new }
+        ensures follows { FollowsReady ⟦<N as FormatFields>⟧ E.line_of ⟦<F as Filter>⟧ S.takes
+            ⟦<Layer<N, E, PendingLines> as span_registry_layers_layers::Layer>⟧ self.old
+            (ExitStep (record { lane = lane; moment = moment; span = span })) result self.new }
+    {
+        steps_follow::<N, E, F, S>();
+        self.parts.exit(&SpanCall { lane, moment, span })
+    }
+
+    /// Takes one more handle of a span. Takes no memory.
+    pub fn clone_span(&mut self, lane: usize, moment: Moment, span: Option<SpanName>) -> Reply
+        ensures gives { StepGives ⟦<TraceStack<N, E, F, S> as Subscriber>⟧ registry_of self.old
+            (CloneStep (record { lane = lane; moment = moment; span = span })) result self.new }
+        ensures follows { FollowsReady ⟦<N as FormatFields>⟧ E.line_of ⟦<F as Filter>⟧ S.takes
+            ⟦<Layer<N, E, PendingLines> as span_registry_layers_layers::Layer>⟧ self.old
+            (CloneStep (record { lane = lane; moment = moment; span = span })) result self.new }
+    {
+        steps_follow::<N, E, F, S>();
+        self.parts.clone_span(&SpanCall { lane, moment, span })
+    }
+
+    /// Gives up one handle of a span; answers whether the span closed.
+    pub fn try_close(&mut self, lane: usize, moment: Moment, span: Option<SpanName>) -> Reply
+        ensures gives { StepGives ⟦<TraceStack<N, E, F, S> as Subscriber>⟧ registry_of self.old
+            (CloseStep (record { lane = lane; moment = moment; span = span })) result self.new }
+        ensures follows { FollowsReady ⟦<N as FormatFields>⟧ E.line_of ⟦<F as Filter>⟧ S.takes
+            ⟦<Layer<N, E, PendingLines> as span_registry_layers_layers::Layer>⟧ self.old
+            (CloseStep (record { lane = lane; moment = moment; span = span })) result self.new }
+    {
+        steps_follow::<N, E, F, S>();
+        self.parts.try_close(&SpanCall { lane, moment, span })
+    }
+
+    /// A step.
+    pub fn step(&mut self, step: &Step) -> Reply
+        ensures gives { StepGives ⟦<TraceStack<N, E, F, S> as Subscriber>⟧ registry_of self.old (plain_step step.now) result self.new }
+        ensures follows { FollowsReady ⟦<N as FormatFields>⟧ E.line_of ⟦<F as Filter>⟧ S.takes
+            ⟦<Layer<N, E, PendingLines> as span_registry_layers_layers::Layer>⟧ self.old (plain_step step.now) result self.new }
+    {
+        steps_follow::<N, E, F, S>();
+        self.act(step)
+    }
+
+    // Steps in order, as the trace's parts take them.
+    fn run_all(&mut self, steps: &[Step]) -> Result<Vec<Reply>, AllocError>
+        ensures run { IfOk result
+            (λ replies. RunGives ⟦<TraceStack<N, E, F, S> as Subscriber>⟧ self.old (plain_steps steps.now) replies.items self.new) }
+        ensures err { OnErr result (self.new ≡ self.old) }
+    {
+        let mut replies = Vec::with_capacity(self.parts.alloc(), steps.len())?;
+        for step in steps {
+            replies.push_reserved(self.act(step));
+        }
+        Ok(replies)
+    }
+}
+
+impl<N: FormatFields + Drop, E: FormatEvent, F: Filter, D: Folder> Trace<
+    TraceStack<N, E, F, RoutedSinks<RollingSink<D>>>,
+> {
+    /// Steps in order, with a reply to each. A step that is refused for lack of memory does nothing, and the others run.
+    ///
+    /// Where the stack is ready, each sink of an output takes exactly those lines that the output's machine offers and the route sends to
+    /// it.
+    /// Where the sink dropped none, its folder's contents are known, and its appender agreed with a sink before (`AgreesSink`), these lines
+    /// stand in its files behind what was found and handed over before, as far as retention left the files.
+    ///
+    /// # Errors
+    ///
+    /// Out of memory for the replies, whose room is made first: then nothing was done.
+    pub fn run(&mut self, steps: &[Step]) -> Result<Vec<Reply>, AllocError>
+        ensures gives { IfOk result (λ replies. RunGives ⟦<TraceStack<N, E, F, RoutedSinks<RollingSink<D>>> as Subscriber>⟧ self.old
+            (plain_steps steps.now) replies.items self.new) }
+        ensures run { IfOk result
+            (λ replies. RunsReady D.contents D.failed ⟦<N as FormatFields>⟧ E.line_of ⟦<F as Filter>⟧
+            ⟦<Layer<N, E, PendingLines> as span_registry_layers_layers::Layer>⟧
+            self.old (plain_steps steps.now) replies.items self.new) }
+        ensures err { OnErr result (self.new ≡ self.old) }
+    {
+        runs_follow::<N, E, F, RoutedSinks<RollingSink<D>>>();
+        files_follow::<N, E, F, D>();
+        self.run_all(steps)
+    }
+}

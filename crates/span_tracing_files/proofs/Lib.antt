@@ -1,3 +1,0 @@
-pub mod Paired
-pub mod Asked
-pub mod Late

@@ -1,7 +1,0 @@
--- The threads that lines are told of.
-use Rattle.std.specs.Option.{option_copied}
-use Rattle.event_formatter_layer.specs.Threads.{PlainLane}
-use Rattle.span_tracing_files.specs.declared.lane_thread.LaneThread.{LaneThread}
-
-abbrev pub lane_of : LaneThread → PlainLane
-lane_of thread = record { name = option_copied thread.name; id = thread.id }

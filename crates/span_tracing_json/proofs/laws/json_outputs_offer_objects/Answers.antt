@@ -1,5 +1,0 @@
-use Rattle.span_tracing_json.proofs.Runs.{json_runs}
-use Rattle.span_tracing_json.proofs.laws.json_outputs_offer_objects.Goals as goal
-
-pub returns : goal.returns
-returns g c = json_runs g.N.FormatFields c.json_fields_keep_objects.ensures.shown

@@ -1,5 +1,0 @@
-use Rattle.span_tracing_json.proofs.Texts.{lines_give}
-use Rattle.span_tracing_json.proofs.laws.lines_give_objects.Goals as goal
-
-pub returns : goal.returns
-returns c = lines_give c.json_lines_end_once.ensures.printed

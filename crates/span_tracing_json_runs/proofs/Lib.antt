@@ -1,4 +1,0 @@
-mod Telling
-mod Outputs
-mod Standing
-mod Formats

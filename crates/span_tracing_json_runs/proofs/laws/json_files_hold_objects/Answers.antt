@@ -1,6 +1,0 @@
-use Rattle.span_tracing_json_runs.proofs.Standing.{files_hold}
-use Rattle.span_tracing_json_runs.proofs.laws.json_files_hold_objects.Goals as goal
-
-pub returns : goal.returns
-returns g c =
-    files_hold g.D.Folder.contents g.D.Folder.failed g.N.FormatFields g.E.FormatEvent.line_of g.F.Filter c.json_outputs_run.ensures c.files_hold_objects.ensures c.lines_give_objects.ensures

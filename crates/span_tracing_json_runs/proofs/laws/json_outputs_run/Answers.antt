@@ -1,5 +1,0 @@
-use Rattle.span_tracing_json_runs.proofs.Outputs.{outputs_run}
-use Rattle.span_tracing_json_runs.proofs.laws.json_outputs_run.Goals as goal
-
-pub returns : goal.returns
-returns g c = outputs_run g.N.FormatFields c.json_outputs_offer_objects.ensures

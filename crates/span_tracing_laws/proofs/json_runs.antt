@@ -1,0 +1,4 @@
+mod NumbersInRange
+mod Outputs
+mod JsonFiles
+mod Formats

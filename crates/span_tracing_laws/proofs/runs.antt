@@ -1,0 +1,6 @@
+pub mod UnrefusedSteps
+pub mod StepFollows
+pub mod Runs
+pub mod Files
+pub mod SetupCalls
+pub mod SkippedCallsites

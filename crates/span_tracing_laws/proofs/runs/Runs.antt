@@ -1,0 +1,194 @@
+-- Runs follow the plain machine.
+use Rattle.std.proofs.Common.{◌≡◌, inl, inr, ℕ, suc, List, [], ◌∷◌, map, length, Option, Some, None, refl, sym, ap, ◌∙◌, subst}
+use Rattle.tracing_core_fields.specs.requests.PlainRequests.{PlainEvent}
+use Rattle.tracing_core_moments.specs.declared.at.At.{At}
+use Rattle.tracing_core_fields.specs.declared.requests.subscriber.Subscriber.{Ghosts as SubscriberGhosts}
+use Rattle.span_registry_layers_layers.specs.declared.filter.Filter.{Ghosts as FilterGhosts}
+use Rattle.span_registry_layers_layers.specs.declared.layer.Layer.{Ghosts as LayerGhosts}
+use Rattle.event_formatter_text.specs.declared.format_fields.FormatFields.{Ghosts}
+use Rattle.event_formatter_text.specs.declared.settings.Settings.{Settings}
+use Rattle.event_formatter.specs.formats.Contexts.{PlainContext}
+use Rattle.span_tracing_outputs.specs.SinkLines.{TakesLists}
+use Rattle.span_tracing_outputs.specs.OutputNotices.{Notice}
+use Rattle.span_tracing_outputs.specs.OutputMachines.{PlainLine}
+use Rattle.span_tracing_outputs.specs.OutputFolds.{Fates, Numbered, outs_told, rest_of}
+use Rattle.span_tracing_outputs.specs.TraceFollows.{at_rest, lines_offered}
+use Rattle.span_tracing_outputs.specs.TraceStacks.{TraceStackValue}
+use Rattle.span_tracing_outputs.specs.Turns.{Lines}
+use Rattle.span_tracing_outputs.specs.sinks.OutputRuns.{EachComposes, RunsEach, joined, no_lines}
+use Rattle.span_tracing_outputs.specs.sinks.Runs.{RunsCompose, lines_at}
+use Rattle.span_tracing_skeleton.specs.Machine.{after, reply_of}
+use Rattle.span_tracing_skeleton.specs.PlainData.{PlainStep}
+use Rattle.span_tracing_skeleton.specs.Skeleton.{Skeleton, Answers}
+use Rattle.span_tracing_skeleton.specs.declared.call.Reply.{Reply}
+use Rattle.span_tracing_laws.specs.runs.StepFollows.{Follows, FollowsStep, OutputsFollow, StackIsReady, Traced, skeleton_of}
+use Rattle.span_tracing_laws.specs.runs.Laws.{StepsFollow}
+use Rattle.span_tracing_laws.specs.runs.Runs.{AgreesPlain, OutsAgree, Plain, RunFollows, RunGives, SinksTake, Starved, StepWithMask}
+use Rattle.span_tracing_laws.specs.runs.Runs.{TurnGoes, TurnsGo, Went, lines_left, lines_of, none_for, outs_left, plain_after, plain_reply}
+use Rattle.span_tracing_laws.specs.runs.Runs.{plain_run, replies_of, steps_of, turn_lines}
+use Rattle.span_tracing_laws.specs.runs.StepNotices.{Told, told_of}
+
+length_map : {A B : Type 0} (f : A → B) (xs : List A) → length (map f xs) ≡ length xs
+length_map f [] = refl
+length_map f (x ∷ xs) = ap suc (length_map f xs)
+
+outs_count : {N : Type 0} (n : Ghosts N) (nss : List (List Notice)) (outs : List (Numbered N)) (fates : Fates) →
+    length (outs_told n nss outs fates) ≡ length outs
+outs_count n nss [] fates = refl
+outs_count n nss (o ∷ outs) fates = ap suc (outs_count n (rest_of nss) outs (rest_of fates))
+
+module _ {S : Type 0} (takes : S → At → PlainLine → S → Type 0) where
+  -- what sinks take at one moment is a run of each
+  lists_run : RunsCompose takes → (at : At) (lists : List (List PlainLine)) (olds news : List S) → TakesLists takes at lists olds news →
+      RunsEach takes (map (lines_at at) lists) olds news
+  lists_run compose at [] [] [] w = tt
+  lists_run compose at [] [] (t ∷ ts) w = absurd w
+  lists_run compose at [] (s ∷ ss) [] w = absurd w
+  lists_run compose at [] (s ∷ ss) (t ∷ ts) w = absurd w
+  lists_run compose at (l ∷ ls) [] [] w = absurd w
+  lists_run compose at (l ∷ ls) [] (t ∷ ts) w = absurd w
+  lists_run compose at (l ∷ ls) (s ∷ ss) [] w = absurd w
+  lists_run compose at (l ∷ ls) (s ∷ ss) (t ∷ ts) w = (compose.once at l s t w.0, lists_run compose at ls ss ts w.1)
+
+  sinks_count : (at : At) (lists : List (List PlainLine)) (olds news : List S) → TakesLists takes at lists olds news →
+      length news ≡ length olds
+  sinks_count at [] [] [] w = refl
+  sinks_count at [] [] (t ∷ ts) w = absurd w
+  sinks_count at [] (s ∷ ss) [] w = absurd w
+  sinks_count at [] (s ∷ ss) (t ∷ ts) w = absurd w
+  sinks_count at (l ∷ ls) [] [] w = absurd w
+  sinks_count at (l ∷ ls) [] (t ∷ ts) w = absurd w
+  sinks_count at (l ∷ ls) (s ∷ ss) [] w = absurd w
+  sinks_count at (l ∷ ls) (s ∷ ss) (t ∷ ts) w = ap suc (sinks_count at ls ss ts w.1)
+
+  -- no lines for as many outputs as sinks
+  none_same : {N : Type 0} (outs : List (Numbered N)) (sinks : List S) → length sinks ≡ length outs → none_for outs ≡ no_lines sinks
+  none_same [] [] e = refl
+  none_same [] (s ∷ ss) e = absurd (cc)
+  none_same (o ∷ outs) [] e = absurd (cc)
+  none_same (o ∷ outs) (s ∷ ss) e = ap (λ (runs : List (List (At × PlainLine))). [] ∷ runs) (none_same outs ss (same_suc e))
+    where
+      same_suc : {a b : ℕ} → suc a ≡ suc b → a ≡ b
+      same_suc e = cc
+
+module _ {N E F S : Type 0} (n : Ghosts N) (line_of : E → Settings → PlainContext → PlainEvent → Option (List ℕ)) (g : FilterGhosts F)
+    (takes : S → At → PlainLine → S → Type 0) (h : LayerGhosts (Lines N E)) (compose : RunsCompose takes) (each : EachComposes N E F takes)
+  where
+    abbrev Stack : Type 0
+    Stack = TraceStackValue N E F S
+
+    abbrev Left : Option (Told N) → Fates → Option Stack → Option Stack → List (Numbered N) → Type 0
+    Left told fates o p outs = OutsAgree n line_of g p (outs_left n told outs fates) ×
+        SinksTake n line_of g takes o p (lines_left n told outs fates)
+
+    no_stack : (told : Option (Told N)) (fates : Fates) (outs : List (Numbered N)) → outs ≡ [] → Left told fates None None outs
+    no_stack None fates outs e = (e, ap none_for e)
+    no_stack (Some told) fates outs e = subst (λ (os : List (Numbered N)). Left (Some told) fates None None os) (sym e) (refl, refl)
+
+    by_told : (told : Option (Told N)) (fates : Fates) (o p : Option Stack) (outs : List (Numbered N)) →
+        OutputsFollow n line_of g takes told fates o p → OutsAgree n line_of g o outs → Left told fates o p outs
+    by_told told fates None None outs w a = no_stack told fates outs a
+    by_told told fates None (Some y) outs w a = absurd w
+    by_told told fates (Some x) None outs w a = absurd w
+    by_told None fates (Some x) (Some y) outs w a = (
+      (w.agreed outs a.0, ap length w.sinks ∙ a.1),
+      subst (λ (runs : List (List (At × PlainLine))). RunsEach takes runs x.sinks y.sinks) (sym (none_same takes outs x.sinks a.1))
+          (subst (RunsEach takes (no_lines x.sinks) x.sinks) (sym w.sinks) (each.stays x.sinks)),
+    )
+    by_told (Some told) fates (Some x) (Some y) outs w a =
+        let go = w outs a.0 in
+        let later = outs_told n (told.lists outs) outs fates in (
+          (
+            go.agreed,
+            sinks_count takes told.at (lines_offered later) x.sinks y.sinks go.sinks ∙ a.1 ∙
+                sym (length_map at_rest later ∙ outs_count n (told.lists outs) outs fates),
+          ),
+          lists_run takes compose told.at (lines_offered later) x.sinks y.sinks go.sinks,
+        )
+
+    abbrev TurnAgrees : Traced N E F S → StepWithMask → Reply → Traced N E F S → Plain N → Type 0
+    TurnAgrees v t reply w p = (reply ≡ plain_reply n p t) × AgreesPlain n line_of g w (plain_after n p t) ×
+        SinksTake n line_of g takes v.stack w.stack (turn_lines n p t)
+
+    went_agrees : (v : Traced N E F S) (step : PlainStep) (reply : Reply) (w : Traced N E F S)
+        (f : FollowsStep n line_of g takes h v step reply w) (k : Skeleton) (outs : List (Numbered N)) → skeleton_of v ≡ k →
+        OutsAgree n line_of g v.stack outs →
+        TurnAgrees v (Went step f.answers f.fates) reply w (record { skeleton = k; outs = outs })
+    went_agrees v step reply w f k outs same a =
+        let left = by_told (told_of N k step f.answers) f.fates v.stack w.stack outs
+        (subst (λ (s : Skeleton). OutputsFollow n line_of g takes (told_of N s step f.answers) f.fates v.stack w.stack) same f.outputs)
+        a in (
+          f.replied ∙ ap (λ (s : Skeleton). reply_of s step f.answers) same,
+          (f.skeleton ∙ ap (λ (s : Skeleton). after s step f.answers) same, left.0),
+          left.1,
+        )
+
+    stays : (o : Option Stack) (outs : List (Numbered N)) → OutsAgree n line_of g o outs → SinksTake n line_of g takes o o (none_for outs)
+    stays None outs a = ap none_for a
+    stays (Some x) outs a = subst (λ (runs : List (List (At × PlainLine))). RunsEach takes runs x.sinks x.sinks)
+        (sym (none_same takes outs x.sinks a.1)) (each.stays x.sinks)
+
+    turn_agrees : (v : Traced N E F S) (t : StepWithMask) (reply : Reply) (w : Traced N E F S) (p : Plain N) →
+        TurnGoes n line_of g takes h v t reply w → AgreesPlain n line_of g v p → TurnAgrees v t reply w p
+    turn_agrees v (Went step a fates) reply w p (f, answers, fated) agrees =
+        subst (λ (b : Answers). TurnAgrees v (Went step b fates) reply w p) answers
+        (subst (λ (fs : Fates). TurnAgrees v (Went step f.answers fs) reply w p) fated
+        (went_agrees v step reply w f p.skeleton p.outs agrees.0 agrees.1))
+    turn_agrees v (Starved step) reply w p (told, none, takes, same) agrees =
+        subst (λ (u : Traced N E F S). TurnAgrees v (Starved step) reply u p) (sym same) (told, agrees, stays v.stack p.outs agrees.1)
+
+    append : (o p q : Option Stack) (ones twos : List (List (At × PlainLine))) → SinksTake n line_of g takes o p ones →
+        SinksTake n line_of g takes p q twos → SinksTake n line_of g takes o q (joined ones twos)
+    append None None None ones twos a b = ap (λ (runs : List (List (At × PlainLine))). joined runs twos) a
+    append None None (Some z) ones twos a b = absurd b
+    append None (Some y) q ones twos a b = absurd a
+    append (Some x) None q ones twos a b = absurd a
+    append (Some x) (Some y) None ones twos a b = absurd b
+    append (Some x) (Some y) (Some z) ones twos a b = each.append ones twos x.sinks y.sinks z.sinks a b
+
+    abbrev RunAgrees : Traced N E F S → List StepWithMask → List Reply → Traced N E F S → Plain N → Type 0
+    RunAgrees v turns replies w p = (replies ≡ replies_of n p turns) × AgreesPlain n line_of g w (plain_run n p turns) ×
+        SinksTake n line_of g takes v.stack w.stack (lines_of n p turns)
+
+    run_agrees : (v : Traced N E F S) (turns : List StepWithMask) (replies : List Reply) (w : Traced N E F S) (p : Plain N) →
+        TurnsGo n line_of g takes h v turns replies w → AgreesPlain n line_of g v p → RunAgrees v turns replies w p
+    run_agrees v [] [] w p same agrees = subst (λ (u : Traced N E F S). RunAgrees v [] [] u p) (sym same)
+        (refl, agrees, stays v.stack p.outs agrees.1)
+    run_agrees v [] (reply ∷ replies) w p goes agrees = absurd goes
+    run_agrees v (t ∷ ts) [] w p goes agrees = absurd goes
+    run_agrees v (t ∷ ts) (reply ∷ replies) w p (mid, first, rest) agrees =
+        let one = turn_agrees v t reply mid p first agrees in
+        let others = run_agrees mid ts replies w (plain_after n p t) rest one.1 in (
+          ap (λ (r : Reply). r ∷ replies) one.0 ∙ ap (λ (rs : List Reply). plain_reply n p t ∷ rs) others.0,
+          others.1,
+          append v.stack mid.stack w.stack (turn_lines n p t) (lines_of n (plain_after n p t) ts) one.2 others.2,
+        )
+
+    module _ (sg : SubscriberGhosts Stack) (law : StepsFollow n line_of g takes h sg) where
+      abbrev Run : Traced N E F S → List PlainStep → List Reply → Traced N E F S → Type 0
+      Run v steps replies w = (turns : List StepWithMask) × (steps_of turns ≡ steps) × TurnsGo n line_of g takes h v turns replies w ×
+          StackIsReady g h w.stack
+
+      more : (v : Traced N E F S) (step : PlainStep) (steps : List PlainStep) (reply : Reply) (replies : List Reply)
+          (mid w : Traced N E F S) → Follows n line_of g takes h v step reply mid → Run mid steps replies w →
+          Run v (step ∷ steps) (reply ∷ replies) w
+      more v step steps reply replies mid w (inl f) rest =
+          (Went step f.answers f.fates ∷ rest.0, ap (λ (ss : List PlainStep). step ∷ ss) rest.1, (mid, (f, refl, refl), rest.2), rest.3)
+      more v step steps reply replies mid w (inr f) rest =
+          (Starved step ∷ rest.0, ap (λ (ss : List PlainStep). step ∷ ss) rest.1, (mid, f, rest.2), rest.3)
+
+      runs : (v : Traced N E F S) (steps : List PlainStep) (replies : List Reply) (w : Traced N E F S) → StackIsReady g h v.stack →
+          RunGives sg v steps replies w → Run v steps replies w
+      runs v [] [] w ready same = ([], refl, same, subst (λ (u : Traced N E F S). StackIsReady g h u.stack) (sym same) ready)
+      runs v [] (reply ∷ replies) w ready goes = absurd goes
+      runs v (step ∷ steps) [] w ready goes = absurd goes
+      runs v (step ∷ steps) (reply ∷ replies) w ready (mid, first, rest) =
+          let one = law v step reply mid ready first in
+          more v step steps reply replies mid w one.0 (runs mid steps replies w one.1 rest)
+
+      pub run_follows : (v : Traced N E F S) (steps : List PlainStep) (replies : List Reply) (w : Traced N E F S) →
+          StackIsReady g h v.stack →
+          RunGives sg v steps replies w → RunFollows n line_of g takes h v steps replies w × StackIsReady g h w.stack
+      run_follows v steps replies w ready goes =
+          let run = runs v steps replies w ready goes in
+          (record { turns = run.0; each = run.1; goes = run.2; agreed = λ p agrees. run_agrees v run.0 replies w p run.2 agrees }, run.3)

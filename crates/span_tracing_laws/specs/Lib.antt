@@ -1,0 +1,3 @@
+pub mod json_runs
+pub mod json
+pub mod runs

@@ -1,0 +1,6 @@
+pub mod StepNotices
+pub mod StepFollows
+pub mod Runs
+pub mod Laws
+pub mod Files
+pub mod SkippedCallsites

@@ -1,0 +1,67 @@
+//! Laws of steps and runs.
+ghost use Rattle.span_tracing_laws.specs.runs.Files.{FilesFollow};
+ghost use Rattle.span_tracing_laws.specs.runs.SkippedCallsites.{SkipsNothing};
+ghost use Rattle.span_tracing_laws.specs.runs.Laws.{RunsFollow, SetupFollows, StepsFollow};
+
+use event_formatter::{FormatEvent, Layer};
+use event_formatter_text::FormatFields;
+use span_registry_layers_layers::Filter;
+use span_tracing_outputs::{
+    LineSink, PendingLines, RollingSink, RoutedSinks, TraceStack, each_sink_has_its_run,
+    lines_stand_in_files, routed_sinks_take_theirs, runs_compose, trace_follows,
+};
+use tracing_appender_rolling::Folder;
+use tracing_core_fields::Subscriber;
+
+/// Setup calls leave a stack ready for steps. Its outputs agree with the machines that they agreed with, and its filters, layers and
+/// sinks are as they were.
+pub fn setup_follows<N: FormatFields + Drop, E: FormatEvent, F: Filter, S: LineSink>()
+    ensures { SetupFollows ⟦<N as FormatFields>⟧ E.line_of ⟦<F as Filter>⟧ S.takes
+        ⟦<Layer<N, E, PendingLines> as span_registry_layers_layers::Layer>⟧
+        ⟦<TraceStack<N, E, F, S> as Subscriber>⟧ }
+{
+    trace_follows::<N, E, F, S>();
+}
+
+/// A step of a trace over a stack of outputs with sinks goes as the skeleton and the output machines do.
+pub fn steps_follow<N: FormatFields + Drop, E: FormatEvent, F: Filter, S: LineSink>()
+    ensures { StepsFollow ⟦<N as FormatFields>⟧ E.line_of ⟦<F as Filter>⟧ S.takes
+        ⟦<Layer<N, E, PendingLines> as span_registry_layers_layers::Layer>⟧
+        ⟦<TraceStack<N, E, F, S> as Subscriber>⟧ }
+{
+    trace_follows::<N, E, F, S>();
+}
+
+/// A run of steps does: from each plain state that the trace agrees with, the replies are the plain ones, the trace agrees
+/// with the plain state afterwards, and each output's sink took exactly the lines of the output's machine, in order, each
+/// with where and when it was handed over. A step that found no memory did nothing.
+pub fn runs_follow<N: FormatFields + Drop, E: FormatEvent, F: Filter, S: LineSink>()
+    ensures { RunsFollow ⟦<N as FormatFields>⟧ E.line_of ⟦<F as Filter>⟧ S.takes
+        ⟦<Layer<N, E, PendingLines> as span_registry_layers_layers::Layer>⟧
+        ⟦<TraceStack<N, E, F, S> as Subscriber>⟧ }
+{
+    steps_follow::<N, E, F, S>();
+    runs_compose::<S>();
+    each_sink_has_its_run::<N, E, F, S>();
+}
+
+/// Which bytes stand in which file after a run over sinks of rolling files: where a sink of an output dropped no line and its
+/// folder's contents are known, exactly those lines of the output's machine that the route sends to it stand in its files, whole and
+/// in order, where retention left them. Over any other folder each sink took just these lines, of
+/// which the laws of sinks say which looks, openings and writes they come to. A machine offers no line that found no memory
+/// before it came to the sink.
+pub fn files_follow<N: FormatFields + Drop, E: FormatEvent, F: Filter, D: Folder>()
+    ensures { FilesFollow D.contents D.failed ⟦<N as FormatFields>⟧ E.line_of ⟦<F as Filter>⟧
+        ⟦<Layer<N, E, PendingLines> as span_registry_layers_layers::Layer>⟧ }
+{
+    each_sink_has_its_run::<N, E, F, RoutedSinks<RollingSink<D>>>();
+    routed_sinks_take_theirs::<RollingSink<D>>();
+    lines_stand_in_files::<D>();
+}
+
+/// At a callsite of which it is kept that nobody is interested in it, no filter passes an event, and no span is made: whoever makes no
+/// request there misses no line. What he isn't told is whether the request would have been refused.
+pub fn skipping_misses_nothing<N: FormatFields + Drop, E: FormatEvent, F: Filter, S: LineSink>()
+    ensures { SkipsNothing ⟦<F as Filter>⟧ ⟦<Layer<N, E, PendingLines> as span_registry_layers_layers::Layer>⟧
+        ⟦<TraceStack<N, E, F, S> as Subscriber>⟧ }
+{}

@@ -1,0 +1,3 @@
+pub mod PairedLists
+pub mod RequestedOutputs
+pub mod FolderRefusals

@@ -1,0 +1,89 @@
+-- Where all names are good, only folders and memory are left to refuse.
+use Rattle.std.proofs.Common.{arith, ◌≡◌, ◌<◌, ◌≤◌, true, false, List, [], ◌∷◌, length, map, get_or, Option, Some, None, Result, Ok, Err}
+use Rattle.std.proofs.Common.{IfErr, inl, inr, refl, sym, subst, ◌∙◌}
+use Rattle.std.specs.Result.{IsErrAnd}
+use Rattle.tracing_core_fields.specs.requests.Lists.{Every}
+use Rattle.span_registry_layers_store.specs.declared.slot.OutputKey.{OutputKey}
+use Rattle.span_tracing_skeleton.specs.declared.refusal.Refusal.{Refusal}
+use Rattle.span_tracing_skeleton.specs.declared.refusal.Refusal.TheVariants.{OutOfMemory}
+use Rattle.span_tracing_outputs.specs.files.OpenedStack.{of_all, routing_of}
+use Rattle.span_tracing_outputs.specs.files.OpenRefusals.{FirstTells, InOne, IsLate, IsRouted, IsToldOf, NamesAnswer, OutputsTell}
+use Rattle.span_tracing_outputs.specs.files.OpenRefusals.{RoutingRefuses, SinkRefuses, SinkTells, SinksTell, at_output}
+use Rattle.span_tracing_outputs.specs.declared.files.open_error.OpenStackError.{OpenStackError}
+use Rattle.span_tracing_outputs.specs.declared.files.output_spec.OutputSpec.{OutputSpec}
+use Rattle.span_tracing_outputs.specs.declared.files.output_spec.SinkSpec.{SinkSpec}
+use Rattle.span_tracing_outputs.specs.declared.files.output_spec.SinkSpec.TheVariants.{Direct}
+
+-- a refusal goes out as it came
+pub goes_out : {A E : Type 0} (told : E → Type 0) (answer : Result A E) (error : E) → IsErrAnd answer (λ e. e ≡ error) → told error →
+    IfErr answer told
+goes_out told (Ok made) error is own = absurd is
+goes_out told (Err e) error is own = subst told (sym is) own
+
+module _ {A T : Type 0} where
+  pub here_tells : (tells : A → Option T → Type 0) (xs : List A) (x d : A) (told : T) → 1 ≤ length xs → x ≡ get_or xs 0 d →
+      tells x (Some told) → FirstTells tells xs (Some told)
+  here_tells tells [] x d told one is own = absurd (omega (arith, one))
+  here_tells tells (y ∷ ys) x d told one is own = inl (subst (λ (z : A). tells z (Some told)) is own)
+
+  pub none_left : (tells : A → Option T → Type 0) (xs : List A) → length xs < 1 → FirstTells tells xs None
+  none_left tells [] few = tt
+  none_left tells (x ∷ xs) few = absurd (omega (arith, few))
+
+  pub first_more : (tells : A → Option T → Type 0) (x : A) (xs : List A) (told : Option T) → tells x None → FirstTells tells xs told →
+      FirstTells tells (x ∷ xs) told
+  first_more tells x xs None own later = (own, later)
+  first_more tells x xs (Some told) own later = inr (own, later)
+
+module _ {A : Type 0} where
+  pub first_refuses : (does : A → Type 0) (rest : List A) (x : A) (later : List A) → rest ≡ x ∷ later → does x → InOne does rest
+  first_refuses does rest x later is own = subst (InOne does) (sym is) (inl own)
+
+  pub later_refuses : (does : A → Type 0) (rest : List A) (x : A) (later : List A) → rest ≡ x ∷ later → InOne does later → InOne does rest
+  later_refuses does rest x later is one = subst (InOne does) (sym is) (inr one)
+
+module _ {D : Type 0} where
+  -- at any sink memory may be short
+  pub memory_refuses : (key : OutputKey) (sink : SinkSpec D) → SinkRefuses key (at_output key OutOfMemory) sink
+  memory_refuses key (Direct builder folder) = inr (inr refl)
+
+module _ {D : Type 0} (key : OutputKey) (told : OpenStackError) where
+  late_sink : (sink : SinkSpec D) → SinkRefuses key told sink → SinkTells sink None → IsLate key told
+  late_sink (Direct builder folder) (inr late) good = late
+  late_sink (Direct builder folder) (inl (at, inl (is, bad))) good = absurd (let clash : true ≡ false = sym bad ∙ good.0 in cc)
+  late_sink (Direct builder folder) (inl (at, inr (is, fine, link))) good = absurd (good.1 link.0 link.1 link.2)
+
+  late_sinks : (sinks : List (SinkSpec D)) → InOne (SinkRefuses key told) sinks → SinksTell sinks None → IsLate key told
+  late_sinks [] one good = absurd one
+  late_sinks (sink ∷ sinks) (inl own) good = late_sink sink own good.0
+  late_sinks (sink ∷ sinks) (inr later) good = late_sinks sinks later good.1
+
+module _ {F D : Type 0} (told : OpenStackError) where
+  late_spec : (spec : OutputSpec F D) → RoutingRefuses told (routing_of spec) → SinksTell spec.sinks.items None → IsRouted spec →
+      IsLate spec.key told
+  late_spec spec (inl one) good routed = late_sinks spec.key told spec.sinks.items one good
+  late_spec spec (inr (inl bad)) good routed = absurd (let clash : true ≡ false = sym routed ∙ bad.1 in cc)
+  late_spec spec (inr (inr memory)) good routed = inr memory
+
+  pub late_specs : (specs : List (OutputSpec F D)) → InOne (RoutingRefuses told) (map routing_of specs) → OutputsTell specs None →
+      Every IsRouted specs → InOne (λ (spec : OutputSpec F D). IsLate spec.key told) specs
+  late_specs [] one good routed = absurd one
+  late_specs (spec ∷ specs) (inl own) good routed = inl (late_spec spec own good.0 routed.0)
+  late_specs (spec ∷ specs) (inr later) good routed = inr (late_specs specs later good.1 routed.1)
+
+module _ {F D : Type 0} where
+  pub memory_told : (specs : List (OutputSpec F D)) (wrong : Option (OutputKey × Refusal)) (told : OpenStackError) →
+      told ≡ of_all OutOfMemory → IsToldOf specs wrong told
+  memory_told specs None told is = inr is
+  memory_told specs (Some w) told is = inr is
+
+  pub names_told : (xs ys : List (OutputSpec F D)) (r told : Option (OutputKey × Refusal)) → xs ≡ ys → r ≡ told → OutputsTell xs r →
+      OutputsTell ys told
+  names_told xs ys r told same is own = subst (OutputsTell ys) is (subst (λ (zs : List (OutputSpec F D)). OutputsTell zs r) same own)
+
+  -- what is told after good names
+  pub late_out : {A : Type 0} (specs : List (OutputSpec F D)) (answer : Result A OpenStackError) (error : OpenStackError) →
+      IsErrAnd answer (λ e. e ≡ error) → OutputsTell specs None → InOne (λ (spec : OutputSpec F D). IsLate spec.key error) specs →
+      NamesAnswer specs answer
+  late_out specs (Ok made) error is names late = absurd is
+  late_out specs (Err e) error is names late = (None, names, subst (IsToldOf specs None) (sym is) (inl late))

@@ -1,0 +1,6 @@
+pub mod Runs
+pub mod OutputRuns
+pub mod DroppedLines
+pub mod Fates
+pub mod LinesInFiles
+pub mod RoutedLines

@@ -1,0 +1,6 @@
+pub mod Settings
+pub mod OutputSpecs
+pub mod OpenedStack
+pub mod Either
+pub mod OpenRefusals
+pub mod Threads

@@ -1,0 +1,6 @@
+pub mod Takes
+pub mod Runs
+pub mod OutputRuns
+pub mod Fates
+pub mod LinesInFiles
+pub mod Routed

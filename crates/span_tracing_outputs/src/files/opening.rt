@@ -1,0 +1,295 @@
+//! A stack whose files are opened.
+ghost use Rattle.std.specs.Prelude.{◌≡◌, ◌⊎◌, IfOk, IfErr, Some, None, Err, false, true, [], map};
+ghost use Rattle.tracing_core_fields.specs.requests.Lists.{Every};
+ghost use Rattle.tracing_core_moments.specs.Moments.{is_moment};
+ghost use Rattle.span_tracing_outputs.specs.TraceFollows.{IsReady};
+ghost use Rattle.span_tracing_outputs.specs.files.OpenedStack.{Answers, OpensRouting, OpensSink, OpensStack, Pairs, RowOf, of_all};
+ghost use Rattle.span_tracing_outputs.specs.files.OpenedStack.{outputs_refusal, RowsAreTold, routing_of, stack_refusal};
+ghost use Rattle.span_tracing_outputs.specs.files.Threads.{lane_of};
+ghost use Rattle.span_tracing_outputs.specs.files.OpenRefusals.{InOne, IsRouted, NamesAnswer, OutputsTell, RoutingRefuses, SinkRefuses};
+ghost use Rattle.span_tracing_outputs.specs.files.OpenRefusals.{SinkTells, SinksTell};
+
+use crate::files::lane_thread::LaneThread;
+use crate::files::line_settings::Lines;
+use crate::files::open_error::OpenStackError;
+use crate::files::output_spec::{OutputSpec, SinkSpec};
+use crate::sinks::{RollingSink, RoutedSinks};
+use crate::{PendingLines, TraceStack, trace_starts};
+use event_formatter::{Fields, Format, FormatEvent, Layer, LineFormat, Timer};
+use event_formatter_text::{FormatFields, Route};
+use span_registry_layers::{Output, Stack, StackError};
+use span_registry_layers_layers::{Filter, Filtered};
+use span_registry_layers_store::OutputKey;
+use span_tracing_skeleton::Refusal;
+use std::alloc::{AllocError, Global};
+use tracing_appender_rolling::Folder;
+use tracing_core_moments::Moment;
+
+/// A stack whose outputs have lines of any format, under filters `F`, and whose lines go to rolling files in folders `D`.
+pub type FileStack<F, D> = TraceStack<
+    Fields,
+    Format<LineFormat, Timer>,
+    F,
+    RoutedSinks<RollingSink<D>>,
+>;
+
+/// What an output needs besides its files.
+type LinesOutput<F> = Output<Filtered<Lines, F>>;
+
+/// The sinks of an output, before their files are opened.
+#[derive(Drop)]
+pub(crate) struct Routing<D> {
+    key: OutputKey,
+    route: Route,
+    sinks: Vec<SinkSpec<D>>,
+}
+
+fn stack_refusal(error: StackError) -> Refusal
+    ensures { result ≡ stack_refusal error }
+{
+    match error {
+        StackError::NoOutput => Refusal::NoOutput,
+        StackError::TooManyFilters => Refusal::TooManyFilters,
+        StackError::EqualKeys => Refusal::EqualKeys,
+        StackError::OutOfMemory => Refusal::OutOfMemory,
+    }
+}
+
+/// Why a sink's files can't have their names.
+fn name_refusal<D>(sink: &SinkSpec<D>) -> Option<Refusal>
+    ensures { SinkTells sink.now result }
+{
+    let SinkSpec::Direct(builder, _) = sink;
+    if builder.has_bad_name() {
+        Some(Refusal::BadName)
+    } else if builder.has_bad_link() {
+        Some(Refusal::BadLinkName)
+    } else {
+        None
+    }
+}
+
+/// The first of the sinks' refusals.
+fn first_refusal<D>(sinks: &[SinkSpec<D>]) -> Option<Refusal>
+    ensures { SinksTell sinks.now result }
+{
+    let mut rest = sinks;
+    while let [sink, later @ ..] = rest {
+        match name_refusal(sink) {
+            Some(refusal) => return Some(refusal),
+            None => rest = later,
+        }
+    }
+    None
+}
+
+/// The first refusal of a name, outputs and sinks in order, with the output's key.
+fn names_refusal<F, D>(outputs: &[OutputSpec<F, D>]) -> Option<(OutputKey, Refusal)>
+    ensures { OutputsTell outputs.now result }
+{
+    let mut rest = outputs;
+    while let [output, later @ ..] = rest {
+        match first_refusal(output.sinks.as_slice()) {
+            Some(refusal) => return Some((output.key, refusal)),
+            None => rest = later,
+        }
+    }
+    None
+}
+
+fn row_of<F: Drop, D: Drop>(
+    alloc: Global,
+    threads: &[LaneThread<'_>],
+    spec: OutputSpec<F, D>,
+) -> Result<(LinesOutput<F>, Routing<D>), AllocError>
+    ensures row { IfOk result (λ made. RowOf (map lane_of threads.now) spec made.0) }
+    ensures routing { IfOk result (λ made. made.1 ≡ routing_of spec) }
+{
+    let OutputSpec {
+        key,
+        filter,
+        lines,
+        route,
+        sinks,
+    } = spec;
+    let output = Filtered::new(lines.into_layer(alloc, key, threads)?, filter);
+    Ok((Output { key, output }, Routing { key, route, sinks }))
+}
+
+/// The outputs without their files, and their sinks.
+#[tactic(auto, using(crate::proofs::files::PairedLists::pairs_more))]
+fn split<F: Drop, D: Drop>(
+    alloc: Global,
+    threads: &[LaneThread<'_>],
+    outputs: Vec<OutputSpec<F, D>>,
+) -> Result<(Vec<LinesOutput<F>>, Vec<Routing<D>>), AllocError>
+    ensures rows { IfOk result (λ made. Pairs (RowOf (map lane_of threads.now)) outputs.items made.0.items) }
+    ensures routings { IfOk result (λ made. made.1.items ≡ map routing_of outputs.items) }
+{
+    let mut rows = Vec::new(alloc);
+    let mut routings = Vec::new(alloc);
+    for spec in outputs {
+        let (row, routing) = row_of(alloc, threads, spec)?;
+        rows.push(row)?;
+        routings.push(routing)?;
+    }
+    Ok((rows, routings))
+}
+
+fn open_sink<D: Folder>(
+    alloc: Global,
+    key: OutputKey,
+    spec: SinkSpec<D>,
+    moment: Moment,
+) -> Result<RollingSink<D>, OpenStackError>
+    requires { is_moment moment ≡ true }
+    ensures opened { IfOk result (λ sink. OpensSink D.contents D.failed moment spec sink) }
+    ensures refused { IfErr result (λ told. SinkRefuses key told spec) }
+{
+    let SinkSpec::Direct(builder, folder) = spec;
+    match builder.build(alloc, folder, moment) {
+        Ok(appender) => Ok(RollingSink::new(appender)),
+        Err(refused) => Err(OpenStackError::of_sink(key, refused.error)),
+    }
+}
+
+/// The sinks of an output, opened in order.
+fn open_sinks<D: Folder>(
+    alloc: Global,
+    key: OutputKey,
+    specs: Vec<SinkSpec<D>>,
+    moment: Moment,
+) -> Result<Vec<RollingSink<D>>, OpenStackError>
+    requires { is_moment moment ≡ true }
+    ensures opened { IfOk result (λ sinks. Pairs (OpensSink D.contents D.failed moment) specs.items sinks.items) }
+    ensures refused { IfErr result (λ told. InOne (SinkRefuses key told) specs.items) }
+{
+    let mut sinks = Vec::new(alloc);
+    for spec in specs {
+        let sink = open_sink(alloc, key, spec, moment)?;
+        let Ok(()) = sinks.push(sink) else {
+            return Err(OpenStackError::at_output(key, Refusal::OutOfMemory));
+        };
+    }
+    Ok(sinks)
+}
+
+#[tactic(auto, using(crate::proofs::files::RequestedOutputs::routed_is))]
+fn open_routing<D: Folder>(
+    alloc: Global,
+    routing: Routing<D>,
+    moment: Moment,
+) -> Result<RoutedSinks<RollingSink<D>>, OpenStackError>
+    requires { is_moment moment ≡ true }
+    ensures opened { IfOk result (λ routed. OpensRouting D.contents D.failed moment routing routed) }
+    ensures refused { IfErr result (λ told. RoutingRefuses told routing) }
+{
+    let Routing { key, route, sinks } = routing;
+    let opened = open_sinks(alloc, key, sinks, moment)?;
+    match RoutedSinks::new(route, opened) {
+        Ok(routed) => Ok(routed),
+        Err(_) => Err(OpenStackError::at_output(key, Refusal::BadRoute)),
+    }
+}
+
+/// The sinks of all outputs, opened in order.
+fn open_routings<D: Folder>(
+    alloc: Global,
+    routings: Vec<Routing<D>>,
+    moment: Moment,
+) -> Result<Vec<RoutedSinks<RollingSink<D>>>, OpenStackError>
+    requires { is_moment moment ≡ true }
+    ensures opened { IfOk result (λ opened. Pairs (OpensRouting D.contents D.failed moment) routings.items opened.items) }
+    ensures refused { IfErr result (λ told. InOne (RoutingRefuses told) routings.items) }
+{
+    let mut opened = Vec::new(alloc);
+    for routing in routings {
+        let key = routing.key;
+        let routed = open_routing(alloc, routing, moment)?;
+        let Ok(()) = opened.push(routed) else {
+            return Err(OpenStackError::at_output(key, Refusal::OutOfMemory));
+        };
+    }
+    Ok(opened)
+}
+
+/// Refused outputs are told, since their layers have no filters of their own.
+fn rows_are_told<N: FormatFields + Drop, E: FormatEvent, F: Filter>()
+    ensures { RowsAreTold ⟦<F as Filter>⟧ ⟦<Layer<N, E, PendingLines> as span_registry_layers_layers::Layer>⟧ }
+{}
+
+/// A stack of the outputs, whose lines know no thread. At the moment the files of all sinks are opened, outputs and sinks in order,
+/// after retention.
+///
+/// # Errors
+///
+/// In this order: `BadMoment`; `NoOutput`, `TooManyFilters` where there are more than 64 outputs, `EqualKeys`; for the sinks in order
+/// `BadName`, `BadLinkName`, all before a folder is asked; then `FolderRefused` or `OutOfMemory` at the first sink that meets it. Want of
+/// memory may be told in place of any but `BadMoment`. What is told of one output comes with its key, and a folder's refusal with the
+/// fault. The outputs are let go: the folders of earlier sinks keep what was opened in them.
+pub fn open_stack<F: Filter, D: Folder>(
+    alloc: Global,
+    outputs: Vec<OutputSpec<F, D>>,
+    moment: Moment,
+) -> Result<FileStack<F, D>, OpenStackError>
+    ensures moment { is_moment moment ≡ false → result ≡ Err (of_all Refusal.BadMoment) }
+    ensures told { is_moment moment ≡ true → Answers (outputs_refusal outputs.items) result }
+    // Each output that `OutputSpec::new` made has a good route.
+    ensures names { is_moment moment ≡ true → outputs_refusal outputs.items ≡ None → Every IsRouted outputs.items →
+        NamesAnswer outputs.items result }
+    ensures opened { IfOk result (λ made. OpensStack D.contents D.failed ⟦<F as Filter>⟧
+        ⟦<Lines as span_registry_layers_layers::Layer>⟧ moment [] outputs.items made) }
+    // Honest filters are asked for what each says of all callsites.
+    ensures ready { Every (λ (spec : OutputSpec F D). F.honest spec.filter) outputs.items →
+        IfOk result (λ made. IsReady ⟦<F as Filter>⟧ made) }
+{
+    open_stack_with_threads(alloc, &[], outputs, moment)
+}
+
+/// The same as [`open_stack`], where lines that show threads show these: lane 0 stands for the first, and so on. Of a lane without a
+/// thread here they show the lane's number. The caller adds the lanes to the trace by `Trace::thread`, in the same order; nothing looks
+/// whether the two agree.
+///
+/// # Errors
+///
+/// Those of [`open_stack`].
+pub fn open_stack_with_threads<F: Filter, D: Folder>(
+    alloc: Global,
+    threads: &[LaneThread<'_>],
+    outputs: Vec<OutputSpec<F, D>>,
+    moment: Moment,
+) -> Result<FileStack<F, D>, OpenStackError>
+    ensures moment { is_moment moment ≡ false → result ≡ Err (of_all Refusal.BadMoment) }
+    ensures told { is_moment moment ≡ true → Answers (outputs_refusal outputs.items) result }
+    // Each output that `OutputSpec::new` made has a good route.
+    ensures names { is_moment moment ≡ true → outputs_refusal outputs.items ≡ None → Every IsRouted outputs.items →
+        NamesAnswer outputs.items result }
+    ensures opened { IfOk result (λ made. OpensStack D.contents D.failed ⟦<F as Filter>⟧
+        ⟦<Lines as span_registry_layers_layers::Layer>⟧ moment (map lane_of threads.now) outputs.items made) }
+    // Honest filters are asked for what each says of all callsites.
+    ensures ready { Every (λ (spec : OutputSpec F D). F.honest spec.filter) outputs.items →
+        IfOk result (λ made. IsReady ⟦<F as Filter>⟧ made) }
+{
+    if !moment.is_in_range() {
+        return Err(OpenStackError::of_all(Refusal::BadMoment));
+    }
+    trace_starts::<Fields, Format<LineFormat, Timer>, F, RoutedSinks<RollingSink<D>>>();
+    rows_are_told::<Fields, Format<LineFormat, Timer>, F>();
+    let names = names_refusal(outputs.as_slice());
+    let Ok((rows, routings)) = split(alloc, threads, outputs) else {
+        return Err(OpenStackError::of_all(Refusal::OutOfMemory));
+    };
+    let stack = match Stack::new(alloc, rows) {
+        Ok(stack) => stack,
+        Err(refused) => return Err(OpenStackError::of_all(stack_refusal(refused.error))),
+    };
+    if let Some((key, refusal)) = names {
+        return Err(OpenStackError::at_output(key, refusal));
+    }
+    let sinks = open_routings(alloc, routings, moment)?;
+    match TraceStack::new(stack, sinks) {
+        Ok(made) => Ok(made),
+        // There are sinks for each output.
+        Err(_) => unreachable!(),
+    }
+}

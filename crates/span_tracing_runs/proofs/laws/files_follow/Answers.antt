@@ -1,5 +1,0 @@
-use Rattle.span_tracing_runs.proofs.Standing.{files_follow}
-use Rattle.span_tracing_runs.proofs.laws.files_follow.Goals as goal
-
-pub returns : goal.returns
-returns g c = files_follow g.D.Folder.contents g.D.Folder.failed g.N.FormatFields g.E.FormatEvent.line_of g.F.Filter _ c.each_sink_has_its_run.ensures c.routed_sinks_take_theirs.ensures c.lines_stand_in_files.ensures

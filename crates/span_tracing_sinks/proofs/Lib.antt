@@ -1,6 +1,0 @@
-pub mod Runs
-pub mod Each
-pub mod Counting
-pub mod Told
-pub mod Standing
-pub mod Routing

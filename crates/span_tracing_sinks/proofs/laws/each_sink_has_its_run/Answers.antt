@@ -1,5 +1,0 @@
-use Rattle.span_tracing_sinks.proofs.Each.{each_composes}
-use Rattle.span_tracing_sinks.proofs.laws.each_sink_has_its_run.Goals as goal
-
-pub returns : goal.returns
-returns g c = each_composes g.S.LineSink.takes

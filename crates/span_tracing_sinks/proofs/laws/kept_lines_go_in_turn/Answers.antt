@@ -1,5 +1,0 @@
-use Rattle.span_tracing_sinks.proofs.Told.{kept_in_turn}
-use Rattle.span_tracing_sinks.proofs.laws.kept_lines_go_in_turn.Goals as goal
-
-pub returns : goal.returns
-returns c = kept_in_turn

@@ -1,5 +1,0 @@
-use Rattle.span_tracing_sinks.proofs.Standing.{lines_stand}
-use Rattle.span_tracing_sinks.proofs.laws.lines_stand_in_files.Goals as goal
-
-pub returns : goal.returns
-returns g c = lines_stand g.D.Folder.contents g.D.Folder.failed

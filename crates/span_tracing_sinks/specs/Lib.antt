@@ -1,6 +1,0 @@
-pub mod Takes
-pub mod Runs
-pub mod Each
-pub mod Fates
-pub mod Standing
-pub mod Routed

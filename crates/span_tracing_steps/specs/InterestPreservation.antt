@@ -1,0 +1,22 @@
+-- What is kept of the interest in callsites stays what the stack says.
+use Rattle.std.specs.Prelude.{Result, Ok}
+use Rattle.tracing_core_fields.specs.PlainMetadata.{PlainMetadata}
+use Rattle.tracing_core_fields.specs.requests.Interests.{PlainInterest}
+use Rattle.tracing_core_fields.specs.declared.requests.subscriber.Subscriber.{Ghosts}
+use Rattle.span_registry_layers_store.specs.Registries.{RegistryValue}
+use Rattle.span_tracing_skeleton.specs.PlainData.{PlainStep}
+use Rattle.span_tracing_skeleton.specs.declared.call.Reply.{Reply}
+use Rattle.span_tracing_skeleton.specs.declared.refusal.Refusal.{Refusal}
+use Rattle.span_tracing_steps.specs.Interests.{KeepsWord}
+use Rattle.span_tracing_steps.specs.Setup.{AddGives, RegisterGives}
+use Rattle.span_tracing_steps.specs.States.{StateValue, new_state}
+use Rattle.span_tracing_steps.specs.Steps.{StepGives}
+
+-- of a new trace, after a consistent stack was added, after a callsite was registered, and after each step
+pub record CacheStaysValid {T : Type 0} (g : Ghosts T) (registry_of : T → RegistryValue) : Type 0 where
+  pub new : KeepsWord g new_state
+  pub added : (v : StateValue T) (x : T) (w : StateValue T) → g.steady x → AddGives g v x (Ok tt) w → KeepsWord g w
+  pub registered : (v : StateValue T) (m : PlainMetadata) (r : Result PlainInterest Refusal) (w : StateValue T) → KeepsWord g v →
+      RegisterGives g v m r w → KeepsWord g w
+  pub stepped : (v : StateValue T) (step : PlainStep) (reply : Reply) (w : StateValue T) → KeepsWord g v →
+      StepGives g registry_of v step reply w → KeepsWord g w

@@ -1,0 +1,29 @@
+-- Where a request goes, before it is told.
+use Rattle.std.specs.Prelude.{◌≡◌, ℕ, Bool, true, Option, Some, None, Result, Ok, Err, is_some}
+use Rattle.tracing_core_fields.specs.PlainMetadata.{PlainMetadata}
+use Rattle.tracing_core_fields.specs.requests.PlainRequests.{explicit_parent}
+use Rattle.tracing_core_fields.specs.declared.requests.subscriber.Subscriber.{Ghosts}
+use Rattle.tracing_core_moments.specs.declared.moment.Moment.{Moment}
+use Rattle.tracing_core.specs.declared.hub.index.CallsiteIndex.{CallsiteIndex}
+use Rattle.span_registry_layers_store.specs.Registries.{RegistryValue}
+use Rattle.span_tracing_skeleton.specs.IgnoredEvents.{Ignores}
+use Rattle.span_tracing_skeleton.specs.Machine.{known, request_refusal, told_parent}
+use Rattle.span_tracing_skeleton.specs.declared.call.Parent.{Parent}
+use Rattle.span_tracing_skeleton.specs.declared.refusal.Refusal.{Refusal}
+use Rattle.span_tracing_steps.specs.States.{StateValue, at_index, skeleton_of}
+
+-- where the callsite of a request stands, which nothing refuses, or the first refusal
+abbrev pub FoundFor : {T : Type 0} → (T → RegistryValue) → StateValue T → ℕ → Moment → ℕ → Bool → Parent → Result CallsiteIndex Refusal →
+    Type 0
+FoundFor registry_of v lane moment number is_span parent (Ok index) =
+    (at_index v.callsites (Some index) ≡ known (skeleton_of registry_of v) number is_span)
+    × (is_some (known (skeleton_of registry_of v) number is_span) ≡ true)
+    × (request_refusal (skeleton_of registry_of v) lane moment number is_span parent ≡ None)
+FoundFor registry_of v lane moment number is_span parent (Err refusal) = request_refusal (skeleton_of registry_of v) lane moment number
+    is_span parent ≡ Some refusal
+
+-- the stack may stay as it is at every event of the callsite under this parent
+abbrev pub StaysAt : {T : Type 0} → Ghosts T → Parent → Option PlainMetadata → Option T → Type 0
+StaysAt g parent None stack = ⊥
+StaysAt g parent (Some m) None = ⊥
+StaysAt g parent (Some m) (Some x) = (explicit_parent (told_parent parent) ≡ None) × Ignores g x m.level

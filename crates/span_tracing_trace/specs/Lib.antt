@@ -1,4 +1,0 @@
-pub mod Setup
-pub mod Ready
-pub mod Reading
-pub mod Calls

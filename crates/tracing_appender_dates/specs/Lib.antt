@@ -1,6 +1,0 @@
-pub mod Days
-pub mod Calendar
-pub mod Periods
-pub mod Stamps
-pub mod Names
-pub mod Rows

@@ -1,7 +1,0 @@
-use Rattle.std.proofs.Common.{rules}
-use Rattle.tracing_appender_folders.specs.Contents.{flush_plain}
-use Rattle.tracing_appender_folders.proofs.Wrapped.{file_gives, flush_ignores}
-use Rattle.tracing_appender_folders.proofs.faulty.FaultyFolderFolder.flush.Goals as goal
-
-pub returns-clause-gives : goal.returns-clause-gives
-returns-clause-gives c = file_gives c.args.file (flush_plain c.args.file) (flush_ignores c.args.file) c.make.ensures.made (λ free called. search rules)

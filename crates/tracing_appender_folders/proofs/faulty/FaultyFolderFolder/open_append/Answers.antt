@@ -1,6 +1,0 @@
-use Rattle.std.proofs.Common.{rules}
-use Rattle.tracing_appender_folders.proofs.Wrapped.{made_gives, open_ignores}
-use Rattle.tracing_appender_folders.proofs.faulty.FaultyFolderFolder.open_append.Goals as goal
-
-pub returns-clause-gives : goal.returns-clause-gives
-returns-clause-gives c = made_gives (open_ignores c.args.name.now) c.make.ensures.made (λ free called. search rules)

@@ -1,5 +1,0 @@
-use Rattle.tracing_appender_folders.proofs.Listing.{Listed}
-use Rattle.tracing_appender_folders.proofs.memory.MemoryFolder.files.Given as goal
-
-abbrev pub invariant-loop-file : goal.invariant-loop-file
-invariant-loop-file l = Listed l.self.files.items l.file-index l.entries.items

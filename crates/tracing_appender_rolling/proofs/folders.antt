@@ -1,0 +1,7 @@
+pub mod Content
+pub mod FaultlessFolder
+pub mod FilesByName
+pub mod FaultPlans
+pub mod SortedEntries
+pub mod Puts
+pub mod InterruptedAttempts

@@ -1,0 +1,11 @@
+use Rattle.std.proofs.Common.{arith}
+use Rattle.std.proofs.lemmas.List.{with_items_is}
+use Rattle.tracing_core_fields.specs.requests.Calls.{CloseTried}
+use Rattle.tracing_core.proofs.CachePreservation.{handed_keeps}
+use Rattle.tracing_core.proofs.hub.Hub.try_close.Goals as goal
+
+pub returns-clause-keeps : goal.returns-clause-keeps
+returns-clause-keeps g c =
+    handed_keeps g.S.Subscriber g.C.Callsite (CloseTried c.args.span c.args.at) c.try_close_at.result c.serial.ensures c.self.view_is
+    c.deref_mut.ensures.value
+    (with_items_is c.self.inside.subscribers c.try_close_at.new.subscribers (omega arith)) c.try_close_at.ensures

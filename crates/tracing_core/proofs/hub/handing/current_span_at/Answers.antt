@@ -1,0 +1,15 @@
+use Rattle.std.proofs.Common.{arith, refl}
+use Rattle.tracing_core_fields.specs.requests.Calls.{CurrentAsked}
+use Rattle.tracing_core.proofs.HandleCalls.{to_nobody, to_opened}
+use Rattle.tracing_core.proofs.hub.handing.current_span_at.Goals as goal
+
+pub returns-then-index-subscribers : goal.returns-then-index-subscribers
+returns-then-index-subscribers g c =
+    to_opened g.S.Subscriber (CurrentAsked c.args.at) c.args.serial c.args.subscribers.now c.index_or_end-index.result
+    c.index_or_end-index.ensures
+    c.if-index-subscribers.true c.index-subscribers-index.result _ _ c.current_span.result c.registered.view_is refl c.current_span.ensures
+
+pub returns-else-index-subscribers : goal.returns-else-index-subscribers
+returns-else-index-subscribers g c =
+    to_nobody g.S.Subscriber (CurrentAsked c.args.at) c.args.serial c.args.subscribers.now c.index_or_end-index.result
+    c.index_or_end-index.ensures (omega arith)

@@ -1,0 +1,16 @@
+use Rattle.std.proofs.Common.{arith, refl}
+use Rattle.tracing_core_fields.specs.requests.Calls.{Recorded}
+use Rattle.tracing_core_fields.specs.requests.PlainRequests.{plain_record}
+use Rattle.tracing_core.proofs.HandleCalls.{to_nobody, to_opened}
+use Rattle.tracing_core.proofs.hub.handing.record_at.Goals as goal
+
+pub returns-then-index-subscribers : goal.returns-then-index-subscribers
+returns-then-index-subscribers g c =
+    to_opened g.S.Subscriber (Recorded c.args.span.now (plain_record c.args.values.now) c.args.at) c.args.serial c.args.subscribers.now
+    c.index_or_end-index.result c.index_or_end-index.ensures
+    c.if-index-subscribers.true c.index-subscribers-index.result _ _ c.record.result c.registered.view_is refl c.record.ensures
+
+pub returns-else-index-subscribers : goal.returns-else-index-subscribers
+returns-else-index-subscribers g c =
+    to_nobody g.S.Subscriber (Recorded c.args.span.now (plain_record c.args.values.now) c.args.at) c.args.serial c.args.subscribers.now
+    c.index_or_end-index.result c.index_or_end-index.ensures (omega arith)

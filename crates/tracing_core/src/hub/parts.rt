@@ -1,0 +1,82 @@
+//! What a hub keeps.
+ghost use Rattle.std.specs.Prelude.{◌≡◌, ◌<◌, slice_get, length, IfSome};
+
+use std::marker::Model;
+use tracing_core_fields::{Interest, LevelFilter};
+
+// A subscriber that some handle leads to. A contract sees what is kept of it.
+#[derive(Drop)]
+pub(crate) struct RegisteredSubscriber<S> {
+    pub(crate) serial: u64,
+    pub(crate) handles: u64,
+    // whether it was lent for writing since it was last asked, or was never asked
+    pub(crate) lent: bool,
+    pub(crate) subscriber: S,
+}
+
+impl<S> Model for RegisteredSubscriber<S> {
+    ghost use Rattle.tracing_core.specs.TableRows.{KeptSubscriber};
+
+    ghost Value = { KeptSubscriber S };
+
+    ghost view = { λ e. record {
+      serial = e.serial;
+      handles = e.handles;
+      lent = e.lent;
+      subscriber = e.subscriber;
+    } };
+}
+
+// A callsite. A contract sees what is kept of it.
+#[derive(Drop)]
+pub(crate) struct RegisteredCallsite<C> {
+    pub(crate) callsite: C,
+    pub(crate) identifier: u64,
+    // the least verbose filter that passes the callsite's level
+    pub(crate) level: LevelFilter,
+    pub(crate) interest: Interest,
+}
+
+impl<C> Model for RegisteredCallsite<C> {
+    ghost use Rattle.tracing_core.specs.TableRows.{KeptCallsite};
+
+    ghost Value = { KeptCallsite C };
+
+    ghost view = { λ row. record {
+      callsite = row.callsite;
+      identifier = row.identifier;
+      level = row.level;
+      interest = row.interest;
+    } };
+}
+
+/// A default.
+#[derive(Clone, Copy, Debug)]
+pub enum LaneDefault {
+    /// None was set.
+    Unset,
+    /// It is no subscriber.
+    Nothing,
+    /// It is the subscriber of the number.
+    To(u64),
+}
+
+/// A lane.
+#[derive(Clone, Copy, Debug)]
+pub enum Lane {
+    /// It ended.
+    Ended,
+    /// It runs, with its own default.
+    Running(LaneDefault),
+}
+
+// The lane of the number, running or ended.
+pub(crate) fn lane_at(lanes: &[Lane], lane: u64) -> Option<Lane>
+    ensures value { result ≡ slice_get lanes.now lane }
+    ensures bound { IfSome result (λ _. lane < length lanes.now) }
+{
+    match lanes.get(lane as usize) {
+        None => None,
+        Some(value) => Some(*value),
+    }
+}

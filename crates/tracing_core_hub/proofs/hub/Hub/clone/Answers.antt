@@ -1,5 +1,0 @@
-use Rattle.tracing_core_hub.proofs.Words.{hold_keeps}
-use Rattle.tracing_core_hub.proofs.hub.Hub.clone.Goals as goal
-
-pub returns-clause-keeps : goal.returns-clause-keeps
-returns-clause-keeps g c = hold_keeps g.S.Subscriber g.C.Callsite c.args.self.now _ c.args.dispatch.now c.take_another.ensures.state

@@ -1,5 +1,0 @@
-use Rattle.tracing_core_hub.proofs.Words.{end_keeps}
-use Rattle.tracing_core_hub.proofs.hub.Hub.end_thread.Goals as goal
-
-pub returns-clause-keeps : goal.returns-clause-keeps
-returns-clause-keeps g c = end_keeps g.S.Subscriber g.C.Callsite c.args.self.now _ c.args.lane c.end_lane.result c.end_lane.ensures

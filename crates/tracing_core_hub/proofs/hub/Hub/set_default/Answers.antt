@@ -1,5 +1,0 @@
-use Rattle.tracing_core_hub.proofs.Words.{default_keeps}
-use Rattle.tracing_core_hub.proofs.hub.Hub.set_default.Goals as goal
-
-pub returns-clause-keeps : goal.returns-clause-keeps
-returns-clause-keeps g c = default_keeps g.S.Subscriber g.C.Callsite c.args.self.now _ c.args.lane c.args.dispatch.now c.set_own.ensures.state

@@ -1,5 +1,0 @@
-use Rattle.tracing_core_hub.proofs.Words.{global_keeps}
-use Rattle.tracing_core_hub.proofs.hub.Hub.set_global_default.Goals as goal
-
-pub returns-clause-keeps : goal.returns-clause-keeps
-returns-clause-keeps g c = global_keeps g.S.Subscriber g.C.Callsite c.args.self.now _ c.args.dispatch.now c.set_global.ensures.state

@@ -1,0 +1,12 @@
+pub mod Range
+pub mod Days
+pub mod Texts
+pub mod JiffDates
+pub mod Years
+pub mod Digits
+pub mod DatesFromText
+pub mod Stamps
+pub mod Names
+pub mod Strips
+pub mod NamesWithoutPeriod
+pub mod Order
