@@ -39,7 +39,7 @@ PARTS = {
     "tracing_appender_rolling": ("tracing_appender_rolling", ""),
     "tracing_appender_folders": ("tracing_appender_rolling", "folders"),
     "tracing_appender_queue": ("tracing_appender_queue", ""),
-    "tracing_appender_batch": ("tracing_appender_queue", "batch"),
+    "tracing_appender_batch": ("tracing_appender_queue", "worker"),
     "span_tracing_outputs": ("span_tracing_outputs", ""),
     "span_tracing_sinks": ("span_tracing_outputs", "sinks"),
     "span_tracing_files": ("span_tracing_outputs", "files"),

@@ -32,6 +32,7 @@ pub fn verdicts_are_own<L: Layer, F: Filter>()
 /// The registry of a new stack is sound, and each call keeps it so: ids rise, parents stand before their children, and
 /// the listed spans are the open ones. So closes are told of a child before its parent.
 pub fn stack_registry_stays_sound<L: Layer, F: Filter>()
+    // The registry of a stack is sound from the start and stays so.
     ensures start { NewIsSound ⟦<F as Filter>⟧ ⟦<L as Layer>⟧ }
     ensures call { StackStaysSound ⟦<F as Filter>⟧ ⟦<L as Layer>⟧ }
 {}
@@ -40,7 +41,9 @@ pub fn stack_registry_stays_sound<L: Layer, F: Filter>()
 /// layers have no say in ids, handles, entries and closes, but for whether a span is made, what is kept with
 /// it of their filters' answers, and slots; and where no layer writes a slot, it is just so.
 pub fn registry_stands_alone<L: Layer, F: Filter>()
+    // A call leaves a stack's registry as the registry's own call does, but for whether a span is made, verdicts and slots.
     ensures slots { RegistryStandsAlone ⟦<F as Filter>⟧ ⟦<L as Layer>⟧ }
+    // Where no layer writes a slot, slots are as the registry's own call leaves them, too.
     ensures unwritten { UnwrittenStandsAlone ⟦<F as Filter>⟧ ⟦<L as Layer>⟧ }
 {}
 
@@ -54,7 +57,10 @@ pub fn one_output_decides<L: Layer, F: Filter>()
 /// in the stack and after each of the core's calls, which keep the outputs' keys; and what such an output is
 /// told in its turn changes slots under its key alone.
 pub fn layers_keep_to_keys<L: Layer, F: Filter>()
+    // Where each output's layer writes slots under the output's key alone, so it is in the new stack.
     ensures start { NewKeepsToKeys ⟦<F as Filter>⟧ ⟦<L as Layer>⟧ }
+    // Each of the core's calls keeps that so, and keeps the outputs' keys.
     ensures call { CallsKeepToKeys ⟦<F as Filter>⟧ ⟦<L as Layer>⟧ }
+    // What such an output is told changes slots under its key alone.
     ensures turn { TurnsKeepToKeys ⟦<F as Filter>⟧ ⟦<L as Layer>⟧ }
 {}

@@ -62,10 +62,13 @@ impl<L: Layer, F: Filter> Stack<Filtered<L, F>> {
         alloc: Global,
         outputs: Vec<Output<Filtered<L, F>>>,
     ) -> Result<Stack<Filtered<L, F>>, StackRefusal<Filtered<L, F>>>
+        // Refused outputs come back in order: no output, too many filters (those in layers count), equal keys, no memory.
         ensures exact { NewGives ⟦<L as Layer>⟧ ⟦<F as Filter>⟧ outputs.items result }
+        // Filters have numbers of their own below 64 from the start.
         ensures numbers { IfOk result (λ s. HasNumbers ⟦<L as Layer>⟧ s) }
         // What is kept is right of honest filters.
         ensures kept { IfOk result (λ s. Every (λ f. F.honest f) (filters_of s.rows) → CacheIsValid ⟦<F as Filter>⟧ s) }
+        // What a new stack keeps of honest filters' answers is right.
         ensures honest { Every (λ (o : Output (Filtered L F)). F.honest o.output.filter) outputs.items →
             IfOk result (λ s. CacheIsValid ⟦<F as Filter>⟧ s) }
     {
@@ -105,10 +108,12 @@ impl<L: Layer, F: Filter> Stack<Filtered<L, F>> {
     /// `UnknownParent` where a parent is named that is not open, which leaves the stack as it was.
     #[inline(always)]
     pub fn event(&mut self, event: &Event<'_, '_>, at: At) -> Result<(), RequestError>
+        // A stack asks the outputs' own filters of an event, and then tells outputs in order.
         ensures exact { EventCached ⟦<F as Filter>⟧ ⟦<L as Layer>⟧ (plain_event event.now) at self.old result self.new }
         // While what is kept is right, this is asking every filter again, and what is kept stays right.
         ensures asking { CacheIsValid ⟦<F as Filter>⟧ self.old →
             EventAsked ⟦<F as Filter>⟧ ⟦<L as Layer>⟧ (plain_event event.now) at self.old result self.new }
+        // Each call but `swap_filter` and `stack_mut` keeps a valid cache valid.
         ensures kept { CacheIsValid ⟦<F as Filter>⟧ self.old → CacheIsValid ⟦<F as Filter>⟧ self.new }
     {
         self.parts.event(event, at)
@@ -117,8 +122,11 @@ impl<L: Layer, F: Filter> Stack<Filtered<L, F>> {
     /// Whether some output's filter passes what is made of the callsite there and then. It leaves no mark.
     pub fn enabled(&mut self, metadata: &Metadata<'_>, at: At) -> bool
         ensures exact { PassesCached ⟦<F as Filter>⟧ self.old (plain_metadata metadata.now) at result }
+        // While the cache is valid, a question is answered by whether some output's filter passes the callsite, by its current
+        // answer.
         ensures asking { CacheIsValid ⟦<F as Filter>⟧ self.old →
             PassesAsked ⟦<F as Filter>⟧ self.old (plain_metadata metadata.now) at result }
+        // A question leaves no mark.
         ensures same { self.new ≡ self.old }
     {
         self.parts.enabled(metadata, at)

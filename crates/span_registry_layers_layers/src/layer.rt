@@ -168,6 +168,7 @@ pub trait Layer: Drop {
     /// A span was said to follow from another one.
     fn on_follows_from(&mut self, span: &Id, follows: &Id, context: &mut Context<'_>)
         ensures lent { SameLoan context.old context.new }
+        // A layer says what a notice may make of it, by what it sees and by the registry as it leaves it.
         ensures notified { told self.old (Followed span.now follows.now (view context.old) (left context.new))
             self.new }
     {

@@ -277,12 +277,15 @@ impl<N: FormatFields + Drop, E: FormatEvent, F: Filter, D: Folder> Trace<
     ///
     /// Out of memory for the replies, whose room is made first: then nothing was done.
     pub fn run(&mut self, steps: &[Step]) -> Result<Vec<Reply>, AllocError>
+        // `Trace::run` gives one reply for each step.
         ensures gives { IfOk result (λ replies. RunGives ⟦<TraceStack<N, E, F, RoutedSinks<RollingSink<D>>> as Subscriber>⟧ self.old
             (plain_steps steps.now) replies.items self.new) }
+        // The stack is ready afterwards.
         ensures run { IfOk result
             (λ replies. RunsReady D.contents D.failed ⟦<N as FormatFields>⟧ E.line_of ⟦<F as Filter>⟧
             ⟦<Layer<N, E, PendingLines> as span_registry_layers_layers::Layer>⟧
             self.old (plain_steps steps.now) replies.items self.new) }
+        // Where there is no memory for the replies, nothing was done.
         ensures err { OnErr result (self.new ≡ self.old) }
     {
         runs_follow::<N, E, F, RoutedSinks<RollingSink<D>>>();

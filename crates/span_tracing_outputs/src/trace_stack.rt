@@ -79,6 +79,7 @@ impl<N: FormatFields + Drop, E: FormatEvent, F: Filter, S> TraceStack<N, E, F, S
         stack: Stack<Filtered<Layer<N, E, PendingLines>, F>>,
         sinks: Vec<S>,
     ) -> Result<TraceStack<N, E, F, S>, UnpairedSinks<N, E, F, S>>
+        // A `TraceStack` is made exactly where there are as many sinks as outputs. Else both come back unchanged.
         ensures gives { NewGives stack sinks.items result }
         // What the stack keeps of its filters' answers stays right.
         ensures valid { CacheIsValid ⟦<F as Filter>⟧ stack → IfOk result (λ made. CacheIsValid ⟦<F as Filter>⟧

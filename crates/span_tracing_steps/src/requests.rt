@@ -186,6 +186,7 @@ impl<T: Subscriber + HasRegistry> TraceParts<T> {
     pub fn event(&mut self, event: &Request<'_>) -> Reply
         requires { IsSound self.old }
         ensures sound { IsSound self.new }
+        // An event, a new span and a question reach the stack where it is the global default alone.
         ensures gives { StepGives ⟦<T as Subscriber>⟧ T.registry_of (value_in self.old) (EventStep
             (plain_request event.now)) result (value_in self.new) }
     {
@@ -212,6 +213,7 @@ impl<T: Subscriber + HasRegistry> TraceParts<T> {
     pub fn new_span(&mut self, span: &Request<'_>) -> Reply
         requires { IsSound self.old }
         ensures sound { IsSound self.new }
+        // Elsewhere an event is done, a new span is dropped, and a question is answered no.
         ensures gives { StepGives ⟦<T as Subscriber>⟧ T.registry_of (value_in self.old) (SpanStep
             (plain_request span.now)) result (value_in self.new) }
     {
@@ -240,6 +242,7 @@ impl<T: Subscriber + HasRegistry> TraceParts<T> {
     pub fn enabled(&mut self, call: &EnabledCall) -> Reply
         requires { IsSound self.old }
         ensures sound { IsSound self.new }
+        // A question, a new span and a close are answered by what the stack answers.
         ensures gives { StepGives ⟦<T as Subscriber>⟧ T.registry_of (value_in self.old) (EnabledStep
             call.now) result (value_in self.new) }
     {

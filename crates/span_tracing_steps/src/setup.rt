@@ -17,6 +17,7 @@ impl<T: Subscriber> TraceParts<T> {
 
     /// No stack, no lane and no callsite.
     pub fn new(alloc: Global) -> TraceParts<T>
+        // New parts are sound, and have no stack, no lane and no callsite.
         ensures sound { IsSound result }
         ensures value { value_in result ≡ new_state }
     {
@@ -37,10 +38,12 @@ impl<T: Subscriber> TraceParts<T> {
     pub fn thread(&mut self, name: Option<String>, thread_id: u64) -> Result<usize, AllocError>
         requires { IsSound self.old }
         ensures sound { IsSound self.new }
+        // `thread` adds a lane behind the others, with its name and thread, and answers its number.
         ensures number { IfOk result (λ lane. lane ≡ length (value_in self.old).threads) }
         ensures ok { OnOk result (value_in self.new ≡ record (value_in self.old) {
           threads = (value_in self.old).threads ++ (record { name = option_map string_bytes name; number = thread_id }) ∷ [];
         }) }
+        // A setup call that finds no memory changes nothing, and a stack comes back.
         ensures err { OnErr result (value_in self.new ≡ value_in self.old) }
     {
         let lane = self.threads.len();
@@ -62,6 +65,7 @@ impl<T: Subscriber> TraceParts<T> {
     ) -> Result<Interest, Refusal>
         requires { IsSound self.old }
         ensures sound { IsSound self.new }
+        // `register` takes a callsite that isn't known behind the others, with copies of all its metadata.
         ensures gives { RegisterGives ⟦<T as Subscriber>⟧ (value_in self.old)
             (own_at identifier.0 (plain_metadata metadata.now)) result (value_in self.new) }
     {
@@ -84,6 +88,8 @@ impl<T: Subscriber> TraceParts<T> {
         requires sound { IsSound self.old }
         requires none { (value_in self.old).stack ≡ None }
         ensures sound { IsSound self.new }
+        // `add_stack` tells the stack its handle, asks it of each callsite in order and for its hint, and keeps it with its
+        // answers.
         ensures gives { AddGives ⟦<T as Subscriber>⟧ (value_in self.old) stack result (value_in self.new) }
     {
         match self.hub.add(stack) {

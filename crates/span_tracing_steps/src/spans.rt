@@ -18,6 +18,7 @@ impl<T: Subscriber + HasRegistry> TraceParts<T> {
     pub fn set_global_default(&mut self, handle: usize) -> Reply
         requires { IsSound self.old }
         ensures sound { IsSound self.new }
+        // `set_global_default` makes the stack the one that lanes reach, once, and changes nothing else.
         ensures gives { StepGives ⟦<T as Subscriber>⟧ T.registry_of (value_in self.old) (GlobalStep handle) result
             (value_in self.new) }
     {
@@ -36,6 +37,7 @@ impl<T: Subscriber + HasRegistry> TraceParts<T> {
     pub fn record(&mut self, request: &RecordRequest<'_>) -> Reply
         requires { IsSound self.old }
         ensures sound { IsSound self.new }
+        // Values are told by their fields' places; one of a field that the callsite lacks is passed over.
         ensures gives { StepGives ⟦<T as Subscriber>⟧ T.registry_of (value_in self.old) (RecordStep
             (plain_record request.now)) result (value_in self.new) }
     {
@@ -62,6 +64,7 @@ impl<T: Subscriber + HasRegistry> TraceParts<T> {
     pub fn record_follows_from(&mut self, call: &FollowsCall) -> Reply
         requires { IsSound self.old }
         ensures sound { IsSound self.new }
+        // A call on no span hands nothing over, nor does a link where either span is none.
         ensures gives { StepGives ⟦<T as Subscriber>⟧ T.registry_of (value_in self.old) (FollowsFromStep
             call.now) result (value_in self.new) }
     {
@@ -88,6 +91,7 @@ impl<T: Subscriber + HasRegistry> TraceParts<T> {
     pub fn enter(&mut self, call: &SpanCall) -> Reply
         requires { IsSound self.old }
         ensures sound { IsSound self.new }
+        // Where the stack refuses a new span or an entry, out of memory is answered, or, of a span, that ids are spent.
         ensures gives { StepGives ⟦<T as Subscriber>⟧ T.registry_of (value_in self.old) (EnterStep call.now)
             result (value_in self.new) }
     {
@@ -134,6 +138,7 @@ impl<T: Subscriber + HasRegistry> TraceParts<T> {
     pub fn clone_span(&mut self, call: &SpanCall) -> Reply
         requires { IsSound self.old }
         ensures sound { IsSound self.new }
+        // An event, a record, a link and a clone that reach the stack are done, whatever it answers.
         ensures gives { StepGives ⟦<T as Subscriber>⟧ T.registry_of (value_in self.old) (CloneStep call.now)
             result (value_in self.new) }
     {

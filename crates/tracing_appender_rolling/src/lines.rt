@@ -27,6 +27,7 @@ impl<D: Folder> RollingFileAppender<D> {
     /// that found no memory nothing is written; the next lines of the period go to the old file.
     pub fn write_all_at(&mut self, bytes: &[u8], moment: Moment) -> Result<(), FolderError>
         requires { is_moment moment ≡ true }
+        // Retention runs before the opening.
         ensures handed { (h : Held) → Holds D.contents self.old h →
             HandsLine D.contents (builder_names self.old.builder) moment h bytes.now result self.new }
         // over a folder that refuses nothing
@@ -50,6 +51,7 @@ impl<D: Folder> RollingFileAppender<D> {
     pub fn write_at(&mut self, bytes: &[u8], moment: Moment) -> Result<usize, FolderError>
         requires { is_moment moment ≡ true }
         ensures bound { IfOk result (λ n. n ≤ length bytes.now) }
+        // Retention asks the folder once, for the names with its prefix; no other name is a candidate.
         ensures written { (h : Held) → Holds D.contents self.old h →
             WritesOnce D.contents (builder_names self.old.builder) moment h bytes.now result self.new }
         // over a folder that refuses nothing
@@ -57,6 +59,7 @@ impl<D: Folder> RollingFileAppender<D> {
             AgreesSink D.contents self.old p →
             LeavesSink D.contents p (λ n. take n bytes.now) moment c self.old result self.new }
         ensures names { builder_names self.new.builder ≡ builder_names self.old.builder }
+        // A fault is told only where the folder's count rose, or a write of some bytes took none.
         ensures error { ReportsCall (D.failed self.old.folder) result (D.failed self.new.folder) }
         // over any folder
         ensures anywhere { WriteAnywhere D.failed moment result self.old self.new }
@@ -93,11 +96,14 @@ impl<D: Folder> RollingFileAppender<D> {
     ///
     /// The folder's fault, which isn't counted.
     pub fn flush(&mut self) -> Result<(), FolderError>
+        // A flush is one call for the current file, which wants no memory.
         ensures gives { Gives (λ c. flushed c self.old.current) (D.contents self.old.folder) result
             (D.contents self.new.folder) }
         ensures fed { IfErr result (λ e. e ≢ FolderError.OutOfMemory) }
+        // A flush's fault is told and not counted by the appender.
         ensures still { self.new ≡ record self.old { folder = self.new.folder } }
         ensures counted { D.failed self.new.folder ≡ failures_after (D.failed self.old.folder) result }
+        // Building and writing leave each file with its bytes at opening and then its period's lines, where retention left it.
         ensures state { (p : PrunedSink) → AgreesSink D.contents self.old p → AgreesSink D.contents self.new p }
     {
         self.folder.flush(self.current)

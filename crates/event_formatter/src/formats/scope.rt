@@ -156,6 +156,7 @@ pub fn fill_scope(
     event: &Event<'_, '_>,
     ids: &mut Vec<Id>,
 ) -> Result<bool, AllocError>
+    // The ids of a line's spans are those of the loose scope, from the root on. Whether the event stands in them is told.
     ensures spans { IfOk result (λ stands_in.
         FillsScope (view context.now) (plain_event event.now).parent ids.new.items stands_in) }
     ensures number { IfOk result (λ _. HasNumber (event_span (view context.now) (plain_event event.now).parent)) }

@@ -31,6 +31,7 @@ impl<L: Layer, F: Filter> Stack<Filtered<L, F>> {
     pub fn event_asking(&mut self, event: &Event<'_, '_>, at: At) -> Result<(), RequestError>
         ensures exact { EventByAnswers ⟦<F as Filter>⟧ ⟦<L as Layer>⟧ (plain_event event.now) at self.old result
             self.new }
+        // Requests that ask every filter afresh promise this without a valid cache.
         ensures asking { EventAsked ⟦<F as Filter>⟧ ⟦<L as Layer>⟧ (plain_event event.now) at self.old result self.new }
         ensures kept { CacheIsValid ⟦<F as Filter>⟧ self.old → CacheIsValid ⟦<F as Filter>⟧ self.new }
     {

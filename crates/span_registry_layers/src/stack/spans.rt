@@ -33,6 +33,7 @@ impl<L: Layer, F: Filter> Stack<Filtered<L, F>> {
         attributes: &Attributes<'_, '_>,
         at: At,
     ) -> Result<Option<Id>, RequestError>
+        // Each output sees the slots that those told before it wrote.
         ensures exact { SpanCached ⟦<F as Filter>⟧ ⟦<L as Layer>⟧ (plain_attributes attributes.now) at self.old result
             self.new }
         // While what is kept is right, this is asking every filter again, and what is kept stays right.
@@ -49,6 +50,7 @@ impl<L: Layer, F: Filter> Stack<Filtered<L, F>> {
     ///
     /// `UnknownSpan` where the span is not open, which leaves the stack as it was.
     pub fn record(&mut self, span: &Id, values: &Record<'_>, at: At) -> Result<(), RequestError>
+        // A span's verdicts are those of its making, and later calls on it and its close are told by them.
         ensures gives { RecordGives ⟦<F as Filter>⟧ ⟦<L as Layer>⟧ span.now (plain_record values.now) at self.old
             result self.new }
         ensures kept { CacheIsValid ⟦<F as Filter>⟧ self.old → CacheIsValid ⟦<F as Filter>⟧ self.new }
@@ -89,6 +91,7 @@ impl<L: Layer, F: Filter> Stack<Filtered<L, F>> {
     /// nothing keeps open closes, each span told once, a child before its parent, to the outputs that see it.
     /// It takes no memory.
     pub fn exit(&mut self, span: &Id, at: At)
+        // Closes are told once, the latest made first, so a child before its parent.
         ensures gives { ExitGives ⟦<F as Filter>⟧ ⟦<L as Layer>⟧ span.now at self.old self.new }
         ensures kept { CacheIsValid ⟦<F as Filter>⟧ self.old → CacheIsValid ⟦<F as Filter>⟧ self.new }
     {
@@ -102,6 +105,7 @@ impl<L: Layer, F: Filter> Stack<Filtered<L, F>> {
     /// `UnknownSpan` where the span is not open, else `TooManyHandles` where it has `usize::MAX`; both leave
     /// the stack as it was.
     pub fn clone_span(&mut self, span: &Id) -> Result<Id, RequestError>
+        // `clone_span` counts one more handle of an open span.
         ensures gives { CloneGives span.now self.old result self.new }
         ensures kept { CacheIsValid ⟦<F as Filter>⟧ self.old → CacheIsValid ⟦<F as Filter>⟧ self.new }
     {

@@ -45,6 +45,7 @@ impl<L: Layer, F: Filter> Stack<Filtered<L, F>> {
     ///
     /// `UnknownOutput` where there is no such output, which leaves both as they were.
     pub fn swap_filter(&mut self, output: usize, filter: &mut F) -> Result<(), UnknownOutput>
+        // Another filter takes an output's place: verdicts, entries, ids and slots stand.
         ensures gives { SwapGives ⟦<F as Filter>⟧ output filter.old self.old result filter.new self.new }
         // Each filter keeps its number.
         ensures numbers { numbers_of ⟦<L as Layer>⟧ self.new.rows ≡ numbers_of ⟦<L as Layer>⟧ self.old.rows }
@@ -74,6 +75,7 @@ impl<L: Layer, F: Filter> Stack<Filtered<L, F>> {
     /// Lends the layer of the output at this place, counted from 0, for writing. What was kept of answers stays, since
     /// no filter changes that it speaks of.
     pub fn layer_mut(&mut self, output: usize) -> Option<&mut L>
+        // `layer_mut` lends an output's layer, and leaves a valid cache valid.
         ensures lent { option_map (λ lent. lent.now) result ≡ option_map layer_of (slice_get self.old.rows output) }
         // Whatever the layer becomes, what is kept stays right.
         ensures kept { (w : L) → CacheIsValid ⟦<F as Filter>⟧ self.old →

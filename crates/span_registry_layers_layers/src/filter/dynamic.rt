@@ -39,6 +39,7 @@ impl DynFilterFn {
     pub fn new(enabled: ContextTest) -> DynFilterFn
         requires { ContextTest.IsAlwaysCallable enabled }
         ensures kept { (result.enabled ≡ enabled) × (result.callsite_enabled ≡ None) × (result.max_level_hint ≡ None) }
+        // The same holds of a stored closure whose answer is determined by metadata and by what a context shows.
         ensures honest { Fair (AnswersIn (ContextTest.post result.enabled))
             (SaysIn (λ s. CallsiteTest.post s.closure) result.callsite_enabled result.max_level_hint)
             result.max_level_hint }
@@ -85,6 +86,7 @@ impl DynFilterFn {
         ensures kept { (result.enabled ≡ self.enabled) ×
             IfSome result.callsite_enabled (λ s. s.closure ≡ callsite_enabled) × IsSome result.callsite_enabled ×
             (result.max_level_hint ≡ self.max_level_hint) }
+        // A closure for callsites has to say one interest that fits the filter's answers and the hint.
         ensures honest { RefusesAboveHintIn self.max_level_hint (ContextTest.post self.enabled) →
             CallsitesFit (ContextTest.post self.enabled) (λ s. CallsiteTest.post s.closure) result.callsite_enabled →
             Fair (AnswersIn (ContextTest.post result.enabled))

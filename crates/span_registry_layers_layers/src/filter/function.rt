@@ -27,6 +27,7 @@ impl FilterFn {
     pub fn new(enabled: MetadataTest) -> FilterFn
         requires { MetadataTest.IsAlwaysCallable enabled }
         ensures kept { (result.enabled ≡ enabled) × (result.max_level_hint ≡ None) }
+        // A stored closure is consistent where the metadata determines its answer and it refuses what is above its hint.
         ensures honest { IsDetermined (MetadataTest.post enabled) →
             Fair (AnswersBy (MetadataTest.post enabled)) (SaysBy (MetadataTest.post enabled)) None }
     {

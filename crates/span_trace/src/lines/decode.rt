@@ -84,6 +84,7 @@ fn parse(alloc: Global, bytes: &[u8]) -> Result<Json, LineFault>
 ///
 /// A line that is no JSON is not readable. In other lines numbers are looked at first, then keys and types.
 pub fn decode_line(alloc: Global, setup: &[Setup], bytes: &[u8]) -> Result<Line, LineFault>
+    // A line that is text and no JSON is not readable, unless there was no memory.
     ensures malformed { IsUtf8 bytes.now → read_text bytes.now ≡ None →
         (result ≡ Err LineFault.NotReadable) ⊎ (result ≡ Err LineFault.OutOfMemory) }
 

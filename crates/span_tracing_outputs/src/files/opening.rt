@@ -232,7 +232,9 @@ pub fn open_stack<F: Filter, D: Folder>(
     outputs: Vec<OutputSpec<F, D>>,
     moment: Moment,
 ) -> Result<FileStack<F, D>, OpenStackError>
+    // A moment out of range is refused first.
     ensures moment { is_moment moment ≡ false → result ≡ Err (of_all Refusal.BadMoment) }
+    // Then no output, more than 64, or two of one key are refused, unless memory is wanting; both with no key and no fault.
     ensures told { is_moment moment ≡ true → Answers (outputs_refusal outputs.items) result }
     // Each output that `OutputSpec::new` made has a good route.
     ensures names { is_moment moment ≡ true → outputs_refusal outputs.items ≡ None → Every IsRouted outputs.items →

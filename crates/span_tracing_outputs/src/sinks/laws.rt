@@ -46,7 +46,10 @@ pub fn lines_stand_in_files<D: Folder>()
 
 /// The count of dropped lines never falls, and rises by at most one a line. The names of the files stay.
 pub fn drops_are_counted<D: Folder>()
+    // The count never falls, and rises by at most one a line. The names of the files stay.
     ensures runs { DropsAreCounted D.contents D.failed }
+    // Exactly the lines that found no memory, and those whose moment is out of range, are counted as dropped, up to the greatest
+    // number.
     ensures exact { CountsAreExact }
 {}
 

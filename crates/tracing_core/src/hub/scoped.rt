@@ -83,6 +83,7 @@ impl<S: Subscriber, C: Callsite> Hub<S, C> {
         f: F,
     ) -> T
         requires { F.IsAlwaysCallable f }
+        // `get_default` and `get_current` call a closure with a handle to the lane's subscriber.
         ensures gives { DefaultGives F.FnOnce f self.old lane result self.new }
         // What each call of f leaves of what is kept, this does.
         ensures keeps { CallsLeave F.FnOnce f (PreservesCaches ⟦<S as Subscriber>⟧ ⟦<C as Callsite>⟧) →
@@ -101,6 +102,7 @@ impl<S: Subscriber, C: Callsite> Hub<S, C> {
         f: F,
     ) -> Option<T>
         requires { F.IsAlwaysCallable f }
+        // Inside such a call, and on a lane that was never given, the closure gets no subscriber.
         ensures gives { CurrentGives F.FnOnce f self.old lane result self.new }
         // What each call of f leaves of what is kept, this does.
         ensures keeps { CallsLeave F.FnOnce f (PreservesCaches ⟦<S as Subscriber>⟧ ⟦<C as Callsite>⟧) →
@@ -141,6 +143,7 @@ impl<S: Subscriber, C: Callsite> Hub<S, C> {
         body: F,
     ) -> Result<(T, Result<Option<S>, WrongLane>), SetDefaultError>
         requires { F.IsAlwaysCallable body }
+        // `with_default` sets a lane's default while a closure runs, and then resets the lane.
         ensures gives { WithDefaultGives F.FnOnce body self.old lane dispatch.now result self.new }
         // The reset may release a subscriber: then what is kept stays right of those who live on.
         ensures living { BodyLeaves F.FnOnce body (PreservesLivingCaches ⟦<S as Subscriber>⟧ ⟦<C as Callsite>⟧) →

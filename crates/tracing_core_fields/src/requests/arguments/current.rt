@@ -20,6 +20,7 @@ pub struct Current<'m> {
 impl<'m> Current<'m> {
     /// The current span is this one.
     pub fn new(id: Id, metadata: &'m Metadata<'m>) -> Current<'m>
+        // A current span has the parts that it was made of, or says that there is none, or that it isn't known.
         ensures plain { plain_current result ≡ Inside id (plain_metadata metadata.now) }
         ensures metadata { current_metadata result ≡ Some metadata.now }
     {

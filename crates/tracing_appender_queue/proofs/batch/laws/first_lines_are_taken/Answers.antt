@@ -1,5 +1,0 @@
-use Rattle.tracing_appender_queue.proofs.batch.CutSteps.{first_lines}
-use Rattle.tracing_appender_queue.proofs.batch.laws.first_lines_are_taken.Goals as goal
-
-pub returns : goal.returns
-returns c = first_lines

@@ -1,5 +1,0 @@
-use Rattle.tracing_appender_queue.proofs.batch.StepDeterminism.{steps_once}
-use Rattle.tracing_appender_queue.proofs.batch.laws.steps_have_one_end.Goals as goal
-
-pub returns : goal.returns
-returns c = steps_once

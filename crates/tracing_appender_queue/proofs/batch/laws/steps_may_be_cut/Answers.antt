@@ -1,5 +1,0 @@
-use Rattle.tracing_appender_queue.proofs.batch.Workers.{steps_cut}
-use Rattle.tracing_appender_queue.proofs.batch.laws.steps_may_be_cut.Goals as goal
-
-pub returns : goal.returns
-returns c = steps_cut
