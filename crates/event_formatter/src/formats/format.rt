@@ -12,7 +12,7 @@ ghost use Rattle.event_formatter.specs.formats.Parts.{default_parts};
 use crate::formats::cold_path::out_of_memory;
 use crate::formats::context::FmtContext;
 use crate::formats::format_event::FormatEvent;
-use crate::formats::full::push_full;
+use crate::formats::full::push_usual;
 use crate::formats::heading::{fill_id, fill_moment, fill_name, fill_time};
 use crate::formats::line::{head_with, push_line, shown, with_styles};
 use crate::formats::line_format::{Compact, EventShape, Full, Json, LineFormat, Pretty};
@@ -314,8 +314,8 @@ impl<F: Drop, T: FormatTime + Drop> Format<F, T> {
         )
     }
 
-    // Appends the line of an event in any format. It lends a copy of the context, so that full lines, which share the caller's, read it
-    // from registers.
+    // Appends the line of an event in any format. It lends a copy of the context, so that usual full lines, which share the caller's, read
+    // it from registers.
     #[inline(always)]
     fn push_out_of_line<N: FormatFields>(
         &mut self,
@@ -357,17 +357,10 @@ impl<F: EventShape, T: FormatTime + Drop> FormatEvent for Format<F, T> {
         event: &Event<'_, '_>,
     ) -> Result<(), FormatError> {
         let settings = with_styles(self.ansi, settings);
-        match self.shape.line_format() {
-            LineFormat::Full => push_full(
-                alloc,
-                out,
-                settings,
-                &self.parts,
-                &mut self.timer,
-                context,
-                event,
-            ),
-            shape => self.push_out_of_line(alloc, context, out, settings, shape, event),
+        let shape = self.shape.line_format();
+        if shape.is_full() && self.parts.are_default() && !settings.styles {
+            return push_usual(alloc, out, settings, &mut self.timer, context, event);
         }
+        self.push_out_of_line(alloc, context, out, settings, shape, event)
     }
 }

@@ -1,7 +1,5 @@
 //! The texts of the time and the thread of an event.
-ghost use Rattle.std.specs.Prelude.{◌≡◌, ◌++◌, ◌∷◌, ℕ, ℤ, OnOk, Some, codes, if◌then◌else◌, string_bytes};
-ghost use Rattle.event_formatter_text.specs.Styles.{between};
-ghost use Rattle.event_formatter_lines.specs.Heads.{time_piece};
+ghost use Rattle.std.specs.Prelude.{◌≡◌, ◌++◌, ℕ, ℤ, OnOk, if◌then◌else◌, string_bytes};
 ghost use Rattle.event_formatter_lines.specs.times.Threads.{padded_name};
 ghost use Rattle.event_formatter.specs.formats.Contexts.{plain_thread};
 ghost use Rattle.event_formatter.specs.formats.Headings.{Shows, id_in_place, id_shown, name_shown, time_or_unknown, time_shown};
@@ -10,7 +8,7 @@ use crate::formats::cold_path::refused;
 use crate::formats::context::CurrentThread;
 use crate::formats::parts::Parts;
 use event_formatter_lines::{FormatTime, push_thread_id, push_thread_name};
-use event_formatter_text::{FormatError, Settings};
+use event_formatter_text::FormatError;
 use std::alloc::{AllocError, Global};
 use tracing_core_moments::At;
 
@@ -78,69 +76,6 @@ pub(crate) fn push_moment<T: FormatTime>(
         Err(FormatError::Failed) => out.push_str("<unknown time>"),
         Err(FormatError::OutOfMemory) => Err(AllocError),
     }
-}
-
-// Appends the time, dimmed, and a space.
-#[inline(never)]
-fn push_dimmed_time<T: FormatTime>(
-    alloc: Global,
-    out: &mut String,
-    timer: &mut T,
-    seconds: i64,
-    nanoseconds: u32,
-) -> Result<(), AllocError>
-    ensures timer { (s : ℤ) (n : ℕ) → T.text_at timer.new s n ≡ T.text_at timer.old s n }
-    ensures text { OnOk result (string_bytes out.new ≡ string_bytes out.old
-        ++ (between (27 ∷ codes "[2m") (time_or_unknown (T.text_at timer.old seconds nanoseconds)) ++ codes " ")) }
-{
-    out.push_str("\u{1b}[2m")?;
-    push_moment(alloc, out, timer, seconds, nanoseconds)?;
-    out.push_str("\u{1b}[0m")?;
-    out.push(' ')
-}
-
-// Appends the time and a space.
-#[inline(always)]
-fn push_plain_time<T: FormatTime>(
-    alloc: Global,
-    out: &mut String,
-    timer: &mut T,
-    seconds: i64,
-    nanoseconds: u32,
-) -> Result<(), AllocError>
-    ensures timer { (s : ℤ) (n : ℕ) → T.text_at timer.new s n ≡ T.text_at timer.old s n }
-    ensures text { OnOk result (string_bytes out.new ≡ string_bytes out.old
-        ++ (time_or_unknown (T.text_at timer.old seconds nanoseconds) ++ codes " ")) }
-{
-    let Ok(()) = push_moment(alloc, out, timer, seconds, nanoseconds) else {
-        return Err(refused());
-    };
-    out.push(' ')
-}
-
-/// Appends the time, dimmed where styles are on, and a space.
-///
-/// # Errors
-///
-/// Out of memory. What was appended before is to be dropped.
-#[inline(always)]
-#[tactic(auto, unfolding(event_formatter_text::specs::Styles::styled))]
-pub(crate) fn push_time<T: FormatTime>(
-    alloc: Global,
-    out: &mut String,
-    settings: Settings,
-    timer: &mut T,
-    seconds: i64,
-    nanoseconds: u32,
-) -> Result<(), AllocError>
-    ensures timer { (s : ℤ) (n : ℕ) → T.text_at timer.new s n ≡ T.text_at timer.old s n }
-    ensures text { OnOk result (string_bytes out.new ≡ string_bytes out.old
-        ++ time_piece settings (Some (time_or_unknown (T.text_at timer.old seconds nanoseconds)))) }
-{
-    if settings.styles {
-        return push_dimmed_time(alloc, out, timer, seconds, nanoseconds);
-    }
-    push_plain_time(alloc, out, timer, seconds, nanoseconds)
 }
 
 /// Puts the thread's number in place of what `out` held, and answers whether it is shown.

@@ -182,7 +182,7 @@ pub(crate) fn push_line<N: FormatFields>(
         (plain_event event.now).values) (string_bytes out.old) result (string_bytes out.new) }
 {
     match shape {
-        // A `Format` writes full lines by `push_full`; this is the same line with a head that is made before.
+        // A `Format` writes the usual full lines by `push_usual`, piece by piece; this is any other.
         LineFormat::Full => {
             let spans = context.strict_spans();
             let fields = context.field_format();

@@ -132,6 +132,13 @@ impl LineFormat {
         }
     }
 
+    // Whether it is the full format.
+    pub(crate) fn is_full(self) -> bool
+        ensures { IsTrue result → self ≡ format.Full }
+    {
+        matches!(self, LineFormat::Full)
+    }
+
     // Whether it is JSON in the default shape.
     pub(crate) fn is_default_json(self) -> bool
         ensures { IsTrue result → self ≡ format.Json (record { shape = default_shape }) }
