@@ -1,6 +1,7 @@
 -- Steps and runs of a trace whose stack is ready.
 use Rattle.std.specs.Prelude.{ℕ, List, Option}
 use Rattle.tracing_core_fields.specs.requests.PlainRequests.{PlainEvent}
+use Rattle.tracing_core_fields.specs.declared.requests.subscriber.Subscriber.{Ghosts as SubscriberGhosts}
 use Rattle.tracing_core_moments.specs.declared.at.At.{At}
 use Rattle.span_registry_layers_layers.specs.declared.filter.Filter.{Ghosts as FilterGhosts}
 use Rattle.span_registry_layers_layers.specs.declared.layer.Layer.{Ghosts as LayerGhosts}
@@ -9,13 +10,15 @@ use Rattle.event_formatter_text.specs.declared.settings.Settings.{Settings}
 use Rattle.event_formatter.specs.formats.Contexts.{PlainContext}
 use Rattle.tracing_appender_rolling.specs.folders.Contents.{Contents}
 use Rattle.span_tracing_outputs.specs.OutputMachines.{PlainLine}
+use Rattle.span_tracing_outputs.specs.TraceStacks.{TraceStackValue}
 use Rattle.span_tracing_outputs.specs.Turns.{Lines}
 use Rattle.span_tracing_outputs.specs.sinks.Routed.{Routed}
 use Rattle.span_tracing_outputs.specs.declared.sinks.sink.RollingSink.{RollingSink}
 use Rattle.span_tracing_skeleton.specs.PlainData.{PlainStep}
 use Rattle.span_tracing_skeleton.specs.declared.call.Reply.{Reply}
 use Rattle.span_tracing_laws.specs.runs.Files.{RunsToFiles}
-use Rattle.span_tracing_laws.specs.runs.StepFollows.{Follows, StackIsReady, Traced}
+use Rattle.span_tracing_laws.specs.runs.StepFollows.{Follows, StackIsReady, Traced, registry_of}
+use Rattle.span_tracing_steps.specs.Steps.{StepGives}
 
 -- A step follows the skeleton and the output machines where the stack is ready, as it is where there is none, when it comes with its sinks
 -- and is honest, and
@@ -24,6 +27,14 @@ abbrev pub FollowsReady : {N E F S : Type 0} → Ghosts N → (E → Settings �
     (S → At → PlainLine → S → Type 0) → LayerGhosts (Lines N E) → Traced N E F S → PlainStep → Reply → Traced N E F S → Type 0
 FollowsReady n line_of g takes h v step reply w = StackIsReady g h v.stack → Follows n line_of g takes h v step reply w ×
     StackIsReady g h w.stack
+
+-- A step: what the trace's parts make of it, and, where the stack is ready, what the skeleton and the output machines make of it.
+pub record IsStep {N E F S : Type 0} (s : SubscriberGhosts (TraceStackValue N E F S)) (n : Ghosts N)
+    (line_of : E → Settings → PlainContext → PlainEvent → Option (List ℕ)) (g : FilterGhosts F)
+    (takes : S → At → PlainLine → S → Type 0) (h : LayerGhosts (Lines N E)) (v : Traced N E F S) (step : PlainStep) (reply : Reply)
+    (w : Traced N E F S) : Type 0 where
+  pub gives : StepGives s registry_of v step reply w
+  pub follows : FollowsReady n line_of g takes h v step reply w
 
 -- so does a run, and its sinks and files are told of
 abbrev pub RunsReady : {N E F D : Type 0} → (D → Option Contents) → (D → ℕ) → Ghosts N →

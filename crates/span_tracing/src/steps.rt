@@ -1,8 +1,7 @@
 //! Steps of a trace, one at a time and in runs.
 ghost use Rattle.std.specs.Prelude.{◌≡◌, IfOk, OnErr};
 ghost use Rattle.tracing_core_fields.specs.OwnedValues.{owned_entries};
-ghost use Rattle.span_tracing.specs.Ready.{FollowsReady, RunsReady};
-ghost use Rattle.span_tracing_laws.specs.runs.StepFollows.{registry_of};
+ghost use Rattle.span_tracing.specs.Ready.{IsStep, RunsReady};
 ghost use Rattle.span_tracing_laws.specs.runs.Runs.{RunGives};
 ghost use Rattle.span_tracing_outputs.specs.sinks.Takes.{TakesLine};
 ghost use Rattle.span_tracing_skeleton.specs.PlainData.{CloneStep, CloseStep, EnabledStep, EnterStep, EventStep, ExitStep, FollowsFromStep};
@@ -64,9 +63,10 @@ impl<T: Subscriber + HasRegistry> Trace<T> {
 impl<N: FormatFields + Drop, E: FormatEvent, F: Filter, S: LineSink> Trace<TraceStack<N, E, F, S>> {
     /// Makes the stack with this handle the one that lanes reach. Takes no memory.
     pub fn set_global_default(&mut self, handle: usize) -> Reply
-        ensures gives { StepGives ⟦<TraceStack<N, E, F, S> as Subscriber>⟧ registry_of self.old (GlobalStep handle) result self.new }
-        ensures follows { FollowsReady ⟦<N as FormatFields>⟧ E.line_of ⟦<F as Filter>⟧ S.takes
-            ⟦<Layer<N, E, PendingLines> as span_registry_layers_layers::Layer>⟧ self.old (GlobalStep handle) result self.new }
+        ensures { IsStep ⟦<TraceStack<N, E, F, S> as Subscriber>⟧ ⟦<N as FormatFields>⟧ E.line_of ⟦<F as Filter>⟧ S.takes
+            ⟦<Layer<N, E, PendingLines> as span_registry_layers_layers::Layer>⟧ self.old
+            (GlobalStep handle)
+            result self.new }
     {
         steps_follow::<N, E, F, S>();
         self.parts.set_global_default(handle)
@@ -82,10 +82,7 @@ impl<N: FormatFields + Drop, E: FormatEvent, F: Filter, S: LineSink> Trace<Trace
         parent: Parent,
         values: &[FieldValue],
     ) -> Reply
-        ensures gives { StepGives ⟦<TraceStack<N, E, F, S> as Subscriber>⟧ registry_of self.old
-            (EventStep (record { lane = lane; moment = moment; callsite = callsite.0; parent = parent; values = owned_entries values.now }))
-            result self.new }
-        ensures follows { FollowsReady ⟦<N as FormatFields>⟧ E.line_of ⟦<F as Filter>⟧ S.takes
+        ensures { IsStep ⟦<TraceStack<N, E, F, S> as Subscriber>⟧ ⟦<N as FormatFields>⟧ E.line_of ⟦<F as Filter>⟧ S.takes
             ⟦<Layer<N, E, PendingLines> as span_registry_layers_layers::Layer>⟧ self.old
             (EventStep (record { lane = lane; moment = moment; callsite = callsite.0; parent = parent; values = owned_entries values.now }))
             result self.new }
@@ -103,11 +100,10 @@ impl<N: FormatFields + Drop, E: FormatEvent, F: Filter, S: LineSink> Trace<Trace
     /// Asks whether some output's filter passes a callsite on a lane: by it a new span would be made, and an event unless the filters
     /// refuse the event itself. Asking leaves no mark, and takes no memory.
     pub fn enabled(&mut self, lane: usize, moment: Moment, callsite: Identifier) -> Reply
-        ensures gives { StepGives ⟦<TraceStack<N, E, F, S> as Subscriber>⟧ registry_of self.old
-            (EnabledStep (record { lane = lane; moment = moment; callsite = callsite })) result self.new }
-        ensures follows { FollowsReady ⟦<N as FormatFields>⟧ E.line_of ⟦<F as Filter>⟧ S.takes
+        ensures { IsStep ⟦<TraceStack<N, E, F, S> as Subscriber>⟧ ⟦<N as FormatFields>⟧ E.line_of ⟦<F as Filter>⟧ S.takes
             ⟦<Layer<N, E, PendingLines> as span_registry_layers_layers::Layer>⟧ self.old
-            (EnabledStep (record { lane = lane; moment = moment; callsite = callsite })) result self.new }
+            (EnabledStep (record { lane = lane; moment = moment; callsite = callsite }))
+            result self.new }
     {
         steps_follow::<N, E, F, S>();
         self.parts.enabled(&EnabledCall {
@@ -126,10 +122,7 @@ impl<N: FormatFields + Drop, E: FormatEvent, F: Filter, S: LineSink> Trace<Trace
         parent: Parent,
         values: &[FieldValue],
     ) -> Reply
-        ensures gives { StepGives ⟦<TraceStack<N, E, F, S> as Subscriber>⟧ registry_of self.old
-            (SpanStep (record { lane = lane; moment = moment; callsite = callsite.0; parent = parent; values = owned_entries values.now }))
-            result self.new }
-        ensures follows { FollowsReady ⟦<N as FormatFields>⟧ E.line_of ⟦<F as Filter>⟧ S.takes
+        ensures { IsStep ⟦<TraceStack<N, E, F, S> as Subscriber>⟧ ⟦<N as FormatFields>⟧ E.line_of ⟦<F as Filter>⟧ S.takes
             ⟦<Layer<N, E, PendingLines> as span_registry_layers_layers::Layer>⟧ self.old
             (SpanStep (record { lane = lane; moment = moment; callsite = callsite.0; parent = parent; values = owned_entries values.now }))
             result self.new }
@@ -153,11 +146,10 @@ impl<N: FormatFields + Drop, E: FormatEvent, F: Filter, S: LineSink> Trace<Trace
         span: Option<SpanName>,
         values: &[FieldValue],
     ) -> Reply
-        ensures gives { StepGives ⟦<TraceStack<N, E, F, S> as Subscriber>⟧ registry_of self.old
-            (RecordStep (record { lane = lane; moment = moment; span = span; values = owned_entries values.now })) result self.new }
-        ensures follows { FollowsReady ⟦<N as FormatFields>⟧ E.line_of ⟦<F as Filter>⟧ S.takes
+        ensures { IsStep ⟦<TraceStack<N, E, F, S> as Subscriber>⟧ ⟦<N as FormatFields>⟧ E.line_of ⟦<F as Filter>⟧ S.takes
             ⟦<Layer<N, E, PendingLines> as span_registry_layers_layers::Layer>⟧ self.old
-            (RecordStep (record { lane = lane; moment = moment; span = span; values = owned_entries values.now })) result self.new }
+            (RecordStep (record { lane = lane; moment = moment; span = span; values = owned_entries values.now }))
+            result self.new }
     {
         steps_follow::<N, E, F, S>();
         self.parts.record(&RecordRequest {
@@ -176,11 +168,10 @@ impl<N: FormatFields + Drop, E: FormatEvent, F: Filter, S: LineSink> Trace<Trace
         span: Option<SpanName>,
         follows: Option<SpanName>,
     ) -> Reply
-        ensures gives { StepGives ⟦<TraceStack<N, E, F, S> as Subscriber>⟧ registry_of self.old
-            (FollowsFromStep (record { lane = lane; moment = moment; span = span; follows = follows })) result self.new }
-        ensures follows { FollowsReady ⟦<N as FormatFields>⟧ E.line_of ⟦<F as Filter>⟧ S.takes
+        ensures { IsStep ⟦<TraceStack<N, E, F, S> as Subscriber>⟧ ⟦<N as FormatFields>⟧ E.line_of ⟦<F as Filter>⟧ S.takes
             ⟦<Layer<N, E, PendingLines> as span_registry_layers_layers::Layer>⟧ self.old
-            (FollowsFromStep (record { lane = lane; moment = moment; span = span; follows = follows })) result self.new }
+            (FollowsFromStep (record { lane = lane; moment = moment; span = span; follows = follows }))
+            result self.new }
     {
         steps_follow::<N, E, F, S>();
         self.parts.record_follows_from(&FollowsCall {
@@ -193,11 +184,10 @@ impl<N: FormatFields + Drop, E: FormatEvent, F: Filter, S: LineSink> Trace<Trace
 
     /// Enters a span on a lane.
     pub fn enter(&mut self, lane: usize, moment: Moment, span: Option<SpanName>) -> Reply
-        ensures gives { StepGives ⟦<TraceStack<N, E, F, S> as Subscriber>⟧ registry_of self.old
-            (EnterStep (record { lane = lane; moment = moment; span = span })) result self.new }
-        ensures follows { FollowsReady ⟦<N as FormatFields>⟧ E.line_of ⟦<F as Filter>⟧ S.takes
+        ensures { IsStep ⟦<TraceStack<N, E, F, S> as Subscriber>⟧ ⟦<N as FormatFields>⟧ E.line_of ⟦<F as Filter>⟧ S.takes
             ⟦<Layer<N, E, PendingLines> as span_registry_layers_layers::Layer>⟧ self.old
-            (EnterStep (record { lane = lane; moment = moment; span = span })) result self.new }
+            (EnterStep (record { lane = lane; moment = moment; span = span }))
+            result self.new }
     {
         steps_follow::<N, E, F, S>();
         self.parts.enter(&SpanCall { lane, moment, span })
@@ -205,11 +195,10 @@ impl<N: FormatFields + Drop, E: FormatEvent, F: Filter, S: LineSink> Trace<Trace
 
     /// Leaves a span on a lane: its last entry there goes.
     pub fn exit(&mut self, lane: usize, moment: Moment, span: Option<SpanName>) -> Reply
-        ensures gives { StepGives ⟦<TraceStack<N, E, F, S> as Subscriber>⟧ registry_of self.old
-            (ExitStep (record { lane = lane; moment = moment; span = span })) result self.new }
-        ensures follows { FollowsReady ⟦<N as FormatFields>⟧ E.line_of ⟦<F as Filter>⟧ S.takes
+        ensures { IsStep ⟦<TraceStack<N, E, F, S> as Subscriber>⟧ ⟦<N as FormatFields>⟧ E.line_of ⟦<F as Filter>⟧ S.takes
             ⟦<Layer<N, E, PendingLines> as span_registry_layers_layers::Layer>⟧ self.old
-            (ExitStep (record { lane = lane; moment = moment; span = span })) result self.new }
+            (ExitStep (record { lane = lane; moment = moment; span = span }))
+            result self.new }
     {
         steps_follow::<N, E, F, S>();
         self.parts.exit(&SpanCall { lane, moment, span })
@@ -217,11 +206,10 @@ impl<N: FormatFields + Drop, E: FormatEvent, F: Filter, S: LineSink> Trace<Trace
 
     /// Takes one more handle of a span. Takes no memory.
     pub fn clone_span(&mut self, lane: usize, moment: Moment, span: Option<SpanName>) -> Reply
-        ensures gives { StepGives ⟦<TraceStack<N, E, F, S> as Subscriber>⟧ registry_of self.old
-            (CloneStep (record { lane = lane; moment = moment; span = span })) result self.new }
-        ensures follows { FollowsReady ⟦<N as FormatFields>⟧ E.line_of ⟦<F as Filter>⟧ S.takes
+        ensures { IsStep ⟦<TraceStack<N, E, F, S> as Subscriber>⟧ ⟦<N as FormatFields>⟧ E.line_of ⟦<F as Filter>⟧ S.takes
             ⟦<Layer<N, E, PendingLines> as span_registry_layers_layers::Layer>⟧ self.old
-            (CloneStep (record { lane = lane; moment = moment; span = span })) result self.new }
+            (CloneStep (record { lane = lane; moment = moment; span = span }))
+            result self.new }
     {
         steps_follow::<N, E, F, S>();
         self.parts.clone_span(&SpanCall { lane, moment, span })
@@ -229,11 +217,10 @@ impl<N: FormatFields + Drop, E: FormatEvent, F: Filter, S: LineSink> Trace<Trace
 
     /// Gives up one handle of a span; answers whether the span closed.
     pub fn try_close(&mut self, lane: usize, moment: Moment, span: Option<SpanName>) -> Reply
-        ensures gives { StepGives ⟦<TraceStack<N, E, F, S> as Subscriber>⟧ registry_of self.old
-            (CloseStep (record { lane = lane; moment = moment; span = span })) result self.new }
-        ensures follows { FollowsReady ⟦<N as FormatFields>⟧ E.line_of ⟦<F as Filter>⟧ S.takes
+        ensures { IsStep ⟦<TraceStack<N, E, F, S> as Subscriber>⟧ ⟦<N as FormatFields>⟧ E.line_of ⟦<F as Filter>⟧ S.takes
             ⟦<Layer<N, E, PendingLines> as span_registry_layers_layers::Layer>⟧ self.old
-            (CloseStep (record { lane = lane; moment = moment; span = span })) result self.new }
+            (CloseStep (record { lane = lane; moment = moment; span = span }))
+            result self.new }
     {
         steps_follow::<N, E, F, S>();
         self.parts.try_close(&SpanCall { lane, moment, span })
@@ -241,9 +228,10 @@ impl<N: FormatFields + Drop, E: FormatEvent, F: Filter, S: LineSink> Trace<Trace
 
     /// A step.
     pub fn step(&mut self, step: &Step) -> Reply
-        ensures gives { StepGives ⟦<TraceStack<N, E, F, S> as Subscriber>⟧ registry_of self.old (plain_step step.now) result self.new }
-        ensures follows { FollowsReady ⟦<N as FormatFields>⟧ E.line_of ⟦<F as Filter>⟧ S.takes
-            ⟦<Layer<N, E, PendingLines> as span_registry_layers_layers::Layer>⟧ self.old (plain_step step.now) result self.new }
+        ensures { IsStep ⟦<TraceStack<N, E, F, S> as Subscriber>⟧ ⟦<N as FormatFields>⟧ E.line_of ⟦<F as Filter>⟧ S.takes
+            ⟦<Layer<N, E, PendingLines> as span_registry_layers_layers::Layer>⟧ self.old
+            (plain_step step.now)
+            result self.new }
     {
         steps_follow::<N, E, F, S>();
         self.act(step)

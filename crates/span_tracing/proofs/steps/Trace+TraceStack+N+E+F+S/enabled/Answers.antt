@@ -1,7 +1,5 @@
 use Rattle.span_tracing.proofs.steps.Trace+TraceStack+N+E+F+S.enabled.Goals as goal
 
-pub returns-clause-follows : goal.returns-clause-follows
-returns-clause-follows g c = rw (← c.self.view_is) (λ ready. c.steps_follow.ensures _ _ _ _ ready c.enabled.ensures.gives)
-
-pub returns-clause-gives : goal.returns-clause-gives
-returns-clause-gives g c = rw (← c.self.view_is) c.enabled.ensures.gives
+pub returns : goal.returns
+returns g c = rw (← c.self.view_is)
+    (record { gives = c.enabled.ensures.gives; follows = λ ready. c.steps_follow.ensures _ _ _ _ ready c.enabled.ensures.gives })

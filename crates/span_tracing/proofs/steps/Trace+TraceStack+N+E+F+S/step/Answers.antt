@@ -1,7 +1,4 @@
 use Rattle.span_tracing.proofs.steps.Trace+TraceStack+N+E+F+S.step.Goals as goal
 
-pub returns-clause-follows : goal.returns-clause-follows
-returns-clause-follows g c = λ ready. c.steps_follow.ensures _ _ _ _ ready c.act.ensures
-
-pub returns-clause-gives : goal.returns-clause-gives
-returns-clause-gives g c = c.act.ensures
+pub returns : goal.returns
+returns g c = record { gives = c.act.ensures; follows = λ ready. c.steps_follow.ensures _ _ _ _ ready c.act.ensures }
