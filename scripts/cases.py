@@ -34,13 +34,23 @@ def part(name, ending, default=b""):
         return it.read()
 
 
+def words_of(name):
+    """Returns a case's arguments."""
+    return part(name, ".args", b"replay").decode().splitlines()
+
+
 def difference(program, name):
     """Returns how what the program does with a case differs from the case's files, or an empty text."""
-    words = [*rt.drop_to_nobody(), program, *part(name, ".args", b"replay").decode().splitlines()]
+    words = [*rt.drop_to_nobody(), program, *words_of(name)]
     try:
         ran = subprocess.run(words, input=part(name, ".in"), capture_output=True, cwd="/", env={"LANG": "C.UTF-8"}, timeout=rt.LIMIT)
     except subprocess.TimeoutExpired:
         return f"it had not ended after {rt.LIMIT} seconds"
+    return difference_of(ran, name)
+
+
+def difference_of(ran, name):
+    """Returns how a run on a case's input differs from the case's files, or an empty text."""
     pairs = {
         "status": (b"%d" % ran.returncode, part(name, ".status", b"0").strip()),
         "output": (ran.stdout, part(name, ".out")),

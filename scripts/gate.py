@@ -2,12 +2,14 @@
 """The gate of this repository: proves every crate from nothing, once, and runs and tries all that rests on those proofs.
 
 usage: scripts/gate.py [CRATE..] [--tests try|prove] [--edits new|all|drawn]
+       scripts/gate.py [CRATE..] --quick
 
 CRATE..          these crates and those below them alone
 --tests prove    proves the tests too, over what the crates' proofs kept, and then runs them; without it they run unproved
 --edits drawn    judges each edit that docs/edits.ledger lacks, and all edits of some crates, one of 24 shares at random; writes nothing (this is what .ci/run does)
 --edits new      judges each edit that the ledger lacks, and writes the ledger
 --edits all      judges each edit, and writes the ledger
+--quick          proves nothing: runs all tests, and the programs on their inputs, cases and scenes, unproved. It is for a hurry, and no gate
 
 The last line is `N passed, M failed`. RT_JOBS says how many processors it may use; else it takes all. docs/GATE.md says what it checks and why."""
 import argparse
@@ -28,14 +30,16 @@ import cases  # noqa: E402
 import edits  # noqa: E402
 import lanes  # noqa: E402
 import ledger  # noqa: E402
+import promises  # noqa: E402
+import quick  # noqa: E402
 import real_files  # noqa: E402
 from kit import Crate, rt, rtlib  # noqa: E402
 
 LEDGER = "docs/edits.ledger"
 # What runs a crate's tests, in the crate's folder.
-TESTS = f"{os.path.dirname(os.path.realpath(__file__))}/tests.py"
-# The program that the README shows a part of.
-EXAMPLE = "crates/examples_requests/src/main.rt"
+TESTS = [f"{os.path.dirname(os.path.realpath(__file__))}/unproved.py", "--test"]
+# What READMEs show parts of: each of these is proved or run.
+EXAMPLES = ["crates/examples_*/src/**/*.rt", "crates/uses/src/**/*.rt"]
 # A program's proof takes as long as that of so many lines more, since its types name every part below.
 PROGRAM = 4_000
 # What a proof was seen to take at most, in bytes, with what the system needs beside it.
@@ -59,10 +63,14 @@ def refusal_of_text(crate):
     return None
 
 
-def shows_its_example():
-    """Returns whether each piece of code that the README shows stands so in the example program."""
-    blocks = re.findall(r"^```rust\n(.*?)^```", text_of("README.md"), re.DOTALL | re.MULTILINE)
-    return all(it in text_of(EXAMPLE) for it in blocks)
+def shown_nowhere():
+    """Returns the READMEs that show a piece of code which doesn't stand so in an example or in `uses`."""
+    codes = [text_of(file) for it in EXAMPLES for file in sorted(glob.glob(it, recursive=True))]
+    found = []
+    for readme in ["README.md", *sorted(glob.glob("crates/*/README.md"))]:
+        blocks = re.findall(r"^```rust\n(.*?)^```", text_of(readme), re.DOTALL | re.MULTILINE)
+        found += [readme] if not all(any(it in code for code in codes) for it in blocks) else []
+    return found
 
 
 def text_of(file):
@@ -103,10 +111,16 @@ def program(crate):
     return "ran" if all([rt.run(crate, False, it) for it in made]) else sys.exit(1)
 
 
+def program_unproved(crate):
+    """Runs a program with no proof of it."""
+    why = quick.program(crate)
+    return sys.exit(print(why, flush=True) or 1) if why else "ran"
+
+
 def tests_run(crate):
     """Runs a crate's tests with no proof of them."""
     how = {"cwd": crate.folder, "stdin": subprocess.DEVNULL, "stdout": subprocess.PIPE, "stderr": subprocess.STDOUT, "text": True}
-    ran = subprocess.run([*rtlib.guarded(), sys.executable, TESTS], **how)
+    ran = subprocess.run([*rtlib.guarded(), sys.executable, *TESTS], **how)
     print(ran.stdout, end="", flush=True)
     well = re.search(r"test result: ok\. (\d+) passed; 0 failed; 0 ignored", ran.stdout)
     return f"{well[1]} tests ran" if not ran.returncode and well and int(well[1]) else sys.exit(1)
@@ -158,6 +172,20 @@ class Gate:
                 found[it.name, "tests"] = lanes.Task(after, lines // 4, lambda jobs, it=it, call=call: call(it))
             if rt.edits_of(it)[0]:
                 found[it.name, "plan"] = lanes.Task(after, lines // 4, lambda jobs, it=it: self.planned(it))
+        self.open = {it.name: sum(key[0] == it.name for key in found) for it in self.crates}
+        return found
+
+    def quick_tasks(self):
+        """Returns the tasks that prove nothing."""
+        found = {}
+        for it in self.crates:
+            if it.has_tests():
+                found[it.name, "tests"] = lanes.Task([], 3, lambda jobs, it=it: tests_run(it))
+            if it.is_program:
+                found[it.name, "program"] = lanes.Task([], 1, lambda jobs, it=it: program_unproved(it))
+            if it.name == cases.PROGRAM:
+                found[it.name, "cases"] = lanes.Task([], 2, lambda jobs, it=it: quick.cases_tried(it, cases.sorted_out()[0]))
+                found[it.name, "real files"] = lanes.Task([], 2, lambda jobs, it=it: quick.scenes_tried(it))
         self.open = {it.name: sum(key[0] == it.name for key in found) for it in self.crates}
         return found
 
@@ -282,10 +310,11 @@ def run(how, top):
         gate = Gate(crates, room, how, top)
         gate.failed += refused + [f"{it} (an edit's name ends in .edit)" for it in misnamed]
         gate.failed += [f"case file {it} (a case has a file .in and a file .out)" for it in cases.sorted_out()[1]]
-        gate.count(shows_its_example(), f"README.md shows what doesn't stand in {EXAMPLE}")
+        gate.count(not shown_nowhere(), f"{', '.join(shown_nowhere())}: shows code that stands in no example")
+        gate.count(not promises.stale(), f"{', '.join(promises.stale())}: stale, run scripts/promises.py")
         if not refused:
-            lanes.run(gate.tasks(), processors(), gate.ended)
-        if how.edits != "drawn":
+            lanes.run(gate.quick_tasks() if how.quick else gate.tasks(), processors(), gate.ended)
+        if how.edits != "drawn" and not how.quick:
             gate.write_ledger()
         return told(gate, (time.time() - began) / 60)
 
@@ -308,6 +337,7 @@ def main():
     reader.add_argument("crates", nargs="*")
     reader.add_argument("--tests", choices=["try", "prove"], default="try")
     reader.add_argument("--edits", choices=["drawn", "new", "all"], default="drawn")
+    reader.add_argument("--quick", action="store_true")
     how = reader.parse_args()
     top = os.path.dirname(os.path.dirname(os.path.realpath(__file__)))
     with tempfile.TemporaryDirectory(prefix="gate-copy-") as room:

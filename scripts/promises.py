@@ -45,7 +45,7 @@ def sources(crate):
 
 def functions(file):
     """Returns the public functions of a file that have clauses, and so the methods of its public traits and of implementations."""
-    found, owner, is_trait, doc, lines = [], "", False, [], text_of(file).split("\n")
+    found, owner, asked, is_trait, doc, lines = [], "", "", False, [], text_of(file).split("\n")
     at = 0
     while at < len(lines):
         line = lines[at]
@@ -56,8 +56,9 @@ def functions(file):
                 owner = is_owner["trait"] or is_owner["type"].strip()
                 # what an implementation promises of its own is as public as its trait
                 is_trait = is_trait or bool(is_owner["of"])
+                asked = f"As `{is_owner['of'].split('::')[-1]}` asks." if is_owner["of"] else ""
         elif line.startswith("}"):
-            owner, is_trait = "", False
+            owner, asked, is_trait = "", "", False
         item = ITEM.match(line)
         if line.strip().startswith("///"):
             doc.append(line.strip()[3:].strip())
@@ -65,7 +66,7 @@ def functions(file):
             is_public = line.strip().startswith("pub fn") or line.strip().startswith("pub const fn") or is_trait
             clauses, at = clauses_of(lines, at)
             if is_public and clauses:
-                found.append(Function(owner, item[3], sentence(doc), clauses))
+                found.append(Function(owner, item[3], sentence(doc) or asked, clauses))
             doc = []
         elif line.strip() and not line.strip().startswith("#"):
             doc = []
@@ -158,11 +159,9 @@ def replaced(text, name, made):
 
 
 def wanted():
-    """Returns each document as it has to be."""
-    return {
-        PROMISES: replaced(text_of(PROMISES), "promises", tables()),
-        ARCHITECTURE: replaced(text_of(ARCHITECTURE), "crates", crates_table()),
-    }
+    """Returns each document that there is, as it has to be."""
+    made = {PROMISES: ("promises", tables), ARCHITECTURE: ("crates", crates_table)}
+    return {file: replaced(text_of(file), name, call()) for file, (name, call) in made.items() if os.path.isfile(f"{TOP}/{file}")}
 
 
 def stale():

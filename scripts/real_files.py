@@ -180,14 +180,23 @@ def limited(most):
     resource.setrlimit(resource.RLIMIT_FSIZE, (most, most))
 
 
+def given(lines):
+    """Returns a scene's lines as the program reads them."""
+    return "".join(f"{json.dumps(it)}\n" for it in lines).encode()
+
+
 def played(program, scene):
     """Returns what the scene says of the program."""
 
     def run(lines, most=None):
-        given = "".join(f"{json.dumps(it)}\n" for it in lines).encode()
-        how = {"input": given, "capture_output": True, "cwd": "/", "env": {"LANG": "C.UTF-8"}, "timeout": rt.LIMIT}
+        how = {"input": given(lines), "capture_output": True, "cwd": "/", "env": {"LANG": "C.UTF-8"}, "timeout": rt.LIMIT}
         return subprocess.run([*rt.drop_to_nobody(), program, "replay"], preexec_fn=most and (lambda: limited(most)), **how)
 
+    return played_by(run, scene)
+
+
+def played_by(run, scene):
+    """Returns what the scene says of the program that the call runs."""
     with tempfile.TemporaryDirectory(prefix="scene-") as folder:
         os.chmod(folder, 0o777)
         try:

@@ -76,7 +76,7 @@ impl<T: Subscriber> Trace<T> {
         ensures ok { OnOk result (self.new ≡ record self.old {
           threads = self.old.threads ++ (record { name = option_map string_bytes name; number = thread_id }) ∷ [];
         }) }
-        // A setup call that finds no memory leaves the trace as it was, and a stack comes back.
+        // A setup call that finds no memory leaves the trace as it was.
         ensures err { OnErr result (self.new ≡ self.old) }
     {
         self.parts.thread(name, thread_id)
