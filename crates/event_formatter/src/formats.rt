@@ -1,6 +1,6 @@
 //! Formats of lines: which parts of an event a line shows, and in which order.
 
-mod cold_path;
+pub(crate) mod cold_path;
 mod context;
 mod fields;
 mod format;

@@ -8,6 +8,7 @@ ghost use Rattle.event_formatter.specs.fmt_layer.Layers.{SameMaking, TellsEvent,
 
 use crate::fmt_layer::output::Output;
 use crate::fmt_layer::threads::Threads;
+use crate::formats::cold_path::out_of_memory;
 use crate::formats::{FmtContext, FormatEvent, fill_scope};
 use event_formatter_lines::FmtSpan;
 use event_formatter_text::{FormatError, FormatFields, MakeWriter, Settings};
@@ -78,14 +79,6 @@ pub struct Layer<N, E, W> {
     pub(crate) threads: Threads,
     pub(crate) output: Output<W>,
     pub(crate) scratch: Scratch,
-}
-
-// Out of memory. A call of it tells the compiler which way is cold.
-#[cold]
-fn out_of_memory() -> FormatError
-    ensures { result ≡ FormatError.OutOfMemory }
-{
-    FormatError::OutOfMemory
 }
 
 impl<N: FormatFields, E: FormatEvent, W> Layer<N, E, W> {

@@ -22,7 +22,7 @@ use tracing_core_fields::Level;
 
 // Ends the text of the time, and appends the level and the key of the fields with their brace.
 #[inline(never)]
-fn push_level_apart(out: &mut String, level: Level) -> Result<(), AllocError>
+fn push_level_out_of_line(out: &mut String, level: Level) -> Result<(), AllocError>
     ensures { OnOk result (string_bytes out.new ≡ string_bytes out.old ++ (codes "\"" ++ (codes ","
         ++ (key_text (codes "level") ++ json_string (level_name level))) ++ codes ",\"fields\":{")) }
 {
@@ -40,7 +40,7 @@ fn push_level(out: &mut String, level: Level) -> Result<(), AllocError>
     if level == Level::INFO {
         return out.push_str("\",\"level\":\"INFO\",\"fields\":{");
     }
-    push_level_apart(out, level)
+    push_level_out_of_line(out, level)
 }
 
 // Begins the line, up to its first field.

@@ -101,7 +101,7 @@ fn push_micros(out: &mut String, microseconds: u32) -> Result<(), AllocError>
 // The same where there is too little room, so that some is made.
 #[cold]
 #[inline(never)]
-fn push_micros_apart(out: &mut String, microseconds: u32) -> Result<(), AllocError>
+fn push_micros_out_of_line(out: &mut String, microseconds: u32) -> Result<(), AllocError>
     requires { microseconds < 1000000 }
     ensures { OnOk result (string_bytes out.new ≡ string_bytes out.old ++ (six_digits microseconds ++ codes "Z")) }
 {
@@ -116,7 +116,7 @@ fn push_fraction(out: &mut String, nanoseconds: u32) -> Result<(), AllocError>
     ensures { OnOk result (string_bytes out.new ≡ string_bytes out.old ++ (six_digits (nanoseconds / 1000) ++ codes "Z")) }
 {
     if out.capacity() - out.len() < FRACTION_LEN {
-        return push_micros_apart(out, nanoseconds / 1000);
+        return push_micros_out_of_line(out, nanoseconds / 1000);
     }
     push_micros(out, nanoseconds / 1000)
 }

@@ -4,7 +4,7 @@ use Rattle.event_formatter_text.specs.Escapes.{json_string}
 use Rattle.event_formatter_lines.specs.Json.{key_text}
 use Rattle.event_formatter_lines.proofs.InSpan.{behind, joined_to}
 use Rattle.event_formatter_lines.proofs.Levels.{appended}
-use Rattle.event_formatter_lines.proofs.json.in_span.push_level_apart.Goals as goal
+use Rattle.event_formatter_lines.proofs.json.in_span.push_level_out_of_line.Goals as goal
 
 pub returns : goal.returns
 returns c =
