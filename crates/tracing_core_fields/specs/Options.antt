@@ -22,12 +22,4 @@ output_under f (OfError text sources) = Some text
 -- what `{:#?}` writes: the alternate text where there is one, and else the plain one
 abbrev pub alternate_output : PlainDebug → Option (List ℕ)
 alternate_output (Written plain alternate) = Some alternate
-alternate_output Unwritable = None
-alternate_output (OfSigned n) = plain_output (OfSigned n)
-alternate_output (OfUnsigned n) = plain_output (OfUnsigned n)
-alternate_output (OfWideSigned n) = plain_output (OfWideSigned n)
-alternate_output (OfWideUnsigned n) = plain_output (OfWideUnsigned n)
-alternate_output (OfTruth b) = plain_output (OfTruth b)
-alternate_output (OfText text) = plain_output (OfText text)
-alternate_output (OfBytes bytes) = plain_output (OfBytes bytes)
-alternate_output (OfError text sources) = plain_output (OfError text sources)
+alternate_output text = plain_output text

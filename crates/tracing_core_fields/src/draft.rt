@@ -77,9 +77,7 @@ pub(crate) fn debug_text<T: fmt::Debug>(
     ensures { IfOk result (λ text. IfSome text (λ text.
         IfSome (T.debug_output value.now) (λ bytes. string_bytes text ≡ bytes))) }
 {
-    let mut draft = Draft::new(alloc);
-    let written = write!(draft, "{value:?}");
-    draft.finish(written)
+    display_text(alloc, &format_args!("{value:?}"))
 }
 
 // What `{:#?}` writes of the value, or `None` where the value's `fmt` fails.
@@ -87,7 +85,5 @@ pub(crate) fn alternate_text<T: fmt::Debug>(
     alloc: Global,
     value: &T,
 ) -> Result<Option<String>, AllocError> {
-    let mut draft = Draft::new(alloc);
-    let written = write!(draft, "{value:#?}");
-    draft.finish(written)
+    display_text(alloc, &format_args!("{value:#?}"))
 }

@@ -16,6 +16,7 @@ mod owned_metadata;
 mod owned_value;
 mod parse;
 mod quoted;
+mod rank;
 mod record;
 mod requests;
 mod shown;

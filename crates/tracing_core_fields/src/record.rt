@@ -14,7 +14,9 @@ use crate::owned_value::{FieldValue, OwnedValue};
 use crate::value_set::{AnyValue, ValueSet, Values};
 use crate::visit_kinds::VisitKinds;
 
-// Hands the value to the visitor by the call of its kind. A value that isn't there is passed over.
+// Hands the value to the visitor by the call of its kind. A value that isn't there is passed over. It stands out of line, for the
+// kinds that are seldom met.
+#[inline(never)]
 fn record_value<V: VisitKinds>(
     visitor: &mut V,
     field: &Field<'_>,
@@ -69,22 +71,8 @@ fn record_given<'a, V: VisitKinds>(
     Ok(())
 }
 
-// Hands on the value of the field at the index. It stands out of line, for the rare kinds.
-#[inline(never)]
-fn record_other<V: VisitKinds>(
-    fields: &FieldSet<'_>,
-    index: usize,
-    value: &Option<AnyValue<'_>>,
-    visitor: &mut V,
-) -> Result<(), V::Error>
-    requires { index < length (field_names fields.now) }
-    ensures { TakesIfThere V.takes (set_callsite fields.now) (field_names fields.now)
-        (placed_entry (index, value.now)) visitor.old result visitor.new }
-{
-    record_value(visitor, &fields.at(index), value)
-}
-
-// The same. Numbers and texts, which most values are, go by a call of their own, so that the compiler knows their kind.
+// Hands on the value of the field at the index. Numbers and texts, which most values are, go by a call of their own, so
+// that the compiler knows their kind.
 #[inline(always)]
 fn record_at<V: VisitKinds>(
     fields: &FieldSet<'_>,
@@ -100,7 +88,7 @@ fn record_at<V: VisitKinds>(
         Some(AnyValue::I64(n)) => visitor.record_i64(&fields.at(index), *n),
         Some(AnyValue::U64(n)) => visitor.record_u64(&fields.at(index), *n),
         Some(AnyValue::Str(text)) => visitor.record_str(&fields.at(index), text),
-        other => record_other(fields, index, other, visitor),
+        other => record_value(visitor, &fields.at(index), other),
     }
 }
 

@@ -5,5 +5,4 @@ use Rattle.tracing_core_fields.proofs.requests.subscriber.boxed.BoxDynSubscriber
 pub returns : goal.returns
 returns g c =
     moved (λ i v n. (g.dyn-1.0.entry i).1.moves v (Dropped c.args.span c.args.at) tt n)
-    (λ i n. record { ptr = c.args.self.now.ptr; vtable = i; alloc = c.args.self.now.alloc; value = n })
-    _ _ c.deref_box_mut-1.ensures.value.1 c.drop_span.new.self c.drop_span.ensures
+    c.args.self.now _ c.deref_box_mut-1.ensures.value.1 c.drop_span.new.self c.drop_span.ensures

@@ -11,5 +11,4 @@ returns-clause-answer g c = subst (λ p. (g.dyn-1.0.entry p.0).1.answers p.1 (pl
 pub returns-clause-state : goal.returns-clause-state
 returns-clause-state g c =
     moved (λ i v n. (g.dyn-1.0.entry i).1.moves v (Asked (plain_metadata c.args.metadata.now) c.args.at) c.enabled.result n)
-    (λ i n. record { ptr = c.args.self.now.ptr; vtable = i; alloc = c.args.self.now.alloc; value = n })
-    _ _ c.deref_box_mut-1.ensures.value.1 c.enabled.new.self c.enabled.ensures.1
+    c.args.self.now _ c.deref_box_mut-1.ensures.value.1 c.enabled.new.self c.enabled.ensures.1

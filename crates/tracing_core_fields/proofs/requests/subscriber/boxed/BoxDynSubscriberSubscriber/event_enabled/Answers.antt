@@ -6,5 +6,4 @@ use Rattle.tracing_core_fields.proofs.requests.subscriber.boxed.BoxDynSubscriber
 pub returns : goal.returns
 returns g c =
     moved (λ i v n. (g.dyn-1.0.entry i).1.moves v (EventAsked (plain_event c.args.event.now) c.args.at) c.event_enabled.result n)
-    (λ i n. record { ptr = c.args.self.now.ptr; vtable = i; alloc = c.args.self.now.alloc; value = n })
-    _ _ c.deref_box_mut-1.ensures.value.1 c.event_enabled.new.self c.event_enabled.ensures
+    c.args.self.now _ c.deref_box_mut-1.ensures.value.1 c.event_enabled.new.self c.event_enabled.ensures

@@ -10,5 +10,4 @@ returns-clause-answer g c = subst (λ p. c.max_level_hint.result ≡ (g.dyn-1.0.
 pub returns-clause-state : goal.returns-clause-state
 returns-clause-state g c =
     moved (λ i v n. (g.dyn-1.0.entry i).1.moves v (HintAsked) c.max_level_hint.result n)
-    (λ i n. record { ptr = c.args.self.now.ptr; vtable = i; alloc = c.args.self.now.alloc; value = n })
-    _ _ c.deref_box_mut-1.ensures.value.1 c.max_level_hint.new.self c.max_level_hint.ensures.1
+    c.args.self.now _ c.deref_box_mut-1.ensures.value.1 c.max_level_hint.new.self c.max_level_hint.ensures.1

@@ -6,5 +6,4 @@ use Rattle.tracing_core_fields.proofs.requests.subscriber.boxed.BoxDynSubscriber
 pub returns : goal.returns
 returns g c =
     moved (λ i v n. (g.dyn-1.0.entry i).1.moves v (SpanMade (plain_attributes c.args.attributes.now) c.args.at) c.new_span.result n)
-    (λ i n. record { ptr = c.args.self.now.ptr; vtable = i; alloc = c.args.self.now.alloc; value = n })
-    _ _ c.deref_box_mut-1.ensures.value.1 c.new_span.new.self c.new_span.ensures
+    c.args.self.now _ c.deref_box_mut-1.ensures.value.1 c.new_span.new.self c.new_span.ensures

@@ -6,5 +6,4 @@ pub returns : goal.returns
 returns g c =
     moved (λ i v n. (g.dyn-1.0.entry i).1.moves v (FollowsRecorded c.args.span.now c.args.follows.now c.args.at)
     c.record_follows_from.result n)
-    (λ i n. record { ptr = c.args.self.now.ptr; vtable = i; alloc = c.args.self.now.alloc; value = n })
-    _ _ c.deref_box_mut-1.ensures.value.1 c.record_follows_from.new.self c.record_follows_from.ensures
+    c.args.self.now _ c.deref_box_mut-1.ensures.value.1 c.record_follows_from.new.self c.record_follows_from.ensures
