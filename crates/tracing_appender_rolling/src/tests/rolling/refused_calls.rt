@@ -1,7 +1,8 @@
 //! Folders that refuse a call, or take few bytes.
 
-use super::{holds, later, named};
+use super::later;
 use crate::folders::{FaultyFolder, Folder, FolderError, FolderFault, MemoryFolder};
+use crate::tests::making::{holds, linked, named};
 use crate::tests::moments::{FEBRUARY, MONDAY};
 use crate::{BuildError, InitContext, InitError, RollingFileAppender, Rotation, daily, hourly};
 use std::alloc::Global;
@@ -37,10 +38,7 @@ fn script(alloc: Global, number: u64) -> Result<(u64, Reported), Fail> {
     inner.put("t.2020-01-01-00", b"old", None)?;
     let refused = Vec::from_slice(alloc, &[number])?;
     let folder = FaultyFolder::new(inner, refused);
-    let link = String::from_str(alloc, "latest")?;
-    let builder = named(alloc, Rotation::HOURLY, "t", "")?
-        .max_log_files(1)
-        .latest_symlink(link);
+    let builder = linked(alloc, Rotation::HOURLY, "t", "", "latest")?.max_log_files(1);
     match builder.build(alloc, folder, FEBRUARY) {
         Err(refused) => Ok((
             refused.folder.failures(),
