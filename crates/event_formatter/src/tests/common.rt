@@ -23,16 +23,8 @@ pub const ONE_AND_FAILING: [Option<AnyValue<'static>>; 2] = [
 
 // The metadata of a span.
 pub fn span_metadata<'a>(name: &'a str, fields: FieldSet<'a>) -> Metadata<'a> {
-    Metadata::new(
-        name,
-        "app",
-        Level::INFO,
-        None,
-        None,
-        None,
-        fields,
-        Kind::SPAN,
-    )
+    let level = Level::INFO;
+    Metadata::new(name, "app", level, None, None, None, fields, Kind::SPAN)
 }
 
 // The metadata of an event.
@@ -42,16 +34,8 @@ pub fn event_metadata<'a>(
     line: Option<u32>,
     fields: FieldSet<'a>,
 ) -> Metadata<'a> {
-    Metadata::new(
-        name,
-        "app",
-        Level::INFO,
-        file,
-        line,
-        None,
-        fields,
-        Kind::EVENT,
-    )
+    let level = Level::INFO;
+    Metadata::new(name, "app", level, file, line, None, fields, Kind::EVENT)
 }
 
 // Keeps the lines that it is handed, or refuses them.
