@@ -78,10 +78,9 @@ pub fn has_files(
 ) -> Result<(), AllocError> {
     let entries = folder.files()?;
     assert_eq!(rt; entries.len(), files.len());
-    for index in 0..files.len() {
-        let (name, bytes) = files[index];
-        assert_eq!(rt; entries[index].name, name);
-        assert_eq!(rt; entries[index].bytes, bytes, "in {name}");
+    for (entry, (name, bytes)) in entries.iter().zip(files) {
+        assert_eq!(rt; entry.name, *name);
+        assert_eq!(rt; entry.bytes, *bytes, "in {name}");
     }
     Ok(())
 }
