@@ -1,6 +1,7 @@
 //! The tests of the crates below; and a request's lines in text for people and in JSON for machines, from one stack of two outputs of one
 //! type.
 
+mod common;
 mod formats;
 mod layer;
 mod lines;
@@ -12,6 +13,7 @@ mod times;
 mod visitors;
 
 use super::*;
+use common::{Lines, Names, span_metadata};
 use span_registry_layers::{Output, Stack};
 use span_registry_layers_layers::Filtered;
 use span_registry_layers_store::OutputKey;
@@ -32,33 +34,6 @@ const PLACE: At = At {
     nanoseconds: 0,
 };
 
-// Keeps the lines that it is handed.
-#[derive(Drop)]
-struct Lines {
-    alloc: Global,
-    lines: Vec<String>,
-}
-
-impl MakeWriter for Lines {
-    ghost use Rattle.std.specs.Prelude.{◌≡◌, true};
-
-    ghost takes = { λ maker m b. b ≡ true };
-
-    ghost writes = { λ maker m line answer after. Unit {0} };
-
-    fn writes_for(&self, _metadata: &Metadata<'_>) -> bool {
-        true
-    }
-
-    fn write_for(&mut self, _metadata: &Metadata<'_>, line: &[u8]) -> io::Result<()> {
-        let Ok(text) = std::str::from_utf8(line) else {
-            return Err(io::Error::from(ErrorKind::InvalidData));
-        };
-        self.lines.push(String::from_str(self.alloc, text)?)?;
-        Ok(())
-    }
-}
-
 type Lined = Filtered<Layer<Fields, Format<LineFormat, Timer>, Lines>, LevelFilter>;
 
 // An output in this format.
@@ -69,14 +44,10 @@ fn output_in(
     fields: Fields,
     filter: LevelFilter,
 ) -> Output<Lined> {
-    let lines = Lines {
-        alloc,
-        lines: Vec::new(alloc),
-    };
     let format = format(alloc)
         .with_timer(Timer::System(time()))
         .with_shape(shape);
-    let layer = layer(alloc, OutputKey(key), lines)
+    let layer = layer(alloc, OutputKey(key), Lines::new(alloc))
         .event_format(format)
         .fmt_fields(fields);
     Output {
@@ -110,16 +81,7 @@ fn text_and_json(alloc: Global) -> Result<Stack<Lined>, Fail> {
 // Enters a span `request` with n = 7.
 fn enter_request(stack: &mut Stack<Lined>) -> Result<Id, Fail> {
     let fields = FieldSet::new(&NAMES, Identifier(1));
-    let metadata = Metadata::new(
-        "request",
-        "app",
-        Level::INFO,
-        None,
-        None,
-        None,
-        fields,
-        Kind::SPAN,
-    );
+    let metadata = span_metadata("request", fields);
     let values = [None, Some(AnyValue::U64(7))];
     let attributes = Attributes::new(&metadata, fields.value_set_all(&values));
     let span = stack.new_span(&attributes, PLACE)?.ok_or("a span")?;
@@ -137,19 +99,10 @@ fn tell(stack: &mut Stack<Lined>, level: Level, message: &str) -> Result<(), Fai
 
 // Whether an output wrote just these lines.
 fn wrote(stack: &Stack<Lined>, output: usize, lines: &[&str]) -> bool {
-    let Some(output) = stack.output(output) else {
-        return false;
-    };
-    let written = output.inner().writer().lines.as_slice();
-    if written.len() != lines.len() {
-        return false;
+    match stack.output(output) {
+        None => false,
+        Some(output) => output.inner().writer().are(lines),
     }
-    for index in 0..lines.len() {
-        if written[index].as_str() != lines[index] {
-            return false;
-        }
-    }
-    true
 }
 
 #[test]

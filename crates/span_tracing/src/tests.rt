@@ -1,5 +1,6 @@
 //! The tests of the crates below; one output, folders that refuse, and random runs over four outputs beside a slow model of them.
 
+mod common;
 mod faulty;
 mod files;
 mod model;

@@ -42,16 +42,8 @@ fn hourly_files<D: Folder>(alloc: Global, folder: D) -> Result<RollingFileAppend
 /// Hands a line over as a formatter does, which knows nothing of the maker but that it takes lines.
 fn hand<M: MakeWriter>(maker: &mut M, line: &[u8]) -> io::Result<()> {
     let fields = FieldSet::new(&[], Identifier(1));
-    let metadata = Metadata::new(
-        "n",
-        "app",
-        Level::INFO,
-        None,
-        None,
-        None,
-        fields,
-        Kind::EVENT,
-    );
+    let level = Level::INFO;
+    let metadata = Metadata::new("n", "app", level, None, None, None, fields, Kind::EVENT);
     maker.write_for(&metadata, line)
 }
 

@@ -3,6 +3,7 @@
 ghost use Rattle.std.specs.Prelude.{◌≡◌, true};
 ghost use Rattle.tracing_core_moments.specs.Moments.{is_moment};
 
+mod making;
 mod many;
 mod moments;
 mod rolling;
@@ -10,6 +11,7 @@ mod system;
 
 use crate::folders::{Entry, FileNumber, Folder, FolderError, FolderFault, MemoryFolder};
 use crate::{BuildError, Builder, InitContext, InitError, Rotation};
+use making::{first_name, fresh, has_files, named};
 use moments::{MONDAY_MIDNIGHT, TUESDAY_MIDNIGHT};
 use std::alloc::{AllocError, Global};
 use std::test::Fail;
@@ -98,40 +100,21 @@ impl Folder for SlowFolder {
 }
 
 fn builder(alloc: Global, prefix: &str, suffix: &str) -> Result<Builder, AllocError> {
-    let prefix = String::from_str(alloc, prefix)?;
-    let suffix = String::from_str(alloc, suffix)?;
-    Ok(
-        Builder::new()
-            .rotation(Rotation::DAILY)
-            .filename_prefix(prefix)
-            .filename_suffix(suffix),
-    )
-}
-
-/// The name of the only file of a fresh appender.
-fn first_name(alloc: Global, prefix: &str, suffix: &str) -> Result<String, Fail> {
-    let folder = MemoryFolder::new(alloc);
-    let appender = builder(alloc, prefix, suffix)?
-        .build(alloc, folder, MONDAY_MIDNIGHT)
-        .map_err(|refusal| refusal.error)?;
-    let entries = appender.folder().files()?;
-    let entry = entries.first().ok_or("no file")?;
-    Ok(String::from_str(alloc, entry.name)?)
+    named(alloc, Rotation::DAILY, prefix, suffix)
 }
 
 #[test]
 fn names_have_their_parts(rt: HostRuntime) -> Result<(), Fail> {
     let alloc = rt.alloc();
-    assert_eq!(rt;
-        first_name(alloc, "my_prefix", "log")?.as_str(),
-        "my_prefix.2025-02-17.log"
-    );
-    assert_eq!(rt;
-        first_name(alloc, "my_prefix", "")?.as_str(),
-        "my_prefix.2025-02-17"
-    );
-    assert_eq!(rt; first_name(alloc, "", "log")?.as_str(), "2025-02-17.log");
-    assert_eq!(rt; first_name(alloc, "", "")?.as_str(), "2025-02-17");
+    for (prefix, suffix, name) in [
+        ("my_prefix", "log", "my_prefix.2025-02-17.log"),
+        ("my_prefix", "", "my_prefix.2025-02-17"),
+        ("", "log", "2025-02-17.log"),
+        ("", "", "2025-02-17"),
+    ] {
+        let file = first_name(alloc, builder(alloc, prefix, suffix)?, MONDAY_MIDNIGHT)?;
+        assert_eq!(rt; file.as_str(), name);
+    }
     Ok(())
 }
 
@@ -188,21 +171,18 @@ fn a_late_line_stays_with_the_later_day(rt: HostRuntime) -> Result<(), Fail> {
     assert_eq!(rt; appender.faults().switches, 0);
     let folder = appender.into_folder();
     assert_eq!(rt; folder.failures(), 0);
-    let entries = folder.files()?;
-    assert_eq!(rt; entries.len(), 2);
-    assert_eq!(rt; entries[0].name, "app.2025-02-17");
-    assert_eq!(rt; entries[0].bytes, b"old\none\n".as_slice());
-    assert_eq!(rt; entries[1].name, "app.2025-02-18");
-    assert_eq!(rt; entries[1].bytes, b"found\ntwo\nlate\n".as_slice());
+    let files = [
+        ("app.2025-02-17", b"old\none\n".as_slice()),
+        ("app.2025-02-18", b"found\ntwo\nlate\n".as_slice()),
+    ];
+    has_files(&rt, &folder, &files)?;
     Ok(())
 }
 
 #[test]
 fn an_appender_comes_apart(rt: HostRuntime) -> Result<(), Fail> {
     let alloc = rt.alloc();
-    let appender = builder(alloc, "app", "")?
-        .build(alloc, MemoryFolder::new(alloc), MONDAY_MIDNIGHT)
-        .map_err(|refusal| refusal.error)?;
+    let appender = fresh(alloc, builder(alloc, "app", "")?, MONDAY_MIDNIGHT)?;
     let (builder, folder) = appender.into_parts();
     assert_eq!(rt; folder.files()?[0].name, "app.2025-02-17");
     let link = String::from_str(alloc, "app.2025-02-18")?;
@@ -217,12 +197,12 @@ fn files_are_in_order(rt: HostRuntime) -> Result<(), Fail> {
     folder.put("b", b"2", None)?;
     folder.put("a", b"1", None)?;
     folder.put("ab", b"3", None)?;
-    let entries = folder.files()?;
-    assert_eq!(rt; entries.len(), 3);
-    assert_eq!(rt; entries[0].name, "a");
-    assert_eq!(rt; entries[1].name, "ab");
-    assert_eq!(rt; entries[2].name, "b");
-    assert_eq!(rt; entries[2].bytes, b"2".as_slice());
+    let files = [
+        ("a", b"1".as_slice()),
+        ("ab", b"3".as_slice()),
+        ("b", b"2".as_slice()),
+    ];
+    has_files(&rt, &folder, &files)?;
     Ok(())
 }
 

@@ -48,22 +48,24 @@ fn read(alloc: Global, kind: PeriodKind, name: &str) -> Result<Option<i64>, Allo
 #[test]
 fn names_have_their_parts(rt: HostRuntime) -> Result<(), Fail> {
     let alloc = rt.alloc();
-    let minute = name(alloc, PeriodKind::Minute, "app.log", "", FEBRUARY)?;
-    assert_eq!(rt; minute.as_str(), "app.log.2020-02-01-10-01");
-    let hour = name(alloc, PeriodKind::Hour, "app.log", "", FEBRUARY)?;
-    assert_eq!(rt; hour.as_str(), "app.log.2020-02-01-10");
-    let day = name(alloc, PeriodKind::Day, "app.log", "", FEBRUARY)?;
-    assert_eq!(rt; day.as_str(), "app.log.2020-02-01");
-    let whole = name(alloc, PeriodKind::Whole, "app.log", "", FEBRUARY)?;
-    assert_eq!(rt; whole.as_str(), "app.log");
-    let minute = name(alloc, PeriodKind::Minute, "", "log", FEBRUARY)?;
-    assert_eq!(rt; minute.as_str(), "2020-02-01-10-01.log");
-    let hour = name(alloc, PeriodKind::Hour, "", "log", FEBRUARY)?;
-    assert_eq!(rt; hour.as_str(), "2020-02-01-10.log");
-    let day = name(alloc, PeriodKind::Day, "", "log", FEBRUARY)?;
-    assert_eq!(rt; day.as_str(), "2020-02-01.log");
-    let whole = name(alloc, PeriodKind::Whole, "", "log", FEBRUARY)?;
-    assert_eq!(rt; whole.as_str(), "log");
+    for (kind, prefix, suffix, text) in [
+        (
+            PeriodKind::Minute,
+            "app.log",
+            "",
+            "app.log.2020-02-01-10-01",
+        ),
+        (PeriodKind::Hour, "app.log", "", "app.log.2020-02-01-10"),
+        (PeriodKind::Day, "app.log", "", "app.log.2020-02-01"),
+        (PeriodKind::Whole, "app.log", "", "app.log"),
+        (PeriodKind::Minute, "", "log", "2020-02-01-10-01.log"),
+        (PeriodKind::Hour, "", "log", "2020-02-01-10.log"),
+        (PeriodKind::Day, "", "log", "2020-02-01.log"),
+        (PeriodKind::Whole, "", "log", "log"),
+    ] {
+        let made = name(alloc, kind, prefix, suffix, FEBRUARY)?;
+        assert_eq!(rt; made.as_str(), text);
+    }
     Ok(())
 }
 
@@ -98,38 +100,36 @@ fn periods_have_ends(rt: HostRuntime) -> Result<(), Fail> {
 #[test]
 fn dates_are_read(rt: HostRuntime) -> Result<(), Fail> {
     let alloc = rt.alloc();
-    assert_eq!(rt;
-        read(alloc, PeriodKind::Day, "app.2020-02-01.log")?,
-        Some(1_580_515_200)
-    );
-    assert_eq!(rt;
-        read(alloc, PeriodKind::Hour, "app.2020-02-01-10.log")?,
-        Some(1_580_551_200)
-    );
-    assert_eq!(rt;
-        read(alloc, PeriodKind::Minute, "app.2020-02-01-10-01.log")?,
-        Some(FEBRUARY)
-    );
-    assert_eq!(rt; read(alloc, PeriodKind::Day, "app.2019-02-29.log")?, None);
-    assert_eq!(rt;
-        read(alloc, PeriodKind::Hour, "app.2020-02-01-24.log")?,
-        None
-    );
-    assert_eq!(rt; read(alloc, PeriodKind::Hour, "app.2020-02-01.log")?, None);
-    assert_eq!(rt; read(alloc, PeriodKind::Day, "app2020-02-01.log")?, None);
-    assert_eq!(rt; read(alloc, PeriodKind::Day, "app.2020-02-01log")?, None);
-    assert_eq!(rt; read(alloc, PeriodKind::Day, "app.log")?, None);
-    assert_eq!(rt;
-        read_stamp(PeriodKind::Day, b"0000-01-01"),
-        Some(-62_167_219_200)
-    );
-    assert_eq!(rt;
-        read_stamp(PeriodKind::Week, b"9999-12-31"),
-        Some(253_402_214_400)
-    );
-    assert_eq!(rt; read_stamp(PeriodKind::Whole, b"+999-12-31"), None);
-    assert_eq!(rt; read_stamp(PeriodKind::Day, b"2020-2-01"), None);
-    assert_eq!(rt; read_stamp(PeriodKind::Minute, b"2020-02-01-10-60"), None);
+    for (kind, name, second) in [
+        (PeriodKind::Day, "app.2020-02-01.log", Some(1_580_515_200)),
+        (
+            PeriodKind::Hour,
+            "app.2020-02-01-10.log",
+            Some(1_580_551_200),
+        ),
+        (
+            PeriodKind::Minute,
+            "app.2020-02-01-10-01.log",
+            Some(FEBRUARY),
+        ),
+        (PeriodKind::Day, "app.2019-02-29.log", None),
+        (PeriodKind::Hour, "app.2020-02-01-24.log", None),
+        (PeriodKind::Hour, "app.2020-02-01.log", None),
+        (PeriodKind::Day, "app2020-02-01.log", None),
+        (PeriodKind::Day, "app.2020-02-01log", None),
+        (PeriodKind::Day, "app.log", None),
+    ] {
+        assert_eq!(rt; read(alloc, kind, name)?, second, "of {name}");
+    }
+    for (kind, stamp, second) in [
+        (PeriodKind::Day, "0000-01-01", Some(-62_167_219_200)),
+        (PeriodKind::Week, "9999-12-31", Some(253_402_214_400)),
+        (PeriodKind::Whole, "+999-12-31", None),
+        (PeriodKind::Day, "2020-2-01", None),
+        (PeriodKind::Minute, "2020-02-01-10-60", None),
+    ] {
+        assert_eq!(rt; read_stamp(kind, stamp.as_bytes()), second, "of {stamp}");
+    }
     assert_eq!(rt;
         read_name(PeriodKind::Day, &None, &None, b"2020-02-01"),
         Some(1_580_515_200)
@@ -141,22 +141,15 @@ fn dates_are_read(rt: HostRuntime) -> Result<(), Fail> {
 fn some_period_has_the_name(rt: HostRuntime) -> Result<(), Fail> {
     let alloc = rt.alloc();
     let prefix = part(alloc, "p")?;
-    assert_eq!(rt;
-        second_named(PeriodKind::Week, &prefix, &None, b"p.0000-12-31"),
-        Some(FIRST)
-    );
-    assert_eq!(rt;
-        second_named(PeriodKind::Day, &prefix, &None, b"p.0000-12-31"),
-        None
-    );
-    assert_eq!(rt;
-        second_named(PeriodKind::Week, &prefix, &None, b"p.2025-02-17"),
-        None
-    );
-    assert_eq!(rt;
-        second_named(PeriodKind::Whole, &prefix, &None, b"p"),
-        Some(0)
-    );
+    for (kind, name, second) in [
+        (PeriodKind::Week, "p.0000-12-31", Some(FIRST)),
+        (PeriodKind::Day, "p.0000-12-31", None),
+        (PeriodKind::Week, "p.2025-02-17", None),
+        (PeriodKind::Whole, "p", Some(0)),
+    ] {
+        let found = second_named(kind, &prefix, &None, name.as_bytes());
+        assert_eq!(rt; found, second, "of {name}");
+    }
     assert_eq!(rt;
         second_named(PeriodKind::Whole, &None, &None, b"9999-01-01"),
         None

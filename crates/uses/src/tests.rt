@@ -153,16 +153,8 @@ fn a_layer_counts(rt: HostRuntime) -> Result<(), Fail> {
         PLACE,
     )?;
     let fields = FieldSet::new(&[], Identifier(9));
-    let span = Metadata::new(
-        "s",
-        "app",
-        Level::INFO,
-        None,
-        None,
-        None,
-        fields,
-        Kind::SPAN,
-    );
+    let level = Level::INFO;
+    let span = Metadata::new("s", "app", level, None, None, None, fields, Kind::SPAN);
     let made = stack.new_span(&Attributes::new(&span, fields.value_set_all(&[])), PLACE)?;
     assert!(rt; made.is_some());
     let counts = *stack.output(0).ok_or("an output")?.inner().listener();

@@ -9,6 +9,8 @@ mod scopes;
 mod spans;
 mod threads;
 
+use super::common;
+use super::common::PLAIN;
 use crate::formats::*;
 use event_formatter_lines::{FixedText, keep_new};
 use event_formatter_text::{FormatError, Settings};
@@ -16,17 +18,10 @@ use span_registry_layers_layers::Context;
 use span_registry_layers_store::{FilterId, FilterMap, OutputKey, Registry};
 use std::alloc::Global;
 use std::test::Fail;
-use tracing_core_fields::{
-    AnyValue, Attributes, Event, FieldSet, Id, Identifier, Kind, Level, Metadata,
-};
+use tracing_core_fields::{AnyValue, Attributes, Event, FieldSet, Id, Identifier, Metadata};
 use tracing_core_moments::At;
 
 const NAMES: [&str; 2] = ["message", "n"];
-
-const PLAIN: Settings = Settings {
-    styles: false,
-    sanitizes: true,
-};
 
 const KEY: OutputKey = OutputKey(1);
 
@@ -53,21 +48,17 @@ fn only_m() -> [Option<AnyValue<'static>>; 2] {
 // The metadata of an event.
 fn event_metadata(file: Option<&'static str>, line: Option<u32>) -> Metadata<'static> {
     let fields = FieldSet::new(&NAMES, Identifier(2));
-    Metadata::new(
-        "event",
-        "app",
-        Level::INFO,
-        file,
-        line,
-        None,
-        fields,
-        Kind::EVENT,
-    )
+    common::event_metadata("event", file, line, fields)
 }
 
 // The text of the time in each test.
 fn fake_time(alloc: Global) -> Result<FixedText, Fail> {
     Ok(FixedText::new("fake time".to_string(alloc)?))
+}
+
+// A format that shows that time.
+fn timed(alloc: Global) -> Result<Format<Full, FixedText>, Fail> {
+    Ok(Format::new(alloc).with_timer(fake_time(alloc)?))
 }
 
 // Opens a span in the lane's one, keeps the text of its fields, and enters it.
@@ -81,7 +72,7 @@ fn enter_span(
     values: &[Option<AnyValue<'_>>],
 ) -> Result<Id, Fail> {
     let set = FieldSet::new(names, Identifier(1));
-    let metadata = Metadata::new(name, "app", Level::INFO, None, None, None, set, Kind::SPAN);
+    let metadata = common::span_metadata(name, set);
     let attributes = Attributes::new(&metadata, metadata.fields().value_set_all(values));
     let span = registry
         .new_span(&attributes, 0, passed)
@@ -104,6 +95,20 @@ fn enter_span(
         return Err(Fail::from("kept"));
     }
     Ok(span)
+}
+
+// A registry whose lane is in one span.
+fn in_span(
+    alloc: Global,
+    name: &str,
+    fields: Fields,
+    names: &[&str],
+    values: &[Option<AnyValue<'_>>],
+) -> Result<Registry, Fail> {
+    let mut registry = Registry::new(alloc);
+    let passes = FilterMap::all();
+    enter_span(alloc, &mut registry, passes, name, fields, names, values)?;
+    Ok(registry)
 }
 
 // The line of an event in a context.
@@ -135,4 +140,27 @@ fn line_of<F: FormatEvent>(
     let event = Event::new(&metadata, metadata.fields().value_set_all(values));
     let context = Context::new(registry, AT, None);
     line_in(alloc, &context, format, fields, MAIN, &event)
+}
+
+// The line of the event `m` in the lane's span.
+fn line_of_m<F: FormatEvent>(
+    alloc: Global,
+    registry: &mut Registry,
+    format: &mut F,
+) -> Result<String, Fail> {
+    line_of(alloc, registry, format, Fields::Default, &only_m())
+}
+
+// The line of the event `m` outside of all spans, on a thread.
+fn line_outside<F: FormatEvent>(
+    alloc: Global,
+    format: &mut F,
+    metadata: &Metadata<'_>,
+    thread: CurrentThread<'_>,
+) -> Result<String, Fail> {
+    let mut registry = Registry::new(alloc);
+    let values = only_m();
+    let event = Event::new(metadata, metadata.fields().value_set_all(&values));
+    let context = Context::new(&mut registry, AT, None);
+    line_in(alloc, &context, format, Fields::Default, thread, &event)
 }

@@ -10,17 +10,16 @@ mod threads;
 
 use crate::fmt_layer::*;
 use crate::formats::{Format, FormatEvent, Full};
+use crate::tests::common::{Lines, event_metadata, span_metadata};
 use event_formatter_lines::{FixedText, FmtSpan};
-use event_formatter_text::{DefaultFields, FormatFields, MakeWriter};
+use event_formatter_text::{DefaultFields, FormatFields};
 use span_registry_layers_layers::{LayerExt, Layered, SubscriberExt};
 use span_registry_layers_store::{OutputKey, Registry};
 use std::alloc::{AllocError, Global};
-use std::io;
 use std::io::ErrorKind;
 use std::test::Fail;
 use tracing_core_fields::{
-    AnyValue, Attributes, DebugText, Event, FieldSet, Id, Identifier, Kind, Level, Metadata,
-    Record, Subscriber,
+    AnyValue, Attributes, DebugText, Event, FieldSet, Id, Identifier, Record, Subscriber,
 };
 use tracing_core_moments::At;
 
@@ -30,37 +29,6 @@ const FAILS: [Option<AnyValue<'static>>; 2] = [
     Some(AnyValue::Debug(DebugText::Failing)),
     Some(AnyValue::U64(1)),
 ];
-
-// Keeps the lines that it is handed, or refuses them.
-#[derive(Drop)]
-struct Lines {
-    alloc: Global,
-    lines: Vec<String>,
-    refusal: Option<ErrorKind>,
-}
-
-impl MakeWriter for Lines {
-    ghost use Rattle.std.specs.Prelude.{◌≡◌, true};
-
-    ghost takes = { λ maker m b. b ≡ true };
-
-    ghost writes = { λ maker m line answer after. Unit {0} };
-
-    fn writes_for(&self, _metadata: &Metadata<'_>) -> bool {
-        true
-    }
-
-    fn write_for(&mut self, _metadata: &Metadata<'_>, line: &[u8]) -> io::Result<()> {
-        if let Some(kind) = self.refusal {
-            return Err(io::Error::from(kind));
-        }
-        let Ok(text) = std::str::from_utf8(line) else {
-            return Err(io::Error::from(ErrorKind::InvalidData));
-        };
-        self.lines.push(String::from_str(self.alloc, text)?)?;
-        Ok(())
-    }
-}
 
 type Plain = Layer<DefaultFields, Format<Full, FixedText>, Lines>;
 
@@ -75,19 +43,11 @@ fn moment(nanoseconds: u32) -> At {
     }
 }
 
-fn no_lines(alloc: Global) -> Lines {
-    Lines {
-        alloc,
-        lines: Vec::new(alloc),
-        refusal: None,
-    }
-}
-
 // A layer that shows the time `fake time`, and no level.
 fn plain(alloc: Global, key: u32) -> Result<Plain, AllocError> {
     let time = FixedText::new(String::from_str(alloc, "fake time")?);
     Ok(
-        Layer::new(alloc, OutputKey(key), no_lines(alloc))
+        Layer::new(alloc, OutputKey(key), Lines::new(alloc))
             .with_timer(time)
             .with_level(false),
     )
@@ -107,16 +67,7 @@ fn make<S: Subscriber>(
     at: At,
 ) -> Result<Id, Fail> {
     let fields = FieldSet::new(&NAMES, Identifier(1));
-    let metadata = Metadata::new(
-        name,
-        "app",
-        Level::INFO,
-        None,
-        None,
-        None,
-        fields,
-        Kind::SPAN,
-    );
+    let metadata = span_metadata(name, fields);
     let attributes = Attributes::new_root(&metadata, fields.value_set_all(values));
     Ok(tree.new_span(&attributes, at)?.ok_or("a span")?)
 }
@@ -136,16 +87,7 @@ fn enter_span<S: Subscriber>(tree: &mut S, name: &str) -> Result<Id, Fail> {
 // Hands over an event under the current span.
 fn tell<S: Subscriber>(tree: &mut S, values: &[Option<AnyValue<'_>>], at: At) -> Result<(), Fail> {
     let fields = FieldSet::new(&NAMES, Identifier(2));
-    let metadata = Metadata::new(
-        "ev",
-        "app",
-        Level::INFO,
-        None,
-        None,
-        None,
-        fields,
-        Kind::EVENT,
-    );
+    let metadata = event_metadata("ev", None, None, fields);
     let event = Event::new(&metadata, fields.value_set_all(values));
     Ok(tree.event(&event, at)?)
 }
@@ -161,16 +103,7 @@ fn tell_hi<S: Subscriber>(tree: &mut S) -> Result<(), Fail> {
 
 // Whether the maker was handed just these lines.
 fn has_lines<N: Drop, E: Drop>(layer: &Layer<N, E, Lines>, lines: &[&str]) -> bool {
-    let written = layer.writer().lines.as_slice();
-    if written.len() != lines.len() {
-        return false;
-    }
-    for index in 0..lines.len() {
-        if written[index].as_str() != lines[index] {
-            return false;
-        }
-    }
-    true
+    layer.writer().are(lines)
 }
 
 // Whether the layer writes just this of an event that has a place in the source and stands in a span with x = 42.
@@ -183,16 +116,7 @@ fn writes<N: FormatFields + Drop, E: FormatEvent>(
     let mut tree = tree.ok().ok_or("room")?;
     enter_span(&mut tree, "s")?;
     let fields = FieldSet::new(&NAMES, Identifier(2));
-    let metadata = Metadata::new(
-        "ev",
-        "app",
-        Level::INFO,
-        Some("src/a.rs"),
-        Some(7),
-        None,
-        fields,
-        Kind::EVENT,
-    );
+    let metadata = event_metadata("ev", Some("src/a.rs"), Some(7), fields);
     let values = [Some(AnyValue::Str("hi")), Some(AnyValue::U64(3))];
     let event = Event::new(&metadata, fields.value_set_all(&values));
     tree.event(&event, moment(0))?;

@@ -8,22 +8,13 @@ mod pretty;
 
 ghost use Rattle.std.specs.Prelude.{◌≡◌, map};
 
+use super::common::{ONE_AND_FAILING, PLAIN, STYLED};
 use event_formatter_lines::*;
 use event_formatter_text::{FormatError, FormatFields, Settings};
 use std::alloc::Global;
-use tracing_core_fields::{AnyValue, FieldSet, Identifier, Level};
+use tracing_core_fields::{AnyValue, FieldSet, Identifier, Level, ValueSet};
 
 const NAMES: [&str; 2] = ["message", "n"];
-
-const PLAIN: Settings = Settings {
-    styles: false,
-    sanitizes: true,
-};
-
-const STYLED: Settings = Settings {
-    styles: true,
-    sanitizes: true,
-};
 
 // An event of which nothing is shown but its fields.
 const BARE: Head<'static> = Head {
@@ -36,12 +27,31 @@ const BARE: Head<'static> = Head {
     line: None,
 };
 
+// An event with a time and a target.
+fn timed(level: Option<Level>) -> Head<'static> {
+    Head {
+        time: Some("fake time"),
+        level,
+        target: Some("app"),
+        ..BARE
+    }
+}
+
 // A span of a test.
 #[derive(Clone, Copy, Drop)]
 struct Row {
     name: &'static str,
     target: &'static str,
     text: &'static str,
+}
+
+// A span of the target `app`.
+fn row(name: &'static str, text: &'static str) -> Row {
+    Row {
+        name,
+        target: "app",
+        text,
+    }
 }
 
 // The spans of a test, from the root on.
@@ -73,4 +83,8 @@ impl ShownSpans for Rows<'_> {
 
 fn hi_and_three() -> [Option<AnyValue<'static>>; 2] {
     [Some(AnyValue::Str("hi")), Some(AnyValue::I64(3))]
+}
+
+fn fields_of<'a>(values: &'a [Option<AnyValue<'a>>]) -> ValueSet<'a> {
+    FieldSet::new(&NAMES, Identifier(1)).value_set_all(values)
 }

@@ -5,9 +5,11 @@ use span_registry_layers_store::Registry;
 use std::alloc::AllocError;
 use tracing_core_fields::{Record, Subscriber};
 
-// Finds no memory for the texts of spans.
+// Finds no memory for what is added to the text of a span, and for the start of one only where there is room for it.
 #[derive(Drop)]
-struct Starved;
+pub struct Starved {
+    pub starts: bool,
+}
 
 impl FormatFields for Starved {
     ghost use Rattle.std.specs.Prelude.{[], None};
@@ -29,7 +31,10 @@ impl FormatFields for Starved {
     }
 
     fn start(&self, alloc: Global, settings: Settings) -> Result<FormattedFields, AllocError> {
-        Ok(FormattedFields::new(alloc, settings))
+        if self.starts {
+            return Ok(FormattedFields::new(alloc, settings));
+        }
+        Err(AllocError)
     }
 
     fn add_fields<R: RecordFields>(
@@ -46,12 +51,8 @@ type Tree = Layered<Layer<Starved, Format<Full, SystemTime>, Lines>, Registry>;
 
 // A layer that tells closes, over a registry.
 fn starved_tree(alloc: Global) -> Result<Tree, Fail> {
-    let lines = Lines {
-        alloc,
-        lines: Vec::new(alloc),
-    };
-    let layer = layer(alloc, OutputKey(1), lines)
-        .fmt_fields(Starved)
+    let layer = layer(alloc, OutputKey(1), Lines::new(alloc))
+        .fmt_fields(Starved { starts: true })
         .with_span_events(FmtSpan::CLOSE);
     let tree = layer.with_subscriber(Registry::new(alloc));
     Ok(tree.ok().ok_or("room")?)
@@ -60,16 +61,7 @@ fn starved_tree(alloc: Global) -> Result<Tree, Fail> {
 // Makes a span `request` with n = 7, and records the same once more.
 fn make_and_record<S: Subscriber>(tree: &mut S) -> Result<Id, Fail> {
     let fields = FieldSet::new(&NAMES, Identifier(1));
-    let metadata = Metadata::new(
-        "request",
-        "app",
-        Level::INFO,
-        None,
-        None,
-        None,
-        fields,
-        Kind::SPAN,
-    );
+    let metadata = span_metadata("request", fields);
     let values = [None, Some(AnyValue::U64(7))];
     let attributes = Attributes::new(&metadata, fields.value_set_all(&values));
     let span = tree.new_span(&attributes, PLACE)?.ok_or("a span")?;

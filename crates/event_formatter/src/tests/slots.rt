@@ -4,28 +4,17 @@ mod fields;
 mod memory;
 mod timings;
 
+use super::common::{PLAIN, STYLED, span_metadata};
 use event_formatter_lines::*;
-use event_formatter_text::{DefaultFields, FormatFields, JsonFields, Settings};
+use event_formatter_text::{DefaultFields, FormatFields, JsonFields};
 use span_registry_layers_layers::Context;
 use span_registry_layers_store::{FilterId, FilterMap, OutputKey, Registry, Slot, Tag};
 use std::alloc::Global;
 use std::test::Fail;
-use tracing_core_fields::{
-    AnyValue, Attributes, DebugText, FieldSet, Id, Identifier, Kind, Level, Metadata,
-};
+use tracing_core_fields::{AnyValue, Attributes, DebugText, FieldSet, Id, Identifier};
 use tracing_core_moments::At;
 
 const NAMES: [&str; 3] = ["message", "n", "d"];
-
-const PLAIN: Settings = Settings {
-    styles: false,
-    sanitizes: true,
-};
-
-const STYLED: Settings = Settings {
-    styles: true,
-    sanitizes: true,
-};
 
 const KEY: OutputKey = OutputKey(1);
 
@@ -45,16 +34,7 @@ fn refused_span(alloc: Global) -> Result<(Registry, Id, FilterId), Fail> {
     let mut registry = Registry::new(alloc);
     let filter = registry.register_filter().ok().ok_or("a filter")?;
     let fields = FieldSet::new(&NAMES, Identifier(1));
-    let metadata = Metadata::new(
-        "s",
-        "app",
-        Level::INFO,
-        None,
-        None,
-        None,
-        fields,
-        Kind::SPAN,
-    );
+    let metadata = span_metadata("s", fields);
     let attributes = Attributes::new(&metadata, metadata.fields().value_set_all(&[]));
     let passed = FilterMap::all().with(filter, false);
     let span = registry

@@ -1,40 +1,5 @@
 use super::*;
 use std::io::Write;
-use tracing_core_fields::{DebugText, Field, Visit};
-
-// Writes the names of fields as bytes.
-#[derive(Drop)]
-struct Names {
-    bytes: Vec<u8>,
-}
-
-impl Visit for Names {
-    ghost use Rattle.std.specs.Prelude.{⊤};
-
-    type Error = FormatError;
-
-    ghost shows = { λ _ _ _ _ _. ⊤ };
-
-    fn record_debug(
-        &mut self,
-        field: &Field<'_>,
-        _value: &DebugText<'_>,
-    ) -> Result<(), FormatError> {
-        self.bytes.extend_from_slice(field.name().as_bytes())?;
-        Ok(())
-    }
-}
-
-impl VisitWrite for Names {
-    ghost use Rattle.std.specs.Prelude.{⊤};
-
-    ghost appends_bytes = { λ _ _ _ _. ⊤ };
-
-    fn write_all(&mut self, bytes: &[u8]) -> Result<(), FormatError> {
-        self.bytes.extend_from_slice(bytes)?;
-        Ok(())
-    }
-}
 
 // The values of the visitors below.
 fn values() -> [Option<AnyValue<'static>>; 2] {
@@ -171,12 +136,8 @@ fn surface_usual_layers(rt: HostRuntime) -> Result<(), Fail> {
     let made = Layer::default(rt.alloc(), OutputKey(1), Refusing);
     assert!(rt; made.starved() == 0);
     let mut outputs = Vec::new(rt.alloc());
-    let lines = Lines {
-        alloc: rt.alloc(),
-        lines: Vec::new(rt.alloc()),
-    };
     let layer = made
-        .with_writer(lines)
+        .with_writer(Lines::new(rt.alloc()))
         .event_format(
             format(rt.alloc())
                 .with_timer(Timer::System(time()))

@@ -4,16 +4,12 @@ mod formatting;
 mod keeping;
 mod writing;
 
+use super::common::{ONE_AND_FAILING, PLAIN};
 use event_formatter_text::*;
 use std::alloc::Global;
 use tracing_core_fields::{AnyValue, DebugText, ErrorText, FieldSet, Identifier};
 
 const NAMES: [&str; 7] = ["message", "r#n", "d", "e", "wide", "yes", "raw"];
-
-const PLAIN: Settings = Settings {
-    styles: false,
-    sanitizes: true,
-};
 
 const STYLED: Settings = Settings {
     styles: true,

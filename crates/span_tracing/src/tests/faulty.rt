@@ -1,28 +1,16 @@
 // Folders that refuse, under a trace.
 
+use crate::tests::common::{MONDAY, TUESDAY, event_at, output_over, text_field};
 use crate::{
-    Builder, FaultyFolder, FieldValue, FileStack, FolderFault, InitContext, LineSettings,
-    MemoryFolder, Moment, OutputKey, OutputSpec, OwnedValue, Parent, Refusal, Reply, Rotation,
-    Route, SinkSpec, Timer, Trace, open_stack,
+    Builder, FaultyFolder, FileStack, FolderFault, InitContext, LineSettings, MemoryFolder, Moment,
+    OutputKey, Parent, Refusal, Reply, Rotation, Route, SinkSpec, Timer, Trace, open_stack,
 };
 use std::alloc::Global;
 use std::process::Abort;
 use std::test::Fail;
-use tracing_core_fields::{FieldSet, Identifier, Kind, Level, LevelFilter, Metadata};
+use tracing_core_fields::{FieldSet, Identifier, Level, LevelFilter};
 
 type Faulty = Trace<FileStack<LevelFilter, FaultyFolder>>;
-
-/// 2025-02-17T10:01:00Z.
-const MONDAY: Moment = Moment {
-    seconds: 1_739_786_460,
-    nanoseconds: 0,
-};
-
-/// 2025-02-18T00:00:00Z.
-const TUESDAY: Moment = Moment {
-    seconds: 1_739_836_800,
-    nanoseconds: 0,
-};
 
 /// 2025-02-18T12:00:00Z.
 const TUESDAY_NOON: Moment = Moment {
@@ -58,11 +46,7 @@ fn opened(
         level: false,
         ..LineSettings::full()
     };
-    let spec = OutputSpec::new(OutputKey(0), LevelFilter::INFO, lines, route, sinks).map_err(
-        |refused| refused.error,
-    )?;
-    let mut outputs = Vec::new(alloc);
-    outputs.push(spec).ok().ok_or("room")?;
+    let outputs = output_over(alloc, 0, lines, route, sinks)?;
     Ok(open_stack(alloc, outputs, MONDAY)?)
 }
 
@@ -78,17 +62,7 @@ fn trace_over(
     let stack = opened(alloc, route, sinks)?;
     trace.add_stack(stack).ok().ok_or("a handle")?;
     let names = FieldSet::new(&["message"], EVENT);
-    let event = Metadata::new(
-        "e",
-        "app",
-        Level::INFO,
-        None,
-        None,
-        None,
-        names,
-        Kind::EVENT,
-    );
-    trace.register(EVENT, &event)?;
+    trace.register(EVENT, &event_at("e", Level::INFO, names))?;
     assert_eq!(rt; trace.set_global_default(0), Reply::Done);
     Ok(trace)
 }
@@ -100,10 +74,7 @@ fn tell(
     moment: Moment,
     text: &str,
 ) -> Result<(), Fail> {
-    let message = FieldValue {
-        field: 0,
-        value: OwnedValue::Text(String::from_str(alloc, text)?),
-    };
+    let message = text_field(alloc, 0, text)?;
     let reply = trace.event(0, moment, EVENT, Parent::Contextual, &[message]);
     assert_eq!(rt; reply, Reply::Done);
     Ok(())
@@ -188,17 +159,7 @@ fn a_folder_that_opens_no_file_is_refused(rt: HostRuntime) -> Result<(), Fail> {
     let alloc = rt.alloc();
     let mut sinks = Vec::new(alloc);
     sinks.push(sink_of(alloc, &[1, 3])?).ok().ok_or("room")?;
-    let lines = LineSettings::full();
-    let spec = OutputSpec::new(
-        OutputKey(3),
-        LevelFilter::INFO,
-        lines,
-        Route::Sink(0),
-        sinks,
-    )
-    .map_err(|refused| refused.error)?;
-    let mut outputs = Vec::new(alloc);
-    outputs.push(spec).ok().ok_or("room")?;
+    let outputs = output_over(alloc, 3, LineSettings::full(), Route::Sink(0), sinks)?;
     match open_stack(alloc, outputs, MONDAY) {
         Ok(_) => Err("the folder opened a file".into()),
         Err(refused) => {

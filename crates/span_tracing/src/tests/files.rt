@@ -1,5 +1,6 @@
 //! Outputs that are refused, in the order in which refusals are told, and outputs whose files are opened.
 
+use crate::tests::common::{MONDAY, TOO_EARLY};
 use event_formatter::Fields;
 use event_formatter_text::Route;
 use span_registry_layers_store::OutputKey;
@@ -12,18 +13,6 @@ use tracing_core_fields::LevelFilter;
 use tracing_core_moments::Moment;
 
 type Outputs = Vec<OutputSpec<LevelFilter, MemoryFolder>>;
-
-/// 2025-02-17T10:01:00Z.
-const MONDAY: Moment = Moment {
-    seconds: 1_739_786_460,
-    nanoseconds: 0,
-};
-
-/// One second before the first moment.
-const TOO_EARLY: Moment = Moment {
-    seconds: -62_135_596_801,
-    nanoseconds: 0,
-};
 
 fn sinks_of(alloc: Global, prefixes: &[&str]) -> Result<Vec<SinkSpec<MemoryFolder>>, Fail> {
     let mut sinks = Vec::new(alloc);

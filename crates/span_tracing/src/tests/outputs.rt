@@ -1,17 +1,14 @@
 //! Lines that outputs keep until they are handed on.
 
-use event_formatter::{Fields, Format, Json, Layer, LineFormat, Timer};
-use event_formatter_lines::{FixedText, FmtSpan};
+use crate::tests::common::{Shown, event_at, output_in, span_at};
+use event_formatter::{Fields, Json, LineFormat};
 use event_formatter_text::MakeWriter;
-use span_registry_layers::{Output, Stack};
-use span_registry_layers_layers::Filtered;
-use span_registry_layers_store::OutputKey;
+use span_registry_layers::Stack;
 use span_tracing_outputs::*;
 use std::alloc::Global;
 use std::test::Fail;
 use tracing_core_fields::{
-    AnyValue, Attributes, Event, FieldSet, Id, Identifier, Kind, Level, LevelFilter, Metadata,
-    Subscriber,
+    AnyValue, Attributes, Event, FieldSet, Id, Identifier, Level, LevelFilter, Subscriber,
 };
 use tracing_core_moments::At;
 
@@ -23,32 +20,7 @@ const PLACE: At = At {
     nanoseconds: 0,
 };
 
-type Lined = Filtered<Layer<Fields, Format<LineFormat, Timer>, PendingLines>, LevelFilter>;
-
-// An output in this format, which tells the closes of spans too.
-fn output_in(
-    alloc: Global,
-    key: u32,
-    shape: LineFormat,
-    fields: Fields,
-    filter: LevelFilter,
-) -> Result<Output<Lined>, Fail> {
-    let time = FixedText::new(String::from_str(alloc, "fake time")?);
-    let format = Format::new(alloc)
-        .with_timer(Timer::Fixed(time))
-        .with_shape(shape);
-    let layer = Layer::new(alloc, OutputKey(key), PendingLines::new(alloc))
-        .without_time()
-        .event_format(format)
-        .fmt_fields(fields)
-        .with_span_events(FmtSpan::CLOSE);
-    Ok(Output {
-        key: OutputKey(key),
-        output: Filtered::new(layer, filter),
-    })
-}
-
-fn stack_of_two(alloc: Global) -> Result<Stack<Lined>, Fail> {
+fn stack_of_two(alloc: Global) -> Result<Stack<Shown>, Fail> {
     let mut outputs = Vec::new(alloc);
     let json = LineFormat::Json(Json::new());
     outputs
@@ -68,24 +40,24 @@ fn stack_of_two(alloc: Global) -> Result<Stack<Lined>, Fail> {
     Ok(Stack::new(alloc, outputs).ok().ok_or("a stack")?)
 }
 
-fn enter_span(stack: &mut Stack<Lined>, level: Level) -> Result<Id, Fail> {
+fn enter_span(stack: &mut Stack<Shown>, level: Level) -> Result<Id, Fail> {
     let fields = FieldSet::new(&NAMES, Identifier(1));
-    let metadata = Metadata::new("s", "app", level, None, None, None, fields, Kind::SPAN);
+    let metadata = span_at("s", level, fields);
     let attributes = Attributes::new(&metadata, fields.value_set_all(&[]));
     let span = stack.new_span(&attributes, PLACE)?.ok_or("a span")?;
     stack.enter(&span, PLACE)?;
     Ok(span)
 }
 
-fn tell(stack: &mut Stack<Lined>, level: Level, message: &str) -> Result<(), Fail> {
+fn tell(stack: &mut Stack<Shown>, level: Level, message: &str) -> Result<(), Fail> {
     let fields = FieldSet::new(&NAMES, Identifier(2));
-    let metadata = Metadata::new("e", "app", level, None, None, None, fields, Kind::EVENT);
+    let metadata = event_at("e", level, fields);
     let values = [Some(AnyValue::Str(message))];
     Ok(stack.event(&Event::new(&metadata, fields.value_set_all(&values)), PLACE)?)
 }
 
 // Whether an output keeps just these lines.
-fn keeps(stack: &Stack<Lined>, output: usize, lines: &[&str]) -> bool {
+fn keeps(stack: &Stack<Shown>, output: usize, lines: &[&str]) -> bool {
     let Some(output) = stack.output(output) else {
         return false;
     };
@@ -104,26 +76,8 @@ fn keeps(stack: &Stack<Lined>, output: usize, lines: &[&str]) -> bool {
 #[test]
 fn lines_are_kept_in_order_and_buffers_are_used_again(rt: HostRuntime) -> Result<(), Fail> {
     let fields = FieldSet::new(&NAMES, Identifier(1));
-    let warning = Metadata::new(
-        "w",
-        "app",
-        Level::WARN,
-        None,
-        None,
-        None,
-        fields,
-        Kind::EVENT,
-    );
-    let detail = Metadata::new(
-        "d",
-        "app",
-        Level::DEBUG,
-        None,
-        None,
-        None,
-        fields,
-        Kind::EVENT,
-    );
+    let warning = event_at("w", Level::WARN, fields);
+    let detail = event_at("d", Level::DEBUG, fields);
     let mut pending = PendingLines::new(rt.alloc());
     assert!(rt; pending.lines().is_empty());
     pending.write_for(&warning, b"first\n")?;
@@ -186,31 +140,13 @@ fn a_full_line_shows_json_fields(rt: HostRuntime) -> Result<(), Fail> {
     outputs.push(output).ok().ok_or("room")?;
     let mut stack = Stack::new(alloc, outputs).ok().ok_or("a stack")?;
     let own = FieldSet::new(&["x"], Identifier(1));
-    let metadata = Metadata::new(
-        "outer",
-        "app",
-        Level::INFO,
-        None,
-        None,
-        None,
-        own,
-        Kind::SPAN,
-    );
+    let metadata = span_at("outer", Level::INFO, own);
     let values = [Some(AnyValue::U64(42))];
     let attributes = Attributes::new(&metadata, own.value_set_all(&values));
     let span = stack.new_span(&attributes, PLACE)?.ok_or("a span")?;
     stack.enter(&span, PLACE)?;
     let fields = FieldSet::new(&["message", "n"], Identifier(2));
-    let metadata = Metadata::new(
-        "e",
-        "app",
-        Level::INFO,
-        None,
-        None,
-        None,
-        fields,
-        Kind::EVENT,
-    );
+    let metadata = event_at("e", Level::INFO, fields);
     let values = [Some(AnyValue::Str("hi")), Some(AnyValue::U64(3))];
     stack.event(&Event::new(&metadata, fields.value_set_all(&values)), PLACE)?;
     assert!(rt;
@@ -287,16 +223,7 @@ fn a_stack_with_sinks_hands_over_at_each_request(rt: HostRuntime) -> Result<(), 
         .ok()
         .ok_or("pairs")?;
     let fields = FieldSet::new(&NAMES, Identifier(1));
-    let metadata = Metadata::new(
-        "s",
-        "app",
-        Level::INFO,
-        None,
-        None,
-        None,
-        fields,
-        Kind::SPAN,
-    );
+    let metadata = span_at("s", Level::INFO, fields);
     let attributes = Attributes::new(&metadata, fields.value_set_all(&[]));
     let span = trace.new_span(&attributes, PLACE)?.ok_or("a span")?;
     trace.enter(&span, PLACE)?;

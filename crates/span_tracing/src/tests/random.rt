@@ -1,24 +1,18 @@
 // Random steps, each made by a trace and by the model.
 
+use crate::tests::common::{MONDAY, event_at, number_field, span_at, text_field};
 use crate::tests::model::{FILTERS, LANES, Model, OUTPUTS};
 use crate::{
-    FieldValue, Fields, FileStack, Filtered, FixedText, FmtSpan, Format, Json, Layer, LineFormat,
-    MemoryFolder, Moment, Output, OutputKey, OwnedValue, Parent, PendingLines, Pretty, Refusal,
-    Reply, RollingFileAppender, RollingSink, Rotation, RoutedSinks, SpanName, Stack, Timer, Trace,
-    TraceStack,
+    Fields, FileStack, Filtered, FixedText, FmtSpan, Format, Json, Layer, LineFormat, MemoryFolder,
+    Output, OutputKey, Parent, PendingLines, Pretty, Refusal, Reply, RollingFileAppender,
+    RollingSink, Rotation, RoutedSinks, SpanName, Stack, Timer, Trace, TraceStack,
 };
 use std::alloc::{AllocError, Global};
 use std::process::Abort;
 use std::test::Fail;
-use tracing_core_fields::{FieldSet, Id, Identifier, Kind, Level, LevelFilter, Metadata};
+use tracing_core_fields::{FieldSet, Id, Identifier, Level, LevelFilter};
 
 type Outputs = FileStack<LevelFilter, MemoryFolder>;
-
-/// 2025-02-17T10:01:00Z.
-const NOW: Moment = Moment {
-    seconds: 1_739_786_460,
-    nanoseconds: 0,
-};
 
 const LEVELS: [Level; 5] = [
     Level::ERROR,
@@ -101,7 +95,7 @@ fn stack_of_four(alloc: Global) -> Result<Outputs, Fail> {
             Rotation::NEVER,
             folder,
             prefix,
-            NOW,
+            MONDAY,
         ).map_err(|refusal| refusal.error)?;
         let sink = RoutedSinks::single(alloc, RollingSink::new(appender))?;
         sinks.push(sink).ok().ok_or("room")?;
@@ -115,11 +109,11 @@ fn register_all(trace: &mut Trace<Outputs>) -> Result<(), Fail> {
     for (place, level) in LEVELS.iter().enumerate() {
         let id = Identifier(place as u64);
         let names = FieldSet::new(&SPAN_FIELDS, id);
-        let span = Metadata::new("s", "app", *level, None, None, None, names, Kind::SPAN);
+        let span = span_at("s", *level, names);
         trace.register(id, &span)?;
         let id = Identifier(place as u64 + EVENTS);
         let names = FieldSet::new(&EVENT_FIELDS, id);
-        let event = Metadata::new("e", "app", *level, None, None, None, names, Kind::EVENT);
+        let event = event_at("e", *level, names);
         trace.register(id, &event)?;
     }
     Ok(())
@@ -137,13 +131,6 @@ fn trace_of_four(rt: &impl Abort, alloc: Global) -> Result<Trace<Outputs>, Fail>
     register_all(&mut trace)?;
     assert_eq!(rt; trace.set_global_default(0), Reply::Done);
     Ok(trace)
-}
-
-fn number(field: usize, value: u64) -> FieldValue {
-    FieldValue {
-        field,
-        value: OwnedValue::U64(value),
-    }
 }
 
 /// The span at a place of the model's list.
@@ -172,14 +159,10 @@ fn tell(
     let n = dice.roll(100);
     let site = level as u64;
     if dice.roll(2) == 0 {
-        let message = OwnedValue::Text(String::from_str(alloc, "m")?);
-        let message = FieldValue {
-            field: 0,
-            value: message,
-        };
-        let values = [message, number(1, n)];
+        let message = text_field(alloc, 0, "m")?;
+        let values = [message, number_field(1, n)];
         let callsite = Identifier(site + EVENTS);
-        let reply = trace.event(lane, NOW, callsite, Parent::Contextual, &values);
+        let reply = trace.event(lane, MONDAY, callsite, Parent::Contextual, &values);
         model.event(lane, level, n)?;
         return Ok((reply, Reply::Done));
     }
@@ -190,7 +173,13 @@ fn tell(
         Parent::Contextual
     };
     let wanted = named(model.count())?;
-    let reply = trace.new_span(lane, NOW, Identifier(site), parent, &[number(0, n)]);
+    let reply = trace.new_span(
+        lane,
+        MONDAY,
+        Identifier(site),
+        parent,
+        &[number_field(0, n)],
+    );
     let is_made = model.new_span(lane, level, n, is_root)?;
     Ok((
         reply,
@@ -209,19 +198,19 @@ fn call(
     let name = Some(named(span)?);
     Ok(match dice.roll(5) {
         0 | 1 => (
-            trace.enter(lane, NOW, name),
+            trace.enter(lane, MONDAY, name),
             done_if(model.enter(lane, span)?),
         ),
         2 => (
-            trace.exit(lane, NOW, name),
+            trace.exit(lane, MONDAY, name),
             done_if(model.exit(lane, span)?),
         ),
         3 => (
-            trace.clone_span(lane, NOW, name),
+            trace.clone_span(lane, MONDAY, name),
             done_if(model.clone_span(span)),
         ),
         _ => {
-            let reply = trace.try_close(lane, NOW, name);
+            let reply = trace.try_close(lane, MONDAY, name);
             let wanted = match model.try_close(span)? {
                 Some(is_closed) => Reply::Closed(is_closed),
                 None => Reply::Refused(Refusal::UnknownSpan),

@@ -1,23 +1,18 @@
 // One output: over a folder with an older file, and with styles.
 
+use crate::tests::common::{MONDAY, event_at, span_at, text_field};
 use crate::{
-    FieldValue, Fields, FileStack, Filtered, FixedText, Format, Layer, LineFormat, MemoryFolder,
-    Moment, Output, OutputKey, OwnedValue, Parent, PendingLines, Reply, RollingFileAppender,
-    RollingSink, Rotation, RoutedSinks, Stack, Timer, Trace, TraceStack,
+    Fields, FileStack, Filtered, FixedText, Format, Layer, LineFormat, MemoryFolder, Output,
+    OutputKey, Parent, PendingLines, Reply, RollingFileAppender, RollingSink, Rotation,
+    RoutedSinks, Stack, Timer, Trace, TraceStack,
 };
 use std::alloc::Global;
 use std::process::Abort;
 use std::test::Fail;
 use tracing_appender_rolling::Folder;
-use tracing_core_fields::{FieldSet, Identifier, Kind, Level, LevelFilter, Metadata};
+use tracing_core_fields::{FieldSet, Identifier, Level, LevelFilter};
 
 type Outputs = FileStack<LevelFilter, MemoryFolder>;
-
-/// 2025-02-17T10:01:00Z.
-const NOW: Moment = Moment {
-    seconds: 1_739_786_460,
-    nanoseconds: 0,
-};
 
 const SPAN: Identifier = Identifier(1);
 
@@ -46,7 +41,7 @@ fn trace_over(
         output: Filtered::new(layer, LevelFilter::INFO),
     };
     let prefix = String::from_str(alloc, "app")?;
-    let appender = RollingFileAppender::new(alloc, Rotation::DAILY, folder, prefix, NOW).map_err(
+    let appender = RollingFileAppender::new(alloc, Rotation::DAILY, folder, prefix, MONDAY).map_err(
         |refusal| refusal.error,
     )?;
     let outputs = vec![in alloc; output].ok().ok_or("room")?;
@@ -58,22 +53,16 @@ fn trace_over(
     trace.thread(None, 1)?;
     trace.add_stack(stack).ok().ok_or("a handle")?;
     let names = FieldSet::new(&[], SPAN);
-    let level = Level::INFO;
-    let span = Metadata::new("s", "app", level, None, None, None, names, Kind::SPAN);
-    trace.register(SPAN, &span)?;
+    trace.register(SPAN, &span_at("s", Level::INFO, names))?;
     let names = FieldSet::new(&["message"], EVENT);
-    let event = Metadata::new("e", "app", level, None, None, None, names, Kind::EVENT);
-    trace.register(EVENT, &event)?;
+    trace.register(EVENT, &event_at("e", Level::INFO, names))?;
     assert_eq!(rt; trace.set_global_default(0), Reply::Done);
     Ok(trace)
 }
 
 fn tell(rt: &impl Abort, alloc: Global, trace: &mut Trace<Outputs>) -> Result<(), Fail> {
-    let message = FieldValue {
-        field: 0,
-        value: OwnedValue::Text(String::from_str(alloc, "m")?),
-    };
-    let reply = trace.event(0, NOW, EVENT, Parent::Contextual, &[message]);
+    let message = text_field(alloc, 0, "m")?;
+    let reply = trace.event(0, MONDAY, EVENT, Parent::Contextual, &[message]);
     assert_eq!(rt; reply, Reply::Done);
     Ok(())
 }
@@ -107,10 +96,10 @@ fn lines_stand_behind_what_was_found(rt: HostRuntime) -> Result<(), Fail> {
 fn styles_stand_round_the_parts_of_a_line(rt: HostRuntime) -> Result<(), Fail> {
     let alloc = rt.alloc();
     let mut trace = trace_over(&rt, alloc, MemoryFolder::new(alloc), true)?;
-    let Reply::Span(Some(span)) = trace.new_span(0, NOW, SPAN, Parent::Root, &[]) else {
+    let Reply::Span(Some(span)) = trace.new_span(0, MONDAY, SPAN, Parent::Root, &[]) else {
         return Err("a span".into());
     };
-    assert_eq!(rt; trace.enter(0, NOW, Some(span)), Reply::Done);
+    assert_eq!(rt; trace.enter(0, MONDAY, Some(span)), Reply::Done);
     tell(&rt, alloc, &mut trace)?;
     has_text(
         &rt,

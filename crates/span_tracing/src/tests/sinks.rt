@@ -1,5 +1,6 @@
 //! Lines that a sink takes, over folders that keep them and folders that refuse them.
 
+use crate::tests::common::MONDAY;
 use span_tracing_outputs::{LineSink, RollingSink};
 use std::alloc::{AllocError, Global};
 use std::test::Fail;
@@ -8,13 +9,7 @@ use tracing_appender_rolling::{
     RollingFileAppender, Rotation,
 };
 use tracing_core_fields::Level;
-use tracing_core_moments::{At, Moment};
-
-/// 2025-02-17T10:01:00Z.
-const MONDAY: Moment = Moment {
-    seconds: 1_739_786_460,
-    nanoseconds: 0,
-};
+use tracing_core_moments::At;
 
 /// Half a second past the same second.
 const ON_MONDAY: At = At {

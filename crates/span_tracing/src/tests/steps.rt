@@ -9,6 +9,7 @@ mod refusing;
 mod setups;
 mod stepping;
 
+use crate::tests::common::{MONDAY, TOO_EARLY};
 use keeper::{Keeper, Told};
 use span_tracing_skeleton::{EnabledCall, FollowsCall, Parent, Refusal, Reply, SpanCall, SpanName};
 use span_tracing_steps::{RecordRequest, Request, TraceParts};
@@ -17,19 +18,6 @@ use std::test::Fail;
 use tracing_core_fields::{
     FieldSet, FieldValue, Id, Identifier, Kind, Level, Metadata, OwnedValue, RequestError,
     Subscriber,
-};
-use tracing_core_moments::Moment;
-
-/// 2025-02-17T10:01:00Z.
-const OPENED: Moment = Moment {
-    seconds: 1_739_786_460,
-    nanoseconds: 0,
-};
-
-/// One second before the first moment.
-const TOO_EARLY: Moment = Moment {
-    seconds: -62_135_596_801,
-    nanoseconds: 0,
 };
 
 /// Spans with two fields.
@@ -117,7 +105,7 @@ fn heard(parts: &TraceParts<Keeper>) -> Result<(u64, Told, u64), Fail> {
 fn request<'a>(callsite: u64, parent: Parent, values: &'a [FieldValue]) -> Request<'a> {
     Request {
         lane: 1,
-        moment: OPENED,
+        moment: MONDAY,
         callsite,
         parent,
         values,
@@ -127,7 +115,7 @@ fn request<'a>(callsite: u64, parent: Parent, values: &'a [FieldValue]) -> Reque
 fn call_on(span: Option<SpanName>) -> SpanCall {
     SpanCall {
         lane: 1,
-        moment: OPENED,
+        moment: MONDAY,
         span,
     }
 }

@@ -1,27 +1,18 @@
 //! Lines that show the threads of lanes.
 
 use crate::Trace;
+use crate::tests::common::{MONDAY, event_at, output_over, text_field};
 use event_formatter_text::Route;
-use span_registry_layers_store::OutputKey;
 use span_tracing_outputs::{
-    FileStack, LaneThread, LineSettings, OutputSpec, SinkSpec, open_stack_with_threads,
+    FileStack, LaneThread, LineSettings, SinkSpec, open_stack_with_threads,
 };
 use span_tracing_skeleton::{Parent, Reply};
 use std::alloc::Global;
 use std::test::Fail;
 use tracing_appender_rolling::{Builder, MemoryFolder};
-use tracing_core_fields::{
-    FieldSet, FieldValue, Identifier, Kind, Level, LevelFilter, Metadata, OwnedValue,
-};
-use tracing_core_moments::Moment;
+use tracing_core_fields::{FieldSet, Identifier, Level, LevelFilter};
 
 type ThreadTrace = Trace<FileStack<LevelFilter, MemoryFolder>>;
-
-/// 2025-02-17T10:01:00Z.
-const MONDAY: Moment = Moment {
-    seconds: 1_739_786_460,
-    nanoseconds: 0,
-};
 
 const HELLO: Identifier = Identifier(1);
 
@@ -35,16 +26,7 @@ fn trace_of(alloc: Global, lines: LineSettings) -> Result<ThreadTrace, Fail> {
         thread_ids: true,
         ..lines
     };
-    let spec = OutputSpec::new(
-        OutputKey(7),
-        LevelFilter::INFO,
-        lines,
-        Route::Sink(0),
-        sinks,
-    )
-    .map_err(|refused| refused.error)?;
-    let mut outputs = Vec::new(alloc);
-    outputs.push(spec).ok().ok_or("room")?;
+    let outputs = output_over(alloc, 7, lines, Route::Sink(0), sinks)?;
     let threads = [
         LaneThread {
             name: Some("main"),
@@ -72,17 +54,7 @@ fn is_done(reply: Reply) -> Result<(), Fail> {
 
 fn register(trace: &mut ThreadTrace) -> Result<(), Fail> {
     let fields = FieldSet::new(&["message"], HELLO);
-    let metadata = Metadata::new(
-        "event",
-        "app",
-        Level::INFO,
-        None,
-        None,
-        None,
-        fields,
-        Kind::EVENT,
-    );
-    let _interest = trace.register(HELLO, &metadata)?;
+    let _interest = trace.register(HELLO, &event_at("event", Level::INFO, fields))?;
     Ok(())
 }
 
@@ -90,10 +62,7 @@ fn register(trace: &mut ThreadTrace) -> Result<(), Fail> {
 fn text_after_events(alloc: Global, lines: LineSettings) -> Result<String, Fail> {
     let mut trace = trace_of(alloc, lines)?;
     for lane in 0..3 {
-        let message = FieldValue {
-            field: 0,
-            value: OwnedValue::Text(String::from_str(alloc, "hello")?),
-        };
+        let message = text_field(alloc, 0, "hello")?;
         is_done(trace.event(lane, MONDAY, HELLO, Parent::Contextual, &[message]))?;
     }
     let sink = trace.sink(0, 0).ok_or("a sink")?;

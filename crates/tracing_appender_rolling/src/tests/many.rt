@@ -1,6 +1,7 @@
 //! Retention where many files lie in the folder.
 
 use crate::folders::{Entry, FileNumber, Folder, FolderError, MemoryFolder};
+use crate::tests::making::named;
 use crate::tests::moments::{FEBRUARY, MONDAY};
 use crate::{Builder, Rotation};
 use std::alloc::{AllocError, Global};
@@ -88,13 +89,7 @@ impl Folder for CrowdedFolder {
 }
 
 fn five_kept(alloc: Global) -> Result<Builder, AllocError> {
-    let prefix = String::from_str(alloc, "app")?;
-    Ok(
-        Builder::new()
-            .rotation(Rotation::DAILY)
-            .filename_prefix(prefix)
-            .max_log_files(5),
-    )
+    Ok(named(alloc, Rotation::DAILY, "app", "")?.max_log_files(5))
 }
 
 /// The work on so many candidates is a sort. Each compared with each would outlast the time that a test has.

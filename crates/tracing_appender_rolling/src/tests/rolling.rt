@@ -6,11 +6,14 @@ ghost use Rattle.tracing_core_moments.specs.Moments.{is_moment};
 mod refused_calls;
 
 use crate::folders::MemoryFolder;
+use crate::tests::making::{first_name, fresh, holds, linked, named};
 use crate::tests::moments::{ELEVEN, FEBRUARY, FIRST, LAST, MONDAY};
 use crate::{
-    BuildError, Builder, RollingFileAppender, Rotation, daily, hourly, minutely, never, weekly,
+    BuildError, BuildRefusal, Builder, RollingFileAppender, Rotation, daily, hourly, minutely,
+    never, weekly,
 };
-use std::alloc::{AllocError, Global};
+use std::alloc::Global;
+use std::process::Abort;
 use std::test::Fail;
 use tracing_core_moments::Moment;
 
@@ -24,156 +27,88 @@ fn later(seconds: i64) -> Result<Moment, Fail>
     }
 }
 
-fn named(
+/// Each rotation, with a prefix and a suffix, gives a fresh file the name in its row.
+fn have_names(
+    rt: &impl Abort,
     alloc: Global,
-    rotation: Rotation,
-    prefix: &str,
-    suffix: &str,
-) -> Result<Builder, AllocError> {
-    let prefix = String::from_str(alloc, prefix)?;
-    let suffix = String::from_str(alloc, suffix)?;
-    Ok(
-        Builder::new()
-            .rotation(rotation)
-            .filename_prefix(prefix)
-            .filename_suffix(suffix),
-    )
-}
-
-/// The name of the only file of a fresh appender.
-fn first_name(alloc: Global, builder: Builder, moment: Moment) -> Result<String, Fail>
+    moment: Moment,
+    rows: &[(Rotation, &str, &str, &str)],
+) -> Result<(), Fail>
     requires { is_moment moment ≡ true }
 {
-    let appender = builder
-        .build(alloc, MemoryFolder::new(alloc), moment)
-        .map_err(|refusal| refusal.error)?;
-    let entries = appender.folder().files()?;
-    let entry = entries.first().ok_or("no file")?;
-    Ok(String::from_str(alloc, entry.name)?)
-}
-
-/// Whether the folder has the file with these bytes.
-fn holds(folder: &MemoryFolder, name: &str, bytes: &[u8]) -> Result<bool, AllocError> {
-    let entries = folder.files()?;
-    Ok(
-        entries
-            .iter()
-            .any(|entry| entry.name == name && entry.bytes == bytes),
-    )
+    for (rotation, prefix, suffix, name) in rows {
+        let file = first_name(alloc, named(alloc, *rotation, prefix, suffix)?, moment)?;
+        assert_eq!(rt; file.as_str(), *name);
+    }
+    Ok(())
 }
 
 #[test]
 fn all_rotations_have_names(rt: HostRuntime) -> Result<(), Fail> {
     let alloc = rt.alloc();
-    let week = first_name(
-        alloc,
-        named(alloc, Rotation::WEEKLY, "my_prefix", "log")?,
-        MONDAY,
-    )?;
-    assert_eq!(rt; week.as_str(), "my_prefix.2025-02-16.log");
-    let hour = first_name(
-        alloc,
-        named(alloc, Rotation::HOURLY, "my_prefix", "log")?,
-        MONDAY,
-    )?;
-    assert_eq!(rt; hour.as_str(), "my_prefix.2025-02-17-10.log");
-    let minute = first_name(
-        alloc,
-        named(alloc, Rotation::MINUTELY, "my_prefix", "log")?,
-        MONDAY,
-    )?;
-    assert_eq!(rt; minute.as_str(), "my_prefix.2025-02-17-10-01.log");
-    let lasting = first_name(
-        alloc,
-        named(alloc, Rotation::NEVER, "my_prefix", "log")?,
-        MONDAY,
-    )?;
-    assert_eq!(rt; lasting.as_str(), "my_prefix.log");
+    let rows = [
+        (
+            Rotation::WEEKLY,
+            "my_prefix",
+            "log",
+            "my_prefix.2025-02-16.log",
+        ),
+        (
+            Rotation::HOURLY,
+            "my_prefix",
+            "log",
+            "my_prefix.2025-02-17-10.log",
+        ),
+        (
+            Rotation::MINUTELY,
+            "my_prefix",
+            "log",
+            "my_prefix.2025-02-17-10-01.log",
+        ),
+        (Rotation::NEVER, "my_prefix", "log", "my_prefix.log"),
+    ];
+    have_names(&rt, alloc, MONDAY, &rows)?;
     let alone = first_name(alloc, Builder::default(), MONDAY)?;
     assert_eq!(rt; alone.as_str(), "2025-02-17");
-    let prefix = first_name(
-        alloc,
-        named(alloc, Rotation::NEVER, "app.log", "")?,
-        FEBRUARY,
-    )?;
-    assert_eq!(rt; prefix.as_str(), "app.log");
-    let suffix = first_name(alloc, named(alloc, Rotation::NEVER, "", "log")?, FEBRUARY)?;
-    assert_eq!(rt; suffix.as_str(), "log");
-    Ok(())
+    let halves = [
+        (Rotation::NEVER, "app.log", "", "app.log"),
+        (Rotation::NEVER, "", "log", "log"),
+    ];
+    have_names(&rt, alloc, FEBRUARY, &halves)
 }
 
 #[test]
 fn a_prefix_or_a_suffix_stands_alone(rt: HostRuntime) -> Result<(), Fail> {
-    let alloc = rt.alloc();
-    let prefix = first_name(
-        alloc,
-        named(alloc, Rotation::DAILY, "my_prefix", "")?,
-        MONDAY,
-    )?;
-    assert_eq!(rt; prefix.as_str(), "my_prefix.2025-02-17");
-    let suffix = first_name(alloc, named(alloc, Rotation::DAILY, "", "log")?, MONDAY)?;
-    assert_eq!(rt; suffix.as_str(), "2025-02-17.log");
-    let minute = first_name(alloc, named(alloc, Rotation::MINUTELY, "", "log")?, MONDAY)?;
-    assert_eq!(rt; minute.as_str(), "2025-02-17-10-01.log");
-    Ok(())
-}
-
-/// The names of a fresh file of each rotation but the weekly one, on 2020-02-01 at 10:01.
-fn has_names(alloc: Global, prefix: &str, suffix: &str, names: [&str; 4]) -> Result<bool, Fail> {
-    let [minute, hour, day, whole] = names;
-    let by_minute = first_name(
-        alloc,
-        named(alloc, Rotation::MINUTELY, prefix, suffix)?,
-        FEBRUARY,
-    )?;
-    let by_hour = first_name(
-        alloc,
-        named(alloc, Rotation::HOURLY, prefix, suffix)?,
-        FEBRUARY,
-    )?;
-    let by_day = first_name(
-        alloc,
-        named(alloc, Rotation::DAILY, prefix, suffix)?,
-        FEBRUARY,
-    )?;
-    let lasting = first_name(
-        alloc,
-        named(alloc, Rotation::NEVER, prefix, suffix)?,
-        FEBRUARY,
-    )?;
-    Ok(
-        by_minute.as_str() == minute
-            && by_hour.as_str() == hour
-            && by_day.as_str() == day
-            && lasting.as_str() == whole,
-    )
+    let rows = [
+        (Rotation::DAILY, "my_prefix", "", "my_prefix.2025-02-17"),
+        (Rotation::DAILY, "", "log", "2025-02-17.log"),
+        (Rotation::MINUTELY, "", "log", "2025-02-17-10-01.log"),
+    ];
+    have_names(&rt, rt.alloc(), MONDAY, &rows)
 }
 
 #[test]
 fn each_rotation_names_its_file(rt: HostRuntime) -> Result<(), Fail> {
-    let alloc = rt.alloc();
-    let prefixed = [
-        "app.log.2020-02-01-10-01",
-        "app.log.2020-02-01-10",
-        "app.log.2020-02-01",
-        "app.log",
+    let rows = [
+        (
+            Rotation::MINUTELY,
+            "app.log",
+            "",
+            "app.log.2020-02-01-10-01",
+        ),
+        (Rotation::HOURLY, "app.log", "", "app.log.2020-02-01-10"),
+        (Rotation::DAILY, "app.log", "", "app.log.2020-02-01"),
+        (Rotation::NEVER, "app.log", "", "app.log"),
+        (Rotation::MINUTELY, "", "log", "2020-02-01-10-01.log"),
+        (Rotation::HOURLY, "", "log", "2020-02-01-10.log"),
+        (Rotation::DAILY, "", "log", "2020-02-01.log"),
+        (Rotation::NEVER, "", "log", "log"),
+        (Rotation::MINUTELY, "app", "log", "app.2020-02-01-10-01.log"),
+        (Rotation::HOURLY, "app", "log", "app.2020-02-01-10.log"),
+        (Rotation::DAILY, "app", "log", "app.2020-02-01.log"),
+        (Rotation::NEVER, "app", "log", "app.log"),
     ];
-    assert!(rt; has_names(alloc, "app.log", "", prefixed)?);
-    let suffixed = [
-        "2020-02-01-10-01.log",
-        "2020-02-01-10.log",
-        "2020-02-01.log",
-        "log",
-    ];
-    assert!(rt; has_names(alloc, "", "log", suffixed)?);
-    let both = [
-        "app.2020-02-01-10-01.log",
-        "app.2020-02-01-10.log",
-        "app.2020-02-01.log",
-        "app.log",
-    ];
-    assert!(rt; has_names(alloc, "app", "log", both)?);
-    Ok(())
+    have_names(&rt, rt.alloc(), FEBRUARY, &rows)
 }
 
 #[test]
@@ -184,8 +119,7 @@ fn a_builder_starts_without_a_link(rt: HostRuntime) -> Result<(), Fail> {
     assert!(rt; !builder.has_bad_link());
     let name = first_name(alloc, builder, MONDAY)?;
     assert_eq!(rt; name.as_str(), "2025-02-17");
-    let link = String::from_str(alloc, "p.2020-02-01-10")?;
-    let hour = named(alloc, Rotation::HOURLY, "p", "")?.latest_symlink(link);
+    let hour = linked(alloc, Rotation::HOURLY, "p", "", "p.2020-02-01-10")?;
     assert!(rt; hour.has_bad_link());
     let day = hour.rotation(Rotation::DAILY);
     assert!(rt; !day.has_bad_link());
@@ -195,24 +129,28 @@ fn a_builder_starts_without_a_link(rt: HostRuntime) -> Result<(), Fail> {
 #[test]
 fn names_at_both_ends(rt: HostRuntime) -> Result<(), Fail> {
     let alloc = rt.alloc();
-    let day = first_name(
-        alloc,
-        named(alloc, Rotation::DAILY, "my_prefix", "log")?,
-        FIRST,
-    )?;
-    assert_eq!(rt; day.as_str(), "my_prefix.0001-01-01.log");
-    let last = first_name(
-        alloc,
-        named(alloc, Rotation::DAILY, "my_prefix", "log")?,
-        LAST,
-    )?;
-    assert_eq!(rt; last.as_str(), "my_prefix.9998-12-31.log");
-    let week = first_name(
-        alloc,
-        named(alloc, Rotation::WEEKLY, "my_prefix", "log")?,
-        FIRST,
-    )?;
-    assert_eq!(rt; week.as_str(), "my_prefix.0000-12-31.log");
+    let first = [
+        (
+            Rotation::DAILY,
+            "my_prefix",
+            "log",
+            "my_prefix.0001-01-01.log",
+        ),
+        (
+            Rotation::WEEKLY,
+            "my_prefix",
+            "log",
+            "my_prefix.0000-12-31.log",
+        ),
+    ];
+    have_names(&rt, alloc, FIRST, &first)?;
+    let last = [(
+        Rotation::DAILY,
+        "my_prefix",
+        "log",
+        "my_prefix.9998-12-31.log",
+    )];
+    have_names(&rt, alloc, LAST, &last)?;
     assert_eq!(rt; Rotation::DAILY.next_date(LAST), Some(253_370_764_800));
     assert_eq!(rt; Rotation::WEEKLY.round_date(MONDAY), Some(1_739_664_000));
     assert_eq!(rt; Rotation::HOURLY.period_start(MONDAY), Some(1_739_786_400));
@@ -222,33 +160,31 @@ fn names_at_both_ends(rt: HostRuntime) -> Result<(), Fail> {
     Ok(())
 }
 
+/// Whether a line goes to the file with the name, of an appender with the prefix `p.log`.
+fn writes_to(
+    made: Result<RollingFileAppender<MemoryFolder>, BuildRefusal<MemoryFolder>>,
+    name: &str,
+) -> Result<bool, Fail> {
+    let mut appender = made.map_err(|refusal| refusal.error)?;
+    appender.write_all_at(b"Hello", FEBRUARY)?;
+    Ok(holds(appender.folder(), name, b"Hello")?)
+}
+
 #[test]
 fn each_rotation_writes_one_file(rt: HostRuntime) -> Result<(), Fail> {
     let alloc = rt.alloc();
     let prefix = String::from_str(alloc, "p.log")?;
-    let mut appender = minutely(alloc, MemoryFolder::new(alloc), prefix, FEBRUARY).map_err(
-        |refusal| refusal.error,
-    )?;
-    appender.write_all_at(b"Hello", FEBRUARY)?;
-    assert!(rt; holds(appender.folder(), "p.log.2020-02-01-10-01", b"Hello")?);
+    let by_minute = minutely(alloc, MemoryFolder::new(alloc), prefix, FEBRUARY);
+    assert!(rt; writes_to(by_minute, "p.log.2020-02-01-10-01")?);
     let prefix = String::from_str(alloc, "p.log")?;
-    let mut appender = hourly(alloc, MemoryFolder::new(alloc), prefix, FEBRUARY).map_err(
-        |refusal| refusal.error,
-    )?;
-    appender.write_all_at(b"Hello", FEBRUARY)?;
-    assert!(rt; holds(appender.folder(), "p.log.2020-02-01-10", b"Hello")?);
+    let by_hour = hourly(alloc, MemoryFolder::new(alloc), prefix, FEBRUARY);
+    assert!(rt; writes_to(by_hour, "p.log.2020-02-01-10")?);
     let prefix = String::from_str(alloc, "p.log")?;
-    let mut appender = daily(alloc, MemoryFolder::new(alloc), prefix, FEBRUARY).map_err(
-        |refusal| refusal.error,
-    )?;
-    appender.write_all_at(b"Hello", FEBRUARY)?;
-    assert!(rt; holds(appender.folder(), "p.log.2020-02-01", b"Hello")?);
+    let by_day = daily(alloc, MemoryFolder::new(alloc), prefix, FEBRUARY);
+    assert!(rt; writes_to(by_day, "p.log.2020-02-01")?);
     let prefix = String::from_str(alloc, "p.log")?;
-    let mut appender = weekly(alloc, MemoryFolder::new(alloc), prefix, FEBRUARY).map_err(
-        |refusal| refusal.error,
-    )?;
-    appender.write_all_at(b"Hello", FEBRUARY)?;
-    assert!(rt; holds(appender.folder(), "p.log.2020-01-26", b"Hello")?);
+    let by_week = weekly(alloc, MemoryFolder::new(alloc), prefix, FEBRUARY);
+    assert!(rt; writes_to(by_week, "p.log.2020-01-26")?);
     let prefix = String::from_str(alloc, "p.log")?;
     let mut appender = never(alloc, MemoryFolder::new(alloc), prefix, FEBRUARY).map_err(
         |refusal| refusal.error,
@@ -264,10 +200,8 @@ fn each_rotation_writes_one_file(rt: HostRuntime) -> Result<(), Fail> {
 #[test]
 fn old_files_go(rt: HostRuntime) -> Result<(), Fail> {
     let alloc = rt.alloc();
-    let mut appender = named(alloc, Rotation::HOURLY, "t", "")?
-        .max_log_files(2)
-        .build(alloc, MemoryFolder::new(alloc), FEBRUARY)
-        .map_err(|refusal| refusal.error)?;
+    let builder = named(alloc, Rotation::HOURLY, "t", "")?.max_log_files(2);
+    let mut appender = fresh(alloc, builder, FEBRUARY)?;
     appender.write_all_at(b"a", later(1)?)?;
     appender.write_all_at(b"b", later(3_601)?)?;
     appender.write_all_at(b"c", later(7_202)?)?;
@@ -307,11 +241,8 @@ fn candidates_count_from_their_making(rt: HostRuntime) -> Result<(), Fail> {
 #[test]
 fn a_link_leads_to_the_latest_file(rt: HostRuntime) -> Result<(), Fail> {
     let alloc = rt.alloc();
-    let link = String::from_str(alloc, "latest.log")?;
-    let mut appender = named(alloc, Rotation::HOURLY, "t", "")?
-        .latest_symlink(link)
-        .build(alloc, MemoryFolder::new(alloc), FEBRUARY)
-        .map_err(|refusal| refusal.error)?;
+    let builder = linked(alloc, Rotation::HOURLY, "t", "", "latest.log")?;
+    let mut appender = fresh(alloc, builder, FEBRUARY)?;
     assert_eq!(rt;
         appender.folder().link_target("latest.log"),
         Some("t.2020-02-01-10")
@@ -335,11 +266,8 @@ fn a_link_leads_to_the_latest_file(rt: HostRuntime) -> Result<(), Fail> {
 #[test]
 fn a_link_moves_in_the_next_hour(rt: HostRuntime) -> Result<(), Fail> {
     let alloc = rt.alloc();
-    let link = String::from_str(alloc, "latest.log")?;
-    let mut appender = named(alloc, Rotation::HOURLY, "t", "")?
-        .latest_symlink(link)
-        .build(alloc, MemoryFolder::new(alloc), FEBRUARY)
-        .map_err(|refusal| refusal.error)?;
+    let builder = linked(alloc, Rotation::HOURLY, "t", "", "latest.log")?;
+    let mut appender = fresh(alloc, builder, FEBRUARY)?;
     appender.write_all_at(b"late\n", ELEVEN)?;
     assert_eq!(rt;
         appender.folder().link_target("latest.log"),
@@ -367,20 +295,30 @@ fn bad_names_and_links_are_refused(rt: HostRuntime) -> Result<(), Fail> {
     assert_eq!(rt; refusal(alloc, dots), Some(BuildError::BadName));
     let dots = named(alloc, Rotation::DAILY, "..", "")?;
     assert_eq!(rt; refusal(alloc, dots), None);
-    let link = String::from_str(alloc, ".")?;
-    let dot = named(alloc, Rotation::HOURLY, "p", "")?.latest_symlink(link);
-    assert_eq!(rt; refusal(alloc, dot), Some(BuildError::BadName));
-    let link = String::from_str(alloc, "p.2020-02-01-10")?;
-    let hour = named(alloc, Rotation::HOURLY, "p", "")?.latest_symlink(link);
-    assert_eq!(rt; refusal(alloc, hour), Some(BuildError::BadLinkName));
-    let link = String::from_str(alloc, "p.2025-02-16")?;
-    let sunday = named(alloc, Rotation::WEEKLY, "p", "")?.latest_symlink(link);
-    assert_eq!(rt; refusal(alloc, sunday), Some(BuildError::BadLinkName));
-    let link = String::from_str(alloc, "p.2025-02-17")?;
-    let monday = named(alloc, Rotation::WEEKLY, "p", "")?.latest_symlink(link);
-    assert_eq!(rt; refusal(alloc, monday), None);
-    let link = String::from_str(alloc, "p.log")?;
-    let lasting = named(alloc, Rotation::NEVER, "p", "log")?.latest_symlink(link);
-    assert_eq!(rt; refusal(alloc, lasting), Some(BuildError::BadLinkName));
+    for (rotation, suffix, link, refused) in [
+        (Rotation::HOURLY, "", ".", Some(BuildError::BadName)),
+        (
+            Rotation::HOURLY,
+            "",
+            "p.2020-02-01-10",
+            Some(BuildError::BadLinkName),
+        ),
+        (
+            Rotation::WEEKLY,
+            "",
+            "p.2025-02-16",
+            Some(BuildError::BadLinkName),
+        ),
+        (Rotation::WEEKLY, "", "p.2025-02-17", None),
+        (
+            Rotation::NEVER,
+            "log",
+            "p.log",
+            Some(BuildError::BadLinkName),
+        ),
+    ] {
+        let builder = linked(alloc, rotation, "p", suffix, link)?;
+        assert_eq!(rt; refusal(alloc, builder), refused, "of {link}");
+    }
     Ok(())
 }

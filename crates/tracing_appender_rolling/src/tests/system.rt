@@ -4,6 +4,7 @@ ghost use Rattle.std.specs.Prelude.{◌≡◌, true};
 ghost use Rattle.tracing_core_moments.specs.Moments.{is_moment};
 
 use crate::folders::{DiskFolder, Folder, FolderFault};
+use crate::tests::making::named;
 use crate::tests::moments::{ELEVEN, FEBRUARY, NOON};
 use crate::{BuildError, Builder, InitContext, InitError, Rotation};
 use std::alloc::{AllocError, Global};
@@ -13,13 +14,7 @@ use tracing_core_moments::Moment;
 
 /// Hourly files with the prefix `t`, at most two.
 fn hourly_files(alloc: Global) -> Result<Builder, AllocError> {
-    let prefix = String::from_str(alloc, "t")?;
-    Ok(
-        Builder::new()
-            .rotation(Rotation::HOURLY)
-            .filename_prefix(prefix)
-            .max_log_files(2),
-    )
+    Ok(named(alloc, Rotation::HOURLY, "t", "")?.max_log_files(2))
 }
 
 #[test]

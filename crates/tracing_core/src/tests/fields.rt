@@ -190,19 +190,16 @@ fn values_are_counted(rt: HostRuntime) -> Result<(), Fail> {
     Ok(())
 }
 
+// What is known of an event or a span in a file.
+fn placed<'a>(set: FieldSet<'a>, kind: Kind) -> Metadata<'a> {
+    let (level, file, line) = (Level::WARN, Some("main.rs"), Some(4));
+    Metadata::new("event", "app", level, file, line, None, set, kind)
+}
+
 #[test]
 fn metadata_keeps_its_parts(rt: HostRuntime) {
     let set = FieldSet::new(&NAMES, Identifier(7));
-    let event = Metadata::new(
-        "event",
-        "app",
-        Level::WARN,
-        Some("main.rs"),
-        Some(4),
-        None,
-        set,
-        Kind::EVENT,
-    );
+    let event = placed(set, Kind::EVENT);
     assert_eq!(rt;
         (event.name(), event.target(), *event.level()),
         ("event", "app", Level::WARN)
@@ -216,16 +213,7 @@ fn metadata_keeps_its_parts(rt: HostRuntime) {
         (Identifier(7), 3)
     );
     assert!(rt; event.is_event() && !event.is_span());
-    let span = Metadata::new(
-        "event",
-        "app",
-        Level::WARN,
-        Some("main.rs"),
-        Some(4),
-        None,
-        set,
-        Kind::SPAN,
-    );
+    let span = placed(set, Kind::SPAN);
     assert!(rt; event == event && event != span && span.is_span());
 }
 

@@ -3,12 +3,8 @@ use event_formatter_lines::{FormatTime, SystemTime, Uptime};
 
 // The line of an event with a place in the source, outside of all spans.
 fn placed_line<F: FormatEvent>(alloc: Global, format: &mut F) -> Result<String, Fail> {
-    let mut registry = Registry::new(alloc);
     let metadata = event_metadata(Some("src/a.rs"), Some(7));
-    let values = only_m();
-    let event = Event::new(&metadata, metadata.fields().value_set_all(&values));
-    let context = Context::new(&mut registry, AT, None);
-    line_in(alloc, &context, format, Fields::Default, MAIN, &event)
+    line_outside(alloc, format, &metadata, MAIN)
 }
 
 #[test]

@@ -27,13 +27,7 @@ impl FormatEvent for Targets {
 #[test]
 fn a_format_of_ones_own(rt: HostRuntime) -> Result<(), Fail> {
     let mut registry = Registry::new(rt.alloc());
-    let line = line_of(
-        rt.alloc(),
-        &mut registry,
-        &mut Targets,
-        Fields::Default,
-        &only_m(),
-    )?;
+    let line = line_of_m(rt.alloc(), &mut registry, &mut Targets)?;
     assert_eq!(rt; line.as_str(), "app\n");
     Ok(())
 }
@@ -42,13 +36,7 @@ fn a_format_of_ones_own(rt: HostRuntime) -> Result<(), Fail> {
 fn a_default_format(rt: HostRuntime) -> Result<(), Fail> {
     let mut registry = Registry::new(rt.alloc());
     let mut format = Format::default(rt.alloc()).with_timer(fake_time(rt.alloc())?);
-    let line = line_of(
-        rt.alloc(),
-        &mut registry,
-        &mut format,
-        Fields::Default,
-        &only_m(),
-    )?;
+    let line = line_of_m(rt.alloc(), &mut registry, &mut format)?;
     assert_eq!(rt; line.as_str(), "fake time  INFO app: m\n");
     Ok(())
 }

@@ -2,17 +2,17 @@ use super::*;
 
 // A registry whose lane is in a span without fields.
 fn in_s(alloc: Global) -> Result<Registry, Fail> {
-    let mut registry = Registry::new(alloc);
-    enter_span(
-        alloc,
-        &mut registry,
-        FilterMap::all(),
-        "s",
-        Fields::Default,
-        &[],
-        &[],
-    )?;
-    Ok(registry)
+    in_span(alloc, "s", Fields::Default, &[], &[])
+}
+
+// Enters a span without fields in the lane's one.
+fn enter_bare(
+    alloc: Global,
+    registry: &mut Registry,
+    passed: FilterMap,
+    name: &str,
+) -> Result<Id, Fail> {
+    enter_span(alloc, registry, passed, name, Fields::Default, &[], &[])
 }
 
 #[test]
@@ -23,9 +23,7 @@ fn root_event_in_an_entered_span(rt: HostRuntime) -> Result<(), Fail> {
     let values = only_m();
     let event = Event::new_child_of(None, &metadata, metadata.fields().value_set_all(&values));
     let context = Context::new(&mut registry, AT, None);
-    let mut full = Format::new(alloc)
-        .with_timer(fake_time(alloc)?)
-        .with_level(false);
+    let mut full = timed(alloc)?.with_level(false);
     let line = line_in(alloc, &context, &mut full, Fields::Default, MAIN, &event)?;
     assert_eq!(rt; line.as_str(), "fake time app: m\n");
     let mut compact = full.compact();
@@ -40,15 +38,7 @@ fn parent_that_the_filter_refused(rt: HostRuntime) -> Result<(), Fail> {
     let mut registry = in_s(alloc)?;
     let filter = registry.register_filter().ok().ok_or("a filter")?;
     let passed = FilterMap::all().with(filter, false);
-    let refused = enter_span(
-        alloc,
-        &mut registry,
-        passed,
-        "refused",
-        Fields::Default,
-        &[],
-        &[],
-    )?;
+    let refused = enter_bare(alloc, &mut registry, passed, "refused")?;
     let metadata = event_metadata(None, None);
     let values = only_m();
     let set = metadata.fields().value_set_all(&values);
@@ -71,16 +61,8 @@ fn parent_that_the_filter_refused(rt: HostRuntime) -> Result<(), Fail> {
 #[test]
 fn line_with_styles(rt: HostRuntime) -> Result<(), Fail> {
     let mut registry = in_s(rt.alloc())?;
-    let mut format = Format::new(rt.alloc())
-        .with_timer(fake_time(rt.alloc())?)
-        .with_ansi(true);
-    let line = line_of(
-        rt.alloc(),
-        &mut registry,
-        &mut format,
-        Fields::Default,
-        &only_m(),
-    )?;
+    let mut format = timed(rt.alloc())?.with_ansi(true);
+    let line = line_of_m(rt.alloc(), &mut registry, &mut format)?;
     assert_eq!(rt;
         line.as_str(),
         "\u{1b}[2mfake time\u{1b}[0m \u{1b}[32m INFO\u{1b}[0m \u{1b}[1ms\u{1b}[0m\u{1b}[2m:\u{1b}[0m \
@@ -93,15 +75,7 @@ fn line_with_styles(rt: HostRuntime) -> Result<(), Fail> {
 fn spans_of_an_event(rt: HostRuntime) -> Result<(), Fail> {
     let alloc = rt.alloc();
     let mut registry = in_s(alloc)?;
-    let leaf = enter_span(
-        alloc,
-        &mut registry,
-        FilterMap::all(),
-        "leaf",
-        Fields::Default,
-        &[],
-        &[],
-    )?;
+    let leaf = enter_bare(alloc, &mut registry, FilterMap::all(), "leaf")?;
     let metadata = event_metadata(None, None);
     let event = Event::new(&metadata, metadata.fields().value_set_all(&[]));
     let context = Context::new(&mut registry, AT, None);

@@ -12,12 +12,7 @@ fn line_on<F: FormatEvent>(
     format: &mut F,
     thread: CurrentThread<'_>,
 ) -> Result<String, Fail> {
-    let mut registry = Registry::new(alloc);
-    let metadata = event_metadata(None, None);
-    let values = only_m();
-    let event = Event::new(&metadata, metadata.fields().value_set_all(&values));
-    let context = Context::new(&mut registry, AT, None);
-    line_in(alloc, &context, format, Fields::Default, thread, &event)
+    line_outside(alloc, format, &event_metadata(None, None), thread)
 }
 
 #[test]

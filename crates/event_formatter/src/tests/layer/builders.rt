@@ -34,9 +34,9 @@ fn formatters_of_fields_are_taken(rt: HostRuntime) -> Result<(), Fail> {
 fn makers_are_taken(rt: HostRuntime) -> Result<(), Fail> {
     let alloc = rt.alloc();
     assert!(rt; !writes(alloc, refused(alloc)?, "fake time s{x=42}: app: hi n=3\n")?);
-    let layer = refused(alloc)?.with_writer(no_lines(alloc));
+    let layer = refused(alloc)?.with_writer(Lines::new(alloc));
     assert!(rt; writes(alloc, layer, "fake time s{x=42}: app: hi n=3\n")?);
-    let layer = refused(alloc)?.map_writer(|lines| no_lines(lines.alloc));
+    let layer = refused(alloc)?.map_writer(|lines| Lines::new(lines.alloc));
     assert!(rt; writes(alloc, layer, "fake time s{x=42}: app: hi n=3\n")?);
     Ok(())
 }

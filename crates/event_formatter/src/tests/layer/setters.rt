@@ -6,16 +6,7 @@ use span_registry_layers_store::FilterMap;
 // Makes a root span with x = 42 at the first moment, and tells the layer of it.
 fn make_under(layer: &mut Plain, registry: &mut Registry) -> Result<Id, Fail> {
     let fields = FieldSet::new(&NAMES, Identifier(1));
-    let metadata = Metadata::new(
-        "s",
-        "app",
-        Level::INFO,
-        None,
-        None,
-        None,
-        fields,
-        Kind::SPAN,
-    );
+    let metadata = span_metadata("s", fields);
     let values = [None, None, Some(AnyValue::U64(42))];
     let attributes = Attributes::new_root(&metadata, fields.value_set_all(&values));
     let span = registry
@@ -45,16 +36,7 @@ fn record_and_tell(layer: &mut Plain, registry: &mut Registry, span: &Id) {
     let values = Record::new(fields.value_set_all(&more));
     let mut context = Context::new(registry, moment(0), None);
     layer.on_record(span, &values, &mut context);
-    let metadata = Metadata::new(
-        "ev",
-        "app",
-        Level::INFO,
-        None,
-        None,
-        None,
-        fields,
-        Kind::EVENT,
-    );
+    let metadata = event_metadata("ev", None, None, fields);
     let hi = [Some(AnyValue::Str("hi"))];
     let event = Event::new_child_of(Some(*span), &metadata, fields.value_set_all(&hi));
     layer.on_event(&event, &mut context);

@@ -2,17 +2,13 @@ use super::*;
 use event_formatter_text::DefaultFields;
 use std::test::Fail;
 
-const OUTER: [Row; 1] = [Row {
-    name: "outer",
-    target: "app",
-    text: "x=42",
-}];
+fn outer() -> [Row; 1] {
+    [row("outer", "x=42")]
+}
 
-const BARE_SPAN: [Row; 1] = [Row {
-    name: "s",
-    target: "app",
-    text: "",
-}];
+fn bare_span() -> [Row; 1] {
+    [row("s", "")]
+}
 
 // The line of the values.
 fn line_of(
@@ -23,9 +19,7 @@ fn line_of(
     values: &[Option<AnyValue<'_>>],
 ) -> Result<String, FormatError> {
     let mut out = String::new(alloc);
-    let set = FieldSet::new(&NAMES, Identifier(1));
     let spans = Rows { rows };
-    let values = set.value_set_all(values);
     push_full_line(
         alloc,
         &mut out,
@@ -33,34 +27,25 @@ fn line_of(
         head,
         &spans,
         &DefaultFields::new(),
-        &values,
+        &fields_of(values),
     )?;
     Ok(out)
 }
 
 #[test]
 fn plain(rt: HostRuntime) -> Result<(), Fail> {
-    let head = Head {
-        time: Some("fake time"),
-        target: Some("app"),
-        ..BARE
-    };
+    let head = timed(None);
     let values = hi_and_three();
-    let line = line_of(rt.alloc(), PLAIN, &head, &OUTER, &values)?;
+    let line = line_of(rt.alloc(), PLAIN, &head, &outer(), &values)?;
     assert_eq!(rt; line.as_str(), "fake time outer{x=42}: app: hi n=3\n");
     Ok(())
 }
 
 #[test]
 fn styled(rt: HostRuntime) -> Result<(), Fail> {
-    let head = Head {
-        time: Some("fake time"),
-        level: Some(Level::INFO),
-        target: Some("app"),
-        ..BARE
-    };
+    let head = timed(Some(Level::INFO));
     let values = [Some(AnyValue::Str("m"))];
-    let line = line_of(rt.alloc(), STYLED, &head, &BARE_SPAN, &values)?;
+    let line = line_of(rt.alloc(), STYLED, &head, &bare_span(), &values)?;
     assert_eq!(rt;
         line.as_str(),
         "\u{1b}[2mfake time\u{1b}[0m \u{1b}[32m INFO\u{1b}[0m \u{1b}[1ms\u{1b}[0m\u{1b}[2m:\u{1b}[0m \u{1b}[2mapp\u{1b}[0m\u{1b}[2m:\u{1b}[0m m\n"

@@ -1,6 +1,5 @@
 use super::*;
 use std::test::Fail;
-use tracing_core_fields::DebugText;
 
 const FLAT: JsonShape = JsonShape {
     flatten_event: true,
@@ -8,35 +7,19 @@ const FLAT: JsonShape = JsonShape {
     span_list: true,
 };
 
-const JSON_SPAN: [Row; 1] = [Row {
-    name: "json_span",
-    target: "app",
-    text: "{\"answer\":42,\"number\":3}",
-}];
+fn json_span() -> [Row; 1] {
+    [row("json_span", "{\"answer\":42,\"number\":3}")]
+}
 
 // Spans with no members, with a text that is no object, and with none.
-const OTHERS: [Row; 4] = [
-    Row {
-        name: "empty",
-        target: "app",
-        text: "{}",
-    },
-    Row {
-        name: "a\"b\\",
-        target: "app",
-        text: "x=\"42\" \u{1b}",
-    },
-    Row {
-        name: "open",
-        target: "app",
-        text: "{",
-    },
-    Row {
-        name: "bare",
-        target: "app",
-        text: "",
-    },
-];
+fn others() -> [Row; 4] {
+    [
+        row("empty", "{}"),
+        row("a\"b\\", "x=\"42\" \u{1b}"),
+        row("open", "{"),
+        row("bare", ""),
+    ]
+}
 
 // The line of the values.
 fn line_of(
@@ -47,10 +30,8 @@ fn line_of(
     values: &[Option<AnyValue<'_>>],
 ) -> Result<String, FormatError> {
     let mut out = String::new(alloc);
-    let set = FieldSet::new(&NAMES, Identifier(1));
     let spans = Rows { rows };
-    let values = set.value_set_all(values);
-    push_json_line(&mut out, shape, head, &spans, &values)?;
+    push_json_line(&mut out, shape, head, &spans, &fields_of(values))?;
     Ok(out)
 }
 
@@ -67,7 +48,7 @@ fn all_parts(rt: HostRuntime) -> Result<(), Fail> {
     };
     let values = hi_and_three();
     let shape = JsonShape::default();
-    let line = line_of(rt.alloc(), shape, &head, &JSON_SPAN, &values)?;
+    let line = line_of(rt.alloc(), shape, &head, &json_span(), &values)?;
     assert_eq!(rt;
         line.as_str(),
         "{\"timestamp\":\"fake time\",\"level\":\"WARN\",\"fields\":{\"message\":\"hi\",\"n\":3},\
@@ -80,14 +61,9 @@ fn all_parts(rt: HostRuntime) -> Result<(), Fail> {
 
 #[test]
 fn flattened(rt: HostRuntime) -> Result<(), Fail> {
-    let head = Head {
-        time: Some("fake time"),
-        level: Some(Level::INFO),
-        target: Some("app"),
-        ..BARE
-    };
+    let head = timed(Some(Level::INFO));
     let values = [Some(AnyValue::Str("some json test"))];
-    let line = line_of(rt.alloc(), FLAT, &head, &JSON_SPAN, &values)?;
+    let line = line_of(rt.alloc(), FLAT, &head, &json_span(), &values)?;
     assert_eq!(rt;
         line.as_str(),
         "{\"timestamp\":\"fake time\",\"level\":\"INFO\",\"message\":\"some json test\",\
@@ -126,7 +102,7 @@ fn spans_with_other_texts(rt: HostRuntime) -> Result<(), Fail> {
         current_span: false,
         ..FLAT
     };
-    let line = line_of(rt.alloc(), listed, &BARE, &OTHERS, &[])?;
+    let line = line_of(rt.alloc(), listed, &BARE, &others(), &[])?;
     assert_eq!(rt;
         line.as_str(),
         "{\"spans\":[{\"name\":\"empty\"},{\"field\":\"x=\\\"42\\\" \\u001b\",\"name\":\"a\\\"b\\\\\"},\
@@ -136,7 +112,7 @@ fn spans_with_other_texts(rt: HostRuntime) -> Result<(), Fail> {
         span_list: false,
         ..FLAT
     };
-    let line = line_of(rt.alloc(), leaf_alone, &BARE, &OTHERS, &[])?;
+    let line = line_of(rt.alloc(), leaf_alone, &BARE, &others(), &[])?;
     assert_eq!(rt; line.as_str(), "{\"span\":{\"name\":\"bare\"}}\n");
     Ok(())
 }
@@ -160,10 +136,7 @@ fn escapes(rt: HostRuntime) -> Result<(), Fail> {
 
 #[test]
 fn a_value_that_fails(rt: HostRuntime) -> Result<(), Fail> {
-    let values = [
-        Some(AnyValue::I64(1)),
-        Some(AnyValue::Debug(DebugText::Failing)),
-    ];
+    let values = ONE_AND_FAILING;
     let failed = Some(FormatError::Failed);
     let shape = JsonShape::default();
     let nested = line_of(rt.alloc(), shape, &BARE, &[], &values);

@@ -1,51 +1,25 @@
 use super::*;
 use std::test::Fail;
-use tracing_core_fields::DebugText;
 
-const SPAN: Row = Row {
-    name: "request",
-    target: "app",
-    text: "{\"id\":7}",
-};
+fn span() -> Row {
+    row("request", "{\"id\":7}")
+}
 
 // Spans whose names are escaped, empty or long, and spans that keep no members of an object.
-const OTHERS: [Row; 7] = [
-    Row {
-        name: "a name of many bytes with a quote at its end\"",
-        target: "app",
-        text: "{\"id\":7}",
-    },
-    Row {
-        name: "a\"b",
-        target: "app",
-        text: "{\"id\":7}",
-    },
-    Row {
-        name: "empty",
-        target: "app",
-        text: "{}",
-    },
-    Row {
-        name: "open",
-        target: "app",
-        text: "{",
-    },
-    Row {
-        name: "bare",
-        target: "app",
-        text: "",
-    },
-    Row {
-        name: "text",
-        target: "app",
-        text: "x=\"42\"",
-    },
-    Row {
-        name: "",
-        target: "app",
-        text: "{\"id\":7}",
-    },
-];
+fn others() -> [Row; 7] {
+    [
+        row(
+            "a name of many bytes with a quote at its end\"",
+            "{\"id\":7}",
+        ),
+        row("a\"b", "{\"id\":7}"),
+        row("empty", "{}"),
+        row("open", "{"),
+        row("bare", ""),
+        row("text", "x=\"42\""),
+        row("", "{\"id\":7}"),
+    ]
+}
 
 const LEVELS: [Level; 5] = [
     Level::ERROR,
@@ -65,14 +39,12 @@ fn short_line(
     values: &[Option<AnyValue<'_>>],
 ) -> Result<String, FormatError> {
     let mut out = String::new(alloc);
-    let set = FieldSet::new(&NAMES, Identifier(1));
     let span = ShownSpan {
         name: row.name,
         target: row.target,
         text: row.text,
     };
-    let values = set.value_set_all(values);
-    push_json_line_in_span(&mut out, time, level, target, &span, &values)?;
+    push_json_line_in_span(&mut out, time, level, target, &span, &fields_of(values))?;
     Ok(out)
 }
 
@@ -86,7 +58,6 @@ fn same_line(
     values: &[Option<AnyValue<'_>>],
 ) -> Result<String, FormatError> {
     let mut out = String::new(alloc);
-    let set = FieldSet::new(&NAMES, Identifier(1));
     let head = Head {
         time: Some(time),
         level: Some(level),
@@ -94,8 +65,13 @@ fn same_line(
         ..BARE
     };
     let spans = Rows { rows: &[row] };
-    let values = set.value_set_all(values);
-    push_json_line(&mut out, JsonShape::default(), &head, &spans, &values)?;
+    push_json_line(
+        &mut out,
+        JsonShape::default(),
+        &head,
+        &spans,
+        &fields_of(values),
+    )?;
     Ok(out)
 }
 
@@ -106,7 +82,7 @@ fn a_line_in_one_span(rt: HostRuntime) -> Result<(), Fail> {
         "now",
         Level::INFO,
         "app",
-        &SPAN,
+        &span(),
         &hi_and_three(),
     )?;
     assert_eq!(rt;
@@ -122,8 +98,8 @@ fn levels_and_escapes_in_one_span(rt: HostRuntime) -> Result<(), Fail> {
     let alloc = rt.alloc();
     let values = hi_and_three();
     for level in LEVELS {
-        let short = short_line(alloc, "a\"b", level, "a\\b", &SPAN, &values)?;
-        let same = same_line(alloc, "a\"b", level, "a\\b", SPAN, &values)?;
+        let short = short_line(alloc, "a\"b", level, "a\\b", &span(), &values)?;
+        let same = same_line(alloc, "a\"b", level, "a\\b", span(), &values)?;
         assert_eq!(rt; short.as_str(), same.as_str());
     }
     Ok(())
@@ -132,7 +108,7 @@ fn levels_and_escapes_in_one_span(rt: HostRuntime) -> Result<(), Fail> {
 #[test]
 fn other_spans_alone(rt: HostRuntime) -> Result<(), Fail> {
     let alloc = rt.alloc();
-    for row in OTHERS {
+    for row in others() {
         let short = short_line(alloc, "now", Level::INFO, "app", &row, &[])?;
         let same = same_line(alloc, "now", Level::INFO, "app", row, &[])?;
         assert_eq!(rt; short.as_str(), same.as_str());
@@ -142,11 +118,8 @@ fn other_spans_alone(rt: HostRuntime) -> Result<(), Fail> {
 
 #[test]
 fn a_value_that_fails_in_one_span(rt: HostRuntime) -> Result<(), Fail> {
-    let values = [
-        Some(AnyValue::I64(1)),
-        Some(AnyValue::Debug(DebugText::Failing)),
-    ];
-    let line = short_line(rt.alloc(), "now", Level::INFO, "app", &SPAN, &values);
+    let values = ONE_AND_FAILING;
+    let line = short_line(rt.alloc(), "now", Level::INFO, "app", &span(), &values);
     assert!(rt; line.err() == Some(FormatError::Failed));
     Ok(())
 }

@@ -3,24 +3,20 @@ use event_formatter_text::PrettyFields;
 use std::test::Fail;
 use tracing_core_fields::DebugText;
 
-const OUTER: [Row; 1] = [Row {
-    name: "outer",
-    target: "app",
-    text: "x: 42",
-}];
+fn outer() -> [Row; 1] {
+    [row("outer", "x: 42")]
+}
 
-const BOTH: [Row; 2] = [
-    Row {
-        name: "outer",
-        target: "app",
-        text: "x: 42",
-    },
-    Row {
-        name: "inner",
-        target: "app::db",
-        text: "",
-    },
-];
+fn both() -> [Row; 2] {
+    [
+        row("outer", "x: 42"),
+        Row {
+            name: "inner",
+            target: "app::db",
+            text: "",
+        },
+    ]
+}
 
 const NOWHERE: Place<'static> = Place {
     file: None,
@@ -38,9 +34,7 @@ fn lines_of_values(
     values: &[Option<AnyValue<'_>>],
 ) -> Result<String, FormatError> {
     let mut out = String::new(alloc);
-    let set = FieldSet::new(&NAMES, Identifier(1));
     let spans = Rows { rows };
-    let values = set.value_set_all(values);
     let fields = PrettyFields::new();
     push_pretty_line(
         alloc,
@@ -51,7 +45,7 @@ fn lines_of_values(
         shows_target,
         &spans,
         &fields,
-        &values,
+        &fields_of(values),
     )?;
     Ok(out)
 }
@@ -69,12 +63,8 @@ fn lines_of(
 
 #[test]
 fn span_below_the_event(rt: HostRuntime) -> Result<(), Fail> {
-    let head = Head {
-        time: Some("fake time"),
-        target: Some("app"),
-        ..BARE
-    };
-    let lines = lines_of(rt.alloc(), &head, &NOWHERE, true, &OUTER)?;
+    let head = timed(None);
+    let lines = lines_of(rt.alloc(), &head, &NOWHERE, true, &outer())?;
     assert_eq!(rt;
         lines.as_str(),
         "  fake time app: hi, n: 3\n    in app::outer with x: 42\n\n"
@@ -88,12 +78,12 @@ fn leaf_before_root(rt: HostRuntime) -> Result<(), Fail> {
         level: Some(Level::INFO),
         ..BARE
     };
-    let lines = lines_of(rt.alloc(), &head, &NOWHERE, false, &BOTH)?;
+    let lines = lines_of(rt.alloc(), &head, &NOWHERE, false, &both())?;
     assert_eq!(rt;
         lines.as_str(),
         "   INFO  hi, n: 3\n    in inner\n    in outer with x: 42\n\n"
     );
-    let lines = lines_of(rt.alloc(), &BARE, &NOWHERE, true, &BOTH)?;
+    let lines = lines_of(rt.alloc(), &BARE, &NOWHERE, true, &both())?;
     assert_eq!(rt;
         lines.as_str(),
         "   hi, n: 3\n    in app::db::inner\n    in app::outer with x: 42\n\n"
@@ -180,7 +170,7 @@ fn thread_on_its_own(rt: HostRuntime) -> Result<(), Fail> {
 #[test]
 fn a_value_that_fails(rt: HostRuntime) -> Result<(), Fail> {
     let values = [None, Some(AnyValue::Debug(DebugText::Failing))];
-    let lines = lines_of_values(rt.alloc(), &BARE, &NOWHERE, true, &BOTH, &values);
+    let lines = lines_of_values(rt.alloc(), &BARE, &NOWHERE, true, &both(), &values);
     assert!(rt; lines.err() == Some(FormatError::Failed));
     Ok(())
 }

@@ -1,48 +1,6 @@
 use super::*;
+use crate::tests::memory::Starved;
 use event_formatter_lines::timings_at_start;
-use event_formatter_text::{FormatError, FormattedFields, RecordFields, Writer};
-use std::alloc::AllocError;
-
-// Finds no memory for a list of values, and for the start of a text only where there is room for it.
-#[derive(Drop)]
-struct Starved {
-    starts: bool,
-}
-
-impl FormatFields for Starved {
-    ghost use Rattle.std.specs.Prelude.{[], None};
-
-    ghost text_of = { λ _ settings values. None };
-
-    ghost started = { λ _ settings. record { text = []; words = []; settings = settings } };
-
-    ghost added = { λ _ fields values. None };
-
-    fn format_fields<R: RecordFields>(
-        &self,
-        _alloc: Global,
-        _writer: &mut Writer<'_>,
-        _fields: &R,
-    ) -> Result<(), FormatError> {
-        Err(FormatError::OutOfMemory)
-    }
-
-    fn start(&self, alloc: Global, settings: Settings) -> Result<FormattedFields, AllocError> {
-        if self.starts {
-            return Ok(FormattedFields::new(alloc, settings));
-        }
-        Err(AllocError)
-    }
-
-    fn add_fields<R: RecordFields>(
-        &self,
-        _alloc: Global,
-        _current: &mut FormattedFields,
-        _fields: &R,
-    ) -> Result<(), FormatError> {
-        Err(FormatError::OutOfMemory)
-    }
-}
 
 // Keeps a first list with styles and timings, for which there is no memory.
 fn keep_starved(alloc: Global, registry: &mut Registry, span: &Id, starts: bool) -> FirstText {

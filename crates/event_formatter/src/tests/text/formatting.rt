@@ -61,10 +61,7 @@ fn escapes(rt: HostRuntime) -> Result<(), Fail> {
 
 #[test]
 fn a_value_that_fails(rt: HostRuntime) -> Result<(), Fail> {
-    let values = [
-        Some(AnyValue::I64(1)),
-        Some(AnyValue::Debug(DebugText::Failing)),
-    ];
+    let values = ONE_AND_FAILING;
     let failed = Some(FormatError::Failed);
     assert!(rt; text_of(rt.alloc(), &DefaultFields, PLAIN, &values).err() == failed);
     assert!(rt; text_of(rt.alloc(), &PrettyFields, PLAIN, &values).err() == failed);

@@ -1,41 +1,8 @@
 use super::*;
+use crate::tests::common::Names;
 use event_formatter_text::{
     Alt, DefaultVisitor, JsonVisitor, Messages, PrettyVisitor, RecordFields,
 };
-
-// Keeps the bytes of what it is shown: a name and an end.
-#[derive(Drop)]
-struct NameVisitor {
-    bytes: Vec<u8>,
-}
-
-impl Visit for NameVisitor {
-    ghost use Rattle.std.specs.Prelude.{⊤};
-
-    type Error = FormatError;
-
-    ghost shows = { λ _ _ _ _ _. ⊤ };
-
-    fn record_debug(
-        &mut self,
-        field: &Field<'_>,
-        _value: &DebugText<'_>,
-    ) -> Result<(), FormatError> {
-        self.bytes.extend_from_slice(field.name().as_bytes())?;
-        Ok(())
-    }
-}
-
-impl VisitWrite for NameVisitor {
-    ghost use Rattle.std.specs.Prelude.{⊤};
-
-    ghost appends_bytes = { λ _ _ _ _. ⊤ };
-
-    fn write_all(&mut self, bytes: &[u8]) -> Result<(), FormatError> {
-        self.bytes.extend_from_slice(bytes)?;
-        Ok(())
-    }
-}
 
 // Lets the visitor take the values, between two brackets.
 fn bracketed<V: VisitFmt, R: RecordFields>(visitor: &mut V, fields: &R) -> Result<(), V::Error> {
@@ -95,7 +62,7 @@ fn bytes_between_fields(rt: HostRuntime) -> Result<(), Fail> {
     let set = FieldSet::new(&NAMES, Identifier(1));
     let values = [None, Some(AnyValue::I64(-3))];
     let bytes = Vec::new(rt.alloc());
-    let mut visitor = Alt::new(Messages::new(NameVisitor { bytes }));
+    let mut visitor = Alt::new(Messages::new(Names { bytes }));
     visitor.write_all(b"<")?;
     set.value_set_all(&values).record(&mut visitor)?;
     visitor.write_all(b">")?;

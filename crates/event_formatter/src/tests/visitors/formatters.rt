@@ -1,10 +1,6 @@
 use super::*;
-use event_formatter_text::{FormatFields, Settings};
-
-const PLAIN: Settings = Settings {
-    styles: false,
-    sanitizes: true,
-};
+use crate::tests::common::PLAIN;
+use event_formatter_text::FormatFields;
 
 // What is kept of a span with two lists of these values.
 fn kept_text<F: FormatFields>(

@@ -38,7 +38,7 @@ fn lanes_and_moments_are_looked_at_before_callsites(rt: HostRuntime) -> Result<(
     assert_eq!(rt; made_at(&mut parts, &asked, 9), both(Refusal::UnknownLane));
     asked.lane = 1;
     assert_eq!(rt; made_at(&mut parts, &asked, 9), both(Refusal::BadMoment));
-    asked.moment = OPENED;
+    asked.moment = MONDAY;
     let unknown = both(Refusal::UnknownCallsite);
     assert_eq!(rt; made_at(&mut parts, &asked, 9), unknown);
     assert_eq!(rt; heard(&parts)?, (0, Told::Nothing, 0));
@@ -90,7 +90,7 @@ fn questions_are_refused_in_order(rt: HostRuntime) -> Result<(), Fail> {
     assert_eq!(rt; parts.enabled(&call), refused(Refusal::UnknownLane));
     call.lane = 1;
     assert_eq!(rt; parts.enabled(&call), refused(Refusal::BadMoment));
-    call.moment = OPENED;
+    call.moment = MONDAY;
     assert_eq!(rt; parts.enabled(&call), refused(Refusal::UnknownCallsite));
     assert_eq!(rt; heard(&parts)?, (0, Told::Nothing, 0));
     Ok(())
@@ -136,7 +136,7 @@ fn calls_on_spans_are_refused_in_order(rt: HostRuntime) -> Result<(), Fail> {
     assert_eq!(rt; answers(&mut parts, &call), all(Refusal::UnknownLane));
     call.lane = 1;
     assert_eq!(rt; answers(&mut parts, &call), all(Refusal::BadMoment));
-    call.moment = OPENED;
+    call.moment = MONDAY;
     assert_eq!(rt; answers(&mut parts, &call), all(Refusal::UnknownStack));
     let call = call_on(Some(span_name(0, 1)?));
     assert_eq!(rt; answers(&mut parts, &call), all(Refusal::UnknownSpan));
@@ -162,7 +162,7 @@ fn links_are_refused_for_their_lane_and_moment(rt: HostRuntime) -> Result<(), Fa
 fn link(span: Option<SpanName>, follows: Option<SpanName>) -> FollowsCall {
     FollowsCall {
         lane: 1,
-        moment: OPENED,
+        moment: MONDAY,
         span,
         follows,
     }

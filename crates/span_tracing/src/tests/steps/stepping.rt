@@ -7,7 +7,7 @@ fn requests_reach_the_default_alone(rt: HostRuntime) -> Result<(), Fail> {
     let event = request(EVENT, Parent::Root, &[]);
     let question = EnabledCall {
         lane: 1,
-        moment: OPENED,
+        moment: MONDAY,
         callsite: Identifier(HINT),
     };
     assert_eq!(rt; parts.event(&event), Reply::Done);
@@ -37,7 +37,7 @@ fn values_are_told_by_their_fields_places(rt: HostRuntime) -> Result<(), Fail> {
     assert_eq!(rt; heard(&parts)?, (2, Told::Span(46), 1));
     let mut record = RecordRequest {
         lane: 0,
-        moment: OPENED,
+        moment: MONDAY,
         span: Some(name),
         values: &values,
     };
@@ -90,7 +90,7 @@ fn a_span_follows_another(rt: HostRuntime) -> Result<(), Fail> {
     let second = made(&mut parts)?;
     let mut call = FollowsCall {
         lane: 0,
-        moment: OPENED,
+        moment: MONDAY,
         span: Some(second),
         follows: Some(first),
     };

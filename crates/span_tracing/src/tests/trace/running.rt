@@ -1,8 +1,8 @@
 // What runs and calls write and answer.
 
+use crate::tests::common::{MONDAY, TUESDAY, number_field, text_field};
 use crate::tests::trace::stage::{
-    NEXT_DAY, OPENED, OUTER, WARNING, has_file, made, number_field, set_trace, span_name,
-    text_field, trace_of_two,
+    OUTER, WARNING, has_file, made, set_trace, span_name, trace_of_two,
 };
 use span_tracing_skeleton::{EventCall, NewSpanCall, Parent, Refusal, Reply, SpanCall, Step};
 use std::alloc::Global;
@@ -16,19 +16,19 @@ const JSON_LINE: &str =
 fn steps_of_a_span(alloc: Global) -> Result<Vec<Step>, Fail> {
     let call = SpanCall {
         lane: 0,
-        moment: OPENED,
+        moment: MONDAY,
         span: Some(span_name(0, 1)?),
     };
     let span = NewSpanCall {
         lane: 0,
-        moment: OPENED,
+        moment: MONDAY,
         callsite: OUTER,
         parent: Parent::Contextual,
         values: vec![in alloc; number_field(0, 42)]?,
     };
     let event = EventCall {
         lane: 0,
-        moment: OPENED,
+        moment: MONDAY,
         callsite: WARNING,
         parent: Parent::Contextual,
         values: vec![in alloc; text_field(alloc, 0, "hi")?, number_field(1, 3)]?,
@@ -70,9 +70,9 @@ fn a_run_writes_the_lines_of_both_outputs(rt: HostRuntime) -> Result<(), Fail> {
 fn a_run_goes_on_past_refused_steps(rt: HostRuntime) -> Result<(), Fail> {
     let alloc = rt.alloc();
     let mut trace = set_trace(&rt, alloc)?;
-    let first = made(trace.new_span(0, OPENED, OUTER, Parent::Root, &[]))?;
+    let first = made(trace.new_span(0, MONDAY, OUTER, Parent::Root, &[]))?;
     assert_eq!(rt;
-        trace.try_close(0, OPENED, Some(first)),
+        trace.try_close(0, MONDAY, Some(first)),
         Reply::Closed(true)
     );
     let steps = steps_of_a_span(alloc)?;
@@ -96,18 +96,18 @@ fn a_run_goes_on_past_refused_steps(rt: HostRuntime) -> Result<(), Fail> {
 fn calls_write_the_lines_of_both_outputs(rt: HostRuntime) -> Result<(), Fail> {
     let alloc = rt.alloc();
     let mut trace = set_trace(&rt, alloc)?;
-    let outer = made(trace.new_span(0, OPENED, OUTER, Parent::Contextual, &[]))?;
+    let outer = made(trace.new_span(0, MONDAY, OUTER, Parent::Contextual, &[]))?;
     assert_eq!(rt; outer, span_name(0, 1)?);
     let values = [number_field(0, 42)];
-    assert_eq!(rt; trace.record(0, OPENED, Some(outer), &values), Reply::Done);
-    assert_eq!(rt; trace.enter(0, OPENED, Some(outer)), Reply::Done);
+    assert_eq!(rt; trace.record(0, MONDAY, Some(outer), &values), Reply::Done);
+    assert_eq!(rt; trace.enter(0, MONDAY, Some(outer)), Reply::Done);
     let hi = [text_field(alloc, 0, "hi")?, number_field(1, 3)];
     let here = Parent::Contextual;
-    assert_eq!(rt; trace.event(0, OPENED, WARNING, here, &hi), Reply::Done);
-    assert_eq!(rt; trace.event(1, NEXT_DAY, WARNING, here, &hi), Reply::Done);
-    assert_eq!(rt; trace.exit(0, NEXT_DAY, Some(outer)), Reply::Done);
+    assert_eq!(rt; trace.event(0, MONDAY, WARNING, here, &hi), Reply::Done);
+    assert_eq!(rt; trace.event(1, TUESDAY, WARNING, here, &hi), Reply::Done);
+    assert_eq!(rt; trace.exit(0, TUESDAY, Some(outer)), Reply::Done);
     assert_eq!(rt;
-        trace.try_close(0, NEXT_DAY, Some(outer)),
+        trace.try_close(0, TUESDAY, Some(outer)),
         Reply::Closed(true)
     );
     let line = "fake time  WARN outer{x=42}: app: hi n=3\n";
@@ -121,26 +121,26 @@ fn calls_write_the_lines_of_both_outputs(rt: HostRuntime) -> Result<(), Fail> {
 #[test]
 fn calls_on_spans_answer(rt: HostRuntime) -> Result<(), Fail> {
     let mut trace = trace_of_two(&rt, rt.alloc())?;
-    assert_eq!(rt; trace.enabled(0, OPENED, OUTER), Reply::Enabled(false));
-    let reply = trace.new_span(0, OPENED, OUTER, Parent::Root, &[]);
+    assert_eq!(rt; trace.enabled(0, MONDAY, OUTER), Reply::Enabled(false));
+    let reply = trace.new_span(0, MONDAY, OUTER, Parent::Root, &[]);
     assert_eq!(rt; reply, Reply::Span(None));
     assert_eq!(rt; trace.step(&Step::SetGlobalDefault(0)), Reply::Done);
-    assert_eq!(rt; trace.enabled(0, OPENED, OUTER), Reply::Enabled(true));
-    let one = Some(made(trace.new_span(0, OPENED, OUTER, Parent::Root, &[]))?);
-    let two = Some(made(trace.new_span(1, OPENED, OUTER, Parent::Root, &[]))?);
-    assert_eq!(rt; trace.record_follows_from(0, OPENED, two, one), Reply::Done);
+    assert_eq!(rt; trace.enabled(0, MONDAY, OUTER), Reply::Enabled(true));
+    let one = Some(made(trace.new_span(0, MONDAY, OUTER, Parent::Root, &[]))?);
+    let two = Some(made(trace.new_span(1, MONDAY, OUTER, Parent::Root, &[]))?);
+    assert_eq!(rt; trace.record_follows_from(0, MONDAY, two, one), Reply::Done);
     assert_eq!(rt;
-        trace.record_follows_from(0, OPENED, None, None),
+        trace.record_follows_from(0, MONDAY, None, None),
         Reply::Done
     );
-    assert_eq!(rt; trace.clone_span(0, OPENED, one), Reply::Done);
-    assert_eq!(rt; trace.try_close(0, OPENED, one), Reply::Closed(false));
-    assert_eq!(rt; trace.try_close(0, OPENED, one), Reply::Closed(true));
-    assert_eq!(rt; trace.try_close(0, OPENED, None), Reply::Closed(false));
-    assert_eq!(rt; trace.record(0, OPENED, None, &[]), Reply::Done);
-    assert_eq!(rt; trace.clone_span(0, OPENED, None), Reply::Done);
-    assert_eq!(rt; trace.enter(0, OPENED, None), Reply::Done);
-    assert_eq!(rt; trace.exit(0, OPENED, None), Reply::Done);
+    assert_eq!(rt; trace.clone_span(0, MONDAY, one), Reply::Done);
+    assert_eq!(rt; trace.try_close(0, MONDAY, one), Reply::Closed(false));
+    assert_eq!(rt; trace.try_close(0, MONDAY, one), Reply::Closed(true));
+    assert_eq!(rt; trace.try_close(0, MONDAY, None), Reply::Closed(false));
+    assert_eq!(rt; trace.record(0, MONDAY, None, &[]), Reply::Done);
+    assert_eq!(rt; trace.clone_span(0, MONDAY, None), Reply::Done);
+    assert_eq!(rt; trace.enter(0, MONDAY, None), Reply::Done);
+    assert_eq!(rt; trace.exit(0, MONDAY, None), Reply::Done);
     Ok(())
 }
 
@@ -148,15 +148,15 @@ fn calls_on_spans_answer(rt: HostRuntime) -> Result<(), Fail> {
 fn a_parent_stands_before_its_child(rt: HostRuntime) -> Result<(), Fail> {
     let alloc = rt.alloc();
     let mut trace = set_trace(&rt, alloc)?;
-    let one = made(trace.new_span(0, OPENED, OUTER, Parent::Root, &[number_field(0, 1)]))?;
+    let one = made(trace.new_span(0, MONDAY, OUTER, Parent::Root, &[number_field(0, 1)]))?;
     let under = Parent::Explicit(one);
-    let two = made(trace.new_span(0, OPENED, OUTER, under, &[number_field(0, 2)]))?;
+    let two = made(trace.new_span(0, MONDAY, OUTER, under, &[number_field(0, 2)]))?;
     let hi = [text_field(alloc, 0, "hi")?];
-    let reply = trace.event(1, OPENED, WARNING, Parent::Explicit(two), &hi);
+    let reply = trace.event(1, MONDAY, WARNING, Parent::Explicit(two), &hi);
     assert_eq!(rt; reply, Reply::Done);
-    assert_eq!(rt; trace.enter(0, OPENED, Some(two)), Reply::Done);
+    assert_eq!(rt; trace.enter(0, MONDAY, Some(two)), Reply::Done);
     assert_eq!(rt;
-        trace.event(0, OPENED, WARNING, Parent::Root, &hi),
+        trace.event(0, MONDAY, WARNING, Parent::Root, &hi),
         Reply::Done
     );
     let lines = "fake time  WARN outer{x=1}:outer{x=2}: app: hi\nfake time  WARN app: hi\n";

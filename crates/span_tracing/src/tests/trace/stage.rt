@@ -1,39 +1,16 @@
 // A trace over two outputs.
 
 use crate::Trace;
-use event_formatter::{Fields, Format, Json, Layer, LineFormat, Timer};
-use event_formatter_lines::{FixedText, FmtSpan};
-use span_registry_layers::{Output, Stack};
-use span_registry_layers_layers::Filtered;
-use span_registry_layers_store::OutputKey;
-use span_tracing_outputs::{PendingLines, RollingSink, RoutedSinks, TraceStack};
+use crate::tests::common::{MONDAY, Shape, event_at, output_in, span_at};
+use event_formatter::{Fields, Json, LineFormat};
+use span_registry_layers::Stack;
+use span_tracing_outputs::{RollingSink, RoutedSinks, TraceStack};
 use span_tracing_skeleton::{Refusal, Reply, SpanName};
-use std::alloc::{AllocError, Global};
+use std::alloc::Global;
 use std::process::Abort;
 use std::test::Fail;
 use tracing_appender_rolling::{MemoryFolder, RollingFileAppender, Rotation};
-use tracing_core_fields::{
-    FieldSet, FieldValue, Id, Identifier, Interest, Kind, Level, LevelFilter, Metadata, OwnedValue,
-};
-use tracing_core_moments::Moment;
-
-/// 2025-02-17T10:01:00Z.
-pub(crate) const OPENED: Moment = Moment {
-    seconds: 1_739_786_460,
-    nanoseconds: 0,
-};
-
-/// 2025-02-18T00:00:00Z.
-pub(crate) const NEXT_DAY: Moment = Moment {
-    seconds: 1_739_836_800,
-    nanoseconds: 0,
-};
-
-/// One second before the first moment.
-pub(crate) const TOO_EARLY: Moment = Moment {
-    seconds: -62_135_596_801,
-    nanoseconds: 0,
-};
+use tracing_core_fields::{FieldSet, Id, Identifier, Interest, Level, LevelFilter};
 
 /// Spans `outer` with a field `x`, at level INFO.
 pub(crate) const OUTER: Identifier = Identifier(1);
@@ -45,39 +22,12 @@ pub(crate) const SPAN_FIELDS: [&str; 1] = ["x"];
 
 pub(crate) const EVENT_FIELDS: [&str; 2] = ["message", "n"];
 
-pub(crate) type Shape = Format<LineFormat, Timer>;
-
-pub(crate) type Shown = Filtered<Layer<Fields, Shape, PendingLines>, LevelFilter>;
-
 pub(crate) type Written = TraceStack<
     Fields,
     Shape,
     LevelFilter,
     RoutedSinks<RollingSink<MemoryFolder>>,
 >;
-
-/// An output of this shape, with lines at the close of spans.
-pub(crate) fn output_in(
-    alloc: Global,
-    key: u32,
-    shape: LineFormat,
-    fields: Fields,
-    filter: LevelFilter,
-) -> Result<Output<Shown>, Fail> {
-    let time = FixedText::new(String::from_str(alloc, "fake time")?);
-    let format = Format::new(alloc)
-        .with_timer(Timer::Fixed(time))
-        .with_shape(shape);
-    let layer = Layer::new(alloc, OutputKey(key), PendingLines::new(alloc))
-        .without_time()
-        .event_format(format)
-        .fmt_fields(fields)
-        .with_span_events(FmtSpan::CLOSE);
-    Ok(Output {
-        key: OutputKey(key),
-        output: Filtered::new(layer, filter),
-    })
-}
 
 /// A sink over a file for each day, in a folder of its own.
 pub(crate) fn sink_of(
@@ -86,7 +36,7 @@ pub(crate) fn sink_of(
 ) -> Result<RoutedSinks<RollingSink<MemoryFolder>>, Fail> {
     let prefix = String::from_str(alloc, prefix)?;
     let folder = MemoryFolder::new(alloc);
-    let appender = RollingFileAppender::new(alloc, Rotation::DAILY, folder, prefix, OPENED).map_err(
+    let appender = RollingFileAppender::new(alloc, Rotation::DAILY, folder, prefix, MONDAY).map_err(
         |refusal| refusal.error,
     )?;
     Ok(RoutedSinks::single(alloc, RollingSink::new(appender))?)
@@ -115,20 +65,11 @@ pub(crate) fn stack_of_two(alloc: Global) -> Result<Written, Fail> {
 
 /// Registers both callsites, or asks for the interests in them again.
 pub(crate) fn register_both(trace: &mut Trace<Written>) -> Result<[Interest; 2], Refusal> {
-    let fields = FieldSet::new(&SPAN_FIELDS, OUTER);
-    let level = Level::INFO;
-    let outer = Metadata::new("outer", "app", level, None, None, None, fields, Kind::SPAN);
-    let fields = FieldSet::new(&EVENT_FIELDS, WARNING);
-    let level = Level::WARN;
-    let warning = Metadata::new(
+    let outer = span_at("outer", Level::INFO, FieldSet::new(&SPAN_FIELDS, OUTER));
+    let warning = event_at(
         "warning",
-        "app",
-        level,
-        None,
-        None,
-        None,
-        fields,
-        Kind::EVENT,
+        Level::WARN,
+        FieldSet::new(&EVENT_FIELDS, WARNING),
     );
     Ok([
         trace.register(OUTER, &outer)?,
@@ -158,24 +99,6 @@ pub(crate) fn set_trace(rt: &impl Abort, alloc: Global) -> Result<Trace<Written>
     let mut trace = trace_of_two(rt, alloc)?;
     assert_eq!(rt; trace.set_global_default(0), Reply::Done);
     Ok(trace)
-}
-
-pub(crate) fn text_field(
-    alloc: Global,
-    field: usize,
-    text: &str,
-) -> Result<FieldValue, AllocError> {
-    Ok(FieldValue {
-        field,
-        value: OwnedValue::Text(String::from_str(alloc, text)?),
-    })
-}
-
-pub(crate) fn number_field(field: usize, number: u64) -> FieldValue {
-    FieldValue {
-        field,
-        value: OwnedValue::U64(number),
-    }
 }
 
 pub(crate) fn span_name(stack: usize, id: u64) -> Result<SpanName, Fail> {

@@ -1,12 +1,19 @@
 //! Folders that refuse a call, or take few bytes.
 
-use super::{holds, later, named};
+use super::later;
 use crate::folders::{FaultyFolder, Folder, FolderError, FolderFault, MemoryFolder};
+use crate::tests::making::{holds, linked, named};
 use crate::tests::moments::{FEBRUARY, MONDAY};
 use crate::{BuildError, InitContext, InitError, RollingFileAppender, Rotation, daily, hourly};
-use std::alloc::Global;
+use std::alloc::{AllocError, Global};
 use std::test::Fail;
 use tracing_core_moments::Moment;
+
+/// An empty folder that refuses the calls with these numbers.
+fn refusing(alloc: Global, numbers: &[u64]) -> Result<FaultyFolder, AllocError> {
+    let refused = Vec::from_slice(alloc, numbers)?;
+    Ok(FaultyFolder::new(MemoryFolder::new(alloc), refused))
+}
 
 /// What the calls of a script told, and what was counted.
 #[derive(Clone, Copy, Debug, PartialEq, Eq)]
@@ -37,10 +44,7 @@ fn script(alloc: Global, number: u64) -> Result<(u64, Reported), Fail> {
     inner.put("t.2020-01-01-00", b"old", None)?;
     let refused = Vec::from_slice(alloc, &[number])?;
     let folder = FaultyFolder::new(inner, refused);
-    let link = String::from_str(alloc, "latest")?;
-    let builder = named(alloc, Rotation::HOURLY, "t", "")?
-        .max_log_files(1)
-        .latest_symlink(link);
+    let builder = linked(alloc, Rotation::HOURLY, "t", "", "latest")?.max_log_files(1);
     match builder.build(alloc, folder, FEBRUARY) {
         Err(refused) => Ok((
             refused.folder.failures(),
@@ -117,8 +121,7 @@ fn each_call_is_refused_in_turn(rt: HostRuntime) -> Result<(), Fail> {
 fn an_opening_is_tried_twice_in_a_period(rt: HostRuntime) -> Result<(), Fail> {
     let alloc = rt.alloc();
     // opened at call 1; call 2 is the next hour's first opening, call 3 makes the directories, call 4 opens again
-    let refused = Vec::from_slice(alloc, &[2, 4])?;
-    let folder = FaultyFolder::new(MemoryFolder::new(alloc), refused);
+    let folder = refusing(alloc, &[2, 4])?;
     let prefix = String::from_str(alloc, "t")?;
     let mut appender = hourly(alloc, folder, prefix, FEBRUARY).map_err(|refusal| refusal.error)?;
     assert!(rt; !appender.folder().inner().has_dirs());
@@ -145,8 +148,7 @@ fn an_opening_is_tried_twice_in_a_period(rt: HostRuntime) -> Result<(), Fail> {
 fn a_refused_day_stays_in_the_file_before(rt: HostRuntime) -> Result<(), Fail> {
     let alloc = rt.alloc();
     // opened at call 1; call 2 is the next day's first opening, call 3 makes the directories, call 4 opens again
-    let refused = Vec::from_slice(alloc, &[2, 4])?;
-    let folder = FaultyFolder::new(MemoryFolder::new(alloc), refused);
+    let folder = refusing(alloc, &[2, 4])?;
     let prefix = String::from_str(alloc, "t")?;
     let mut appender = daily(alloc, folder, prefix, MONDAY).map_err(|refusal| refusal.error)?;
     appender.write_all_at(b"a", Moment::new(1_739_836_800, 0)?)?;
@@ -165,8 +167,7 @@ fn a_refused_day_stays_in_the_file_before(rt: HostRuntime) -> Result<(), Fail> {
 #[test]
 fn a_refused_write_is_told_and_counted(rt: HostRuntime) -> Result<(), Fail> {
     let alloc = rt.alloc();
-    let refused = Vec::from_slice(alloc, &[2])?;
-    let folder = FaultyFolder::new(MemoryFolder::new(alloc), refused);
+    let folder = refusing(alloc, &[2])?;
     let prefix = String::from_str(alloc, "t")?;
     let mut appender = daily(alloc, folder, prefix, FEBRUARY).map_err(|refusal| refusal.error)?;
     let fault = FolderError::Fault(FolderFault::Refused);
@@ -218,10 +219,7 @@ fn short_writes_go_on_until_one_takes_nothing(rt: HostRuntime) -> Result<(), Fai
 #[test]
 fn faults_are_told_as_the_folder_tells_them(rt: HostRuntime) -> Result<(), Fail> {
     let alloc = rt.alloc();
-    let refused = Vec::from_slice(alloc, &[1, 3])?;
-    let folder = FaultyFolder::new(MemoryFolder::new(alloc), refused).with_fault(
-        FolderFault::NotFound,
-    );
+    let folder = refusing(alloc, &[1, 3])?.with_fault(FolderFault::NotFound);
     match named(alloc, Rotation::DAILY, "t", "")?.build(alloc, folder, FEBRUARY) {
         Ok(_) => return Err("built".into()),
         Err(refusal) => {
@@ -233,10 +231,7 @@ fn faults_are_told_as_the_folder_tells_them(rt: HostRuntime) -> Result<(), Fail>
             assert_eq!(rt; refusal.folder.failures(), 2);
         }
     }
-    let refused = Vec::from_slice(alloc, &[2])?;
-    let folder = FaultyFolder::new(MemoryFolder::new(alloc), refused).with_fault(
-        FolderFault::Unsupported,
-    );
+    let folder = refusing(alloc, &[2])?.with_fault(FolderFault::Unsupported);
     let prefix = String::from_str(alloc, "t")?;
     let mut appender = daily(alloc, folder, prefix, FEBRUARY).map_err(|refusal| refusal.error)?;
     let fault = FolderError::Fault(FolderFault::Unsupported);
