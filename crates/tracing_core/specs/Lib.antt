@@ -21,7 +21,6 @@ pub mod Scopes
 pub use Rattle.tracing_core_fields.specs.Text
 pub use Rattle.tracing_core_fields.specs.LevelInner
 pub use Rattle.tracing_core_fields.specs.Level
-pub use Rattle.tracing_core_fields.specs.FilterInner
 pub use Rattle.tracing_core_fields.specs.LevelFilter
 pub use Rattle.tracing_core_fields.specs.PlainKind
 pub use Rattle.tracing_core_fields.specs.Equality

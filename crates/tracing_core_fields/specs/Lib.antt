@@ -3,7 +3,6 @@ pub mod Shown
 pub mod Text
 pub mod LevelInner
 pub mod Level
-pub mod FilterInner
 pub mod LevelFilter
 pub mod PlainKind
 pub mod Equality
