@@ -1,4 +1,4 @@
-use Rattle.std.proofs.Common.{◌++◌, List, ap, ◌∙◌, Some, string_bytes}
+use Rattle.std.proofs.Common.{◌++◌, ℕ, List, ap, ◌∙◌, Some, string_bytes}
 use Rattle.tracing_core_fields.specs.Metadata.{plain_metadata}
 use Rattle.tracing_core_moments.specs.declared.at.At.{At}
 use Rattle.event_formatter_lines.specs.Full.{spans_text, target_piece}
