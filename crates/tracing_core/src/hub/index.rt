@@ -66,10 +66,9 @@ impl<S, C: Callsite> Hub<S, C> {
 impl<S: Subscriber, C: Callsite> Hub<S, C> {
     /// The same as [`Hub::gate`] of the callsite at the index, or `None` where none stands there.
     pub fn gate_at(&mut self, index: CallsiteIndex, at: At) -> Option<bool>
-        // At an index, the hub answers the interest, the metadata and the gate of the callsite that stands there.
         ensures answer { GateGivesAt ⟦<S as Subscriber>⟧ ⟦<C as Callsite>⟧ self.old
             (slice_get self.old.callsites index.0) at result self.new }
-        // Where what is kept is right of the reached subscriber, this is what asking it answers.
+        // With a valid cache of the reached subscriber the answer is what that subscriber answers when it is asked.
         ensures asking { (site : KeptCallsite C) (e : KeptSubscriber S) (b : Bool) →
             slice_get self.old.callsites index.0 ≡ Some site → reached self.old at.lane ≡ Some e.serial →
             HasValidCache ⟦<S as Subscriber>⟧ ⟦<C as Callsite>⟧ self.old e →
