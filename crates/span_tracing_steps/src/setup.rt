@@ -88,8 +88,8 @@ impl<T: Subscriber> TraceParts<T> {
         requires sound { IsSound self.old }
         requires none { (value_in self.old).stack ≡ None }
         ensures sound { IsSound self.new }
-        // The stack is told its handle, is asked of each callsite in order and for its hint, and is kept with what it said; without
-        // memory it comes back, and nothing changes.
+        // The stack is told its handle, is asked of each callsite in order and for its hint, and is kept with what it said; where
+        // there is no memory, it comes back, and nothing changes.
         ensures gives { AddGives ⟦<T as Subscriber>⟧ (value_in self.old) stack result (value_in self.new) }
     {
         match self.hub.add(stack) {

@@ -27,9 +27,9 @@ pub fn steps_have_one_end()
     ensures { StepsHaveOneEnd }
 {}
 
-/// A worker's step may be cut in as many steps at its moment as one likes. Where the folder refuses nothing and
-/// the lines are written whole, these leave exactly the queue and the sink that the one leaves, with its folder,
-/// and the numbers of lines that they took add up.
+/// A worker's step may be cut in as many steps at its moment as one likes, where the folder refuses nothing and the
+/// lines are written whole. These leave exactly the queue and the sink that the one leaves, with its folder, and the
+/// numbers of lines that they took add up.
 pub fn steps_may_be_cut()
     ensures { StepsMayBeCut }
 {}

@@ -29,8 +29,8 @@ impl<S, C> Hub<S, C> {
         }
     }
 
-    /// Where the callsite with the identifier stands, where its index is the identifier less the first callsite's. It takes a few
-    /// comparisons. `None` tells nothing: [`index_of`](Hub::index_of) then looks in a map.
+    /// Where the callsite with the identifier stands, or `None`, which tells nothing. It finds an index that is the identifier
+    /// less the first callsite's, in a few comparisons; else [`index_of`](Hub::index_of) looks in a map.
     #[inline(always)]
     pub fn counted_index_of(&self, identifier: Identifier) -> Option<CallsiteIndex>
         ensures { IfSome result (λ index. index_of_callsite identifier.0 self.now.callsites ≡ Some index.0) }
