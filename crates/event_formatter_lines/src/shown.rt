@@ -20,7 +20,7 @@ pub trait ShownSpans {
     // The spans, from the root on.
     ghost spans: { Self → List PlainShown };
 
-    /// How many there are.
+    /// How many spans there are.
     fn count(&self) -> usize
         ensures { result ≡ length (spans self.now) };
 

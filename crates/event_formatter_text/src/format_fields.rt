@@ -39,10 +39,9 @@ pub trait FormatFields {
         writer: &mut Writer<'_>,
         fields: &R,
     ) -> Result<(), FormatError>
-        // A formatter leaves the writer over the same text and with the same settings.
+        // The writer is left over the same text and with the same settings.
         ensures same { IsSameWriter writer.old writer.new }
-        // A list that can't be formatted is never accepted. `Failed` comes for such a list alone; any other refusal is out of
-        // memory.
+        // The values' text is appended, or, where they can't be formatted, `Failed` is answered, unless memory runs out.
         ensures text { Formats (text_of self.now (settings_of writer.old) (R.values fields.now))
             (written writer.old) result (written writer.new) };
 

@@ -32,7 +32,7 @@ pub fn verdicts_are_own<L: Layer, F: Filter>()
 /// The registry of a new stack is sound, and each call keeps it so: ids rise, parents stand before their children, and
 /// the listed spans are the open ones. So closes are told of a child before its parent.
 pub fn stack_registry_stays_sound<L: Layer, F: Filter>()
-    // The registry of a stack is sound from the start and stays so.
+    // The registry of a new stack is sound.
     ensures start { NewIsSound ⟦<F as Filter>⟧ ⟦<L as Layer>⟧ }
     ensures call { StackStaysSound ⟦<F as Filter>⟧ ⟦<L as Layer>⟧ }
 {}
@@ -43,7 +43,8 @@ pub fn stack_registry_stays_sound<L: Layer, F: Filter>()
 pub fn registry_stands_alone<L: Layer, F: Filter>()
     // A call leaves a stack's registry as the registry's own call does, but for whether a span is made, verdicts and slots.
     ensures slots { RegistryStandsAlone ⟦<F as Filter>⟧ ⟦<L as Layer>⟧ }
-    // Where no layer writes a slot, slots are as the registry's own call leaves them, too.
+    // Where no layer writes a slot, a call leaves a stack's registry, slots included, as the registry's own call does, but for
+    // whether a span is made and its verdicts.
     ensures unwritten { UnwrittenStandsAlone ⟦<F as Filter>⟧ ⟦<L as Layer>⟧ }
 {}
 
@@ -57,10 +58,11 @@ pub fn one_output_decides<L: Layer, F: Filter>()
 /// in the stack and after each of the core's calls, which keep the outputs' keys; and what such an output is
 /// told in its turn changes slots under its key alone.
 pub fn layers_keep_to_keys<L: Layer, F: Filter>()
-    // Where each output's layer writes slots under the output's key alone, so it is in the new stack.
+    // In a new stack each output's layer writes slots under the output's key alone, if it did so before.
     ensures start { NewKeepsToKeys ⟦<F as Filter>⟧ ⟦<L as Layer>⟧ }
-    // Each of the core's calls keeps that so, and keeps the outputs' keys.
+    // Each call keeps the outputs' keys, and layers that write slots under their own output's key alone stay so.
     ensures call { CallsKeepToKeys ⟦<F as Filter>⟧ ⟦<L as Layer>⟧ }
-    // What such an output is told changes slots under its key alone.
+    // An output whose layer writes slots under the output's key alone changes, when it is told something, nothing of the registry but
+    // such slots.
     ensures turn { TurnsKeepToKeys ⟦<F as Filter>⟧ ⟦<L as Layer>⟧ }
 {}

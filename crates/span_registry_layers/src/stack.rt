@@ -62,13 +62,14 @@ impl<L: Layer, F: Filter> Stack<Filtered<L, F>> {
         alloc: Global,
         outputs: Vec<Output<Filtered<L, F>>>,
     ) -> Result<Stack<Filtered<L, F>>, StackRefusal<Filtered<L, F>>>
-        // Refused outputs come back in order: no output, too many filters (those in layers count), equal keys, no memory.
+        // The outputs become a stack, unless there is none, their filters are too many (those in layers count), keys are equal, or
+        // memory runs out: then they come back in order.
         ensures exact { NewGives ⟦<L as Layer>⟧ ⟦<F as Filter>⟧ outputs.items result }
-        // Filters have numbers of their own below 64 from the start.
+        // Each filter, also one in a layer, has a number of its own below 64.
         ensures numbers { IfOk result (λ s. HasNumbers ⟦<L as Layer>⟧ s) }
-        // What is kept is right of honest filters.
+        // Where the stack's filters are honest, its cache is valid.
         ensures kept { IfOk result (λ s. Every (λ f. F.honest f) (filters_of s.rows) → CacheIsValid ⟦<F as Filter>⟧ s) }
-        // What a new stack keeps of honest filters' answers is right.
+        // Where the outputs' filters are honest, the new stack's cache is valid.
         ensures honest { Every (λ (o : Output (Filtered L F)). F.honest o.output.filter) outputs.items →
             IfOk result (λ s. CacheIsValid ⟦<F as Filter>⟧ s) }
     {
@@ -108,12 +109,11 @@ impl<L: Layer, F: Filter> Stack<Filtered<L, F>> {
     /// `UnknownParent` where a parent is named that is not open, which leaves the stack as it was.
     #[inline(always)]
     pub fn event(&mut self, event: &Event<'_, '_>, at: At) -> Result<(), RequestError>
-        // A stack asks the outputs' own filters of an event, and then tells outputs in order.
         ensures exact { EventCached ⟦<F as Filter>⟧ ⟦<L as Layer>⟧ (plain_event event.now) at self.old result self.new }
-        // While what is kept is right, this is asking every filter again, and what is kept stays right.
+        // With a valid cache this goes as if every output's filter were asked.
         ensures asking { CacheIsValid ⟦<F as Filter>⟧ self.old →
             EventAsked ⟦<F as Filter>⟧ ⟦<L as Layer>⟧ (plain_event event.now) at self.old result self.new }
-        // Each call but `swap_filter` and `stack_mut` keeps a valid cache valid.
+        // A valid cache stays valid.
         ensures kept { CacheIsValid ⟦<F as Filter>⟧ self.old → CacheIsValid ⟦<F as Filter>⟧ self.new }
     {
         self.parts.event(event, at)
@@ -122,11 +122,10 @@ impl<L: Layer, F: Filter> Stack<Filtered<L, F>> {
     /// Whether some output's filter passes what is made of the callsite there and then. It leaves no mark.
     pub fn enabled(&mut self, metadata: &Metadata<'_>, at: At) -> bool
         ensures exact { PassesCached ⟦<F as Filter>⟧ self.old (plain_metadata metadata.now) at result }
-        // While the cache is valid, a question is answered by whether some output's filter passes the callsite, by its current
-        // answer.
+        // With a valid cache the answer is whether some output's filter passes the callsite, by its current answer.
         ensures asking { CacheIsValid ⟦<F as Filter>⟧ self.old →
             PassesAsked ⟦<F as Filter>⟧ self.old (plain_metadata metadata.now) at result }
-        // A question leaves no mark.
+        // Nothing changes.
         ensures same { self.new ≡ self.old }
     {
         self.parts.enabled(metadata, at)

@@ -128,7 +128,6 @@ impl<'a> Context<'a> {
 
     /// What outputs keep with a span, to be changed, where it is open and the filter passed it.
     pub fn extensions_mut(&mut self, id: &Id) -> Option<ExtensionsMut<'_>>
-        // A context lends for writing the slots of an open span that its filter passed, and of no other.
         ensures lent { option_map (λ s. s.now) result ≡ option_map slots_in (span_in (view self.old) id.now) }
         ensures* ends { sem 𝓛 (LendsSlots self.entry id.now result) }
     {

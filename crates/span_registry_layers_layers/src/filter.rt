@@ -82,35 +82,35 @@ pub trait Filter: Drop {
     fn hear(&mut self, call: &SpanCall<'_, '_, '_, '_>, context: &Context<'_>)
         ensures { self.new ≡ after self.old (hook call.now (view context.now)) };
 
-    /// A span that passed was made.
+    /// Is told that a span that passed was made.
     fn on_new_span(&mut self, attributes: &Attributes<'_, '_>, span: &Id, context: &Context<'_>)
         ensures { self.new ≡ after self.old (SpanMade (plain_attributes attributes.now) span.now (view context.now)) }
     {
         self.hear(&SpanCall::NewSpan(span, attributes), context);
     }
 
-    /// Values were recorded on a span that passed.
+    /// Is told that values were recorded on a span that passed.
     fn on_record(&mut self, span: &Id, values: &Record<'_>, context: &Context<'_>)
         ensures { self.new ≡ after self.old (Recorded span.now (plain_record values.now) (view context.now)) }
     {
         self.hear(&SpanCall::Record(span, values), context);
     }
 
-    /// A span that passed was entered.
+    /// Is told that a span that passed was entered.
     fn on_enter(&mut self, span: &Id, context: &Context<'_>)
         ensures { self.new ≡ after self.old (Entered span.now (view context.now)) }
     {
         self.hear(&SpanCall::Enter(span), context);
     }
 
-    /// A span that passed was left.
+    /// Is told that a span that passed was left.
     fn on_exit(&mut self, span: &Id, context: &Context<'_>)
         ensures { self.new ≡ after self.old (Exited span.now (view context.now)) }
     {
         self.hear(&SpanCall::Exit(span), context);
     }
 
-    /// A span that passed closed.
+    /// Is told that a span that passed closed.
     fn on_close(&mut self, span: &Id, context: &Context<'_>)
         ensures { self.new ≡ after self.old (Closed span.now (view context.now)) }
     {

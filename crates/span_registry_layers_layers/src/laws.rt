@@ -15,7 +15,7 @@ pub fn trees_stay_attached<L: Layer>()
 /// ids rise, parents stand before their children, and the listed spans are the open ones. So closes are told
 /// of a child before its parent.
 pub fn tree_registry_stays_sound<L: Layer>()
-    // The registry of a tree is sound where its layers were attached to a sound one, and each call keeps it so.
+    // Attaching layers to a sound registry leaves it sound.
     ensures start { AttachedIsSound ⟦<L as Layer>⟧ }
     ensures call { TreeStaysSound ⟦<L as Layer>⟧ }
 {}
@@ -30,9 +30,10 @@ pub fn joined_registry_stays_sound<L: Layer, M: Layer>()
 /// when it is made, passes its callsite, and a later call on the span where each of them passed it then. An event that
 /// a layer of the tree vetoes reaches nobody.
 pub fn layer_hears_what_its_filters_pass<T: Layer, L: Layer, W: Way<T, L>>()
-    // A later call on a span is told to a layer exactly where all filters on its way passed the span at its making.
+    // When the layers of a tree are told something, one of them hears it exactly where all filters on the way down to it pass it.
     ensures notified { (w : W) → TreeTells ⟦<T as Layer>⟧ ⟦<L as Layer>⟧ (W.leads w) (W.passes w) }
-    // A layer of a tree is told an event exactly where all filters on the way down to it pass it, by their current answers.
+    // An event that the tree lets through is told to a layer exactly where all filters on the way down to it pass it; any other
+    // changes no layer.
     ensures event { (w : W) → TreeTellsEvents ⟦<T as Layer>⟧ ⟦<L as Layer>⟧ (W.leads w) (W.passes w) }
     // A made span is told to a layer exactly where all filters on the way down to it, asked then, pass its callsite.
     ensures span { (w : W) → TreeTellsSpans ⟦<T as Layer>⟧ ⟦<L as Layer>⟧ (W.leads w) (W.asks w) }

@@ -94,11 +94,11 @@ pub trait Layer: Drop {
 
     ghost keyed: { (x : Self) (n : Notice) (y : Self) → told x n y → (key : ℕ) → keys y key ≡ keys x key };
 
-    /// A hub took the stack that it is in, and gave out this handle.
+    /// Is told that a hub took the stack that it is in, and gave out this handle.
     fn on_register_dispatch(&mut self, dispatch: &WeakDispatch)
         ensures { told self.old (Dispatched dispatch.now) self.new };
 
-    /// It was attached to a registry, which it may have number its filters.
+    /// Is told that it was attached to a registry, which it may have number its filters.
     fn on_layer(&mut self, registry: &mut Registry)
         ensures notified { told self.old (Attached registry.old) self.new }
         ensures filters { AddsFilters registry.old registry.new }
@@ -124,7 +124,8 @@ pub trait Layer: Drop {
         ensures same { left context.new ≡ left context.old }
         ensures room { length result.0.passed ≡ length verdicts.passed }
         ensures others { SameBut (numbers self.now) verdicts.passed result.0.passed }
-        // It stays said whatever other filters say.
+        // What its filters said is kept in every list of verdicts that agrees with the answer on their numbers, whatever other
+        // filters say.
         ensures kept { (later : List Bool) → AreNumbers (length verdicts.passed) (numbers self.now) →
             SameOf (numbers self.now) result.0.passed later →
             kept self.now (plain_metadata metadata.now) (view context.old) passes later result.1 };
@@ -143,7 +144,7 @@ pub trait Layer: Drop {
         ensures lent { SameLoan context.old context.new }
         ensures notified { told self.old (notice call.now (view context.old) (left context.new)) self.new };
 
-    /// A span was made.
+    /// Is told that a span was made.
     fn on_new_span(&mut self, attributes: &Attributes<'_, '_>, span: &Id, context: &mut Context<'_>)
         ensures lent { SameLoan context.old context.new }
         ensures notified { told self.old (Spanned span.now (SpanMade (plain_attributes attributes.now) span.now)
@@ -156,7 +157,7 @@ pub trait Layer: Drop {
     fn max_level_hint(&self) -> Option<LevelFilter>
         ensures { result ≡ hint self.now };
 
-    /// Values were recorded on a span.
+    /// Is told that values were recorded on a span.
     fn on_record(&mut self, span: &Id, values: &Record<'_>, context: &mut Context<'_>)
         ensures lent { SameLoan context.old context.new }
         ensures notified { told self.old (Spanned span.now (Recorded span.now (plain_record values.now))
@@ -165,10 +166,9 @@ pub trait Layer: Drop {
         self.hear(&Told::Record(span, values), context);
     }
 
-    /// A span was said to follow from another one.
+    /// Is told that a span was said to follow from another one.
     fn on_follows_from(&mut self, span: &Id, follows: &Id, context: &mut Context<'_>)
         ensures lent { SameLoan context.old context.new }
-        // A layer says what a notice may make of it, by what it sees and by the registry as it leaves it.
         ensures notified { told self.old (Followed span.now follows.now (view context.old) (left context.new))
             self.new }
     {
@@ -179,7 +179,7 @@ pub trait Layer: Drop {
     fn event_enabled(&self, event: &Event<'_, '_>, context: &Context<'_>) -> bool
         ensures { event_answers self.now (plain_event event.now) (view context.now) result };
 
-    /// An event happened.
+    /// Is told that an event happened.
     fn on_event(&mut self, event: &Event<'_, '_>, context: &mut Context<'_>)
         ensures lent { SameLoan context.old context.new }
         ensures notified { told self.old (Happened (plain_event event.now) (view context.old) (left context.new))
@@ -188,7 +188,7 @@ pub trait Layer: Drop {
         self.hear(&Told::Event(event), context);
     }
 
-    /// A span was entered.
+    /// Is told that a span was entered.
     fn on_enter(&mut self, span: &Id, context: &mut Context<'_>)
         ensures lent { SameLoan context.old context.new }
         ensures notified { told self.old (Spanned span.now (Entered span.now) (view context.old) (left context.new))
@@ -197,7 +197,7 @@ pub trait Layer: Drop {
         self.hear(&Told::Enter(span), context);
     }
 
-    /// A span was left.
+    /// Is told that a span was left.
     fn on_exit(&mut self, span: &Id, context: &mut Context<'_>)
         ensures lent { SameLoan context.old context.new }
         ensures notified { told self.old (Spanned span.now (Exited span.now) (view context.old) (left context.new))
@@ -206,7 +206,7 @@ pub trait Layer: Drop {
         self.hear(&Told::Exit(span), context);
     }
 
-    /// A span closes: it can still be looked at.
+    /// Is told that a span closes: it can still be looked at.
     fn on_close(&mut self, span: &Id, context: &mut Context<'_>)
         ensures lent { SameLoan context.old context.new }
         ensures notified { told self.old (Spanned span.now (Closed span.now) (view context.old) (left context.new))
@@ -215,7 +215,7 @@ pub trait Layer: Drop {
         self.hear(&Told::Close(span), context);
     }
 
-    /// A span has another id. No stack of this crate calls it.
+    /// Is told that a span has another id. No stack of this crate calls it.
     fn on_id_change(&mut self, old: &Id, new: &Id, context: &mut Context<'_>)
         ensures lent { SameLoan context.old context.new }
         ensures notified { told self.old (Renamed old.now new.now (view context.old) (left context.new)) self.new }

@@ -77,7 +77,7 @@ impl Stop {
         }
     }
 
-    /// Writes one line on why the program ends, and none where memory is wanting. A refused write is passed over.
+    /// Writes one line on why the program ends, and none where there is no memory for it. A refused write is passed over.
     pub(crate) fn tell<E: Write>(self, errors: &mut E) {
         let _ = match self {
             Stop::Usage => writeln!(errors, "span-trace: usage: span-trace replay|threads"),

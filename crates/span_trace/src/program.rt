@@ -109,11 +109,12 @@ pub fn main_with<X: Files + AllocGlobal + Clone + Drop, R: Read, W: Write, E: Wr
 ) -> u8
     ensures range { result ≤ 5 }
 
-    // Other arguments are refused before the input is read.
+    // Arguments other than the one word `replay` give status 2.
     ensures usage { asks_replay (map string_bytes arguments.now) ≡ false → result ≡ 2 }
+    // With such arguments the input isn't read.
     ensures unread { asks_replay (map string_bytes arguments.now) ≡ false → input.new ≡ input.old }
 
-    // Where the program refuses its input, it writes none of its output.
+    // With status 2 or 3 nothing is written to the output.
     ensures quiet { (result ≡ 2) ⊎ (result ≡ 3) → output.new ≡ output.old }
 {
     if !asks_replay(arguments) {

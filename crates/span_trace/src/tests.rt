@@ -107,7 +107,7 @@ pub(crate) fn script_of(alloc: Global, steps: &[&str]) -> Result<String, AllocEr
     Ok(text)
 }
 
-/// A line of a file is missing where memory was wanting, so the line that shows the file is shorter.
+/// A line of a file is missing where there was no memory for it, so the line that shows the file is shorter.
 fn is_shorter_file(line: &[u8], wanted: &[u8]) -> bool {
     line.starts_with(b"{\"file\":") && line.len() < wanted.len()
 }

@@ -178,8 +178,9 @@ pub fn main_with<R: Files + Clock + AllocGlobal + Clone + Drop, W: Write, E: Wri
 ) -> u8
     ensures range { result ≤ 5 }
 
-    // Other words are answered with the usage alone.
+    // Any words but none, or `bench` with a bench's name, a count and a file, give status 2.
     ensures usage { asks_bench (map string_bytes words.now) ≡ false → result ≡ 2 }
+    // With such words nothing is written to the output.
     ensures quiet { asks_bench (map string_bytes words.now) ≡ false → output.new ≡ output.old }
 {
     match answer(rt, words, output) {

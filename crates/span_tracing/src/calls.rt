@@ -14,7 +14,8 @@ use tracing_core_fields::Subscriber;
 /// bytes stand in its files.
 pub fn calls_make_runs<N: FormatFields + Drop, E: FormatEvent, F: Filter, D: Folder>()
     ensures runs { CallsMakeRuns ⟦<TraceStack<N, E, F, RoutedSinks<RollingSink<D>>> as Subscriber>⟧ }
-    // Of each run over a ready stack all of the table above holds but its last line, however its steps were called.
+    // Of every run over a ready stack `RunsReady` says replies, the lines that each sink took, and the bytes in its files, however
+    // its steps were called.
     ensures files { EachRunIsReady ⟦<TraceStack<N, E, F, RoutedSinks<RollingSink<D>>> as Subscriber>⟧ D.contents D.failed
         ⟦<N as FormatFields>⟧ E.line_of ⟦<F as Filter>⟧ ⟦<Layer<N, E, PendingLines> as span_registry_layers_layers::Layer>⟧ }
 {

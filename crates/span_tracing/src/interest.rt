@@ -20,9 +20,9 @@ impl<T: Subscriber + HasRegistry> Trace<T> {
 }
 
 impl<T: Subscriber> Trace<T> {
-    /// Whether nobody is interested in the callsite, so that an event there would reach no output, and a span wouldn't be made. Whoever
-    /// makes no request then misses no line (`skipping_misses_nothing`). He isn't told of a lane that isn't there, of a moment out of
-    /// range, or of a parent that is closed.
+    /// Whether it is kept of the callsite that nobody is interested in it. Then an event there would reach no output, and a span
+    /// wouldn't be made. Whoever makes no request then misses no line (`skipping_misses_nothing`). He isn't told of a lane that isn't
+    /// there, of a moment out of range, or of a parent that is closed.
     pub fn is_off(&self, callsite: CallsiteIndex) -> bool
         ensures { result ≡ is_off_at self.now.interests callsite }
     {

@@ -72,7 +72,7 @@ impl<N: FormatFields + Drop, E: FormatEvent, F: Filter, S: LineSink> Trace<Trace
         self.parts.set_global_default(handle)
     }
 
-    /// An event on a lane. A line that finds no memory is missing alone, and counted.
+    /// Makes an event on a lane. A line that finds no memory is missing alone, and counted.
     #[inline(always)]
     pub fn event(
         &mut self,
@@ -113,7 +113,8 @@ impl<N: FormatFields + Drop, E: FormatEvent, F: Filter, S: LineSink> Trace<Trace
         })
     }
 
-    /// A new span on a lane; answers its name, or none where it is dropped. A text that finds no memory is missing alone, and counted.
+    /// Makes a new span on a lane, and answers its name, or none where it is dropped. A text that finds no memory is missing alone,
+    /// and counted.
     pub fn new_span(
         &mut self,
         lane: usize,
@@ -226,7 +227,7 @@ impl<N: FormatFields + Drop, E: FormatEvent, F: Filter, S: LineSink> Trace<Trace
         self.parts.try_close(&SpanCall { lane, moment, span })
     }
 
-    /// A step.
+    /// Takes a step, and answers its reply.
     pub fn step(&mut self, step: &Step) -> Reply
         ensures { IsStep ⟦<TraceStack<N, E, F, S> as Subscriber>⟧ ⟦<N as FormatFields>⟧ E.line_of ⟦<F as Filter>⟧ S.takes
             ⟦<Layer<N, E, PendingLines> as span_registry_layers_layers::Layer>⟧ self.old
@@ -265,10 +266,10 @@ impl<N: FormatFields + Drop, E: FormatEvent, F: Filter, D: Folder> Trace<
     ///
     /// Out of memory for the replies, whose room is made first: then nothing was done.
     pub fn run(&mut self, steps: &[Step]) -> Result<Vec<Reply>, AllocError>
-        // `Trace::run` gives one reply for each step.
+        // There is one reply for each step, and each step goes as it would alone, from where the one before left the trace.
         ensures gives { IfOk result (λ replies. RunGives ⟦<TraceStack<N, E, F, RoutedSinks<RollingSink<D>>> as Subscriber>⟧ self.old
             (plain_steps steps.now) replies.items self.new) }
-        // Where the stack is ready, the whole headline holds, and the stack is ready afterwards.
+        // Where the stack is ready, replies, sinks and files are as `RunsToFiles` says, and the stack is ready afterwards.
         ensures run { IfOk result
             (λ replies. RunsReady D.contents D.failed ⟦<N as FormatFields>⟧ E.line_of ⟦<F as Filter>⟧
             ⟦<Layer<N, E, PendingLines> as span_registry_layers_layers::Layer>⟧

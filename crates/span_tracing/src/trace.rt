@@ -70,13 +70,12 @@ impl<T: Subscriber> Trace<T> {
     ///
     /// Out of memory, which leaves the trace as it was.
     pub fn thread(&mut self, name: Option<String>, thread_id: u64) -> Result<usize, AllocError>
-        // `thread` adds a lane behind the others, with its name and thread, and answers its number.
         ensures number { IfOk result (λ lane. lane ≡ length self.old.threads) }
-        // `thread` changes nothing but the lanes.
+        // The new lane, with its name and its thread's number, stands behind the others, and nothing else changes.
         ensures ok { OnOk result (self.new ≡ record self.old {
           threads = self.old.threads ++ (record { name = option_map string_bytes name; number = thread_id }) ∷ [];
         }) }
-        // A setup call that finds no memory leaves the trace as it was.
+        // Where there is no memory, the trace stays as it was.
         ensures err { OnErr result (self.new ≡ self.old) }
     {
         self.parts.thread(name, thread_id)
@@ -108,9 +107,8 @@ impl<T: Subscriber> Trace<T> {
     /// Out of memory, which leaves the trace as it was and gives the stack back.
     pub fn add_stack(&mut self, stack: T) -> Result<usize, T>
         requires none { self.old.stack ≡ None }
-        // `add_stack` tells the stack its handle, asks it of each callsite in order and for its hint, keeps it with its answers,
-        // and answers 0.
         ensures handle { IfOk result (λ handle. handle ≡ 0) }
+        // The stack is told its handle, is asked of each callsite in order and for its hint, and is kept with what it said.
         ensures ok { OnOk result (AddsStack ⟦<T as Subscriber>⟧ self.old stack self.new) }
         ensures err { OnErr result (self.new ≡ self.old) }
         ensures back { IfErr result (λ back. back ≡ stack) }

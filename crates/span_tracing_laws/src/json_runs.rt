@@ -20,7 +20,7 @@ pub fn json_outputs_run<N: FormatFields>()
     json_outputs_offer_objects::<N>();
 }
 
-/// After such a run each file of a sink of the JSON output, cut at newlines, holds one object of JSON on each line. The sink has to
+/// After a run of steps each file of a sink of a JSON output, cut at newlines, holds one object of JSON on each line. The sink has to
 /// have dropped no line in the run, and to have been handed objects alone before, its appender has to agree with a sink before the run
 /// (`AgreesSink`), and the contents of its folder have to be known. What the file's opening found has to be made up of such objects, as
 /// an empty file is, or there was no file.
@@ -32,10 +32,11 @@ pub fn json_files_hold_objects<N: FormatFields, E: FormatEvent, F: Filter, D: Fo
     lines_give_objects();
 }
 
-/// The same holds of an output in the JSON format with the JSON formatter of fields, in a trace that agrees with the output's
-/// machine. It holds whatever the timer is and whatever parts of a line are shown. Either the output doesn't tell events that
-/// can't be formatted, or each event of the run can be formatted. Before the run the machine has to keep an object with each span
-/// of which it keeps fields, as one does that keeps nothing yet.
+/// After a run of steps each file of a sink of an output in the JSON format with the JSON formatter of fields holds one object of
+/// JSON on each line, in a trace that agrees with the output's machine, under the same premises as in
+/// [`json_files_hold_objects`]. It holds whatever the timer is and whatever parts of a line are shown. Either the output doesn't
+/// tell events that can't be formatted, or each event of the run can be formatted. Before the run the machine has to keep an
+/// object with each span of which it keeps fields, as one does that keeps nothing yet.
 pub fn json_format_files_hold_objects<T: FormatTime + Drop, F: Filter, D: Folder>()
     ensures { JsonFormatFilesHoldObjects D.contents D.failed ⟦<Fields as FormatFields>⟧
         ⟦<Format<LineFormat, T> as FormatEvent>⟧.line_of ⟦<F as Filter>⟧ }

@@ -32,9 +32,10 @@ pub fn steps_follow<N: FormatFields + Drop, E: FormatEvent, F: Filter, S: LineSi
     trace_follows::<N, E, F, S>();
 }
 
-/// A run of steps does: from each plain state that the trace agrees with, the replies are the plain ones, the trace agrees
-/// with the plain state afterwards, and each output's sink took exactly the lines of the output's machine, in order, each
-/// with where and when it was handed over. A step that found no memory did nothing.
+/// A run of steps goes as the skeleton and the output machines do: from each plain state that the trace agrees with, the
+/// replies are the plain ones, the trace agrees with the plain state afterwards, and each output's sink took exactly the
+/// lines of the output's machine, in order, each with where and when it was handed over. A step that found no memory did
+/// nothing.
 pub fn runs_follow<N: FormatFields + Drop, E: FormatEvent, F: Filter, S: LineSink>()
     ensures { RunsFollow ⟦<N as FormatFields>⟧ E.line_of ⟦<F as Filter>⟧ S.takes
         ⟦<Layer<N, E, PendingLines> as span_registry_layers_layers::Layer>⟧

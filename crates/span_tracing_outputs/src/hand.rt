@@ -51,7 +51,7 @@ pub(crate) fn clear_lines<N: FormatFields + Drop, E: FormatEvent, F: Filter>(
 }
 
 /// Hands the lines that the outputs keep to their sinks, outputs in order, and each output's lines in order. No output
-/// keeps a line afterwards, and nothing else of the stack changes. It wants as
+/// keeps a line afterwards, and nothing else of the stack changes. It needs as
 /// many sinks as outputs.
 pub fn hand_over<N: FormatFields + Drop, E: FormatEvent, F: Filter, S: LineSink>(
     stack: &mut Stack<Filtered<Layer<N, E, PendingLines>, F>>,

@@ -39,9 +39,9 @@ pub fn outputs_fold<N: FormatFields, E: FormatEvent, F: Filter>()
     ensures { FollowingFolds ⟦<N as FormatFields>⟧ E.line_of ⟦<F as Filter>⟧ }
 {}
 
-/// What each call of a stack with sinks answers, and what it makes of its outputs and sinks, where what is kept of the
-/// filters' answers is right, the registry is sound, no two layers have the same key, and no output keeps a line. So it is
-/// afterwards.
+/// Each call of a stack with sinks answers, and makes of its outputs and sinks, what the skeleton and the output machines
+/// say, where what is kept of the filters' answers is right, the registry is sound, no two layers have the same key, and
+/// no output keeps a line. So it is afterwards.
 ///
 /// Each output is told its notices in order, which the skeleton and the filters' answers decide, and goes on as any output
 /// machine does that it agrees with, with some fates of its texts and lines. Each sink takes the lines of its machine. What

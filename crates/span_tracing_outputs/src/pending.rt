@@ -43,7 +43,7 @@ impl Model for PendingLines {
 }
 
 impl PendingLines {
-    /// No line.
+    /// Pending lines of which there are none yet.
     pub fn new(alloc: Global) -> PendingLines
         ensures { result ≡ [] }
     {

@@ -79,9 +79,10 @@ impl<N: FormatFields + Drop, E: FormatEvent, F: Filter, S> TraceStack<N, E, F, S
         stack: Stack<Filtered<Layer<N, E, PendingLines>, F>>,
         sinks: Vec<S>,
     ) -> Result<TraceStack<N, E, F, S>, UnpairedSinks<N, E, F, S>>
-        // A `TraceStack` is made exactly where there are as many sinks as outputs. Else both come back unchanged.
+        // It is made exactly where there are as many sinks as outputs, and forgets the lines that outputs kept; else both come back
+        // unchanged.
         ensures gives { NewGives stack sinks.items result }
-        // What the stack keeps of its filters' answers stays right.
+        // A valid cache stays valid.
         ensures valid { CacheIsValid ⟦<F as Filter>⟧ stack → IfOk result (λ made. CacheIsValid ⟦<F as Filter>⟧
             made.stack) }
     {

@@ -181,12 +181,12 @@ impl<T: Subscriber + HasRegistry> TraceParts<T> {
         }
     }
 
-    /// An event on a lane.
+    /// Makes an event on a lane.
     #[inline(always)]
     pub fn event(&mut self, event: &Request<'_>) -> Reply
         requires { IsSound self.old }
         ensures sound { IsSound self.new }
-        // An event, a new span and a question reach the stack where it is the global default alone.
+        // A refused event changes nothing; any other is done, and the stack takes it where it is the global default.
         ensures gives { StepGives ⟦<T as Subscriber>⟧ T.registry_of (value_in self.old) (EventStep
             (plain_request event.now)) result (value_in self.new) }
     {
@@ -209,11 +209,12 @@ impl<T: Subscriber + HasRegistry> TraceParts<T> {
         }
     }
 
-    /// A new span on a lane.
+    /// Makes a new span on a lane.
     pub fn new_span(&mut self, span: &Request<'_>) -> Reply
         requires { IsSound self.old }
         ensures sound { IsSound self.new }
-        // Elsewhere an event is done, a new span is dropped, and a question is answered no.
+        // A refused span changes nothing; else the stack takes it where it is the global default, and its answer is told, or else it
+        // is dropped.
         ensures gives { StepGives ⟦<T as Subscriber>⟧ T.registry_of (value_in self.old) (SpanStep
             (plain_request span.now)) result (value_in self.new) }
     {
@@ -242,7 +243,8 @@ impl<T: Subscriber + HasRegistry> TraceParts<T> {
     pub fn enabled(&mut self, call: &EnabledCall) -> Reply
         requires { IsSound self.old }
         ensures sound { IsSound self.new }
-        // A question, a new span and a close are answered by what the stack answers.
+        // A refused question changes nothing; else the stack is asked where it is the global default, and where it isn't, the answer
+        // is no.
         ensures gives { StepGives ⟦<T as Subscriber>⟧ T.registry_of (value_in self.old) (EnabledStep
             call.now) result (value_in self.new) }
     {

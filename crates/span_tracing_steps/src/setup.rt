@@ -15,9 +15,9 @@ use tracing_core_fields::{Identifier, Interest, Metadata, Subscriber};
 impl<T: Subscriber> TraceParts<T> {
     ghost use Rattle.span_tracing_steps.specs.TraceInvariant.{IsSound};
 
-    /// No stack, no lane and no callsite.
+    /// Parts with no stack, no lane and no callsite.
     pub fn new(alloc: Global) -> TraceParts<T>
-        // New parts are sound, and have no stack, no lane and no callsite.
+        // New parts are sound.
         ensures sound { IsSound result }
         ensures value { value_in result ≡ new_state }
     {
@@ -38,12 +38,11 @@ impl<T: Subscriber> TraceParts<T> {
     pub fn thread(&mut self, name: Option<String>, thread_id: u64) -> Result<usize, AllocError>
         requires { IsSound self.old }
         ensures sound { IsSound self.new }
-        // `thread` adds a lane behind the others, with its name and thread, and answers its number.
         ensures number { IfOk result (λ lane. lane ≡ length (value_in self.old).threads) }
         ensures ok { OnOk result (value_in self.new ≡ record (value_in self.old) {
           threads = (value_in self.old).threads ++ (record { name = option_map string_bytes name; number = thread_id }) ∷ [];
         }) }
-        // A setup call that finds no memory changes nothing, and a stack comes back.
+        // Where there is no memory, nothing changes.
         ensures err { OnErr result (value_in self.new ≡ value_in self.old) }
     {
         let lane = self.threads.len();
@@ -65,7 +64,8 @@ impl<T: Subscriber> TraceParts<T> {
     ) -> Result<Interest, Refusal>
         requires { IsSound self.old }
         ensures sound { IsSound self.new }
-        // `register` takes a callsite that isn't known behind the others, with copies of all its metadata.
+        // A callsite that isn't known is kept behind the others, with its metadata and what the stack says of it; a known one changes
+        // nothing.
         ensures gives { RegisterGives ⟦<T as Subscriber>⟧ (value_in self.old)
             (own_at identifier.0 (plain_metadata metadata.now)) result (value_in self.new) }
     {
@@ -88,8 +88,8 @@ impl<T: Subscriber> TraceParts<T> {
         requires sound { IsSound self.old }
         requires none { (value_in self.old).stack ≡ None }
         ensures sound { IsSound self.new }
-        // `add_stack` tells the stack its handle, asks it of each callsite in order and for its hint, and keeps it with its
-        // answers.
+        // The stack is told its handle, is asked of each callsite in order and for its hint, and is kept with what it said; where
+        // there is no memory, it comes back, and nothing changes.
         ensures gives { AddGives ⟦<T as Subscriber>⟧ (value_in self.old) stack result (value_in self.new) }
     {
         match self.hub.add(stack) {

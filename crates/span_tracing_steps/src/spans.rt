@@ -18,7 +18,7 @@ impl<T: Subscriber + HasRegistry> TraceParts<T> {
     pub fn set_global_default(&mut self, handle: usize) -> Reply
         requires { IsSound self.old }
         ensures sound { IsSound self.new }
-        // `set_global_default` makes the stack the one that lanes reach, once, and changes nothing else.
+        // A refused call changes nothing; else the stack becomes the one that lanes reach, and nothing else changes.
         ensures gives { StepGives ⟦<T as Subscriber>⟧ T.registry_of (value_in self.old) (GlobalStep handle) result
             (value_in self.new) }
     {
@@ -37,7 +37,8 @@ impl<T: Subscriber + HasRegistry> TraceParts<T> {
     pub fn record(&mut self, request: &RecordRequest<'_>) -> Reply
         requires { IsSound self.old }
         ensures sound { IsSound self.new }
-        // Values are told by their fields' places; one of a field that the callsite lacks is passed over.
+        // A refused record changes nothing; any other is done, and the stack takes the values by their fields' places, without those
+        // of fields that the callsite lacks. A record of no span changes nothing.
         ensures gives { StepGives ⟦<T as Subscriber>⟧ T.registry_of (value_in self.old) (RecordStep
             (plain_record request.now)) result (value_in self.new) }
     {
@@ -64,7 +65,7 @@ impl<T: Subscriber + HasRegistry> TraceParts<T> {
     pub fn record_follows_from(&mut self, call: &FollowsCall) -> Reply
         requires { IsSound self.old }
         ensures sound { IsSound self.new }
-        // A call on no span hands nothing over, nor does a link where either span is none.
+        // A refused link changes nothing; any other is done, and the stack takes it unless one of the spans is none.
         ensures gives { StepGives ⟦<T as Subscriber>⟧ T.registry_of (value_in self.old) (FollowsFromStep
             call.now) result (value_in self.new) }
     {
@@ -91,7 +92,8 @@ impl<T: Subscriber + HasRegistry> TraceParts<T> {
     pub fn enter(&mut self, call: &SpanCall) -> Reply
         requires { IsSound self.old }
         ensures sound { IsSound self.new }
-        // Where the stack refuses a new span or an entry, out of memory is answered, or, of a span, that ids are spent.
+        // A refused entry changes nothing; else the stack takes it, and where the stack refuses, out of memory is answered. An entry
+        // of no span is done, and changes nothing.
         ensures gives { StepGives ⟦<T as Subscriber>⟧ T.registry_of (value_in self.old) (EnterStep call.now)
             result (value_in self.new) }
     {
@@ -138,7 +140,7 @@ impl<T: Subscriber + HasRegistry> TraceParts<T> {
     pub fn clone_span(&mut self, call: &SpanCall) -> Reply
         requires { IsSound self.old }
         ensures sound { IsSound self.new }
-        // An event, a record, a link and a clone that reach the stack are done, whatever it answers.
+        // A refused call changes nothing; any other is done, and the stack takes it unless the span is none.
         ensures gives { StepGives ⟦<T as Subscriber>⟧ T.registry_of (value_in self.old) (CloneStep call.now)
             result (value_in self.new) }
     {

@@ -12,7 +12,6 @@ pub trait Clock: Drop {
 
     /// The moment that it is now, from 0001-01-01 to 9998-12-31.
     fn now(&mut self) -> Moment
-        // Each clock tells moments in range.
         ensures in_range { is_moment result ≡ true }
         ensures read { reads self.old result self.new };
 }

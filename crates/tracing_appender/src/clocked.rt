@@ -38,7 +38,7 @@ impl<D: Folder, C: Clock> ClockedAppender<D, C> {
 
     /// The clock, to be set.
     pub fn clock_mut(&mut self) -> &mut C
-        // An appender gets a clock, lends the clock for writing, and comes back as it is.
+        // The appender has afterwards the clock as the loan left it, and is else as it was.
         ensures* lends { sem 𝓛 (LendsClock D.row C.row self.entry result) }
         ensures clock { result.now ≡ self.old.clock }
     {

@@ -41,11 +41,11 @@ impl<D: Folder, C: Clock> ClockedAppender<D, C> {
     /// Where that fails the writer writes to the file before, as lines do until the period of that moment ends. A
     /// folder's fault is counted then, and out of memory isn't.
     pub fn make_writer(&mut self) -> RollingWriter<'_, D, C>
-        // The writer keeps its loan, its moment and the clock, and what it leaves is the appender's afterwards.
+        // The writer holds this loan, so that what it leaves is the appender's afterwards.
         ensures loan { IsLoanOf self.entry result }
-        // `make_writer` reads the clock once and looks at that moment as a line of no bytes does.
+        // The clock was read, and told the writer's moment.
         ensures read { C.reads self.old.clock result.moment result.clocked.now.clock }
-        // Whatever that look answers, no later look at that moment changes the file.
+        // The appender looked at that moment as for a line of no bytes, and the period of its file is not over then.
         ensures looked { LookedAt D.contents D.failed self.old.appender result.clocked.now.appender result.moment }
     {
         let moment = self.clock.now();

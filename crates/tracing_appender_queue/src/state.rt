@@ -109,10 +109,11 @@ impl QueueState {
     ///
     /// Out of memory, with the line; nothing is changed.
     pub fn offer(&mut self, line: Vec<u8>) -> Result<Offered, AllocFailed<Vec<u8>>>
-        // A queue takes a line exactly where it is accepting and has room.
+        // The answer tells what became of the line: it was taken in, with its number, or dropped, or it came back, as there is no
+        // room or the queue is closed.
         ensures ok { IfOk result (λ offered. Offers self.old line.items offered self.new) }
         ensures next { OnOk result (self.new ≡ after_offer self.old line.items) }
-        // A refused call changes nothing.
+        // Where there is no memory, nothing changes.
         ensures err { OnErr result (self.new ≡ self.old) }
         ensures back { IfErr result (λ failed. failed.value ≡ line) }
         ensures memory { OnErr result (accepts self.old ≡ true) }
@@ -147,7 +148,6 @@ impl QueueState {
     /// Takes the next line before the mark, or else the mark at the head, with which the queue closes and
     /// what stands behind is left for good, or else nothing.
     pub fn take(&mut self) -> Option<Taken>
-        // Lines are taken in order with their numbers, and nothing behind the mark is taken.
         ensures taken { Takes self.old result self.new }
         ensures next { self.new ≡ after_take self.old }
     {

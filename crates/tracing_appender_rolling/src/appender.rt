@@ -72,13 +72,13 @@ impl<D: Folder> RollingFileAppender<D> {
     ) -> Result<Self, OpenRefusal<D>>
         requires { is_moment moment ≡ true }
         ensures names { IfOk result (λ appender. builder_names appender.builder ≡ builder_names builder) }
-        // whatever the folder refuses
+        // Over known contents, whatever the folder refuses, the appender stands where retention and the opening left the folder.
         ensures held { (c : Contents) → D.contents folder ≡ Some c →
             IfOk result (λ appender. IsOpened D.contents (builder_names builder) moment c appender) }
         ensures failed { (c : Contents) → D.contents folder ≡ Some c →
             IfErr result (λ refusal. FailedAt (builder_names builder) moment c refusal.context refusal.error
             (D.contents refusal.folder)) }
-        // over a folder that refuses nothing
+        // Over a plain folder the appender agrees with a model of its files, and nothing is lost.
         ensures state { (c : Contents) → D.contents folder ≡ Some c → HasGoodLink (builder_names builder) →
             MayOpen c (builder_names builder) →
             IfOk result (λ appender. OpensSink D.contents (builder_names builder) moment c appender) }
@@ -127,10 +127,12 @@ impl<D: Folder> RollingFileAppender<D> {
             OnOk result (LooksAt D.contents (builder_names self.old.builder) moment h self.new) }
         ensures missed { (h : Held) → Holds D.contents self.old h →
             OnErr result (MissesAt D.contents (builder_names self.old.builder) moment h self.new) }
-        // over a folder that refuses nothing
+        // Where the appender agreed with a model of its files, it agrees with it after a look that found memory, and no fault is
+        // counted.
         ensures state { (c : Contents) (p : PrunedSink) → D.contents self.old.folder ≡ Some c →
             AgreesSink D.contents self.old p → RollsSink D.contents p moment c self.old result self.new }
-        // over any folder
+        // Over any folder a look before the end of the period changes nothing; a later one moves that end, counts faults, and keeps
+        // the file where the opening failed.
         ensures anywhere { RollsAt D.failed moment self.old self.new }
         ensures stays { OnErr result (self.new.current ≡ self.old.current) }
         ensures builder { self.new.builder ≡ self.old.builder }
@@ -189,7 +191,8 @@ impl<D: Folder> RollingFileAppender<D> {
             (D.contents self.new.folder) }
         ensures faults { self.new.faults ≡ after_write self.old.faults result }
         ensures still { self.new ≡ record self.old { folder = self.new.folder; faults = self.new.faults } }
-        // over a folder that refuses nothing
+        // Where the appender agreed with a model of its files, there is no fault, and these bytes stand there, or none where memory
+        // ran out.
         ensures state { WritesSink (builder_names self.old.builder) self.old.boundary self.old.current
             (λ done. bytes.now) result (D.contents self.old.folder) (D.contents self.new.folder) }
         ensures names { builder_names self.new.builder ≡ builder_names self.old.builder }

@@ -97,7 +97,6 @@ impl Builder {
 
     /// Whether the link has the name of a log file of some moment.
     pub fn has_bad_link(&self) -> bool
-        // A link with the name of a log file of some moment is a bad link.
         ensures bad { result ≡ true → HasBadLink (builder_names self.now) }
         ensures good { result ≡ false → HasGoodLink (builder_names self.now) }
     {

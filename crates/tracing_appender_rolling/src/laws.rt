@@ -35,9 +35,8 @@ pub fn lines_have_one_end()
 
 /// Files that were empty at the opening, read in byte order of their names, are the handed lines in order.
 pub fn files_read_in_order()
-    // Files that were empty at opening, read in byte order of names, are the handed lines in order.
     ensures all { FilesReadInOrder }
-    // So are the sink's own files.
+    // The sink's own files, where they were empty at the opening, read in byte order of their names, are the handed lines in order.
     ensures own { OwnFilesReadInOrder }
 {}
 

@@ -27,16 +27,20 @@ impl<D: Folder> RollingFileAppender<D> {
     /// that found no memory nothing is written; the next lines of the period go to the old file.
     pub fn write_all_at(&mut self, bytes: &[u8], moment: Moment) -> Result<(), FolderError>
         requires { is_moment moment ≡ true }
-        // Retention runs before the opening.
+        // Over known contents, whatever the folder refuses, there was a look at the moment and then these writes, or memory ran out
+        // in one of them.
         ensures handed { (h : Held) → Holds D.contents self.old h →
             HandsLine D.contents (builder_names self.old.builder) moment h bytes.now result self.new }
-        // over a folder that refuses nothing
+        // Where the appender agreed with a model of its files, there is no fault, and with memory it agrees afterwards with that
+        // model and this line.
         ensures state { (c : Contents) (p : PrunedSink) → D.contents self.old.folder ≡ Some c →
             AgreesSink D.contents self.old p →
             LeavesSink D.contents p (λ done. bytes.now) moment c self.old result self.new }
         ensures names { builder_names self.new.builder ≡ builder_names self.old.builder }
+        // A fault is told only where the folder's count of faults rose, or stands at the greatest number, or a write of some bytes
+        // took none.
         ensures error { ReportsWrites (D.failed self.old.folder) result (length bytes.now) (D.failed self.new.folder) }
-        // over any folder
+        // Over any folder the end of the period, the current file and the counts of faults are what a look and these writes leave.
         ensures anywhere { LineAnywhere D.failed moment (length bytes.now) result self.old self.new }
     {
         self.roll(moment)?;
@@ -51,17 +55,19 @@ impl<D: Folder> RollingFileAppender<D> {
     pub fn write_at(&mut self, bytes: &[u8], moment: Moment) -> Result<usize, FolderError>
         requires { is_moment moment ≡ true }
         ensures bound { IfOk result (λ n. n ≤ length bytes.now) }
-        // Retention asks the folder once, for the names with its prefix; no other name is a candidate.
+        // Over known contents, whatever the folder refuses, there was a look at the moment and then one write, or memory ran out in
+        // one of them.
         ensures written { (h : Held) → Holds D.contents self.old h →
             WritesOnce D.contents (builder_names self.old.builder) moment h bytes.now result self.new }
-        // over a folder that refuses nothing
+        // Where the appender agreed with a model of its files, there is no fault, and with memory it agrees afterwards with that
+        // model and the bytes that were taken.
         ensures state { (c : Contents) (p : PrunedSink) → D.contents self.old.folder ≡ Some c →
             AgreesSink D.contents self.old p →
             LeavesSink D.contents p (λ n. take n bytes.now) moment c self.old result self.new }
         ensures names { builder_names self.new.builder ≡ builder_names self.old.builder }
-        // A fault is told only where the folder's count rose, or a write of some bytes took none.
+        // A fault is told only where the folder's count of faults rose, or stands at the greatest number.
         ensures error { ReportsCall (D.failed self.old.folder) result (D.failed self.new.folder) }
-        // over any folder
+        // Over any folder the end of the period, the current file and the counts of faults are what a look and one write leave.
         ensures anywhere { WriteAnywhere D.failed moment result self.old self.new }
     {
         self.roll(moment)?;
@@ -75,7 +81,8 @@ impl<D: Folder> RollingFileAppender<D> {
             (D.contents self.new.folder) }
         ensures faults { self.new.faults ≡ after_write self.old.faults (unit_of result) }
         ensures failures { D.failed self.new.folder ≡ failures_after (D.failed self.old.folder) result }
-        // over a folder that refuses nothing
+        // Where the appender agreed with a model of its files, there is no fault, and the bytes that were taken stand there, or none
+        // where memory ran out.
         ensures state { WritesSink (builder_names self.old.builder) self.old.boundary self.old.current
             (λ n. take n bytes.now) result (D.contents self.old.folder) (D.contents self.new.folder) }
         ensures still { self.new ≡ record self.old { folder = self.new.folder; faults = self.new.faults } }
@@ -96,14 +103,15 @@ impl<D: Folder> RollingFileAppender<D> {
     ///
     /// The folder's fault, which isn't counted.
     pub fn flush(&mut self) -> Result<(), FolderError>
-        // A flush is one call for the current file, which wants no memory.
+        // Over known contents this is one flush of the current file, with the folder's answer.
         ensures gives { Gives (λ c. flushed c self.old.current) (D.contents self.old.folder) result
             (D.contents self.new.folder) }
+        // Out of memory is never answered.
         ensures fed { IfErr result (λ e. e ≢ FolderError.OutOfMemory) }
-        // A flush's fault is told and not counted by the appender.
+        // Only the folder changes, so the appender doesn't count a fault of a flush.
         ensures still { self.new ≡ record self.old { folder = self.new.folder } }
         ensures counted { D.failed self.new.folder ≡ failures_after (D.failed self.old.folder) result }
-        // Building and writing leave each file with its bytes at opening and then its period's lines, where retention left it.
+        // The appender agrees afterwards with each model of its files that it agreed with before.
         ensures state { (p : PrunedSink) → AgreesSink D.contents self.old p → AgreesSink D.contents self.new p }
     {
         self.folder.flush(self.current)

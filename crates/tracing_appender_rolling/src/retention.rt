@@ -165,7 +165,7 @@ fn is_doomed(last: &Option<Candidate<'_>>, candidate: &Candidate<'_>) -> bool
 fn remove_file<D: Folder>(folder: &mut D, name: &str, faults: &mut Faults) -> Result<(), AllocError>
     ensures removes { Removes (name.now ∷ []) faults.old (D.contents folder.old) result faults.new
         (D.contents folder.new) }
-    // exactly, so that a refusal is not told as out of memory
+    // The faults that are counted are exactly those that the folder told, so that a refusal isn't told as out of memory.
     ensures counts { CountsOnly (D.failed folder.old) faults.old faults.new (D.failed folder.new) }
 {
     match folder.remove(name) {
@@ -253,7 +253,7 @@ pub(crate) fn prune_old_logs<D: Folder>(
 ) -> Result<(), AllocError>
     ensures pruned { Prunes (builder_names builder.now) faults.old (D.contents folder.old) result faults.new
         (D.contents folder.new) }
-    // exactly, so that a refused listing is not told as out of memory
+    // The faults that are counted are exactly those that the folder told, so that a refused listing isn't told as out of memory.
     ensures counts { CountsOnly (D.failed folder.old) faults.old faults.new (D.failed folder.new) }
 {
     let Some(limit) = builder.limit else {

@@ -67,9 +67,8 @@ impl<S, C> Model for Hub<S, C> {
 }
 
 impl<S: Subscriber, C: Callsite> Hub<S, C> {
-    /// A hub of nothing.
+    /// A hub with no subscriber, no callsite and no lane, and no global default.
     pub fn new(alloc: Global) -> Hub<S, C>
-        // A new hub is the empty table.
         ensures empty { result ≡ fresh }
         // A new hub is sound.
         ensures sound { IsSound ⟦<C as Callsite>⟧ result }
@@ -87,13 +86,12 @@ impl<S: Subscriber, C: Callsite> Hub<S, C> {
 
     /// The number of a new lane, which has no default of its own.
     pub fn thread(&mut self) -> Result<u64, AllocError>
-        // `thread` adds a lane without a default of its own, and `end_thread` ends one.
         ensures number { IfOk result (λ lane. lane ≡ length self.old.lanes) }
         ensures added { OnOk result (self.new ≡ record self.old {
           lanes = self.old.lanes ++ Running Unset ∷ [];
           entered = self.old.entered ++ false ∷ [];
         }) }
-        // A refused command leaves the hub as it was, and hands back what came.
+        // Where there is no memory, the hub stays as it was.
         ensures refused { OnErr result (self.new ≡ self.old) }
         ensures keeps { PreservesCaches ⟦<S as Subscriber>⟧ ⟦<C as Callsite>⟧ self.old self.new }
     {

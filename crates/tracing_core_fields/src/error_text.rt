@@ -23,7 +23,7 @@ impl<'a> ErrorText<'a> {
         ErrorText { text, sources }
     }
 
-    /// The same of sources whose texts are owned.
+    /// The error that prints the text, with sources whose texts are owned.
     pub const fn of_strings(text: &'a str, sources: &'a [String]) -> ErrorText<'a>
         ensures text { error_text result ≡ text.now }
         ensures sources { source_texts result ≡ map string_bytes sources.now }

@@ -49,7 +49,6 @@ impl<'a> FieldSet<'a> {
 
     /// The first field of the name, or `None` where no field has it.
     pub fn field(&self, name: &str) -> Option<Field<'a>>
-        // `field` finds the first field of a name.
         ensures index { option_map field_index result ≡ index_of_name self.now name.now }
         ensures set { IfSome result (λ field. set_of_field field ≡ self.now) }
     {

@@ -80,7 +80,6 @@ impl Kind {
 
 /// `EVENT`, `SPAN` and `HINT`: the first makes events alone, the second spans alone, and the third nothing.
 pub fn constant_kinds() -> (Kind, Kind, Kind)
-    // The constant kinds are an event, a span, and a hint that is neither.
     ensures event { result.0 ≡ record { is_event = true; is_span = false; is_hint = false } }
     ensures span { result.1 ≡ record { is_event = false; is_span = true; is_hint = false } }
     ensures hint { result.2 ≡ record { is_event = false; is_span = false; is_hint = true } }

@@ -61,7 +61,6 @@ impl Level {
 
     /// The name of the level, in capitals.
     pub fn as_str(&self) -> &'static str
-        // A level prints its name.
         ensures name { result.now ≡ level_name self.now }
         ensures range { IsRank self.now }
     {

@@ -37,7 +37,6 @@ impl<'a> Metadata<'a> {
         fields: FieldSet<'a>,
         kind: Kind,
     ) -> Metadata<'a>
-        // Each accessor of metadata gives the part that the metadata was made of.
         ensures parts { plain_metadata result ≡ record {
           name = name.now;
           target = target.now;

@@ -109,7 +109,7 @@ impl OwnedMetadata {
         self.metadata_at(self.callsite)
     }
 
-    /// The same metadata with the fields of another callsite.
+    /// The metadata, which lends the texts, with the fields of another callsite.
     pub fn metadata_at(&self, callsite: Identifier) -> Metadata<'_>
         ensures { plain_metadata result ≡ record (owned_plain self.now) { callsite = callsite.0 } }
     {

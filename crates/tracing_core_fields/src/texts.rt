@@ -37,7 +37,7 @@ fn owned_text(texts: &[String], index: usize) -> &str
 }
 
 impl<'a> Texts<'a> {
-    /// How many there are.
+    /// How many texts there are.
     pub fn len(&self) -> usize
         ensures { result ≡ length (texts_in self.now) }
     {
@@ -47,7 +47,7 @@ impl<'a> Texts<'a> {
         }
     }
 
-    /// Whether there are none.
+    /// Whether there is no text.
     pub fn is_empty(&self) -> bool
         ensures { IsTrue result ↔ (length (texts_in self.now) ≡ 0) }
     {

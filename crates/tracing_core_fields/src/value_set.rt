@@ -59,9 +59,9 @@ impl<'a> FieldSet<'a> {
     /// The set of these fields with their values. Fields of other callsites, and those whose index lies past
     /// the end, are passed over.
     pub fn value_set(&self, values: &'a [(Field<'a>, Option<AnyValue<'a>>)]) -> ValueSet<'a>
-        // A value set has the present values of its own fields as its entries, in short and in long lists.
+        // Its entries are the present values of the set's own fields, in order.
         ensures entries { entries_of result ≡ given_entries self.now values.now }
-        // The length of a value set counts the given values of its own fields.
+        // Its length is how many of the set's own fields are given, with a value or without one.
         ensures count { entry_count result ≡ count_by (is_own self.now) values.now }
         ensures fields { fields_of_values result ≡ self.now }
     {
@@ -87,7 +87,7 @@ impl<'a> FieldSet<'a> {
     /// The set of the fields at these indices with their values, which are owned. An index past the end is
     /// passed over.
     pub fn value_set_indexed(&self, values: &'a [FieldValue]) -> ValueSet<'a>
-        // A value set of owned values by index has those of its own fields as its entries.
+        // Its entries are the present values at indices of this set, in order.
         ensures entries { entries_of result ≡ indexed_entries (length (field_names self.now)) values.now }
         ensures count { entry_count result ≡ count_by (is_indexed (length (field_names self.now))) values.now }
         ensures fields { fields_of_values result ≡ self.now }

@@ -18,7 +18,7 @@ pub(crate) fn date_of_day(day: i64) -> Date
     Date::from_plain(date(1970, 1, 1).to_plain().checked_add(day).unwrap())
 }
 
-/// The date text of a day's number: `YYYY-MM-DD`. Day 0 is 1970-01-01.
+/// The date text `YYYY-MM-DD` of a day's number. Day 0 is 1970-01-01.
 ///
 /// # Errors
 ///
@@ -31,8 +31,7 @@ pub fn date_text(alloc: Global, day: i64) -> Result<String, AllocError>
     format!(in alloc; "{date}")
 }
 
-/// The date text of a second's day, with the hour for `Hour`, and with the hour and the minute for `Minute`:
-/// `YYYY-MM-DD-HH-MM`.
+/// The date text `YYYY-MM-DD` of a second's day, with `-HH` behind it for `Hour`, and `-HH-MM` for `Minute`.
 ///
 /// # Errors
 ///

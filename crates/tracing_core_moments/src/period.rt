@@ -21,7 +21,7 @@ impl PeriodKind {
     /// The number of the period in which a second lies.
     pub fn period_of(self, second: i64) -> i64
         requires { is_second second ≡ true }
-        // The period of a second is by the minute, hour, day, week from Sunday, or for ever, before 1970 too.
+        // Periods are minutes, hours, days, weeks from Sunday, or all of time, before 1970 too.
         ensures value { result ≡ period_of self second }
         ensures range { (negsuc 1035593279 ≤ℤ result) × (result ≤ℤ pos 4222846079) }
     {

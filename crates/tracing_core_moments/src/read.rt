@@ -10,10 +10,10 @@ ghost use Rattle.tracing_core_moments.specs.Names.{around, before_date, after_da
 use crate::period::PeriodKind;
 use jiff::civil::Date;
 
-/// The second that a date text tells, where it is one: `YYYY-MM-DD`, with `-HH` for `Hour` and `-HH-MM` for
+/// The second that a date text tells, where it is one. It is `YYYY-MM-DD`, with `-HH` for `Hour` and `-HH-MM` for
 /// `Minute`, of a year from 0000 to 9999. Nothing may stand before or after it.
 pub fn read_stamp(kind: PeriodKind, bytes: &[u8]) -> Option<i64>
-    // A date is read strictly: what is read back is exactly what is printed.
+    // The text is exactly what is printed of the answered second, which is the first of its day, hour or minute.
     ensures some { IfSome result (λ second. (is_date (day_at second) ≡ true) × (stamped kind second ≡ second) ×
         (bytes.now ≡ stamp kind second)) }
     ensures none { IfNone result ((second : ℤ) → is_date (day_at second) ≡ true → bytes.now ≢ stamp kind second) }

@@ -181,12 +181,12 @@ pub fn reach_by_default<S: Subscriber, C: Callsite>(
 /// whether it did.
 pub fn log_event<C: Callsite>(hub: &mut Hub<Tally, C>, event: &Event<'_, '_>, at: At) -> bool
     ensures nobody { reached hub.old at.lane ≡ None → (result ≡ false) × (hub.new ≡ hub.old) }
-    // Where what is kept is right of the reached tally, its level decides.
+    // With a valid cache of the reached tally, the event is handed on exactly where the tally's level passes it.
     ensures wanted { (row : KeptCallsite C) (e : KeptSubscriber Tally) →
         callsite_with (plain_event event.now).metadata.callsite hub.old.callsites ≡ Some row →
         reached hub.old at.lane ≡ Some e.serial → HasValidCache ⟦<Tally as Subscriber>⟧ ⟦<C as Callsite>⟧ hub.old e →
         result ≡ nat_le (C.metadata_of row.callsite).level e.subscriber.most }
-    // And it counts the event exactly where it was handed on.
+    // The reached tally counts the event exactly where it was handed on.
     ensures counted { (e : KeptSubscriber Tally) → reached hub.old at.lane ≡ Some e.serial →
         subscriber_with e.serial hub.old.subscribers ≡ Some e → option_map (λ f. f.subscriber.events)
         (subscriber_with e.serial hub.new.subscribers) ≡ Some (if result then counted e.subscriber.events else

@@ -65,8 +65,9 @@ pub struct FmtContext<'c, 'r, N> {
 }
 
 impl<'c, 'r, N> FmtContext<'c, 'r, N> {
-    /// The ids are those of the spans that a line may show, and `has_scope` tells whether the event stands in them, as
-    /// [`fill_scope`](crate::formats::fill_scope) gives both. The output's key is the one under which the spans' texts are kept.
+    /// The context of an event, of these parts. The ids are those of the spans that a line may show, and `has_scope` tells
+    /// whether the event stands in them, as [`fill_scope`](crate::formats::fill_scope) gives both. The output's key is the one
+    /// under which the spans' texts are kept.
     pub fn new(
         context: &'c Context<'r>,
         fields: &'c N,

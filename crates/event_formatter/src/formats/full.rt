@@ -1,6 +1,6 @@
 //! The usual line of the full format, with time, level and target and without styles, whose pieces go straight into the line.
 //!
-//! The pieces are inlined, and so are the pushes in them, since the way past a refusal is told to be cold.
+//! The pieces are inlined, and so are the pushes in them, since the way of a refusal is marked as cold.
 
 ghost use Rattle.std.specs.Prelude.{◌≡◌, ◌++◌, ℕ, ℤ, OnOk, Some, codes, false, map, string_bytes};
 ghost use Rattle.std.specs.Option.{option_map};

@@ -155,7 +155,7 @@ pub trait EventShape: Drop {
     // The format.
     ghost shape: { Self → LineFormat };
 
-    /// The format.
+    /// The format of lines in this shape.
     fn line_format(&self) -> LineFormat
         ensures { result ≡ shape self.now };
 }

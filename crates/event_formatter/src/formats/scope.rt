@@ -156,7 +156,8 @@ pub fn fill_scope(
     event: &Event<'_, '_>,
     ids: &mut Vec<Id>,
 ) -> Result<bool, AllocError>
-    // The ids of a line's spans are those of the loose scope, from the root on. Whether the event stands in them is told.
+    // The ids are those of the span that the event stands in and its ancestors, or else of the lane's span and its ancestors, from
+    // the root on; the answer tells whether the event stands in a span.
     ensures spans { IfOk result (λ stands_in.
         FillsScope (view context.now) (plain_event event.now).parent ids.new.items stands_in) }
     ensures number { IfOk result (λ _. HasNumber (event_span (view context.now) (plain_event event.now).parent)) }

@@ -14,7 +14,7 @@ pub enum FirstText {
 }
 
 impl FirstText {
-    /// Whether all of it did.
+    /// Whether all that is kept of the span found memory.
     pub fn is_whole(self) -> bool
         ensures { result ≡ is_whole self }
     {

@@ -96,8 +96,8 @@ pub fn keep_new<F: FormatFields, R: RecordFields>(
     timings: Option<Timings>,
 ) -> FirstText
     ensures lent { SameLoan context.old context.new }
-    // A new span keeps what its formatter makes of its first list, or starts with where that can't be formatted, with settings
-    // and timings.
+    // A span that is seen keeps the text of its first list and the timings; where that text can't be formatted or finds no memory,
+    // the text that spans start with; and nothing, where there is no memory for that either.
     ensures kept { Rekeeps (view context.old) span.now key.0
         (kept_first result (λ kept. F.added formatter.now kept (R.values fields.now))
         (F.started formatter.now settings) timings) (left context.new) }

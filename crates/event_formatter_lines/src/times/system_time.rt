@@ -127,8 +127,8 @@ impl SystemTime {
         SystemTime { last: None }
     }
 
-    // Appends the text of a second that isn't the last one, and a point, and keeps both. It stands out of line, as it is seldom
-    // needed.
+    // Appends the text of a second that isn't the last one, and a point, and keeps both. It isn't inlined, as few lines need
+    // it.
     #[cold]
     #[inline(never)]
     fn push_next_second(

@@ -25,9 +25,9 @@ pub trait FormatTime {
         seconds: i64,
         nanoseconds: u32,
     ) -> Result<(), FormatError>
-        // What a timer writes of a moment stays the same whatever it wrote before.
+        // What the timer writes of a moment stays the same, whatever it wrote before.
         ensures timer { (s : ℤ) (n : ℕ) → text_at self.new s n ≡ text_at self.old s n }
-        // `FixedText` appends its text.
+        // The moment's text is appended, or, where it has none, `Failed` is answered and nothing is appended, unless memory runs out.
         ensures text { TellsTime (text_at self.old seconds nanoseconds) (string_bytes out.old) result
             (string_bytes out.new) };
 }

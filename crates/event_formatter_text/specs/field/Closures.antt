@@ -16,7 +16,7 @@ abbrev pub AppendsField : (String Global → Bor Field → Bor DebugText → Res
 AppendsField post field value text answer =
     (f : Bor Field) × (v : Bor DebugText) × (plain_field f.now ≡ field) × (plain_debug v.now ≡ value) × post text f v answer
 
--- The closure was handed an empty text, and what it gave was appended. A refusal, by the closure or for want of
+-- The closure was handed an empty text, and what it gave was appended. A refusal, by the closure or where there is no
 -- memory, says nothing of what was appended.
 abbrev pub WritesByClosure : (String Global → Result (String Global) FormatError → Type 0) → List ℕ → Result (Unit {0}) FormatError →
     List ℕ → Type 0

@@ -31,8 +31,9 @@ impl<L: Layer, F: Filter> Stack<Filtered<L, F>> {
     pub fn event_asking(&mut self, event: &Event<'_, '_>, at: At) -> Result<(), RequestError>
         ensures exact { EventByAnswers ⟦<F as Filter>⟧ ⟦<L as Layer>⟧ (plain_event event.now) at self.old result
             self.new }
-        // Requests that ask every filter afresh promise this without a valid cache.
+        // This goes as if every output's filter were asked, whether the cache is valid or not.
         ensures asking { EventAsked ⟦<F as Filter>⟧ ⟦<L as Layer>⟧ (plain_event event.now) at self.old result self.new }
+        // A valid cache stays valid.
         ensures kept { CacheIsValid ⟦<F as Filter>⟧ self.old → CacheIsValid ⟦<F as Filter>⟧ self.new }
     {
         self.parts.event_unless(false, event, at)
@@ -54,6 +55,7 @@ impl<L: Layer, F: Filter> Stack<Filtered<L, F>> {
             result self.new }
         ensures asking { SpanAsked ⟦<F as Filter>⟧ ⟦<L as Layer>⟧ (plain_attributes attributes.now) at self.old result
             self.new }
+        // A valid cache stays valid.
         ensures kept { CacheIsValid ⟦<F as Filter>⟧ self.old → CacheIsValid ⟦<F as Filter>⟧ self.new }
     {
         self.parts.new_span_unless(false, attributes, at)

@@ -61,8 +61,8 @@ impl<O> Stack<O> {
         }
     }
 
-    /// Whether it is sure that what is kept refuses every callsite of this level, and that the last request left no
-    /// output marked. By what `event` promises, an event at such a callsite that names no parent then leaves the stack as it is.
+    /// True only where what is kept refuses every callsite of this level, and the last request left no output marked. By what
+    /// `event` promises, an event at such a callsite that names no parent then leaves the stack as it is.
     pub fn ignores(&self, level: Level) -> bool
         ensures { IsTrue result → (is_above self.now.hint level ≡ true) × (cleared self.now ≡ self.now) }
     {

@@ -33,12 +33,12 @@ impl<L: Layer, F: Filter> Stack<Filtered<L, F>> {
         attributes: &Attributes<'_, '_>,
         at: At,
     ) -> Result<Option<Id>, RequestError>
-        // Each output sees the slots that those told before it wrote.
         ensures exact { SpanCached ⟦<F as Filter>⟧ ⟦<L as Layer>⟧ (plain_attributes attributes.now) at self.old result
             self.new }
-        // While what is kept is right, this is asking every filter again, and what is kept stays right.
+        // With a valid cache this goes as if every filter were asked.
         ensures asking { CacheIsValid ⟦<F as Filter>⟧ self.old →
             SpanAsked ⟦<F as Filter>⟧ ⟦<L as Layer>⟧ (plain_attributes attributes.now) at self.old result self.new }
+        // A valid cache stays valid.
         ensures kept { CacheIsValid ⟦<F as Filter>⟧ self.old → CacheIsValid ⟦<F as Filter>⟧ self.new }
     {
         self.parts.new_span(attributes, at)
@@ -50,9 +50,9 @@ impl<L: Layer, F: Filter> Stack<Filtered<L, F>> {
     ///
     /// `UnknownSpan` where the span is not open, which leaves the stack as it was.
     pub fn record(&mut self, span: &Id, values: &Record<'_>, at: At) -> Result<(), RequestError>
-        // A span's verdicts are those of its making, and later calls on it and its close are told by them.
         ensures gives { RecordGives ⟦<F as Filter>⟧ ⟦<L as Layer>⟧ span.now (plain_record values.now) at self.old
             result self.new }
+        // A valid cache stays valid.
         ensures kept { CacheIsValid ⟦<F as Filter>⟧ self.old → CacheIsValid ⟦<F as Filter>⟧ self.new }
     {
         self.parts.record(span, values, at)
@@ -70,6 +70,7 @@ impl<L: Layer, F: Filter> Stack<Filtered<L, F>> {
         at: At,
     ) -> Result<(), RequestError>
         ensures gives { FollowsGives ⟦<F as Filter>⟧ ⟦<L as Layer>⟧ span.now follows.now at self.old result self.new }
+        // A valid cache stays valid.
         ensures kept { CacheIsValid ⟦<F as Filter>⟧ self.old → CacheIsValid ⟦<F as Filter>⟧ self.new }
     {
         self.parts.record_follows_from(span, follows, at)
@@ -82,6 +83,7 @@ impl<L: Layer, F: Filter> Stack<Filtered<L, F>> {
     /// `UnknownSpan` where the span is not open, else `OutOfMemory`; both leave the stack as it was.
     pub fn enter(&mut self, span: &Id, at: At) -> Result<(), RequestError>
         ensures gives { EnterGives ⟦<F as Filter>⟧ ⟦<L as Layer>⟧ span.now at self.old result self.new }
+        // A valid cache stays valid.
         ensures kept { CacheIsValid ⟦<F as Filter>⟧ self.old → CacheIsValid ⟦<F as Filter>⟧ self.new }
     {
         self.parts.enter(span, at)
@@ -91,8 +93,10 @@ impl<L: Layer, F: Filter> Stack<Filtered<L, F>> {
     /// nothing keeps open closes, each span told once, a child before its parent, to the outputs that see it.
     /// It takes no memory.
     pub fn exit(&mut self, span: &Id, at: At)
-        // Closes are told once, the latest made first, so a child before its parent.
+        // The span's last entry on the lane goes, the exit is told, and then each span that nothing keeps open closes, told once, a
+        // child before its parent.
         ensures gives { ExitGives ⟦<F as Filter>⟧ ⟦<L as Layer>⟧ span.now at self.old self.new }
+        // A valid cache stays valid.
         ensures kept { CacheIsValid ⟦<F as Filter>⟧ self.old → CacheIsValid ⟦<F as Filter>⟧ self.new }
     {
         self.parts.exit(span, at)
@@ -105,8 +109,8 @@ impl<L: Layer, F: Filter> Stack<Filtered<L, F>> {
     /// `UnknownSpan` where the span is not open, else `TooManyHandles` where it has `usize::MAX`; both leave
     /// the stack as it was.
     pub fn clone_span(&mut self, span: &Id) -> Result<Id, RequestError>
-        // `clone_span` counts one more handle of an open span.
         ensures gives { CloneGives span.now self.old result self.new }
+        // A valid cache stays valid.
         ensures kept { CacheIsValid ⟦<F as Filter>⟧ self.old → CacheIsValid ⟦<F as Filter>⟧ self.new }
     {
         self.parts.clone_span(span)
@@ -117,6 +121,7 @@ impl<L: Layer, F: Filter> Stack<Filtered<L, F>> {
     /// takes no memory.
     pub fn try_close(&mut self, span: Id, at: At) -> bool
         ensures gives { CloseGives ⟦<F as Filter>⟧ ⟦<L as Layer>⟧ span at self.old result self.new }
+        // A valid cache stays valid.
         ensures kept { CacheIsValid ⟦<F as Filter>⟧ self.old → CacheIsValid ⟦<F as Filter>⟧ self.new }
     {
         self.parts.try_close(span, at)

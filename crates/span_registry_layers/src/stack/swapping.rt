@@ -45,11 +45,11 @@ impl<L: Layer, F: Filter> Stack<Filtered<L, F>> {
     ///
     /// `UnknownOutput` where there is no such output, which leaves both as they were.
     pub fn swap_filter(&mut self, output: usize, filter: &mut F) -> Result<(), UnknownOutput>
-        // Another filter takes an output's place: verdicts, entries, ids and slots stand.
+        // The two filters change places, the kept interests are forgotten, and the hint is asked anew; all else stays.
         ensures gives { SwapGives ⟦<F as Filter>⟧ output filter.old self.old result filter.new self.new }
         // Each filter keeps its number.
         ensures numbers { numbers_of ⟦<L as Layer>⟧ self.new.rows ≡ numbers_of ⟦<L as Layer>⟧ self.old.rows }
-        // What is kept is right of honest filters.
+        // Where the filters are honest afterwards, the cache is valid.
         ensures kept { OnOk result (Every (λ f. F.honest f) (filters_of self.new.rows) →
             CacheIsValid ⟦<F as Filter>⟧ self.new) }
     {
@@ -61,7 +61,7 @@ impl<L: Layer, F: Filter> Stack<Filtered<L, F>> {
     pub fn stack_mut(&mut self, output: usize) -> Option<&mut Filtered<L, F>>
         ensures lent { option_map (λ lent. lent.now) result
             ≡ option_map (λ row. row.output) (slice_get self.old.rows output) }
-        // What is kept is right of honest filters, whatever the output becomes.
+        // Whatever the output becomes, the cache is valid where the filters are honest then.
         ensures kept { (w : Filtered L F) → Every (λ f. F.honest f) (filters_of (put_output output w self.old.rows)) →
             CacheIsValid ⟦<F as Filter>⟧ (with_rows (put_output output w self.old.rows) (forgotten self.old)) }
         // Each filter keeps its number, where those in the output's layer do.
@@ -75,9 +75,8 @@ impl<L: Layer, F: Filter> Stack<Filtered<L, F>> {
     /// Lends the layer of the output at this place, counted from 0, for writing. What was kept of answers stays, since
     /// no filter changes that it speaks of.
     pub fn layer_mut(&mut self, output: usize) -> Option<&mut L>
-        // `layer_mut` lends an output's layer, and leaves a valid cache valid.
         ensures lent { option_map (λ lent. lent.now) result ≡ option_map layer_of (slice_get self.old.rows output) }
-        // Whatever the layer becomes, what is kept stays right.
+        // A valid cache stays valid, whatever the layer becomes.
         ensures kept { (w : L) → CacheIsValid ⟦<F as Filter>⟧ self.old →
             CacheIsValid ⟦<F as Filter>⟧ (put_layer output w self.old) }
         // Each filter keeps its number, where those in the layer do.

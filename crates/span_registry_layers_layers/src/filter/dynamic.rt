@@ -39,7 +39,7 @@ impl DynFilterFn {
     pub fn new(enabled: ContextTest) -> DynFilterFn
         requires { ContextTest.IsAlwaysCallable enabled }
         ensures kept { (result.enabled ≡ enabled) × (result.callsite_enabled ≡ None) × (result.max_level_hint ≡ None) }
-        // The same holds of a stored closure whose answer is determined by metadata and by what a context shows.
+        // What the filter says of callsites fits whatever the closure answers.
         ensures honest { Fair (AnswersIn (ContextTest.post result.enabled))
             (SaysIn (λ s. CallsiteTest.post s.closure) result.callsite_enabled result.max_level_hint)
             result.max_level_hint }
@@ -53,8 +53,9 @@ impl DynFilterFn {
         }
     }
 
-    /// The same with a most verbose level, above which the closure has to refuse. It is consistent where the closure's
-    /// answer is so determined, and what is said of callsites is one thing, fits it and agrees with the hint.
+    /// The filter with a most verbose level, above which the closure has to refuse. It is consistent where the
+    /// closure's answer is so determined, and what is said of callsites is one thing, fits it and agrees with the
+    /// hint.
     pub fn with_max_level_hint(self, hint: LevelFilter) -> DynFilterFn
         requires { RefusesAboveIn hint (ContextTest.post self.enabled) }
         ensures kept { (result.enabled ≡ self.enabled) × (result.callsite_enabled ≡ self.callsite_enabled) ×
@@ -79,14 +80,15 @@ impl DynFilterFn {
         }
     }
 
-    /// The same with a closure that says what the interest in a callsite is. It is consistent where the filter's answer
-    /// is so determined, and what the closure says is one thing, fits it and agrees with the hint.
+    /// The filter with a closure that says what the interest in a callsite is. It is consistent where the filter's
+    /// answer is so determined, and what the closure says is one thing, fits it and agrees with the hint.
     pub fn with_callsite_filter(self, callsite_enabled: CallsiteTest) -> DynFilterFn
         requires { CallsiteTest.IsAlwaysCallable callsite_enabled }
         ensures kept { (result.enabled ≡ self.enabled) ×
             IfSome result.callsite_enabled (λ s. s.closure ≡ callsite_enabled) × IsSome result.callsite_enabled ×
             (result.max_level_hint ≡ self.max_level_hint) }
-        // A closure for callsites has to say one interest that fits the filter's answers and the hint.
+        // What the filter says of callsites, and its hint, fit its answers, where the closure for callsites fits them and nothing
+        // above the hint passes.
         ensures honest { RefusesAboveHintIn self.max_level_hint (ContextTest.post self.enabled) →
             CallsitesFit (ContextTest.post self.enabled) (λ s. CallsiteTest.post s.closure) result.callsite_enabled →
             Fair (AnswersIn (ContextTest.post result.enabled))

@@ -27,7 +27,7 @@ impl FilterFn {
     pub fn new(enabled: MetadataTest) -> FilterFn
         requires { MetadataTest.IsAlwaysCallable enabled }
         ensures kept { (result.enabled ≡ enabled) × (result.max_level_hint ≡ None) }
-        // A stored closure is consistent where the metadata determines its answer and it refuses what is above its hint.
+        // What the filter says of callsites fits the closure's answers, where what the metadata says determines these.
         ensures honest { IsDetermined (MetadataTest.post enabled) →
             Fair (AnswersBy (MetadataTest.post enabled)) (SaysBy (MetadataTest.post enabled)) None }
     {
@@ -37,7 +37,7 @@ impl FilterFn {
         }
     }
 
-    /// The same with a most verbose level, above which the closure has to refuse.
+    /// The filter with a most verbose level, above which the closure has to refuse.
     pub fn with_max_level_hint(self, hint: LevelFilter) -> FilterFn
         requires { RefusesAbove hint (MetadataTest.post self.enabled) }
         ensures kept { (result.enabled ≡ self.enabled) × (result.max_level_hint ≡ Some hint) }

@@ -16,7 +16,7 @@ pub trait Listener: Drop {
     // What it may be once it was told of something.
     ghost heard: { Self → Notice → Self → Type 0 } = { λ x n y. y ≡ x };
 
-    /// Does what it does with what it is told of spans and events.
+    /// Becomes one of the values that `heard` allows of it, told this of spans and events.
     fn hear(&mut self, call: &Told<'_, '_, '_, '_>, context: &Context<'_>)
         ensures { heard self.old (notice call.now (view context.now) (left context.now)) self.new };
 }

@@ -88,7 +88,7 @@ pub fn decode_line(alloc: Global, setup: &[Setup], bytes: &[u8]) -> Result<Line,
     ensures malformed { IsUtf8 bytes.now → read_text bytes.now ≡ None →
         (result ≡ Err LineFault.NotReadable) ⊎ (result ≡ Err LineFault.OutOfMemory) }
 
-    // A float is told whatever else the line lacks.
+    // A float in a line of JSON is told ahead of other faults, unless there was no memory.
     ensures float { (value : Data) → IsUtf8 bytes.now → read_text bytes.now ≡ Some value → has_float value ≡ true →
         (result ≡ Err LineFault.FloatNumber) ⊎ (result ≡ Err LineFault.OutOfMemory) }
 {

@@ -73,7 +73,7 @@ impl LineSettings {
         }
     }
 
-    /// The compact format, with the same parts.
+    /// The compact format, with the moment's time, level and target.
     pub fn compact() -> LineSettings
         ensures shape { (result.format ≡ LineFormat.Compact) × (result.fields ≡ Fields.Default) }
         ensures parts { HasUsualParts result }
@@ -85,7 +85,8 @@ impl LineSettings {
         }
     }
 
-    /// The pretty format, over several rows, with the source file and its line too.
+    /// The pretty format, over several rows, with the moment's time, level and target, and with the source file and
+    /// its line.
     pub fn pretty() -> LineSettings
         ensures shape { IsUsualPretty result.format × (result.fields ≡ Fields.Pretty) }
         ensures parts { HasUsualParts result }
@@ -100,7 +101,7 @@ impl LineSettings {
         }
     }
 
-    /// Lines of JSON, each one object.
+    /// The JSON format, a line for each event, with the moment's time, level and target.
     pub fn json() -> LineSettings
         ensures shape { IsUsualJson result.format × (result.fields ≡ Fields.Json) }
         ensures parts { HasUsualParts result }

@@ -14,8 +14,8 @@ use tracing_appender_rolling::{BuildError, InitError};
 pub struct OpenStackError {
     /// What is told.
     pub refusal: Refusal,
-    /// The key of the output that it is told of. There is none where it is told of all of them or of the moment, nor where memory was
-    /// wanting before the files were opened.
+    /// The key of the output that it is told of. There is none where it is told of all of them or of the moment, nor where there
+    /// was no memory before the files were opened.
     pub output: Option<OutputKey>,
     /// What the folder refused, and how, where `refusal` is `FolderRefused`.
     pub fault: Option<InitError>,

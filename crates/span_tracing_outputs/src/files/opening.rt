@@ -224,7 +224,7 @@ fn rows_are_told<N: FormatFields + Drop, E: FormatEvent, F: Filter>()
 /// # Errors
 ///
 /// In this order: `BadMoment`; `NoOutput`, `TooManyFilters` where there are more than 64 outputs, `EqualKeys`; for the sinks in order
-/// `BadName`, `BadLinkName`, all before a folder is asked; then `FolderRefused` or `OutOfMemory` at the first sink that meets it. Want of
+/// `BadName`, `BadLinkName`, all before a folder is asked; then `FolderRefused` or `OutOfMemory` at the first sink that meets it. Out of
 /// memory may be told in place of any but `BadMoment`. What is told of one output comes with its key, and a folder's refusal with the
 /// fault. The outputs are let go: the folders of earlier sinks keep what was opened in them.
 pub fn open_stack<F: Filter, D: Folder>(
@@ -232,16 +232,18 @@ pub fn open_stack<F: Filter, D: Folder>(
     outputs: Vec<OutputSpec<F, D>>,
     moment: Moment,
 ) -> Result<FileStack<F, D>, OpenStackError>
-    // A moment out of range is refused first.
+    // A moment out of range is refused, with no key and no fault, whatever else is wrong.
     ensures moment { is_moment moment ≡ false → result ≡ Err (of_all Refusal.BadMoment) }
-    // Then no output, more than 64, or two of one key are refused, unless memory is wanting; both with no key and no fault.
+    // At a moment in range, no output, more than 64 outputs, or two with one key are refused, with no key and no fault; out of memory
+    // may be answered instead.
     ensures told { is_moment moment ≡ true → Answers (outputs_refusal outputs.items) result }
-    // Each output that `OutputSpec::new` made has a good route.
+    // Where each output's route is good, as `OutputSpec::new` makes it, a stack that is made has good names, and the first bad name
+    // is refused ahead of what a folder refuses; out of memory may be answered instead.
     ensures names { is_moment moment ≡ true → outputs_refusal outputs.items ≡ None → Every IsRouted outputs.items →
         NamesAnswer outputs.items result }
     ensures opened { IfOk result (λ made. OpensStack D.contents D.failed ⟦<F as Filter>⟧
         ⟦<Lines as span_registry_layers_layers::Layer>⟧ moment [] outputs.items made) }
-    // Honest filters are asked for what each says of all callsites.
+    // With honest filters the stack is ready.
     ensures ready { Every (λ (spec : OutputSpec F D). F.honest spec.filter) outputs.items →
         IfOk result (λ made. IsReady ⟦<F as Filter>⟧ made) }
 {
@@ -263,12 +265,13 @@ pub fn open_stack_with_threads<F: Filter, D: Folder>(
 ) -> Result<FileStack<F, D>, OpenStackError>
     ensures moment { is_moment moment ≡ false → result ≡ Err (of_all Refusal.BadMoment) }
     ensures told { is_moment moment ≡ true → Answers (outputs_refusal outputs.items) result }
-    // Each output that `OutputSpec::new` made has a good route.
+    // Where each output's route is good, as `OutputSpec::new` makes it, a stack that is made has good names, and the first bad name
+    // is refused ahead of what a folder refuses; out of memory may be answered instead.
     ensures names { is_moment moment ≡ true → outputs_refusal outputs.items ≡ None → Every IsRouted outputs.items →
         NamesAnswer outputs.items result }
     ensures opened { IfOk result (λ made. OpensStack D.contents D.failed ⟦<F as Filter>⟧
         ⟦<Lines as span_registry_layers_layers::Layer>⟧ moment (map lane_of threads.now) outputs.items made) }
-    // Honest filters are asked for what each says of all callsites.
+    // With honest filters the stack is ready.
     ensures ready { Every (λ (spec : OutputSpec F D). F.honest spec.filter) outputs.items →
         IfOk result (λ made. IsReady ⟦<F as Filter>⟧ made) }
 {

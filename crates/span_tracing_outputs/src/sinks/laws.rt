@@ -39,17 +39,16 @@ pub fn lines_reach_files<D: Folder>()
     ensures { LinesReachFiles D.contents D.failed }
 {}
 
-/// The same by the folder: exactly a run's lines stand in the files that retention left, behind what was found there.
+/// Where the count of dropped lines stayed, exactly the lines of a run stand in the folder's files that retention
+/// left, behind what was found there.
 pub fn lines_stand_in_files<D: Folder>()
     ensures { LinesStandInFiles D.contents D.failed }
 {}
 
 /// The count of dropped lines never falls, and rises by at most one a line. The names of the files stay.
 pub fn drops_are_counted<D: Folder>()
-    // The count never falls, and rises by at most one a line. The names of the files stay.
     ensures runs { DropsAreCounted D.contents D.failed }
-    // Exactly the lines that found no memory, and those whose moment is out of range, are counted as dropped, up to the greatest
-    // number.
+    // Exactly the lines that found no memory or whose moment is out of range are counted as dropped, up to the greatest number.
     ensures exact { CountsAreExact }
 {}
 

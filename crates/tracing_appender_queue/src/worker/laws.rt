@@ -12,10 +12,12 @@ pub fn first_lines_are_taken()
 /// A step may be cut in two at one moment: the same lines in the same order, the same queue, the same sink,
 /// and, where nothing is refused, the same folder and counts.
 pub fn batches_may_be_cut()
-    // A step may be cut in two, which takes the same lines and leaves the same queue and sink.
+    // A step of `j + k` lines takes the lines of one of `j` and then those of one of `k`, and leaves the same queue.
     ensures lines { MayBeCut }
+    // The lines of two steps at one moment are handed to a sink as those of one step.
     ensures sinks { SinksMayBeCut }
-    // Cut in two, it leaves exactly what one step leaves, where the second part's folder refuses nothing and takes lines whole.
+    // Where the second of two steps finds a folder that refuses nothing and takes each write whole, and writes each line whole, both
+    // leave exactly what one step leaves.
     ensures folders { FoldersMayBeCut }
 {}
 
@@ -25,9 +27,9 @@ pub fn steps_have_one_end()
     ensures { StepsHaveOneEnd }
 {}
 
-/// A worker's step may be cut in as many steps at its moment as one likes. Where the folder refuses nothing and
-/// the lines are written whole, these leave exactly the queue and the sink that the one leaves, with its folder,
-/// and the numbers of lines that they took add up.
+/// A worker's step may be cut in as many steps at its moment as one likes, where the folder refuses nothing and the
+/// lines are written whole. These leave exactly the queue and the sink that the one leaves, with its folder, and the
+/// numbers of lines that they took add up.
 pub fn steps_may_be_cut()
     ensures { StepsMayBeCut }
 {}

@@ -119,20 +119,22 @@ pub fn batch<D: Folder>(
     moment: Moment,
 ) -> Batched
     requires { is_moment moment ≡ true }
-    // A step takes exactly the first lines of a queue, or all before the mark.
+    // The first `k` lines are taken from the queue, or all before the mark, and a mark that then stands at the head too.
     ensures queue { queue.new ≡ queue_in k queue.old }
     ensures taken { result.taken ≡ length (lines_in k queue.old) }
     ensures missed { result.missed ≤ result.taken }
     ensures names { builder_names appender.new.builder ≡ builder_names appender.old.builder }
-    // Under any plan of faults, each line is whole, failed at a told fault, or found no memory.
+    // Over known contents, whatever the folder refuses, each line in turn was written whole, failed by a fault, or found no memory,
+    // and the file was flushed after a last line that was whole.
     ensures handed { (h : Held) → Holds D.contents appender.old h →
         HandsAll D.contents (builder_names appender.old.builder) moment h (lines_in k queue.old) result.missed
         appender.new }
-    // over a folder that refuses nothing
+    // Where the appender agreed with a model of its files and each line found memory, it agrees afterwards with that model and these
+    // lines, and no fault is counted.
     ensures state { result.missed ≡ 0 → (c : Contents) (p : PrunedSink) → D.contents appender.old.folder ≡ Some c →
         AgreesSink D.contents appender.old p → LinesSink D.contents p (lines_in k queue.old) moment c appender.old
         appender.new }
-    // over any folder
+    // Over any folder the end of the period, the current file and the counts of faults are what these lines leave, one after another.
     ensures anywhere { LinesAnywhere D.failed moment (lines_in k queue.old) result.missed appender.old appender.new }
 {
     let mut taken = 0;

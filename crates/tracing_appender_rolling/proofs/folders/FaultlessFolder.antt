@@ -16,7 +16,7 @@ use Rattle.tracing_appender_rolling.specs.declared.folders.fault.FolderError.{Fo
 use Rattle.tracing_appender_rolling.specs.declared.folders.fault.FolderError.TheVariants.{Fault, OutOfMemory}
 use Rattle.tracing_appender_rolling.specs.declared.folders.fault.FileNumber.{FileNumber}
 
--- a call that wants no memory was answered
+-- a call that takes no memory was answered
 pub fed_leaves : (call : Contents → Answer (Unit {0})) (c : Contents) (r : Result (Unit {0}) FolderError) (after : Option Contents) →
     IfErr r (λ e. e ≢ OutOfMemory) → Gives call (Some c) r after → after ≡ Some (call c).1
 fed_leaves call c (Ok v) after fed (answer, left) = left

@@ -28,7 +28,6 @@ impl FaultyFolder {
 
     /// Refuses the calls with these numbers, over a folder in memory.
     pub fn new(inner: MemoryFolder, refused: Vec<u64>) -> FaultyFolder
-        // Under a plan, a folder in memory refuses the calls with the given numbers, with a fault that may be set.
         ensures contents { faulty_contents result ≡ under_plan (memory_contents inner)
             (record { refused = refused.items; fault = FolderFault.Refused; short = []; most = 0 }) 0 }
         ensures failures { result.failures ≡ 0 }
@@ -56,7 +55,6 @@ impl FaultyFolder {
 
     /// A write with one of these numbers takes at most so many bytes, which may be none.
     pub fn with_short_writes(self, short: Vec<u64>, most: usize) -> FaultyFolder
-        // Under a plan, writes with the given numbers take at most so many bytes, which may be none.
         ensures contents { faulty_contents result ≡ under_plan (memory_contents self.inner)
             (record (plan_of self) { short = short.items; most = most }) self.calls }
         ensures failures { result.failures ≡ self.failures }

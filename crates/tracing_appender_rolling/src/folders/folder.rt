@@ -21,7 +21,7 @@ pub trait Folder: Drop {
         ensures gives { Gives (λ c. opened c name.now) (contents self.old) result (contents self.new) }
         ensures failures { failed self.new ≡ failures_after (failed self.old) result };
 
-    /// Closes an opened file: it is open once less. This wants no memory.
+    /// Closes an opened file: it is open once less. It takes no memory.
     fn close_file(&mut self, file: FileNumber) -> Result<(), FolderError>
         ensures gives { Gives (λ c. closed c file) (contents self.old) result (contents self.new) }
         ensures fed { IfErr result (λ e. e ≢ FolderError.OutOfMemory) }
@@ -39,7 +39,7 @@ pub trait Folder: Drop {
         ensures gives { Gives dirs_made (contents self.old) result (contents self.new) }
         ensures failures { failed self.new ≡ failures_after (failed self.old) result };
 
-    /// Flushes an opened file. This wants no memory.
+    /// Flushes an opened file. It takes no memory.
     fn flush(&mut self, file: FileNumber) -> Result<(), FolderError>
         ensures gives { Gives (λ c. flushed c file) (contents self.old) result (contents self.new) }
         ensures fed { IfErr result (λ e. e ≢ FolderError.OutOfMemory) }

@@ -83,7 +83,7 @@ impl MemoryFolder {
         bytes: &[u8],
         created: Option<Moment>,
     ) -> Result<(), AllocError>
-        // A put changes no other file and nothing else.
+        // The name has these bytes, and each other name what it had.
         ensures ok { OnOk result ((q : List ℕ) → bytes_at (memory_contents self.new).files q ≡
             (if bytes_eq name.now q then Some bytes.now else bytes_at (memory_contents self.old).files q)) }
         ensures place { OnOk result ((memory_contents self.new).files
@@ -131,7 +131,6 @@ impl MemoryFolder {
 
     /// The name that a link leads to.
     pub fn link_target(&self, name: &str) -> Option<&str>
-        // A folder in memory keeps bytes and links by name.
         ensures some { IfSome result (λ target. target_at (memory_contents self.now).links name.now ≡ Some target.now) }
         ensures none { IfNone result (target_at (memory_contents self.now).links name.now ≡ None) }
     {

@@ -175,7 +175,6 @@ impl<S: Subscriber, C: Callsite> Hub<S, C> {
     /// Sets the default of the lanes that have none of their own, once. It holds a handle of its own. It
     /// takes no memory.
     pub fn set_global_default(&mut self, dispatch: &Dispatch) -> Result<(), SetGlobalDefaultError>
-        // `set_global_default`, `set_default` and `reset` leave exactly the stated defaults.
         ensures answer { result ≡ or_refused (global_refusal self.old dispatch.now) tt }
         ensures state { self.new ≡ or_same (global_refusal self.old dispatch.now) self.old
             (globally self.old dispatch.now) }
@@ -203,7 +202,6 @@ impl<S: Subscriber, C: Callsite> Hub<S, C> {
     /// ended gives up what the guard remembers. The subscriber that this releases comes back. Guards may be
     /// spent in any order. It takes no memory.
     pub fn reset(&mut self, lane: u64, guard: DefaultGuard) -> Result<Option<S>, WrongLane>
-        // A reset gives a lane the default that its guard remembers, in whatever order guards are spent.
         ensures gives { (result, self.new) ≡ reset_gives self.old lane guard }
         ensures keeps { PreservesLivingCaches ⟦<S as Subscriber>⟧ ⟦<C as Callsite>⟧ self.old self.new }
     {
@@ -212,8 +210,6 @@ impl<S: Subscriber, C: Callsite> Hub<S, C> {
 
     /// Ends a lane, which gives up its default. The subscriber that this releases comes back.
     pub fn end_thread(&mut self, lane: u64) -> Result<Option<S>, UnknownLane>
-        // `release`, `reset`, `end_thread`, `clone`, `upgrade`, `set_default` and `set_global_default` never answer out of
-        // memory.
         ensures gives { (result, self.new) ≡ end_gives self.old lane }
         ensures keeps { PreservesLivingCaches ⟦<S as Subscriber>⟧ ⟦<C as Callsite>⟧ self.old self.new }
     {

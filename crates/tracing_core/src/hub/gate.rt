@@ -73,9 +73,8 @@ impl<S: Subscriber, C: Callsite> Hub<S, C> {
     /// `None` where no callsite has it. Where the lane reaches nothing, it isn't. The reached subscriber is
     /// asked where what is kept doesn't tell.
     pub fn gate(&mut self, identifier: Identifier, at: At) -> Option<bool>
-        // On a lane that reaches no subscriber, `gate` answers no for each known callsite.
         ensures answer { GateGives ⟦<S as Subscriber>⟧ ⟦<C as Callsite>⟧ self.old identifier.0 at result self.new }
-        // Where what is kept is right of the reached subscriber, this is what asking it answers.
+        // With a valid cache of the reached subscriber the answer is what that subscriber answers when it is asked.
         ensures asking { (site : KeptCallsite C) (e : KeptSubscriber S) (b : Bool) →
             callsite_with identifier.0 self.old.callsites ≡ Some site → reached self.old at.lane ≡ Some e.serial →
             HasValidCache ⟦<S as Subscriber>⟧ ⟦<C as Callsite>⟧ self.old e →

@@ -62,7 +62,6 @@ impl<S, C> Hub<S, C> {
 impl<S: Subscriber, C: Callsite> Hub<S, C> {
     /// Another handle to the same subscriber. It takes no memory.
     pub fn clone(&mut self, dispatch: &Dispatch) -> Result<Dispatch, HandleError>
-        // `clone`, `upgrade` and `release` leave exactly the stated counts of handles.
         ensures answer { result ≡ or_refused (hold_refusal dispatch.now self.old.subscribers) dispatch.now }
         ensures state { self.new ≡ or_same (hold_refusal dispatch.now self.old.subscribers) self.old
             (holding self.old dispatch.now) }
@@ -73,7 +72,6 @@ impl<S: Subscriber, C: Callsite> Hub<S, C> {
 
     /// A handle that keeps the subscriber, or `None` where it was released. It takes no memory.
     pub fn upgrade(&mut self, dispatch: &WeakDispatch) -> Result<Option<Dispatch>, TooManyHandles>
-        // A weak handle leads to a living subscriber alone.
         ensures answer { result ≡ upgrade_answer dispatch.now (hold_refusal dispatch.now self.old.subscribers) }
         ensures state { self.new ≡ or_same (hold_refusal dispatch.now self.old.subscribers) self.old
             (holding self.old dispatch.now) }
@@ -85,7 +83,7 @@ impl<S: Subscriber, C: Callsite> Hub<S, C> {
     /// Takes a handle back. The subscriber comes back with its last one; what is kept of callsites, and the
     /// greatest level, stay as they are until the next rebuild.
     pub fn release(&mut self, dispatch: Dispatch) -> Option<S>
-        // Releasing the last handle gives the subscriber back.
+        // The subscriber comes back exactly where this was its last handle.
         ensures answer { result ≡ (given_back dispatch self.old.subscribers).0 }
         ensures state { self.new ≡ record self.old { subscribers = (given_back dispatch self.old.subscribers).1 } }
         ensures keeps { PreservesLivingCaches ⟦<S as Subscriber>⟧ ⟦<C as Callsite>⟧ self.old self.new }

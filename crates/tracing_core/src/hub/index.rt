@@ -29,8 +29,8 @@ impl<S, C> Hub<S, C> {
         }
     }
 
-    /// Where the callsite with the identifier stands, where its index is the identifier less the first callsite's. It takes a few
-    /// comparisons. `None` tells nothing: [`index_of`](Hub::index_of) then looks in a map.
+    /// Where the callsite with the identifier stands, or `None`, which tells nothing. It finds an index that is the identifier
+    /// less the first callsite's, in a few comparisons; else [`index_of`](Hub::index_of) looks in a map.
     #[inline(always)]
     pub fn counted_index_of(&self, identifier: Identifier) -> Option<CallsiteIndex>
         ensures { IfSome result (λ index. index_of_callsite identifier.0 self.now.callsites ≡ Some index.0) }
@@ -66,10 +66,9 @@ impl<S, C: Callsite> Hub<S, C> {
 impl<S: Subscriber, C: Callsite> Hub<S, C> {
     /// The same as [`Hub::gate`] of the callsite at the index, or `None` where none stands there.
     pub fn gate_at(&mut self, index: CallsiteIndex, at: At) -> Option<bool>
-        // At an index, the hub answers the interest, the metadata and the gate of the callsite that stands there.
         ensures answer { GateGivesAt ⟦<S as Subscriber>⟧ ⟦<C as Callsite>⟧ self.old
             (slice_get self.old.callsites index.0) at result self.new }
-        // Where what is kept is right of the reached subscriber, this is what asking it answers.
+        // With a valid cache of the reached subscriber the answer is what that subscriber answers when it is asked.
         ensures asking { (site : KeptCallsite C) (e : KeptSubscriber S) (b : Bool) →
             slice_get self.old.callsites index.0 ≡ Some site → reached self.old at.lane ≡ Some e.serial →
             HasValidCache ⟦<S as Subscriber>⟧ ⟦<C as Callsite>⟧ self.old e →

@@ -111,11 +111,9 @@ impl<S: Subscriber, C: Callsite> Hub<S, C> {
     /// Whether the subscriber of the handle wants a span or an event of the callsite of the index, or `None` where no
     /// callsite stands there.
     pub fn enabled_at(&mut self, dispatch: &Dispatch, index: CallsiteIndex, at: At) -> Option<bool>
-        // `enabled_at`, `event_at`, `new_span_at` and `record_at` are one request through the handle, at the callsite of the
-        // index.
         ensures gives { AskAtGives ⟦<S as Subscriber>⟧ ⟦<C as Callsite>⟧ (slice_get self.old.callsites index.0) at
             dispatch.now self.old result self.new }
-        // They keep a hub sound, and the cache valid for each subscriber that lives and isn't lent.
+        // A sound hub stays sound, and its cache stays valid of each subscriber of which it was.
         ensures keeps { PreservesCaches ⟦<S as Subscriber>⟧ ⟦<C as Callsite>⟧ self.old self.new }
     {
         self.ask_at(dispatch, index, at)
@@ -145,7 +143,6 @@ impl<S: Subscriber, C: Callsite> Hub<S, C> {
         values: &[FieldValue],
         at: At,
     ) -> Option<Result<(), RequestError>>
-        // They tell values by their fields' places at that callsite, in order, and pass over a value of a field that it lacks.
         ensures gives { EventAtGives ⟦<S as Subscriber>⟧ ⟦<C as Callsite>⟧ (slice_get self.old.callsites index.0)
             values.now parent at dispatch.now self.old result self.new }
         ensures keeps { PreservesCaches ⟦<S as Subscriber>⟧ ⟦<C as Callsite>⟧ self.old self.new }
@@ -190,7 +187,6 @@ impl<S: Subscriber, C: Callsite> Hub<S, C> {
         values: &[FieldValue],
         at: At,
     ) -> Option<Result<Option<Id>, RequestError>>
-        // An event or a span is told to stand under the current span, under none, or under the one that is named.
         ensures gives { SpanAtGives ⟦<S as Subscriber>⟧ ⟦<C as Callsite>⟧ (slice_get self.old.callsites index.0)
             values.now parent at dispatch.now self.old result self.new }
         ensures keeps { PreservesCaches ⟦<S as Subscriber>⟧ ⟦<C as Callsite>⟧ self.old self.new }
@@ -235,7 +231,6 @@ impl<S: Subscriber, C: Callsite> Hub<S, C> {
         values: &[FieldValue],
         at: At,
     ) -> Option<Result<(), RequestError>>
-        // Where no callsite stands at the index, they answer none and change nothing.
         ensures gives { RecordAtGives ⟦<S as Subscriber>⟧ ⟦<C as Callsite>⟧ (slice_get self.old.callsites index.0)
             span.now values.now at dispatch.now self.old result self.new }
         ensures keeps { PreservesCaches ⟦<S as Subscriber>⟧ ⟦<C as Callsite>⟧ self.old self.new }

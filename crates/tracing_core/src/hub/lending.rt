@@ -60,10 +60,9 @@ impl<S: Subscriber, C: Callsite> Hub<S, C> {
     /// Lends the subscriber that the handle leads to for writing, and marks it as lent: what is kept of it
     /// counts for nothing until the next rebuild.
     pub fn subscriber_mut(&mut self, dispatch: &Dispatch) -> Option<&mut S>
-        // What is lent for reading or writing is the handle's subscriber, which counts as lent from a loan for writing on.
         ensures lent { option_map (λ subscriber. subscriber.now) result
             ≡ option_map (λ kept. kept.subscriber) (living_of dispatch.now self.old.subscribers) }
-        // What is kept stays right of the others, whatever the lent one becomes.
+        // The cache stays valid of the other subscribers that aren't lent, whatever the lent one becomes.
         ensures others { (w : S) → PreservesUnlentCaches ⟦<S as Subscriber>⟧ ⟦<C as Callsite>⟧ self.old
             (record self.old { subscribers = lent_to dispatch.now w self.old.subscribers }) }
         ensures* ends { sem 𝓛 (LendsSubscriber S.row C.row self.entry dispatch.now result) }
@@ -81,10 +80,9 @@ impl<S: Subscriber, C: Callsite> Hub<S, C> {
         change: F,
     ) -> Option<T>
         requires { F.IsAlwaysCallable change }
-        // `with_subscriber_mut` calls a closure once with the handle's subscriber, and changes nothing else.
         ensures gives { ChangeGives F.FnOnce change dispatch.now self.old.subscribers result self.new.subscribers }
         ensures rest { self.new ≡ record self.old { subscribers = self.new.subscribers } }
-        // Where the closure leaves the subscriber's interests, hint and consistency as they are, the cache stays valid of it.
+        // Where the closure leaves interests, hint and consistency of each subscriber as they are, a valid cache stays valid.
         ensures keeps { ChangesBy F.FnOnce change (AnswersAlike ⟦<S as Subscriber>⟧) →
             PreservesCaches ⟦<S as Subscriber>⟧ ⟦<C as Callsite>⟧ self.old self.new }
     {

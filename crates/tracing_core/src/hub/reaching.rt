@@ -53,7 +53,8 @@ impl<S: Subscriber, C: Callsite> Hub<S, C> {
     pub fn register_callsite(&mut self, dispatch: &Dispatch, metadata: &Metadata<'_>) -> Interest
         ensures answer { (e : KeptSubscriber S) → living_of dispatch.now self.old.subscribers ≡ Some e →
             S.says e.subscriber (plain_metadata metadata.now) result }
-        // A request through a handle to no subscriber is answered as `NoSubscriber` answers it.
+        // This is one call of the handle's subscriber, and nothing else changes; where there is none, the answer is that of
+        // `NoSubscriber`.
         ensures handed { HubGives ⟦<S as Subscriber>⟧ (CallsiteRegistered (plain_metadata metadata.now)) dispatch.now
             self.old result self.new }
         ensures keeps { PreservesCaches ⟦<S as Subscriber>⟧ ⟦<C as Callsite>⟧ self.old self.new }
@@ -64,7 +65,6 @@ impl<S: Subscriber, C: Callsite> Hub<S, C> {
     /// Whether the subscriber that the lane reaches wants a span or an event of the callsite. It is asked
     /// in any case; [`Hub::gate`] asks only where what is kept doesn't tell.
     pub fn enabled_here(&mut self, metadata: &Metadata<'_>, at: At) -> bool
-        // A request of a lane is one call of the subscriber that the lane reaches.
         ensures asked { AskGives ⟦<S as Subscriber>⟧ (plain_metadata metadata.now) at (reached self.old at.lane)
             self.old.subscribers result self.new.subscribers }
         ensures rest { self.new ≡ record self.old { subscribers = self.new.subscribers } }

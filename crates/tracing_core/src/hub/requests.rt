@@ -23,7 +23,6 @@ use tracing_core_moments::At;
 impl<S: Subscriber, C: Callsite> Hub<S, C> {
     /// Whether the subscriber of the handle wants a span or an event of the callsite.
     pub fn enabled(&mut self, dispatch: &Dispatch, metadata: &Metadata<'_>, at: At) -> bool
-        // A request through a handle is one call of its subscriber, with its answer, and changes nothing else.
         ensures asked { AskGives ⟦<S as Subscriber>⟧ (plain_metadata metadata.now) at dispatch.now self.old.subscribers
             result self.new.subscribers }
         ensures rest { self.new ≡ record self.old { subscribers = self.new.subscribers } }

@@ -83,9 +83,8 @@ impl<S: Subscriber, C: Callsite> Hub<S, C> {
         f: F,
     ) -> T
         requires { F.IsAlwaysCallable f }
-        // `get_default` and `get_current` call a closure with a handle to the lane's subscriber.
         ensures gives { DefaultGives F.FnOnce f self.old lane result self.new }
-        // What each call of f leaves of what is kept, this does.
+        // Where `f` keeps a sound hub sound and a valid cache valid, so does this.
         ensures keeps { CallsLeave F.FnOnce f (PreservesCaches ⟦<S as Subscriber>⟧ ⟦<C as Callsite>⟧) →
             PreservesCaches ⟦<S as Subscriber>⟧ ⟦<C as Callsite>⟧ self.old self.new }
         ensures living { CallsLeave F.FnOnce f (PreservesLivingCaches ⟦<S as Subscriber>⟧ ⟦<C as Callsite>⟧) →
@@ -102,9 +101,8 @@ impl<S: Subscriber, C: Callsite> Hub<S, C> {
         f: F,
     ) -> Option<T>
         requires { F.IsAlwaysCallable f }
-        // Inside such a call, and on a lane that was never given, the closure gets no subscriber.
         ensures gives { CurrentGives F.FnOnce f self.old lane result self.new }
-        // What each call of f leaves of what is kept, this does.
+        // Where `f` keeps a sound hub sound and a valid cache valid, so does this.
         ensures keeps { CallsLeave F.FnOnce f (PreservesCaches ⟦<S as Subscriber>⟧ ⟦<C as Callsite>⟧) →
             PreservesCaches ⟦<S as Subscriber>⟧ ⟦<C as Callsite>⟧ self.old self.new }
         ensures living { CallsLeave F.FnOnce f (PreservesLivingCaches ⟦<S as Subscriber>⟧ ⟦<C as Callsite>⟧) →
@@ -143,9 +141,9 @@ impl<S: Subscriber, C: Callsite> Hub<S, C> {
         body: F,
     ) -> Result<(T, Result<Option<S>, WrongLane>), SetDefaultError>
         requires { F.IsAlwaysCallable body }
-        // `with_default` sets a lane's default while a closure runs, and then resets the lane.
         ensures gives { WithDefaultGives F.FnOnce body self.old lane dispatch.now result self.new }
-        // The reset may release a subscriber: then what is kept stays right of those who live on.
+        // Where `body` keeps a sound hub sound, and the cache valid of those who live on, so does this, and the reset may release a
+        // subscriber.
         ensures living { BodyLeaves F.FnOnce body (PreservesLivingCaches ⟦<S as Subscriber>⟧ ⟦<C as Callsite>⟧) →
             PreservesLivingCaches ⟦<S as Subscriber>⟧ ⟦<C as Callsite>⟧ self.old self.new }
     {

@@ -20,14 +20,13 @@ impl<S: Subscriber, C: Callsite> Hub<S, C> {
     /// Asks all subscribers of each callsite and for their hints, and keeps what they say: the common
     /// interest in each callsite, and the greatest level. Then no subscriber counts as lent.
     pub fn rebuild_interest_cache(&mut self)
-        // `rebuild_interest_cache` asks every subscriber of every callsite and for its hint.
         ensures asked { Rebuilt ⟦<S as Subscriber>⟧ ⟦<C as Callsite>⟧ self.old self.new }
-        // Then what is kept is right of each subscriber that is consistent.
+        // Afterwards the cache is valid of each consistent subscriber.
         ensures right { (e : KeptSubscriber S) → subscriber_with e.serial self.old.subscribers ≡ Some e →
             S.steady e.subscriber → Every (IsTrueCallsite ⟦<C as Callsite>⟧) self.old.callsites →
             ((z : S) × HasValidCache ⟦<S as Subscriber>⟧ ⟦<C as Callsite>⟧ self.new (asked_anew z e)) }
         ensures keeps { PreservesCaches ⟦<S as Subscriber>⟧ ⟦<C as Callsite>⟧ self.old self.new }
-        // A rebuild or a refresh with no subscriber leaves the level `OFF` and every interest never.
+        // Without a subscriber nobody is interested in any callsite afterwards, and the level is `OFF`.
         ensures nobody { self.old.subscribers ≡ [] → IsOff self.new }
     {
         self.ask_all_again()
@@ -44,14 +43,14 @@ impl<S: Subscriber, C: Callsite> Hub<S, C> {
     /// Asks again whoever was lent since it was last asked, and maybe others, and forms what is kept anew: of
     /// whom it doesn't ask, it takes the kept answers. Then no subscriber counts as lent.
     pub fn refresh(&mut self)
-        // `refresh` asks each living subscriber, or uses the answers it gave before, if it wasn't lent since.
         ensures asked { Refreshed ⟦<S as Subscriber>⟧ ⟦<C as Callsite>⟧ self.old self.new }
-        // Then what is kept is right of each that was lent and is consistent.
+        // Afterwards the cache is valid of each consistent subscriber that was lent.
         ensures right { (e : KeptSubscriber S) → subscriber_with e.serial self.old.subscribers ≡ Some e → e.lent ≡ true
             →
             S.steady e.subscriber → Every (IsTrueCallsite ⟦<C as Callsite>⟧) self.old.callsites →
             ((z : S) × HasValidCache ⟦<S as Subscriber>⟧ ⟦<C as Callsite>⟧ self.new (asked_anew z e)) }
         ensures keeps { PreservesCaches ⟦<S as Subscriber>⟧ ⟦<C as Callsite>⟧ self.old self.new }
+        // Without a subscriber nobody is interested in any callsite afterwards, and the level is `OFF`.
         ensures nobody { self.old.subscribers ≡ [] → IsOff self.new }
     {
         self.ask_again()
@@ -132,13 +131,12 @@ impl<S: Subscriber, C: Callsite> Hub<S, C> {
     /// Takes a subscriber, tells it its handle, and asks it, and others as [`Hub::refresh`] does. It comes back
     /// where no number is left, or else there is no memory for it; then it wasn't told anything.
     pub fn add(&mut self, subscriber: S) -> Result<Dispatch, AddError<S>>
-        // `add` leaves exactly the stated table: the subscriber has the next number and one handle, and caches are refreshed.
         ensures gives { AddGives ⟦<S as Subscriber>⟧ ⟦<C as Callsite>⟧ self.old subscriber result self.new }
-        // Then what is kept is right of the new one, if it is consistent.
+        // In a hub that was sound the cache is valid of the new subscriber, if it is consistent.
         ensures right { IfOk result (λ dispatch. IsSound ⟦<C as Callsite>⟧ self.old → S.steady subscriber →
             ((e : KeptSubscriber S) × (dispatch ≡ Some e.serial) ×
             HasValidCache ⟦<S as Subscriber>⟧ ⟦<C as Callsite>⟧ self.new e)) }
-        // And of each that was lent and is consistent.
+        // Afterwards the cache is valid of each consistent subscriber that was lent before.
         ensures others { IfOk result (λ _. (e : KeptSubscriber S) →
             subscriber_with e.serial self.old.subscribers ≡ Some e → e.lent ≡ true → S.steady e.subscriber →
             Every (IsTrueCallsite ⟦<C as Callsite>⟧) self.old.callsites →
@@ -153,7 +151,6 @@ impl<S: Subscriber, C: Callsite> Hub<S, C> {
     /// changes, and the kept interest is answered. The callsite comes back where its identifier is known
     /// with other metadata, or there is no memory for it.
     pub fn register(&mut self, callsite: C) -> Result<Interest, RegisterError<C>>
-        // `register` keeps a new callsite with the common interest of the living subscribers, or never where nobody was asked.
         ensures gives { RegisterGives ⟦<S as Subscriber>⟧ ⟦<C as Callsite>⟧ self.old callsite result self.new }
         ensures keeps { PreservesCaches ⟦<S as Subscriber>⟧ ⟦<C as Callsite>⟧ self.old self.new }
     {

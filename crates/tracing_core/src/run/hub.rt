@@ -31,10 +31,10 @@ impl<S: Subscriber, C: Callsite> Hub<S, C> {
     /// Carries out one command, and replies to it.
     #[tactic(auto, using(crate::proofs::CachePreservation::itself_keeps))]
     pub fn carry_out(&mut self, book: &mut Book, command: Command<S, C>) -> CommandReply<S, C>
-        // In a run, a lane is looked at before a handle or a guard.
         ensures gives { CommandGives ⟦<S as Subscriber>⟧ ⟦<C as Callsite>⟧ self.old book.old command result self.new
             book.new }
-        // What is kept stays right of everyone, or, where something may be given up, of those who live on.
+        // A sound hub stays sound, and its cache stays valid of each subscriber of which it was, or, where the command may release
+        // one, of those who live on.
         ensures keeps { CommandKeeps ⟦<S as Subscriber>⟧ ⟦<C as Callsite>⟧ command self.old self.new }
     {
         match command {
@@ -72,16 +72,17 @@ impl<S: Subscriber, C: Callsite> Hub<S, C> {
         book: &mut Book,
         commands: Vec<Command<S, C>>,
     ) -> Result<Vec<CommandReply<S, C>>, NoRoom<S, C>>
-        // The replies to a list of commands, and what they leave, are those of the table and of a book of handles and guards.
         ensures ran { IfOk result (λ replies. CommandsGive ⟦<S as Subscriber>⟧ ⟦<C as Callsite>⟧ self.old book.old
             commands.items replies.items self.new book.new) }
-        // Where there is no memory for the replies, the commands come back and nothing changed.
+        // Where there is no memory for the replies, the commands come back.
         ensures back { IfErr result (λ room. room.0.items ≡ commands.items) }
+        // Where there is no memory for the replies, the hub stays as it was.
         ensures hub { OnErr result (self.new ≡ self.old) }
+        // Where there is no memory for the replies, the book stays as it was.
         ensures book { OnErr result (book.new ≡ book.old) }
-        // A run of commands keeps a hub sound, and so does each of its commands.
+        // A sound hub stays sound, and its cache stays valid of the subscribers that live on.
         ensures keeps { PreservesLivingCaches ⟦<S as Subscriber>⟧ ⟦<C as Callsite>⟧ self.old self.new }
-        // Where nothing is given up, what is kept stays right of everyone.
+        // Where no command may release a subscriber, the cache stays valid of each subscriber of which it was.
         ensures all { Every GivesNothingUp commands.items →
             PreservesCaches ⟦<S as Subscriber>⟧ ⟦<C as Callsite>⟧ self.old self.new }
     {

@@ -56,7 +56,7 @@ pub trait Subscriber: Drop {
     ghost quiet: { (x : Self) (m n : PlainMetadata) (at now : At) (r : Bool) (y : Self) (b : Bool) →
         moves x (Asked m at) r y → steady x → (answers x n now b ↔ answers y n now b) };
 
-    /// A hub took the subscriber, and gave out this handle.
+    /// Is told that a hub took it, and gave out this handle.
     fn on_register_dispatch(&mut self, dispatch: &WeakDispatch)
         ensures { moves self.old (DispatchRegistered dispatch.now) result self.new };
 

@@ -27,7 +27,6 @@ impl<'a> DefaultCallsite<'a> {
         &mut self,
         hub: &mut Hub<S, DefaultCallsite<'a>>,
     ) -> Result<Interest, RegisterError<DefaultCallsite<'a>>>
-        // A `DefaultCallsite` registers a copy of itself, and keeps the interest that the hub answers.
         ensures registered { RegisterGives ⟦<S as Subscriber>⟧ ⟦<DefaultCallsite<'a> as Callsite>⟧ hub.old
             (untold self.old) result hub.new }
         ensures metadata { site_metadata self.new ≡ site_metadata self.old }

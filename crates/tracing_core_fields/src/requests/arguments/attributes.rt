@@ -22,7 +22,6 @@ pub struct Attributes<'m, 'v> {
 impl<'m, 'v> Attributes<'m, 'v> {
     /// A span under the current one, where there is one.
     pub fn new(metadata: &'m Metadata<'m>, values: ValueSet<'v>) -> Attributes<'m, 'v>
-        // Attributes have the parts that they were made of.
         ensures plain { plain_attributes result ≡ plain_request metadata.now values.entry Parent.Current }
         ensures metadata { attributes_metadata result ≡ metadata.now }
         ensures values { attributes_values result ≡ values.entry }

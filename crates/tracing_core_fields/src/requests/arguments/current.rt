@@ -20,7 +20,6 @@ pub struct Current<'m> {
 impl<'m> Current<'m> {
     /// The current span is this one.
     pub fn new(id: Id, metadata: &'m Metadata<'m>) -> Current<'m>
-        // A current span has the parts that it was made of, or says that there is none, or that it isn't known.
         ensures plain { plain_current result ≡ Inside id (plain_metadata metadata.now) }
         ensures metadata { current_metadata result ≡ Some metadata.now }
     {
@@ -42,7 +41,7 @@ impl<'m> Current<'m> {
         }
     }
 
-    /// The subscriber doesn't tell.
+    /// It isn't known which span is current.
     pub fn unknown() -> Current<'m>
         ensures { plain_current result ≡ Untold }
     {

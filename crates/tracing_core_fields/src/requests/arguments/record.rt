@@ -16,7 +16,6 @@ pub struct Record<'v> {
 impl<'v> Record<'v> {
     /// The record of these values.
     pub fn new(values: ValueSet<'v>) -> Record<'v>
-        // Records and events have the parts that they were made of.
         ensures plain { plain_record result ≡ plain_values values.entry }
         ensures values { record_values result ≡ values.entry }
     {
