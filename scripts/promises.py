@@ -75,21 +75,24 @@ def functions(file):
 
 
 def clauses_of(lines, at):
-    """Returns the clauses behind a function's head, and the line at which its body begins."""
-    indent, clauses, comment = len(lines[at]) - len(lines[at].lstrip()), [], []
-    while at + 1 < len(lines):
-        if lines[at].rstrip().endswith((";", "{", "{}")) and not re.match(r"\s*(ensures|requires)", lines[at]) and len(lines[at]) - len(lines[at].lstrip()) <= indent:
-            break
-        at += 1
+    """Returns the clauses behind a function's head, and the line at which its body begins, or at which it ends where it has none."""
+    clauses, comment, depth = [], [], 0
+    while at < len(lines):
         line = lines[at].strip()
+        if not depth and (line in ("{", "{}") or line.endswith(" {") and not line.startswith(("ensures", "requires"))):
+            break
         if line.startswith("// "):
             comment.append(line[3:])
-        elif line.startswith("ensures"):
+        elif line.startswith("ensures") and not depth:
             name = re.match(r"ensures\*? ?([\w-]*)", line)[1]
             clauses.append(Clause(name, " ".join(comment)))
             comment = []
         elif line.startswith("requires"):
             comment = []
+        depth += line.count("{") - line.count("}") if not line.startswith("//") else 0
+        if not depth and line.endswith(";"):
+            break
+        at += 1
     return clauses, at
 
 
