@@ -98,7 +98,7 @@ def clauses_of(lines, at):
 
 def sentence(doc):
     """Returns the first sentence of a documentation."""
-    text = " ".join(doc).split("  ")[0]
+    text = re.sub(r"\[(`[^`]+`)\](?:\([^)]*\))?", r"\1", " ".join(doc).split("  ")[0])
     found = re.match(r"(.*?[.:])(?: (?=[A-Z`])|$)", text.split(" # ")[0])
     return (found[1] if found else text).replace("|", "\\|").strip()
 
