@@ -78,7 +78,11 @@ ITEMS = {
     ("tracing_appender_folders", "BadMoment"): "tracing_core_moments",
 }
 # Files of definitions that stand elsewhere than their crate.
-FILES = {("tracing_appender_folders", "specs", "Moments"): ("tracing_core_moments", "Moments")}
+FILES = {
+    ("tracing_appender_folders", "specs", "Moments"): ("tracing_core_moments", "Moments"),
+    # other crates name it, and a folder of proofs that follows a module of the source is not handed on to them
+    ("tracing_appender_folders", "proofs", "Openings"): ("tracing_appender_rolling", "FaultlessFolder"),
+}
 # The crates that may hand on what others have.
 MEMBERS = {"tracing_core", "span_registry_layers", "event_formatter", "tracing_appender", "span_tracing"}
 USE = re.compile(r"^([ \t]*)((?:pub(?:\(\w+\))? )?)use ([\w:{},*\s]+?);", re.M)
@@ -505,6 +509,7 @@ def merge(root):
     made["tracing_core_moments"].mods += ["mod at;", "mod moment;"]
     made["tracing_core_moments"].uses += [("pub ", "at::At"), ("pub ", "moment::Moment"), ("pub ", "moment::BadMoment")]
     made["tracing_core_moments"].lib["specs"].append("pub mod Moments")
+    made["tracing_appender_rolling"].lib["proofs"].append("pub mod FaultlessFolder")
     made["tracing_core_moments"].docs = []
     for it in made.values():
         it.close()

@@ -12,8 +12,8 @@ use Rattle.tracing_appender_rolling.specs.declared.init.InitContext.{InitContext
 use Rattle.tracing_appender_rolling.specs.declared.folders.fault.FolderError.TheVariants.{Fault, OutOfMemory}
 use Rattle.tracing_core_moments.specs.Moments.{is_moment, period_at, end_of, is_due, latest_of}
 use Rattle.tracing_appender_rolling.specs.folders.Contents.{Contents, listing, without_number, closed, file_named, link_named, bytes_at}
-use Rattle.tracing_appender_rolling.proofs.folders.FaultlessFolder.{closed_files, closed_sound, closed_open, closed_leaves, opened_open}
-use Rattle.tracing_appender_rolling.proofs.folders.FaultlessFolder.{open_more, stays_open}
+use Rattle.tracing_appender_rolling.proofs.FaultlessFolder.{closed_files, closed_sound, closed_open, closed_leaves, opened_open}
+use Rattle.tracing_appender_rolling.proofs.FaultlessFolder.{open_more, stays_open}
 use Rattle.tracing_appender_rolling.proofs.folders.Content.{after_line}
 use Rattle.tracing_appender_rolling.specs.declared.faults.Faults.{Faults}
 use Rattle.tracing_appender_rolling.specs.Names.{FileNames, file_name, HasGoodLink}

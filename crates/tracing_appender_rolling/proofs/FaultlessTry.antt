@@ -13,7 +13,7 @@ use Rattle.tracing_appender_rolling.specs.Tries.{Tried, MissedFile, opened_twice
 use Rattle.tracing_appender_rolling.specs.Looks.{Starved, name_at}
 use Rattle.tracing_appender_rolling.specs.Writes.{Unchanged}
 use Rattle.tracing_appender_rolling.proofs.folders.Content.{after_line, stands_from, stands_to, fresh_stands, no_bytes, fresh_bytes}
-use Rattle.tracing_appender_rolling.proofs.folders.FaultlessFolder.{opened_is}
+use Rattle.tracing_appender_rolling.proofs.FaultlessFolder.{opened_is}
 use Rattle.tracing_appender_rolling.specs.PrunedSinks.{StandOnce}
 use Rattle.tracing_appender_rolling.proofs.RetainedFiles.{once_added}
 

@@ -9,7 +9,7 @@ use Rattle.tracing_appender_rolling.specs.declared.folders.fault.FolderError.The
 use Rattle.tracing_core_moments.specs.Moments.{is_moment, is_due}
 use Rattle.tracing_appender_rolling.specs.folders.Contents.{Contents, Gives, called, flushed, without_number, on_file, written, appended}
 use Rattle.tracing_appender_rolling.proofs.folders.Content.{appended-nil}
-use Rattle.tracing_appender_rolling.proofs.folders.FaultlessFolder.{fed_leaves, flush_still, stays_open}
+use Rattle.tracing_appender_rolling.proofs.FaultlessFolder.{fed_leaves, flush_still, stays_open}
 use Rattle.tracing_appender_rolling.specs.declared.appender.RollingFileAppender.{RollingFileAppender}
 use Rattle.tracing_appender_rolling.specs.Names.{FileNames}
 use Rattle.tracing_appender_rolling.specs.Looks.{Switches, end_at}

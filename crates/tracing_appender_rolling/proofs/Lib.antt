@@ -26,3 +26,4 @@ pub mod Oldest
 pub mod SortedCandidates
 pub mod LineDeterminism
 pub mod FilesByTries
+pub mod FaultlessFolder

@@ -11,7 +11,7 @@ use Rattle.tracing_appender_rolling.specs.folders.Contents.{Contents, Gives, clo
 use Rattle.tracing_appender_rolling.specs.RetentionRemovals.{Prunes, pruned}
 use Rattle.tracing_appender_rolling.specs.Tries.{Tried, TriesFile}
 use Rattle.tracing_appender_rolling.specs.Looks.{Held, IsHeld, Switches, tried, try_at, name_at, end_at}
-use Rattle.tracing_appender_rolling.proofs.folders.FaultlessFolder.{fed_leaves, stays_unknown}
+use Rattle.tracing_appender_rolling.proofs.FaultlessFolder.{fed_leaves, stays_unknown}
 
 tried_ok : (h : Held) (t : Tried) (file : FileNumber) → t.0 ≡ Ok file →
     tried h t ≡ record h { current = file; contents = (closed t.1 h.current).1 }

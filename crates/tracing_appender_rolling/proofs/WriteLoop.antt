@@ -14,7 +14,7 @@ use Rattle.tracing_appender_rolling.specs.declared.folders.fault.FolderError.The
 use Rattle.tracing_appender_rolling.specs.folders.Contents.{Contents, StoredFile, Answer, Gives, IsSound, Outcome, Done, Refuses, Short}
 use Rattle.tracing_appender_rolling.specs.folders.Contents.{appended, written, write_plain, taken, refusal, if_refused, called, is_open}
 use Rattle.tracing_appender_rolling.specs.folders.Contents.{on_file, unless_closed}
-use Rattle.tracing_appender_rolling.proofs.folders.FaultlessFolder.{sound_on}
+use Rattle.tracing_appender_rolling.proofs.FaultlessFolder.{sound_on}
 use Rattle.tracing_appender_rolling.specs.Writes.{Left, for_file, taken_by, Takes, FailsWith, WroteSome, Wrote, WritesAll}
 use Rattle.tracing_appender_rolling.proofs.folders.Content.{appended-nil}
 

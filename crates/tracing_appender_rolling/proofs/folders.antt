@@ -1,5 +1,4 @@
 pub mod Content
-pub mod FaultlessFolder
 pub mod FilesByName
 pub mod FaultPlans
 pub mod SortedEntries

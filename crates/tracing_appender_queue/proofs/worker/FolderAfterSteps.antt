@@ -17,7 +17,7 @@ use Rattle.tracing_appender_rolling.specs.Tries.{Tried}
 use Rattle.tracing_appender_rolling.specs.declared.folders.fault.FolderError.TheVariants.{Fault, OutOfMemory}
 use Rattle.tracing_appender_rolling.specs.Writes.{for_file, taken_by, Takes}
 use Rattle.tracing_appender_rolling.proofs.PeriodFacts.{own_not_due}
-use Rattle.tracing_appender_rolling.proofs.folders.FaultlessFolder.{done_open, not_open, flush_still}
+use Rattle.tracing_appender_rolling.proofs.FaultlessFolder.{done_open, not_open, flush_still}
 use Rattle.tracing_appender_queue.specs.declared.worker.step.Written.{Written}
 use Rattle.tracing_appender_queue.specs.declared.worker.step.Written.TheVariants.{Whole, Failed, Missed}
 use Rattle.tracing_appender_queue.specs.worker.Steps.{is_whole, last_whole, LineTo, LinesTo, with_flush, flushed_if, AllWhole}

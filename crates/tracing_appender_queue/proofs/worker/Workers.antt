@@ -7,7 +7,7 @@ use Rattle.tracing_core_moments.specs.declared.moment.Moment.{Moment}
 use Rattle.tracing_appender_rolling.specs.Names.{FileNames}
 use Rattle.tracing_appender_rolling.specs.folders.Contents.{IsSound}
 use Rattle.tracing_appender_rolling.specs.Looks.{Held}
-use Rattle.tracing_appender_rolling.proofs.folders.FaultlessFolder.{flush_still}
+use Rattle.tracing_appender_rolling.proofs.FaultlessFolder.{flush_still}
 use Rattle.tracing_appender_rolling.proofs.NoFileLost.{line_sound}
 use Rattle.tracing_appender_queue.specs.Queue.{Queue}
 use Rattle.tracing_appender_queue.specs.declared.worker.step.Written.{Written}

@@ -2,7 +2,7 @@ use Rattle.std.proofs.Common.{◌≡◌, ◌∙◌, sym, ap, true, false, refl, 
 use Rattle.std.specs.Prelude.{is_some}
 use Rattle.tracing_appender_rolling.specs.folders.Contents.{is_open, close_plain}
 use Rattle.tracing_appender_rolling.specs.folders.Memory.{memory_contents}
-use Rattle.tracing_appender_rolling.proofs.folders.FaultlessFolder.{removed_first, passes, done_open, not_open}
+use Rattle.tracing_appender_rolling.proofs.FaultlessFolder.{removed_first, passes, done_open, not_open}
 use Rattle.tracing_appender_rolling.proofs.folders.memory.MemoryFolderFolder.close_file.Goals as goal
 
 pub returns-in-Some-clause-gives : goal.returns-in-Some-clause-gives

@@ -3,7 +3,7 @@ use Rattle.std.proofs.lemmas.List.{length-map}
 use Rattle.tracing_appender_rolling.specs.folders.Contents.{StoredFile}
 use Rattle.tracing_appender_rolling.specs.folders.Memory.{memory_contents}
 use Rattle.std.proofs.lemmas.Result.{err_from_is_err_and}
-use Rattle.tracing_appender_rolling.proofs.folders.FaultlessFolder.{written_open}
+use Rattle.tracing_appender_rolling.proofs.FaultlessFolder.{written_open}
 use Rattle.tracing_appender_rolling.proofs.folders.FilesByName.{appended-kept, appended_past, kept-set}
 use Rattle.tracing_appender_rolling.proofs.folders.memory.MemoryFolderFolder.write.Goals as goal
 
