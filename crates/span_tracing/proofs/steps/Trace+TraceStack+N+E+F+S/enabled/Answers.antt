@@ -2,4 +2,7 @@ use Rattle.span_tracing.proofs.steps.Trace+TraceStack+N+E+F+S.enabled.Goals as g
 
 pub returns : goal.returns
 returns g c = rw (← c.self.view_is)
-    (record { gives = c.enabled.ensures.gives; follows = λ ready. c.steps_follow.ensures _ _ _ _ ready c.enabled.ensures.gives })
+    (record {
+      gives = c.enabled.ensures.gives;
+      follows = λ ready. c.steps_follow.ensures _ _ _ _ ready c.enabled.ensures.gives;
+    })

@@ -2,4 +2,7 @@ use Rattle.span_tracing.proofs.steps.Trace+TraceStack+N+E+F+S.set_global_default
 
 pub returns : goal.returns
 returns g c = rw (← c.self.view_is)
-    (record { gives = c.set_global_default.ensures.gives; follows = λ ready. c.steps_follow.ensures _ _ _ _ ready c.set_global_default.ensures.gives })
+    (record {
+      gives = c.set_global_default.ensures.gives;
+      follows = λ ready. c.steps_follow.ensures _ _ _ _ ready c.set_global_default.ensures.gives;
+    })
