@@ -1,4 +1,4 @@
-//! Lines of events: field texts, formats, times, makers, and the layer that writes them.
+//! The layer that writes lines of events to a maker of writers, and the formats that it may have.
 #![tactic(auto)]
 
 mod fmt_layer;

@@ -1,4 +1,4 @@
-//! Lines: what stands before and behind the fields of an event, in each format.
+//! Lines in each format, the times in them, and what an output keeps with spans for them.
 #![tactic(auto)]
 
 mod compact;

@@ -1,4 +1,4 @@
-//! The texts of fields: visitors that write them, and field formatters.
+//! The texts of fields, with the visitors and formatters that write them; and makers of writers, which take lines, with their routes.
 #![tactic(auto)]
 
 mod default_fields;

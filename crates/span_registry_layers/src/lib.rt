@@ -1,4 +1,4 @@
-//! Spans, and the filters and layers over a registry of them.
+//! A stack, which has outputs over one registry of spans, each a layer behind a filter.
 #![tactic(auto)]
 
 mod cached_interest;

@@ -1,4 +1,4 @@
-//! Spans, lane stacks, and what is kept with spans.
+//! The registry: open spans, which of them each lane has entered, and what outputs keep with them.
 #![tactic(auto)]
 
 mod close_candidates;

@@ -1,4 +1,4 @@
-//! Times calls of a trace, by name, or shows what they hand over.
+//! A bench: it times calls of a trace, of the kind that its argument names, or shows the sums of what they hand over.
 #![tactic(auto)]
 
 mod bench;

@@ -1,5 +1,4 @@
-//! Output machines: what each output of a trace keeps, and what a notice makes of it; and a stack that hands its outputs'
-//! lines to sinks.
+//! A stack that hands its outputs' lines to sinks, the sinks that write log files, `open_stack`, and a model of each output.
 #![tactic(auto)]
 
 mod files;

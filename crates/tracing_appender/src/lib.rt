@@ -1,4 +1,4 @@
-//! Log files that change by the period, as an application uses them.
+//! An appender that reads a clock at each write; and, re-exported, what applications need of `tracing_appender_rolling`.
 //!
 //! A builder is told how often the file changes, its prefix and suffix, how many files stay and the name of a link to
 //! the latest one. It builds an appender over a folder, and a clocked appender takes that appender and a clock. It is

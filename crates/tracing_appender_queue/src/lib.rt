@@ -1,4 +1,4 @@
-//! A queue of lines with a limit and one mark.
+//! A queue of lines with a limit and one mark, and the steps of a worker that hands its lines to an appender.
 #![tactic(auto)]
 
 mod laws;

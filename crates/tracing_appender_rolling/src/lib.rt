@@ -1,4 +1,4 @@
-//! Names of log files, and a file that changes by the period, over folders.
+//! A log file that changes by the period, with retention, and the folders that it may lie in.
 #![tactic(auto)]
 
 mod appender;

@@ -1,4 +1,4 @@
-//! The core of tracing: levels, metadata, fields, values, visits, span ids, and the hub of subscribers.
+//! The hub, which keeps callsites, subscribers and lanes; and, re-exported, what applications need of `tracing_core_fields`.
 #![tactic(auto)]
 
 mod callsite;

@@ -1,4 +1,4 @@
-//! The plain data of tracing: levels, metadata, fields, value sets, visits and span ids.
+//! The plain data of tracing (levels, metadata, fields, values, visits, span ids), the requests, and the subscribers that take them.
 #![tactic(auto)]
 
 mod callsite;

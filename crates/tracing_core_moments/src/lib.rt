@@ -1,4 +1,4 @@
-//! Moments, periods of time, dates, and the names of log files.
+//! Moments, periods of time, dates, the names of log files, and `At`, the lane and moment of a request.
 #![tactic(auto)]
 
 mod at;
