@@ -36,12 +36,20 @@ def texts_below(folder):
 
 
 def texts_of(crate, part):
-    """Yields the files of the crate's src, specs or proofs that its proof reads: all but its module of tests."""
-    root = f"{crate.folder}/src/{'main' if crate.is_program else 'lib'}.rt"
-    has_tests = "\n#[cfg(test)]\nmod tests;\n" in rtlib.text_of(root)
+    """Yields the files of the crate's src, specs or proofs that its proof reads: all but its modules of tests."""
     for path, text in texts_below(f"{crate.folder}/{part}"):
-        if not (has_tests and part != "specs" and (path == "tests.rt" or path.startswith("tests/"))):
+        if part == "specs" or not is_of_tests(crate, path):
             yield path, text
+
+
+def is_of_tests(crate, path):
+    """Returns whether a file of src or proofs stands in a module `tests` that the module above declares for tests alone."""
+    names = path.removesuffix(".rt").split("/")
+    if "tests" not in names:
+        return False
+    above = "/".join(names[: names.index("tests")]) or ("main" if crate.is_program else "lib")
+    file = f"{crate.folder}/src/{above}.rt"
+    return os.path.isfile(file) and "\n#[cfg(test)]\nmod tests;\n" in rtlib.text_of(file)
 
 
 def contracts(crate):
