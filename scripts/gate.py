@@ -219,6 +219,9 @@ class Gate:
                 print(f"gate: must-fail {name}/{edit}: {text}")
                 self.count(is_refused, f"{name}/{edit}")
                 self.refused |= {f"{name}/{edit}"} if is_refused else set()
+            if self.how.edits != "drawn":
+                # as it goes, so that a run that is cut off leaves what it found
+                self.write_ledger()
         elif part in ("cases", "real") and it.is_well:
             for case, text in it.gave.items():
                 print(f"gate: case {case}: {text or 'as it has to be'}")
