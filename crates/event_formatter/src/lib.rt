@@ -8,9 +8,9 @@ mod shorthands;
 pub use event_formatter_lines::{
     DateTime, FirstText, FixedText, FmtSpan, FormatTime, Head, JsonShape, Place, ShownSpan,
     ShownSpans, SystemTime, Thread, TimingStep, Uptime, add_record, json_fields_keep_objects,
-    json_lines_end_once, keep_new, kept_text, lines_are_json, push_compact_line, push_duration,
-    push_full_line, push_json_line, push_pretty_line, rekeeping_is_local, spans_extend_objects,
-    step_timings,
+    json_lines_end_once, keep_new, kept_text, lines_are_harmless, lines_are_json,
+    moments_of_constants, push_compact_line, push_duration, push_full_line, push_json_line,
+    push_pretty_line, rekeeping_is_local, spans_extend_objects, step_timings,
 };
 pub use event_formatter_text::{
     Alt, BadRoute, BoxMakeWriter, ClosureWriter, DefaultFields, DefaultVisitor, Delimited,
@@ -19,7 +19,8 @@ pub use event_formatter_text::{
     MakeWriter, MakeWriterExt, Messages, MetadataTest, OptionalWriter, OrElse, PrettyFields,
     PrettyVisitor, RecordFields, Route, Settings, Tee, VisitDelimited, VisitFmt, VisitOutput,
     VisitWrite, WithFilter, WithMaxLevel, WithMinLevel, WriteField, WritePiece, Writer, debug_fn,
-    messages_and_errors_are_harmless, sanitized_texts_are_harmless,
+    fields_are_harmless, lists_of_strings_are_json, messages_and_errors_are_harmless,
+    objects_keep_last_values, sanitized_texts_are_harmless,
 };
 pub use fmt_layer::Layer;
 pub use formats::{

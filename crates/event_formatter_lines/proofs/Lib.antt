@@ -12,3 +12,4 @@ mod Moments
 mod JsonLines
 mod KeptObjects
 mod PrintableJson
+mod HarmlessLines

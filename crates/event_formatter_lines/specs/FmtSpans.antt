@@ -3,6 +3,10 @@ use Rattle.std.specs.Prelude.{◌≡◌, ℕ, Bool, true, false, ◌&&◌, ◌||
 use Rattle.std.specs.List.{join_by}
 use Rattle.event_formatter_lines.specs.declared.fmt_span.FmtSpan.{FmtSpan}
 
+-- the set of the moments that are given so
+abbrev pub set_of : Bool → Bool → Bool → Bool → FmtSpan
+set_of new enter exit close = record { new = new; enter = enter; exit = exit; close = close }
+
 -- each of the four moments is in the result just where the operator says so of both sets
 pub record IsByMoment (operator : Bool → Bool → Bool) (a b result : FmtSpan) : Type 0 where
   pub new : result.new ≡ operator a.new b.new

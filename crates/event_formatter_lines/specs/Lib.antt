@@ -10,3 +10,4 @@ pub mod Json
 pub mod Keys
 pub mod JsonLaws
 pub mod FmtSpans
+pub mod HarmlessLines

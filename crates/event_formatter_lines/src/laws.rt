@@ -1,7 +1,11 @@
 //! Laws of the formats.
+ghost use Rattle.std.specs.Prelude.{◌≡◌, false, true};
+ghost use Rattle.event_formatter_lines.specs.FmtSpans.{set_of};
+ghost use Rattle.event_formatter_lines.specs.HarmlessLines.{CompactLinesAreHarmless, FullLinesAreHarmless, PrettyLinesAreHarmless};
 ghost use Rattle.event_formatter_lines.specs.JsonLaws.{JsonIsPrinted, KeepsObjects, LinesAreJson, LinesEndOnce, ObjectsAreKept};
 ghost use Rattle.event_formatter_lines.specs.JsonLaws.{SpansExtendObjects};
 
+use crate::fmt_span::FmtSpan;
 use event_formatter_text::{
     FormatFields, JsonFields, numbers_are_json, objects_are_json, texts_are_strings,
     values_are_json,
@@ -41,4 +45,33 @@ pub fn json_fields_keep_objects()
 pub fn json_lines_end_once()
     ensures printed { JsonIsPrinted }
     ensures line { LinesEndOnce }
+{}
+
+/// Which moments each constant of [`FmtSpan`] holds, in this order: the span is made, entered, left, and closed.
+pub fn moments_of_constants()
+    // `NEW` holds the making of a span alone.
+    ensures new { FmtSpan.NEW ≡ set_of true false false false }
+    // `ENTER` holds each entry alone.
+    ensures enter { FmtSpan.ENTER ≡ set_of false true false false }
+    // `EXIT` holds each exit alone.
+    ensures exit { FmtSpan.EXIT ≡ set_of false false true false }
+    // `CLOSE` holds the close alone.
+    ensures close { FmtSpan.CLOSE ≡ set_of false false false true }
+    // `NONE` holds no moment.
+    ensures none { FmtSpan.NONE ≡ set_of false false false false }
+    // `ACTIVE` holds entries and exits.
+    ensures active { FmtSpan.ACTIVE ≡ set_of false true true false }
+    // `FULL` holds all four.
+    ensures full { FmtSpan.FULL ≡ set_of true true true true }
+{}
+
+/// Where texts are sanitized and there are no styles, no line for people steers a terminal, where nothing that stands in it as it is does:
+/// the texts of the time, the thread, the target, the file and the spans. Of the fields `fields_are_harmless` says the same.
+pub fn lines_are_harmless()
+    // A full line, with its newline.
+    ensures full { FullLinesAreHarmless }
+    // A compact line, with its newline.
+    ensures compact { CompactLinesAreHarmless }
+    // An entry of the pretty format, which never has styles.
+    ensures pretty { PrettyLinesAreHarmless }
 {}

@@ -20,7 +20,8 @@ pub use full::{push_full_head, push_full_line, push_place, push_spans, push_targ
 pub use head::{Head, push_level};
 pub use json::{JsonShape, push_json_line, push_json_line_in_span};
 pub use laws::{
-    json_fields_keep_objects, json_lines_end_once, lines_are_json, spans_extend_objects,
+    json_fields_keep_objects, json_lines_end_once, lines_are_harmless, lines_are_json,
+    moments_of_constants, spans_extend_objects,
 };
 pub use place::{Place, Thread};
 pub use pretty::push_pretty_line;

@@ -15,8 +15,9 @@ use Rattle.event_formatter_text.specs.Escapes.{escaped, json_char, json_string}
 use Rattle.event_formatter_text.specs.FieldTexts.{plain_name}
 use Rattle.event_formatter_text.specs.IsJson.{Elements, IsJson, Members, Value, array, element, elements, empty_array, member, negative}
 use Rattle.event_formatter_text.specs.IsJson.{number, string, truth, whole}
-use Rattle.event_formatter_text.specs.JsonLaws.{IsInRange, IsSignedBelow, MembersAreJson, NumbersAreJson, ValuesAreJson}
-use Rattle.event_formatter_text.specs.JsonTexts.{between_quotes, json_value, numbers_inside}
+use Rattle.event_formatter_text.specs.JsonLaws.{IsInRange, IsSignedBelow, ListsOfStringsAreJson, MembersAreJson, NumbersAreJson}
+use Rattle.event_formatter_text.specs.JsonLaws.{ValuesAreJson}
+use Rattle.event_formatter_text.specs.JsonTexts.{between_quotes, json_value, numbers_inside, strings_inside}
 use Rattle.event_formatter_text.specs.Lists.{entry_piece}
 use Rattle.event_formatter_text.specs.Visitors.{member_piece}
 
@@ -45,6 +46,15 @@ all_numbers b (c ∷ cs) below rest = elements (decimal b) (numbers_inside (c �
 bytes_are : (bytes : List ℕ) → AllByRecursion (λ b. b < 2 ^ 8) bytes → IsJson Value (codes "[" ++ numbers_inside bytes ++ codes "]")
 bytes_are [] all = empty_array
 bytes_are (b ∷ bs) all = array (numbers_inside (b ∷ bs)) (all_numbers b bs all.0 all.1)
+
+all_strings : (text : List ℕ) (texts : List (List ℕ)) → IsJson Elements (strings_inside (text ∷ texts))
+all_strings text [] = subst (IsJson Elements) (sym (append-nil (json_string text))) (element (json_string text) (string_is text))
+all_strings text (next ∷ texts) =
+    elements (json_string text) (strings_inside (next ∷ texts)) (string_is text) (all_strings next texts)
+
+pub lists_of_strings_are : ListsOfStringsAreJson
+lists_of_strings_are [] = empty_array
+lists_of_strings_are (text ∷ texts) = array (strings_inside (text ∷ texts)) (all_strings text texts)
 
 pub values_are : ValuesAreJson
 values_are (Written plain alternate) range = string_is plain

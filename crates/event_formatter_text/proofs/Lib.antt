@@ -1,5 +1,6 @@
 mod Blocks
 mod UnescapedText
+mod DraftTexts
 mod MessageText
 pub mod PieceVisits
 mod VisitorText
@@ -11,5 +12,7 @@ mod JsonStrings
 mod JsonObjects
 mod JsonNumbers
 mod JsonValues
-mod TerminalControls
-mod TerminalSafeFields
+pub mod TerminalControls
+pub mod TerminalSafeFields
+mod ObjectLaws
+pub mod HarmlessTexts

@@ -11,10 +11,10 @@ use lib.Utf8.{encode}
 use Rattle.event_formatter_text.specs.Escapes.{escaped, sanitized, sanitized_char}
 use Rattle.event_formatter_text.specs.TerminalControls.{begins_low, is_control, steers}
 
-abbrev is_harmless : ℕ → Bool
+abbrev pub is_harmless : ℕ → Bool
 is_harmless b = not (is_control b) && not (b == 194)
 
-abbrev are_harmless : List ℕ → Bool
+abbrev pub are_harmless : List ℕ → Bool
 are_harmless [] = true
 are_harmless (b ∷ bs) = is_harmless b && are_harmless bs
 
@@ -62,7 +62,7 @@ first : (d n : ℕ) (bs : List ℕ) → 224 ≤ n → are_harmless bs ≡ true �
 first d n bs big rest = rw (high (n + d) (omega arith) (grind (arith, nat_tests))) rest
 
 -- a character from U+00A0 on
-encoded : (c : ℕ) → 160 ≤ c → Passes (encode c)
+pub encoded : (c : ℕ) → 160 ≤ c → Passes (encode c)
 unfolding encode
 encoded c above =
     let low : nat_lt c 128 ≡ false = grind (arith, nat_tests) in

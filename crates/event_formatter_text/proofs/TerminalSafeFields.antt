@@ -11,11 +11,11 @@ use Rattle.event_formatter_text.specs.declared.field_text.Punctuation.TheVariant
 use Rattle.event_formatter_text.specs.declared.settings.Settings.{Settings}
 use Rattle.event_formatter_text.proofs.TerminalControls.{Passes, both_pass, harmless_pass, passing_is, sanitized_passes}
 
-shown_passes : (settings : Settings) → settings.sanitizes ≡ true → (text : List ℕ) → Passes (shown settings text)
+pub shown_passes : (settings : Settings) → settings.sanitizes ≡ true → (text : List ℕ) → Passes (shown settings text)
 unfolding shown
 shown_passes settings on text = rw on (sanitized_passes text)
 
-unstyled : (settings : Settings) → settings.styles ≡ false → (start text : List ℕ) → styled settings start text ≡ text
+pub unstyled : (settings : Settings) → settings.styles ≡ false → (start text : List ℕ) → styled settings start text ≡ text
 unfolding styled
 unstyled settings off start text = rw off refl
 
@@ -86,7 +86,7 @@ source_texts_are settings harmless sources = passing_is (shown_list settings sou
 
 module _ (settings : Settings) (harmless : AreHarmless settings) (punctuation : Punctuation) (name : List ℕ)
     (is : steers (plain_name name) ≡ false) where
-  label_passes : Passes (label settings punctuation name)
+  pub label_passes : Passes (label settings punctuation name)
   label_passes = by_test (is_message name)
     where
       equal : italic settings (plain_name name) ++ dimmed settings (mark punctuation) ≡ plain_name name ++ mark punctuation
@@ -110,7 +110,7 @@ module _ (settings : Settings) (harmless : AreHarmless settings) (punctuation : 
           ∙ ap (λ (t : List ℕ). plain_name name ++ (codes ".sources" ++ t))
           (unstyled settings harmless.0 (27 ∷ codes "[2m") (mark punctuation))
 
-  sources_pass : (sources : List (List ℕ)) → Passes (sources_text settings punctuation name sources)
+  pub sources_pass : (sources : List (List ℕ)) → Passes (sources_text settings punctuation name sources)
   sources_pass [] rest = refl
   sources_pass (source ∷ sources) rest =
       let all : List ℕ = shown_list settings (source ∷ sources) in

@@ -10,7 +10,7 @@ use Rattle.event_formatter_text.specs.MemberChains.{members_of}
 use Rattle.event_formatter_text.specs.Escapes.{escaped, json_char, json_string}
 use Rattle.event_formatter_text.specs.IsJson.{Anywhere, IsJson, Members, Value, is_inside}
 use Rattle.event_formatter_text.specs.JsonObjects.{Pair, members_inside, object_text}
-use Rattle.event_formatter_text.specs.JsonTexts.{json_value}
+use Rattle.event_formatter_text.specs.JsonTexts.{json_value, strings_array}
 
 -- what stands for a text in a JSON string may stand there
 abbrev pub TextsAreStrings : Type 0
@@ -19,6 +19,10 @@ TextsAreStrings = (text : List ℕ) → is_inside Anywhere (escaped json_char te
 -- a text as a JSON string is a value
 abbrev pub StringsAreJson : Type 0
 StringsAreJson = (text : List ℕ) → IsJson Value (json_string text)
+
+-- texts as an array of strings are a value
+abbrev pub ListsOfStringsAreJson : Type 0
+ListsOfStringsAreJson = (texts : List (List ℕ)) → IsJson Value (strings_array texts)
 
 -- members with values of JSON make an object
 abbrev pub ObjectsAreJson : Type 0

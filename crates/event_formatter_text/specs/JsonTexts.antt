@@ -21,6 +21,19 @@ numbers_inside (n ∷ numbers) = decimal n ++ later_numbers numbers
 abbrev pub between_quotes : List ℕ → List ℕ
 between_quotes text = codes "\"" ++ text ++ codes "\""
 
+-- texts as strings, a comma before each
+abbrev pub later_strings : List (List ℕ) → List ℕ
+later_strings texts = flat_map (λ text. codes "," ++ json_string text) texts
+
+-- texts as strings, a comma between each two
+abbrev pub strings_inside : List (List ℕ) → List ℕ
+strings_inside [] = []
+strings_inside (text ∷ texts) = json_string text ++ later_strings texts
+
+-- texts as an array of strings
+abbrev pub strings_array : List (List ℕ) → List ℕ
+strings_array texts = codes "[" ++ strings_inside texts ++ codes "]"
+
 -- a value, where it can be formatted
 abbrev pub json_value : PlainDebug → Option (List ℕ)
 json_value (Written plain alternate) = Some (json_string plain)

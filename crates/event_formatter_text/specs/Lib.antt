@@ -18,3 +18,5 @@ pub mod VisitorAdapters
 pub mod MemberChains
 pub mod IsJson
 pub mod JsonLaws
+pub mod ObjectLaws
+pub mod HarmlessTexts

@@ -23,9 +23,18 @@ Keeps pairs (Err OutOfMemory) new = Unit {0}
 abbrev pub kept_pairs : MembersVisitor → List Pair
 kept_pairs visitor = map pair_of visitor.members.items
 
+-- One member more is kept. A value that can't be formatted is told as that, never as out of memory.
+abbrev pub KeepsOne : Option (List Pair) → Result (Unit {0}) FormatError → List Pair → Type 0
+KeepsOne (Some pairs) (Ok done) new = new ≡ pairs
+KeepsOne None (Ok done) new = ⊥
+KeepsOne (Some pairs) (Err Failed) new = ⊥
+KeepsOne None (Err Failed) new = Unit {0}
+KeepsOne (Some pairs) (Err OutOfMemory) new = Unit {0}
+KeepsOne None (Err OutOfMemory) new = ⊥
+
 abbrev pub KeepsMember : MembersVisitor → PlainField → PlainDebug → Result (Unit {0}) FormatError → MembersVisitor → Type 0
 KeepsMember before field value answer after =
-    Keeps (option_map (λ text. put (plain_name field.name) text (kept_pairs before)) (json_value value)) answer
+    KeepsOne (option_map (λ text. put (plain_name field.name) text (kept_pairs before)) (json_value value)) answer
     (kept_pairs after)
 
 -- the values as one object: the last value of each key, in byte order of the keys

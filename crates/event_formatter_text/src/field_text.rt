@@ -1,5 +1,5 @@
 //! The texts of single fields.
-ghost use Rattle.std.specs.Prelude.{◌≡◌, ◌++◌, [], OnOk, codes, if◌then◌else◌, map, string_bytes, unwrap_or};
+ghost use Rattle.std.specs.Prelude.{◌≡◌, ◌++◌, [], None, OnOk, codes, if◌then◌else◌, map, string_bytes, unwrap_or};
 ghost use Rattle.tracing_core_fields.specs.DebugText.{plain_debug};
 ghost use Rattle.tracing_core_fields.specs.ErrorText.{error_text, source_texts};
 ghost use Rattle.tracing_core_fields.specs.PlainDebug.{bytes_text};
@@ -327,9 +327,12 @@ pub(crate) fn push_field(
     name: &str,
     value: &DebugText<'_>,
 ) -> Result<(), FormatError>
-    ensures { Formats (option_map (further (separator punctuation) is_first)
+    ensures text { Formats (option_map (further (separator punctuation) is_first)
         (field_piece settings punctuation name.now (plain_debug value.now)))
         (string_bytes out.old) result (string_bytes out.new) }
+    // A value that can't be formatted is told as that, never as out of memory, and nothing is appended.
+    ensures failed { field_piece settings punctuation name.now (plain_debug value.now) ≡ None →
+        (result ≡ Err FormatError.Failed) × (string_bytes out.new ≡ string_bytes out.old) }
 {
     if matches!(value, DebugText::Failing) {
         return Err(FormatError::Failed);

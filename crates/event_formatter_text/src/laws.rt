@@ -1,6 +1,9 @@
 //! Laws of the texts.
-ghost use Rattle.event_formatter_text.specs.JsonLaws.{InsidesAreJson, MembersAreJson, NumbersAreJson, ObjectsAreJson, StringsAreJson};
+ghost use Rattle.event_formatter_text.specs.JsonLaws.{InsidesAreJson, ListsOfStringsAreJson, MembersAreJson, NumbersAreJson};
+ghost use Rattle.event_formatter_text.specs.JsonLaws.{ObjectsAreJson, StringsAreJson};
 ghost use Rattle.event_formatter_text.specs.JsonLaws.{TextsAreStrings, ValuesAreJson};
+ghost use Rattle.event_formatter_text.specs.HarmlessTexts.{FieldsAreHarmless, ListsAreHarmless};
+ghost use Rattle.event_formatter_text.specs.ObjectLaws.{ObjectKeysRise, ObjectsHaveLastValues};
 ghost use Rattle.event_formatter_text.specs.TerminalControls.{ErrorTextsAreHarmless, ErrorsAreHarmless, MessagesAreHarmless};
 ghost use Rattle.event_formatter_text.specs.TerminalControls.{SanitizedTextsAreHarmless, SourceTextsAreHarmless};
 
@@ -9,6 +12,12 @@ ghost use Rattle.event_formatter_text.specs.TerminalControls.{SanitizedTextsAreH
 pub fn texts_are_strings()
     ensures inside { TextsAreStrings }
     ensures value { StringsAreJson }
+{}
+
+/// Texts as an array of strings, a comma between each two, are a value of JSON.
+#[tactic(auto, using(crate::proofs::JsonValues::lists_of_strings_are))]
+pub fn lists_of_strings_are_json()
+    ensures { ListsOfStringsAreJson }
 {}
 
 /// Members whose values are JSON make an object of JSON.
@@ -45,4 +54,23 @@ pub fn messages_and_errors_are_harmless()
     ensures errors { ErrorsAreHarmless }
     ensures error_texts { ErrorTextsAreHarmless }
     ensures source_texts { SourceTextsAreHarmless }
+{}
+
+/// In an object of fields each key is less than the next one, byte by byte, and each key has the value of the last field of that name.
+#[tactic(auto, using(crate::proofs::ObjectLaws::keys_rise, crate::proofs::ObjectLaws::have_last_values))]
+pub fn objects_keep_last_values()
+    // Where the keys of an object rise, they rise once more fields were put, and those of a new object rise.
+    ensures keys { ObjectKeysRise }
+    // A key has the value of the last field that was put under it, else what it had before.
+    ensures values { ObjectsHaveLastValues }
+{}
+
+/// Where texts are sanitized and there are no styles, no field steers a terminal, nor does a list of fields, where no name does, nor any
+/// debug value but a message. Numbers are in the ranges of their types.
+#[tactic(auto, using(crate::proofs::HarmlessTexts::fields_are))]
+pub fn fields_are_harmless()
+    // A field as `name=value` or `name: value`, whatever kind of value it has.
+    ensures fields { FieldsAreHarmless }
+    // The text that is kept of a span's first fields, and that of an event's fields in a line.
+    ensures lists { ListsAreHarmless }
 {}

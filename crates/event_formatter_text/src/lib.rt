@@ -2,6 +2,7 @@
 #![tactic(auto)]
 
 mod default_fields;
+mod draft;
 mod error;
 mod escape;
 mod field;
@@ -35,8 +36,9 @@ pub use formatted_fields::FormattedFields;
 pub use json_fields::JsonFields;
 pub use json_members::push_json_members;
 pub use laws::{
-    messages_and_errors_are_harmless, numbers_are_json, objects_are_json,
-    sanitized_texts_are_harmless, texts_are_strings, values_are_json,
+    fields_are_harmless, lists_of_strings_are_json, messages_and_errors_are_harmless,
+    numbers_are_json, objects_are_json, objects_keep_last_values, sanitized_texts_are_harmless,
+    texts_are_strings, values_are_json,
 };
 pub use makers::{
     BadRoute, BoxMakeWriter, ClosureWriter, EitherWriter, LineTaker, MakeWriter, MakeWriterExt,

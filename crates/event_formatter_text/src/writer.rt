@@ -1,5 +1,5 @@
 //! What texts are written to.
-ghost use Rattle.std.specs.Prelude.{◌≡◌, ◌++◌, codes, encode_utf8, false, OnOk, if◌then◌else◌, string_bytes, true};
+ghost use Rattle.std.specs.Prelude.{◌≡◌, ◌++◌, codes, encode_utf8, false, None, OnOk, if◌then◌else◌, string_bytes, true};
 ghost use Rattle.std.specs.Borrow.{sem};
 ghost use Rattle.std.specs.Fmt.{AppendsText};
 ghost use Rattle.std.specs.Option.{option_map};
@@ -11,6 +11,7 @@ ghost use Rattle.event_formatter_text.specs.Lists.{Formats, further};
 ghost use Rattle.event_formatter_text.specs.Loans.{LendsText};
 ghost use Rattle.event_formatter_text.specs.Writers.{IsSameWriter, settings_of, written};
 
+use crate::draft::push_displayed;
 use crate::error::FormatError;
 use crate::field_text::{Punctuation, push_field};
 use crate::json_text::push_member;
@@ -113,12 +114,13 @@ impl<'w> Writer<'w> {
     ///
     /// # Errors
     ///
-    /// Out of memory, or a value that could not be formatted. What was appended before is to be dropped.
-    pub fn write_fmt<D: Display + Drop>(&mut self, value: D) -> Result<(), AllocError>
+    /// `Failed` where the value could not be formatted, and out of memory, as far as the text found none. What was appended before is to
+    /// be dropped.
+    pub fn write_fmt<D: Display + Drop>(&mut self, value: D) -> Result<(), FormatError>
         ensures same { IsSameWriter self.old self.new }
         ensures text { OnOk result (AppendsText (written self.old) (written self.new) (D.output value)) }
     {
-        self.out.write_fmt(value)
+        push_displayed(self.out, value)
     }
 
     // Appends a field, behind the separator unless it is the first.
@@ -134,6 +136,9 @@ impl<'w> Writer<'w> {
         ensures text { Formats (option_map (further (separator punctuation) is_first)
             (field_piece (settings_of self.old) punctuation name.now (plain_debug value.now)))
             (written self.old) result (written self.new) }
+        // A value that can't be formatted is told as that, never as out of memory.
+        ensures failed { field_piece (settings_of self.old) punctuation name.now (plain_debug value.now) ≡ None →
+            result ≡ Err FormatError.Failed }
     {
         push_field(self.out, self.settings, punctuation, is_first, name, value)
     }
@@ -149,6 +154,8 @@ impl<'w> Writer<'w> {
         ensures same { IsSameWriter self.old self.new }
         ensures text { Formats (option_map (further (codes ",") is_first) (json_piece name.now (plain_debug value.now)))
             (written self.old) result (written self.new) }
+        // A value that can't be formatted is told as that, never as out of memory.
+        ensures failed { json_piece name.now (plain_debug value.now) ≡ None → result ≡ Err FormatError.Failed }
     {
         push_member(self.out, is_first, name, value)
     }

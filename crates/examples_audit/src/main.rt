@@ -2,13 +2,12 @@
 #![tactic(auto)]
 
 use span_tracing::{
-    Builder, DiskFolder, FileStack, LineSettings, Moment, OutputKey, OutputSpec, Reply, Rotation,
-    Route, SinkSpec, Site, Trace, event, open_stack,
+    Builder, DiskFolder, FileStack, LineSettings, Moment, OpenStackError, OutputKey, OutputSpec,
+    Rotation, Site, Trace, event, open_trace,
 };
-use std::alloc::Global;
 use std::fs;
 use std::process::ExitCode;
-use tracing_core::{FieldSet, Identifier, Kind, Level, LevelFilter, Metadata};
+use tracing_core::{Level, LevelFilter};
 
 type AuditTrace = Trace<FileStack<LevelFilter, DiskFolder<HostRuntime>>>;
 
@@ -57,89 +56,49 @@ fn moment_of(action: Action) -> Moment {
     }
 }
 
-/// The trail's own files, `audit.DAY.jsonl` in the directory `trail`, of which two stay.
-fn trail(rt: &HostRuntime) -> Option<OutputSpec<LevelFilter, DiskFolder<HostRuntime>>> {
+/// A trace with the trail alone, which writes to `audit.DAY.jsonl` in the directory `trail`, where two files stay.
+fn open(rt: &HostRuntime, moment: Moment) -> Result<AuditTrace, OpenStackError> {
     let alloc = rt.alloc();
-    let files = Builder::new()
+    let files = Builder::new(alloc)
         .rotation(Rotation::DAILY)
-        .filename_prefix(String::from_str(alloc, "audit").ok()?)
-        .filename_suffix(String::from_str(alloc, "jsonl").ok()?)
+        .filename_prefix("audit")
+        .filename_suffix("jsonl")
         .max_log_files(2);
-    let folder = DiskFolder::new(*rt, String::from_str(alloc, "trail").ok()?);
-    let mut sinks = Vec::new(alloc);
-    sinks.push(SinkSpec::Direct(files, folder)).ok()?;
-    let lines = LineSettings::json();
-    OutputSpec::new(
-        OutputKey(1),
-        LevelFilter::TRACE,
-        lines,
-        Route::Sink(0),
-        sinks,
-    )
-    .ok()
-}
-
-/// A trace with the trail alone, whose files are opened at the moment.
-fn open(rt: &HostRuntime, moment: Moment) -> Option<AuditTrace> {
-    let alloc = rt.alloc();
+    let folder = DiskFolder::new(*rt, "trail");
+    let (key, level, lines) = (OutputKey(1), LevelFilter::TRACE, LineSettings::json());
+    let trail = OutputSpec::file(alloc, key, level, lines, files, folder)?;
     let mut outputs = Vec::new(alloc);
-    outputs.push(trail(rt)?).ok()?;
-    let stack = open_stack(alloc, outputs, moment).ok()?;
-    let mut trace = Trace::new(alloc);
-    let handle = trace.add_stack(stack).ok()?;
-    let _lane = trace.thread(None, 1).ok()?;
-    match trace.set_global_default(handle) {
-        Reply::Done => Some(trace),
-        _ => None,
-    }
+    outputs.push(trail)?;
+    open_trace(alloc, outputs, moment)
 }
 
-/// Registers the actions: events with a user, an action and an account.
-fn register(trace: &mut AuditTrace) -> Option<Site> {
-    let fields = FieldSet::new(&["user", "action", "account"], Identifier(1));
-    let metadata = Metadata::new(
-        "acted",
-        "audit",
-        Level::INFO,
-        None,
-        None,
-        None,
-        fields,
-        Kind::EVENT,
-    );
-    Site::register(trace, &metadata).ok()
-}
-
-/// Writes an action to the trail. Whatever was lost on the way is told: a reply that isn't `Done`, a line without memory, or a fault of
-/// the folder at a write or a change of files. Retention at the opening counts a fault too where the directory isn't there yet.
-fn audit(alloc: Global, trace: &mut AuditTrace, acted: Site, action: Action) -> Option<()> {
-    let reply = event!(
+/// Writes an action to the trail, and answers whether all of it stands there.
+fn audit(trace: &mut AuditTrace, acted: Site, action: Action) -> bool {
+    let (user, done, account) = (action.user, action.action, action.account);
+    let told = event!(
         trace,
         0,
         moment_of(action),
         acted,
-        String::from_str(alloc, action.user).ok()?,
-        String::from_str(alloc, action.action).ok()?,
-        action.account
+        user = user,
+        action = done,
+        account = account
     );
-    let sink = trace.sink(0, 0)?;
-    let faults = sink.appender().faults();
-    let is_written = faults.switches == 0 && faults.writes == 0 && sink.dropped() == 0;
-    if reply == Reply::Done && is_written && trace.starved(0) == Some(0) {
-        Some(())
-    } else {
-        None
-    }
+    told == Ok(()) && trace.lost(0) == Some(0)
 }
 
-fn keep_trail(rt: &HostRuntime) -> Option<()> {
+/// Whether each action was written, and none was lost.
+fn keep_trail(rt: &HostRuntime) -> Result<bool, OpenStackError> {
     let [first, ..] = ACTIONS;
     let mut trace = open(rt, moment_of(first))?;
-    let acted = register(&mut trace)?;
+    let fields = &["user", "action", "account"];
+    let acted = Site::event(&mut trace, "audit", "acted", Level::INFO, fields)?;
     for action in ACTIONS {
-        audit(rt.alloc(), &mut trace, acted, action)?;
+        if !audit(&mut trace, acted, action) {
+            return Ok(false);
+        }
     }
-    Some(())
+    Ok(true)
 }
 
 /// Prints a file under its name, or that it is gone.
@@ -152,7 +111,7 @@ fn print_file(rt: &HostRuntime, day: &str) -> Result<(), std::io::Error> {
 }
 
 fn main(rt: HostRuntime) -> ExitCode {
-    if keep_trail(&rt).is_none() {
+    if keep_trail(&rt) != Ok(true) {
         return ExitCode::FAILURE;
     }
     for day in ["2025-02-17", "2025-02-18", "2025-02-19"] {

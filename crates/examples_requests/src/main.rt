@@ -2,13 +2,12 @@
 #![tactic(auto)]
 
 use span_tracing::{
-    Builder, DiskFolder, FileStack, LineSettings, Moment, OutputKey, OutputSpec, Reply, Rotation,
-    Route, SinkSpec, Site, Trace, event, open_stack, span,
+    Builder, CallError, DiskFolder, FileStack, LineSettings, Moment, OpenStackError, OutputKey,
+    OutputSpec, Rotation, Site, Trace, event, open_trace, span,
 };
-use std::alloc::Global;
 use std::fs;
 use std::process::ExitCode;
-use tracing_core::{FieldSet, Identifier, Kind, Level, LevelFilter, Metadata};
+use tracing_core::{Level, LevelFilter};
 
 /// An output under a level, whose files are in a directory.
 type FileOutput = OutputSpec<LevelFilter, DiskFolder<HostRuntime>>;
@@ -17,37 +16,34 @@ type FileOutput = OutputSpec<LevelFilter, DiskFolder<HostRuntime>>;
 type FileTrace = Trace<FileStack<LevelFilter, DiskFolder<HostRuntime>>>;
 
 /// An output that writes what is at least of the level INFO to `app.DAY.log` in a directory, which is made where it isn't there.
-fn output(rt: &HostRuntime, key: u32, lines: LineSettings, directory: &str) -> Option<FileOutput> {
+fn output(
+    rt: &HostRuntime,
+    key: u32,
+    lines: LineSettings,
+    directory: &str,
+) -> Result<FileOutput, OpenStackError> {
     let alloc = rt.alloc();
-    let files = Builder::new()
+    let files = Builder::new(alloc)
         .rotation(Rotation::DAILY)
-        .filename_prefix(String::from_str(alloc, "app").ok()?)
-        .filename_suffix(String::from_str(alloc, "log").ok()?);
-    let folder = DiskFolder::new(*rt, String::from_str(alloc, directory).ok()?);
-    let mut sinks = Vec::new(alloc);
-    sinks.push(SinkSpec::Direct(files, folder)).ok()?;
-    let key = OutputKey(key);
-    OutputSpec::new(key, LevelFilter::INFO, lines, Route::Sink(0), sinks).ok()
+        .filename_prefix("app")
+        .filename_suffix("log");
+    let folder = DiskFolder::new(*rt, directory);
+    OutputSpec::file(
+        alloc,
+        OutputKey(key),
+        LevelFilter::INFO,
+        lines,
+        files,
+        folder,
+    )
 }
 
 /// A trace with two outputs, whose files are opened at the moment, and one lane.
-fn open(rt: &HostRuntime, now: Moment) -> Option<FileTrace> {
-    let alloc = rt.alloc();
-    let mut outputs = Vec::new(alloc);
-    outputs
-        .push(output(rt, 1, LineSettings::full(), "logs/text")?)
-        .ok()?;
-    outputs
-        .push(output(rt, 2, LineSettings::json(), "logs/json")?)
-        .ok()?;
-    let stack = open_stack(alloc, outputs, now).ok()?;
-    let mut trace = Trace::new(alloc);
-    let handle = trace.add_stack(stack).ok()?;
-    let _lane = trace.thread(None, 1).ok()?;
-    match trace.set_global_default(handle) {
-        Reply::Done => Some(trace),
-        _ => None,
-    }
+fn open(rt: &HostRuntime, now: Moment) -> Result<FileTrace, OpenStackError> {
+    let mut outputs = Vec::new(rt.alloc());
+    outputs.push(output(rt, 1, LineSettings::full(), "logs/text")?)?;
+    outputs.push(output(rt, 2, LineSettings::json(), "logs/json")?)?;
+    open_trace(rt.alloc(), outputs, now)
 }
 
 /// The callsites of the program.
@@ -59,48 +55,34 @@ struct Sites {
     served: Site,
 }
 
-/// Registers a callsite of level INFO.
-fn site<'a>(
-    trace: &mut FileTrace,
-    id: u64,
-    name: &'a str,
-    fields: &'a [&'a str],
-    kind: Kind,
-) -> Option<Site> {
-    let fields = FieldSet::new(fields, Identifier(id));
-    let metadata = Metadata::new(name, "app", Level::INFO, None, None, None, fields, kind);
-    Site::register(trace, &metadata).ok()
-}
-
-fn register(trace: &mut FileTrace) -> Option<Sites> {
-    Some(Sites {
-        request: site(trace, 1, "request", &["number"], Kind::SPAN)?,
-        served: site(trace, 2, "served", &["message", "status"], Kind::EVENT)?,
+/// Registers the callsites.
+fn register(trace: &mut FileTrace) -> Result<Sites, OpenStackError> {
+    Ok(Sites {
+        request: Site::span(trace, "app", "request", Level::INFO, &["number"])?,
+        served: Site::event(trace, "app", "served", Level::INFO, &["message", "status"])?,
     })
 }
 
-/// Serves a request on lane 0, and logs it inside a span of its own.
-fn serve(
-    alloc: Global,
-    trace: &mut FileTrace,
-    sites: Sites,
-    now: Moment,
-    number: u64,
-) -> Option<Reply> {
-    let Reply::Span(request) = span!(trace, 0, now, sites.request, number) else {
-        return None;
-    };
-    let _ = trace.enter(0, now, request);
-    let _ = event!(
+/// Answers a request, and logs its status.
+fn answer(trace: &mut FileTrace, sites: Sites, now: Moment) -> Result<(), CallError> {
+    event!(
         trace,
         0,
         now,
         sites.served,
-        String::from_str(alloc, "served").ok()?,
-        200_u64
-    );
-    let _ = trace.exit(0, now, request);
-    Some(trace.try_close(0, now, request))
+        message = "served",
+        status = 200
+    )
+}
+
+/// Serves a request on lane 0, inside a span of its own.
+fn serve(trace: &mut FileTrace, sites: Sites, now: Moment, number: u64) -> Result<(), CallError> {
+    let request = span!(trace, 0, now, sites.request, number = number)?;
+    trace.enter(0, now, request).done()?;
+    let answered = answer(trace, sites, now);
+    trace.exit(0, now, request).done()?;
+    trace.try_close(0, now, request).done()?;
+    answered
 }
 
 /// Some seconds past 2025-02-17T10:01:00Z. A program with a clock asks `SystemClock`.
@@ -117,29 +99,18 @@ fn print_file(rt: &HostRuntime, path: &str) -> Result<(), std::io::Error> {
     println!(rt; "{path}:\n{text}")
 }
 
-/// Whether an output missed nothing where memory ran out, and its files took all.
-fn is_whole(trace: &FileTrace, output: usize) -> Option<bool> {
-    let sink = trace.sink(output, 0)?;
-    let faults = sink.appender().faults();
-    let is_written = faults.switches == 0 && faults.writes == 0 && sink.dropped() == 0;
-    Some(is_written && trace.starved(output) == Some(0))
-}
-
-/// Whether both requests were served in a span, and no line was lost.
-fn serve_all(rt: &HostRuntime) -> Option<bool> {
+/// Serves both requests, and answers whether no text and no line was lost.
+fn serve_all(rt: &HostRuntime) -> Result<bool, OpenStackError> {
     let mut trace = open(rt, moment_at(0))?;
     let sites = register(&mut trace)?;
-    if serve(rt.alloc(), &mut trace, sites, moment_at(0), 7) != Some(Reply::Closed(true)) {
-        return None;
-    }
-    if serve(rt.alloc(), &mut trace, sites, moment_at(1), 8) != Some(Reply::Closed(true)) {
-        return None;
-    }
-    Some(is_whole(&trace, 0)? && is_whole(&trace, 1)?)
+    let first = serve(&mut trace, sites, moment_at(0), 7);
+    let second = serve(&mut trace, sites, moment_at(1), 8);
+    let is_whole = trace.lost(0) == Some(0) && trace.lost(1) == Some(0);
+    Ok(first == Ok(()) && second == Ok(()) && is_whole)
 }
 
 fn main(rt: HostRuntime) -> ExitCode {
-    if serve_all(&rt) != Some(true) {
+    if serve_all(&rt) != Ok(true) {
         return ExitCode::FAILURE;
     }
     let text = print_file(&rt, "logs/text/app.2025-02-17.log");

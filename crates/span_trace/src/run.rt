@@ -35,7 +35,7 @@ impl Replies {
 
     /// The callsite of a span that was made.
     fn site_of(&self, span: Option<SpanName>) -> Option<u64> {
-        let place = span?.id.into_u64().checked_sub(1)? as usize;
+        let place = span?.id.get().checked_sub(1)? as usize;
         self.sites.get(place).copied()
     }
 }

@@ -7,7 +7,7 @@ use span_tracing::{
     Builder, DiskFolder, EitherFolder, FileStack, MemoryFolder, OutputKey, OutputSpec, Refusal,
     Rotation, SinkSpec, open_stack,
 };
-use std::alloc::AllocError;
+use std::alloc::{AllocError, Global};
 use std::rt::Files;
 use tracing_core::LevelFilter;
 
@@ -86,7 +86,7 @@ fn sinks_of<X: Files + AllocGlobal + Clone + Drop>(
             max_files,
             link,
         } = line;
-        let builder = builder_of(rotation, prefix, suffix, max_files, link);
+        let builder = builder_of(rt.alloc(), rotation, prefix, suffix, max_files, link);
         let folder = match folder {
             FolderLine::Memory(name) => {
                 names.push(Some(name))?;
@@ -94,7 +94,7 @@ fn sinks_of<X: Files + AllocGlobal + Clone + Drop>(
             }
             FolderLine::Disk(path) => {
                 names.push(None)?;
-                EitherFolder::B(DiskFolder::new(rt.clone()?, path))
+                EitherFolder::B(DiskFolder::new(rt.clone()?, path.as_str()))
             }
         };
         sinks.push(SinkSpec::Direct(builder, folder))?;
@@ -103,24 +103,25 @@ fn sinks_of<X: Files + AllocGlobal + Clone + Drop>(
 }
 
 fn builder_of(
+    alloc: Global,
     rotation: Rotation,
     prefix: Option<String>,
     suffix: Option<String>,
     max_files: Option<usize>,
     link: Option<String>,
 ) -> Builder {
-    let mut builder = Builder::new().rotation(rotation);
+    let mut builder = Builder::new(alloc).rotation(rotation);
     if let Some(text) = prefix {
-        builder = builder.filename_prefix(text);
+        builder = builder.filename_prefix(text.as_str());
     }
     if let Some(text) = suffix {
-        builder = builder.filename_suffix(text);
+        builder = builder.filename_suffix(text.as_str());
     }
     if let Some(count) = max_files {
         builder = builder.max_log_files(count);
     }
     if let Some(text) = link {
-        builder = builder.latest_symlink(text);
+        builder = builder.latest_symlink(text.as_str());
     }
     builder
 }

@@ -2,12 +2,13 @@
 use Rattle.std.specs.Prelude.{ℕ, List, [], ◌∷◌, Bool, true, false, ◌&&◌, codes, is_some, Option, Some, None, if◌then◌else◌}
 use Rattle.std.specs.Str.{bytes_eq}
 use Rattle.span_trace_bench.specs.declared.bench.Bench.{Bench}
-use Rattle.span_trace_bench.specs.declared.bench.Bench.TheVariants.{DirectMemory, DirectFile, TwoOutputs, JsonMemory, Never, NeverSkipped}
+use Rattle.span_trace_bench.specs.declared.bench.Bench.TheVariants.{DirectMemory, EventText, DirectFile, TwoOutputs, JsonMemory, Never, NeverSkipped}
 use Rattle.span_trace_bench.specs.declared.bench.Bench.TheVariants.{Refused, Depth64, Open10k, Callsites1k, SpanCycle, SpanCycle10k, Open}
 use Rattle.span_trace_bench.specs.declared.bench.Bench.TheVariants.{FormatFull, FormatCompact, FormatPretty, FormatJson}
 
 abbrev pub name_of : Bench → List ℕ
 name_of DirectMemory = codes "direct_memory"
+name_of EventText = codes "event_text"
 name_of DirectFile = codes "direct_file"
 name_of TwoOutputs = codes "two_outputs"
 name_of JsonMemory = codes "json_memory"
@@ -26,7 +27,7 @@ name_of FormatPretty = codes "format_pretty"
 name_of FormatJson = codes "format_json"
 
 abbrev pub all_benches : List Bench
-all_benches = DirectMemory ∷ DirectFile ∷ TwoOutputs ∷ JsonMemory ∷ Never ∷ NeverSkipped ∷ Refused ∷ Depth64 ∷ Open10k ∷ Callsites1k
+all_benches = DirectMemory ∷ EventText ∷ DirectFile ∷ TwoOutputs ∷ JsonMemory ∷ Never ∷ NeverSkipped ∷ Refused ∷ Depth64 ∷ Open10k ∷ Callsites1k
     ∷ SpanCycle
     ∷ SpanCycle10k ∷ Open ∷ FormatFull ∷ FormatCompact ∷ FormatPretty ∷ FormatJson ∷ []
 

@@ -14,6 +14,8 @@ use span_tracing::Folder;
 pub enum Bench {
     /// Events in a span, to a folder that only counts.
     DirectMemory,
+    /// The same through `event!`, with a lent text of 20 bytes.
+    EventText,
     /// Events in a span, to a folder of the system.
     DirectFile,
     /// Events in a span, through two outputs in the full format, each to a folder that only counts.
@@ -49,8 +51,9 @@ pub enum Bench {
 }
 
 /// The benches that need no folder of the system.
-pub(crate) const IN_MEMORY: [Bench; 16] = [
+pub(crate) const IN_MEMORY: [Bench; 17] = [
     Bench::DirectMemory,
+    Bench::EventText,
     Bench::TwoOutputs,
     Bench::JsonMemory,
     Bench::Never,
@@ -75,6 +78,7 @@ impl Bench {
     {
         match name {
             "direct_memory" => Some(Bench::DirectMemory),
+            "event_text" => Some(Bench::EventText),
             "direct_file" => Some(Bench::DirectFile),
             "two_outputs" => Some(Bench::TwoOutputs),
             "json_memory" => Some(Bench::JsonMemory),
@@ -101,6 +105,7 @@ impl Bench {
     {
         match self {
             Bench::DirectMemory => "direct_memory",
+            Bench::EventText => "event_text",
             Bench::DirectFile => "direct_file",
             Bench::TwoOutputs => "two_outputs",
             Bench::JsonMemory => "json_memory",
@@ -172,6 +177,7 @@ impl Bench {
             Bench::Never => stage.tell(DETAIL, count),
             Bench::NeverSkipped => stage.skip(DETAIL, count),
             Bench::Refused => stage.tell(NOISE, count),
+            Bench::EventText => stage.tell_text("twenty bytes of text", count),
             Bench::SpanCycle => stage.cycle(count),
             Bench::SpanCycle10k => stage.cycle(count),
             Bench::Open => stage.scatter(count),

@@ -2,7 +2,7 @@
 
 ghost use Rattle.std.specs.Prelude.{◌≡◌, ◌≤◌};
 
-use span_tracing::Refusal;
+use span_tracing::{CallError, Refusal};
 use std::alloc::{AllocError, AllocFailed};
 use std::io::{Error, Write};
 
@@ -35,6 +35,15 @@ impl<T: Drop> From<AllocFailed<T>> for Fault {
 impl From<Refusal> for Fault {
     fn from(refusal: Refusal) -> Fault {
         Fault::Refused(refusal)
+    }
+}
+
+impl From<CallError> for Fault {
+    fn from(error: CallError) -> Fault {
+        match error {
+            CallError::Refused(refusal) => Fault::Refused(refusal),
+            CallError::NoField(_) => Fault::OddReply,
+        }
     }
 }
 

@@ -84,7 +84,7 @@ fn write_time<R: Files + Clock + AllocGlobal + Clone + Drop, W: Write>(
     let (path, prefix) = parts_of(file);
     let nanoseconds = if bench == Bench::DirectFile {
         let mut folders = Vec::new(alloc);
-        folders.push(DiskFolder::new(rt.clone()?, String::from_str(alloc, path)?))?;
+        folders.push(DiskFolder::new(rt.clone()?, path))?;
         time_over(rt, alloc, bench, count, folders, prefix)?
     } else if let Some(shape) = bench.line_format() {
         time_lines(rt, alloc, shape, count)?

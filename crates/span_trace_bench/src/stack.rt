@@ -27,9 +27,9 @@ fn output_of<D: Folder>(
     folder: D,
     prefix: &str,
 ) -> Result<OutputSpec<LevelFilter, D>, Fault> {
-    let builder = Builder::new()
+    let builder = Builder::new(alloc)
         .rotation(Rotation::DAILY)
-        .filename_prefix(String::from_str(alloc, prefix)?);
+        .filename_prefix(prefix);
     let mut sinks = Vec::new(alloc);
     sinks.push(SinkSpec::Direct(builder, folder))?;
     let lines = LineSettings {

@@ -4,9 +4,8 @@ use crate::counting::CountingFolder;
 use crate::fault::Fault;
 use crate::lines::Counter;
 use crate::stack::{LevelStack, OPENED, stack_over};
-use span_tracing::{
-    FieldValue, Folder, LineFormat, Moment, OwnedValue, Parent, Reply, Site, SpanName, Trace, event,
-};
+use span_tracing::value::{AnyValue, LentValue};
+use span_tracing::{Folder, LineFormat, Moment, Parent, Reply, Site, SpanName, Trace, event};
 use std::alloc::Global;
 use tracing_core::{FieldSet, Identifier, Kind, Level, LevelFilter, Metadata};
 
@@ -28,12 +27,16 @@ const EVENT_FIELDS: [&str; 2] = ["message", "n"];
 
 const LANE: usize = 0;
 
-/// A trace, the values of its requests, and how many spans it made.
+/// The value of the field that spans have.
+const OUTER_VALUES: [LentValue<'static>; 1] = [LentValue {
+    field: 0,
+    value: AnyValue::U64(42),
+}];
+
+/// A trace, and how many spans it made.
 #[derive(Drop)]
 pub(crate) struct Stage<D: Folder> {
     trace: Trace<LevelStack<D>>,
-    event_values: [FieldValue; 2],
-    span_values: [FieldValue; 1],
     pub(crate) spans: u64,
 }
 
@@ -100,23 +103,8 @@ impl<D: Folder> Stage<D> {
         folders: Vec<D>,
         prefix: &str,
     ) -> Result<Stage<D>, Fault> {
-        let message = OwnedValue::Text(String::from_str(alloc, "hi")?);
         let mut stage = Stage {
             trace: trace_over(alloc, stack_over(alloc, shape, folders, prefix)?)?,
-            event_values: [
-                FieldValue {
-                    field: 0,
-                    value: message,
-                },
-                FieldValue {
-                    field: 1,
-                    value: OwnedValue::U64(0),
-                },
-            ],
-            span_values: [FieldValue {
-                field: 0,
-                value: OwnedValue::U64(42),
-            }],
             spans: 0,
         };
         stage.register()?;
@@ -155,7 +143,7 @@ impl<D: Folder> Stage<D> {
     fn open_span(&mut self, i: u64, parent: Parent) -> Result<SpanName, Fault> {
         let reply = self
             .trace
-            .new_span(LANE, moment_at(i), OUTER, parent, &self.span_values);
+            .new_span(LANE, moment_at(i), OUTER, parent, &OUTER_VALUES);
         let name = made(reply)?;
         self.spans = self.spans.saturating_add(1);
         Ok(name)
@@ -181,31 +169,58 @@ impl<D: Folder> Stage<D> {
     /// Tells of events, whose second field is their number mod 10.
     pub(crate) fn tell(&mut self, callsite: Identifier, count: u64) -> Result<(), Fault> {
         for i in 0..count {
-            self.event_values[1].value = OwnedValue::U64(i % 10);
+            let values = [
+                LentValue {
+                    field: 0,
+                    value: AnyValue::Str("hi"),
+                },
+                LentValue {
+                    field: 1,
+                    value: AnyValue::U64(i % 10),
+                },
+            ];
+            let parent = Parent::Contextual;
             done(
-                self.trace.event(
-                    LANE,
-                    moment_at(i),
-                    callsite,
-                    Parent::Contextual,
-                    &self.event_values,
-                ),
+                self.trace
+                    .event(LANE, moment_at(i), callsite, parent, &values),
             )?;
         }
         Ok(())
     }
 
-    /// Makes events through `event!`.
+    /// A callsite of events, for `event!`.
+    fn site(&self, callsite: Identifier) -> Result<Site, Fault> {
+        match self.trace.callsite(callsite) {
+            Some(index) => Ok(Site {
+                identifier: callsite,
+                index,
+                fields: FieldSet::new(&EVENT_FIELDS, callsite),
+            }),
+            None => Err(Fault::OddReply),
+        }
+    }
+
+    /// Makes events through `event!`, at a callsite that is off.
     pub(crate) fn skip(&mut self, callsite: Identifier, count: u64) -> Result<(), Fault> {
-        let Some(index) = self.trace.callsite(callsite) else {
-            return Err(Fault::OddReply);
-        };
-        let site = Site {
-            identifier: callsite,
-            index,
-        };
+        let site = self.site(callsite)?;
         for i in 0..count {
-            done(event!(self.trace, LANE, moment_at(i), site, i % 10))?;
+            event!(self.trace, LANE, moment_at(i), site, n = i % 10)?;
+        }
+        Ok(())
+    }
+
+    /// Makes events through `event!`, whose message is lent.
+    pub(crate) fn tell_text(&mut self, text: &'static str, count: u64) -> Result<(), Fault> {
+        let site = self.site(EVENT)?;
+        for i in 0..count {
+            event!(
+                self.trace,
+                LANE,
+                moment_at(i),
+                site,
+                message = text,
+                n = i % 10
+            )?;
         }
         Ok(())
     }

@@ -5,20 +5,22 @@ mod calls;
 mod interest;
 mod laws;
 mod macros;
+mod opening;
 mod readers;
 mod site;
 mod steps;
 mod trace;
-mod value;
+pub mod value;
 
 pub use calls::calls_make_runs;
 pub use event_formatter::{Compact, Fields, Format, Full, Json, Layer, LineFormat, Pretty, Timer};
 pub use event_formatter_lines::{FixedText, FmtSpan, SystemTime, Uptime};
 pub use event_formatter_text::{BadRoute, Route};
 pub use laws::{leveled_outputs_are_honest, levels_answer, levels_are_honest, outputs_go_alone};
+pub use opening::open_trace;
 pub use site::Site;
 pub use span_registry_layers::{Output, Stack, StackError, StackRefusal};
-pub use span_registry_layers_layers::{Filter, Filtered};
+pub use span_registry_layers_layers::{Filter, FilterFn, Filtered, MetadataTest};
 pub use span_registry_layers_store::OutputKey;
 pub use span_tracing_laws::{
     files_follow, json_files_hold_objects, json_format_files_hold_objects, runs_follow,
@@ -31,8 +33,8 @@ pub use span_tracing_outputs::{
     open_stack_with_threads, routed_sinks_take_theirs, runs_are_told, trace_starts,
 };
 pub use span_tracing_skeleton::{
-    EnabledCall, EventCall, FollowsCall, NewSpanCall, Parent, RecordCall, Refusal, Reply, SpanCall,
-    SpanName, Step,
+    CallError, EnabledCall, EventCall, FollowsCall, NewSpanCall, Parent, RecordCall, Refusal,
+    Reply, SpanCall, SpanName, Step,
 };
 pub use span_tracing_steps::cache_stays_valid;
 pub use trace::Trace;
@@ -45,7 +47,6 @@ pub use tracing_appender_rolling::{
 pub use tracing_core::CallsiteIndex;
 pub use tracing_core_fields::{FieldValue, OwnedValue};
 pub use tracing_core_moments::Moment;
-pub use value::IntoValue;
 
 #[cfg(test)]
 mod tests;

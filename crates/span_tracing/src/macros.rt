@@ -1,70 +1,89 @@
 //! Requests that read like log lines.
 
-/// Tells an event of a [`Site`](crate::Site) in the span that the lane is in, and gives the reply:
-/// `event!(trace, lane, moment, site, value, value)`. The values are those of the callsite's fields, in their order: where one is missing
-/// its field is left out, and one too many is passed over, both without a word. The trace's expression is written twice: give a
-/// variable or a field.
+/// Tells an event of a [`Site`](crate::Site) in the span that the lane is in: `event!(trace, lane, moment, site, field = value, ..)`.
 ///
-/// Where nobody is interested in the callsite no value is computed, and the reply is `Done`: no output would be told
-/// (`skipping_misses_nothing`). That the lane isn't there, or that the moment is out of range, isn't told then.
+/// Each field of the site may be given a value, in any order; one that is given none is left out. A value is anything that has
+/// [`Value`](crate::value::Value): numbers, bools, texts that are owned or lent, bytes, what [`display`](crate::value::display) and
+/// [`debug`](crate::value::debug) wrote, and an `Option` of these. Nothing is copied.
+///
+/// The answer is `Ok(())`, or a [`CallError`](crate::CallError): the trace refused the event, or the site has no field of some name. Then
+/// nothing was done.
+///
+/// Where nobody is interested in the callsite no value is computed, and the answer is `Ok(())`: no output would be told
+/// (`skipping_misses_nothing`). That the lane isn't there, that the moment is out of range or that a field isn't there isn't told then.
+///
+/// The trace's expression is written more than once: give a variable or a field.
 #[macro_export]
 macro_rules! event {
-    ($trace:expr, $lane:expr, $moment:expr, $site:expr $(, $value:expr)* $(,)?) => {
+    ($trace:expr, $lane:expr, $moment:expr, $site:expr $(, $field:ident = $value:expr)* $(,)?) => {
         {
             let site: $crate::Site = $site;
             if $trace.is_off(site.index) {
-                $crate::Reply::Done
+                Ok::<(), $crate::CallError>(())
             } else {
-                $trace.event(
-                    $lane,
-                    $moment,
-                    site.identifier,
-                    $crate::Parent::Contextual,
-                    &$crate::values!($($value),*),
+                let at = ($lane, $moment);
+                $crate::with_values!(
+                    site, [],
+                    ($trace, event, done, at.0, at.1, site.identifier, $crate::Parent::Contextual);
+                    $($field = $value),*
                 )
             }
         }
     };
 }
 
-/// Makes a span of a [`Site`](crate::Site) in the span that the lane is in, and gives the reply:
-/// `span!(trace, lane, moment, site, value, value)`, as [`event!`](crate::event) does.
+/// Makes a span of a [`Site`](crate::Site) in the span that the lane is in, as [`event!`](crate::event) tells an event:
+/// `span!(trace, lane, moment, site, field = value, ..)`.
 ///
-/// Where nobody is interested in the callsite no value is computed, and the reply is `Span(None)`.
+/// The answer is the span's name, or `None` where it was dropped since no output wants it. All calls take a `None`, and do nothing then.
 #[macro_export]
 macro_rules! span {
-    ($trace:expr, $lane:expr, $moment:expr, $site:expr $(, $value:expr)* $(,)?) => {
+    ($trace:expr, $lane:expr, $moment:expr, $site:expr $(, $field:ident = $value:expr)* $(,)?) => {
         {
             let site: $crate::Site = $site;
             if $trace.is_off(site.index) {
-                $crate::Reply::Span(None)
+                Ok::<Option<$crate::SpanName>, $crate::CallError>(None)
             } else {
-                $trace.new_span(
-                    $lane,
-                    $moment,
-                    site.identifier,
-                    $crate::Parent::Contextual,
-                    &$crate::values!($($value),*),
+                let at = ($lane, $moment);
+                $crate::with_values!(
+                    site, [],
+                    ($trace, new_span, span, at.0, at.1, site.identifier, $crate::Parent::Contextual);
+                    $($field = $value),*
                 )
             }
         }
     };
 }
 
-/// An array of the values of a callsite's fields, the first one that of its first field.
+/// Adds values to a span's: `record!(trace, lane, moment, site, span, field = value, ..)`, where the site is the one that the span was made
+/// of. Values are given as to [`event!`](crate::event).
 #[macro_export]
-macro_rules! values {
-    (@at $place:expr, [$($done:tt)*]; $head:expr $(, $tail:expr)*) => {
-        $crate::values!(
-            @at $place + 1,
-            [$($done)* $crate::FieldValue { field: $place, value: $crate::IntoValue::into_value($head) },];
-            $($tail),*
-        )
+macro_rules! record {
+    ($trace:expr, $lane:expr, $moment:expr, $site:expr, $span:expr $(, $field:ident = $value:expr)* $(,)?) => {
+        {
+            let site: $crate::Site = $site;
+            let at = ($lane, $moment, $span);
+            $crate::with_values!(site, [], ($trace, record, done, at.0, at.1, at.2); $($field = $value),*)
+        }
     };
-    (@at $place:expr, [$($done:tt)*];) => {
-        [$($done)*]
+}
+
+/// Looks for each field of a request among its site's, and makes the request. It is a part of [`event!`](crate::event) and the others.
+#[doc(hidden)]
+#[macro_export]
+macro_rules! with_values {
+    ($site:ident, [$($done:tt)*], ($trace:expr, $method:ident, $kind:ident, $($argument:expr),*);) => {
+        $trace.$method($($argument,)* &[$($done)*]).$kind()
     };
-    ($($value:expr),* $(,)?) => {
-        $crate::values!(@at 0, []; $($value),*)
+    ($site:ident, [$($done:tt)*], $call:tt; $field:ident = $value:expr $(, $($later:tt)*)?) => {
+        match $site.field(stringify!($field)) {
+            Err(error) => Err(error),
+            Ok(place) => $crate::with_values!(
+                $site,
+                [$($done)* $crate::value::LentValue { field: place, value: $crate::value::Value::value(&$value) },],
+                $call;
+                $($($later)*)?
+            ),
+        }
     };
 }

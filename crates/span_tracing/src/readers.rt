@@ -1,13 +1,33 @@
 //! What can be read of a trace's outputs.
 ghost use Rattle.std.specs.Prelude.{◌≡◌};
 ghost use Rattle.std.specs.Option.{option_copied};
-ghost use Rattle.span_tracing.specs.OutputReaders.{sink_at, starved_at};
+ghost use Rattle.span_tracing.specs.OutputReaders.{lost_at, lost_by, lost_by_all, sink_at, starved_at};
 
 use crate::trace::Trace;
 use event_formatter::FormatEvent;
 use event_formatter_text::FormatFields;
 use span_registry_layers_layers::Filter;
-use span_tracing_outputs::{LineSink, RoutedSinks, TraceStack};
+use span_tracing_outputs::{LineSink, RollingSink, RoutedSinks, TraceStack};
+use tracing_appender_rolling::Folder;
+
+// What a sink lost: lines that it dropped, and lines that its folder didn't take whole.
+fn lost_by<D: Folder>(sink: &RollingSink<D>) -> usize
+    ensures { result ≡ lost_by sink.now }
+{
+    sink.dropped()
+        .saturating_add(sink.appender().faults().writes)
+}
+
+// What sinks lost, beside what was lost before.
+fn lost_by_all<D: Folder>(before: usize, sinks: &[RollingSink<D>]) -> usize
+    ensures { result ≡ lost_by_all before sinks.now }
+{
+    let mut lost = before;
+    for sink in sinks {
+        lost = lost.saturating_add(lost_by(sink));
+    }
+    lost
+}
 
 impl<N: FormatFields + Drop, E: FormatEvent, F: Filter, S: LineSink> Trace<
     TraceStack<N, E, F, RoutedSinks<S>>,
@@ -26,16 +46,35 @@ impl<N: FormatFields + Drop, E: FormatEvent, F: Filter, S: LineSink> Trace<
         }
     }
 
-    /// How many texts of spans and lines the output at a place missed where memory ran out, at most `u64::MAX`.
-    pub fn starved(&self, output: usize) -> Option<u64>
+    /// How many texts of spans and lines the output at a place missed where memory ran out, at most `usize::MAX`.
+    pub fn starved(&self, output: usize) -> Option<usize>
         ensures { result ≡ starved_at self.now.stack output }
     {
         match self.parts.stack() {
             Some(stack) => match stack.stack().output(output) {
-                Some(filtered) => Some(filtered.inner().starved()),
+                Some(filtered) => Some(filtered.inner().starved() as usize),
                 None => None,
             },
             None => None,
+        }
+    }
+}
+
+impl<N: FormatFields + Drop, E: FormatEvent, F: Filter, D: Folder> Trace<
+    TraceStack<N, E, F, RoutedSinks<RollingSink<D>>>,
+> {
+    /// How many texts and lines of the output at a place are missing in its files, at most `usize::MAX`: those that found no memory before
+    /// its sinks or at one, and lines that a folder didn't take whole. A line that is missing at two sinks counts twice.
+    pub fn lost(&self, output: usize) -> Option<usize>
+        ensures { result ≡ lost_at self.now.stack output }
+    {
+        let starved = self.starved(output)?;
+        let Some(stack) = self.parts.stack() else {
+            return None;
+        };
+        match stack.sinks().get(output) {
+            Some(routed) => Some(lost_by_all(starved, routed.sinks())),
+            None => Some(starved),
         }
     }
 }

@@ -1,6 +1,6 @@
 //! Steps of a trace, one at a time and in runs.
 ghost use Rattle.std.specs.Prelude.{◌≡◌, IfOk, OnErr};
-ghost use Rattle.tracing_core_fields.specs.OwnedValues.{owned_entries};
+ghost use Rattle.tracing_core_fields.specs.IndexedEntries.{lent_entries};
 ghost use Rattle.span_tracing.specs.Ready.{IsStep, RunsReady};
 ghost use Rattle.span_tracing_laws.specs.runs.Runs.{RunGives};
 ghost use Rattle.span_tracing_outputs.specs.sinks.Takes.{TakesLine};
@@ -20,7 +20,7 @@ use span_tracing_skeleton::{
 use span_tracing_steps::{RecordRequest, Request};
 use std::alloc::AllocError;
 use tracing_appender_rolling::Folder;
-use tracing_core_fields::{FieldValue, Identifier, Subscriber};
+use tracing_core_fields::{Identifier, IndexedValues, LentValue, Subscriber};
 use tracing_core_moments::Moment;
 
 impl<T: Subscriber + HasRegistry> Trace<T> {
@@ -35,7 +35,7 @@ impl<T: Subscriber + HasRegistry> Trace<T> {
                 moment: event.moment,
                 callsite: event.callsite.0,
                 parent: event.parent,
-                values: event.values.as_slice(),
+                values: IndexedValues::Owned(event.values.as_slice()),
             }),
             Step::Enabled(call) => self.parts.enabled(call),
             Step::NewSpan(span) => self.parts.new_span(&Request {
@@ -43,13 +43,13 @@ impl<T: Subscriber + HasRegistry> Trace<T> {
                 moment: span.moment,
                 callsite: span.callsite.0,
                 parent: span.parent,
-                values: span.values.as_slice(),
+                values: IndexedValues::Owned(span.values.as_slice()),
             }),
             Step::Record(record) => self.parts.record(&RecordRequest {
                 lane: record.lane,
                 moment: record.moment,
                 span: record.span,
-                values: record.values.as_slice(),
+                values: IndexedValues::Owned(record.values.as_slice()),
             }),
             Step::RecordFollowsFrom(call) => self.parts.record_follows_from(call),
             Step::Enter(call) => self.parts.enter(call),
@@ -80,11 +80,11 @@ impl<N: FormatFields + Drop, E: FormatEvent, F: Filter, S: LineSink> Trace<Trace
         moment: Moment,
         callsite: Identifier,
         parent: Parent,
-        values: &[FieldValue],
+        values: &[LentValue<'_>],
     ) -> Reply
         ensures { IsStep ⟦<TraceStack<N, E, F, S> as Subscriber>⟧ ⟦<N as FormatFields>⟧ E.line_of ⟦<F as Filter>⟧ S.takes
             ⟦<Layer<N, E, PendingLines> as span_registry_layers_layers::Layer>⟧ self.old
-            (EventStep (record { lane = lane; moment = moment; callsite = callsite.0; parent = parent; values = owned_entries values.now }))
+            (EventStep (record { lane = lane; moment = moment; callsite = callsite.0; parent = parent; values = lent_entries values.now }))
             result self.new }
     {
         steps_follow::<N, E, F, S>();
@@ -93,7 +93,7 @@ impl<N: FormatFields + Drop, E: FormatEvent, F: Filter, S: LineSink> Trace<Trace
             moment,
             callsite: callsite.0,
             parent,
-            values,
+            values: IndexedValues::Lent(values),
         })
     }
 
@@ -121,11 +121,11 @@ impl<N: FormatFields + Drop, E: FormatEvent, F: Filter, S: LineSink> Trace<Trace
         moment: Moment,
         callsite: Identifier,
         parent: Parent,
-        values: &[FieldValue],
+        values: &[LentValue<'_>],
     ) -> Reply
         ensures { IsStep ⟦<TraceStack<N, E, F, S> as Subscriber>⟧ ⟦<N as FormatFields>⟧ E.line_of ⟦<F as Filter>⟧ S.takes
             ⟦<Layer<N, E, PendingLines> as span_registry_layers_layers::Layer>⟧ self.old
-            (SpanStep (record { lane = lane; moment = moment; callsite = callsite.0; parent = parent; values = owned_entries values.now }))
+            (SpanStep (record { lane = lane; moment = moment; callsite = callsite.0; parent = parent; values = lent_entries values.now }))
             result self.new }
     {
         steps_follow::<N, E, F, S>();
@@ -134,7 +134,7 @@ impl<N: FormatFields + Drop, E: FormatEvent, F: Filter, S: LineSink> Trace<Trace
             moment,
             callsite: callsite.0,
             parent,
-            values,
+            values: IndexedValues::Lent(values),
         })
     }
 
@@ -145,11 +145,11 @@ impl<N: FormatFields + Drop, E: FormatEvent, F: Filter, S: LineSink> Trace<Trace
         lane: usize,
         moment: Moment,
         span: Option<SpanName>,
-        values: &[FieldValue],
+        values: &[LentValue<'_>],
     ) -> Reply
         ensures { IsStep ⟦<TraceStack<N, E, F, S> as Subscriber>⟧ ⟦<N as FormatFields>⟧ E.line_of ⟦<F as Filter>⟧ S.takes
             ⟦<Layer<N, E, PendingLines> as span_registry_layers_layers::Layer>⟧ self.old
-            (RecordStep (record { lane = lane; moment = moment; span = span; values = owned_entries values.now }))
+            (RecordStep (record { lane = lane; moment = moment; span = span; values = lent_entries values.now }))
             result self.new }
     {
         steps_follow::<N, E, F, S>();
@@ -157,7 +157,7 @@ impl<N: FormatFields + Drop, E: FormatEvent, F: Filter, S: LineSink> Trace<Trace
             lane,
             moment,
             span,
-            values,
+            values: IndexedValues::Lent(values),
         })
     }
 

@@ -3,4 +3,5 @@ pub mod OutputSpecs
 pub mod OpenedStack
 pub mod Either
 pub mod OpenRefusals
+pub mod FileSpecs
 pub mod Threads

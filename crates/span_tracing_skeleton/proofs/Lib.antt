@@ -1,1 +1,2 @@
+pub mod SpanNames
 pub mod TwoStacks

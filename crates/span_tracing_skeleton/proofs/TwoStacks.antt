@@ -12,6 +12,7 @@ use Rattle.span_tracing_skeleton.specs.PlainData.{GlobalStep, Request}
 use Rattle.span_tracing_skeleton.specs.Skeleton.{Skeleton, Unasked}
 use Rattle.span_tracing_skeleton.specs.declared.call.Parent.TheVariants.{Explicit}
 use Rattle.span_tracing_skeleton.specs.declared.call.SpanName.{SpanName}
+use Rattle.span_tracing_skeleton.specs.SpanNames.{name_of}
 use Rattle.span_tracing_skeleton.specs.declared.refusal.Refusal.TheVariants.{ForeignParent, GlobalSet, IdsSpent, UnknownSpan, UnknownStack}
 
 module _ (m : PlainMetadata) where
@@ -27,7 +28,7 @@ module _ (m : PlainMetadata) where
   reaching default = record { callsites = m ∷ []; lanes = 1; stacks = one_open ∷ two_open ∷ []; default = default }
 
   abbrev span : ℕ → ℕ → SpanName
-  span stack id = record { stack = stack; id = id }
+  span stack id = name_of stack id
 
   -- a parent stands in the stack that lanes reach, and is open; an unknown stack is told before a foreign parent, and that before an
   -- unknown span

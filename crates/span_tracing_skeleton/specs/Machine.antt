@@ -12,6 +12,7 @@ use Rattle.span_registry_layers_store.specs.Spans.{found, handles_of, is_open}
 use Rattle.span_tracing_skeleton.specs.PlainData.{PlainStep, Request, on_span, GlobalStep, EventStep, EnabledStep, SpanStep, RecordStep}
 use Rattle.span_tracing_skeleton.specs.PlainData.{FollowsFromStep, EnterStep, ExitStep, CloneStep, CloseStep}
 use Rattle.span_tracing_skeleton.specs.declared.call.SpanName.{SpanName}
+use Rattle.span_tracing_skeleton.specs.SpanNames.{name_of}
 use Rattle.span_tracing_skeleton.specs.declared.call.Parent.{Parent}
 use Rattle.span_tracing_skeleton.specs.declared.call.Parent.TheVariants.{Contextual, Root, Explicit}
 use Rattle.span_tracing_skeleton.specs.declared.refusal.Refusal.{Refusal}
@@ -85,10 +86,10 @@ abbrev pub reached : Skeleton → RegistryValue
 reached s = reached_by s s.default
 
 abbrev pub has_open : Skeleton → SpanName → Bool
-has_open s name = is_open kin_in (registry_at s name.stack).spans name.id
+has_open s name = is_open kin_in (registry_at s name.stack).spans name.id.value
 
 abbrev pub handles_in : Skeleton → SpanName → ℕ
-handles_in s name = handles_of kin_in (registry_at s name.stack).spans name.id
+handles_in s name = handles_of kin_in (registry_at s name.stack).spans name.id.value
 
 -- a parent stands in the reached stack and is open
 abbrev pub parent_refusal : Skeleton → Parent → Option Refusal
@@ -180,7 +181,7 @@ refusal_of s (CloseStep call) = first (call_refusal s call) (handle_refusal s ca
 abbrev pub told_parent : Parent → core.Parent
 told_parent Contextual = core_parents.Current
 told_parent Root = core_parents.Root
-told_parent (Explicit name) = core_parents.Explicit name.id
+told_parent (Explicit name) = core_parents.Explicit name.id.value
 
 -- the span that a request stands under
 abbrev pub parent_id : RegistryValue → ℕ → Parent → Option ℕ
@@ -211,26 +212,26 @@ made_by s n (Heard passed told) = s
 -- the callsite of an open span
 abbrev pub callsite_of : Skeleton → SpanName → Option PlainMetadata
 callsite_of s name = option_and_then (λ (x : PlainSpan). named s.callsites x.metadata.callsite)
-    (found kin_in (registry_at s name.stack).spans name.id)
+    (found kin_in (registry_at s name.stack).spans name.id.value)
 
 abbrev pub cloned : Skeleton → Option SpanName → Skeleton
 cloned s None = s
-cloned s (Some name) = with_registry s name.stack (with_handle (registry_at s name.stack) name.id)
+cloned s (Some name) = with_registry s name.stack (with_handle (registry_at s name.stack) name.id.value)
 
 -- with an entry; an entered span is open
 abbrev pub entered : Skeleton → ℕ → Option SpanName → Skeleton
 entered s lane None = s
-entered s lane (Some name) = with_registry s name.stack (with_entry (registry_at s name.stack) lane name.id)
+entered s lane (Some name) = with_registry s name.stack (with_entry (registry_at s name.stack) lane name.id.value)
 
 -- without an entry, and without the spans that close
 abbrev pub left : Skeleton → ℕ → Option SpanName → Skeleton
 left s lane None = s
-left s lane (Some name) = with_registry s name.stack (swept (without_entry (registry_at s name.stack) lane name.id))
+left s lane (Some name) = with_registry s name.stack (swept (without_entry (registry_at s name.stack) lane name.id.value))
 
 -- without a handle, and without the spans that close
 abbrev pub given_up : Skeleton → Option SpanName → Skeleton
 given_up s None = s
-given_up s (Some name) = with_registry s name.stack (swept (without_handle (registry_at s name.stack) name.id))
+given_up s (Some name) = with_registry s name.stack (swept (without_handle (registry_at s name.stack) name.id.value))
 
 -- what a step that is not refused leaves
 abbrev pub acted : Skeleton → PlainStep → Answers → Skeleton
@@ -255,7 +256,7 @@ is_wanted (Heard passed told) = false
 -- the name of the span that the reached stack makes next
 abbrev pub next_name : Skeleton → Option ℕ → Option SpanName
 next_name s None = None
-next_name s (Some stack) = Some (record { stack = stack; id = (registry_at s stack).next_id })
+next_name s (Some stack) = Some (name_of stack (registry_at s stack).next_id)
 
 abbrev pub new_name : Skeleton → Answers → Option SpanName
 new_name s Unasked = None

@@ -1,14 +1,21 @@
 //! The steps of a trace and its replies.
+ghost use Rattle.std.specs.Prelude.{◌≡◌};
 
+use crate::call_error::CallError;
 use crate::refusal::Refusal;
-use tracing_core_fields::{FieldValue, Id, Identifier};
+use std::num::NonZeroU64;
+use tracing_core_fields::{FieldValue, Identifier};
 use tracing_core_moments::Moment;
 
 /// A span, by its stack's number and its id in that stack.
+///
+/// The id is the plain number of an `Id`: a function that hands on, twice, a struct with an `Id` in it could not be proved.
 #[derive(Clone, Copy, Debug, PartialEq, Eq)]
 pub struct SpanName {
+    /// The number of the stack.
     pub stack: usize,
-    pub id: Id,
+    /// The number of the span's id.
+    pub id: NonZeroU64,
 }
 
 /// Which span a request stands under.
@@ -110,4 +117,52 @@ pub enum Reply {
     /// Whether the span closed.
     Closed(bool),
     Refused(Refusal),
+}
+
+impl Reply {
+    ghost use Rattle.span_tracing_skeleton.specs.Replies.{as_closed, as_done, as_span};
+
+    /// The answer to a call whose reply says no more than that it was done.
+    ///
+    /// # Errors
+    ///
+    /// The refusal, where the call was refused.
+    pub fn done(self) -> Result<(), CallError>
+        ensures { result ≡ as_done self }
+    {
+        match self {
+            Reply::Refused(refusal) => Err(CallError::Refused(refusal)),
+            _ => Ok(()),
+        }
+    }
+
+    /// The span that a call made, and none where it was dropped or where the reply is no span's.
+    ///
+    /// # Errors
+    ///
+    /// The refusal, where the call was refused.
+    pub fn span(self) -> Result<Option<SpanName>, CallError>
+        ensures { result ≡ as_span self }
+    {
+        match self {
+            Reply::Refused(refusal) => Err(CallError::Refused(refusal)),
+            Reply::Span(span) => Ok(span),
+            _ => Ok(None),
+        }
+    }
+
+    /// Whether a call closed a span; false where the reply is none of such a call.
+    ///
+    /// # Errors
+    ///
+    /// The refusal, where the call was refused.
+    pub fn closed(self) -> Result<bool, CallError>
+        ensures { result ≡ as_closed self }
+    {
+        match self {
+            Reply::Refused(refusal) => Err(CallError::Refused(refusal)),
+            Reply::Closed(is_closed) => Ok(is_closed),
+            _ => Ok(false),
+        }
+    }
 }

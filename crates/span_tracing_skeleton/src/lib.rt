@@ -3,6 +3,7 @@
 #![tactic(auto)]
 
 mod call;
+mod call_error;
 mod has_registry;
 mod refusal;
 
@@ -10,5 +11,6 @@ pub use call::{
     EnabledCall, EventCall, FollowsCall, NewSpanCall, Parent, RecordCall, Reply, SpanCall,
     SpanName, Step,
 };
+pub use call_error::CallError;
 pub use has_registry::HasRegistry;
 pub use refusal::Refusal;

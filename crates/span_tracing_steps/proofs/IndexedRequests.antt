@@ -1,13 +1,12 @@
 -- Requests that the hub hands to the stack at a callsite that was found.
 use Rattle.std.proofs.Common.{◌≡◌, ℕ, zero, suc, Bool, true, false, List, [], ◌∷◌, length, Option, Some, None, Result, is_some, refl, sym}
 use Rattle.std.proofs.Common.{ap, ◌∙◌, subst}
-use Rattle.std.specs.Prelude.{if◌then◌else◌, nat_lt, slice_get}
-use Rattle.std.specs.List.{cons_option}
+use Rattle.std.specs.Prelude.{slice_get}
 use Rattle.std.specs.Option.{option_map}
-use Rattle.tracing_core_fields.specs.OwnedValues.{indexed_entries, indexed_entry, is_indexed, owned_entries, plain_owned}
+use Rattle.tracing_core_fields.specs.IndexedEntries.{plain_entries}
 use Rattle.tracing_core_fields.specs.PlainMetadata.{PlainMetadata}
 use Rattle.tracing_core_fields.specs.PlainValue.{PlainValue}
-use Rattle.tracing_core_fields.specs.declared.owned_value.FieldValue.{FieldValue}
+use Rattle.tracing_core_fields.specs.declared.indexed_values.IndexedValues.{IndexedValues}
 use Rattle.tracing_core_fields.specs.requests.Calls.{Asked, EventDispatched, Recorded, SpanMade}
 use Rattle.tracing_core_fields.specs.requests.PlainRequests.{PlainRequest, PlainValues}
 use Rattle.tracing_core_fields.specs.declared.requests.refusal.RequestError.{RequestError}
@@ -34,32 +33,19 @@ use Rattle.span_tracing_steps.specs.declared.action.RecordRequest.{RecordRequest
 use Rattle.span_tracing_steps.specs.declared.action.Request.{Request}
 use Rattle.span_tracing_steps.specs.declared.callsite.TraceCallsite.{TraceCallsite}
 use Rattle.span_tracing_steps.specs.declared.parts.TraceParts.{TraceParts}
+use Rattle.tracing_core_fields.proofs.IndexedLemmas.{indexed_are_plain}
 use Rattle.span_tracing_steps.proofs.StackCalls.{ask_is, called_goes, called_sound}
 
--- the entries of a set by places are those of the plain request whose fields the callsite has
-one_same : (count field : ℕ) (o : Option PlainValue) (b : Bool) → nat_lt field count ≡ b → (rest : List (ℕ × PlainValue)) →
-    cons_option (if b then option_map (λ (value : PlainValue). (field, value)) o else None) (own_entries count rest) ≡ own_entries count
-    (cons_option (option_map (λ (value : PlainValue). (field, value)) o) rest)
-one_same count field None true is rest = refl
-one_same count field None false is rest = refl
-one_same count field (Some v) true is rest = rw is refl
-one_same count field (Some v) false is rest = rw is refl
-
-entries_same : (count : ℕ) (values : List FieldValue) → indexed_entries count values ≡ own_entries count (owned_entries values)
-entries_same count [] = refl
-entries_same count (given ∷ values) =
-    ap (cons_option (indexed_entry count given)) (entries_same count values) ∙ one_same count given.field (plain_owned given.value)
-    (is_indexed count given) refl (owned_entries values)
-
-values_same : (m : PlainMetadata) (values : List FieldValue) → values_at m values ≡ own_values m (owned_entries values)
+-- the values of a set by places are those of the plain request
+values_same : (m : PlainMetadata) (values : IndexedValues) → values_at m values ≡ own_values m (plain_entries values)
 values_same m values = ap (λ (es : List (ℕ × PlainValue)). record { callsite = m.callsite; names = m.field_names; entries = es })
-    (entries_same (length m.field_names) values)
+    (indexed_are_plain (length m.field_names) values)
 
 request_same : (m : PlainMetadata) (r : Request) (parent : RequestParent) → plain_parent parent ≡ told_parent r.parent →
-    request_at m r.values.now parent ≡ request_of m (plain_request r)
+    request_at m r.values parent ≡ request_of m (plain_request r)
 request_same m r parent e =
-    ap (λ (v : PlainValues). record { metadata = m; values = v; parent = plain_parent parent }) (values_same m r.values.now)
-    ∙ ap (λ (q : Parent). record { metadata = m; values = own_values m (owned_entries r.values.now); parent = q }) e
+    ap (λ (v : PlainValues). record { metadata = m; values = v; parent = plain_parent parent }) (values_same m r.values)
+    ∙ ap (λ (q : Parent). record { metadata = m; values = own_values m (plain_entries r.values); parent = q }) e
 
 -- the callsite at an index
 pub row_at : (rows : List (KeptCallsite TraceCallsite)) (n : ℕ) →
@@ -77,7 +63,7 @@ module _ {T : Type 0} (g : Ghosts T) (p : TraceParts T) (u : Table T TraceCallsi
   pub event_at_row : (o : Option (KeptCallsite TraceCallsite)) (m : Option PlainMetadata) (r : Request) (parent : RequestParent)
       (result : Option (Result (Unit {0}) RequestError)) → plain_parent parent ≡ told_parent r.parent →
       option_map (λ (row : KeptCallsite TraceCallsite). own_metadata row.callsite) o ≡ m → is_some m ≡ true →
-      EventAtGives g ghosts o r.values.now parent (place_at r.lane r.moment) dispatch p.hub result u → IsSound later ×
+      EventAtGives g ghosts o r.values parent (place_at r.lane r.moment) dispatch p.hub result u → IsSound later ×
       EventGoes g true m (value_in p) (plain_request r) (value_in later)
   event_at_row None None r parent result pe e there w = absurd (cc)
   event_at_row None (Some m) r parent result pe e there w = absurd (cc)
@@ -87,7 +73,7 @@ module _ {T : Type 0} (g : Ghosts T) (p : TraceParts T) (u : Table T TraceCallsi
       let call = λ (q : PlainRequest). EventDispatched q (place_at r.lane r.moment) in
       let given : HubGives g (EventDispatched (request_of m (plain_request r)) (place_at r.lane r.moment)) dispatch p.hub w.0 u =
       subst (λ (q : PlainRequest). HubGives g (EventDispatched q (place_at r.lane r.moment)) dispatch p.hub w.0 u)
-      (ap (λ (n : PlainMetadata). request_at n r.values.now parent) same ∙ request_same m r parent pe) w.2 in (
+      (ap (λ (n : PlainMetadata). request_at n r.values parent) same ∙ request_same m r parent pe) w.2 in (
         called_sound g p u dispatch handle sound (EventDispatched (request_of m (plain_request r)) (place_at r.lane r.moment)) w.0 given
             keeps,
         (
@@ -102,7 +88,7 @@ module _ {T : Type 0} (g : Ghosts T) (p : TraceParts T) (u : Table T TraceCallsi
       (result : Option (Result (Option ℕ) RequestError)) (made : Result (Option ℕ) RequestError) (reply : Reply) →
       plain_parent parent ≡ told_parent r.parent → option_map (λ (row : KeptCallsite TraceCallsite). own_metadata row.callsite) o ≡ m →
       is_some m ≡ true →
-      result ≡ Some made → reply ≡ span_reply made → SpanAtGives g ghosts o r.values.now parent (place_at r.lane r.moment) dispatch p.hub
+      result ≡ Some made → reply ≡ span_reply made → SpanAtGives g ghosts o r.values parent (place_at r.lane r.moment) dispatch p.hub
       result u → IsSound later × SpanGoes g true m (value_in p) (plain_request r) reply (value_in later)
   span_at_row None None r parent result made reply pe e there is told w = absurd (cc)
   span_at_row None (Some m) r parent result made reply pe e there is told w = absurd (cc)
@@ -111,7 +97,7 @@ module _ {T : Type 0} (g : Ghosts T) (p : TraceParts T) (u : Table T TraceCallsi
       let same : own_metadata row.callsite ≡ m = cc in
       let given : HubGives g (SpanMade (request_of m (plain_request r)) (place_at r.lane r.moment)) dispatch p.hub w.0 u =
       subst (λ (q : PlainRequest). HubGives g (SpanMade q (place_at r.lane r.moment)) dispatch p.hub w.0 u)
-      (ap (λ (n : PlainMetadata). request_at n r.values.now parent) same ∙ request_same m r parent pe) w.2 in
+      (ap (λ (n : PlainMetadata). request_at n r.values parent) same ∙ request_same m r parent pe) w.2 in
       let answer : made ≡ w.0 = (let both : Some made ≡ Some w.0 = sym is ∙ w.1 in cc) in (
         called_sound g p u dispatch handle sound (SpanMade (request_of m (plain_request r)) (place_at r.lane r.moment)) w.0 given keeps,
         (
@@ -125,7 +111,7 @@ module _ {T : Type 0} (g : Ghosts T) (p : TraceParts T) (u : Table T TraceCallsi
   pub values_at_row : (o : Option (KeptCallsite TraceCallsite)) (m : Option PlainMetadata) (id : ℕ) (r : RecordRequest)
       (result : Option (Result (Unit {0}) RequestError)) → option_map (λ (row : KeptCallsite TraceCallsite). own_metadata row.callsite)
       o ≡ m → is_some m ≡ true →
-      RecordAtGives g ghosts o id r.values.now (place_at r.lane r.moment) dispatch p.hub result u → IsSound later ×
+      RecordAtGives g ghosts o id r.values (place_at r.lane r.moment) dispatch p.hub result u → IsSound later ×
       ValuesGo g id m (value_in p) (plain_record r) (value_in later)
   values_at_row None None id r result e there w = absurd (cc)
   values_at_row None (Some m) id r result e there w = absurd (cc)
@@ -134,7 +120,7 @@ module _ {T : Type 0} (g : Ghosts T) (p : TraceParts T) (u : Table T TraceCallsi
       let same : own_metadata row.callsite ≡ m = cc in
       let given : HubGives g (Recorded id (own_values m (plain_record r).values) (place_at r.lane r.moment)) dispatch p.hub w.0 u =
       subst (λ (vs : PlainValues). HubGives g (Recorded id vs (place_at r.lane r.moment)) dispatch p.hub w.0 u)
-      (ap (λ (n : PlainMetadata). values_at n r.values.now) same ∙ values_same m r.values.now) w.2 in (
+      (ap (λ (n : PlainMetadata). values_at n r.values) same ∙ values_same m r.values) w.2 in (
         called_sound g p u dispatch handle sound (Recorded id (own_values m (plain_record r).values) (place_at r.lane r.moment)) w.0 given
             keeps,
         (

@@ -138,7 +138,7 @@ module _ {T : Type 0} (g : Ghosts T) where
     record_keeps : (span : Option SpanName) (v : StateValue T) (r : RecordRequest) (w : StateValue T) → KeepsWord g v →
         RecordGoes g registry_of span v r w → KeepsWord g w
     record_keeps None v r w keeps goes = same_keeps v w goes keeps
-    record_keeps (Some name) v r w keeps goes = values_keep name.id (callsite_of (skeleton_of registry_of v) name) v r w keeps goes
+    record_keeps (Some name) v r w keeps goes = values_keep name.id.value (callsite_of (skeleton_of registry_of v) name) v r w keeps goes
 
     goes_keep : (v : StateValue T) (step : PlainStep) (reply : Reply) (w : StateValue T) → KeepsWord g v →
         StepGoes g registry_of v step reply w → KeepsWord g w

@@ -79,7 +79,7 @@ module _ {T : Type 0} (g : Ghosts T) (registry_of : T → RegistryValue) (p : Tr
   pub event_given : (r : Request) (found : Result CallsiteIndex Refusal) (index : CallsiteIndex) (parent : RequestParent)
       (result : Option (Result (Unit {0}) RequestError)) → plain_parent parent ≡ told_parent r.parent → found ≡ Ok index →
       FoundFor registry_of (value_in p) r.lane r.moment r.callsite false r.parent found → (value_in p).is_global ≡ true →
-      EventAtGives g ghosts (slice_get p.hub.callsites index.0) r.values.now parent (place_at r.lane r.moment) dispatch p.hub result u →
+      EventAtGives g ghosts (slice_get p.hub.callsites index.0) r.values parent (place_at r.lane r.moment) dispatch p.hub result u →
       IsSound later × StepGives g registry_of (value_in p) (EventStep (plain_request r)) Done (value_in later)
   event_given r found index parent result pe is by global w =
       let m = known (skeleton_of registry_of (value_in p)) r.callsite false in
@@ -98,7 +98,7 @@ module _ {T : Type 0} (g : Ghosts T) (registry_of : T → RegistryValue) (p : Tr
       FoundFor registry_of (value_in p) r.lane r.moment r.callsite true r.parent found →
       ids_refusal (skeleton_of registry_of (value_in p)) ≡ None → (value_in p).is_global ≡ true → result ≡ Some made →
       reply ≡ span_reply made →
-      SpanAtGives g ghosts (slice_get p.hub.callsites index.0) r.values.now parent (place_at r.lane r.moment) dispatch p.hub result u →
+      SpanAtGives g ghosts (slice_get p.hub.callsites index.0) r.values parent (place_at r.lane r.moment) dispatch p.hub result u →
       IsSound later × StepGives g registry_of (value_in p) (SpanStep (plain_request r)) reply (value_in later)
   span_given r found index parent result made reply pe is by ids global answered told w =
       let s = skeleton_of registry_of (value_in p) in
@@ -135,11 +135,11 @@ module _ {T : Type 0} (g : Ghosts T) (registry_of : T → RegistryValue) (p : Tr
       at_index (value_in p).callsites found ≡ callsite_of (skeleton_of registry_of (value_in p)) name →
       is_some found ≡ is_some (callsite_of (skeleton_of registry_of (value_in p)) name) →
       refusal_of (skeleton_of registry_of (value_in p)) (RecordStep (plain_record r)) ≡ None →
-      RecordAtGives g ghosts (slice_get p.hub.callsites index.0) name.id r.values.now (place_at r.lane r.moment) dispatch p.hub result u →
+      RecordAtGives g ghosts (slice_get p.hub.callsites index.0) name.id.value r.values (place_at r.lane r.moment) dispatch p.hub result u →
       IsSound later × StepGives g registry_of (value_in p) (RecordStep (plain_record r)) Done (value_in later)
   values_given r name found index result on is names there none w =
       let m = callsite_of (skeleton_of registry_of (value_in p)) name in
-      let goes = values_at_row g p u dispatch handle sound keeps (slice_get p.hub.callsites index.0) m name.id r result
+      let goes = values_at_row g p u dispatch handle sound keeps (slice_get p.hub.callsites index.0) m name.id.value r result
       (row_at p.hub.callsites index.0 ∙ ap (at_index (value_in p).callsites) (sym is) ∙ names) (sym there ∙ ap is_some is) w in (
         goes.0,
         given (RecordStep (plain_record r)) Done none (

@@ -8,6 +8,7 @@ use Rattle.tracing_core_moments.specs.declared.moment.Moment.{Moment}
 use Rattle.span_tracing_skeleton.specs.Machine.{told_parent}
 use Rattle.span_tracing_skeleton.specs.PlainData.{Request}
 use Rattle.span_tracing_skeleton.specs.declared.call.SpanName.{SpanName}
+use Rattle.span_tracing_skeleton.specs.SpanNames.{name_of}
 
 -- where and when
 abbrev pub place_at : ℕ → Moment → At
@@ -27,4 +28,4 @@ request_of m r = record { metadata = m; values = own_values m r.values; parent =
 -- the name of a span of the one stack
 abbrev pub named_as : Option ℕ → Option SpanName
 named_as None = None
-named_as (Some id) = Some (record { stack = 0; id = id })
+named_as (Some id) = Some (name_of 0 id)

@@ -74,31 +74,31 @@ module _ {T : Type 0} (g : Ghosts T) where
     -- values for a span, or for none
     abbrev pub RecordGoes : Option SpanName → StateValue T → RecordRequest → StateValue T → Type 0
     RecordGoes None v r w = w ≡ v
-    RecordGoes (Some name) v r w = ValuesGo name.id (callsite_of (skeleton_of registry_of v) name) v r w
+    RecordGoes (Some name) v r w = ValuesGo name.id.value (callsite_of (skeleton_of registry_of v) name) v r w
 
   -- a span follows another one, where both are named
   abbrev pub FollowsGoes : Option SpanName → Option SpanName → StateValue T → FollowsCall → StateValue T → Type 0
   FollowsGoes None follows v call w = w ≡ v
   FollowsGoes (Some name) None v call w = w ≡ v
   FollowsGoes (Some name) (Some followed) v call w = (r : Result (Unit {0}) RequestError) ×
-      CallGoes v (FollowsRecorded name.id followed.id (place_at call.lane call.moment)) r w
+      CallGoes v (FollowsRecorded name.id.value followed.id.value (place_at call.lane call.moment)) r w
 
   abbrev pub EnterGoes : Option SpanName → StateValue T → SpanCall → Reply → StateValue T → Type 0
   EnterGoes None v call reply w = (reply ≡ Done) × (w ≡ v)
   EnterGoes (Some name) v call reply w = (r : Result (Unit {0}) RequestError) ×
-      CallGoes v (Entered name.id (place_at call.lane call.moment)) r w × (reply ≡ enter_reply r)
+      CallGoes v (Entered name.id.value (place_at call.lane call.moment)) r w × (reply ≡ enter_reply r)
 
   abbrev pub ExitGoes : Option SpanName → StateValue T → SpanCall → StateValue T → Type 0
   ExitGoes None v call w = w ≡ v
-  ExitGoes (Some name) v call w = CallGoes v (Exited name.id (place_at call.lane call.moment)) tt w
+  ExitGoes (Some name) v call w = CallGoes v (Exited name.id.value (place_at call.lane call.moment)) tt w
 
   abbrev pub CloneGoes : Option SpanName → StateValue T → SpanCall → StateValue T → Type 0
   CloneGoes None v call w = w ≡ v
-  CloneGoes (Some name) v call w = (r : Result ℕ RequestError) × CallGoes v (Cloned name.id (place_at call.lane call.moment)) r w
+  CloneGoes (Some name) v call w = (r : Result ℕ RequestError) × CallGoes v (Cloned name.id.value (place_at call.lane call.moment)) r w
 
   abbrev pub CloseGoes : Option SpanName → StateValue T → SpanCall → Reply → StateValue T → Type 0
   CloseGoes None v call reply w = (reply ≡ Closed false) × (w ≡ v)
-  CloseGoes (Some name) v call reply w = (r : Bool) × CallGoes v (CloseTried name.id (place_at call.lane call.moment)) r w ×
+  CloseGoes (Some name) v call reply w = (r : Bool) × CallGoes v (CloseTried name.id.value (place_at call.lane call.moment)) r w ×
       (reply ≡ Closed r)
 
   module _ (registry_of : T → RegistryValue) where

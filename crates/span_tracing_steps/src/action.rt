@@ -1,7 +1,7 @@
 //! Requests whose values are lent.
 
 use span_tracing_skeleton::{Parent, SpanName};
-use tracing_core_fields::FieldValue;
+use tracing_core_fields::IndexedValues;
 use tracing_core_moments::Moment;
 
 /// An event or a new span on a lane.
@@ -16,7 +16,7 @@ pub struct Request<'a> {
     /// Which span it stands under.
     pub parent: Parent,
     /// Values, each by its field's place among those of the callsite.
-    pub values: &'a [FieldValue],
+    pub values: IndexedValues<'a>,
 }
 
 /// Values for a span, or for none.
@@ -29,5 +29,5 @@ pub struct RecordRequest<'a> {
     /// The span.
     pub span: Option<SpanName>,
     /// Values, each by its field's place among those of the span's callsite.
-    pub values: &'a [FieldValue],
+    pub values: IndexedValues<'a>,
 }

@@ -14,6 +14,7 @@ ghost use Rattle.span_tracing_steps.specs.States.{at_index, registry_in, skeleto
 
 use crate::action::RecordRequest;
 use crate::parts::TraceParts;
+use crate::requests::id_of;
 use span_tracing_skeleton::{
     EnabledCall, FollowsCall, HasRegistry, Parent, Refusal, SpanCall, SpanName,
 };
@@ -41,7 +42,7 @@ impl<T: Subscriber + HasRegistry> TraceParts<T> {
     {
         match self.stack_at(name.stack) {
             None => false,
-            Some(stack) => stack.registry().is_open(&name.id),
+            Some(stack) => stack.registry().is_open(&id_of(name)),
         }
     }
 
@@ -52,7 +53,7 @@ impl<T: Subscriber + HasRegistry> TraceParts<T> {
     {
         match self.stack_at(name.stack) {
             None => 0,
-            Some(stack) => stack.registry().handles_of(&name.id),
+            Some(stack) => stack.registry().handles_of(&id_of(name)),
         }
     }
 
@@ -60,11 +61,11 @@ impl<T: Subscriber + HasRegistry> TraceParts<T> {
     #[tactic(auto, using(crate::proofs::SlotlessRegistry::number_bare))]
     fn number_of(&self, name: SpanName) -> Option<u64>
         ensures { result ≡ option_map (λ (s : PlainSpan). s.metadata.callsite)
-            (found kin_in (registry_at (skeleton_of T.registry_of (value_in self.now)) name.stack).spans name.id) }
+            (found kin_in (registry_at (skeleton_of T.registry_of (value_in self.now)) name.stack).spans name.id.value) }
     {
         match self.stack_at(name.stack) {
             None => None,
-            Some(stack) => match stack.registry().span(&name.id) {
+            Some(stack) => match stack.registry().span(&id_of(name)) {
                 None => None,
                 Some(span) => Some(span.fields().callsite().0),
             },

@@ -1,6 +1,6 @@
 //! Events, questions and new spans.
 ghost use Rattle.std.specs.Prelude.{◌≡◌, IsTrue, None, Ok, Some, false, true};
-ghost use Rattle.tracing_core_fields.specs.OwnedValues.{owned_entries};
+ghost use Rattle.tracing_core_fields.specs.IndexedEntries.{plain_entries};
 ghost use Rattle.tracing_core.specs.IndexedRequests.{plain_parent};
 ghost use Rattle.tracing_core_fields.specs.requests.PlainRequests.{explicit_parent};
 ghost use Rattle.span_tracing_skeleton.specs.Machine.{or_refused, told_parent};
@@ -16,7 +16,7 @@ use crate::action::Request;
 use crate::parts::TraceParts;
 use span_tracing_skeleton::{EnabledCall, HasRegistry, Parent, Refusal, Reply, SpanName};
 use tracing_core::{CallsiteIndex, RequestParent};
-use tracing_core_fields::{FieldValue, Id, RequestError, Subscriber};
+use tracing_core_fields::{Id, IndexedValues, RequestError, Subscriber};
 use tracing_core_moments::{At, Moment};
 
 /// Where and when.
@@ -30,6 +30,14 @@ pub(crate) fn at_of(lane: usize, moment: Moment) -> At
     }
 }
 
+/// The id of a span, within its stack.
+#[inline(always)]
+pub(crate) fn id_of(name: SpanName) -> Id
+    ensures { result ≡ name.id.value }
+{
+    Id::from_non_zero_u64(name.id)
+}
+
 // The parent, as the hub is told of it: its stack was looked at.
 fn parent_of(parent: Parent) -> RequestParent
     ensures { plain_parent result ≡ told_parent parent }
@@ -37,7 +45,7 @@ fn parent_of(parent: Parent) -> RequestParent
     match parent {
         Parent::Contextual => RequestParent::Contextual,
         Parent::Root => RequestParent::Root,
-        Parent::Explicit(name) => RequestParent::Explicit(name.id),
+        Parent::Explicit(name) => RequestParent::Explicit(id_of(name)),
     }
 }
 
@@ -57,7 +65,10 @@ fn name_of(id: Option<Id>) -> Option<SpanName>
 {
     match id {
         None => None,
-        Some(id) => Some(SpanName { stack: 0, id }),
+        Some(id) => Some(SpanName {
+            stack: 0,
+            id: id.into_non_zero_u64(),
+        }),
     }
 }
 
@@ -130,14 +141,14 @@ impl<T: Subscriber + HasRegistry> TraceParts<T> {
         moment: Moment,
         callsite: u64,
         parent: Parent,
-        values: &[FieldValue],
+        values: IndexedValues<'_>,
     )
         requires sound { IsSound self.old }
         requires found { FoundFor T.registry_of (value_in self.old) lane moment callsite false parent (Ok index) }
         requires reached { (value_in self.old).is_global ≡ true }
         ensures sound { IsSound self.new }
         ensures gives { StepGives ⟦<T as Subscriber>⟧ T.registry_of (value_in self.old) (EventStep
-            (record { lane = lane; moment = moment; callsite = callsite; parent = parent; values = owned_entries values.now }))
+            (record { lane = lane; moment = moment; callsite = callsite; parent = parent; values = plain_entries values.entry }))
             Done (value_in self.new) }
     {
         let Some(handle) = &self.handle else {
@@ -157,12 +168,12 @@ impl<T: Subscriber + HasRegistry> TraceParts<T> {
         moment: Moment,
         callsite: u64,
         parent: Parent,
-        values: &[FieldValue],
+        values: IndexedValues<'_>,
     ) -> Option<Refusal>
         requires { IsSound self.old }
         ensures sound { IsSound self.new }
         ensures gives { StepGives ⟦<T as Subscriber>⟧ T.registry_of (value_in self.old) (EventStep
-            (record { lane = lane; moment = moment; callsite = callsite; parent = parent; values = owned_entries values.now }))
+            (record { lane = lane; moment = moment; callsite = callsite; parent = parent; values = plain_entries values.entry }))
             (or_refused result Done) (value_in self.new) }
     {
         let event = Request {

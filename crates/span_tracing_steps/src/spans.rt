@@ -7,7 +7,7 @@ ghost use Rattle.span_tracing_steps.specs.Steps.{StepGives};
 
 use crate::action::RecordRequest;
 use crate::parts::TraceParts;
-use crate::requests::at_of;
+use crate::requests::{at_of, id_of};
 use span_tracing_skeleton::{FollowsCall, HasRegistry, Refusal, Reply, SpanCall};
 use tracing_core_fields::Subscriber;
 
@@ -57,7 +57,7 @@ impl<T: Subscriber + HasRegistry> TraceParts<T> {
         let at = at_of(request.lane, request.moment);
         let _told = self
             .hub
-            .record_at(handle, index, &name.id, request.values, at);
+            .record_at(handle, index, &id_of(name), request.values, at);
         Reply::Done
     }
 
@@ -84,7 +84,7 @@ impl<T: Subscriber + HasRegistry> TraceParts<T> {
         let at = at_of(call.lane, call.moment);
         let _told = self
             .hub
-            .record_follows_from(handle, &name.id, &followed.id, at);
+            .record_follows_from(handle, &id_of(name), &id_of(followed), at);
         Reply::Done
     }
 
@@ -108,7 +108,7 @@ impl<T: Subscriber + HasRegistry> TraceParts<T> {
         };
         match self
             .hub
-            .enter(handle, &name.id, at_of(call.lane, call.moment))
+            .enter(handle, &id_of(name), at_of(call.lane, call.moment))
         {
             Ok(()) => Reply::Done,
             Err(_) => Reply::Refused(Refusal::OutOfMemory),
@@ -132,7 +132,7 @@ impl<T: Subscriber + HasRegistry> TraceParts<T> {
             unreachable!()
         };
         self.hub
-            .exit(handle, &name.id, at_of(call.lane, call.moment));
+            .exit(handle, &id_of(name), at_of(call.lane, call.moment));
         Reply::Done
     }
 
@@ -155,7 +155,7 @@ impl<T: Subscriber + HasRegistry> TraceParts<T> {
         };
         let _same = self
             .hub
-            .clone_span(handle, &name.id, at_of(call.lane, call.moment));
+            .clone_span(handle, &id_of(name), at_of(call.lane, call.moment));
         Reply::Done
     }
 
@@ -177,7 +177,7 @@ impl<T: Subscriber + HasRegistry> TraceParts<T> {
         };
         Reply::Closed(
             self.hub
-                .try_close(handle, name.id, at_of(call.lane, call.moment)),
+                .try_close(handle, id_of(name), at_of(call.lane, call.moment)),
         )
     }
 }

@@ -3,6 +3,7 @@ ghost use Rattle.std.specs.Prelude.{◌≡◌, None, OnOk, true};
 ghost use Rattle.std.specs.Io.{WritesAtMost};
 ghost use Rattle.std.specs.Io.KnownBytes.{Appends, Keeps, WriteAppends};
 ghost use Rattle.std.specs.Borrow.{sem};
+ghost use Rattle.tracing_appender_rolling.specs.declared.appender.RollingFileAppender.{RollingFileAppender};
 ghost use Rattle.tracing_appender.specs.Clocked.{Flushed, LendsClock, WroteLine, WroteOnce};
 
 use crate::clock::Clock;
@@ -50,6 +51,26 @@ impl<D: Folder, C: Clock> ClockedAppender<D, C> {
         ensures { result ≡ self.appender }
     {
         self.appender
+    }
+}
+
+/// What takes a clock that says when its file changes.
+pub trait Clocked<D> {
+    // The rolling file.
+    ghost file: { Self → RollingFileAppender D };
+
+    /// The same as [`ClockedAppender::new`], behind what makes the rolling file: `daily(..)?.clocked(clock)`.
+    fn clocked<C: Clock>(self, clock: C) -> ClockedAppender<D, C>
+        ensures { result ≡ record { appender = file self; clock = clock } };
+}
+
+impl<D: Folder> Clocked<D> for RollingFileAppender<D> {
+    ghost file = { λ appender. appender };
+
+    fn clocked<C: Clock>(self, clock: C) -> ClockedAppender<D, C>
+        ensures { result ≡ record { appender = self; clock = clock } }
+    {
+        ClockedAppender::new(self, clock)
     }
 }
 

@@ -15,7 +15,7 @@ mod system;
 mod writer;
 
 pub use clock::Clock;
-pub use clocked::ClockedAppender;
+pub use clocked::{Clocked, ClockedAppender};
 pub use fixed::FixedClock;
 pub use system::SystemClock;
 pub use tracing_appender_rolling::{

@@ -4,23 +4,14 @@ ghost use Rattle.std.specs.IoError.{error_kind};
 ghost use Rattle.tracing_appender.specs.Refusals.{Tells, kind_of};
 
 use std::io;
-use tracing_appender_rolling::{FolderError, FolderFault};
-
-fn fault_text(fault: FolderFault) -> &'static str {
-    match fault {
-        FolderFault::Refused => "refused",
-        FolderFault::NotFound => "not found",
-        FolderFault::Unsupported => "unsupported",
-        FolderFault::WriteZero => "write took no bytes",
-    }
-}
+use tracing_appender_rolling::FolderError;
 
 fn io_error(error: FolderError) -> io::Error
     ensures { error_kind result ≡ kind_of error }
 {
     match error {
         FolderError::OutOfMemory => io::ErrorKind::OutOfMemory.into(),
-        FolderError::Fault(fault) => io::Error::other(fault_text(fault)),
+        FolderError::Fault(fault) => io::Error::other(fault.text()),
     }
 }
 

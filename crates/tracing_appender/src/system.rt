@@ -1,12 +1,14 @@
 //! The clock of the machine.
-ghost use Rattle.std.specs.Prelude.{◌≡◌, ℕ, Option, Some, true};
+ghost use Rattle.std.specs.Prelude.{◌≡◌, Result, Some, true};
 ghost use Rattle.tracing_core_moments.specs.Moments.{is_moment};
 ghost use Rattle.std.specs.Duration.{as_nanos};
-ghost use Rattle.tracing_appender.specs.ClockMoments.{told};
+ghost use Rattle.tracing_appender.specs.ClockMoments.{told, nanoseconds_of};
+ghost use Rattle.std.specs.declared.io.Error.{Error};
+ghost use Rattle.std.specs.declared.time.SystemTime.{SystemTime};
 
 use crate::clock::Clock;
-use std::rt;
 use std::time::{Duration, SystemTime, UNIX_EPOCH};
+use std::{io, rt};
 use tracing_core_moments::Moment;
 
 /// The clock of the machine, as a runtime reads it. Where it can't be read, or reads a moment before 1970 or after
@@ -39,13 +41,19 @@ fn moment_after(since_1970: Duration) -> Option<Moment>
     Moment::new(seconds, since_1970.subsec_nanos()).ok()
 }
 
+/// What a reading tells, where it succeeded and that is in range.
+fn moment_of(reading: io::Result<SystemTime>) -> Option<Moment>
+    ensures { result ≡ told (nanoseconds_of reading) }
+{
+    let since_1970 = reading.ok()?.duration_since(UNIX_EPOCH).ok()?;
+    moment_after(since_1970)
+}
+
 /// What the machine's clock reads, where it can be read and that is in range.
 fn read<R: rt::Clock>(runtime: &R) -> Option<Moment>
-    ensures { (nanoseconds : Option ℕ) × (result ≡ told nanoseconds) }
+    ensures { (reading : Result SystemTime Error) × (result ≡ told (nanoseconds_of reading)) }
 {
-    let time = SystemTime::now(runtime).ok()?;
-    let since_1970 = time.duration_since(UNIX_EPOCH).ok()?;
-    moment_after(since_1970)
+    moment_of(SystemTime::now(runtime))
 }
 
 impl<R: rt::Clock + Drop> Clock for SystemClock<R> {

@@ -7,8 +7,8 @@ mod clocks;
 mod refused;
 
 use crate::{
-    Builder, Clock, ClockedAppender, FaultyFolder, FixedClock, Folder, MemoryFolder, Moment,
-    RollingFileAppender, Rotation,
+    Builder, Clock, Clocked, ClockedAppender, FaultyFolder, FixedClock, Folder, MemoryFolder,
+    Moment, RollingFileAppender, Rotation,
 };
 use clocks::{FEBRUARY, HourClock};
 use event_formatter_text::MakeWriter;
@@ -30,10 +30,9 @@ fn later(seconds: i64) -> Result<Moment, Fail>
 
 /// An appender whose file changes each hour, opened on 2020-02-01 at 10:01.
 fn hourly_files<D: Folder>(alloc: Global, folder: D) -> Result<RollingFileAppender<D>, Fail> {
-    let prefix = String::from_str(alloc, "test_make_writer")?;
-    let appender = Builder::new()
+    let appender = Builder::new(alloc)
         .rotation(Rotation::HOURLY)
-        .filename_prefix(prefix)
+        .filename_prefix("test_make_writer")
         .build(alloc, folder, FEBRUARY)
         .map_err(|refusal| refusal.error)?;
     Ok(appender)
@@ -82,7 +81,7 @@ fn has_two_hours(folder: &MemoryFolder) -> Result<bool, AllocError> {
 fn lines_go_to_the_file_of_their_hour(rt: HostRuntime) -> Result<(), Fail> {
     let alloc = rt.alloc();
     let appender = hourly_files(alloc, MemoryFolder::new(alloc))?;
-    let mut clocked = ClockedAppender::new(appender, FixedClock::new(later(0)?));
+    let mut clocked = appender.clocked(FixedClock::new(later(0)?));
     hand(&mut clocked, b"file 1\n")?;
     clocked.clock_mut().set(later(1)?);
     hand(&mut clocked, b"file 1\n")?;

@@ -1,5 +1,6 @@
 -- Links, refused buildings, and lines whose write was answered.
-use Rattle.std.proofs.Common.{◌≡◌, ℕ, ℤ, List, true, false, ap, sym, subst, ◌∙◌, ◌&&◌, Option, Some, None, Result, Ok, Err, IfSome, inr}
+use Rattle.std.proofs.Common.{◌≡◌, ℕ, ℤ, List, true, false, ap, sym, subst, ◌∙◌, ◌&&◌, Option, Some, None, Result, Ok, Err}
+use Rattle.std.proofs.Common.{IfSome, inl, inr, refl}
 use Rattle.std.specs.Prelude.{IfNone, is_some, nat_lt}
 use Rattle.std.proofs.lemmas.Option.{same_Some}
 use Rattle.tracing_core_moments.specs.Days.{is_second}
@@ -17,7 +18,8 @@ use Rattle.tracing_appender_rolling.specs.folders.Contents.{Contents, Gives, wri
 use Rattle.tracing_appender_rolling.specs.Appenders.{FailedAt, LooksAt}
 use Rattle.tracing_appender_rolling.specs.Builds.{Explains, ReportsBuild, build_error}
 use Rattle.tracing_appender_rolling.specs.Looks.{Held, IsHeld, look_at}
-use Rattle.tracing_appender_rolling.specs.Faults.{after_write, unit_of}
+use Rattle.tracing_appender_rolling.specs.declared.build.BuildError.TheVariants as builds
+use Rattle.tracing_appender_rolling.specs.Faults.{after_write, no_faults, unit_of}
 use Rattle.tracing_appender_rolling.specs.FaultReports.{ReportsError}
 use Rattle.tracing_appender_rolling.specs.Writes.{WritesAll}
 use Rattle.tracing_appender_rolling.specs.LineHandover.{HandedOver, HandsLine, WrittenOnce, WriteMissed, WritesOnce}
@@ -57,6 +59,18 @@ explained contents names folder m context OutOfMemory back name link failed neve
     left = failed;
     handed_back = λ c is may all. hands_back c names m (failed c is).0 (contents back) may all
         (failed c is).1;
+  },
+)
+
+-- there was no memory for a text, and the folder wasn't asked
+pub text_missed : {D : Type 0} (contents : D → Option Contents) (names : FileNames) (folder : D) (m : Moment) →
+    is_bad_name names ≡ false → HasGoodLink names → Explains contents names folder m builds.OutOfMemory folder
+text_missed contents names folder m name link = (
+  name,
+  link,
+  record {
+    left = λ c is. (no_faults, inl (refl, is));
+    handed_back = λ c is may all. hands_back c names m no_faults (contents folder) may all (inl (refl, is));
   },
 )
 

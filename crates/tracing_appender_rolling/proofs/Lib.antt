@@ -20,6 +20,7 @@ pub mod CurrentFile
 pub mod FaultlessSwitch
 pub mod BuildOutcome
 pub mod BuildRefusals
+pub mod PrefixedBuilds
 pub mod OutOfMemory
 pub mod Handover
 pub mod Oldest

@@ -1,17 +1,19 @@
 -- What a building answers.
-use Rattle.std.specs.Prelude.{◌≡◌, ℕ, true, false, Option, Some, Result, Ok, Err}
+use Rattle.std.specs.Prelude.{◌≡◌, ◌⊎◌, ℕ, List, true, false, Option, Some, Result, Ok, Err}
 use Rattle.tracing_core_moments.specs.declared.moment.Moment.{Moment}
+use Rattle.tracing_core_moments.specs.declared.period.PeriodKind.{PeriodKind}
 use Rattle.tracing_appender_rolling.specs.declared.folders.fault.FolderError.{FolderError}
 use Rattle.tracing_appender_rolling.specs.declared.folders.fault.FolderError.TheVariants.{Fault}
 use Rattle.tracing_appender_rolling.specs.declared.folders.fault.FolderError.TheVariants as errors
 use Rattle.tracing_appender_rolling.specs.declared.init.InitContext.{InitContext}
 use Rattle.tracing_appender_rolling.specs.declared.init.InitError.{InitError}
+use Rattle.tracing_appender_rolling.specs.declared.builder.Builder.{Builder}
 use Rattle.tracing_appender_rolling.specs.declared.build.BuildError.{BuildError}
 use Rattle.tracing_appender_rolling.specs.declared.build.BuildError.TheVariants.{BadName, BadLinkName, Init, OutOfMemory}
 use Rattle.tracing_appender_rolling.specs.declared.build.BuildRefusal.{BuildRefusal}
 use Rattle.tracing_appender_rolling.specs.declared.appender.RollingFileAppender.{RollingFileAppender}
 use Rattle.tracing_appender_rolling.specs.Names.{FileNames, is_bad_name, HasBadLink, HasGoodLink}
-use Rattle.tracing_appender_rolling.specs.Builders.{builder_names}
+use Rattle.tracing_appender_rolling.specs.Builders.{builder_names, prefixed_names}
 use Rattle.tracing_appender_rolling.specs.folders.Contents.{Contents}
 use Rattle.tracing_appender_rolling.specs.PrunedSinks.{KeepsEveryFile, MayOpen, HandsBack, OpensSink}
 use Rattle.tracing_appender_rolling.specs.declared.faults.Faults.{Faults}
@@ -71,3 +73,20 @@ abbrev pub Builds : {D : Type 0} → (D → Option Contents) → (D → ℕ) →
     Result (RollingFileAppender D) (BuildRefusal D) → Type 0
 Builds contents failed names folder m (Ok a) = IsBuilt contents failed names folder m a
 Builds contents failed names folder m (Err r) = IsRefused contents failed names folder m r
+
+-- out of memory is told, and the folder, which was asked nothing, comes back
+abbrev pub MissesText : {D : Type 0} → D → Result (RollingFileAppender D) (BuildRefusal D) → Type 0
+MissesText folder (Ok a) = ⊥
+MissesText folder (Err r) = (r.error ≡ OutOfMemory) × (r.folder ≡ folder)
+
+-- the builder is kept, or comes back
+abbrev pub KeepsBuilder : {D : Type 0} → Builder → Result (RollingFileAppender D) (BuildRefusal D) → Type 0
+KeepsBuilder builder (Ok a) = a.builder ≡ builder
+KeepsBuilder builder (Err r) = r.builder ≡ builder
+
+-- the same as a building with this prefix, or there was no memory for the prefix, and nothing was built
+abbrev pub BuildsPrefixed : {D : Type 0} → (D → Option Contents) → (D → ℕ) → PeriodKind → List ℕ → D → Moment →
+    Result (RollingFileAppender D) (BuildRefusal D) → Type 0
+BuildsPrefixed contents failed kind prefix folder m (Ok a) = IsBuilt contents failed (prefixed_names kind prefix) folder m a
+BuildsPrefixed contents failed kind prefix folder m (Err r) =
+    IsRefused contents failed (prefixed_names kind prefix) folder m r ⊎ ((r.error ≡ OutOfMemory) × (r.folder ≡ folder))

@@ -49,6 +49,15 @@ failed_more (suc k) n = failed_more k (min (n + 1) (2 ^ 64 - 1))
 abbrev pub CountsOnly : ℕ → Faults → Faults → ℕ → Type 0
 CountsOnly n old new m = (retentions : ℕ) × CountsFaults 0 retentions n old new m × (m ≡ failed_more retentions n)
 
+-- the listing didn't find its directory: the folder told that fault alone, nothing is counted, and retention is done
+abbrev pub FindsNoDirectory : {E : Type 0} → ℕ → Faults → Result (Unit {0}) E → Faults → ℕ → Type 0
+FindsNoDirectory n old (Ok done) new m = (new ≡ old) × (m ≡ min (n + 1) (2 ^ 64 - 1))
+FindsNoDirectory n old (Err e) new m = ⊥
+
+-- retention counted all faults that the folder told, or its listing didn't find its directory
+abbrev pub CountsPruning : {E : Type 0} → ℕ → Faults → Result (Unit {0}) E → Faults → ℕ → Type 0
+CountsPruning n old result new m = CountsOnly n old new m ⊎ FindsNoDirectory n old result new m
+
 -- an answer of one write of the folder
 abbrev pub ReportsCall : {T : Type 0} → ℕ → Result T FolderError → ℕ → Type 0
 ReportsCall n (Ok value) m = DoesNotFall n m

@@ -5,7 +5,7 @@ use Rattle.tracing_appender_rolling.specs.declared.faults.Faults.{Faults}
 use Rattle.tracing_appender_rolling.specs.declared.folders.fault.FolderError.TheVariants.{Fault, OutOfMemory}
 use Rattle.tracing_appender_rolling.specs.Names.{FileNames}
 use Rattle.tracing_appender_rolling.specs.folders.Contents.{Contents, Answer, Listed, called, removed, names_listed}
-use Rattle.tracing_appender_rolling.specs.Faults.{after_retention}
+use Rattle.tracing_appender_rolling.specs.Faults.{after_listing, after_retention}
 use Rattle.tracing_appender_rolling.specs.Retention.{PlainCandidate, candidates_in, asked_prefix, goes}
 
 -- the names of those candidates that pass a test
@@ -53,10 +53,11 @@ RemovesDoomed limit cs f None result left after = after ≡ None
 RemovesDoomed limit cs f (Some c) (Ok done) left after = LeftAt (removed_all (doomed limit cs) (f, c)) left after
 RemovesDoomed limit cs f (Some c) (Err e) left after = LeftAt (f, c) left after ⊎ Stops (doomed limit cs) f c left after
 
--- a listing that was refused is counted, and nothing goes; after one that wasn't go the candidates that retention says
+-- a listing that was refused is counted, unless its directory isn't there, and nothing goes; after one that wasn't go the candidates that
+-- retention says
 abbrev pub pruned_after : FileNames → ℕ → Faults → Answer (List Listed) → Faults × Contents
 pruned_after names limit f (Ok listing, c) = removed_all (doomed limit (candidates_in names listing)) (f, c)
-pruned_after names limit f (Err (Fault fault), c) = (after_retention f fault, c)
+pruned_after names limit f (Err (Fault fault), c) = (after_listing f fault, c)
 pruned_after names limit f (Err OutOfMemory, c) = (f, c)
 
 -- without a limit nothing is asked

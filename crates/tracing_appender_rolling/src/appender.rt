@@ -71,7 +71,7 @@ impl<D: Folder> RollingFileAppender<D> {
         moment: Moment,
     ) -> Result<Self, OpenRefusal<D>>
         requires { is_moment moment ≡ true }
-        ensures names { IfOk result (λ appender. builder_names appender.builder ≡ builder_names builder) }
+        ensures builder { IfOk result (λ appender. appender.builder ≡ builder) }
         // Over known contents, whatever the folder refuses, the appender stands where retention and the opening left the folder.
         ensures held { (c : Contents) → D.contents folder ≡ Some c →
             IfOk result (λ appender. IsOpened D.contents (builder_names builder) moment c appender) }
@@ -84,7 +84,7 @@ impl<D: Folder> RollingFileAppender<D> {
             IfOk result (λ appender. OpensSink D.contents (builder_names builder) moment c appender) }
         ensures starved { (c : Contents) → D.contents folder ≡ Some c → HasGoodLink (builder_names builder) →
             MayOpen c (builder_names builder) → IfErr result (λ refusal. refusal.error ≡ FolderError.OutOfMemory) }
-        ensures back { IfErr result (λ refusal. builder_names refusal.builder ≡ builder_names builder) }
+        ensures back { IfErr result (λ refusal. refusal.builder ≡ builder) }
         ensures counted { IfOk result (λ appender. CountsRetention (D.failed folder) no_faults appender.faults
             (D.failed appender.folder)) }
         ensures error { IfErr result (λ refusal. ReportsError (D.failed folder) refusal.error

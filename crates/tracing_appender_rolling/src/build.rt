@@ -1,10 +1,11 @@
 //! Building an appender.
 
-ghost use Rattle.std.specs.Prelude.{◌≡◌, true, string_bytes};
+ghost use Rattle.std.specs.Prelude.{◌≡◌, true, false};
 ghost use Rattle.tracing_core_moments.specs.declared.period.PeriodKind.TheVariants.{Minute, Hour, Day, Week, Whole};
 ghost use Rattle.tracing_core_moments.specs.Moments.{is_moment};
-ghost use Rattle.tracing_appender_rolling.specs.Builders.{builder_names, plain_names, prefixed_names, kind_of};
-ghost use Rattle.tracing_appender_rolling.specs.Builds.{Builds, build_error};
+ghost use Rattle.tracing_appender_rolling.specs.Builders.{builder_names, is_whole, plain_names, kind_of};
+ghost use Rattle.tracing_appender_rolling.specs.Names.{is_bad_name, HasGoodLink};
+ghost use Rattle.tracing_appender_rolling.specs.Builds.{Builds, BuildsPrefixed, MissesText, KeepsBuilder, build_error};
 
 use crate::appender::{OpenRefusal, RollingFileAppender};
 use crate::builder::Builder;
@@ -53,8 +54,8 @@ impl Builder {
     ///
     /// # Errors
     ///
-    /// `BadName`, then `BadLinkName`, before the folder is asked; then the folder's fault, or `OutOfMemory`.
-    /// Builder and folder come back.
+    /// `BadName`, then `BadLinkName`, then `OutOfMemory` where the builder isn't whole, all before the folder is asked; then the
+    /// folder's fault, or `OutOfMemory`. Builder and folder come back.
     pub fn build<D: Folder>(
         self,
         alloc: Global,
@@ -62,7 +63,11 @@ impl Builder {
         moment: Moment,
     ) -> Result<RollingFileAppender<D>, BuildRefusal<D>>
         requires { is_moment moment ≡ true }
-        ensures { Builds D.contents D.failed (builder_names self) folder moment result }
+        ensures builds { Builds D.contents D.failed (builder_names self) folder moment result }
+        // Where a text is missing and no name is bad, out of memory is answered, and the folder is asked nothing.
+        ensures missed { is_whole self ≡ false → is_bad_name (builder_names self) ≡ false →
+            HasGoodLink (builder_names self) → MissesText folder result }
+        ensures kept { KeepsBuilder self result }
     {
         if self.has_bad_name() {
             return Err(BuildRefusal {
@@ -74,6 +79,13 @@ impl Builder {
         if self.has_bad_link() {
             return Err(BuildRefusal {
                 error: BuildError::BadLinkName,
+                builder: self,
+                folder,
+            });
+        }
+        if !self.is_whole {
+            return Err(BuildRefusal {
+                error: BuildError::OutOfMemory,
                 builder: self,
                 folder,
             });
@@ -91,10 +103,11 @@ impl Builder {
 
 impl<D: Folder> RollingFileAppender<D> {
     /// A builder with its defaults.
-    pub fn builder() -> Builder
-        ensures { builder_names result ≡ plain_names }
+    pub fn builder(alloc: Global) -> Builder
+        ensures names { builder_names result ≡ plain_names }
+        ensures whole { is_whole result ≡ true }
     {
-        Builder::new()
+        Builder::new(alloc)
     }
 
     /// An appender whose files change so often and have this prefix.
@@ -106,14 +119,13 @@ impl<D: Folder> RollingFileAppender<D> {
         alloc: Global,
         rotation: Rotation,
         folder: D,
-        prefix: String,
+        prefix: &str,
         moment: Moment,
     ) -> Result<RollingFileAppender<D>, BuildRefusal<D>>
         requires { is_moment moment ≡ true }
-        ensures { Builds D.contents D.failed (prefixed_names (kind_of rotation) (string_bytes prefix)) folder moment
-            result }
+        ensures { BuildsPrefixed D.contents D.failed (kind_of rotation) prefix.now folder moment result }
     {
-        Builder::new()
+        Builder::new(alloc)
             .rotation(rotation)
             .filename_prefix(prefix)
             .build(alloc, folder, moment)
@@ -128,11 +140,11 @@ impl<D: Folder> RollingFileAppender<D> {
 pub fn minutely<D: Folder>(
     alloc: Global,
     folder: D,
-    prefix: String,
+    prefix: &str,
     moment: Moment,
 ) -> Result<RollingFileAppender<D>, BuildRefusal<D>>
     requires { is_moment moment ≡ true }
-    ensures { Builds D.contents D.failed (prefixed_names Minute (string_bytes prefix)) folder moment result }
+    ensures { BuildsPrefixed D.contents D.failed Minute prefix.now folder moment result }
 {
     RollingFileAppender::new(alloc, Rotation::MINUTELY, folder, prefix, moment)
 }
@@ -145,11 +157,11 @@ pub fn minutely<D: Folder>(
 pub fn hourly<D: Folder>(
     alloc: Global,
     folder: D,
-    prefix: String,
+    prefix: &str,
     moment: Moment,
 ) -> Result<RollingFileAppender<D>, BuildRefusal<D>>
     requires { is_moment moment ≡ true }
-    ensures { Builds D.contents D.failed (prefixed_names Hour (string_bytes prefix)) folder moment result }
+    ensures { BuildsPrefixed D.contents D.failed Hour prefix.now folder moment result }
 {
     RollingFileAppender::new(alloc, Rotation::HOURLY, folder, prefix, moment)
 }
@@ -162,11 +174,11 @@ pub fn hourly<D: Folder>(
 pub fn daily<D: Folder>(
     alloc: Global,
     folder: D,
-    prefix: String,
+    prefix: &str,
     moment: Moment,
 ) -> Result<RollingFileAppender<D>, BuildRefusal<D>>
     requires { is_moment moment ≡ true }
-    ensures { Builds D.contents D.failed (prefixed_names Day (string_bytes prefix)) folder moment result }
+    ensures { BuildsPrefixed D.contents D.failed Day prefix.now folder moment result }
 {
     RollingFileAppender::new(alloc, Rotation::DAILY, folder, prefix, moment)
 }
@@ -179,11 +191,11 @@ pub fn daily<D: Folder>(
 pub fn weekly<D: Folder>(
     alloc: Global,
     folder: D,
-    prefix: String,
+    prefix: &str,
     moment: Moment,
 ) -> Result<RollingFileAppender<D>, BuildRefusal<D>>
     requires { is_moment moment ≡ true }
-    ensures { Builds D.contents D.failed (prefixed_names Week (string_bytes prefix)) folder moment result }
+    ensures { BuildsPrefixed D.contents D.failed Week prefix.now folder moment result }
 {
     RollingFileAppender::new(alloc, Rotation::WEEKLY, folder, prefix, moment)
 }
@@ -196,11 +208,11 @@ pub fn weekly<D: Folder>(
 pub fn never<D: Folder>(
     alloc: Global,
     folder: D,
-    prefix: String,
+    prefix: &str,
     moment: Moment,
 ) -> Result<RollingFileAppender<D>, BuildRefusal<D>>
     requires { is_moment moment ≡ true }
-    ensures { Builds D.contents D.failed (prefixed_names Whole (string_bytes prefix)) folder moment result }
+    ensures { BuildsPrefixed D.contents D.failed Whole prefix.now folder moment result }
 {
     RollingFileAppender::new(alloc, Rotation::NEVER, folder, prefix, moment)
 }

@@ -1,6 +1,6 @@
 //! How the files of a sink are named, when they change, and what is kept of them.
 
-ghost use Rattle.std.specs.Prelude.{◌≡◌, IfOk, string_bytes, true, false};
+ghost use Rattle.std.specs.Prelude.{◌≡◌, ◌≢◌, [], IfOk, IfErr, string_bytes, true, false};
 ghost use Rattle.std.specs.Option.{option_map};
 ghost use Rattle.tracing_core_moments.specs.Moments.{is_moment, period_at};
 ghost use Rattle.tracing_appender_rolling.specs.Names.{text_or_none, count_or_none, has_bad_byte, is_dots_or_none, is_lasting_dots};
@@ -11,62 +11,79 @@ use std::alloc::{AllocError, Global};
 use tracing_core_moments::{Moment, PeriodKind, name_text, second_named};
 
 /// The names of a sink's files, when they change, how many are kept, and the link to the latest one.
+///
+/// A text that is set is copied. Where there is no memory for it, the builder isn't whole, and nothing is built of it.
 #[derive(Debug, Drop)]
 pub struct Builder {
+    pub(crate) alloc: Global,
     pub(crate) rotation: Rotation,
     pub(crate) prefix: Option<String>,
     pub(crate) suffix: Option<String>,
     pub(crate) limit: Option<usize>,
     pub(crate) latest: Option<String>,
+    /// Whether each text that was set found memory.
+    pub(crate) is_whole: bool,
 }
 
 impl Builder {
-    ghost use Rattle.tracing_appender_rolling.specs.Builders.{builder_names, plain_names, kind_of};
+    ghost use Rattle.tracing_appender_rolling.specs.Builders.{builder_names, plain_names, kind_of, is_whole, SetsText};
+    ghost use Rattle.tracing_appender_rolling.specs.Builders.{with_prefix, with_suffix, with_latest};
     ghost use Rattle.tracing_appender_rolling.specs.Names.{is_bad_name, HasBadLink, HasGoodLink};
 
     /// One file that never changes, with neither prefix nor suffix, no limit and no link.
-    pub fn new() -> Builder
-        ensures { builder_names result ≡ plain_names }
+    pub fn new(alloc: Global) -> Builder
+        ensures names { builder_names result ≡ plain_names }
+        ensures whole { is_whole result ≡ true }
     {
         Builder {
+            alloc,
             rotation: Rotation::NEVER,
             prefix: None,
             suffix: None,
             limit: None,
             latest: None,
+            is_whole: true,
         }
     }
 
     /// With files that change so often.
     pub fn rotation(self, rotation: Rotation) -> Builder
-        ensures { builder_names result ≡ record (builder_names self) { kind = kind_of rotation } }
+        ensures names { builder_names result ≡ record (builder_names self) { kind = kind_of rotation } }
+        ensures whole { is_whole result ≡ is_whole self }
     {
         Builder { rotation, ..self }
     }
 
     /// With this text and a point before the date; an empty text means none.
-    pub fn filename_prefix(self, prefix: String) -> Builder
-        ensures { builder_names result ≡ record (builder_names self) { prefix = text_or_none (string_bytes prefix) } }
+    pub fn filename_prefix(self, prefix: &str) -> Builder
+        // Where no text is missing, the names are those with this one.
+        ensures names { is_whole result ≡ true → builder_names result ≡ with_prefix (builder_names self) prefix.now }
+        // The text is set, or, where it isn't empty, it found no memory; then it is missing, and the names stay.
+        ensures set { SetsText with_prefix prefix.now self result }
     {
-        Builder {
-            prefix: some_text(prefix),
-            ..self
+        match copied_text(self.alloc, prefix) {
+            Ok(prefix) => Builder { prefix, ..self },
+            Err(AllocError) => self.without_memory(),
         }
     }
 
     /// With a point and this text after the date; an empty text means none.
-    pub fn filename_suffix(self, suffix: String) -> Builder
-        ensures { builder_names result ≡ record (builder_names self) { suffix = text_or_none (string_bytes suffix) } }
+    pub fn filename_suffix(self, suffix: &str) -> Builder
+        // Where no text is missing, the names are those with this one.
+        ensures names { is_whole result ≡ true → builder_names result ≡ with_suffix (builder_names self) suffix.now }
+        // The text is set, or, where it isn't empty, it found no memory; then it is missing, and the names stay.
+        ensures set { SetsText with_suffix suffix.now self result }
     {
-        Builder {
-            suffix: some_text(suffix),
-            ..self
+        match copied_text(self.alloc, suffix) {
+            Ok(suffix) => Builder { suffix, ..self },
+            Err(AllocError) => self.without_memory(),
         }
     }
 
     /// With at most so many files at the opening of one, the new one among them; 0 means no limit.
     pub fn max_log_files(self, n: usize) -> Builder
-        ensures { builder_names result ≡ record (builder_names self) { limit = count_or_none n } }
+        ensures names { builder_names result ≡ record (builder_names self) { limit = count_or_none n } }
+        ensures whole { is_whole result ≡ is_whole self }
     {
         Builder {
             limit: if n == 0 { None } else { Some(n) },
@@ -75,13 +92,34 @@ impl Builder {
     }
 
     /// With a link of this name to the latest file; an empty text means none.
-    pub fn latest_symlink(self, name: String) -> Builder
-        ensures { builder_names result ≡ record (builder_names self) { latest = text_or_none (string_bytes name) } }
+    pub fn latest_symlink(self, name: &str) -> Builder
+        // Where no text is missing, the names are those with this one.
+        ensures names { is_whole result ≡ true → builder_names result ≡ with_latest (builder_names self) name.now }
+        // The text is set, or, where it isn't empty, it found no memory; then it is missing, and the names stay.
+        ensures set { SetsText with_latest name.now self result }
+    {
+        match copied_text(self.alloc, name) {
+            Ok(latest) => Builder { latest, ..self },
+            Err(AllocError) => self.without_memory(),
+        }
+    }
+
+    /// Some text found no memory.
+    fn without_memory(self) -> Builder
+        ensures names { builder_names result ≡ builder_names self }
+        ensures missed { is_whole result ≡ false }
     {
         Builder {
-            latest: some_text(name),
+            is_whole: false,
             ..self
         }
+    }
+
+    /// Whether each text that was set found memory.
+    pub fn is_whole(&self) -> bool
+        ensures { result ≡ is_whole self.now }
+    {
+        self.is_whole
     }
 
     /// Whether prefix, suffix or link have a slash or a NUL, or the link or a log file would be named `.` or `..`.
@@ -138,21 +176,16 @@ impl Builder {
     }
 }
 
-impl Default for Builder {
-    ghost use Rattle.tracing_appender_rolling.specs.Builders.{builder_names, plain_names};
-
-    ghost is_default = { λ b. builder_names b ≡ plain_names };
-
-    fn default() -> Builder {
-        Builder::new()
-    }
-}
-
-/// No text where it is empty.
-fn some_text(text: String) -> Option<String>
-    ensures { option_map string_bytes result ≡ text_or_none (string_bytes text) }
+/// A copy of a text, or none where it is empty.
+fn copied_text(alloc: Global, text: &str) -> Result<Option<String>, AllocError>
+    ensures copied { IfOk result (λ copy. option_map string_bytes copy ≡ text_or_none text.now) }
+    // An empty text wants no memory.
+    ensures missed { IfErr result (λ e. text.now ≢ []) }
 {
-    if text.is_empty() { None } else { Some(text) }
+    if text.is_empty() {
+        return Ok(None);
+    }
+    Ok(Some(String::from_str(alloc, text)?))
 }
 
 /// Whether a part of a name has a slash or a NUL.

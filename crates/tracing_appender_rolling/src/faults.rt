@@ -9,7 +9,7 @@ use crate::folders::{FolderError, FolderFault};
 pub struct Faults {
     /// Openings that failed; the old file stays in use.
     pub switches: usize,
-    /// Listings and removals that failed.
+    /// Listings and removals that failed. A listing whose directory isn't there yet is no failure.
     pub retentions: usize,
     /// Lines whose write failed; the rest of such a line is lost.
     pub writes: usize,
@@ -18,7 +18,7 @@ pub struct Faults {
 }
 
 impl Faults {
-    ghost use Rattle.tracing_appender_rolling.specs.Faults.{no_faults, after_switch, after_retention, after_write};
+    ghost use Rattle.tracing_appender_rolling.specs.Faults.{no_faults, after_switch, after_retention, after_listing, after_write};
 
     pub(crate) fn none() -> Faults
         ensures { result ≡ no_faults }
@@ -48,6 +48,18 @@ impl Faults {
             retentions: self.retentions.saturating_add(1),
             last: Some(fault),
             ..self
+        }
+    }
+
+    /// After a listing that was refused. Where the directory isn't there yet, that is no fault: the opening makes it.
+    pub(crate) fn after_listing(self, fault: FolderFault) -> Faults
+        ensures { result ≡ after_listing self fault }
+    {
+        match fault {
+            FolderFault::NotFound => self,
+            FolderFault::Refused | FolderFault::Unsupported | FolderFault::WriteZero => {
+                self.after_retention(fault)
+            }
         }
     }
 

@@ -9,7 +9,7 @@ ghost use Rattle.tracing_appender_rolling.specs.folders.ListedEntries.{listed_of
 ghost use Rattle.tracing_appender_rolling.specs.Retention.{date_in, made_of, begins, ends, is_before, goes_by};
 ghost use Rattle.tracing_appender_rolling.specs.Retention.{GoesBy, candidate_first, candidates_in, candidate_of, asked_prefix};
 ghost use Rattle.tracing_appender_rolling.specs.RetentionRemovals.{Removes, RemovesDoomed, Prunes, names_by};
-ghost use Rattle.tracing_appender_rolling.specs.FaultReports.{CountsOnly};
+ghost use Rattle.tracing_appender_rolling.specs.FaultReports.{CountsOnly, CountsPruning, CountsRetention};
 
 use crate::builder::Builder;
 use crate::faults::Faults;
@@ -244,7 +244,7 @@ fn asked_prefix(builder: &Builder) -> &str
 }
 
 /// Removes the files that go where one more is to be opened, where there is a limit. A fault is counted, and
-/// the work goes on; out of memory ends it.
+/// the work goes on; out of memory ends it. A directory that isn't there yet has nothing to remove, and is no fault.
 pub(crate) fn prune_old_logs<D: Folder>(
     alloc: Global,
     builder: &Builder,
@@ -253,8 +253,11 @@ pub(crate) fn prune_old_logs<D: Folder>(
 ) -> Result<(), AllocError>
     ensures pruned { Prunes (builder_names builder.now) faults.old (D.contents folder.old) result faults.new
         (D.contents folder.new) }
-    // The faults that are counted are exactly those that the folder told, so that a refused listing isn't told as out of memory.
-    ensures counts { CountsOnly (D.failed folder.old) faults.old faults.new (D.failed folder.new) }
+    // A fault is counted only where the folder told one.
+    ensures counts { CountsRetention (D.failed folder.old) faults.old faults.new (D.failed folder.new) }
+    // The faults that are counted are exactly those that the folder told, so that a refused listing isn't told as out of memory; but a
+    // listing that didn't find its directory is told by the folder, and not counted.
+    ensures told { CountsPruning (D.failed folder.old) faults.old result faults.new (D.failed folder.new) }
 {
     let Some(limit) = builder.limit else {
         return Ok(());
@@ -267,7 +270,7 @@ pub(crate) fn prune_old_logs<D: Folder>(
         }
         Err(FolderError::OutOfMemory) => Err(AllocError),
         Err(FolderError::Fault(fault)) => {
-            *faults = faults.after_retention(fault);
+            *faults = faults.after_listing(fault);
             Ok(())
         }
     }

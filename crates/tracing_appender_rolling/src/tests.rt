@@ -99,7 +99,7 @@ impl Folder for SlowFolder {
     }
 }
 
-fn builder(alloc: Global, prefix: &str, suffix: &str) -> Result<Builder, AllocError> {
+fn builder(alloc: Global, prefix: &str, suffix: &str) -> Builder {
     named(alloc, Rotation::DAILY, prefix, suffix)
 }
 
@@ -112,7 +112,7 @@ fn names_have_their_parts(rt: HostRuntime) -> Result<(), Fail> {
         ("", "log", "2025-02-17.log"),
         ("", "", "2025-02-17"),
     ] {
-        let file = first_name(alloc, builder(alloc, prefix, suffix)?, MONDAY_MIDNIGHT)?;
+        let file = first_name(alloc, builder(alloc, prefix, suffix), MONDAY_MIDNIGHT)?;
         assert_eq!(rt; file.as_str(), name);
     }
     Ok(())
@@ -121,9 +121,9 @@ fn names_have_their_parts(rt: HostRuntime) -> Result<(), Fail> {
 #[test]
 fn bad_names_are_told(rt: HostRuntime) -> Result<(), Fail> {
     let alloc = rt.alloc();
-    assert!(rt; !builder(alloc, "app", "log")?.has_bad_name());
-    assert!(rt; builder(alloc, "logs/app", "log")?.has_bad_name());
-    assert!(rt; builder(alloc, "app", "l\0g")?.has_bad_name());
+    assert!(rt; !builder(alloc, "app", "log").has_bad_name());
+    assert!(rt; builder(alloc, "logs/app", "log").has_bad_name());
+    assert!(rt; builder(alloc, "app", "l\0g").has_bad_name());
     Ok(())
 }
 
@@ -162,7 +162,7 @@ fn a_late_line_stays_with_the_later_day(rt: HostRuntime) -> Result<(), Fail> {
     folder.put("app.2025-02-17", b"old\n", Some(MONDAY_MIDNIGHT))?;
     folder.put("app.2025-02-18", b"gone\n", None)?;
     folder.put("app.2025-02-18", b"found\n", None)?;
-    let mut appender = builder(alloc, "app", "")?
+    let mut appender = builder(alloc, "app", "")
         .build(alloc, folder, MONDAY_MIDNIGHT)
         .map_err(|refusal| refusal.error)?;
     appender.write_all_at(b"one\n", MONDAY_MIDNIGHT)?;
@@ -182,11 +182,10 @@ fn a_late_line_stays_with_the_later_day(rt: HostRuntime) -> Result<(), Fail> {
 #[test]
 fn an_appender_comes_apart(rt: HostRuntime) -> Result<(), Fail> {
     let alloc = rt.alloc();
-    let appender = fresh(alloc, builder(alloc, "app", "")?, MONDAY_MIDNIGHT)?;
+    let appender = fresh(alloc, builder(alloc, "app", ""), MONDAY_MIDNIGHT)?;
     let (builder, folder) = appender.into_parts();
     assert_eq!(rt; folder.files()?[0].name, "app.2025-02-17");
-    let link = String::from_str(alloc, "app.2025-02-18")?;
-    assert!(rt; builder.latest_symlink(link).has_bad_link());
+    assert!(rt; builder.latest_symlink("app.2025-02-18").has_bad_link());
     Ok(())
 }
 
@@ -210,7 +209,7 @@ fn files_are_in_order(rt: HostRuntime) -> Result<(), Fail> {
 fn a_failed_switch_keeps_the_old_file(rt: HostRuntime) -> Result<(), Fail> {
     let alloc = rt.alloc();
     let folder = SlowFolder::new(alloc, 1);
-    let mut appender = builder(alloc, "app", "")?
+    let mut appender = builder(alloc, "app", "")
         .build(alloc, folder, MONDAY_MIDNIGHT)
         .map_err(|refusal| refusal.error)?;
     appender.write_all_at(b"ab", MONDAY_MIDNIGHT)?;
@@ -230,7 +229,7 @@ fn a_failed_switch_keeps_the_old_file(rt: HostRuntime) -> Result<(), Fail> {
 #[test]
 fn a_look_without_memory_is_made_once(rt: HostRuntime) -> Result<(), Fail> {
     let alloc = rt.alloc();
-    let mut appender = builder(alloc, "app", "")?
+    let mut appender = builder(alloc, "app", "")
         .max_log_files(2)
         .build(alloc, SlowFolder::new(alloc, 2), MONDAY_MIDNIGHT)
         .map_err(|refusal| refusal.error)?;
@@ -251,7 +250,7 @@ fn a_look_without_memory_is_made_once(rt: HostRuntime) -> Result<(), Fail> {
 fn a_refused_folder_comes_back(rt: HostRuntime) -> Result<(), Fail> {
     let alloc = rt.alloc();
     let folder = SlowFolder::new(alloc, 0);
-    match builder(alloc, "app", "")?.build(alloc, folder, MONDAY_MIDNIGHT) {
+    match builder(alloc, "app", "").build(alloc, folder, MONDAY_MIDNIGHT) {
         Ok(_) => Err("built".into()),
         Err(refusal) => {
             let error = InitError {
@@ -259,12 +258,47 @@ fn a_refused_folder_comes_back(rt: HostRuntime) -> Result<(), Fail> {
                 source: FolderFault::Refused,
             };
             assert_eq!(rt; refusal.error, BuildError::Init(error));
-            let link = String::from_str(alloc, "app.2025-02-17")?;
-            assert!(rt; refusal.builder.latest_symlink(link).has_bad_link());
+            assert!(rt;
+                refusal
+                    .builder
+                    .latest_symlink("app.2025-02-17")
+                    .has_bad_link()
+            );
             assert_eq!(rt; refusal.folder.failures(), 2);
             Ok(())
         }
     }
+}
+
+/// A text that found no memory is told when the appender is built, behind the names that are bad. The folder is asked nothing.
+#[test]
+fn a_missing_text_is_told_at_the_building(rt: HostRuntime) -> Result<(), Fail> {
+    let alloc = rt.alloc();
+    for (prefix, error) in [
+        ("app", BuildError::OutOfMemory),
+        ("a/b", BuildError::BadName),
+    ] {
+        let whole = builder(alloc, prefix, "log");
+        assert!(rt; whole.is_whole());
+        let missing = Builder {
+            is_whole: false,
+            ..whole
+        };
+        let missing = missing
+            .rotation(Rotation::HOURLY)
+            .max_log_files(1)
+            .filename_suffix("txt");
+        assert!(rt; !missing.is_whole());
+        match missing.build(alloc, SlowFolder::new(alloc, 0), MONDAY_MIDNIGHT) {
+            Ok(_) => return Err("built".into()),
+            Err(refusal) => {
+                assert_eq!(rt; refusal.error, error);
+                assert!(rt; !refusal.builder.is_whole());
+                assert_eq!(rt; refusal.folder.failures(), 0);
+            }
+        }
+    }
+    Ok(())
 }
 
 /// What a try that failed so prints.

@@ -1,11 +1,11 @@
 -- Requests at callsites that are told by their index.
 use Rattle.std.proofs.Common.{◌≡◌, ℕ, Bool, List, length, Option, Some, None, Result, refl, ap, sym, ◌∙◌, subst}
 use Rattle.tracing_core_fields.specs.FieldSet.{field_names, set_callsite}
-use Rattle.tracing_core_fields.specs.OwnedValues.{indexed_entries}
+use Rattle.tracing_core_fields.specs.IndexedEntries.{indexed_entries}
 use Rattle.tracing_core_fields.specs.PlainMetadata.{PlainMetadata}
 use Rattle.tracing_core_fields.specs.ValueSet.{entries_of, fields_of_values}
 use Rattle.tracing_core_fields.specs.declared.field.FieldSet.{FieldSet}
-use Rattle.tracing_core_fields.specs.declared.owned_value.FieldValue.{FieldValue}
+use Rattle.tracing_core_fields.specs.declared.indexed_values.IndexedValues.{IndexedValues}
 use Rattle.tracing_core_fields.specs.declared.value_set.ValueSet.{ValueSet}
 use Rattle.tracing_core_fields.specs.requests.Calls.{EventDispatched, Recorded, SpanMade}
 use Rattle.tracing_core_fields.specs.requests.PlainRequests.{PlainRequest, PlainValues, plain_values}
@@ -21,7 +21,7 @@ use Rattle.tracing_core.specs.declared.hub.indexed.RequestParent.{RequestParent}
 use Rattle.tracing_core.proofs.CachePreservation.{ask_keeps, call_keeps, itself_keeps}
 
 -- the values of a set by the places of fields
-pub values_are : (vs : ValueSet) (fs : FieldSet) (m : PlainMetadata) (values : List FieldValue) →
+pub values_are : (vs : ValueSet) (fs : FieldSet) (m : PlainMetadata) (values : IndexedValues) →
     entries_of vs ≡ indexed_entries (length (field_names fs)) values → fields_of_values vs ≡ fs → field_names fs ≡ m.field_names →
     set_callsite fs ≡ m.callsite → plain_values vs ≡ values_at m values
 values_are vs fs m values entries fields names callsite =
@@ -36,21 +36,21 @@ module _ {S C : Type 0} (g : Ghosts S) (h : SiteGhosts C) where
   asked_at_keeps None at dispatch t result u w = subst (PreservesCaches g h t) (sym w.1) (itself_keeps g h t)
   asked_at_keeps (Some row) at dispatch t result u w = ask_keeps g h (h.metadata_of row.callsite) at dispatch t u w.0 w.2 w.3
 
-  pub event_keeps : (o : Option (KeptCallsite C)) (values : List FieldValue) (parent : RequestParent) (at : At) (dispatch : Option ℕ)
+  pub event_keeps : (o : Option (KeptCallsite C)) (values : IndexedValues) (parent : RequestParent) (at : At) (dispatch : Option ℕ)
       (t : Table S C) (result : Option (Result (Unit {0}) RequestError)) (u : Table S C) →
       EventAtGives g h o values parent at dispatch t result u → PreservesCaches g h t u
   event_keeps None values parent at dispatch t result u w = subst (PreservesCaches g h t) (sym w.1) (itself_keeps g h t)
   event_keeps (Some row) values parent at dispatch t result u w =
       call_keeps g h (EventDispatched (request_at (h.metadata_of row.callsite) values parent) at) dispatch t u w.0 w.2
 
-  pub span_keeps : (o : Option (KeptCallsite C)) (values : List FieldValue) (parent : RequestParent) (at : At) (dispatch : Option ℕ)
+  pub span_keeps : (o : Option (KeptCallsite C)) (values : IndexedValues) (parent : RequestParent) (at : At) (dispatch : Option ℕ)
       (t : Table S C) (result : Option (Result (Option ℕ) RequestError)) (u : Table S C) →
       SpanAtGives g h o values parent at dispatch t result u → PreservesCaches g h t u
   span_keeps None values parent at dispatch t result u w = subst (PreservesCaches g h t) (sym w.1) (itself_keeps g h t)
   span_keeps (Some row) values parent at dispatch t result u w =
       call_keeps g h (SpanMade (request_at (h.metadata_of row.callsite) values parent) at) dispatch t u w.0 w.2
 
-  pub record_keeps : (o : Option (KeptCallsite C)) (id : ℕ) (values : List FieldValue) (at : At) (dispatch : Option ℕ) (t : Table S C)
+  pub record_keeps : (o : Option (KeptCallsite C)) (id : ℕ) (values : IndexedValues) (at : At) (dispatch : Option ℕ) (t : Table S C)
       (result : Option (Result (Unit {0}) RequestError)) (u : Table S C) → RecordAtGives g h o id values at dispatch t result u →
       PreservesCaches g h t u
   record_keeps None id values at dispatch t result u w = subst (PreservesCaches g h t) (sym w.1) (itself_keeps g h t)

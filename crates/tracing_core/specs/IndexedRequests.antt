@@ -1,8 +1,8 @@
 -- Requests at callsites that are told by their index.
-use Rattle.std.specs.Prelude.{◌≡◌, ℕ, Bool, List, length, Option, Some, None, Result}
-use Rattle.tracing_core_fields.specs.OwnedValues.{indexed_entries}
+use Rattle.std.specs.Prelude.{◌≡◌, ℕ, Bool, length, Option, Some, None, Result}
+use Rattle.tracing_core_fields.specs.IndexedEntries.{indexed_entries}
 use Rattle.tracing_core_fields.specs.PlainMetadata.{PlainMetadata}
-use Rattle.tracing_core_fields.specs.declared.owned_value.FieldValue.{FieldValue}
+use Rattle.tracing_core_fields.specs.declared.indexed_values.IndexedValues.{IndexedValues}
 use Rattle.tracing_core_fields.specs.requests.Calls.{EventDispatched, Recorded, SpanMade}
 use Rattle.tracing_core_fields.specs.requests.PlainRequests.{PlainRequest, PlainValues}
 use Rattle.tracing_core_moments.specs.declared.at.At.{At}
@@ -24,11 +24,11 @@ plain_parent request.Root = Root
 plain_parent (request.Explicit id) = Explicit id
 
 -- values by the places of their fields, at a callsite of this metadata
-abbrev pub values_at : PlainMetadata → List FieldValue → PlainValues
+abbrev pub values_at : PlainMetadata → IndexedValues → PlainValues
 values_at m values = record { callsite = m.callsite; names = m.field_names; entries = indexed_entries (length m.field_names) values }
 
 -- an event or a new span there
-abbrev pub request_at : PlainMetadata → List FieldValue → RequestParent → PlainRequest
+abbrev pub request_at : PlainMetadata → IndexedValues → RequestParent → PlainRequest
 request_at m values parent = record { metadata = m; values = values_at m values; parent = plain_parent parent }
 
 module _ {S C : Type 0} (g : Ghosts S) (h : SiteGhosts C) where
@@ -40,7 +40,7 @@ module _ {S C : Type 0} (g : Ghosts S) (h : SiteGhosts C) where
       (u ≡ record t { subscribers = u.subscribers })
 
   -- the subscriber of the handle took the event, or no callsite stands there
-  abbrev pub EventAtGives : Option (KeptCallsite C) → List FieldValue → RequestParent → At → Option ℕ → Table S C →
+  abbrev pub EventAtGives : Option (KeptCallsite C) → IndexedValues → RequestParent → At → Option ℕ → Table S C →
       Option (Result (Unit {0}) RequestError) → Table S C → Type 0
   EventAtGives None values parent at dispatch t result u = (result ≡ None) × (u ≡ t)
   EventAtGives (Some row) values parent at dispatch t result u =
@@ -48,7 +48,7 @@ module _ {S C : Type 0} (g : Ghosts S) (h : SiteGhosts C) where
       HubGives g (EventDispatched (request_at (h.metadata_of row.callsite) values parent) at) dispatch t reply u
 
   -- it took the new span, or no callsite stands there
-  abbrev pub SpanAtGives : Option (KeptCallsite C) → List FieldValue → RequestParent → At → Option ℕ → Table S C →
+  abbrev pub SpanAtGives : Option (KeptCallsite C) → IndexedValues → RequestParent → At → Option ℕ → Table S C →
       Option (Result (Option ℕ) RequestError) → Table S C → Type 0
   SpanAtGives None values parent at dispatch t result u = (result ≡ None) × (u ≡ t)
   SpanAtGives (Some row) values parent at dispatch t result u =
@@ -56,7 +56,7 @@ module _ {S C : Type 0} (g : Ghosts S) (h : SiteGhosts C) where
       HubGives g (SpanMade (request_at (h.metadata_of row.callsite) values parent) at) dispatch t reply u
 
   -- it took the values of a span, or no callsite stands there
-  abbrev pub RecordAtGives : Option (KeptCallsite C) → ℕ → List FieldValue → At → Option ℕ → Table S C →
+  abbrev pub RecordAtGives : Option (KeptCallsite C) → ℕ → IndexedValues → At → Option ℕ → Table S C →
       Option (Result (Unit {0}) RequestError) → Table S C → Type 0
   RecordAtGives None id values at dispatch t result u = (result ≡ None) × (u ≡ t)
   RecordAtGives (Some row) id values at dispatch t result u =

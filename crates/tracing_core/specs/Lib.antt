@@ -39,6 +39,7 @@ pub use Rattle.tracing_core_fields.specs.ErrorText
 pub use Rattle.tracing_core_fields.specs.PlainValue
 pub use Rattle.tracing_core_fields.specs.OwnedMetadatas
 pub use Rattle.tracing_core_fields.specs.OwnedValues
+pub use Rattle.tracing_core_fields.specs.IndexedEntries
 pub use Rattle.tracing_core_fields.specs.Visits
 pub use Rattle.tracing_core_fields.specs.Values
 pub use Rattle.tracing_core_fields.specs.ValueSet
@@ -56,6 +57,8 @@ pub use Rattle.tracing_core_fields.specs.requests.Events
 pub use Rattle.tracing_core_fields.specs.requests.Currents
 pub use Rattle.tracing_core_fields.specs.declared.owned_value.OwnedValue
 pub use Rattle.tracing_core_fields.specs.declared.owned_value.FieldValue
+pub use Rattle.tracing_core_fields.specs.declared.indexed_values.IndexedValues
+pub use Rattle.tracing_core_fields.specs.declared.indexed_values.LentValue
 pub use Rattle.tracing_core_moments.specs.declared.at.At
 pub use Rattle.tracing_core_fields.specs.declared.requests.interest.InterestInner
 pub use Rattle.tracing_core_fields.specs.declared.requests.arguments.parent.Parent

@@ -22,11 +22,12 @@ pub use refusal::{
 pub use run::{Book, Command, CommandError, CommandReply, NoRoom};
 pub use tracing_core_fields::{
     AnyValue, Attributes, Callsite, Current, CurrentSpan, DebugText, DebugValue, DisplayValue,
-    Empty, ErrorText, Event, Field, FieldSet, FieldValue, Id, Identifier, Interest, Iter, Kind,
-    Level, LevelFilter, Metadata, NoSubscriber, OwnedMetadata, OwnedValue, ParseLevelError,
-    ParseLevelFilterError, Record, RequestError, Subscriber, Texts, Value, ValueSet, Visit,
-    VisitKinds, WeakDispatch, constant_kinds, debug, display, filters_read_their_names,
-    interests_join_in_any_order, levels_read_their_names, numbers_are_read_as_usize,
+    Empty, ErrorText, Event, Field, FieldSet, FieldValue, Id, Identifier, IndexedValues, Interest,
+    Iter, Kind, LentValue, Level, LevelFilter, Metadata, NoSubscriber, OwnedMetadata, OwnedValue,
+    ParseLevelError, ParseLevelFilterError, Record, RequestError, Subscriber, Texts, Value,
+    ValueSet, Visit, VisitKinds, WeakDispatch, constant_kinds, debug, display,
+    filters_read_their_names, interests_join_in_any_order, levels_read_their_names,
+    numbers_are_read_as_usize,
 };
 pub use tracing_core_moments::At;
 

@@ -5,6 +5,6 @@ mod TextLemmas
 mod VisitLemmas
 mod BytesLemmas
 mod NamesLemmas
-pub mod OwnedLemmas
+pub mod IndexedLemmas
 mod StyledLemmas
 mod OptionLemmas

@@ -22,5 +22,6 @@ pub mod PlainValue
 pub mod Visits
 pub mod OwnedMetadatas
 pub mod OwnedValues
+pub mod IndexedEntries
 pub mod Values
 pub mod ValueSet

@@ -1,5 +1,5 @@
 -- Values that are owned, and the entries that they give.
-use Rattle.std.specs.Prelude.{ℕ, Bool, nat_lt, List, map, string_bytes, Option, Some, None, if◌then◌else◌}
+use Rattle.std.specs.Prelude.{ℕ, List, map, string_bytes, Option, Some, None}
 use Rattle.std.specs.List.{filter_map}
 use Rattle.std.specs.Option.{option_map}
 use Rattle.tracing_core_fields.specs.PlainDebug.{Written, Unwritable}
@@ -29,15 +29,3 @@ owned_entry given = option_map (λ value. (given.field, value)) (plain_owned giv
 -- the entries whose values are present, at any index
 abbrev pub owned_entries : List FieldValue → List (ℕ × PlainValue)
 owned_entries values = filter_map owned_entry values
-
--- whether a set of so many fields has one at the index
-abbrev pub is_indexed : ℕ → FieldValue → Bool
-is_indexed count given = nat_lt given.field count
-
--- the index and the value, where the set has such a field and the value is present
-abbrev pub indexed_entry : ℕ → FieldValue → Option (ℕ × PlainValue)
-indexed_entry count given = if is_indexed count given then owned_entry given else None
-
--- the entries of values that are given by their fields' indices
-abbrev pub indexed_entries : ℕ → List FieldValue → List (ℕ × PlainValue)
-indexed_entries count values = filter_map (indexed_entry count) values

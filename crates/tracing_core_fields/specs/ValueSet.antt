@@ -1,7 +1,7 @@
 -- What a value set has.
 use Rattle.std.specs.Prelude.{ℕ, ◌==◌, ◌&&◌, Bool, List, length, min, take, count_by}
 use Rattle.tracing_core_fields.specs.FieldSet.{field_names, set_callsite}
-use Rattle.tracing_core_fields.specs.OwnedValues.{is_indexed, indexed_entries}
+use Rattle.tracing_core_fields.specs.IndexedEntries.{indexed_count, indexed_entries}
 use Rattle.tracing_core_fields.specs.PlainValue.{PlainValue}
 use Rattle.tracing_core_fields.specs.Values.{is_own, given_entries, placed_entries, has_entry}
 use Rattle.tracing_core_fields.specs.Field.{field_callsite, field_index}
@@ -18,7 +18,7 @@ fields_of_values set = set.fields
 abbrev pub entries_in : FieldSet → Values → List (ℕ × PlainValue)
 entries_in fields (Explicit entries) = given_entries fields entries.now
 entries_in fields (All values) = placed_entries (take (length (field_names fields)) values.now)
-entries_in fields (Indexed values) = indexed_entries (length (field_names fields)) values.now
+entries_in fields (Indexed values) = indexed_entries (length (field_names fields)) values
 
 -- the places and the values of its own fields that are present, in order
 abbrev pub entries_of : ValueSet → List (ℕ × PlainValue)
@@ -27,7 +27,7 @@ entries_of set = entries_in set.fields set.values
 abbrev pub count_in : FieldSet → Values → ℕ
 count_in fields (Explicit entries) = count_by (is_own fields) entries.now
 count_in fields (All values) = min (length (field_names fields)) (length values.now)
-count_in fields (Indexed values) = count_by (is_indexed (length (field_names fields))) values.now
+count_in fields (Indexed values) = indexed_count (length (field_names fields)) values
 
 -- how many of its own fields it was given, present or not
 abbrev pub entry_count : ValueSet → ℕ

@@ -1,16 +1,15 @@
 //! How a visitor takes the entries of a value set.
 ghost use Rattle.std.specs.Prelude.{◌≡◌, ◌<◌, ◌≤◌, MatchOption, length};
-ghost use Rattle.std.specs.Option.{option_map};
 ghost use Rattle.tracing_core_fields.specs.Field.{plain_field};
 ghost use Rattle.tracing_core_fields.specs.FieldSet.{field_names, set_callsite};
-ghost use Rattle.tracing_core_fields.specs.OwnedValues.{indexed_entry, indexed_entries, plain_owned};
+ghost use Rattle.tracing_core_fields.specs.IndexedEntries.{entries_below, indexed_entry};
 ghost use Rattle.tracing_core_fields.specs.PlainValue.{present_value};
 ghost use Rattle.tracing_core_fields.specs.ValueSet.{entries_of, fields_of_values};
 ghost use Rattle.tracing_core_fields.specs.Values.{given_entry, given_entries, placed_entry, placed_entries};
 ghost use Rattle.tracing_core_fields.specs.Visits.{TakesIfThere, Visits};
 
 use crate::field::{Field, FieldSet};
-use crate::owned_value::{FieldValue, OwnedValue};
+use crate::indexed_values::{IndexedValue, IndexedValues};
 use crate::value_set::{AnyValue, ValueSet, Values};
 use crate::visit_kinds::VisitKinds;
 
@@ -108,54 +107,35 @@ fn record_placed<V: VisitKinds>(
     Ok(())
 }
 
-// Hands on the owned value of the field at the index, and stands out of line as well.
-#[inline(never)]
-fn record_other_owned<V: VisitKinds>(
-    fields: &FieldSet<'_>,
-    index: usize,
-    value: &OwnedValue,
-    visitor: &mut V,
-) -> Result<(), V::Error>
-    requires { index < length (field_names fields.now) }
-    ensures { TakesIfThere V.takes (set_callsite fields.now) (field_names fields.now)
-        (option_map (λ plain. (index, plain)) (plain_owned value.now)) visitor.old result visitor.new }
-{
-    record_value(visitor, &fields.at(index), &Some(value.lend()))
-}
-
 // Hands on the value of the field at the index, where the set has such a field.
 #[inline(always)]
-fn record_owned<V: VisitKinds>(
+fn record_given_at<I: IndexedValue, V: VisitKinds>(
     fields: &FieldSet<'_>,
-    given: &FieldValue,
+    given: &I,
     visitor: &mut V,
 ) -> Result<(), V::Error>
     ensures { TakesIfThere V.takes (set_callsite fields.now) (field_names fields.now)
-        (indexed_entry (length (field_names fields.now)) given.now) visitor.old result visitor.new }
+        (indexed_entry I.place I.meaning (length (field_names fields.now)) given.now) visitor.old result visitor.new }
 {
-    let index = given.field;
-    if index >= fields.len() {
-        return Ok(());
-    }
-    match &given.value {
-        OwnedValue::I64(number) => visitor.record_i64(&fields.at(index), *number),
-        OwnedValue::U64(number) => visitor.record_u64(&fields.at(index), *number),
-        OwnedValue::Text(text) => visitor.record_str(&fields.at(index), text.as_str()),
-        other => record_other_owned(fields, index, other, visitor),
+    let index = given.field();
+    if index < fields.len() {
+        record_at(fields, index, &Some(given.lend()), visitor)
+    } else {
+        Ok(())
     }
 }
 
 // Visits the fields of the set whose values are given by their indices.
-fn record_indexed<V: VisitKinds>(
+fn record_indexed<I: IndexedValue, V: VisitKinds>(
     fields: &FieldSet<'_>,
-    values: &[FieldValue],
+    values: &[I],
     visitor: &mut V,
 ) -> Result<(), V::Error>
     ensures { Visits V.takes (set_callsite fields.now) (field_names fields.now)
-        (indexed_entries (length (field_names fields.now)) values.now) visitor.old result visitor.new }
+        (entries_below I.place I.meaning (length (field_names fields.now)) values.now) visitor.old result visitor.new }
 {
     for given in values {
-        record_owned(fields, given, visitor)?;
+        record_given_at(fields, given, visitor)?;
     }
     Ok(())
 }
@@ -175,7 +155,12 @@ impl ValueSet<'_> {
                 let count = self.fields.len().min(values.len());
                 record_placed(&self.fields, &values[..count], visitor)
             }
-            Values::Indexed(values) => record_indexed(&self.fields, values, visitor),
+            Values::Indexed(IndexedValues::Owned(values)) => {
+                record_indexed(&self.fields, values, visitor)
+            }
+            Values::Indexed(IndexedValues::Lent(values)) => {
+                record_indexed(&self.fields, values, visitor)
+            }
         }
     }
 }

@@ -2,7 +2,7 @@
 ghost use Rattle.std.specs.Prelude.{◌≡◌, ◌↔◌, ◌==◌, IsTrue, List, [], length, min, take, count_by, not};
 ghost use Rattle.std.specs.Option.{is_some};
 ghost use Rattle.tracing_core_fields.specs.FieldSet.{field_names, set_callsite};
-ghost use Rattle.tracing_core_fields.specs.OwnedValues.{is_indexed, indexed_entries};
+ghost use Rattle.tracing_core_fields.specs.IndexedEntries.{indexed_count, indexed_entries};
 ghost use Rattle.tracing_core_fields.specs.PlainValue.{present_value};
 ghost use Rattle.tracing_core_fields.specs.ValueSet.{entries_of, entry_count, fields_of_values, has_value};
 ghost use Rattle.tracing_core_fields.specs.Values.{is_own, given_entries, placed_entries, has_entry};
@@ -11,7 +11,7 @@ use crate::callsite::Identifier;
 use crate::debug_text::DebugText;
 use crate::error_text::ErrorText;
 use crate::field::{Field, FieldSet};
-use crate::owned_value::{FieldValue, OwnedValue};
+use crate::indexed_values::IndexedValues;
 
 /// The value of a field: a case for each call of [`VisitKinds`](crate::VisitKinds), and `Empty`.
 #[derive(Clone, Copy, Debug, PartialEq, Eq)]
@@ -42,7 +42,7 @@ pub enum AnyValue<'a> {
 pub(crate) enum Values<'a> {
     Explicit(&'a [(Field<'a>, Option<AnyValue<'a>>)]),
     All(&'a [Option<AnyValue<'a>>]),
-    Indexed(&'a [FieldValue]),
+    Indexed(IndexedValues<'a>),
 }
 
 /// The values of fields at one callsite.
@@ -84,12 +84,12 @@ impl<'a> FieldSet<'a> {
         }
     }
 
-    /// The set of the fields at these indices with their values, which are owned. An index past the end is
-    /// passed over.
-    pub fn value_set_indexed(&self, values: &'a [FieldValue]) -> ValueSet<'a>
+    /// The set of the fields at these indices with their values. An index past the end is passed over.
+    pub fn value_set_indexed(&self, values: IndexedValues<'a>) -> ValueSet<'a>
         // Its entries are the present values at indices of this set, in order.
-        ensures entries { entries_of result ≡ indexed_entries (length (field_names self.now)) values.now }
-        ensures count { entry_count result ≡ count_by (is_indexed (length (field_names self.now))) values.now }
+        ensures entries { entries_of result ≡ indexed_entries (length (field_names self.now)) values.entry }
+        // Its length is how many of the values have an index of this set.
+        ensures count { entry_count result ≡ indexed_count (length (field_names self.now)) values.entry }
         ensures fields { fields_of_values result ≡ self.now }
     {
         ValueSet {
@@ -143,31 +143,6 @@ fn lacks_placed(values: &[Option<AnyValue<'_>>]) -> bool
     true
 }
 
-// How many of the values are of fields below the count.
-fn count_indexed(count: usize, values: &[FieldValue]) -> usize
-    ensures { result ≡ count_by (is_indexed count) values.now }
-{
-    let mut found = 0;
-    for given in values {
-        if given.field < count {
-            found += 1;
-        }
-    }
-    found
-}
-
-// Whether no field below the count has a value.
-fn lacks_indexed(count: usize, values: &[FieldValue]) -> bool
-    ensures { result ≡ (length (indexed_entries count values.now) == 0) }
-{
-    for given in values {
-        if given.field < count && !matches!(given.value, OwnedValue::Empty) {
-            return false;
-        }
-    }
-    true
-}
-
 // Whether the set's field at the index has a value.
 fn has_given(
     fields: &FieldSet<'_>,
@@ -194,19 +169,6 @@ fn has_placed(index: usize, values: &[Option<AnyValue<'_>>]) -> bool
     }
 }
 
-// Whether the field at the index, which is below the count, has a value.
-fn has_indexed(count: usize, index: usize, values: &[FieldValue]) -> bool
-    ensures { result ≡ has_entry index (indexed_entries count values.now) }
-{
-    for given in values {
-        let is_shown = given.field < count && !matches!(given.value, OwnedValue::Empty);
-        if is_shown && given.field == index {
-            return true;
-        }
-    }
-    false
-}
-
 impl<'a> ValueSet<'a> {
     /// The fields that the values are of.
     pub fn field_set(&self) -> &FieldSet<'a>
@@ -229,7 +191,7 @@ impl<'a> ValueSet<'a> {
         match self.values {
             Values::Explicit(entries) => count_own(&self.fields, entries),
             Values::All(values) => self.fields.len().min(values.len()),
-            Values::Indexed(values) => count_indexed(self.fields.len(), values),
+            Values::Indexed(values) => values.count_below(self.fields.len()),
         }
     }
 
@@ -240,7 +202,7 @@ impl<'a> ValueSet<'a> {
         match self.values {
             Values::Explicit(entries) => lacks_given(&self.fields, entries),
             Values::All(values) => lacks_placed(&values[..self.fields.len().min(values.len())]),
-            Values::Indexed(values) => lacks_indexed(self.fields.len(), values),
+            Values::Indexed(values) => values.lacks_below(self.fields.len()),
         }
     }
 
@@ -260,7 +222,7 @@ impl<'a> ValueSet<'a> {
             Values::All(values) => {
                 has_placed(index, &values[..self.fields.len().min(values.len())])
             }
-            Values::Indexed(values) => has_indexed(self.fields.len(), index, values),
+            Values::Indexed(values) => values.has_below(self.fields.len(), index),
         }
     }
 }

@@ -9,6 +9,7 @@ pub mod layer;
 pub mod program;
 pub mod queue;
 pub mod rolling;
+pub mod service;
 #[cfg(test)]
 mod tests;
 pub mod visitor;

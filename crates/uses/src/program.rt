@@ -1,7 +1,7 @@
 //! Events and spans of a program, written as lines to a log file.
 
 ghost use Rattle.std.specs.Prelude.{◌≡◌, ◌∷◌, [], IfOk, OnErr, length, true, false, Err};
-ghost use Rattle.tracing_core.specs.OwnedValues.{owned_entries};
+ghost use Rattle.tracing_core.specs.IndexedEntries.{lent_entries};
 ghost use Rattle.tracing_core.specs.PlainValue.{Text};
 ghost use Rattle.tracing_core_moments.specs.Moments.{is_moment};
 ghost use Rattle.span_tracing_outputs.specs.TraceFollows.{IsReady};
@@ -14,13 +14,14 @@ ghost use Rattle.uses.specs.Programs.{message_step};
 use event_formatter::FormatEvent;
 use event_formatter_text::FormatFields;
 use span_registry_layers::Filter;
+use span_tracing::value::{AnyValue, LentValue};
 use span_tracing::{
-    Builder, FieldValue, Fields, FileStack, Folder, Format, LineFormat, LineSettings, Lines,
-    MemoryFolder, Moment, OutputKey, OutputSpec, OwnedValue, Parent, Refusal, Reply, RollingSink,
-    Rotation, Route, RoutedSinks, SinkSpec, Timer, Trace, calls_make_runs,
-    leveled_outputs_are_honest, open_stack, setup_follows,
+    Builder, Fields, FileStack, Folder, Format, LineFormat, LineSettings, Lines, MemoryFolder,
+    Moment, OutputKey, OutputSpec, Parent, Refusal, Reply, RollingSink, Rotation, Route,
+    RoutedSinks, SinkSpec, Timer, Trace, calls_make_runs, leveled_outputs_are_honest, open_stack,
+    setup_follows,
 };
-use std::alloc::{AllocError, Global};
+use std::alloc::Global;
 use tracing_core::{Identifier, LevelFilter, Subscriber};
 
 /// What the output's lines go to.
@@ -36,12 +37,10 @@ fn output_of(
     prefix: &str,
     level: LevelFilter,
 ) -> Result<OutputSpec<LevelFilter, MemoryFolder>, Refusal> {
-    let prefix = String::from_str(alloc, prefix).map_err(|_| Refusal::OutOfMemory)?;
-    let suffix = String::from_str(alloc, "log").map_err(|_| Refusal::OutOfMemory)?;
-    let files = Builder::new()
+    let files = Builder::new(alloc)
         .rotation(Rotation::DAILY)
         .filename_prefix(prefix)
-        .filename_suffix(suffix);
+        .filename_suffix("log");
     let mut sinks = Vec::new(alloc);
     let sink = SinkSpec::Direct(files, MemoryFolder::new(alloc));
     if sinks.push(sink).is_err() {
@@ -126,64 +125,45 @@ pub fn open_trace(
 }
 
 // A text as the value of a callsite's first field.
-fn message(alloc: Global, text: &str) -> Result<FieldValue, AllocError>
-    ensures { IfOk result (λ given. owned_entries (given ∷ []) ≡ (0, Text text.now) ∷ []) }
+fn message(text: &str) -> LentValue<'_>
+    ensures { lent_entries (result ∷ []) ≡ (0, Text text.now) ∷ [] }
 {
-    Ok(FieldValue {
+    LentValue {
         field: 0,
-        value: OwnedValue::Text(String::from_str(alloc, text)?),
-    })
+        value: AnyValue::Str(text),
+    }
 }
 
 /// Logs a text as an event at a callsite whose first field is the message, on lane 0: the step that `message_step` tells.
 /// A refused step leaves the trace as it was.
-///
-/// # Errors
-///
-/// Out of memory for the text; the trace is as it was.
-pub fn log_text(
-    alloc: Global,
-    trace: &mut MemoryTrace,
-    moment: Moment,
-    callsite: Identifier,
-    text: &str,
-) -> Result<Reply, AllocError>
-    ensures gives { IfOk result (λ reply. StepGives ⟦<FileStack<LevelFilter, MemoryFolder> as Subscriber>⟧ registry_of
-        trace.old (message_step moment callsite.0 text.now) reply trace.new) }
-    ensures err { OnErr result (trace.new ≡ trace.old) }
+pub fn log_text(trace: &mut MemoryTrace, moment: Moment, callsite: Identifier, text: &str) -> Reply
+    ensures { StepGives ⟦<FileStack<LevelFilter, MemoryFolder> as Subscriber>⟧ registry_of
+        trace.old (message_step moment callsite.0 text.now) result trace.new }
 {
-    let message = message(alloc, text)?;
-    Ok(trace.event(0, moment, callsite, Parent::Contextual, &[message]))
+    trace.event(0, moment, callsite, Parent::Contextual, &[message(text)])
 }
 
 /// Logs two texts, each as `log_text` does, by two calls. They are a run of two steps. So where the stack is ready, as `open_trace` leaves
 /// it, `RunsReady` says which lines the sink took of them, and which bytes stand in its files afterwards.
-///
-/// # Errors
-///
-/// Out of memory for the texts; the trace is as it was.
 pub fn log_both(
-    alloc: Global,
     trace: &mut MemoryTrace,
     moment: Moment,
     callsite: Identifier,
     first: &str,
     second: &str,
-) -> Result<(Reply, Reply), AllocError>
-    ensures gives { IfOk result (λ replies. RunGives ⟦<FileStack<LevelFilter, MemoryFolder> as Subscriber>⟧ trace.old
+) -> (Reply, Reply)
+    ensures gives { RunGives ⟦<FileStack<LevelFilter, MemoryFolder> as Subscriber>⟧ trace.old
         (message_step moment callsite.0 first.now ∷ message_step moment callsite.0 second.now ∷ [])
-        (replies.0 ∷ replies.1 ∷ []) trace.new) }
-    ensures run { IfOk result (λ replies. RunsReady ⟦<MemoryFolder as Folder>⟧.contents ⟦<MemoryFolder as Folder>⟧.failed
+        (result.0 ∷ result.1 ∷ []) trace.new }
+    ensures run { RunsReady ⟦<MemoryFolder as Folder>⟧.contents ⟦<MemoryFolder as Folder>⟧.failed
         ⟦<Fields as FormatFields>⟧ ⟦<Format<LineFormat, Timer> as FormatEvent>⟧.line_of ⟦<LevelFilter as Filter>⟧
         ⟦<Lines as span_registry_layers::Layer>⟧ trace.old
         (message_step moment callsite.0 first.now ∷ message_step moment callsite.0 second.now ∷ [])
-        (replies.0 ∷ replies.1 ∷ []) trace.new) }
-    ensures err { OnErr result (trace.new ≡ trace.old) }
+        (result.0 ∷ result.1 ∷ []) trace.new }
 {
     calls_make_runs::<Fields, Format<LineFormat, Timer>, LevelFilter, MemoryFolder>();
-    let first = message(alloc, first)?;
-    let second = message(alloc, second)?;
-    let reply = trace.event(0, moment, callsite, Parent::Contextual, &[first]);
-    let last = trace.event(0, moment, callsite, Parent::Contextual, &[second]);
-    Ok((reply, last))
+    let parent = Parent::Contextual;
+    let reply = trace.event(0, moment, callsite, parent, &[message(first)]);
+    let last = trace.event(0, moment, callsite, parent, &[message(second)]);
+    (reply, last)
 }

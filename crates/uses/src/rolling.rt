@@ -1,6 +1,6 @@
 //! A log file that changes by the day, alone: the program writes its own lines.
 
-ghost use Rattle.std.specs.Prelude.{◌≡◌, true, Some, IfOk, ℕ, List, string_bytes};
+ghost use Rattle.std.specs.Prelude.{◌≡◌, true, Some, IfOk, ℕ, List};
 ghost use Rattle.tracing_core_moments.specs.declared.period.PeriodKind.TheVariants.{Day};
 ghost use Rattle.tracing_core_moments.specs.Moments.{is_moment};
 ghost use Rattle.tracing_appender_rolling.specs.folders.Memory.{memory_contents, nothing_there};
@@ -22,12 +22,12 @@ use tracing_core_moments::Moment;
 /// `BadName` where the prefix can't stand in a file's name, else `OutOfMemory`.
 pub fn open_daily(
     alloc: Global,
-    prefix: String,
+    prefix: &str,
     moment: Moment,
 ) -> Result<RollingFileAppender<MemoryFolder>, BuildError>
     requires { is_moment moment ≡ true }
     ensures { IfOk result (λ log. AgreesSink (λ folder. Some (memory_contents folder)) log
-        (fresh_sink (prefixed_names Day (string_bytes prefix)) moment nothing_there)) }
+        (fresh_sink (prefixed_names Day prefix.now) moment nothing_there)) }
 {
     match daily(alloc, MemoryFolder::new(alloc), prefix, moment) {
         Ok(log) => Ok(log),

@@ -215,16 +215,16 @@ fn a_program_logs_a_line(rt: HostRuntime) -> Result<(), Fail> {
         Kind::EVENT,
     );
     assert!(rt; trace.register(Identifier(2), &done).is_ok());
-    let reply = log_text(alloc, &mut trace, MONDAY, Identifier(2), "finished")?;
+    let reply = log_text(&mut trace, MONDAY, Identifier(2), "finished");
     assert!(rt; reply == Reply::Done);
     // The level leaves out what is more verbose.
     let names = FieldSet::new(&["message"], Identifier(3));
     let level = Level::DEBUG;
     let detail = Metadata::new("detail", "app", level, None, None, None, names, Kind::EVENT);
     assert!(rt; trace.register(Identifier(3), &detail).is_ok());
-    let reply = log_text(alloc, &mut trace, MONDAY, Identifier(3), "a detail")?;
+    let reply = log_text(&mut trace, MONDAY, Identifier(3), "a detail");
     assert!(rt; reply == Reply::Done);
-    let (reply, last) = log_both(alloc, &mut trace, MONDAY, Identifier(2), "saved", "sent")?;
+    let (reply, last) = log_both(&mut trace, MONDAY, Identifier(2), "saved", "sent");
     assert!(rt; reply == Reply::Done && last == Reply::Done);
     let sink = trace.sink(0, 0).ok_or("a sink")?;
     let files = sink.appender().folder().files()?;
@@ -253,8 +253,7 @@ fn lines_come_out_in_order(rt: HostRuntime) -> Result<(), Fail> {
 #[test]
 fn a_line_stands_in_its_day(rt: HostRuntime) -> Result<(), Fail> {
     let alloc = rt.alloc();
-    let prefix = String::from_str(alloc, "app")?;
-    let mut log = open_daily(alloc, prefix, MONDAY)?;
+    let mut log = open_daily(alloc, "app", MONDAY)?;
     write_line(&mut log, "hello\n", MONDAY)?;
     let files = files_of(&log)?;
     let file = files.first().ok_or("no file")?;

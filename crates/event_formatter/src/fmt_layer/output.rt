@@ -1,11 +1,11 @@
 //! Where the lines of a layer go.
 ghost use Rattle.std.specs.Borrow.{sem};
-ghost use Rattle.std.specs.Prelude.{◌≡◌, ◌++◌, OnOk, string_bytes};
+ghost use Rattle.std.specs.Prelude.{◌≡◌, ◌++◌, OnOk, false, string_bytes};
 ghost use Rattle.tracing_core_fields.specs.FieldSet.{field_names};
 ghost use Rattle.tracing_core_fields.specs.Metadata.{plain_metadata};
 ghost use Rattle.event_formatter.specs.fmt_layer.MakerLoan.{LendsOwnMaker};
-ghost use Rattle.event_formatter.specs.fmt_layer.Lines.{HandsLine, Offers, before_fields, before_name, fault_if, fault_text, names_inside};
-ghost use Rattle.event_formatter.specs.fmt_layer.Lines.{one_more};
+ghost use Rattle.event_formatter.specs.fmt_layer.Lines.{HandsLine, Offers, RestsWithout, before_fields, before_name};
+ghost use Rattle.event_formatter.specs.fmt_layer.Lines.{fault_if, fault_text, names_inside, one_more};
 
 use event_formatter_text::MakeWriter;
 use std::alloc::AllocError;
@@ -122,7 +122,9 @@ impl<W: MakeWriter> Output<W> {
 
     /// Hands on what stands in place of an event that can't be formatted, where faults are told.
     pub(crate) fn hand_fault(&mut self, metadata: &Metadata<'_>, tells_faults: bool)
-        ensures { let m = plain_metadata metadata.now in Offers W.writes self.old m (fault_if tells_faults m) self.new }
+        ensures fault { let m = plain_metadata metadata.now in Offers W.writes self.old m (fault_if tells_faults m) self.new }
+        // Where faults aren't told, nothing is handed on, and nothing is counted as without memory.
+        ensures quiet { tells_faults ≡ false → RestsWithout W.writes self.old self.new }
     {
         if !tells_faults {
             return;

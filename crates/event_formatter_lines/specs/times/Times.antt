@@ -55,18 +55,20 @@ abbrev pub uptime_text : ℕ → List ℕ
 uptime_text ns =
     in_four_places (ns / 1000000000) ++ (codes "." ++ (nine_digits (ns % 1000000000) ++ codes "s"))
 
--- the text is given, or there is none
+-- the text is given, or there is none, which is never told as out of memory
 abbrev pub IsText : Option (List ℕ) → Result (String Global) FormatError → Type 0
 IsText (Some text) (Ok out) = string_bytes out ≡ text
 IsText None (Ok out) = ⊥
 IsText (Some text) (Err Failed) = ⊥
 IsText None (Err Failed) = Unit {0}
-IsText text (Err OutOfMemory) = Unit {0}
+IsText (Some text) (Err OutOfMemory) = Unit {0}
+IsText None (Err OutOfMemory) = ⊥
 
--- the text was appended, or there is none and nothing was; out of memory says nothing of what was appended
+-- The text was appended, where memory sufficed for it. Where there is none, that is told, never out of memory, and nothing was appended.
 abbrev pub TellsTime : Option (List ℕ) → List ℕ → Result (Unit {0}) FormatError → List ℕ → Type 0
 TellsTime (Some text) old (Ok done) new = new ≡ old ++ text
 TellsTime None old (Ok done) new = ⊥
 TellsTime (Some text) old (Err Failed) new = ⊥
 TellsTime None old (Err Failed) new = new ≡ old
-TellsTime text old (Err OutOfMemory) new = Unit {0}
+TellsTime (Some text) old (Err OutOfMemory) new = Unit {0}
+TellsTime None old (Err OutOfMemory) new = ⊥

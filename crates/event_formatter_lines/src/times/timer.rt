@@ -27,7 +27,8 @@ pub trait FormatTime {
     ) -> Result<(), FormatError>
         // What the timer writes of a moment stays the same, whatever it wrote before.
         ensures timer { (s : ℤ) (n : ℕ) → text_at self.new s n ≡ text_at self.old s n }
-        // The moment's text is appended, or, where it has none, `Failed` is answered and nothing is appended, unless memory runs out.
+        // The moment's text is appended, unless memory runs out. Where it has none, `Failed` is answered, never out of memory, and nothing
+        // is appended.
         ensures text { TellsTime (text_at self.old seconds nanoseconds) (string_bytes out.old) result
             (string_bytes out.new) };
 }

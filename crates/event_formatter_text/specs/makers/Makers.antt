@@ -1,6 +1,8 @@
 -- What makers over other makers do with a line.
 use Rattle.std.specs.Prelude.{◌≡◌, Bool, true, false, Result, Ok, Err}
+use Rattle.std.specs.IoError.{error_kind}
 use Rattle.std.specs.declared.io.Error.{Error}
+use Rattle.std.specs.declared.io.ErrorKind.TheVariants as kind
 
 -- what handing a line over answered, and what it left
 abbrev pub Handing : Type 0 → Type 1
@@ -11,15 +13,21 @@ abbrev pub WritesIf : {M : Type 0} → Bool → Handing M → M → Result (Unit
 WritesIf true writes before answer after = writes answer after
 WritesIf false writes before answer after = (answer ≡ Ok tt) × (after ≡ before)
 
--- the first's error, or else what the second answered
-abbrev pub first_error : Result (Unit {0}) Error → Result (Unit {0}) Error → Result (Unit {0}) Error
-first_error (Ok done) second = second
-first_error (Err error) second = Err error
+-- a refusal is for lack of memory
+abbrev pub IsWantOfMemory : Error → Type 0
+IsWantOfMemory error = error_kind error ≡ kind.OutOfMemory
+
+-- What is told of two answers: the error of one that had no memory, else the first's error, or else what the second answered.
+abbrev pub ToldOfBoth : Result (Unit {0}) Error → Result (Unit {0}) Error → Result (Unit {0}) Error → Type 0
+ToldOfBoth (Ok done) second answer = answer ≡ second
+ToldOfBoth (Err error) (Ok done) answer = answer ≡ Err error
+ToldOfBoth (Err error) (Err other) answer =
+    (IsWantOfMemory other → answer ≡ Err other) × ((IsWantOfMemory other → ⊥) → answer ≡ Err error)
 
 -- both are handed the line
 abbrev pub WritesBoth : {A B : Type 0} → Handing A → Handing B → Result (Unit {0}) Error → A → B → Type 0
 WritesBoth first second answer a b =
-    (x : Result (Unit {0}) Error) × (y : Result (Unit {0}) Error) × first x a × second y b × (answer ≡ first_error x y)
+    (x : Result (Unit {0}) Error) × (y : Result (Unit {0}) Error) × first x a × second y b × ToldOfBoth x y answer
 
 -- one is handed the line, by what the first takes
 abbrev pub WritesOne : {A B : Type 0} → Bool → Handing A → Handing B → A → B → Result (Unit {0}) Error → A → B → Type 0

@@ -19,6 +19,10 @@ impl MakeWriter for Box<dyn MakeWriter> {
     fn write_for(&mut self, metadata: &Metadata<'_>, line: &[u8]) -> io::Result<()> {
         (**self).write_for(metadata, line)
     }
+
+    fn pass_for(&mut self, metadata: &Metadata<'_>, line: &[u8]) -> io::Result<()> {
+        (**self).pass_for(metadata, line)
+    }
 }
 
 /// A maker of any type, in a box.
@@ -49,5 +53,9 @@ impl MakeWriter for BoxMakeWriter {
 
     fn write_for(&mut self, metadata: &Metadata<'_>, line: &[u8]) -> io::Result<()> {
         self.maker.write_for(metadata, line)
+    }
+
+    fn pass_for(&mut self, metadata: &Metadata<'_>, line: &[u8]) -> io::Result<()> {
+        self.maker.pass_for(metadata, line)
     }
 }

@@ -3,6 +3,7 @@ ghost use Rattle.std.specs.Prelude.{◌≡◌, true};
 
 use crate::makers::make_writer::{MakeWriter, MetadataTest};
 use std::io;
+use std::io::ErrorKind;
 use tracing_core_fields::{Level, Metadata};
 
 /// Takes only lines whose level is at most a bound.
@@ -32,6 +33,10 @@ impl<M: MakeWriter> MakeWriter for WithMaxLevel<M> {
 
     fn writes_for(&self, metadata: &Metadata<'_>) -> bool {
         *metadata.level() <= self.level
+    }
+
+    fn pass_for(&mut self, metadata: &Metadata<'_>, line: &[u8]) -> io::Result<()> {
+        self.maker.write_for(metadata, line)
     }
 
     fn write_for(&mut self, metadata: &Metadata<'_>, line: &[u8]) -> io::Result<()> {
@@ -72,6 +77,10 @@ impl<M: MakeWriter> MakeWriter for WithMinLevel<M> {
         self.level <= *metadata.level()
     }
 
+    fn pass_for(&mut self, metadata: &Metadata<'_>, line: &[u8]) -> io::Result<()> {
+        self.maker.write_for(metadata, line)
+    }
+
     fn write_for(&mut self, metadata: &Metadata<'_>, line: &[u8]) -> io::Result<()> {
         if self.level <= *metadata.level() {
             self.maker.write_for(metadata, line)
@@ -109,18 +118,21 @@ impl<A: MakeWriter, B: MakeWriter> MakeWriter for Tee<A, B> {
         true
     }
 
-    // Both are asked, whatever the first answers.
+    // Both are asked, whatever the first answers. Want of memory is told of either, so that it can be counted.
     fn write_for(&mut self, metadata: &Metadata<'_>, line: &[u8]) -> io::Result<()> {
         let first = self.first.write_for(metadata, line);
         let second = self.second.write_for(metadata, line);
-        match first {
-            Ok(()) => second,
-            Err(error) => Err(error),
+        match (first, second) {
+            (Ok(()), second) => second,
+            (Err(error), Ok(())) => Err(error),
+            (Err(_), Err(other)) if other.kind() == ErrorKind::OutOfMemory => Err(other),
+            (Err(error), Err(_)) => Err(error),
         }
     }
 }
 
-/// Hands a line to a second maker where the first one's outermost bound doesn't let it through.
+/// Hands a line to a second maker where the first one's outermost bound doesn't let it through. The bound is asked once, so that each
+/// line goes to one of them.
 #[derive(Clone, Copy, Debug)]
 pub struct OrElse<A, B> {
     pub(crate) first: A,
@@ -151,7 +163,7 @@ impl<A: MakeWriter, B: MakeWriter> MakeWriter for OrElse<A, B> {
 
     fn write_for(&mut self, metadata: &Metadata<'_>, line: &[u8]) -> io::Result<()> {
         if self.first.writes_for(metadata) {
-            self.first.write_for(metadata, line)
+            self.first.pass_for(metadata, line)
         } else {
             self.second.write_for(metadata, line)
         }
@@ -190,6 +202,10 @@ impl<M: MakeWriter + Drop> MakeWriter for WithFilter<M> {
 
     fn writes_for(&self, metadata: &Metadata<'_>) -> bool {
         (self.filter)(metadata)
+    }
+
+    fn pass_for(&mut self, metadata: &Metadata<'_>, line: &[u8]) -> io::Result<()> {
+        self.maker.write_for(metadata, line)
     }
 
     fn write_for(&mut self, metadata: &Metadata<'_>, line: &[u8]) -> io::Result<()> {

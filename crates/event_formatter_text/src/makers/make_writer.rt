@@ -1,5 +1,5 @@
 //! What takes the lines.
-ghost use Rattle.std.specs.Prelude.{◌≡◌, ℕ, Bool, List, Result};
+ghost use Rattle.std.specs.Prelude.{◌≡◌, ℕ, Bool, true, List, Result};
 ghost use Rattle.std.specs.declared.io.Error.{Error};
 ghost use Rattle.tracing_core_fields.specs.Metadata.{plain_metadata};
 ghost use Rattle.tracing_core_fields.specs.PlainMetadata.{PlainMetadata};
@@ -30,9 +30,21 @@ pub trait MakeWriter: Drop {
     ///
     /// # Errors
     ///
-    /// That of the first writer that refuses it.
+    /// That of the first writer that had no memory for it, else that of the first writer that refuses it.
     fn write_for(&mut self, metadata: &Metadata<'_>, line: &[u8]) -> io::Result<()>
         ensures { writes self.old (plain_metadata metadata.now) line.now result self.new };
+
+    /// Hands over a line that the outermost bound lets through. A maker with such a bound doesn't ask it again here.
+    ///
+    /// # Errors
+    ///
+    /// As those of [`write_for`](MakeWriter::write_for).
+    fn pass_for(&mut self, metadata: &Metadata<'_>, line: &[u8]) -> io::Result<()>
+        ensures { takes self.old (plain_metadata metadata.now) true →
+            writes self.old (plain_metadata metadata.now) line.now result self.new }
+    {
+        self.write_for(metadata, line)
+    }
 }
 
 /// Combinations of makers.

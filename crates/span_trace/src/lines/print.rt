@@ -77,7 +77,7 @@ fn reply_value(alloc: Global, reply: Reply) -> Result<Json, AllocError> {
         Reply::Span(None) => json!(in alloc; {"span": null}),
         Reply::Span(Some(name)) => {
             let stack = name.stack as u64;
-            let id = name.id.into_u64();
+            let id = name.id.get();
             json!(in alloc; {"span": [stack, id]})
         }
         Reply::Closed(is_closed) => json!(in alloc; {"closed": is_closed}),

@@ -10,7 +10,9 @@ use span_tracing_outputs::{LineSettings, OutputSpec, PendingLines, SinkSpec};
 use std::alloc::{AllocError, Global};
 use std::test::Fail;
 use tracing_appender_rolling::Folder;
-use tracing_core_fields::{FieldSet, FieldValue, Kind, Level, LevelFilter, Metadata, OwnedValue};
+use tracing_core_fields::{
+    AnyValue, FieldSet, FieldValue, Kind, LentValue, Level, LevelFilter, Metadata, OwnedValue,
+};
 use tracing_core_moments::Moment;
 
 /// 2025-02-17T10:01:00Z.
@@ -58,6 +60,21 @@ pub(crate) fn number_field(field: usize, number: u64) -> FieldValue {
     FieldValue {
         field,
         value: OwnedValue::U64(number),
+    }
+}
+
+/// The same, lent.
+pub(crate) fn lent_text<'a>(field: usize, text: &'a str) -> LentValue<'a> {
+    LentValue {
+        field,
+        value: AnyValue::Str(text),
+    }
+}
+
+pub(crate) fn lent_number<'a>(field: usize, number: u64) -> LentValue<'a> {
+    LentValue {
+        field,
+        value: AnyValue::U64(number),
     }
 }
 

@@ -1,6 +1,6 @@
 // Folders that refuse, under a trace.
 
-use crate::tests::common::{MONDAY, TUESDAY, event_at, output_over, text_field};
+use crate::tests::common::{MONDAY, TUESDAY, event_at, lent_text, output_over};
 use crate::{
     Builder, FaultyFolder, FileStack, FolderFault, InitContext, LineSettings, MemoryFolder, Moment,
     OutputKey, Parent, Refusal, Reply, Rotation, Route, SinkSpec, Timer, Trace, open_stack,
@@ -28,9 +28,9 @@ const EVENT: Identifier = Identifier(2);
 
 /// A sink over a file for each day, in a folder that refuses the calls with these numbers.
 fn sink_of(alloc: Global, refused: &[u64]) -> Result<SinkSpec<FaultyFolder>, Fail> {
-    let files = Builder::new()
+    let files = Builder::new(alloc)
         .rotation(Rotation::DAILY)
-        .filename_prefix(String::from_str(alloc, "app")?);
+        .filename_prefix("app");
     let refused = Vec::from_slice(alloc, refused)?;
     let folder = FaultyFolder::new(MemoryFolder::new(alloc), refused);
     Ok(SinkSpec::Direct(files, folder))
@@ -67,14 +67,8 @@ fn trace_over(
     Ok(trace)
 }
 
-fn tell(
-    rt: &impl Abort,
-    alloc: Global,
-    trace: &mut Faulty,
-    moment: Moment,
-    text: &str,
-) -> Result<(), Fail> {
-    let message = text_field(alloc, 0, text)?;
+fn tell(rt: &impl Abort, trace: &mut Faulty, moment: Moment, text: &str) -> Result<(), Fail> {
+    let message = lent_text(0, text);
     let reply = trace.event(0, moment, EVENT, Parent::Contextual, &[message]);
     assert_eq!(rt; reply, Reply::Done);
     Ok(())
@@ -105,9 +99,9 @@ fn a_failed_switch_is_tried_once_a_day(rt: HostRuntime) -> Result<(), Fail> {
     let mut sinks = Vec::new(alloc);
     sinks.push(sink_of(alloc, &[2, 4])?).ok().ok_or("room")?;
     let mut trace = trace_over(&rt, alloc, Route::Sink(0), sinks)?;
-    tell(&rt, alloc, &mut trace, TUESDAY, "a")?;
-    tell(&rt, alloc, &mut trace, TUESDAY_NOON, "b")?;
-    tell(&rt, alloc, &mut trace, WEDNESDAY, "c")?;
+    tell(&rt, &mut trace, TUESDAY, "a")?;
+    tell(&rt, &mut trace, TUESDAY_NOON, "b")?;
+    tell(&rt, &mut trace, WEDNESDAY, "c")?;
     let wanted = [
         ("app.2025-02-17", "app: a\napp: b\n"),
         ("app.2025-02-19", "app: c\n"),
@@ -138,8 +132,8 @@ fn one_sinks_faults_change_no_other_sink(rt: HostRuntime) -> Result<(), Fail> {
         Box::new(alloc, Route::Sink(1))?,
     );
     let mut trace = trace_over(&rt, alloc, both, sinks)?;
-    tell(&rt, alloc, &mut trace, MONDAY, "a")?;
-    tell(&rt, alloc, &mut trace, TUESDAY, "b")?;
+    tell(&rt, &mut trace, MONDAY, "a")?;
+    tell(&rt, &mut trace, TUESDAY, "b")?;
     has_files(&rt, &trace, 0, &[("app.2025-02-17", "")])?;
     let wanted = [
         ("app.2025-02-17", "app: a\n"),

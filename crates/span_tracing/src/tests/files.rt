@@ -4,7 +4,9 @@ use crate::tests::common::{MONDAY, TOO_EARLY};
 use event_formatter::Fields;
 use event_formatter_text::Route;
 use span_registry_layers_store::OutputKey;
-use span_tracing_outputs::{FileStack, LineSettings, OutputSpec, SinkSpec, open_stack};
+use span_tracing_outputs::{
+    FileStack, LineSettings, OpenStackError, OutputSpec, SinkSpec, open_stack,
+};
 use span_tracing_skeleton::Refusal;
 use std::alloc::Global;
 use std::test::Fail;
@@ -17,9 +19,9 @@ type Outputs = Vec<OutputSpec<LevelFilter, MemoryFolder>>;
 fn sinks_of(alloc: Global, prefixes: &[&str]) -> Result<Vec<SinkSpec<MemoryFolder>>, Fail> {
     let mut sinks = Vec::new(alloc);
     for prefix in prefixes {
-        let builder = Builder::new()
+        let builder = Builder::new(alloc)
             .rotation(Rotation::DAILY)
-            .filename_prefix(String::from_str(alloc, prefix)?);
+            .filename_prefix(prefix);
         let sink = SinkSpec::Direct(builder, MemoryFolder::new(alloc));
         sinks.push(sink).ok().ok_or("room")?;
     }
@@ -89,7 +91,7 @@ fn names_are_looked_at_before_folders(rt: HostRuntime) -> Result<(), Fail> {
     let alloc = rt.alloc();
     let mut sinks = Vec::new(alloc);
     for (prefix, refused) in [("a", [1, 3]), ("a/b", [0, 0])] {
-        let builder = Builder::new().filename_prefix(String::from_str(alloc, prefix)?);
+        let builder = Builder::new(alloc).filename_prefix(prefix);
         let refused = Vec::from_slice(alloc, &refused)?;
         let folder = FaultyFolder::new(MemoryFolder::new(alloc), refused);
         sinks
@@ -168,5 +170,70 @@ fn all_files_are_opened(rt: HostRuntime) -> Result<(), Fail> {
     assert!(rt; has_file(&stack, 0, 0, "app.2025-02-17")?);
     assert!(rt; has_file(&stack, 1, 0, "a.2025-02-17")?);
     assert!(rt; has_file(&stack, 1, 1, "b.2025-02-17")?);
+    Ok(())
+}
+
+/// A stack of one output, in an empty folder that refuses the calls with these numbers.
+fn one_file(
+    alloc: Global,
+    lines: LineSettings,
+    refused: &[u64],
+) -> Result<FileStack<LevelFilter, FaultyFolder>, OpenStackError> {
+    let files = Builder::new(alloc)
+        .rotation(Rotation::DAILY)
+        .filename_prefix("app");
+    let refused = Vec::from_slice(alloc, refused)?;
+    let folder = FaultyFolder::new(MemoryFolder::new(alloc), refused);
+    let mut outputs = Vec::new(alloc);
+    let (key, level) = (OutputKey(1), LevelFilter::INFO);
+    outputs.push(OutputSpec::file(alloc, key, level, lines, files, folder)?)?;
+    open_stack(alloc, outputs, MONDAY)
+}
+
+#[test]
+fn an_output_with_one_file_is_set_up_by_question_marks(rt: HostRuntime) -> Result<(), Fail> {
+    let alloc = rt.alloc();
+    let stack = one_file(alloc, LineSettings::json(), &[])?;
+    let routed = stack.sinks().first().ok_or("an output")?;
+    assert_eq!(rt; routed.sinks().len(), 1);
+    let sink = routed.sinks().first().ok_or("a sink")?;
+    let files = sink.appender().folder().inner().files()?;
+    assert_eq!(rt; files.first().ok_or("a file")?.name, "app.2025-02-17");
+    Ok(())
+}
+
+/// The opening is call 1, the directories are call 2, and the second opening is call 3.
+#[test]
+fn what_is_not_opened_has_a_text(rt: HostRuntime) -> Result<(), Fail> {
+    let alloc = rt.alloc();
+    let text = LineSettings {
+        fields: Fields::Default,
+        ..LineSettings::json()
+    };
+    for (lines, refused, told) in [
+        (
+            LineSettings::full(),
+            [1, 2],
+            "output 1: a folder refused to open a file: failed to create log directory: refused",
+        ),
+        (
+            LineSettings::full(),
+            [1, 3],
+            "output 1: a folder refused to open a file: failed to create log file: refused",
+        ),
+        (
+            text,
+            [0, 0],
+            "output 1: a line of JSON needs fields in JSON",
+        ),
+    ] {
+        let error = one_file(alloc, lines, &refused).err().ok_or("a refusal")?;
+        assert_eq!(rt; format!(in alloc; "{error}")?.as_str(), told);
+    }
+    let none: Vec<OutputSpec<LevelFilter, MemoryFolder>> = Vec::new(alloc);
+    let error = open_stack(alloc, none, MONDAY).err().ok_or("a refusal")?;
+    assert_eq!(rt; error.output, None);
+    let text = format!(in alloc; "{error}")?;
+    assert_eq!(rt; text, format!(in alloc; "{}", error.refusal)?);
     Ok(())
 }

@@ -1,6 +1,6 @@
 // Random steps, each made by a trace and by the model.
 
-use crate::tests::common::{MONDAY, event_at, number_field, span_at, text_field};
+use crate::tests::common::{MONDAY, event_at, lent_number, lent_text, span_at};
 use crate::tests::model::{FILTERS, LANES, Model, OUTPUTS};
 use crate::{
     Fields, FileStack, Filtered, FixedText, FmtSpan, Format, Json, Layer, LineFormat, MemoryFolder,
@@ -8,9 +8,10 @@ use crate::{
     RollingSink, Rotation, RoutedSinks, SpanName, Stack, Timer, Trace, TraceStack,
 };
 use std::alloc::{AllocError, Global};
+use std::num::NonZeroU64;
 use std::process::Abort;
 use std::test::Fail;
-use tracing_core_fields::{FieldSet, Id, Identifier, Level, LevelFilter};
+use tracing_core_fields::{FieldSet, Identifier, Level, LevelFilter};
 
 type Outputs = FileStack<LevelFilter, MemoryFolder>;
 
@@ -88,13 +89,12 @@ fn stack_of_four(alloc: Global) -> Result<Outputs, Fail> {
         let filter = LEVEL_FILTERS[FILTERS[place]];
         let output = Filtered::new(layer, filter);
         outputs.push(Output { key, output }).ok().ok_or("room")?;
-        let prefix = String::from_str(alloc, "lines")?;
         let folder = MemoryFolder::new(alloc);
         let appender = RollingFileAppender::new(
             alloc,
             Rotation::NEVER,
             folder,
-            prefix,
+            "lines",
             MONDAY,
         ).map_err(|refusal| refusal.error)?;
         let sink = RoutedSinks::single(alloc, RollingSink::new(appender))?;
@@ -135,7 +135,7 @@ fn trace_of_four(rt: &impl Abort, alloc: Global) -> Result<Trace<Outputs>, Fail>
 
 /// The span at a place of the model's list.
 fn named(place: usize) -> Result<SpanName, Fail> {
-    let id = Id::from_u64(place as u64 + 1).ok_or("an id")?;
+    let id = NonZeroU64::new(place as u64 + 1).ok_or("an id")?;
     Ok(SpanName { stack: 0, id })
 }
 
@@ -159,8 +159,8 @@ fn tell(
     let n = dice.roll(100);
     let site = level as u64;
     if dice.roll(2) == 0 {
-        let message = text_field(alloc, 0, "m")?;
-        let values = [message, number_field(1, n)];
+        let message = lent_text(0, "m");
+        let values = [message, lent_number(1, n)];
         let callsite = Identifier(site + EVENTS);
         let reply = trace.event(lane, MONDAY, callsite, Parent::Contextual, &values);
         model.event(lane, level, n)?;
@@ -173,13 +173,7 @@ fn tell(
         Parent::Contextual
     };
     let wanted = named(model.count())?;
-    let reply = trace.new_span(
-        lane,
-        MONDAY,
-        Identifier(site),
-        parent,
-        &[number_field(0, n)],
-    );
+    let reply = trace.new_span(lane, MONDAY, Identifier(site), parent, &[lent_number(0, n)]);
     let is_made = model.new_span(lane, level, n, is_root)?;
     Ok((
         reply,

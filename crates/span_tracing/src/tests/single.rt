@@ -1,6 +1,6 @@
 // One output: over a folder with an older file, and with styles.
 
-use crate::tests::common::{MONDAY, event_at, span_at, text_field};
+use crate::tests::common::{MONDAY, event_at, lent_text, span_at};
 use crate::{
     Fields, FileStack, Filtered, FixedText, Format, Layer, LineFormat, MemoryFolder, Output,
     OutputKey, Parent, PendingLines, Reply, RollingFileAppender, RollingSink, Rotation,
@@ -40,8 +40,7 @@ fn trace_over(
         key: OutputKey(0),
         output: Filtered::new(layer, LevelFilter::INFO),
     };
-    let prefix = String::from_str(alloc, "app")?;
-    let appender = RollingFileAppender::new(alloc, Rotation::DAILY, folder, prefix, MONDAY).map_err(
+    let appender = RollingFileAppender::new(alloc, Rotation::DAILY, folder, "app", MONDAY).map_err(
         |refusal| refusal.error,
     )?;
     let outputs = vec![in alloc; output].ok().ok_or("room")?;
@@ -61,7 +60,7 @@ fn trace_over(
 }
 
 fn tell(rt: &impl Abort, alloc: Global, trace: &mut Trace<Outputs>) -> Result<(), Fail> {
-    let message = text_field(alloc, 0, "m")?;
+    let message = lent_text(0, "m");
     let reply = trace.event(0, MONDAY, EVENT, Parent::Contextual, &[message]);
     assert_eq!(rt; reply, Reply::Done);
     Ok(())

@@ -91,8 +91,7 @@ impl Folder for StarvedFolder {
 
 /// A sink over a file for each day, opened on Monday.
 fn opened<D: Folder>(alloc: Global, folder: D) -> Result<RollingSink<D>, Fail> {
-    let prefix = String::from_str(alloc, "p")?;
-    let appender = RollingFileAppender::new(alloc, Rotation::DAILY, folder, prefix, MONDAY).map_err(
+    let appender = RollingFileAppender::new(alloc, Rotation::DAILY, folder, "p", MONDAY).map_err(
         |refusal| refusal.error,
     )?;
     Ok(RollingSink::new(appender))

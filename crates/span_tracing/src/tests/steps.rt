@@ -14,10 +14,11 @@ use keeper::{Keeper, Told};
 use span_tracing_skeleton::{EnabledCall, FollowsCall, Parent, Refusal, Reply, SpanCall, SpanName};
 use span_tracing_steps::{RecordRequest, Request, TraceParts};
 use std::alloc::Global;
+use std::num::NonZeroU64;
 use std::test::Fail;
 use tracing_core_fields::{
-    FieldSet, FieldValue, Id, Identifier, Kind, Level, Metadata, OwnedValue, RequestError,
-    Subscriber,
+    FieldSet, FieldValue, Id, Identifier, IndexedValues, Kind, Level, Metadata, OwnedValue,
+    RequestError, Subscriber,
 };
 
 /// Spans with two fields.
@@ -50,7 +51,7 @@ fn digit(field: usize, number: u64) -> FieldValue {
 }
 
 fn span_name(stack: usize, id: u64) -> Result<SpanName, Fail> {
-    let id = Id::from_u64(id).ok_or("an id")?;
+    let id = NonZeroU64::new(id).ok_or("an id")?;
     Ok(SpanName { stack, id })
 }
 
@@ -108,8 +109,13 @@ fn request<'a>(callsite: u64, parent: Parent, values: &'a [FieldValue]) -> Reque
         moment: MONDAY,
         callsite,
         parent,
-        values,
+        values: IndexedValues::Owned(values),
     }
+}
+
+/// The span's id.
+fn id_of(name: SpanName) -> Id {
+    Id::from_non_zero_u64(name.id)
 }
 
 fn call_on(span: Option<SpanName>) -> SpanCall {

@@ -1,7 +1,7 @@
 //! Lines that show the threads of lanes.
 
 use crate::Trace;
-use crate::tests::common::{MONDAY, event_at, output_over, text_field};
+use crate::tests::common::{MONDAY, event_at, lent_text, output_over};
 use event_formatter_text::Route;
 use span_tracing_outputs::{
     FileStack, LaneThread, LineSettings, SinkSpec, open_stack_with_threads,
@@ -19,7 +19,7 @@ const HELLO: Identifier = Identifier(1);
 /// A trace whose lanes stand for `main` with the number 1, and for the thread 12 without a name; of lane 2 no thread is told.
 fn trace_of(alloc: Global, lines: LineSettings) -> Result<ThreadTrace, Fail> {
     let mut sinks = Vec::new(alloc);
-    let sink = SinkSpec::Direct(Builder::new(), MemoryFolder::new(alloc));
+    let sink = SinkSpec::Direct(Builder::new(alloc), MemoryFolder::new(alloc));
     sinks.push(sink).ok().ok_or("room")?;
     let lines = LineSettings {
         thread_names: true,
@@ -62,7 +62,7 @@ fn register(trace: &mut ThreadTrace) -> Result<(), Fail> {
 fn text_after_events(alloc: Global, lines: LineSettings) -> Result<String, Fail> {
     let mut trace = trace_of(alloc, lines)?;
     for lane in 0..3 {
-        let message = text_field(alloc, 0, "hello")?;
+        let message = lent_text(0, "hello");
         is_done(trace.event(lane, MONDAY, HELLO, Parent::Contextual, &[message]))?;
     }
     let sink = trace.sink(0, 0).ok_or("a sink")?;

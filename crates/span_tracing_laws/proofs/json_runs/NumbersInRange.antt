@@ -147,7 +147,7 @@ made_by_is s n (Heard passed told) range = range
 cloned_is : (s : Skeleton) (o : Option SpanName) → IsSkeletonInRange s → IsSkeletonInRange (cloned s o)
 cloned_is s None range = range
 cloned_is s (Some name) range =
-    with_is s name.stack _ range (changed_is one_more (λ x is. is) (registry_at s name.stack).spans name.id (spans_are s name.stack range))
+    with_is s name.stack _ range (changed_is one_more (λ x is. is) (registry_at s name.stack).spans name.id.value (spans_are s name.stack range))
 
 entered_is : (s : Skeleton) (lane : ℕ) (o : Option SpanName) → IsSkeletonInRange s → IsSkeletonInRange (entered s lane o)
 entered_is s lane None range = range
@@ -161,7 +161,7 @@ given_up_is : (s : Skeleton) (o : Option SpanName) → IsSkeletonInRange s → I
 given_up_is s None range = range
 given_up_is s (Some name) range =
     with_is s name.stack _ range (open_is _ _
-    (changed_is one_less (λ x is. is) (registry_at s name.stack).spans name.id (spans_are s name.stack range)))
+    (changed_is one_less (λ x is. is) (registry_at s name.stack).spans name.id.value (spans_are s name.stack range)))
 
 acted_is : (s : Skeleton) (step : PlainStep) (a : Answers) → IsSkeletonInRange s → IsSkeletonInRange (acted s step a)
 acted_is s (GlobalStep handle) a range = record { callsites = range.callsites; spans = range.spans }
@@ -266,7 +266,7 @@ module _ (Q : PlainEvent → Type 0) where
     values_told_is s r name None range brings = tt
     values_told_is s r name (Some m) range brings =
         λ outs. calls_are_said _ outs (λ number. span_is_said (registry_at s name.stack) (place_at r.lane r.moment)
-        (Recorded (own_values m r.values)) name.id number (spans_are s name.stack range) (own_in_range m r.values brings))
+        (Recorded (own_values m r.values)) name.id.value number (spans_are s name.stack range) (own_in_range m r.values brings))
 
     record_told_is : (s : Skeleton) (r : RecordRequest) (o : Option SpanName) → IsSkeletonInRange s → ValuesInRange r.values →
         IfSome (record_told_by N s r o) ListsAreSaid
@@ -277,23 +277,23 @@ module _ (Q : PlainEvent → Type 0) where
         IfSome (enter_told_by N s call o) ListsAreSaid
     enter_told_is s call None range = tt
     enter_told_is s call (Some name) range =
-        λ outs. calls_are_said _ outs (λ number. span_is_said _ (place_at call.lane call.moment) Entered name.id number
+        λ outs. calls_are_said _ outs (λ number. span_is_said _ (place_at call.lane call.moment) Entered name.id.value number
         (spans_are s name.stack range) tt)
 
     exit_told_is : (s : Skeleton) (call : SpanCall) (o : Option SpanName) → IsSkeletonInRange s →
         IfSome (exit_told_by N s call o) ListsAreSaid
     exit_told_is s call None range = tt
     exit_told_is s call (Some name) range =
-        λ outs. calls_are_said _ outs (λ number. exit_is_said (registry_at s name.stack) (place_at call.lane call.moment) name.id number
+        λ outs. calls_are_said _ outs (λ number. exit_is_said (registry_at s name.stack) (place_at call.lane call.moment) name.id.value number
         (spans_are s name.stack range))
 
     close_told_is : (s : Skeleton) (call : SpanCall) (o : Option SpanName) → IsSkeletonInRange s →
         IfSome (close_told_by N s call o) ListsAreSaid
     close_told_is s call None range = tt
     close_told_is s call (Some name) range =
-        λ outs. calls_are_said _ outs (λ number. sweep_is_said (without_handle (registry_at s name.stack) name.id)
+        λ outs. calls_are_said _ outs (λ number. sweep_is_said (without_handle (registry_at s name.stack) name.id.value)
         (place_at call.lane call.moment) number
-        (changed_is one_less (λ x is. is) (registry_at s name.stack).spans name.id (spans_are s name.stack range)))
+        (changed_is one_less (λ x is. is) (registry_at s name.stack).spans name.id.value (spans_are s name.stack range)))
 
     told_is : (s : Skeleton) (step : PlainStep) (a : Answers) → IsSkeletonInRange s → Brings R ValuesInRange step →
         IfSome (told_by N s step a) ListsAreSaid

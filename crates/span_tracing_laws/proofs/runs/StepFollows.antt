@@ -50,6 +50,7 @@ use Rattle.tracing_core_moments.specs.declared.moment.Moment.{Moment}
 use Rattle.span_tracing_skeleton.specs.declared.call.Reply.TheVariants.{Done, Span, Closed, Refused}
 use Rattle.span_tracing_skeleton.specs.declared.call.SpanCall.{SpanCall}
 use Rattle.span_tracing_skeleton.specs.declared.call.SpanName.{SpanName}
+use Rattle.span_tracing_skeleton.specs.SpanNames.{name_of}
 use Rattle.span_tracing_skeleton.specs.declared.refusal.Refusal.{Refusal}
 use Rattle.span_tracing_skeleton.specs.declared.refusal.Refusal.TheVariants.{GlobalSet, OutOfMemory, UnknownStack}
 use Rattle.span_tracing_steps.specs.States.{PlainThread, registries_in}
@@ -294,7 +295,7 @@ module _ {N E F S : Type 0} (n : Ghosts N) (line_of : E → Settings → PlainCo
               (subst (λ (c : Option PlainMetadata). AskedWhere true c
               (λ (d : PlainMetadata) (a : Answers). AnswersSpan g h (Some x) d (place_at q.lane q.moment) a) (Passed passed)) (sym is)
               (call.1.0, call.1.1, call.1.2, refl))
-              (told ∙ ap (λ (k : ℕ). Span (Some (record { stack = 0; id = k }))) call.1.4)
+              (told ∙ ap (λ (k : ℕ). Span (Some (name_of 0 k))) call.1.4)
               (ap skeleton_of call.3 ∙ ap (λ (y : RegistryValue). record s { stacks = y ∷ [] }) outs.skeleton ∙
               ap (λ (c : Option PlainMetadata). Rattle.span_tracing_skeleton.specs.Machine.with_made s q c passed) (sym is))
               (subst (λ (u : Traced N E F S). OutputsFollow n line_of g takes (span_told_by N s q (known s q.callsite true) (Passed passed))
@@ -307,28 +308,28 @@ module _ {N E F S : Type 0} (n : Ghosts N) (line_of : E → Settings → PlainCo
     -- values for a span
     values_go : (v : Traced N E F S) (o : Option Stack) (r : RecordRequest) (name : SpanName) (reply : Reply) (w : Traced N E F S)
         (k : Option PlainMetadata) → v.stack ≡ o → r.span ≡ Some name → callsite_of (skeleton_of v) name ≡ k → StackIsReady g h o →
-        refusal_of (skeleton_of v) (RecordStep r) ≡ None → reply ≡ Done → ValuesGo sg name.id k v r w → Goes v (RecordStep r) reply w
+        refusal_of (skeleton_of v) (RecordStep r) ≡ None → reply ≡ Done → ValuesGo sg name.id.value k v r w → Goes v (RecordStep r) reply w
     values_go v o r name reply w None stack on is ready none done same =
         rested v (RecordStep r) reply w Unasked none refl done refl
         (ap (record_told_by N (skeleton_of v) r) on ∙ ap (values_told_by N (skeleton_of v) r name) is) same
         (subst (StackIsReady g h) (sym stack) ready)
     values_go v None r name reply w (Some m) stack on is ready none done goes =
-        absurd (subst (λ (o : Option Stack). CallGoesIn sg o v (calls.Recorded name.id (own_values m r.values) (place_at r.lane r.moment))
+        absurd (subst (λ (o : Option Stack). CallGoesIn sg o v (calls.Recorded name.id.value (own_values m r.values) (place_at r.lane r.moment))
         goes.0 w) stack goes.1)
     values_go v (Some x) r name reply w (Some m) stack on is ready none done goes =
         let s = skeleton_of v in
         let at = place_at r.lane r.moment in
         let stacks : s.stacks ≡ bare x.stack.registry ∷ [] = ap (registries_in registry_of) stack in
         let one = one_stack s (bare x.stack.registry) name.stack stacks (call_knows s (on_span r) name on none) in
-        let call = called x (calls.Recorded name.id (own_values m r.values) at) goes.0 v w ready
-        (subst (λ (o : Option Stack). CallGoesIn sg o v (calls.Recorded name.id (own_values m r.values) at) goes.0 w) stack goes.1) in
+        let call = called x (calls.Recorded name.id.value (own_values m r.values) at) goes.0 v w ready
+        (subst (λ (o : Option Stack). CallGoesIn sg o v (calls.Recorded name.id.value (own_values m r.values) at) goes.0 w) stack goes.1) in
         let opened = call_open s x.stack.registry (on_span r) name one.at on none in
         let answer : goes.0 ≡ Ok tt = call.1.0 ∙ ap (λ (o : Option RequestError). or_error o tt) opened in
         let kept = bare x.stack.registry in
-        let outs : OutputsStep n line_of g takes at (call_lists (span_told kept at (Recorded (own_values m r.values)) name.id)) kept x
+        let outs : OutputsStep n line_of g takes at (call_lists (span_told kept at (Recorded (own_values m r.values)) name.id.value)) kept x
         call.0 =
         subst (λ (a : Result (Unit {0}) RequestError). IfTaken a x
-        (OutputsStep n line_of g takes at (call_lists (span_told kept at (Recorded (own_values m r.values)) name.id)) kept x call.0)
+        (OutputsStep n line_of g takes at (call_lists (span_told kept at (Recorded (own_values m r.values)) name.id.value)) kept x call.0)
         call.0) answer call.1.1 in (
           made v (RecordStep r) reply w Unasked outs.fates none refl done
               (skeleton_after v w call.0 call.3 ∙ ap (λ (y : RegistryValue). record s { stacks = y ∷ [] }) outs.skeleton ∙
@@ -337,7 +338,7 @@ module _ {N E F S : Type 0} (n : Ghosts N) (line_of : E → Settings → PlainCo
               (subst (λ (t : Option (Told N)). StackFollows n line_of g takes t outs.fates x call.0)
               (sym (ap (record_told_by N s r) on ∙ ap (values_told_by N s r name) is ∙
               ap (λ (y : RegistryValue). Some
-              (record { at = at; lists = call_lists (span_told y at (Recorded (own_values m r.values)) name.id) })) one.at))
+              (record { at = at; lists = call_lists (span_told y at (Recorded (own_values m r.values)) name.id.value) })) one.at))
               outs.outputs)),
           ready_after v w call.0 call.2 call.3,
         )
@@ -359,12 +360,12 @@ module _ {N E F S : Type 0} (n : Ghosts N) (line_of : E → Settings → PlainCo
     follows_goes v o ask (Some name) None reply w stack ready none done same = rested v (FollowsFromStep ask) reply w Unasked none refl done
         refl refl same ready
     follows_goes v None ask (Some name) (Some followed) reply w stack ready none done goes =
-        absurd (subst (λ (o : Option Stack). CallGoesIn sg o v (FollowsRecorded name.id followed.id (place_at ask.lane ask.moment)) goes.0
+        absurd (subst (λ (o : Option Stack). CallGoesIn sg o v (FollowsRecorded name.id.value followed.id.value (place_at ask.lane ask.moment)) goes.0
         w) stack goes.1)
     follows_goes v (Some x) ask (Some name) (Some followed) reply w stack ready none done goes =
-        let call = called x (FollowsRecorded name.id followed.id (place_at ask.lane ask.moment)) goes.0 v w
+        let call = called x (FollowsRecorded name.id.value followed.id.value (place_at ask.lane ask.moment)) goes.0 v w
         (subst (StackIsReady g h) stack ready)
-        (subst (λ (o : Option Stack). CallGoesIn sg o v (FollowsRecorded name.id followed.id (place_at ask.lane ask.moment)) goes.0 w)
+        (subst (λ (o : Option Stack). CallGoesIn sg o v (FollowsRecorded name.id.value followed.id.value (place_at ask.lane ask.moment)) goes.0 w)
         stack goes.1) in
         rested v (FollowsFromStep ask) reply w Unasked none refl done refl refl
         (call.3 ∙ ap (λ (y : Stack). record v { stack = Some y }) call.1.1 ∙
@@ -378,29 +379,29 @@ module _ {N E F S : Type 0} (n : Ghosts N) (line_of : E → Settings → PlainCo
         rested v (EnterStep ask) reply w Unasked none refl goes.0 (ap (entered (skeleton_of v) ask.lane) on)
         (ap (enter_told_by N (skeleton_of v) ask) on) goes.1 ready
     enter_goes v None ask (Some name) reply w stack on ready none goes =
-        absurd (subst (λ (o : Option Stack). CallGoesIn sg o v (Entered name.id (place_at ask.lane ask.moment)) goes.0 w) stack goes.1)
+        absurd (subst (λ (o : Option Stack). CallGoesIn sg o v (Entered name.id.value (place_at ask.lane ask.moment)) goes.0 w) stack goes.1)
     enter_goes v (Some x) ask (Some name) reply w stack on ready none (Ok done, goes, told) =
         let s = skeleton_of v in
         let at = place_at ask.lane ask.moment in
         let kept = bare x.stack.registry in
         let one = one_stack s kept name.stack (ap (registries_in registry_of) stack) (call_knows s ask name on none) in
-        let call = called x (Entered name.id at) (Ok done) v w (subst (StackIsReady g h) stack ready)
-        (subst (λ (o : Option Stack). CallGoesIn sg o v (Entered name.id at) (Ok done) w) stack goes) in
+        let call = called x (Entered name.id.value at) (Ok done) v w (subst (StackIsReady g h) stack ready)
+        (subst (λ (o : Option Stack). CallGoesIn sg o v (Entered name.id.value at) (Ok done) w) stack goes) in
         let outs = call.1.1 in (
           made v (EnterStep ask) reply w Unasked outs.fates none refl told
               (skeleton_after v w call.0 call.3 ∙ ap (λ (y : RegistryValue). record s { stacks = y ∷ [] })
-              (outs.skeleton ∙ ap (λ (y : RegistryValue). with_entry y ask.lane name.id) (sym one.at)) ∙
-              one.with_other (with_entry (registry_at s name.stack) ask.lane name.id) ∙ ap (entered s ask.lane) (sym on))
+              (outs.skeleton ∙ ap (λ (y : RegistryValue). with_entry y ask.lane name.id.value) (sym one.at)) ∙
+              one.with_other (with_entry (registry_at s name.stack) ask.lane name.id.value) ∙ ap (entered s ask.lane) (sym on))
               (outputs_after v w x call.0 (enter_told_by N s ask ask.span) outs.fates stack call.3
               (subst (λ (t : Option (Told N)). StackFollows n line_of g takes t outs.fates x call.0)
               (sym (ap (enter_told_by N s ask) on ∙
-              ap (λ (y : RegistryValue). Some (record { at = at; lists = call_lists (enter_told y at name.id) })) one.at))
+              ap (λ (y : RegistryValue). Some (record { at = at; lists = call_lists (enter_told y at name.id.value) })) one.at))
               outs.outputs)),
           ready_after v w call.0 call.2 call.3,
         )
     enter_goes v (Some x) ask (Some name) reply w stack on ready none (Err error, goes, told) =
-        let call = called x (Entered name.id (place_at ask.lane ask.moment)) (Err error) v w (subst (StackIsReady g h) stack ready)
-        (subst (λ (o : Option Stack). CallGoesIn sg o v (Entered name.id (place_at ask.lane ask.moment)) (Err error) w) stack goes) in
+        let call = called x (Entered name.id.value (place_at ask.lane ask.moment)) (Err error) v w (subst (StackIsReady g h) stack ready)
+        (subst (λ (o : Option Stack). CallGoesIn sg o v (Entered name.id.value (place_at ask.lane ask.moment)) (Err error) w) stack goes) in
         let same : w ≡ v = call.3 ∙ ap (λ (y : Stack). record v { stack = Some y }) call.1.1 ∙
         ap (λ (o : Option Stack). record v { stack = o }) (sym stack) in (
           inr (told, none, subst (λ (span : Option SpanName). IsSome span) (sym on) refl, same),
@@ -415,23 +416,23 @@ module _ {N E F S : Type 0} (n : Ghosts N) (line_of : E → Settings → PlainCo
         rested v (ExitStep ask) reply w Unasked none refl done (ap (left (skeleton_of v) ask.lane) on)
         (ap (exit_told_by N (skeleton_of v) ask) on) same ready
     exit_goes v None ask (Some name) reply w stack on ready none done goes =
-        absurd (subst (λ (o : Option Stack). CallGoesIn sg o v (Exited name.id (place_at ask.lane ask.moment)) tt w) stack goes)
+        absurd (subst (λ (o : Option Stack). CallGoesIn sg o v (Exited name.id.value (place_at ask.lane ask.moment)) tt w) stack goes)
     exit_goes v (Some x) ask (Some name) reply w stack on ready none done goes =
         let s = skeleton_of v in
         let at = place_at ask.lane ask.moment in
         let kept = bare x.stack.registry in
         let one = one_stack s kept name.stack (ap (registries_in registry_of) stack) (call_knows s ask name on none) in
-        let call = called x (Exited name.id at) tt v w (subst (StackIsReady g h) stack ready)
-        (subst (λ (o : Option Stack). CallGoesIn sg o v (Exited name.id at) tt w) stack goes) in
+        let call = called x (Exited name.id.value at) tt v w (subst (StackIsReady g h) stack ready)
+        (subst (λ (o : Option Stack). CallGoesIn sg o v (Exited name.id.value at) tt w) stack goes) in
         let outs = call.1 in (
           made v (ExitStep ask) reply w Unasked outs.fates none refl done
               (skeleton_after v w call.0 call.3 ∙ ap (λ (y : RegistryValue). record s { stacks = y ∷ [] })
-              (outs.skeleton ∙ ap (λ (y : RegistryValue). swept (without_entry y ask.lane name.id)) (sym one.at)) ∙
-              one.with_other (swept (without_entry (registry_at s name.stack) ask.lane name.id)) ∙ ap (left s ask.lane) (sym on))
+              (outs.skeleton ∙ ap (λ (y : RegistryValue). swept (without_entry y ask.lane name.id.value)) (sym one.at)) ∙
+              one.with_other (swept (without_entry (registry_at s name.stack) ask.lane name.id.value)) ∙ ap (left s ask.lane) (sym on))
               (outputs_after v w x call.0 (exit_told_by N s ask ask.span) outs.fates stack call.3
               (subst (λ (t : Option (Told N)). StackFollows n line_of g takes t outs.fates x call.0)
               (sym (ap (exit_told_by N s ask) on ∙
-              ap (λ (y : RegistryValue). Some (record { at = at; lists = call_lists (exit_told y at name.id) })) one.at))
+              ap (λ (y : RegistryValue). Some (record { at = at; lists = call_lists (exit_told y at name.id.value) })) one.at))
               outs.outputs)),
           ready_after v w call.0 call.2 call.3,
         )
@@ -443,25 +444,25 @@ module _ {N E F S : Type 0} (n : Ghosts N) (line_of : E → Settings → PlainCo
     clone_goes v o ask None reply w stack on ready none done same = rested v (CloneStep ask) reply w Unasked none refl done
         (ap (cloned (skeleton_of v)) on) refl same ready
     clone_goes v None ask (Some name) reply w stack on ready none done goes =
-        absurd (subst (λ (o : Option Stack). CallGoesIn sg o v (Cloned name.id (place_at ask.lane ask.moment)) goes.0 w) stack goes.1)
+        absurd (subst (λ (o : Option Stack). CallGoesIn sg o v (Cloned name.id.value (place_at ask.lane ask.moment)) goes.0 w) stack goes.1)
     clone_goes v (Some x) ask (Some name) reply w stack on ready none done goes =
         let s = skeleton_of v in
         let at = place_at ask.lane ask.moment in
         let kept = bare x.stack.registry in
         let one = one_stack s kept name.stack (ap (registries_in registry_of) stack)
         (call_knows s ask name on (first_none (call_refusal s ask) (count_refusal s ask.span) none)) in
-        let call = called x (Cloned name.id at) goes.0 v w (subst (StackIsReady g h) stack ready)
-        (subst (λ (o : Option Stack). CallGoesIn sg o v (Cloned name.id at) goes.0 w) stack goes.1) in
+        let call = called x (Cloned name.id.value at) goes.0 v w (subst (StackIsReady g h) stack ready)
+        (subst (λ (o : Option Stack). CallGoesIn sg o v (Cloned name.id.value at) goes.0 w) stack goes.1) in
         let opened = call_open s x.stack.registry ask name one.at on (first_none (call_refusal s ask) (count_refusal s ask.span) none) in
         let free = clone_none s x.stack.registry name one.at opened (ap (count_refusal s) (sym on) ∙
         second_none (call_refusal s ask) (count_refusal s ask.span) none) in
-        let registry : call.0.stack.registry ≡ with_handle x.stack.registry name.id =
+        let registry : call.0.stack.registry ≡ with_handle x.stack.registry name.id.value =
         ap (λ (p : Result ℕ RequestError × RegistryValue). p.1) call.1.0 ∙
-        ap (λ (o : Option RequestError). refusals.or_same o x.stack.registry (with_handle x.stack.registry name.id)) free in (
+        ap (λ (o : Option RequestError). refusals.or_same o x.stack.registry (with_handle x.stack.registry name.id.value)) free in (
           made v (CloneStep ask) reply w Unasked [] none refl done
               (skeleton_after v w call.0 call.3 ∙ ap (λ (y : RegistryValue). record s { stacks = y ∷ [] })
-              (ap bare registry ∙ handle_bare x.stack.registry name.id ∙ ap (λ (y : RegistryValue). with_handle y name.id) (sym one.at))
-              ∙ one.with_other (with_handle (registry_at s name.stack) name.id) ∙ ap (cloned s) (sym on))
+              (ap bare registry ∙ handle_bare x.stack.registry name.id.value ∙ ap (λ (y : RegistryValue). with_handle y name.id.value) (sym one.at))
+              ∙ one.with_other (with_handle (registry_at s name.stack) name.id.value) ∙ ap (cloned s) (sym on))
               (outputs_after v w x call.0 None [] stack call.3 call.1.2),
           ready_after v w call.0 call.2 call.3,
         )
@@ -474,36 +475,36 @@ module _ {N E F S : Type 0} (n : Ghosts N) (line_of : E → Settings → PlainCo
         (goes.0 ∙ ap (λ (span : Option SpanName). Closed (is_closed (skeleton_of v) span)) (sym on)) (ap (given_up (skeleton_of v)) on)
         (ap (close_told_by N (skeleton_of v) ask) on) goes.1 ready
     close_goes v None ask (Some name) reply w stack on ready none goes =
-        absurd (subst (λ (o : Option Stack). CallGoesIn sg o v (CloseTried name.id (place_at ask.lane ask.moment)) goes.0 w) stack goes.1)
+        absurd (subst (λ (o : Option Stack). CallGoesIn sg o v (CloseTried name.id.value (place_at ask.lane ask.moment)) goes.0 w) stack goes.1)
     close_goes v (Some x) ask (Some name) reply w stack on ready none goes =
         let s = skeleton_of v in
         let at = place_at ask.lane ask.moment in
         let kept = bare x.stack.registry in
         let one = one_stack s kept name.stack (ap (registries_in registry_of) stack)
         (call_knows s ask name on (first_none (call_refusal s ask) (handle_refusal s ask.span) none)) in
-        let call = called x (CloseTried name.id at) goes.0 v w (subst (StackIsReady g h) stack ready)
-        (subst (λ (o : Option Stack). CallGoesIn sg o v (CloseTried name.id at) goes.0 w) stack goes.1) in
+        let call = called x (CloseTried name.id.value at) goes.0 v w (subst (StackIsReady g h) stack ready)
+        (subst (λ (o : Option Stack). CallGoesIn sg o v (CloseTried name.id.value at) goes.0 w) stack goes.1) in
         let held = close_none s x.stack.registry name one.at (ap (handle_refusal s) (sym on) ∙
         second_none (call_refusal s ask) (handle_refusal s ask.span) none) in
-        let closed = subst (λ (o : Option RequestError). CloseIf n line_of g takes o name.id at x goes.0 call.0) held call.1 in
+        let closed = subst (λ (o : Option RequestError). CloseIf n line_of g takes o name.id.value at x goes.0 call.0) held call.1 in
         let outs = closed.1 in
-        let registry : bare call.0.stack.registry ≡ swept (without_handle (registry_at s name.stack) name.id) = outs.skeleton ∙
-        ap (λ (y : RegistryValue). swept (without_handle y name.id)) (sym one.at) in
-        let later = swept (without_handle (registry_at s name.stack) name.id) in
-        let open_later : is_open kin_in later.spans name.id ≡ has_open (given_up s (Some name)) name =
-        ap (λ (y : RegistryValue). is_open kin_in y.spans name.id) (sym (one.alone later)) ∙
+        let registry : bare call.0.stack.registry ≡ swept (without_handle (registry_at s name.stack) name.id.value) = outs.skeleton ∙
+        ap (λ (y : RegistryValue). swept (without_handle y name.id.value)) (sym one.at) in
+        let later = swept (without_handle (registry_at s name.stack) name.id.value) in
+        let open_later : is_open kin_in later.spans name.id.value ≡ has_open (given_up s (Some name)) name =
+        ap (λ (y : RegistryValue). is_open kin_in y.spans name.id.value) (sym (one.alone later)) ∙
         ap (λ (t : Skeleton). has_open t name) (one.with_other later) in (
           made v (CloseStep ask) reply w Unasked outs.fates none refl
               (goes.2 ∙ ap (λ (b : Bool). Closed b)
-              (closed.0 ∙ ap not (sym (open_bare call.0.stack.registry.spans name.id) ∙
-              ap (λ (y : RegistryValue). is_open kin_in y.spans name.id) registry ∙ open_later)) ∙
+              (closed.0 ∙ ap not (sym (open_bare call.0.stack.registry.spans name.id.value) ∙
+              ap (λ (y : RegistryValue). is_open kin_in y.spans name.id.value) registry ∙ open_later)) ∙
               ap (λ (span : Option SpanName). Closed (is_closed s span)) (sym on))
               (skeleton_after v w call.0 call.3 ∙ ap (λ (y : RegistryValue). record s { stacks = y ∷ [] }) registry ∙
-              one.with_other (swept (without_handle (registry_at s name.stack) name.id)) ∙ ap (given_up s) (sym on))
+              one.with_other (swept (without_handle (registry_at s name.stack) name.id.value)) ∙ ap (given_up s) (sym on))
               (outputs_after v w x call.0 (close_told_by N s ask ask.span) outs.fates stack call.3
               (subst (λ (t : Option (Told N)). StackFollows n line_of g takes t outs.fates x call.0)
               (sym (ap (close_told_by N s ask) on ∙
-              ap (λ (y : RegistryValue). Some (record { at = at; lists = call_lists (close_told y at name.id) })) one.at))
+              ap (λ (y : RegistryValue). Some (record { at = at; lists = call_lists (close_told y at name.id.value) })) one.at))
               outs.outputs)),
           ready_after v w call.0 call.2 call.3,
         )

@@ -113,7 +113,7 @@ parent_known s x (Explicit name) is passes =
     let at_home : Option Refusal = when (not (leads_to s.default name.stack)) ForeignParent in
     let at_open : Option Refusal = when (not (has_open s name)) UnknownSpan in
     let both = second_none (when (not (knows_stack s name.stack)) UnknownStack) (first at_home at_open) passes in
-    sym (open_bare x.spans name.id) ∙ ap (λ (y : RegistryValue). is_open kin_in y.spans name.id)
+    sym (open_bare x.spans name.id.value) ∙ ap (λ (y : RegistryValue). is_open kin_in y.spans name.id.value)
     (sym (is name.stack (open_by (leads_to s.default name.stack) ForeignParent (first_none at_home at_open both)))) ∙
     open_by (has_open s name) UnknownSpan (second_none at_home at_open both)
 
@@ -136,10 +136,10 @@ span_open s name passes = open_by (has_open s name) UnknownSpan
     (second_none (when (not (knows_stack s name.stack)) UnknownStack) (when (not (has_open s name)) UnknownSpan) passes)
 
 pub call_open : (s : Skeleton) (x : RegistryValue) (call : SpanCall) (name : SpanName) → registry_at s name.stack ≡ bare x →
-    call.span ≡ Some name → call_refusal s call ≡ None → gives.open_refusal x name.id ≡ None
+    call.span ≡ Some name → call_refusal s call ≡ None → gives.open_refusal x name.id.value ≡ None
 call_open s x call name is named passes =
-    ap (λ (b : Bool). gives.when (not b) errors.UnknownSpan) (sym (open_bare x.spans name.id) ∙
-    ap (λ (y : RegistryValue). is_open kin_in y.spans name.id) (sym is) ∙ span_open s name (named_passes s call name named passes))
+    ap (λ (b : Bool). gives.when (not b) errors.UnknownSpan) (sym (open_bare x.spans name.id.value) ∙
+    ap (λ (y : RegistryValue). is_open kin_in y.spans name.id.value) (sym is) ∙ span_open s name (named_passes s call name named passes))
 
 -- ids are left where the stack is reached
 pub ids_left : (s : Skeleton) → ids_refusal s ≡ None → nat_lt gives.most (reached s).next_id ≡ false
@@ -147,20 +147,20 @@ ids_left s passes = when_none (nat_lt gives.most (reached s).next_id) IdsSpent p
 
 -- a handle that is not refused
 pub clone_none : (s : Skeleton) (x : RegistryValue) (name : SpanName) → registry_at s name.stack ≡ bare x →
-    gives.open_refusal x name.id ≡ None → when (handles_in s name == 18446744073709551615) TooManyHandles ≡ None →
-    gives.clone_refusal x name.id ≡ None
+    gives.open_refusal x name.id.value ≡ None → when (handles_in s name == 18446744073709551615) TooManyHandles ≡ None →
+    gives.clone_refusal x name.id.value ≡ None
 clone_none s x name is opened passes =
-    let same : handles_in s name ≡ handles_of kin_in x.spans name.id = ap (λ (y : RegistryValue). handles_of kin_in y.spans name.id) is ∙
-    handles_bare x.spans name.id in
-    ap (λ (o : Option RequestError). gives.first o (gives.when (handles_of kin_in x.spans name.id == gives.most) errors.TooManyHandles))
+    let same : handles_in s name ≡ handles_of kin_in x.spans name.id.value = ap (λ (y : RegistryValue). handles_of kin_in y.spans name.id.value) is ∙
+    handles_bare x.spans name.id.value in
+    ap (λ (o : Option RequestError). gives.first o (gives.when (handles_of kin_in x.spans name.id.value == gives.most) errors.TooManyHandles))
     opened
     ∙ ap (λ (b : Bool). gives.when b errors.TooManyHandles) (ap (λ (k : ℕ). k == 18446744073709551615) (sym same) ∙
     when_none (handles_in s name == 18446744073709551615) TooManyHandles passes)
 
 pub close_none : (s : Skeleton) (x : RegistryValue) (name : SpanName) → registry_at s name.stack ≡ bare x →
-    when (handles_in s name == 0) UnknownSpan ≡ None → gives.close_refusal x name.id ≡ None
+    when (handles_in s name == 0) UnknownSpan ≡ None → gives.close_refusal x name.id.value ≡ None
 close_none s x name is passes =
-    let same : handles_in s name ≡ handles_of kin_in x.spans name.id = ap (λ (y : RegistryValue). handles_of kin_in y.spans name.id) is ∙
-    handles_bare x.spans name.id in
+    let same : handles_in s name ≡ handles_of kin_in x.spans name.id.value = ap (λ (y : RegistryValue). handles_of kin_in y.spans name.id.value) is ∙
+    handles_bare x.spans name.id.value in
     ap (λ (b : Bool). gives.when b errors.UnknownSpan) (ap (λ (k : ℕ). k == 0) (sym same) ∙
     when_none (handles_in s name == 0) UnknownSpan passes)

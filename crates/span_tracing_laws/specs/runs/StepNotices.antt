@@ -53,7 +53,7 @@ module _ (N : Type 0) where
       Some (record {
         at = place_at r.lane r.moment;
         lists =
-            call_lists (span_told (registry_at s name.stack) (place_at r.lane r.moment) (Recorded (own_values m r.values)) name.id);
+            call_lists (span_told (registry_at s name.stack) (place_at r.lane r.moment) (Recorded (own_values m r.values)) name.id.value);
       })
 
   abbrev pub record_told_by : Skeleton → RecordRequest → Option SpanName → Option (Told N)
@@ -66,7 +66,7 @@ module _ (N : Type 0) where
       Some (record {
         at = place_at call.lane call.moment;
         lists =
-            call_lists (enter_told (registry_at s name.stack) (place_at call.lane call.moment) name.id);
+            call_lists (enter_told (registry_at s name.stack) (place_at call.lane call.moment) name.id.value);
       })
 
   -- an exit is told, and then the closes, a child before its parent
@@ -76,7 +76,7 @@ module _ (N : Type 0) where
       Some (record {
         at = place_at call.lane call.moment;
         lists =
-            call_lists (exit_told (registry_at s name.stack) (place_at call.lane call.moment) name.id);
+            call_lists (exit_told (registry_at s name.stack) (place_at call.lane call.moment) name.id.value);
       })
 
   abbrev pub close_told_by : Skeleton → SpanCall → Option SpanName → Option (Told N)
@@ -85,7 +85,7 @@ module _ (N : Type 0) where
       Some (record {
         at = place_at call.lane call.moment;
         lists =
-            call_lists (close_told (registry_at s name.stack) (place_at call.lane call.moment) name.id);
+            call_lists (close_told (registry_at s name.stack) (place_at call.lane call.moment) name.id.value);
       })
 
   -- of a step that is not refused; none where the outputs rest

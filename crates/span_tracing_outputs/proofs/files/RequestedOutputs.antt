@@ -47,10 +47,11 @@ routed_is {S = S} route sinks made gives = by_good (is_good_route (length sinks)
     by_good false is = absurd is
 
 -- a route that is refused isn't good for its sinks
-pub bad_route : {S D : Type 0} (opens : SinkSpec D → S → Type 0) (routing : Routing D) (sinks : List S) (back : UnroutedSinks S) →
+pub bad_route : {S D : Type 0} (failed : D → ℕ) (opens : SinkSpec D → S → Type 0) (routing : Routing D) (sinks : List S)
+    (back : UnroutedSinks S) →
     Pairs opens routing.sinks.items sinks → RoutingGives routing.route sinks (Err back) →
-    RoutingRefuses (at_output routing.key refusals.BadRoute) routing
-bad_route {S = S} opens routing sinks back pairs gives =
+    RoutingRefuses failed (at_output routing.key refusals.BadRoute) routing
+bad_route {S = S} failed opens routing sinks back pairs gives =
     inr (inl (
       refl,
       ap (λ (n : ℕ). is_good_route n routing.route) (sym (same_length opens routing.sinks.items sinks pairs)) ∙

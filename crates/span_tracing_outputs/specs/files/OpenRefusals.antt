@@ -1,6 +1,7 @@
 -- Which refusal is told of outputs whose files can't be opened.
-use Rattle.std.specs.Prelude.{◌≡◌, ◌⊎◌, true, false, List, [], ◌∷◌, length, Option, Some, None, Result, Ok, Err}
+use Rattle.std.specs.Prelude.{◌≡◌, ◌⊎◌, ℕ, true, false, List, [], ◌∷◌, length, Option, Some, None, Result, Ok, Err}
 use Rattle.tracing_appender_rolling.specs.Builders.{builder_names}
+use Rattle.tracing_appender_rolling.specs.FaultReports.{Rises}
 use Rattle.tracing_appender_rolling.specs.declared.build.BuildError.{BuildError}
 use Rattle.tracing_appender_rolling.specs.declared.build.BuildError.TheVariants as builds
 use Rattle.tracing_appender_rolling.specs.declared.init.InitError.{InitError}
@@ -48,13 +49,15 @@ abbrev pub InOne : {A : Type 0} → (A → Type 0) → List A → Type 0
 InOne does [] = ⊥
 InOne does (x ∷ xs) = does x ⊎ InOne does xs
 
--- a folder refused to open a file of the output, with this fault
-abbrev pub FolderTells : OutputKey → OpenStackError → Type 0
-FolderTells key told = (fault : InitError) × (told ≡ of_sink key (builds.Init fault))
+module _ {D : Type 0} (failed : D → ℕ) where
+  -- the sink's folder refused to open a file of the output, with this fault, and counted it
+  abbrev pub FolderTells : OutputKey → OpenStackError → SinkSpec D → Type 0
+  FolderTells key told (Direct builder folder) =
+      (fault : InitError) × (told ≡ of_sink key (builds.Init fault)) × (back : D) × Rises (failed folder) (failed back)
 
--- a folder refused, or there was no memory
-abbrev pub IsLate : OutputKey → OpenStackError → Type 0
-IsLate key told = FolderTells key told ⊎ (told ≡ at_output key OutOfMemory)
+  -- the folder of one of the sinks refused, or there was no memory
+  abbrev pub IsLate : OutputKey → OpenStackError → List (SinkSpec D) → Type 0
+  IsLate key told sinks = InOne (FolderTells key told) sinks ⊎ (told ≡ at_output key OutOfMemory)
 
 module _ {D : Type 0} where
   -- what is wrong with the names of a sink's files
@@ -65,10 +68,12 @@ module _ {D : Type 0} where
   abbrev pub SinksTell : List (SinkSpec D) → Option Refusal → Type 0
   SinksTell sinks told = FirstTells SinkTells sinks told
 
-  -- a sink of the output with this key can't be opened for its names, or for what comes after them
+module _ {D : Type 0} (failed : D → ℕ) where
+  -- a sink of the output with this key can't be opened for its names, or its folder refuses, or there is no memory
   abbrev pub SinkRefuses : OutputKey → OpenStackError → SinkSpec D → Type 0
   SinkRefuses key told (Direct builder folder) =
-      ((told ≡ at_output key told.refusal) × NamesTell (builder_names builder) (Some told.refusal)) ⊎ IsLate key told
+      ((told ≡ at_output key told.refusal) × NamesTell (builder_names builder) (Some told.refusal)) ⊎
+      (FolderTells failed key told (Direct builder folder) ⊎ (told ≡ at_output key OutOfMemory))
 
   -- a sink of an output can't be opened, or its route isn't good, or there is no memory
   abbrev pub RoutingRefuses : OpenStackError → Routing D → Type 0
@@ -91,11 +96,13 @@ module _ {F D : Type 0} where
   abbrev pub IsRouted : OutputSpec F D → Type 0
   IsRouted spec = is_good_route (length spec.sinks.items) spec.route ≡ true
 
+module _ {F D : Type 0} (failed : D → ℕ) where
   -- the first bad name is told with its output, or out of memory; where all names are good, what one of the outputs meets where its files
   -- are opened, or out of memory before
   abbrev pub IsToldOf : List (OutputSpec F D) → Option (OutputKey × Refusal) → OpenStackError → Type 0
   IsToldOf specs (Some wrong) told = (told ≡ at_output wrong.0 wrong.1) ⊎ (told ≡ of_all OutOfMemory)
-  IsToldOf specs None told = InOne (λ (spec : OutputSpec F D). IsLate spec.key told) specs ⊎ (told ≡ of_all OutOfMemory)
+  IsToldOf specs None told =
+      InOne (λ (spec : OutputSpec F D). IsLate failed spec.key told spec.sinks.items) specs ⊎ (told ≡ of_all OutOfMemory)
 
   -- all names of a stack that is made are good; of one that isn't the first bad name is told, or what comes after names
   abbrev pub NamesAnswer : {A : Type 0} → List (OutputSpec F D) → Result A OpenStackError → Type 0

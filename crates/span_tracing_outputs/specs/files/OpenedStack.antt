@@ -1,8 +1,9 @@
 -- A stack whose files are opened.
-use Rattle.std.specs.Prelude.{◌≡◌, ◌⊎◌, ℕ, nat_eq, nat_le, if◌then◌else◌, List, [], ◌∷◌, length, map, Option, Some, None, Result, Ok, Err}
+use Rattle.std.specs.Prelude.{◌≡◌, ◌⊎◌, ℕ, true, nat_eq, nat_le, if◌then◌else◌, List, [], ◌∷◌, length, map, Option, Some, None}
+use Rattle.std.specs.Prelude.{Result, Ok, Err}
 use Rattle.tracing_core_moments.specs.declared.moment.Moment.{Moment}
 use Rattle.tracing_appender_rolling.specs.folders.Contents.{Contents}
-use Rattle.tracing_appender_rolling.specs.Builders.{builder_names}
+use Rattle.tracing_appender_rolling.specs.Builders.{builder_names, is_whole}
 use Rattle.tracing_appender_rolling.specs.Builds.{IsBuilt}
 use Rattle.tracing_appender_rolling.specs.declared.build.BuildError.{BuildError}
 use Rattle.tracing_appender_rolling.specs.declared.build.BuildError.TheVariants as builds
@@ -109,9 +110,10 @@ module _ {N E F : Type 0} where
         stacks.NewGives h g rows (Err back) → rows_refusal rows ≡ None → stack_refusal back.error ≡ refusals.OutOfMemory
 
 module _ {D : Type 0} (contents : D → Option Contents) (failed : D → ℕ) (m : Moment) where
-  -- a sink over the file that was opened in its folder, after retention, which dropped no line yet
+  -- a sink over the file that was opened in its folder, after retention, which dropped no line yet; its builder missed no text
   abbrev pub OpensSink : SinkSpec D → RollingSink D → Type 0
-  OpensSink (Direct builder folder) sink = IsBuilt contents failed (builder_names builder) folder m sink.appender × (sink.dropped ≡ 0)
+  OpensSink (Direct builder folder) sink =
+      IsBuilt contents failed (builder_names builder) folder m sink.appender × (sink.dropped ≡ 0) × (is_whole builder ≡ true)
 
   pub record OpensRouting (routing : Routing D) (routed : Routed (RollingSink D)) : Type 0 where
     pub route : routed.route ≡ routing.route

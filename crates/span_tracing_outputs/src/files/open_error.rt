@@ -1,16 +1,19 @@
 //! Why a stack's files were not opened.
 ghost use Rattle.std.specs.Prelude.{◌≡◌};
+ghost use Rattle.span_tracing_skeleton.specs.declared.refusal.Refusal.TheVariants.{OutOfMemory};
 ghost use Rattle.span_tracing_outputs.specs.files.OpenedStack.{build_refusal, of_all};
 ghost use Rattle.span_tracing_outputs.specs.files.OpenRefusals.{at_output, of_sink};
 
 use span_registry_layers_store::OutputKey;
 use span_tracing_skeleton::Refusal;
-use thiserror::Error;
+use std::alloc::{AllocError, AllocFailed};
+use std::error::Error;
+use std::fmt;
 use tracing_appender_rolling::{BuildError, InitError};
 
-/// Why no stack was made of outputs, and at which of them. It is displayed as its refusal alone.
-#[derive(Clone, Copy, Debug, PartialEq, Eq, Error)]
-#[error("{refusal}")]
+/// Why no stack was made of outputs, and at which of them. It is displayed with the output's key and the folder's fault:
+/// `output 1: a folder refused to open a file: failed to create log directory: refused`.
+#[derive(Clone, Copy, Debug, PartialEq, Eq)]
 pub struct OpenStackError {
     /// What is told.
     pub refusal: Refusal,
@@ -68,5 +71,47 @@ impl OpenStackError {
             output: Some(key),
             fault,
         }
+    }
+}
+
+impl fmt::Display for OpenStackError {
+    fn fmt<W: fmt::Write>(&self, f: &mut fmt::Formatter<W>) -> Result<(), fmt::Error> {
+        if let Some(key) = self.output {
+            write!(f, "output {}: ", key.0)?;
+        }
+        write!(f, "{}", self.refusal)?;
+        match self.fault {
+            Some(fault) => write!(f, ": {fault}"),
+            None => Ok(()),
+        }
+    }
+}
+
+impl Error for OpenStackError {}
+
+/// Out of memory, of no output: for `?` in a function that sets up outputs.
+impl From<AllocError> for OpenStackError {
+    ghost from_gives = { λ _ told. told ≡ of_all OutOfMemory };
+
+    fn from(_: AllocError) -> OpenStackError {
+        OpenStackError::of_all(Refusal::OutOfMemory)
+    }
+}
+
+/// The same behind what hands back a value that found no memory, as `Vec::push`.
+impl<T: Drop> From<AllocFailed<T>> for OpenStackError {
+    ghost from_gives = { λ _ told. told ≡ of_all OutOfMemory };
+
+    fn from(_: AllocFailed<T>) -> OpenStackError {
+        OpenStackError::of_all(Refusal::OutOfMemory)
+    }
+}
+
+/// A refusal of no output: for `?` behind calls that register callsites or set defaults.
+impl From<Refusal> for OpenStackError {
+    ghost from_gives = { λ refusal told. told ≡ of_all refusal };
+
+    fn from(refusal: Refusal) -> OpenStackError {
+        OpenStackError::of_all(refusal)
     }
 }

@@ -22,7 +22,7 @@ use span_registry_layers_layers::{Filter, Filtered};
 use span_registry_layers_store::OutputKey;
 use span_tracing_skeleton::Refusal;
 use std::alloc::{AllocError, Global};
-use tracing_appender_rolling::Folder;
+use tracing_appender_rolling::{Builder, Folder};
 use tracing_core_moments::Moment;
 
 /// A stack whose outputs have lines of any format, under filters `F`, and whose lines go to rolling files in folders `D`.
@@ -136,6 +136,25 @@ fn split<F: Drop, D: Drop>(
     Ok((rows, routings))
 }
 
+/// A sink over the files of such names in a folder.
+fn open_direct<D: Folder>(
+    alloc: Global,
+    key: OutputKey,
+    builder: Builder,
+    folder: D,
+    moment: Moment,
+) -> Result<RollingSink<D>, OpenStackError>
+    requires { is_moment moment ≡ true }
+    ensures opened { IfOk result (λ sink. OpensSink D.contents D.failed moment (SinkSpec.Direct builder folder) sink) }
+    // A folder's refusal is told only where the folder told a fault.
+    ensures refused { IfErr result (λ told. SinkRefuses D.failed key told (SinkSpec.Direct builder folder)) }
+{
+    match builder.build(alloc, folder, moment) {
+        Ok(appender) => Ok(RollingSink::new(appender)),
+        Err(refused) => Err(OpenStackError::of_sink(key, refused.error)),
+    }
+}
+
 fn open_sink<D: Folder>(
     alloc: Global,
     key: OutputKey,
@@ -144,13 +163,10 @@ fn open_sink<D: Folder>(
 ) -> Result<RollingSink<D>, OpenStackError>
     requires { is_moment moment ≡ true }
     ensures opened { IfOk result (λ sink. OpensSink D.contents D.failed moment spec sink) }
-    ensures refused { IfErr result (λ told. SinkRefuses key told spec) }
+    ensures refused { IfErr result (λ told. SinkRefuses D.failed key told spec) }
 {
     let SinkSpec::Direct(builder, folder) = spec;
-    match builder.build(alloc, folder, moment) {
-        Ok(appender) => Ok(RollingSink::new(appender)),
-        Err(refused) => Err(OpenStackError::of_sink(key, refused.error)),
-    }
+    open_direct(alloc, key, builder, folder, moment)
 }
 
 /// The sinks of an output, opened in order.
@@ -162,7 +178,7 @@ fn open_sinks<D: Folder>(
 ) -> Result<Vec<RollingSink<D>>, OpenStackError>
     requires { is_moment moment ≡ true }
     ensures opened { IfOk result (λ sinks. Pairs (OpensSink D.contents D.failed moment) specs.items sinks.items) }
-    ensures refused { IfErr result (λ told. InOne (SinkRefuses key told) specs.items) }
+    ensures refused { IfErr result (λ told. InOne (SinkRefuses D.failed key told) specs.items) }
 {
     let mut sinks = Vec::new(alloc);
     for spec in specs {
@@ -182,7 +198,7 @@ fn open_routing<D: Folder>(
 ) -> Result<RoutedSinks<RollingSink<D>>, OpenStackError>
     requires { is_moment moment ≡ true }
     ensures opened { IfOk result (λ routed. OpensRouting D.contents D.failed moment routing routed) }
-    ensures refused { IfErr result (λ told. RoutingRefuses told routing) }
+    ensures refused { IfErr result (λ told. RoutingRefuses D.failed told routing) }
 {
     let Routing { key, route, sinks } = routing;
     let opened = open_sinks(alloc, key, sinks, moment)?;
@@ -200,7 +216,7 @@ fn open_routings<D: Folder>(
 ) -> Result<Vec<RoutedSinks<RollingSink<D>>>, OpenStackError>
     requires { is_moment moment ≡ true }
     ensures opened { IfOk result (λ opened. Pairs (OpensRouting D.contents D.failed moment) routings.items opened.items) }
-    ensures refused { IfErr result (λ told. InOne (RoutingRefuses told) routings.items) }
+    ensures refused { IfErr result (λ told. InOne (RoutingRefuses D.failed told) routings.items) }
 {
     let mut opened = Vec::new(alloc);
     for routing in routings {
@@ -238,9 +254,10 @@ pub fn open_stack<F: Filter, D: Folder>(
     // may be answered instead.
     ensures told { is_moment moment ≡ true → Answers (outputs_refusal outputs.items) result }
     // Where each output's route is good, as `OutputSpec::new` makes it, a stack that is made has good names, and the first bad name
-    // is refused ahead of what a folder refuses; out of memory may be answered instead.
+    // is refused ahead of what a folder refuses; out of memory may be answered instead. A folder's refusal is told only where the folder
+    // told a fault.
     ensures names { is_moment moment ≡ true → outputs_refusal outputs.items ≡ None → Every IsRouted outputs.items →
-        NamesAnswer outputs.items result }
+        NamesAnswer D.failed outputs.items result }
     ensures opened { IfOk result (λ made. OpensStack D.contents D.failed ⟦<F as Filter>⟧
         ⟦<Lines as span_registry_layers_layers::Layer>⟧ moment [] outputs.items made) }
     // With honest filters the stack is ready.
@@ -266,9 +283,10 @@ pub fn open_stack_with_threads<F: Filter, D: Folder>(
     ensures moment { is_moment moment ≡ false → result ≡ Err (of_all Refusal.BadMoment) }
     ensures told { is_moment moment ≡ true → Answers (outputs_refusal outputs.items) result }
     // Where each output's route is good, as `OutputSpec::new` makes it, a stack that is made has good names, and the first bad name
-    // is refused ahead of what a folder refuses; out of memory may be answered instead.
+    // is refused ahead of what a folder refuses; out of memory may be answered instead. A folder's refusal is told only where the folder
+    // told a fault.
     ensures names { is_moment moment ≡ true → outputs_refusal outputs.items ≡ None → Every IsRouted outputs.items →
-        NamesAnswer outputs.items result }
+        NamesAnswer D.failed outputs.items result }
     ensures opened { IfOk result (λ made. OpensStack D.contents D.failed ⟦<F as Filter>⟧
         ⟦<Lines as span_registry_layers_layers::Layer>⟧ moment (map lane_of threads.now) outputs.items made) }
     // With honest filters the stack is ready.

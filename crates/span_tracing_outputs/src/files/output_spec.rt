@@ -1,11 +1,14 @@
 //! What an output is to be, before its files are opened.
 ghost use Rattle.std.specs.Prelude.{◌≡◌};
+ghost use Rattle.span_tracing_outputs.specs.files.FileSpecs.{FileGives};
 ghost use Rattle.span_tracing_outputs.specs.files.OutputSpecs.{SpecGives};
 
 use crate::files::line_settings::LineSettings;
+use crate::files::open_error::OpenStackError;
 use event_formatter_text::Route;
 use span_registry_layers_store::OutputKey;
 use span_tracing_skeleton::Refusal;
+use std::alloc::Global;
 use tracing_appender_rolling::Builder;
 
 /// Where lines go.
@@ -79,6 +82,34 @@ impl<F, D> OutputSpec<F, D> {
                 route,
                 sinks,
             }),
+        }
+    }
+}
+
+impl<F: Drop, D: Drop> OutputSpec<F, D> {
+    /// An output under a filter that writes its lines to files of such names in a folder. It has one sink, which takes each line.
+    ///
+    /// # Errors
+    ///
+    /// `JsonFieldsNeeded` where lines are JSON and fields are not, and out of memory, both with the output's key. What was handed in is
+    /// let go.
+    pub fn file(
+        alloc: Global,
+        key: OutputKey,
+        filter: F,
+        lines: LineSettings,
+        builder: Builder,
+        folder: D,
+    ) -> Result<OutputSpec<F, D>, OpenStackError>
+        ensures { FileGives key filter lines builder folder result }
+    {
+        let mut sinks = Vec::new(alloc);
+        let Ok(()) = sinks.push(SinkSpec::Direct(builder, folder)) else {
+            return Err(OpenStackError::at_output(key, Refusal::OutOfMemory));
+        };
+        match OutputSpec::new(key, filter, lines, Route::Sink(0), sinks) {
+            Ok(spec) => Ok(spec),
+            Err(refused) => Err(OpenStackError::at_output(key, refused.error)),
         }
     }
 }

@@ -42,8 +42,7 @@ fn holds(folder: &MemoryFolder, name: &str, bytes: &[u8]) -> Result<bool, AllocE
 fn lines_go_to_the_file_of_the_step(rt: HostRuntime) -> Result<(), Fail> {
     let alloc = rt.alloc();
     let mut queue = QueueState::new(alloc, 10, true)?;
-    let prefix = String::from_str(alloc, "p")?;
-    let mut appender = daily(alloc, MemoryFolder::new(alloc), prefix, MONDAY).map_err(
+    let mut appender = daily(alloc, MemoryFolder::new(alloc), "p", MONDAY).map_err(
         |refusal| refusal.error,
     )?;
     assert!(rt; offer(alloc, &mut queue, "a\n")?);
@@ -68,8 +67,7 @@ fn lines_go_to_the_file_of_the_step(rt: HostRuntime) -> Result<(), Fail> {
 fn nothing_behind_the_mark_is_taken(rt: HostRuntime) -> Result<(), Fail> {
     let alloc = rt.alloc();
     let mut queue = QueueState::new(alloc, 3, true)?;
-    let prefix = String::from_str(alloc, "p")?;
-    let mut appender = daily(alloc, MemoryFolder::new(alloc), prefix, MONDAY).map_err(
+    let mut appender = daily(alloc, MemoryFolder::new(alloc), "p", MONDAY).map_err(
         |refusal| refusal.error,
     )?;
     assert!(rt; offer(alloc, &mut queue, "a\n")?);
@@ -94,12 +92,11 @@ fn a_failing_write_loses_its_rest_alone(rt: HostRuntime) -> Result<(), Fail> {
     let refused = Vec::from_slice(alloc, &[3])?;
     let short = Vec::from_slice(alloc, &[2])?;
     let folder = FaultyFolder::new(MemoryFolder::new(alloc), refused).with_short_writes(short, 1);
-    let prefix = String::from_str(alloc, "p")?;
     let mut appender = RollingFileAppender::new(
         alloc,
         Rotation::DAILY,
         folder,
-        prefix,
+        "p",
         MONDAY,
     ).map_err(|refusal| refusal.error)?;
     assert!(rt; offer(alloc, &mut queue, "a\n")?);
@@ -123,13 +120,11 @@ fn a_step_with_a_limit_and_a_link_may_be_cut(rt: HostRuntime) -> Result<(), Fail
     let alloc = rt.alloc();
     for first in 0..=2 {
         let mut queue = QueueState::new(alloc, 3, true)?;
-        let prefix = String::from_str(alloc, "p")?;
-        let link = String::from_str(alloc, "latest")?;
-        let mut appender = Builder::new()
+        let mut appender = Builder::new(alloc)
             .rotation(Rotation::DAILY)
-            .filename_prefix(prefix)
+            .filename_prefix("p")
             .max_log_files(1)
-            .latest_symlink(link)
+            .latest_symlink("latest")
             .build(alloc, MemoryFolder::new(alloc), MONDAY)
             .map_err(|refusal| refusal.error)?;
         assert!(rt; offer(alloc, &mut queue, "a\n")?);
@@ -153,7 +148,7 @@ fn a_step_with_a_limit_and_a_link_may_be_cut(rt: HostRuntime) -> Result<(), Fail
 fn a_step_of_no_lines_takes_the_mark(rt: HostRuntime) -> Result<(), Fail> {
     let alloc = rt.alloc();
     let mut queue = QueueState::new(alloc, 1, false)?;
-    let mut appender = Builder::new()
+    let mut appender = Builder::new(alloc)
         .build(alloc, MemoryFolder::new(alloc), MONDAY)
         .map_err(|refusal| refusal.error)?;
     queue.mark()?;

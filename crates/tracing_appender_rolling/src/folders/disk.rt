@@ -1,7 +1,11 @@
 //! A folder of the system.
 
-ghost use Rattle.std.specs.Prelude.{◌≡◌, ◌≢◌, ◌≤◌, ◌+◌, ◌-◌, ◌^◌, ℕ, true, false, min, length, string_bytes, IfOk, IfErr, OnErr, All};
-ghost use Rattle.tracing_appender_rolling.specs.folders.Contents.{Gives, opened, closed, written, flushed, names_listed, begins_with};
+ghost use Rattle.std.specs.Prelude.{◌≡◌, ◌≢◌, ◌≤◌, ◌+◌, ◌-◌, ◌^◌, ℕ, true, false, min, length, string_bytes, IfOk, IfErr, IfSome};
+ghost use Rattle.std.specs.Prelude.{OnErr, All};
+ghost use Rattle.std.specs.Prelude.{Some, None, Err};
+ghost use Rattle.std.specs.Option.{option_map};
+ghost use Rattle.tracing_appender_rolling.specs.folders.Contents.{Gives, opened, closed, written, removed, flushed, dirs_made};
+ghost use Rattle.tracing_appender_rolling.specs.folders.Contents.{names_listed, begins_with};
 ghost use Rattle.tracing_appender_rolling.specs.folders.Contents.{failures_after};
 ghost use Rattle.tracing_appender_rolling.specs.folders.ListedEntries.{listed_of, listed_all};
 ghost use Rattle.tracing_appender_rolling.specs.folders.Disks.{joined, is_open_at, SameOpen, HasRoom, OpensNumber, ClosesNumber};
@@ -27,24 +31,27 @@ const REFUSED: FolderError = FolderError::Fault(FolderFault::Refused);
 /// between the look at the name and its opening.
 ///
 /// Out of memory is answered where this process's allocator refused. Where the kernel has none, the call is
-/// refused.
+/// refused. Where there was no memory for the path, each call that needs it answers out of memory.
 #[derive(Drop)]
 pub struct DiskFolder<R: Files + AllocGlobal + Clone + Drop> {
     rt: R,
-    path: String,
+    /// None where it found no memory.
+    pub(crate) path: Option<String>,
     /// The handle of an open file stands at its number.
     files: Vec<Option<R::File>>,
     failures: u64,
 }
 
 impl<R: Files + AllocGlobal + Clone + Drop> DiskFolder<R> {
-    /// The folder at a path of the system. Nothing is opened or made yet.
-    pub fn new(rt: R, path: String) -> DiskFolder<R>
+    /// The folder at a path of the system, which is copied. Nothing is opened or made yet.
+    pub fn new(rt: R, path: &str) -> DiskFolder<R>
         ensures failures { result.failures ≡ 0 }
-        ensures path { result.path ≡ path }
+        // The path is the one that was lent, or it found no memory, and none is kept.
+        ensures path { IfSome result.path (λ kept. string_bytes kept ≡ path.now) }
         ensures open_files { (n : ℕ) → is_open_at result.files.items n ≡ false }
     {
         let files = Vec::new(rt.alloc());
+        let path = String::from_str(rt.alloc(), path).ok();
         DiskFolder {
             rt,
             path,
@@ -53,11 +60,25 @@ impl<R: Files + AllocGlobal + Clone + Drop> DiskFolder<R> {
         }
     }
 
+    /// The path, where it found memory.
+    fn kept_path(&self) -> Result<&str, FolderError>
+        ensures found { IfOk result (λ path. option_map string_bytes self.now.path ≡ Some path.now) }
+        ensures missed { IfErr result (λ e. e ≡ FolderError.OutOfMemory) }
+    {
+        match &self.path {
+            Some(path) => Ok(path.as_str()),
+            None => Err(FolderError::OutOfMemory),
+        }
+    }
+
     /// The path of a name in the folder.
     fn path_of(&self, name: &str) -> Result<String, FolderError>
-        ensures { IfOk result (λ path. string_bytes path ≡ joined (string_bytes self.now.path) name.now) }
+        ensures joined { IfOk result (λ path. IfSome self.now.path (λ kept.
+            string_bytes path ≡ joined (string_bytes kept) name.now)) }
+        ensures missed { IfErr result (λ e. e ≡ FolderError.OutOfMemory) }
+        ensures needed { self.now.path ≡ None → result ≡ Err FolderError.OutOfMemory }
     {
-        let mut path = String::from_str(self.rt.alloc(), self.path.as_str())?;
+        let mut path = String::from_str(self.rt.alloc(), self.kept_path()?)?;
         // An empty path is the current folder, and no root.
         if !path.is_empty() {
             path.push('/')?;
@@ -103,6 +124,7 @@ impl<R: Files + AllocGlobal + Clone + Drop> DiskFolder<R> {
         ensures opened { IfOk result (λ file. OpensNumber self.old.files.items self.new.files.items file.index) }
         ensures refused { OnErr result (SameOpen self.old.files.items self.new.files.items) }
         ensures failures { self.new.failures ≡ self.old.failures }
+        ensures needed { self.old.path ≡ None → result ≡ Err FolderError.OutOfMemory }
     {
         let path = self.path_of(name)?;
         self.check_plain(path.as_str())?;
@@ -151,22 +173,22 @@ impl<R: Files + AllocGlobal + Clone + Drop> DiskFolder<R> {
         matches!(self.files.get(file.index), Some(Some(_)))
     }
 
-    fn listed_path(&self) -> &str {
-        if self.path.is_empty() {
-            "."
-        } else {
-            self.path.as_str()
-        }
+    fn listed_path(&self) -> Result<&str, FolderError>
+        ensures { self.now.path ≡ None → result ≡ Err FolderError.OutOfMemory }
+    {
+        let path = self.kept_path()?;
+        Ok(if path.is_empty() { "." } else { path })
     }
 
     // An entry that can't be read is passed over. An error that ends the reading isn't, since the list would be
     // short. Of a name without the prefix nothing is asked and nothing is copied.
     fn entries(&self, prefix: &str) -> Result<Vec<Entry>, FolderError>
-        ensures { IfOk result (λ all. All (λ e. begins_with prefix.now (listed_of e) ≡ true) all.items) }
+        ensures begins { IfOk result (λ all. All (λ e. begins_with prefix.now (listed_of e) ≡ true) all.items) }
+        ensures needed { self.now.path ≡ None → result ≡ Err FolderError.OutOfMemory }
     {
         let alloc = self.rt.alloc();
         let mut all = Vec::new(alloc);
-        let entries = match fs::read_dir(&self.rt, self.listed_path()) {
+        let entries = match fs::read_dir(&self.rt, self.listed_path()?) {
             Ok(entries) => entries,
             Err(error) => return Err(fault_of(&error)),
         };
@@ -191,7 +213,9 @@ impl<R: Files + AllocGlobal + Clone + Drop> DiskFolder<R> {
         Ok(all)
     }
 
-    fn remove_name(&self, name: &str) -> Result<(), FolderError> {
+    fn remove_name(&self, name: &str) -> Result<(), FolderError>
+        ensures { self.now.path ≡ None → result ≡ Err FolderError.OutOfMemory }
+    {
         let path = self.path_of(name)?;
         match fs::remove_file(&self.rt, path.as_str()) {
             Ok(()) => Ok(()),
@@ -199,8 +223,10 @@ impl<R: Files + AllocGlobal + Clone + Drop> DiskFolder<R> {
         }
     }
 
-    fn make_dirs(&self) -> Result<(), FolderError> {
-        match fs::create_dir_all(&self.rt, self.path.as_str()) {
+    fn make_dirs(&self) -> Result<(), FolderError>
+        ensures { self.now.path ≡ None → result ≡ Err FolderError.OutOfMemory }
+    {
+        match fs::create_dir_all(&self.rt, self.kept_path()?) {
             Ok(()) => Ok(()),
             Err(error) => Err(fault_of(&error)),
         }
@@ -213,8 +239,6 @@ fn is_bad_name(error: &Error) -> bool {
 }
 
 impl<R: Files + AllocGlobal + Clone + Drop> Folder for DiskFolder<R> {
-    ghost use Rattle.std.specs.Prelude.{None};
-
     ghost contents = { λ _. None };
 
     ghost failed = { λ d. d.failures };
@@ -224,6 +248,8 @@ impl<R: Files + AllocGlobal + Clone + Drop> Folder for DiskFolder<R> {
         ensures failures { self.new.failures ≡ failures_after self.old.failures result }
         ensures opened { IfOk result (λ file. OpensNumber self.old.files.items self.new.files.items file.index) }
         ensures refused { OnErr result (SameOpen self.old.files.items self.new.files.items) }
+        // Without a path out of memory is answered, as in each call that needs the path.
+        ensures needed { self.old.path ≡ None → result ≡ Err FolderError.OutOfMemory }
     {
         let answer = self.open_file(name);
         self.counted(answer)
@@ -251,7 +277,11 @@ impl<R: Files + AllocGlobal + Clone + Drop> Folder for DiskFolder<R> {
         self.counted(answer)
     }
 
-    fn create_dirs(&mut self) -> Result<(), FolderError> {
+    fn create_dirs(&mut self) -> Result<(), FolderError>
+        ensures gives { Gives dirs_made None result None }
+        ensures failures { self.new.failures ≡ failures_after self.old.failures result }
+        ensures needed { self.old.path ≡ None → result ≡ Err FolderError.OutOfMemory }
+    {
         let answer = self.make_dirs();
         self.counted(answer)
     }
@@ -276,12 +306,17 @@ impl<R: Files + AllocGlobal + Clone + Drop> Folder for DiskFolder<R> {
         ensures gives { Gives (λ c. names_listed c prefix.now) None (listed_all result) None }
         ensures failures { self.new.failures ≡ failures_after self.old.failures (listed_all result) }
         ensures begins { IfOk result (λ all. All (λ e. begins_with prefix.now (listed_of e) ≡ true) all.items) }
+        ensures needed { self.old.path ≡ None → result ≡ Err FolderError.OutOfMemory }
     {
         let answer = self.entries(prefix);
         self.counted(answer)
     }
 
-    fn remove(&mut self, name: &str) -> Result<(), FolderError> {
+    fn remove(&mut self, name: &str) -> Result<(), FolderError>
+        ensures gives { Gives (λ c. removed c name.now) None result None }
+        ensures failures { self.new.failures ≡ failures_after self.old.failures result }
+        ensures needed { self.old.path ≡ None → result ≡ Err FolderError.OutOfMemory }
+    {
         let answer = self.remove_name(name);
         self.counted(answer)
     }

@@ -1,25 +1,47 @@
 //! Why a folder refuses a call.
 
-ghost use Rattle.std.specs.Prelude.{◌≡◌};
+ghost use Rattle.std.specs.Prelude.{◌≡◌, Some};
 ghost use Rattle.tracing_appender_rolling.specs.folders.Contents.{failures_after};
+ghost use Rattle.tracing_appender_rolling.specs.Faults.{fault_text};
 ghost use Rattle.tracing_appender_rolling.specs.declared.folders.fault.FolderError.TheVariants.{OutOfMemory};
 
 use std::alloc::{AllocError, AllocFailed};
+use std::{error, fmt};
 use thiserror::Error;
 use tracing_core_moments::Moment;
 
 /// A folder's refusal of a call.
-#[derive(Clone, Copy, Debug, PartialEq, Eq, Error)]
+#[derive(Clone, Copy, Debug, PartialEq, Eq)]
 pub enum FolderFault {
-    #[error("refused")]
     Refused,
-    #[error("not found")]
     NotFound,
-    #[error("unsupported")]
     Unsupported,
-    #[error("write took no bytes")]
     WriteZero,
 }
+
+impl FolderFault {
+    /// What it is displayed as.
+    pub fn text(self) -> &'static str
+        ensures { result.now ≡ fault_text self }
+    {
+        match self {
+            FolderFault::Refused => "refused",
+            FolderFault::NotFound => "not found",
+            FolderFault::Unsupported => "unsupported",
+            FolderFault::WriteZero => "write took no bytes",
+        }
+    }
+}
+
+impl fmt::Display for FolderFault {
+    ghost output = { λ fault. Some (fault_text fault) };
+
+    fn fmt<W: fmt::Write>(&self, f: &mut fmt::Formatter<W>) -> fmt::Result {
+        f.write_str(self.text())
+    }
+}
+
+impl error::Error for FolderFault {}
 
 /// What a folder's call answers where it did nothing: a fault, or out of memory.
 #[derive(Clone, Copy, Debug, PartialEq, Eq, Error)]

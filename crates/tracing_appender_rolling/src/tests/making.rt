@@ -10,20 +10,11 @@ use std::process::Abort;
 use std::test::Fail;
 use tracing_core_moments::Moment;
 
-pub fn named(
-    alloc: Global,
-    rotation: Rotation,
-    prefix: &str,
-    suffix: &str,
-) -> Result<Builder, AllocError> {
-    let prefix = String::from_str(alloc, prefix)?;
-    let suffix = String::from_str(alloc, suffix)?;
-    Ok(
-        Builder::new()
-            .rotation(rotation)
-            .filename_prefix(prefix)
-            .filename_suffix(suffix),
-    )
+pub fn named(alloc: Global, rotation: Rotation, prefix: &str, suffix: &str) -> Builder {
+    Builder::new(alloc)
+        .rotation(rotation)
+        .filename_prefix(prefix)
+        .filename_suffix(suffix)
 }
 
 /// A builder that keeps a link to its latest file.
@@ -33,9 +24,8 @@ pub fn linked(
     prefix: &str,
     suffix: &str,
     link: &str,
-) -> Result<Builder, AllocError> {
-    let link = String::from_str(alloc, link)?;
-    Ok(named(alloc, rotation, prefix, suffix)?.latest_symlink(link))
+) -> Builder {
+    named(alloc, rotation, prefix, suffix).latest_symlink(link)
 }
 
 /// An appender over an empty folder in memory.

@@ -4,7 +4,7 @@ use crate::folders::{Entry, FileNumber, Folder, FolderError, MemoryFolder};
 use crate::tests::making::named;
 use crate::tests::moments::{FEBRUARY, MONDAY};
 use crate::{Builder, Rotation};
-use std::alloc::{AllocError, Global};
+use std::alloc::Global;
 use std::test::Fail;
 use tracing_core_moments::Moment;
 
@@ -88,8 +88,8 @@ impl Folder for CrowdedFolder {
     }
 }
 
-fn five_kept(alloc: Global) -> Result<Builder, AllocError> {
-    Ok(named(alloc, Rotation::DAILY, "app", "")?.max_log_files(5))
+fn five_kept(alloc: Global) -> Builder {
+    named(alloc, Rotation::DAILY, "app", "").max_log_files(5)
 }
 
 /// The work on so many candidates is a sort. Each compared with each would outlast the time that a test has.
@@ -102,7 +102,7 @@ fn a_hundred_thousand_files_are_sorted_once(rt: HostRuntime) -> Result<(), Fail>
         removals: 0,
         newest_removed: 0,
     };
-    let appender = five_kept(alloc)?
+    let appender = five_kept(alloc)
         .build(alloc, folder, MONDAY)
         .map_err(|refusal| refusal.error)?;
     let folder = appender.folder();
@@ -128,7 +128,7 @@ fn files_without_the_prefix_stay_among_many(rt: HostRuntime) -> Result<(), Fail>
             made_at(number),
         )?;
     }
-    let appender = five_kept(alloc)?
+    let appender = five_kept(alloc)
         .build(alloc, folder, MONDAY)
         .map_err(|refusal| refusal.error)?;
     let entries = appender.folder().files()?;

@@ -37,7 +37,7 @@ fn have_names(
     requires { is_moment moment ≡ true }
 {
     for (rotation, prefix, suffix, name) in rows {
-        let file = first_name(alloc, named(alloc, *rotation, prefix, suffix)?, moment)?;
+        let file = first_name(alloc, named(alloc, *rotation, prefix, suffix), moment)?;
         assert_eq!(rt; file.as_str(), *name);
     }
     Ok(())
@@ -68,7 +68,7 @@ fn all_rotations_have_names(rt: HostRuntime) -> Result<(), Fail> {
         (Rotation::NEVER, "my_prefix", "log", "my_prefix.log"),
     ];
     have_names(&rt, alloc, MONDAY, &rows)?;
-    let alone = first_name(alloc, Builder::default(), MONDAY)?;
+    let alone = first_name(alloc, Builder::new(alloc), MONDAY)?;
     assert_eq!(rt; alone.as_str(), "2025-02-17");
     let halves = [
         (Rotation::NEVER, "app.log", "", "app.log"),
@@ -114,12 +114,12 @@ fn each_rotation_names_its_file(rt: HostRuntime) -> Result<(), Fail> {
 #[test]
 fn a_builder_starts_without_a_link(rt: HostRuntime) -> Result<(), Fail> {
     let alloc = rt.alloc();
-    let builder = RollingFileAppender::<MemoryFolder>::builder();
+    let builder = RollingFileAppender::<MemoryFolder>::builder(alloc);
     assert!(rt; !builder.has_bad_name());
     assert!(rt; !builder.has_bad_link());
     let name = first_name(alloc, builder, MONDAY)?;
     assert_eq!(rt; name.as_str(), "2025-02-17");
-    let hour = linked(alloc, Rotation::HOURLY, "p", "", "p.2020-02-01-10")?;
+    let hour = linked(alloc, Rotation::HOURLY, "p", "", "p.2020-02-01-10");
     assert!(rt; hour.has_bad_link());
     let day = hour.rotation(Rotation::DAILY);
     assert!(rt; !day.has_bad_link());
@@ -173,20 +173,15 @@ fn writes_to(
 #[test]
 fn each_rotation_writes_one_file(rt: HostRuntime) -> Result<(), Fail> {
     let alloc = rt.alloc();
-    let prefix = String::from_str(alloc, "p.log")?;
-    let by_minute = minutely(alloc, MemoryFolder::new(alloc), prefix, FEBRUARY);
+    let by_minute = minutely(alloc, MemoryFolder::new(alloc), "p.log", FEBRUARY);
     assert!(rt; writes_to(by_minute, "p.log.2020-02-01-10-01")?);
-    let prefix = String::from_str(alloc, "p.log")?;
-    let by_hour = hourly(alloc, MemoryFolder::new(alloc), prefix, FEBRUARY);
+    let by_hour = hourly(alloc, MemoryFolder::new(alloc), "p.log", FEBRUARY);
     assert!(rt; writes_to(by_hour, "p.log.2020-02-01-10")?);
-    let prefix = String::from_str(alloc, "p.log")?;
-    let by_day = daily(alloc, MemoryFolder::new(alloc), prefix, FEBRUARY);
+    let by_day = daily(alloc, MemoryFolder::new(alloc), "p.log", FEBRUARY);
     assert!(rt; writes_to(by_day, "p.log.2020-02-01")?);
-    let prefix = String::from_str(alloc, "p.log")?;
-    let by_week = weekly(alloc, MemoryFolder::new(alloc), prefix, FEBRUARY);
+    let by_week = weekly(alloc, MemoryFolder::new(alloc), "p.log", FEBRUARY);
     assert!(rt; writes_to(by_week, "p.log.2020-01-26")?);
-    let prefix = String::from_str(alloc, "p.log")?;
-    let mut appender = never(alloc, MemoryFolder::new(alloc), prefix, FEBRUARY).map_err(
+    let mut appender = never(alloc, MemoryFolder::new(alloc), "p.log", FEBRUARY).map_err(
         |refusal| refusal.error,
     )?;
     appender.write_all_at(b"Hel", FEBRUARY)?;
@@ -200,7 +195,7 @@ fn each_rotation_writes_one_file(rt: HostRuntime) -> Result<(), Fail> {
 #[test]
 fn old_files_go(rt: HostRuntime) -> Result<(), Fail> {
     let alloc = rt.alloc();
-    let builder = named(alloc, Rotation::HOURLY, "t", "")?.max_log_files(2);
+    let builder = named(alloc, Rotation::HOURLY, "t", "").max_log_files(2);
     let mut appender = fresh(alloc, builder, FEBRUARY)?;
     appender.write_all_at(b"a", later(1)?)?;
     appender.write_all_at(b"b", later(3_601)?)?;
@@ -223,7 +218,7 @@ fn candidates_count_from_their_making(rt: HostRuntime) -> Result<(), Fail> {
     folder.put("t.2019-02-29", b"no date", None)?;
     folder.put("u.2019-01-01", b"other", None)?;
     folder.put("t.new", b"4", Some(MONDAY))?;
-    let appender = named(alloc, Rotation::DAILY, "t", "")?
+    let appender = named(alloc, Rotation::DAILY, "t", "")
         .max_log_files(3)
         .build(alloc, folder, FEBRUARY)
         .map_err(|refusal| refusal.error)?;
@@ -241,7 +236,7 @@ fn candidates_count_from_their_making(rt: HostRuntime) -> Result<(), Fail> {
 #[test]
 fn a_link_leads_to_the_latest_file(rt: HostRuntime) -> Result<(), Fail> {
     let alloc = rt.alloc();
-    let builder = linked(alloc, Rotation::HOURLY, "t", "", "latest.log")?;
+    let builder = linked(alloc, Rotation::HOURLY, "t", "", "latest.log");
     let mut appender = fresh(alloc, builder, FEBRUARY)?;
     assert_eq!(rt;
         appender.folder().link_target("latest.log"),
@@ -266,7 +261,7 @@ fn a_link_leads_to_the_latest_file(rt: HostRuntime) -> Result<(), Fail> {
 #[test]
 fn a_link_moves_in_the_next_hour(rt: HostRuntime) -> Result<(), Fail> {
     let alloc = rt.alloc();
-    let builder = linked(alloc, Rotation::HOURLY, "t", "", "latest.log")?;
+    let builder = linked(alloc, Rotation::HOURLY, "t", "", "latest.log");
     let mut appender = fresh(alloc, builder, FEBRUARY)?;
     appender.write_all_at(b"late\n", ELEVEN)?;
     assert_eq!(rt;
@@ -289,11 +284,11 @@ fn refusal(alloc: Global, builder: Builder) -> Option<BuildError> {
 #[test]
 fn bad_names_and_links_are_refused(rt: HostRuntime) -> Result<(), Fail> {
     let alloc = rt.alloc();
-    let slash = named(alloc, Rotation::HOURLY, "a/b", "")?;
+    let slash = named(alloc, Rotation::HOURLY, "a/b", "");
     assert_eq!(rt; refusal(alloc, slash), Some(BuildError::BadName));
-    let dots = named(alloc, Rotation::NEVER, "..", "")?;
+    let dots = named(alloc, Rotation::NEVER, "..", "");
     assert_eq!(rt; refusal(alloc, dots), Some(BuildError::BadName));
-    let dots = named(alloc, Rotation::DAILY, "..", "")?;
+    let dots = named(alloc, Rotation::DAILY, "..", "");
     assert_eq!(rt; refusal(alloc, dots), None);
     for (rotation, suffix, link, refused) in [
         (Rotation::HOURLY, "", ".", Some(BuildError::BadName)),
@@ -317,7 +312,7 @@ fn bad_names_and_links_are_refused(rt: HostRuntime) -> Result<(), Fail> {
             Some(BuildError::BadLinkName),
         ),
     ] {
-        let builder = linked(alloc, rotation, "p", suffix, link)?;
+        let builder = linked(alloc, rotation, "p", suffix, link);
         assert_eq!(rt; refusal(alloc, builder), refused, "of {link}");
     }
     Ok(())

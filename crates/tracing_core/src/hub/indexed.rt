@@ -15,7 +15,7 @@ use crate::hub::index::CallsiteIndex;
 use crate::hub::parts::RegisteredSubscriber;
 use crate::hub::registered::ask_one;
 use tracing_core_fields::{
-    Attributes, Callsite, Event, FieldValue, Id, Metadata, Record, RequestError, Subscriber,
+    Attributes, Callsite, Event, Id, IndexedValues, Metadata, Record, RequestError, Subscriber,
     ValueSet,
 };
 use tracing_core_moments::At;
@@ -51,10 +51,10 @@ fn tell_event<S: Subscriber>(
     serial: Option<u64>,
     metadata: &Metadata<'_>,
     parent: RequestParent,
-    values: &[FieldValue],
+    values: IndexedValues<'_>,
     at: At,
 ) -> Result<(), RequestError>
-    ensures { CallGives ⟦<S as Subscriber>⟧ (EventDispatched (request_at (plain_metadata metadata.now) values.now parent)
+    ensures { CallGives ⟦<S as Subscriber>⟧ (EventDispatched (request_at (plain_metadata metadata.now) values.entry parent)
         at) serial subscribers.old result subscribers.new }
 {
     let event = event_of(
@@ -70,10 +70,10 @@ fn make_span<S: Subscriber>(
     serial: Option<u64>,
     metadata: &Metadata<'_>,
     parent: RequestParent,
-    values: &[FieldValue],
+    values: IndexedValues<'_>,
     at: At,
 ) -> Result<Option<Id>, RequestError>
-    ensures { CallGives ⟦<S as Subscriber>⟧ (SpanMade (request_at (plain_metadata metadata.now) values.now parent) at)
+    ensures { CallGives ⟦<S as Subscriber>⟧ (SpanMade (request_at (plain_metadata metadata.now) values.entry parent) at)
         serial subscribers.old result subscribers.new }
 {
     let values = metadata.fields().value_set_indexed(values);
@@ -97,10 +97,10 @@ fn tell_values<S: Subscriber>(
     serial: Option<u64>,
     metadata: &Metadata<'_>,
     span: &Id,
-    values: &[FieldValue],
+    values: IndexedValues<'_>,
     at: At,
 ) -> Result<(), RequestError>
-    ensures { CallGives ⟦<S as Subscriber>⟧ (Recorded span.now (values_at (plain_metadata metadata.now) values.now) at)
+    ensures { CallGives ⟦<S as Subscriber>⟧ (Recorded span.now (values_at (plain_metadata metadata.now) values.entry) at)
         serial subscribers.old result subscribers.new }
 {
     let values = Record::new(metadata.fields().value_set_indexed(values));
@@ -140,11 +140,11 @@ impl<S: Subscriber, C: Callsite> Hub<S, C> {
         dispatch: &Dispatch,
         index: CallsiteIndex,
         parent: RequestParent,
-        values: &[FieldValue],
+        values: IndexedValues<'_>,
         at: At,
     ) -> Option<Result<(), RequestError>>
         ensures gives { EventAtGives ⟦<S as Subscriber>⟧ ⟦<C as Callsite>⟧ (slice_get self.old.callsites index.0)
-            values.now parent at dispatch.now self.old result self.new }
+            values.entry parent at dispatch.now self.old result self.new }
         ensures keeps { PreservesCaches ⟦<S as Subscriber>⟧ ⟦<C as Callsite>⟧ self.old self.new }
     {
         self.hand_event(dispatch, index, parent, values, at)
@@ -155,10 +155,10 @@ impl<S: Subscriber, C: Callsite> Hub<S, C> {
         dispatch: &Dispatch,
         index: CallsiteIndex,
         parent: RequestParent,
-        values: &[FieldValue],
+        values: IndexedValues<'_>,
         at: At,
     ) -> Option<Result<(), RequestError>>
-        ensures { EventAtGives ⟦<S as Subscriber>⟧ ⟦<C as Callsite>⟧ (slice_get self.old.callsites index.0) values.now
+        ensures { EventAtGives ⟦<S as Subscriber>⟧ ⟦<C as Callsite>⟧ (slice_get self.old.callsites index.0) values.entry
             parent at dispatch.now self.old result self.new }
     {
         match self.callsites.at(index.0) {
@@ -184,11 +184,11 @@ impl<S: Subscriber, C: Callsite> Hub<S, C> {
         dispatch: &Dispatch,
         index: CallsiteIndex,
         parent: RequestParent,
-        values: &[FieldValue],
+        values: IndexedValues<'_>,
         at: At,
     ) -> Option<Result<Option<Id>, RequestError>>
         ensures gives { SpanAtGives ⟦<S as Subscriber>⟧ ⟦<C as Callsite>⟧ (slice_get self.old.callsites index.0)
-            values.now parent at dispatch.now self.old result self.new }
+            values.entry parent at dispatch.now self.old result self.new }
         ensures keeps { PreservesCaches ⟦<S as Subscriber>⟧ ⟦<C as Callsite>⟧ self.old self.new }
     {
         self.hand_span(dispatch, index, parent, values, at)
@@ -199,10 +199,10 @@ impl<S: Subscriber, C: Callsite> Hub<S, C> {
         dispatch: &Dispatch,
         index: CallsiteIndex,
         parent: RequestParent,
-        values: &[FieldValue],
+        values: IndexedValues<'_>,
         at: At,
     ) -> Option<Result<Option<Id>, RequestError>>
-        ensures { SpanAtGives ⟦<S as Subscriber>⟧ ⟦<C as Callsite>⟧ (slice_get self.old.callsites index.0) values.now
+        ensures { SpanAtGives ⟦<S as Subscriber>⟧ ⟦<C as Callsite>⟧ (slice_get self.old.callsites index.0) values.entry
             parent at dispatch.now self.old result self.new }
     {
         match self.callsites.at(index.0) {
@@ -228,11 +228,11 @@ impl<S: Subscriber, C: Callsite> Hub<S, C> {
         dispatch: &Dispatch,
         index: CallsiteIndex,
         span: &Id,
-        values: &[FieldValue],
+        values: IndexedValues<'_>,
         at: At,
     ) -> Option<Result<(), RequestError>>
         ensures gives { RecordAtGives ⟦<S as Subscriber>⟧ ⟦<C as Callsite>⟧ (slice_get self.old.callsites index.0)
-            span.now values.now at dispatch.now self.old result self.new }
+            span.now values.entry at dispatch.now self.old result self.new }
         ensures keeps { PreservesCaches ⟦<S as Subscriber>⟧ ⟦<C as Callsite>⟧ self.old self.new }
     {
         self.hand_values(dispatch, index, span, values, at)
@@ -243,11 +243,11 @@ impl<S: Subscriber, C: Callsite> Hub<S, C> {
         dispatch: &Dispatch,
         index: CallsiteIndex,
         span: &Id,
-        values: &[FieldValue],
+        values: IndexedValues<'_>,
         at: At,
     ) -> Option<Result<(), RequestError>>
         ensures { RecordAtGives ⟦<S as Subscriber>⟧ ⟦<C as Callsite>⟧ (slice_get self.old.callsites index.0) span.now
-            values.now at dispatch.now self.old result self.new }
+            values.entry at dispatch.now self.old result self.new }
     {
         match self.callsites.at(index.0) {
             None => None,

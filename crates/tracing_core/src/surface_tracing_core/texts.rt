@@ -2,8 +2,8 @@
 use crate::surface_tracing_core::lines::Counted;
 use crate::surface_tracing_core::span_metadata;
 use crate::{
-    AnyValue, Current, DebugText, FieldSet, FieldValue, Id, Identifier, Kind, Level, LevelFilter,
-    Metadata, OwnedValue, Value, constant_kinds, debug, display,
+    AnyValue, Current, DebugText, FieldSet, FieldValue, Id, Identifier, IndexedValues, Kind, Level,
+    LevelFilter, Metadata, OwnedValue, Value, constant_kinds, debug, display,
 };
 use std::convert::AsStr;
 use std::hash::{DefaultHasher, Hash, Hasher};
@@ -35,7 +35,7 @@ fn surface_field_texts(rt: HostRuntime) -> Result<(), Fail> {
             value: OwnedValue::U64(3),
         },
     ];
-    let set = fields.value_set_indexed(&values);
+    let set = fields.value_set_indexed(IndexedValues::Owned(&values));
     let mut counted = Counted { seen: 0, limit: 9 };
     assert!(rt; set.record(&mut counted).is_ok() && counted.seen == 1);
     assert!(rt; set.len() == 1 && set.contains(&second));

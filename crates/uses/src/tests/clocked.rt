@@ -7,9 +7,7 @@ use event_formatter::Layer;
 use span_registry_layers::{Filtered, Output, OutputKey, Stack};
 use std::process::Abort;
 use std::test::Fail;
-use tracing_appender::{
-    Builder, Clock, ClockedAppender, FileEntry, MemoryFolder, Moment, Rotation,
-};
+use tracing_appender::{Builder, Clock, Clocked, FileEntry, MemoryFolder, Moment, Rotation};
 use tracing_core::{
     AnyValue, At, Event, FieldSet, Identifier, Kind, Level, LevelFilter, Metadata, Subscriber,
 };
@@ -58,16 +56,16 @@ fn each_line_goes_to_the_file_of_its_hour(rt: HostRuntime) -> Result<(), Fail> {
         seconds: 1_580_551_260,
         nanoseconds: 0,
     };
-    let appender = Builder::new()
-        .rotation(Rotation::HOURLY)
-        .filename_prefix(String::from_str(alloc, "test_make_writer")?)
-        .build(alloc, MemoryFolder::new(alloc), first)
-        .map_err(|refused| refused.error)?;
     let hours = Hours {
         next: first,
         is_second: false,
     };
-    let clocked = ClockedAppender::new(appender, hours);
+    let clocked = Builder::new(alloc)
+        .rotation(Rotation::HOURLY)
+        .filename_prefix("test_make_writer")
+        .build(alloc, MemoryFolder::new(alloc), first)
+        .map_err(|refused| refused.error)?
+        .clocked(hours);
     let layer = Layer::new(alloc, OutputKey(1), clocked)
         .without_time()
         .with_level(false)

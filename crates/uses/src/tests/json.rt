@@ -2,13 +2,13 @@
 
 use serde_json::Value;
 use span_tracing::{
-    Builder, FileStack, LineSettings, MemoryFolder, Moment, OutputKey, OutputSpec, Reply, Rotation,
-    Route, SinkSpec, Site, Trace, event, open_stack, span,
+    Builder, CallError, FileStack, LineSettings, MemoryFolder, Moment, OutputKey, OutputSpec,
+    Reply, Rotation, Route, SinkSpec, Site, Trace, event, open_stack, span,
 };
 use std::alloc::Global;
 use std::process::Abort;
 use std::test::Fail;
-use tracing_core::{FieldSet, Identifier, Kind, Level, LevelFilter, Metadata};
+use tracing_core::{Level, LevelFilter};
 
 /// 2025-02-17T10:01:00Z.
 const MONDAY: Moment = Moment {
@@ -23,9 +23,9 @@ type JsonTrace = Trace<FileStack<LevelFilter, MemoryFolder>>;
 
 /// A trace with an output of JSON lines, which writes all that it is told to one file in memory, and one lane.
 fn json_trace(rt: &impl Abort, alloc: Global) -> Result<JsonTrace, Fail> {
-    let files = Builder::new()
+    let files = Builder::new(alloc)
         .rotation(Rotation::NEVER)
-        .filename_prefix(String::from_str(alloc, "app")?);
+        .filename_prefix("app");
     let mut sinks = Vec::new(alloc);
     let sink = SinkSpec::Direct(files, MemoryFolder::new(alloc));
     sinks.push(sink).ok().ok_or("room")?;
@@ -41,18 +41,6 @@ fn json_trace(rt: &impl Abort, alloc: Global) -> Result<JsonTrace, Fail> {
     trace.thread(None, 1)?;
     assert_eq!(rt; trace.set_global_default(handle), Reply::Done);
     Ok(trace)
-}
-
-fn site(
-    trace: &mut JsonTrace,
-    id: u64,
-    name: &str,
-    fields: &[&str],
-    kind: Kind,
-) -> Result<Site, Fail> {
-    let fields = FieldSet::new(fields, Identifier(id));
-    let metadata = Metadata::new(name, "app", Level::WARN, None, None, None, fields, kind);
-    Ok(Site::register(trace, &metadata)?)
 }
 
 /// The member at the end of a path.
@@ -85,21 +73,37 @@ fn lines_of(alloc: Global, trace: &JsonTrace) -> Result<Vec<Value>, Fail> {
 
 /// Logs an event in a span, and one outside of it.
 fn log_both(rt: &impl Abort, alloc: Global, trace: &mut JsonTrace) -> Result<(), Fail> {
-    let request = site(trace, 1, "request", &["user", "number"], Kind::SPAN)?;
-    let fields = ["message", "count", "delta", "is_done"];
-    let served = site(trace, 2, "served", &fields, Kind::EVENT)?;
-    let user = String::from_str(alloc, ODD)?;
-    let Reply::Span(Some(span)) = span!(trace, 0, MONDAY, request, user, 7_u8) else {
-        return Err("a span".into());
-    };
-    assert_eq!(rt; trace.enter(0, MONDAY, Some(span)), Reply::Done);
-    let text = String::from_str(alloc, ODD)?;
-    let reply = event!(trace, 0, MONDAY, served, text, u64::MAX, -3_i32, true);
-    assert_eq!(rt; reply, Reply::Done);
-    assert_eq!(rt; trace.exit(0, MONDAY, Some(span)), Reply::Done);
+    let request = Site::span(trace, "app", "request", Level::WARN, &["user", "number"])?;
+    let fields = &["message", "count", "delta", "is_done"];
+    let served = Site::event(trace, "app", "served", Level::WARN, fields)?;
+    let span = span!(trace, 0, MONDAY, request, number = 7_u8, user = ODD)?;
+    assert_eq!(rt; trace.enter(0, MONDAY, span), Reply::Done);
+    let told = event!(
+        trace,
+        0,
+        MONDAY,
+        served,
+        message = ODD,
+        count = u64::MAX,
+        delta = -3_i32,
+        is_done = true
+    );
+    assert_eq!(rt; told, Ok(()));
+    assert_eq!(rt; trace.exit(0, MONDAY, span), Reply::Done);
     let text = String::from_str(alloc, "plain")?;
-    let reply = event!(trace, 0, MONDAY, served, text, 0_usize, i64::MIN, false);
-    assert_eq!(rt; reply, Reply::Done);
+    let told = event!(
+        trace,
+        0,
+        MONDAY,
+        served,
+        message = text,
+        is_done = false,
+        delta = i64::MIN,
+        count = 0_usize
+    );
+    assert_eq!(rt; told, Ok(()));
+    let lost = event!(trace, 0, MONDAY, served, message = "lost", status = 200);
+    assert_eq!(rt; lost, Err(CallError::NoField("status")));
     Ok(())
 }
 

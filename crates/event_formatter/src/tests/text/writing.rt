@@ -31,7 +31,7 @@ fn formatted_values(rt: HostRuntime) -> Result<(), Fail> {
     let mut writer = Writer::new(&mut out);
     let number = 7;
     write!(writer, "n={number:03} {}", "ok")?;
-    assert!(rt; write!(writer, "{Refuses}").is_err());
+    assert!(rt; write!(writer, "{Refuses}") == Err(FormatError::Failed));
     assert_eq!(rt; out.as_str(), "> n=007 ok");
     Ok(())
 }

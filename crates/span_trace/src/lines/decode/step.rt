@@ -9,7 +9,8 @@ use span_tracing_skeleton::{
     EnabledCall, EventCall, FollowsCall, NewSpanCall, Parent, SpanCall, SpanName, Step,
 };
 use std::alloc::Global;
-use tracing_core::{FieldValue, Id, Identifier, OwnedValue};
+use std::num::NonZeroU64;
+use tracing_core::{FieldValue, Identifier, OwnedValue};
 use tracing_core_moments::Moment;
 
 /// A step, as far as its line tells it.
@@ -162,7 +163,7 @@ fn span_name(value: &Json) -> Result<SpanName, LineFault> {
     let (first, second) = pair(value)?;
     let stack = first.as_u64().ok_or(LineFault::NotReadable)? as usize;
     let number = second.as_u64().ok_or(LineFault::NotReadable)?;
-    let id = Id::from_u64(number).ok_or(LineFault::NotReadable)?;
+    let id = NonZeroU64::new(number).ok_or(LineFault::NotReadable)?;
     Ok(SpanName { stack, id })
 }
 

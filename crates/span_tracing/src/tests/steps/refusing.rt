@@ -105,7 +105,7 @@ fn answers(parts: &mut TraceParts<Keeper>, call: &SpanCall) -> [Reply; 5]
         lane: call.lane,
         moment: call.moment,
         span: call.span,
-        values: &[],
+        values: IndexedValues::Lent(&[]),
     };
     [
         parts.record(&record),

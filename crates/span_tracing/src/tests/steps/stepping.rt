@@ -39,10 +39,10 @@ fn values_are_told_by_their_fields_places(rt: HostRuntime) -> Result<(), Fail> {
         lane: 0,
         moment: MONDAY,
         span: Some(name),
-        values: &values,
+        values: IndexedValues::Owned(&values),
     };
     assert_eq!(rt; parts.record(&record), Reply::Done);
-    assert_eq!(rt; heard(&parts)?, (3, Told::Values(name.id, 46), 0));
+    assert_eq!(rt; heard(&parts)?, (3, Told::Values(id_of(name), 46), 0));
     record.span = None;
     assert_eq!(rt; parts.record(&record), Reply::Done);
     let (calls, _, _) = heard(&parts)?;
@@ -56,17 +56,17 @@ fn spans_are_entered_and_left(rt: HostRuntime) -> Result<(), Fail> {
     let name = made(&mut parts)?;
     let call = call_on(Some(name));
     assert_eq!(rt; parts.enter(&call), Reply::Done);
-    assert_eq!(rt; heard(&parts)?, (2, Told::Entered(name.id), 1));
+    assert_eq!(rt; heard(&parts)?, (2, Told::Entered(id_of(name)), 1));
     // What the span's handle kept open, its entry keeps.
     assert_eq!(rt; parts.try_close(&call), Reply::Closed(false));
-    assert_eq!(rt; heard(&parts)?, (3, Told::Closed(name.id), 1));
+    assert_eq!(rt; heard(&parts)?, (3, Told::Closed(id_of(name)), 1));
     let under = request(EVENT, Parent::Explicit(name), &[]);
     assert_eq!(rt; parts.event(&under), Reply::Done);
     assert_eq!(rt; parts.exit(&call), Reply::Done);
-    assert_eq!(rt; heard(&parts)?, (5, Told::Exited(name.id), 1));
+    assert_eq!(rt; heard(&parts)?, (5, Told::Exited(id_of(name)), 1));
     let closed = Reply::Refused(Refusal::UnknownSpan);
     assert_eq!(rt; parts.exit(&call), closed);
-    assert_eq!(rt; heard(&parts)?, (5, Told::Exited(name.id), 1));
+    assert_eq!(rt; heard(&parts)?, (5, Told::Exited(id_of(name)), 1));
     Ok(())
 }
 
@@ -76,10 +76,10 @@ fn a_span_closes_with_its_last_handle(rt: HostRuntime) -> Result<(), Fail> {
     let name = made(&mut parts)?;
     let call = call_on(Some(name));
     assert_eq!(rt; parts.clone_span(&call), Reply::Done);
-    assert_eq!(rt; heard(&parts)?, (2, Told::Cloned(name.id), 1));
+    assert_eq!(rt; heard(&parts)?, (2, Told::Cloned(id_of(name)), 1));
     assert_eq!(rt; parts.try_close(&call), Reply::Closed(false));
     assert_eq!(rt; parts.try_close(&call), Reply::Closed(true));
-    assert_eq!(rt; heard(&parts)?, (4, Told::Closed(name.id), 1));
+    assert_eq!(rt; heard(&parts)?, (4, Told::Closed(id_of(name)), 1));
     Ok(())
 }
 
@@ -95,7 +95,7 @@ fn a_span_follows_another(rt: HostRuntime) -> Result<(), Fail> {
         follows: Some(first),
     };
     assert_eq!(rt; parts.record_follows_from(&call), Reply::Done);
-    let told = Told::Follows(second.id, first.id);
+    let told = Told::Follows(id_of(second), id_of(first));
     assert_eq!(rt; heard(&parts)?, (3, told, 0));
     call.follows = None;
     assert_eq!(rt; parts.record_follows_from(&call), Reply::Done);

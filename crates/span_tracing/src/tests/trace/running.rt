@@ -1,6 +1,6 @@
 // What runs and calls write and answer.
 
-use crate::tests::common::{MONDAY, TUESDAY, number_field, text_field};
+use crate::tests::common::{MONDAY, TUESDAY, lent_number, lent_text, number_field, text_field};
 use crate::tests::trace::stage::{
     OUTER, WARNING, has_file, made, set_trace, span_name, trace_of_two,
 };
@@ -98,10 +98,10 @@ fn calls_write_the_lines_of_both_outputs(rt: HostRuntime) -> Result<(), Fail> {
     let mut trace = set_trace(&rt, alloc)?;
     let outer = made(trace.new_span(0, MONDAY, OUTER, Parent::Contextual, &[]))?;
     assert_eq!(rt; outer, span_name(0, 1)?);
-    let values = [number_field(0, 42)];
+    let values = [lent_number(0, 42)];
     assert_eq!(rt; trace.record(0, MONDAY, Some(outer), &values), Reply::Done);
     assert_eq!(rt; trace.enter(0, MONDAY, Some(outer)), Reply::Done);
-    let hi = [text_field(alloc, 0, "hi")?, number_field(1, 3)];
+    let hi = [lent_text(0, "hi"), lent_number(1, 3)];
     let here = Parent::Contextual;
     assert_eq!(rt; trace.event(0, MONDAY, WARNING, here, &hi), Reply::Done);
     assert_eq!(rt; trace.event(1, TUESDAY, WARNING, here, &hi), Reply::Done);
@@ -148,10 +148,10 @@ fn calls_on_spans_answer(rt: HostRuntime) -> Result<(), Fail> {
 fn a_parent_stands_before_its_child(rt: HostRuntime) -> Result<(), Fail> {
     let alloc = rt.alloc();
     let mut trace = set_trace(&rt, alloc)?;
-    let one = made(trace.new_span(0, MONDAY, OUTER, Parent::Root, &[number_field(0, 1)]))?;
+    let one = made(trace.new_span(0, MONDAY, OUTER, Parent::Root, &[lent_number(0, 1)]))?;
     let under = Parent::Explicit(one);
-    let two = made(trace.new_span(0, MONDAY, OUTER, under, &[number_field(0, 2)]))?;
-    let hi = [text_field(alloc, 0, "hi")?];
+    let two = made(trace.new_span(0, MONDAY, OUTER, under, &[lent_number(0, 2)]))?;
+    let hi = [lent_text(0, "hi")];
     let reply = trace.event(1, MONDAY, WARNING, Parent::Explicit(two), &hi);
     assert_eq!(rt; reply, Reply::Done);
     assert_eq!(rt; trace.enter(0, MONDAY, Some(two)), Reply::Done);

@@ -7,10 +7,11 @@ use span_registry_layers::Stack;
 use span_tracing_outputs::{RollingSink, RoutedSinks, TraceStack};
 use span_tracing_skeleton::{Refusal, Reply, SpanName};
 use std::alloc::Global;
+use std::num::NonZeroU64;
 use std::process::Abort;
 use std::test::Fail;
 use tracing_appender_rolling::{MemoryFolder, RollingFileAppender, Rotation};
-use tracing_core_fields::{FieldSet, Id, Identifier, Interest, Level, LevelFilter};
+use tracing_core_fields::{FieldSet, Identifier, Interest, Level, LevelFilter};
 
 /// Spans `outer` with a field `x`, at level INFO.
 pub(crate) const OUTER: Identifier = Identifier(1);
@@ -34,7 +35,6 @@ pub(crate) fn sink_of(
     alloc: Global,
     prefix: &str,
 ) -> Result<RoutedSinks<RollingSink<MemoryFolder>>, Fail> {
-    let prefix = String::from_str(alloc, prefix)?;
     let folder = MemoryFolder::new(alloc);
     let appender = RollingFileAppender::new(alloc, Rotation::DAILY, folder, prefix, MONDAY).map_err(
         |refusal| refusal.error,
@@ -102,7 +102,7 @@ pub(crate) fn set_trace(rt: &impl Abort, alloc: Global) -> Result<Trace<Written>
 }
 
 pub(crate) fn span_name(stack: usize, id: u64) -> Result<SpanName, Fail> {
-    let id = Id::from_u64(id).ok_or("an id")?;
+    let id = NonZeroU64::new(id).ok_or("an id")?;
     Ok(SpanName { stack, id })
 }
 

@@ -19,17 +19,15 @@ fn remove_left(rt: HostRuntime, name: &str) -> Result<(), Fail> {
 /// A folder whose directory was just made, and is empty.
 fn made(rt: HostRuntime, name: &str) -> Result<DiskFolder<HostRuntime>, Fail> {
     remove_left(rt, name)?;
-    let mut folder = DiskFolder::new(rt, String::from_str(rt.alloc(), name)?);
+    let mut folder = DiskFolder::new(rt, name);
     folder.create_dirs()?;
     Ok(folder)
 }
 
 #[test]
 fn a_folder_of_the_system_keeps_files(rt: HostRuntime) -> Result<(), Fail> {
-    let alloc = rt.alloc();
     remove_left(rt, "logs")?;
-    let path = String::from_str(alloc, "logs/deep")?;
-    let mut folder = DiskFolder::new(rt, path);
+    let mut folder = DiskFolder::new(rt, "logs/deep");
     assert_eq!(rt; folder.open_append("a"), Err(NOT_FOUND));
     folder.create_dirs()?;
     folder.create_dirs()?;
@@ -155,7 +153,7 @@ fn numbers_of_closed_files_are_used_again(rt: HostRuntime) -> Result<(), Fail> {
 #[test]
 fn an_empty_path_is_the_current_folder(rt: HostRuntime) -> Result<(), Fail> {
     remove_left(rt, "in_the_current_folder")?;
-    let mut folder = DiskFolder::new(rt, String::new(rt.alloc()));
+    let mut folder = DiskFolder::new(rt, "");
     folder.create_dirs()?;
     let file = folder.open_append("in_the_current_folder")?;
     assert_eq!(rt; folder.write(file, b"one")?, 3);
@@ -165,6 +163,19 @@ fn an_empty_path_is_the_current_folder(rt: HostRuntime) -> Result<(), Fail> {
     let plain = listed(entries.as_slice(), "in_the_current_folder");
     assert_eq!(rt; plain, Some(true));
     folder.remove("in_the_current_folder")?;
+    Ok(())
+}
+
+/// A path that found no memory is told by each call that needs it, and no fault is counted.
+#[test]
+fn a_missing_path_is_told_at_each_call(rt: HostRuntime) -> Result<(), Fail> {
+    let mut folder = DiskFolder::new(rt, "missing");
+    folder.path = None;
+    assert_eq!(rt; folder.create_dirs(), Err(FolderError::OutOfMemory));
+    assert_eq!(rt; folder.open_append("a"), Err(FolderError::OutOfMemory));
+    assert_eq!(rt; folder.list("").err(), Some(FolderError::OutOfMemory));
+    assert_eq!(rt; folder.remove("a"), Err(FolderError::OutOfMemory));
+    assert_eq!(rt; folder.failures(), 0);
     Ok(())
 }
 

@@ -98,8 +98,7 @@ fn listed_in(
     end: Option<i32>,
 ) -> Result<DiskFolder<(Torn, Global)>, Fail> {
     let torn = Torn { rt, names, end };
-    let path = String::from_str(rt.alloc(), "")?;
-    Ok(DiskFolder::new((torn, rt.alloc()), path))
+    Ok(DiskFolder::new((torn, rt.alloc()), ""))
 }
 
 #[test]

@@ -44,7 +44,7 @@ fn script(alloc: Global, number: u64) -> Result<(u64, Reported), Fail> {
     inner.put("t.2020-01-01-00", b"old", None)?;
     let refused = Vec::from_slice(alloc, &[number])?;
     let folder = FaultyFolder::new(inner, refused);
-    let builder = linked(alloc, Rotation::HOURLY, "t", "", "latest")?.max_log_files(1);
+    let builder = linked(alloc, Rotation::HOURLY, "t", "", "latest").max_log_files(1);
     match builder.build(alloc, folder, FEBRUARY) {
         Err(refused) => Ok((
             refused.folder.failures(),
@@ -122,8 +122,7 @@ fn an_opening_is_tried_twice_in_a_period(rt: HostRuntime) -> Result<(), Fail> {
     let alloc = rt.alloc();
     // opened at call 1; call 2 is the next hour's first opening, call 3 makes the directories, call 4 opens again
     let folder = refusing(alloc, &[2, 4])?;
-    let prefix = String::from_str(alloc, "t")?;
-    let mut appender = hourly(alloc, folder, prefix, FEBRUARY).map_err(|refusal| refusal.error)?;
+    let mut appender = hourly(alloc, folder, "t", FEBRUARY).map_err(|refusal| refusal.error)?;
     assert!(rt; !appender.folder().inner().has_dirs());
     appender.write_all_at(b"a", later(3_600)?)?;
     assert!(rt; appender.folder().inner().has_dirs());
@@ -149,8 +148,7 @@ fn a_refused_day_stays_in_the_file_before(rt: HostRuntime) -> Result<(), Fail> {
     let alloc = rt.alloc();
     // opened at call 1; call 2 is the next day's first opening, call 3 makes the directories, call 4 opens again
     let folder = refusing(alloc, &[2, 4])?;
-    let prefix = String::from_str(alloc, "t")?;
-    let mut appender = daily(alloc, folder, prefix, MONDAY).map_err(|refusal| refusal.error)?;
+    let mut appender = daily(alloc, folder, "t", MONDAY).map_err(|refusal| refusal.error)?;
     appender.write_all_at(b"a", Moment::new(1_739_836_800, 0)?)?;
     appender.write_all_at(b"b", Moment::new(1_739_880_000, 0)?)?;
     appender.write_all_at(b"c", Moment::new(1_739_923_200, 0)?)?;
@@ -168,8 +166,7 @@ fn a_refused_day_stays_in_the_file_before(rt: HostRuntime) -> Result<(), Fail> {
 fn a_refused_write_is_told_and_counted(rt: HostRuntime) -> Result<(), Fail> {
     let alloc = rt.alloc();
     let folder = refusing(alloc, &[2])?;
-    let prefix = String::from_str(alloc, "t")?;
-    let mut appender = daily(alloc, folder, prefix, FEBRUARY).map_err(|refusal| refusal.error)?;
+    let mut appender = daily(alloc, folder, "t", FEBRUARY).map_err(|refusal| refusal.error)?;
     let fault = FolderError::Fault(FolderFault::Refused);
     assert_eq!(rt; appender.write_at(b"a", FEBRUARY), Err(fault));
     assert_eq!(rt; appender.faults().writes, 1);
@@ -189,8 +186,7 @@ fn slowed(
     let short = Vec::from_slice(alloc, short)?;
     let inner = MemoryFolder::new(alloc);
     let folder = FaultyFolder::new(inner, Vec::new(alloc)).with_short_writes(short, most);
-    let prefix = String::from_str(alloc, "t")?;
-    Ok(daily(alloc, folder, prefix, FEBRUARY).map_err(|refusal| refusal.error)?)
+    Ok(daily(alloc, folder, "t", FEBRUARY).map_err(|refusal| refusal.error)?)
 }
 
 #[test]
@@ -220,7 +216,7 @@ fn short_writes_go_on_until_one_takes_nothing(rt: HostRuntime) -> Result<(), Fai
 fn faults_are_told_as_the_folder_tells_them(rt: HostRuntime) -> Result<(), Fail> {
     let alloc = rt.alloc();
     let folder = refusing(alloc, &[1, 3])?.with_fault(FolderFault::NotFound);
-    match named(alloc, Rotation::DAILY, "t", "")?.build(alloc, folder, FEBRUARY) {
+    match named(alloc, Rotation::DAILY, "t", "").build(alloc, folder, FEBRUARY) {
         Ok(_) => return Err("built".into()),
         Err(refusal) => {
             let error = InitError {
@@ -232,8 +228,7 @@ fn faults_are_told_as_the_folder_tells_them(rt: HostRuntime) -> Result<(), Fail>
         }
     }
     let folder = refusing(alloc, &[2])?.with_fault(FolderFault::Unsupported);
-    let prefix = String::from_str(alloc, "t")?;
-    let mut appender = daily(alloc, folder, prefix, FEBRUARY).map_err(|refusal| refusal.error)?;
+    let mut appender = daily(alloc, folder, "t", FEBRUARY).map_err(|refusal| refusal.error)?;
     let fault = FolderError::Fault(FolderFault::Unsupported);
     assert_eq!(rt; appender.write_all_at(b"a", FEBRUARY), Err(fault));
     assert_eq!(rt; appender.faults().last, Some(FolderFault::Unsupported));

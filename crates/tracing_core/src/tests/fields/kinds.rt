@@ -101,7 +101,8 @@ fn owned_values_take_the_call_of_their_kind(rt: HostRuntime) -> Result<(), Fail>
     let mut letters = Letters {
         text: String::new(alloc),
     };
-    set.value_set_indexed(&values).record(&mut letters)?;
+    set.value_set_indexed(IndexedValues::Owned(&values))
+        .record(&mut letters)?;
     assert_eq!(rt; letters.text.as_str(), "ius");
     Ok(())
 }

@@ -236,7 +236,7 @@ fn owned_values_are_given_by_index(rt: HostRuntime) -> Result<(), Fail> {
             value: OwnedValue::U64(5)
         },
     ]?;
-    let given = set.value_set_indexed(&values);
+    let given = set.value_set_indexed(IndexedValues::Owned(&values));
     assert_eq!(rt; (given.len(), given.is_empty()), (4, false));
     assert!(rt; given.contains(&message) && !given.contains(&count));
     let mut visitor = make_lines(alloc, 9);
@@ -245,7 +245,10 @@ fn owned_values_are_given_by_index(rt: HostRuntime) -> Result<(), Fail> {
         visitor.text.as_str(),
         "2 count=-1;0 message=\"hi\";2 count=5;"
     );
-    assert!(rt; set.value_set_indexed(&values[1..3]).is_empty());
+    assert!(rt;
+        set.value_set_indexed(IndexedValues::Owned(&values[1..3]))
+            .is_empty()
+    );
     Ok(())
 }
 

@@ -5,7 +5,7 @@ use crate::*;
 use std::alloc::Global;
 use std::test::Fail;
 use tracing_core_fields::{
-    FieldSet, FieldValue, Id, Identifier, Kind, Level, Metadata, OwnedValue,
+    AnyValue, FieldSet, Id, Identifier, IndexedValues, Kind, LentValue, Level, Metadata,
 };
 
 const NAMES: [&str; 2] = ["n", "m"];
@@ -16,10 +16,10 @@ fn metadata<'a>() -> Metadata<'a> {
 }
 
 /// A value of the field at the place.
-fn digit(field: usize, number: u64) -> FieldValue {
-    FieldValue {
+fn digit<'a>(field: usize, number: u64) -> LentValue<'a> {
+    LentValue {
         field,
-        value: OwnedValue::U64(number),
+        value: AnyValue::U64(number),
     }
 }
 
@@ -55,7 +55,7 @@ fn values_of_an_event_are_told_by_their_fields_places(rt: HostRuntime) -> Result
     let values = [digit(1, 4), digit(2, 5), digit(0, 6)];
     let parent = RequestParent::Contextual;
     assert_eq!(rt;
-        hub.event_at(&first, index, parent, &values, at(0)),
+        hub.event_at(&first, index, parent, IndexedValues::Lent(&values), at(0)),
         Some(Ok(()))
     );
     assert_eq!(rt; told(&hub, &first)?, (1, 46, Place::Contextual));
@@ -69,13 +69,19 @@ fn events_stand_where_they_are_told(rt: HostRuntime) -> Result<(), Fail> {
     let id = Id::from_u64(9).ok_or("an id")?;
     let values = [digit(0, 7)];
     assert_eq!(rt;
-        hub.event_at(&first, index, RequestParent::Root, &values, at(0)),
+        hub.event_at(
+            &first,
+            index,
+            RequestParent::Root,
+            IndexedValues::Lent(&values),
+            at(0)
+        ),
         Some(Ok(()))
     );
     assert_eq!(rt; told(&hub, &first)?, (1, 7, Place::Root));
     let parent = RequestParent::Explicit(id);
     assert_eq!(rt;
-        hub.event_at(&first, index, parent, &[], at(0)),
+        hub.event_at(&first, index, parent, IndexedValues::Lent(&[]), at(0)),
         Some(Ok(()))
     );
     assert_eq!(rt; told(&hub, &first)?, (2, 0, Place::Under(id)));
@@ -95,7 +101,7 @@ fn spans_stand_where_they_are_told(rt: HostRuntime) -> Result<(), Fail> {
         (RequestParent::Explicit(id), Place::Under(id)),
     ] {
         assert_eq!(rt;
-            hub.new_span_at(&first, index, parent, &values, at(0)),
+            hub.new_span_at(&first, index, parent, IndexedValues::Lent(&values), at(0)),
             made
         );
         let (_, digits, was) = told(&hub, &first)?;
@@ -111,7 +117,7 @@ fn values_of_a_span_and_questions_reach_the_subscriber(rt: HostRuntime) -> Resul
     let id = Id::from_u64(9).ok_or("an id")?;
     let values = [digit(0, 1), digit(1, 2), digit(2, 3)];
     assert_eq!(rt;
-        hub.record_at(&first, index, &id, &values, at(0)),
+        hub.record_at(&first, index, &id, IndexedValues::Lent(&values), at(0)),
         Some(Ok(()))
     );
     assert_eq!(rt; told(&hub, &first)?, (1, 12, Place::Under(id)));
@@ -119,7 +125,7 @@ fn values_of_a_span_and_questions_reach_the_subscriber(rt: HostRuntime) -> Resul
     let nobody = Dispatch::none();
     assert_eq!(rt; hub.enabled_at(&nobody, index, at(0)), Some(false));
     assert_eq!(rt;
-        hub.record_at(&nobody, index, &id, &values, at(0)),
+        hub.record_at(&nobody, index, &id, IndexedValues::Lent(&values), at(0)),
         Some(Ok(()))
     );
     assert_eq!(rt; told(&hub, &first)?, (2, 12, Place::Under(id)));
@@ -137,9 +143,18 @@ fn an_index_of_another_hub_may_stand_nowhere(rt: HostRuntime) -> Result<(), Fail
     let id = Id::from_u64(9).ok_or("an id")?;
     let parent = RequestParent::Root;
     assert!(rt; hub.enabled_at(&first, index, at(0)).is_none());
-    assert!(rt; hub.event_at(&first, index, parent, &[], at(0)).is_none());
-    assert!(rt; hub.new_span_at(&first, index, parent, &[], at(0)).is_none());
-    assert!(rt; hub.record_at(&first, index, &id, &[], at(0)).is_none());
+    assert!(rt;
+        hub.event_at(&first, index, parent, IndexedValues::Lent(&[]), at(0))
+            .is_none()
+    );
+    assert!(rt;
+        hub.new_span_at(&first, index, parent, IndexedValues::Lent(&[]), at(0))
+            .is_none()
+    );
+    assert!(rt;
+        hub.record_at(&first, index, &id, IndexedValues::Lent(&[]), at(0))
+            .is_none()
+    );
     assert_eq!(rt; told(&hub, &first)?, (0, 0, Place::Nowhere));
     Ok(())
 }

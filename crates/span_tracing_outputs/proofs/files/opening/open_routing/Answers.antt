@@ -7,6 +7,6 @@ use Rattle.span_tracing_outputs.proofs.files.opening.open_routing.Goals as goal
 
 pub returns-clause-refused : goal.returns-clause-refused
 returns-clause-refused g c =
-    subst (λ (told : OpenStackError). RoutingRefuses told c.args.routing) (sym c.at_output.ensures)
-    (bad_route (OpensSink g.D.Folder.contents g.D.Folder.failed c.args.moment) c.args.routing c.in_ok-opened.opened.items c.in-Err.field-0
-    c.in_ok-opened.ensures.opened c.in-Err.ensures)
+    subst (λ (told : OpenStackError). RoutingRefuses g.D.Folder.failed told c.args.routing) (sym c.at_output.ensures)
+    (bad_route g.D.Folder.failed (OpensSink g.D.Folder.contents g.D.Folder.failed c.args.moment) c.args.routing
+    c.in_ok-opened.opened.items c.in-Err.field-0 c.in_ok-opened.ensures.opened c.in-Err.ensures)

@@ -15,21 +15,23 @@ loop-routing-preserved g c = record {
       c.loop-routing.yielded c.loop-routing.opened.items c.in-Some.routing c.in_ok-routed.routed c.loop-routing.invariant.opened
       c.in_ok-routed.ensures.opened);
   refused = λ told one. c.loop-routing.invariant.refused told
-      (later_refuses (RoutingRefuses told) (into_iter_items c.loop-routing.routing-iterator) c.in-Some.routing
+      (later_refuses (RoutingRefuses g.D.Folder.failed told) (into_iter_items c.loop-routing.routing-iterator) c.in-Some.routing
       (into_iter_items c.next.new.self) c.in-Some.ensures.steps.0 one);
 }
 
 pub returns-in_err-routed-clause-refused : goal.returns-in_err-routed-clause-refused
 returns-in_err-routed-clause-refused g c =
-    goes_out (λ (told : OpenStackError). InOne (RoutingRefuses told) c.args.routings.items) c.from_residual.result c.in_err-routed.field-0.0
-    c.from_residual.ensures.1
+    goes_out (λ (told : OpenStackError). InOne (RoutingRefuses g.D.Folder.failed told) c.args.routings.items) c.from_residual.result
+    c.in_err-routed.field-0.0 c.from_residual.ensures.1
     (c.loop-routing.invariant.refused c.in_err-routed.field-0.0
-    (first_refuses (RoutingRefuses c.in_err-routed.field-0.0) (into_iter_items c.loop-routing.routing-iterator) c.in-Some.routing
+    (first_refuses (RoutingRefuses g.D.Folder.failed c.in_err-routed.field-0.0) (into_iter_items c.loop-routing.routing-iterator)
+    c.in-Some.routing
     (into_iter_items c.next.new.self) c.in-Some.ensures.steps.0 c.in_err-routed.ensures.refused))
 
 pub returns-in_default-clause-refused : goal.returns-in_default-clause-refused
 returns-in_default-clause-refused g c =
     let short = at_output c.in-Some.routing.key OutOfMemory in
-    subst (λ (told : OpenStackError). InOne (RoutingRefuses told) c.args.routings.items) (sym c.at_output.ensures)
-    (c.loop-routing.invariant.refused short (first_refuses (RoutingRefuses short) (into_iter_items c.loop-routing.routing-iterator)
+    subst (λ (told : OpenStackError). InOne (RoutingRefuses g.D.Folder.failed told) c.args.routings.items) (sym c.at_output.ensures)
+    (c.loop-routing.invariant.refused short (first_refuses (RoutingRefuses g.D.Folder.failed short) (into_iter_items
+    c.loop-routing.routing-iterator)
     c.in-Some.routing (into_iter_items c.next.new.self) c.in-Some.ensures.steps.0 (inr (inr refl))))

@@ -8,6 +8,6 @@ abbrev pub invariant-loop-routing : goal.invariant-loop-routing
 invariant-loop-routing g l =
     record {
       opened : Pairs (OpensRouting g.D.Folder.contents g.D.Folder.failed l.moment) l.yielded l.opened.items;
-      refused : (told : OpenStackError) → InOne (RoutingRefuses told) (into_iter_items l.routing-iterator) →
-          InOne (RoutingRefuses told) l.fn.routings.items;
+      refused : (told : OpenStackError) → InOne (RoutingRefuses g.D.Folder.failed told) (into_iter_items l.routing-iterator) →
+          InOne (RoutingRefuses g.D.Folder.failed told) l.fn.routings.items;
     }

@@ -14,21 +14,24 @@ loop-spec-preserved g c = record {
       (sym c.in-Ok.ensures.items) (pairs_more (OpensSink g.D.Folder.contents g.D.Folder.failed c.args.moment) c.loop-spec.yielded
       c.loop-spec.sinks.items c.in-Some.spec c.in_ok-sink.sink c.loop-spec.invariant.opened c.in_ok-sink.ensures.opened);
   refused = λ told one. c.loop-spec.invariant.refused told
-      (later_refuses (SinkRefuses c.args.key told) (into_iter_items c.loop-spec.spec-iterator) c.in-Some.spec
+      (later_refuses (SinkRefuses g.D.Folder.failed c.args.key told) (into_iter_items c.loop-spec.spec-iterator) c.in-Some.spec
       (into_iter_items c.next.new.self) c.in-Some.ensures.steps.0 one);
 }
 
 pub returns-in_err-sink-clause-refused : goal.returns-in_err-sink-clause-refused
 returns-in_err-sink-clause-refused g c =
-    goes_out (λ (told : OpenStackError). InOne (SinkRefuses c.args.key told) c.args.specs.items) c.from_residual.result
+    goes_out (λ (told : OpenStackError). InOne (SinkRefuses g.D.Folder.failed c.args.key told) c.args.specs.items) c.from_residual.result
     c.in_err-sink.field-0.0 c.from_residual.ensures.1
     (c.loop-spec.invariant.refused c.in_err-sink.field-0.0
-    (first_refuses (SinkRefuses c.args.key c.in_err-sink.field-0.0) (into_iter_items c.loop-spec.spec-iterator) c.in-Some.spec
+    (first_refuses (SinkRefuses g.D.Folder.failed c.args.key c.in_err-sink.field-0.0) (into_iter_items c.loop-spec.spec-iterator)
+    c.in-Some.spec
     (into_iter_items c.next.new.self) c.in-Some.ensures.steps.0 c.in_err-sink.ensures.refused))
 
 pub returns-in_default-clause-refused : goal.returns-in_default-clause-refused
 returns-in_default-clause-refused g c =
     let short = at_output c.args.key OutOfMemory in
-    subst (λ (told : OpenStackError). InOne (SinkRefuses c.args.key told) c.args.specs.items) (sym c.at_output.ensures)
-    (c.loop-spec.invariant.refused short (first_refuses (SinkRefuses c.args.key short) (into_iter_items c.loop-spec.spec-iterator)
-    c.in-Some.spec (into_iter_items c.next.new.self) c.in-Some.ensures.steps.0 (memory_refuses c.args.key c.in-Some.spec)))
+    subst (λ (told : OpenStackError). InOne (SinkRefuses g.D.Folder.failed c.args.key told) c.args.specs.items) (sym c.at_output.ensures)
+    (c.loop-spec.invariant.refused short (first_refuses (SinkRefuses g.D.Folder.failed c.args.key short) (into_iter_items
+    c.loop-spec.spec-iterator)
+    c.in-Some.spec (into_iter_items c.next.new.self) c.in-Some.ensures.steps.0 (memory_refuses g.D.Folder.failed c.args.key
+    c.in-Some.spec)))

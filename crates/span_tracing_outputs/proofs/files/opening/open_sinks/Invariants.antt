@@ -8,6 +8,6 @@ abbrev pub invariant-loop-spec : goal.invariant-loop-spec
 invariant-loop-spec g l =
     record {
       opened : Pairs (OpensSink g.D.Folder.contents g.D.Folder.failed l.moment) l.yielded l.sinks.items;
-      refused : (told : OpenStackError) → InOne (SinkRefuses l.fn.key told) (into_iter_items l.spec-iterator) →
-          InOne (SinkRefuses l.fn.key told) l.fn.specs.items;
+      refused : (told : OpenStackError) → InOne (SinkRefuses g.D.Folder.failed l.fn.key told) (into_iter_items l.spec-iterator) →
+          InOne (SinkRefuses g.D.Folder.failed l.fn.key told) l.fn.specs.items;
     }

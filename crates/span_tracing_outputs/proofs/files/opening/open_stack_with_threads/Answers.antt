@@ -42,17 +42,19 @@ returns-in_default-clause-names g c =
       c.names_refusal-names.result,
       names_told c.as_slice.result.now c.args.outputs.items c.names_refusal-names.result
           c.names_refusal-names.result c.as_slice.ensures.value refl c.names_refusal-names.ensures,
-      memory_told c.args.outputs.items c.names_refusal-names.result c.of_all-in_default.result c.of_all-in_default.ensures,
+      memory_told g.D.Folder.failed c.args.outputs.items c.names_refusal-names.result c.of_all-in_default.result
+          c.of_all-in_default.ensures,
     )
 
 pub returns-in-Err-clause-names : goal.returns-in-Err-clause-names
 returns-in-Err-clause-names g c = λ within fine routed.
     let none = same_refusal (map lane_of c.args.threads.now) c.args.outputs.items c.in-Ok.rows.items c.in-Ok.ensures.rows ∙ fine in
-    let told = c.stack_refusal.ensures ∙ c.rows_are_told.ensures.starved c.in-Ok.rows.items c.in-Err.refused c.in-Err.ensures.exact none in (
+    let told = c.stack_refusal.ensures ∙ c.rows_are_told.ensures.starved c.in-Ok.rows.items c.in-Err.refused
+    c.in-Err.ensures.exact none in (
       c.names_refusal-names.result,
       names_told c.as_slice.result.now c.args.outputs.items c.names_refusal-names.result
           c.names_refusal-names.result c.as_slice.ensures.value refl c.names_refusal-names.ensures,
-      memory_told c.args.outputs.items c.names_refusal-names.result c.of_all-in-Err.result (c.of_all-in-Err.ensures ∙
+      memory_told g.D.Folder.failed c.args.outputs.items c.names_refusal-names.result c.of_all-in-Err.result (c.of_all-in-Err.ensures ∙
           ap (λ (r : Refusal). of_all r) told),
     )
 
@@ -70,9 +72,10 @@ pub returns-in_err-sinks-clause-names : goal.returns-in_err-sinks-clause-names
 returns-in_err-sinks-clause-names g c = λ within fine routed.
     let good = names_told c.as_slice.result.now c.args.outputs.items c.names_refusal-names.result None c.as_slice.ensures.value
     c.in_default-names.is c.names_refusal-names.ensures in
-    late_out c.args.outputs.items c.from_residual.result c.in_err-sinks.field-0.0 c.from_residual.ensures.1 good
-    (late_specs c.in_err-sinks.field-0.0 c.args.outputs.items
-    (subst (InOne (RoutingRefuses c.in_err-sinks.field-0.0)) c.in-Ok.ensures.routings c.in_err-sinks.ensures.refused) good routed)
+    late_out g.D.Folder.failed c.args.outputs.items c.from_residual.result c.in_err-sinks.field-0.0 c.from_residual.ensures.1 good
+    (late_specs g.D.Folder.failed c.in_err-sinks.field-0.0 c.args.outputs.items
+    (subst (InOne (RoutingRefuses g.D.Folder.failed c.in_err-sinks.field-0.0)) c.in-Ok.ensures.routings
+    c.in_err-sinks.ensures.refused) good routed)
 
 pub unreachable-requires : goal.unreachable-requires
 unreachable-requires g c =

@@ -10,24 +10,24 @@ use Rattle.span_tracing_steps.proofs.parts.TraceParts.callsite_of.Goals as goal
 pub returns-in-None-clause-names : goal.returns-in-None-clause-names
 returns-in-None-clause-names g c =
     let spans = (registry_at (skeleton_of g.T.HasRegistry.registry_of (value_in c.args.self.now)) c.args.name.stack).spans in
-    sym (callsite_by (named (callsites_of c.args.self.now.hub.callsites)) (found kin_in spans c.args.name.id) ∙
+    sym (callsite_by (named (callsites_of c.args.self.now.hub.callsites)) (found kin_in spans c.args.name.id.value) ∙
     ap (option_and_then (named (callsites_of c.args.self.now.hub.callsites))) (sym c.number_of.ensures ∙ c.in-None.is))
 
 pub returns-in-None-clause-there : goal.returns-in-None-clause-there
 returns-in-None-clause-there g c =
     let spans = (registry_at (skeleton_of g.T.HasRegistry.registry_of (value_in c.args.self.now)) c.args.name.stack).spans in
-    ap is_some (sym (callsite_by (named (callsites_of c.args.self.now.hub.callsites)) (found kin_in spans c.args.name.id) ∙
+    ap is_some (sym (callsite_by (named (callsites_of c.args.self.now.hub.callsites)) (found kin_in spans c.args.name.id.value) ∙
     ap (option_and_then (named (callsites_of c.args.self.now.hub.callsites))) (sym c.number_of.ensures ∙ c.in-None.is)))
 
 pub returns-in-Some-clause-names : goal.returns-in-Some-clause-names
 returns-in-Some-clause-names g c =
     let spans = (registry_at (skeleton_of g.T.HasRegistry.registry_of (value_in c.args.self.now)) c.args.name.stack).spans in
-    c.find.ensures.names ∙ sym (callsite_by (named (callsites_of c.args.self.now.hub.callsites)) (found kin_in spans c.args.name.id) ∙
+    c.find.ensures.names ∙ sym (callsite_by (named (callsites_of c.args.self.now.hub.callsites)) (found kin_in spans c.args.name.id.value) ∙
     ap (option_and_then (named (callsites_of c.args.self.now.hub.callsites))) (sym c.number_of.ensures ∙ c.in-Some.is))
 
 pub returns-in-Some-clause-there : goal.returns-in-Some-clause-there
 returns-in-Some-clause-there g c =
     let spans = (registry_at (skeleton_of g.T.HasRegistry.registry_of (value_in c.args.self.now)) c.args.name.stack).spans in
     c.find.ensures.there ∙ ap is_some
-    (sym (callsite_by (named (callsites_of c.args.self.now.hub.callsites)) (found kin_in spans c.args.name.id) ∙
+    (sym (callsite_by (named (callsites_of c.args.self.now.hub.callsites)) (found kin_in spans c.args.name.id.value) ∙
     ap (option_and_then (named (callsites_of c.args.self.now.hub.callsites))) (sym c.number_of.ensures ∙ c.in-Some.is)))

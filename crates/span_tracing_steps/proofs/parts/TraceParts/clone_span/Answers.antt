@@ -5,5 +5,5 @@ use Rattle.span_tracing_steps.proofs.parts.TraceParts.clone_span.Goals as goal
 pub returns-clause-sound : goal.returns-clause-sound
 returns-clause-sound g c =
     called_sound g.T.Subscriber c.args.self.now c.clone_span-same.new.self c.in-Some-handle.handle c.in-Some-handle.is c.requires
-    (Cloned c.in-Some-span.name.id c.at_of.result) c.clone_span-same.result c.clone_span-same.ensures.gives
+    (Cloned c.id_of.result c.at_of.result) c.clone_span-same.result c.clone_span-same.ensures.gives
     c.clone_span-same.ensures.keeps

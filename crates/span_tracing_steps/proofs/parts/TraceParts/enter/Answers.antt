@@ -5,9 +5,9 @@ use Rattle.span_tracing_steps.proofs.parts.TraceParts.enter.Goals as goal
 pub returns-in-Ok-clause-sound : goal.returns-in-Ok-clause-sound
 returns-in-Ok-clause-sound g c =
     called_sound g.T.Subscriber c.args.self.now c.enter.new.self c.in-Some-handle.handle c.in-Some-handle.is c.requires
-    (Entered c.in-Some-span.name.id c.at_of.result) c.enter.result c.enter.ensures.gives c.enter.ensures.keeps
+    (Entered c.id_of.result c.at_of.result) c.enter.result c.enter.ensures.gives c.enter.ensures.keeps
 
 pub returns-in-Err-clause-sound : goal.returns-in-Err-clause-sound
 returns-in-Err-clause-sound g c =
     called_sound g.T.Subscriber c.args.self.now c.enter.new.self c.in-Some-handle.handle c.in-Some-handle.is c.requires
-    (Entered c.in-Some-span.name.id c.at_of.result) c.enter.result c.enter.ensures.gives c.enter.ensures.keeps
+    (Entered c.id_of.result c.at_of.result) c.enter.result c.enter.ensures.gives c.enter.ensures.keeps

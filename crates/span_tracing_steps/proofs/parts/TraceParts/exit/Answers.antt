@@ -5,4 +5,4 @@ use Rattle.span_tracing_steps.proofs.parts.TraceParts.exit.Goals as goal
 pub returns-clause-sound : goal.returns-clause-sound
 returns-clause-sound g c =
     called_sound g.T.Subscriber c.args.self.now c.exit.new.self c.in-Some-handle.handle c.in-Some-handle.is c.requires
-    (Exited c.in-Some-span.name.id c.at_of.result) tt c.exit.ensures.gives c.exit.ensures.keeps
+    (Exited c.id_of.result c.at_of.result) tt c.exit.ensures.gives c.exit.ensures.keeps

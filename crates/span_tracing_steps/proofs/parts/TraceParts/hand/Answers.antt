@@ -13,7 +13,7 @@ returns-clause-sound g c =
     (record { lane = c.args.lane; moment = c.args.moment; callsite = c.args.callsite; parent = c.args.parent; values = c.args.values })
     (Ok c.args.index) c.args.index c.parent_of-parent.result c.event_at-told.result
     c.parent_of-parent.ensures refl c.requires.found c.requires.reached
-    (subst (λ (at : At). EventAtGives g.T.Subscriber ghosts (slice_get c.args.self.now.hub.callsites c.args.index.0) c.args.values.now
+    (subst (λ (at : At). EventAtGives g.T.Subscriber ghosts (slice_get c.args.self.now.hub.callsites c.args.index.0) c.args.values
     c.parent_of-parent.result at c.in-Some.handle c.args.self.now.hub c.event_at-told.result c.event_at-told.new.self)
     c.at_of-at.ensures c.event_at-told.ensures.gives)).0
 
@@ -24,6 +24,6 @@ returns-clause-gives g c =
     (record { lane = c.args.lane; moment = c.args.moment; callsite = c.args.callsite; parent = c.args.parent; values = c.args.values })
     (Ok c.args.index) c.args.index c.parent_of-parent.result c.event_at-told.result
     c.parent_of-parent.ensures refl c.requires.found c.requires.reached
-    (subst (λ (at : At). EventAtGives g.T.Subscriber ghosts (slice_get c.args.self.now.hub.callsites c.args.index.0) c.args.values.now
+    (subst (λ (at : At). EventAtGives g.T.Subscriber ghosts (slice_get c.args.self.now.hub.callsites c.args.index.0) c.args.values
     c.parent_of-parent.result at c.in-Some.handle c.args.self.now.hub c.event_at-told.result c.event_at-told.new.self)
     c.at_of-at.ensures c.event_at-told.ensures.gives)).1

@@ -15,7 +15,7 @@ returns-clause-sound g c =
     c.if-not-has_been_set.false)
     c.in-Some-new_span_at.is c.reply_of.ensures
     (subst (λ (at : At). SpanAtGives g.T.Subscriber ghosts (slice_get c.args.self.now.hub.callsites c.in-Ok.index.0)
-    c.args.span.now.values.now c.parent_of-parent.result at c.in-Some-handle.handle c.args.self.now.hub c.new_span_at.result
+    c.args.span.now.values c.parent_of-parent.result at c.in-Some-handle.handle c.args.self.now.hub c.new_span_at.result
     c.new_span_at.new.self) c.at_of-at.ensures c.new_span_at.ensures.gives)).0
 
 pub returns-clause-gives : goal.returns-clause-gives
@@ -27,5 +27,5 @@ returns-clause-gives g c =
     c.if-not-has_been_set.false)
     c.in-Some-new_span_at.is c.reply_of.ensures
     (subst (λ (at : At). SpanAtGives g.T.Subscriber ghosts (slice_get c.args.self.now.hub.callsites c.in-Ok.index.0)
-    c.args.span.now.values.now c.parent_of-parent.result at c.in-Some-handle.handle c.args.self.now.hub c.new_span_at.result
+    c.args.span.now.values c.parent_of-parent.result at c.in-Some-handle.handle c.args.self.now.hub c.new_span_at.result
     c.new_span_at.new.self) c.at_of-at.ensures c.new_span_at.ensures.gives)).1

@@ -5,5 +5,5 @@ use Rattle.span_tracing_steps.proofs.parts.TraceParts.record_follows_from.Goals 
 pub returns-clause-sound : goal.returns-clause-sound
 returns-clause-sound g c =
     called_sound g.T.Subscriber c.args.self.now c.record_follows_from-told.new.self c.in-Some-handle.handle c.in-Some-handle.is c.requires
-    (FollowsRecorded c.in-Some-span.name.id c.in-Some-follows.followed.id c.at_of-at.result) c.record_follows_from-told.result
+    (FollowsRecorded c.id_of.result c.id_of-2.result c.at_of-at.result) c.record_follows_from-told.result
     c.record_follows_from-told.ensures.gives c.record_follows_from-told.ensures.keeps

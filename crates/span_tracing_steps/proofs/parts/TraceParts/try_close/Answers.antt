@@ -5,4 +5,4 @@ use Rattle.span_tracing_steps.proofs.parts.TraceParts.try_close.Goals as goal
 pub returns-clause-sound : goal.returns-clause-sound
 returns-clause-sound g c =
     called_sound g.T.Subscriber c.args.self.now c.try_close.new.self c.in-Some-handle.handle c.in-Some-handle.is c.requires
-    (CloseTried c.in-Some-span.name.id c.at_of.result) c.try_close.result c.try_close.ensures.gives c.try_close.ensures.keeps
+    (CloseTried c.id_of.result c.at_of.result) c.try_close.result c.try_close.ensures.gives c.try_close.ensures.keeps

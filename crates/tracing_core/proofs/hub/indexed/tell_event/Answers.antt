@@ -10,7 +10,7 @@ use Rattle.tracing_core.proofs.hub.indexed.tell_event.Goals as goal
 pub returns : goal.returns
 returns g c =
     let m = plain_metadata c.args.metadata.now in
-    let values = values_are c.value_set_indexed.result c.fields.result.now m c.args.values.now c.value_set_indexed.ensures.entries
+    let values = values_are c.value_set_indexed.result c.fields.result.now m c.args.values c.value_set_indexed.ensures.entries
     c.value_set_indexed.ensures.fields c.fields.ensures.names c.fields.ensures.callsite in
     subst (λ (e : PlainRequest). CallGives g.S.Subscriber (EventDispatched e c.args.at) c.args.serial c.args.subscribers.now
     c.event_at.result c.event_at.new.subscribers)

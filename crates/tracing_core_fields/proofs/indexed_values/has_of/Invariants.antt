@@ -1,0 +1,8 @@
+use Rattle.std.proofs.Common.{◌≡◌, drop}
+use Rattle.tracing_core_fields.specs.IndexedEntries.{entries_below}
+use Rattle.tracing_core_fields.specs.Values.{has_entry}
+use Rattle.tracing_core_fields.proofs.indexed_values.has_of.Given as goal
+
+abbrev pub invariant-loop-given : goal.invariant-loop-given
+invariant-loop-given g l =
+    has_entry l.index (entries_below g.I.IndexedValue.place g.I.IndexedValue.meaning l.count (drop l.given-index l.values)) ≡ has_entry l.index (entries_below g.I.IndexedValue.place g.I.IndexedValue.meaning l.count l.values)

@@ -1,6 +1,0 @@
-use Rattle.std.proofs.Common.{◌≡◌, drop}
-use Rattle.tracing_core_fields.specs.OwnedValues.{indexed_entries}
-use Rattle.tracing_core_fields.proofs.value_set.lacks_indexed.Given as goal
-
-abbrev pub invariant-loop-given : goal.invariant-loop-given
-invariant-loop-given l = indexed_entries l.count (drop l.given-index l.values) ≡ indexed_entries l.count l.values
