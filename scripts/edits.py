@@ -109,13 +109,17 @@ def merged(crate, hunks):
     return texts
 
 
+# How many edits go into one copy of a crate: a group is one task, so that a long one would be what a run waits for at its end.
+MOST = 16
+
+
 def groups_of(crate, edits):
     """Returns the edits in groups, each of which goes into one copy of the crate; one that is tried alone is a group of its own."""
     groups = []
     for edit in sorted(edits, key=lambda it: -len(it.bodies)):
         for group in groups:
             apart = not any(it.is_whole or it.touched() & edit.touched() for it in group)
-            if not edit.is_whole and apart and merged(crate, [h for it in [*group, edit] for h in it.hunks]) is not None:
+            if not edit.is_whole and apart and len(group) < MOST and merged(crate, [h for it in [*group, edit] for h in it.hunks]) is not None:
                 group.append(edit)
                 break
         else:

@@ -6,7 +6,7 @@ usage: scripts/gate.py [CRATE..] [--tests try|prove] [--edits new|all|drawn]
 
 CRATE..          these crates and those below them alone
 --tests prove    proves the tests too, over what the crates' proofs kept, and then runs them; without it they run unproved
---edits drawn    judges each edit that docs/edits.ledger lacks, and all edits of some crates, one of 24 shares at random; writes nothing (this is what .ci/run does)
+--edits drawn    judges each edit that docs/edits.ledger lacks, and of the others one of 24 shares at random; writes nothing (this is what .ci/run does)
 --edits new      judges each edit that the ledger lacks, and writes the ledger
 --edits all      judges each edit, and writes the ledger
 --quick          proves nothing: runs all tests, and the programs on their inputs, cases and scenes, unproved. It is for a hurry, and no gate
@@ -15,6 +15,7 @@ The last line is `N passed, M failed`. RT_JOBS says how many processors it may u
 import argparse
 import copy
 import glob
+import json
 import os
 import re
 import shutil
@@ -36,14 +37,14 @@ import real_files  # noqa: E402
 from kit import Crate, rt, rtlib  # noqa: E402
 
 LEDGER = "docs/edits.ledger"
+# What tasks took when a run was last measured, in seconds of one processor. Tasks are started by it, and nothing is decided by it.
+SECONDS = f"{os.path.dirname(os.path.realpath(__file__))}/seconds.json"
 # What runs a crate's tests, in the crate's folder.
 TESTS = [f"{os.path.dirname(os.path.realpath(__file__))}/unproved.py", "--test"]
 # What READMEs show parts of: each of these is proved or run.
-EXAMPLES = ["crates/examples_*/src/**/*.rt", "crates/uses/src/**/*.rt"]
-# A program's proof takes as long as that of so many lines more, since its types name every part below.
-PROGRAM = 4_000
-# What a proof was seen to take at most, in bytes, with what the system needs beside it.
-MEMORY = 3_500_000_000
+EXAMPLES = ["crates/examples/src/**/*.rt", "crates/uses/src/**/*.rt"]
+# What a line takes where nothing was measured, and a program's proof beside its lines: its types name every part below.
+A_LINE, A_PROGRAM = 0.045, 400
 
 
 def refusal_of_text(crate):
@@ -94,10 +95,16 @@ def is_well_written(crate, crates):
 
 
 def proof(crate, jobs):
+    """Proves a crate, and once more with one job where the system let the first check down."""
     os.makedirs(f"{crate.folder}/out", exist_ok=True)
-    status = crate.prove_whole(jobs)
-    if status == -signal.SIGKILL:
-        print("the check was killed, most likely for memory: once more", flush=True)
+    try:
+        status = crate.prove_whole(jobs)
+        why = "it was killed, most likely for memory" if status == -signal.SIGKILL else ""
+    except (OSError, MemoryError) as fault:
+        status, why = 1, repr(fault)
+    if why:
+        print(f"the check broke off ({why}; {lanes.room_left()}): once more, a minute later", flush=True)
+        time.sleep(60)
         shutil.rmtree(crate.kept, ignore_errors=True)
         status = crate.prove_whole(1)
     return "proved" if not status else sys.exit(1)
@@ -145,8 +152,9 @@ class Gate:
     def __init__(self, crates, room, how, top):
         self.crates, self.how, self.top, self.by_name = crates, how, top, {it.name: it for it in crates}
         self.known = ledger.read(LEDGER)
-        self.drawn = ledger.drawn({it.name: len(rt.edits_of(it)[0]) for it in crates}, seed(top)) if how.edits == "drawn" else set()
+        self.drawn = ledger.drawn({it.name: [label_of(it, file) for file in rt.edits_of(it)[0]] for it in crates}, seed(top)) if how.edits == "drawn" else set()
         self.spent, self.sums, self.open, self.refused, self.failed, self.passed = {}, {}, {}, set(), [], 0
+        self.seconds = json.loads(rtlib.text_of(SECONDS) or "{}")
         # the crates whose edits were looked at, so that the ledger's lines of all others stay
         self.seen = set()
         for it in crates:
@@ -158,20 +166,20 @@ class Gate:
         for it in self.crates:
             lines = sum(rtlib.text_of(file).count("\n") for file in rtlib.files_of(it.folder) if file.endswith((".rt", ".antt")))
             after = [(it.name, "proof")]
-            work = lines + PROGRAM * it.is_program
+            work = self.seconds.get(it.name, A_LINE * lines + A_PROGRAM * it.is_program)
             found[it.name, "proof"] = lanes.Task([(below.name, "proof") for below in it.below()], work, lambda jobs, it=it: proof(it, jobs))
             if it.is_program:
-                found[it.name, "program"] = lanes.Task(after, lines // 4, lambda jobs, it=it: program(it))
+                found[it.name, "program"] = lanes.Task(after, 40, lambda jobs, it=it: program(it))
             if it.name == cases.PROGRAM:
                 call = lambda jobs, it=it: cases.tried(cases.built(it), cases.sorted_out()[0])
-                found[it.name, "cases"] = lanes.Task([(it.name, "program")], lines // 40, call)
+                found[it.name, "cases"] = lanes.Task([(it.name, "program")], 20, call)
                 call = lambda jobs, it=it: real_files.tried(cases.built(it))
-                found[it.name, "real files"] = lanes.Task([(it.name, "program")], lines // 40, call)
+                found[it.name, "real files"] = lanes.Task([(it.name, "program")], 20, call)
             if it.has_tests():
                 call = tests_proved if self.how.tests == "prove" else tests_run
-                found[it.name, "tests"] = lanes.Task(after, lines // 4, lambda jobs, it=it, call=call: call(it))
+                found[it.name, "tests"] = lanes.Task(after, 50, lambda jobs, it=it, call=call: call(it))
             if rt.edits_of(it)[0]:
-                found[it.name, "plan"] = lanes.Task(after, lines // 4, lambda jobs, it=it: self.planned(it))
+                found[it.name, "plan"] = lanes.Task(after, 1, lambda jobs, it=it: self.planned(it))
         self.open = {it.name: sum(key[0] == it.name for key in found) for it in self.crates}
         return found
 
@@ -193,10 +201,10 @@ class Gate:
         """Returns the sums of the crate's edits, and in groups the files of those that are to be judged."""
         base, sums, wanted = ledger.base(crate), {}, []
         for file in rt.edits_of(crate)[0]:
-            label = f"{crate.name}/{os.path.basename(file)}"
+            label = label_of(crate, file)
             sums[label] = ledger.sum_of(file, base)
             is_known = self.how.edits != "all" and self.known.get(label) == sums[label]
-            if not is_known or crate.name in self.drawn:
+            if not is_known or label in self.drawn:
                 wanted.append(edits.Edit(crate, file))
         return sums, [[it.file for it in group] for group in edits.groups_of(crate, wanted)]
 
@@ -213,7 +221,7 @@ class Gate:
             crate = self.by_name[name]
             for at, files in enumerate(groups, 1):
                 call = lambda jobs, files=files: edits.judge(crate, crate.kept, [edits.Edit(crate, it) for it in files])
-                follow[name, f"edits {at}"] = lanes.Task([], 300 * len(files), call)
+                follow[name, f"edits {at}"] = lanes.Task([], 25 * len(files), call)
         elif part == "edits" and it.is_well:
             for edit, (is_refused, text) in sorted(it.gave.items()):
                 print(f"gate: must-fail {name}/{edit}: {text}")
@@ -246,6 +254,11 @@ class Gate:
         ledger.write(f"{self.top}/{LEDGER}", {**left_out, **rests, **{it: self.sums[it] for it in self.refused}})
 
 
+def label_of(crate, file):
+    """Returns the name CRATE/EDIT of an edit."""
+    return f"{crate.name}/{os.path.basename(file)}"
+
+
 def edit_file(label):
     """Returns where the edit CRATE/EDIT stands."""
     crate, _, edit = label.partition("/")
@@ -270,7 +283,7 @@ def chosen(crates, names):
 def processors():
     """Returns how many tasks run side by side: one a processor, as many as memory holds."""
     number = os.environ.get("RT_JOBS", "")
-    return int(number) if number.isdigit() and int(number) else max(1, min(rt.processors(), rt.free() // MEMORY))
+    return int(number) if number.isdigit() and int(number) else max(1, min(rt.processors(), rt.free() // lanes.MEMORY))
 
 
 def copied(root, to):
@@ -316,6 +329,7 @@ def run(how, top):
         gate.count(not shown_nowhere(), f"{', '.join(shown_nowhere())}: shows code that stands in no example")
         gate.count(not promises.stale(), f"{', '.join(promises.stale())}: stale, run scripts/promises.py")
         if not refused:
+            print(f"gate: {processors()} tasks side by side; {lanes.room_left()}", flush=True)
             lanes.run(gate.quick_tasks() if how.quick else gate.tasks(), processors(), gate.ended)
         if how.edits != "drawn" and not how.quick:
             gate.write_ledger()

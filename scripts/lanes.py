@@ -3,20 +3,24 @@ import collections
 import ctypes
 import json
 import os
+import shutil
 import signal
 import sys
 import tempfile
 import time
 import traceback
 
+import kit
 from kit import rtlib
 
-# What is run: `waits` names the tasks that have to end well before; `work` is a guess of what it takes; `call` gets how many jobs it may use.
+# What is run: `waits` names the tasks that have to end well before; `work` is a guess of its seconds; `call` gets how many jobs it may use.
 Task = collections.namedtuple("Task", "waits work call")
 # What came of it: whether all is well, what the call gave, what it printed, and its seconds of processors and of the clock.
 Ended = collections.namedtuple("Ended", "is_well gave said cpu wall")
 
 PR_SET_PDEATHSIG = 1
+# What a proof was seen to take at most, in bytes, with what the system needs beside it.
+MEMORY = 3_500_000_000
 
 
 def begun(task, jobs):
@@ -39,11 +43,18 @@ def begun(task, jobs):
         status = 0
     except SystemExit:
         pass
-    except BaseException:
+    except BaseException as fault:
+        # first what it is: of a long run's output the end may be cut off
+        print(f"the task broke off: {fault!r}; {room_left()}", flush=True)
         traceback.print_exc()
     sys.stdout.flush()
     sys.stderr.flush()
     os._exit(status)
+
+
+def room_left():
+    """Says how much memory and room for files is left, which is what a task breaks off for."""
+    return f"{kit.rt.free() >> 20} MB of memory and {shutil.disk_usage(tempfile.gettempdir()).free >> 20} MB for files are left"
 
 
 def text_of(file):
@@ -61,11 +72,11 @@ def behind(tasks):
     return found
 
 
-def jobs_for(key, left, tasks, chain, lanes):
+def jobs_for(key, left, tasks, chain, lanes, is_alone):
     """Returns how many processors a task gets: the longest chain decides when the run ends, so a proof in a chain that is longer than what all else
-    takes gets two."""
+    takes gets two, and so does one beside which nothing else can run."""
     rest = sum(tasks[it].work for it in left)
-    return 2 if key[1] == "proof" and lanes > 1 and chain[key] * lanes > rest else 1
+    return 2 if key[1] == "proof" and lanes > 1 and (is_alone or chain[key] * lanes > rest) else 1
 
 
 class Run:
@@ -84,14 +95,19 @@ class Run:
         self.left += more
 
     def start(self):
-        """Starts tasks, those with the longest chain first, while a processor is free."""
+        """Starts tasks, those with the longest chain first, while a processor and memory are free."""
         self.left.sort(key=lambda it: -self.chain[it])
-        for key in [it for it in self.left if all(below in self.ended for below in self.tasks[it].waits)]:
+        ready = [it for it in self.left if all(below in self.ended for below in self.tasks[it].waits)]
+        for key in ready:
             if not all(self.ended[below].is_well for below in self.tasks[key].waits):
                 self.left.remove(key)
                 self.end(key, Ended(False, None, "what it stands on failed\n", 0, 0))
+            elif self.running and kit.rt.free() < MEMORY:
+                # what runs gives memory back when it ends
+                break
             elif sum(it[1] for it in self.running.values()) < self.lanes:
-                jobs = jobs_for(key, self.left, self.tasks, self.chain, self.lanes)
+                is_alone = len(ready) + len(self.running) == 1
+                jobs = jobs_for(key, self.left, self.tasks, self.chain, self.lanes, is_alone)
                 self.left.remove(key)
                 child, said, gave = begun(self.tasks[key], jobs)
                 self.running[child] = key, jobs, said, gave, time.time()

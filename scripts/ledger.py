@@ -7,7 +7,7 @@ import os
 
 from kit import LOGIC, rtlib
 
-# Into how many shares the crates are parted, of which a run draws one. A crate with more edits than a share should have is a share by itself.
+# Into how many shares the edits are parted, of which a run draws one.
 SHARES = 24
 HEAD = "# Each edit that was refused, and the sum of what that rests on. Written by scripts/gate.py --edits all (or new); see docs/GATE.md.\n"
 
@@ -77,11 +77,17 @@ def sum_of(edit, base_of_crate):
         return hashlib.sha256(base_of_crate.encode() + it.read()).hexdigest()[:32]
 
 
-def drawn(counts, seed):
-    """Returns the crates whose edits are judged again in the run with this seed, whatever the ledger says: one of 24 shares, into which the crates are
-    parted so that each has about as many edits. `counts` has the number of edits of each crate. A crate's edits are drawn together, since those that
-    go into one check share its beginning."""
+def parts(labels, most):
+    """Returns the labels in parts of at most so many, of about one size."""
+    number = -(-len(labels) // most)
+    return [labels[len(labels) * at // number : len(labels) * (at + 1) // number] for at in range(number)]
+
+
+def drawn(edits, seed):
+    """Returns the edits that are judged again in the run with this seed, whatever the ledger says: one of 24 shares of about as many. `edits` has the
+    labels of each crate's. Those of a crate stay together as far as a share has room for them, since edits that go into one check share its beginning."""
+    most = max(1, -(-sum(map(len, edits.values())) // SHARES))
     shares = [[] for _ in range(SHARES)]
-    for crate in sorted(counts, key=lambda it: (-counts[it], it)):
-        min(shares, key=lambda share: sum(counts[it] for it in share)).append(crate)
+    for part in sorted((it for labels in edits.values() if labels for it in parts(sorted(labels), most)), key=lambda it: (-len(it), it)):
+        min(shares, key=len).extend(part)
     return {*shares[hashlib.sha256(seed.encode()).digest()[0] % SHARES]}

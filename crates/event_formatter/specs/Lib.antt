@@ -27,3 +27,22 @@ pub use Rattle.event_formatter_lines.specs.Json
 pub use Rattle.event_formatter_lines.specs.slots.FieldsAndTimings as KeptInSlots
 pub use Rattle.event_formatter_lines.specs.slots.SpanUpdates
 pub use Rattle.event_formatter_lines.specs.slots.SteppedTimings
+pub use Rattle.event_formatter_text.specs.Visitors
+pub use Rattle.event_formatter_text.specs.VisitorAdapters
+pub use Rattle.event_formatter_text.specs.JsonLaws
+pub use Rattle.event_formatter_text.specs.ObjectLaws
+pub use Rattle.event_formatter_text.specs.HarmlessTexts
+pub use Rattle.event_formatter_text.specs.field.AppendedText
+pub use Rattle.event_formatter_text.specs.field.Closures
+pub use Rattle.event_formatter_text.specs.field.DelimitedFields
+pub use Rattle.event_formatter_text.specs.field.Functions
+pub use Rattle.event_formatter_text.specs.field.Pieces
+pub use Rattle.event_formatter_text.specs.field.VisitResults
+pub use Rattle.event_formatter_text.specs.makers.Either
+pub use Rattle.event_formatter_text.specs.makers.Filters
+pub use Rattle.event_formatter_text.specs.declared.error.FormatError
+pub use Rattle.event_formatter_text.specs.declared.settings.Settings
+pub use Rattle.event_formatter_text.specs.declared.makers.either.EitherWriter
+pub use Rattle.event_formatter_lines.specs.FmtSpans
+pub use Rattle.event_formatter_lines.specs.JsonLaws as JsonLineLaws
+pub use Rattle.event_formatter_lines.specs.HarmlessLines

@@ -21,7 +21,7 @@ use Rattle.event_formatter_lines.specs.Heads.{PlainHead, in_five_places, level_p
 use Rattle.event_formatter_lines.specs.Pretty.{PlainPlace, PlainThread, file_part, from_leaf, id_part, level_part, line_part, name_part}
 use Rattle.event_formatter_lines.specs.Pretty.{newline_if, number_part, path_part, place_text, pretty_head, pretty_tail}
 use Rattle.event_formatter_lines.specs.Pretty.{space_before_id, span_line, target_part, thread_part, thread_start, with_part}
-use Rattle.event_formatter_lines.specs.Shown.{PlainShown}
+use Rattle.event_formatter_lines.specs.Shown.{PlainShown, name_in_chain}
 
 framed_passes : (front back : List ℕ) → Passes front → Passes back → (text : Option (List ℕ)) → IfSome text Passes →
     IfSome (framed_text front text back) Passes
@@ -116,6 +116,10 @@ module _ (settings : Settings) (harmless : AreHarmless settings) where
       (both_pass two (plain_piece head.thread_name) two_pass (plain_passes head.thread_name tame.thread_name))
       (plain_passes head.thread_id tame.thread_id)
 
+  -- a span's name in a chain of spans
+  chain_name_passes : (span : PlainShown) → IsTameSpan span → Passes (name_in_chain settings span)
+  chain_name_passes span tame = bold_passes span.name tame.name
+
   -- the full format
   braced_passes : (text : List ℕ) → Passes text → Passes (braced settings text)
   braced_passes [] tame = nothing
@@ -127,8 +131,8 @@ module _ (settings : Settings) (harmless : AreHarmless settings) where
   span_passes : (span : PlainShown) → IsTameSpan span → Passes (span_piece settings span)
   unfolding span_piece
   span_passes span tame =
-      both_pass (bold settings span.name ++ braced settings span.text) (dimmed settings (codes ":"))
-      (both_pass (bold settings span.name) (braced settings span.text) (bold_passes span.name tame.name)
+      both_pass (name_in_chain settings span ++ braced settings span.text) (dimmed settings (codes ":"))
+      (both_pass (name_in_chain settings span) (braced settings span.text) (chain_name_passes span tame)
       (braced_passes span.text tame.text)) dim_colon
 
   each_passes : (piece : PlainShown → List ℕ) → ((span : PlainShown) → IsTameSpan span → Passes (piece span)) →
@@ -180,7 +184,7 @@ module _ (settings : Settings) (harmless : AreHarmless settings) where
   -- the compact format
   name_passes : (span : PlainShown) → IsTameSpan span → Passes (name_piece settings span)
   unfolding name_piece
-  name_passes span tame = both_pass (bold settings span.name) (codes ":") (bold_passes span.name tame.name) colon
+  name_passes span tame = both_pass (name_in_chain settings span) (codes ":") (chain_name_passes span tame) colon
 
   names_in_line_pass : (spans : List PlainShown) → AllByRecursion IsTameSpan spans → Passes (names_text settings spans)
   names_in_line_pass [] tame = nothing

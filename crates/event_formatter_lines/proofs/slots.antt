@@ -3,3 +3,4 @@ mod DistinctSlots
 mod SlotsByTag
 mod LentSlots
 mod Locality
+mod SteppedSlots

@@ -3,15 +3,15 @@ use Rattle.std.specs.Prelude.{ℕ, Bool, true, false, ◌||◌, List, [], ◌∷
 use Rattle.std.specs.Fmt.{decimal}
 use Rattle.std.specs.List.{flat_map}
 use Rattle.std.specs.Option.{is_some}
-use Rattle.event_formatter_text.specs.Styles.{bold, dimmed}
+use Rattle.event_formatter_text.specs.Styles.{dimmed}
 use Rattle.event_formatter_text.specs.declared.settings.Settings.{Settings}
 use Rattle.event_formatter_lines.specs.Frames.{framed_text}
 use Rattle.event_formatter_lines.specs.Heads.{PlainHead, level_piece, plain_piece, time_piece}
-use Rattle.event_formatter_lines.specs.Shown.{PlainShown}
+use Rattle.event_formatter_lines.specs.Shown.{PlainShown, name_in_chain}
 
 -- a span by its name
 unfoldable pub name_piece : Settings → PlainShown → List ℕ
-name_piece settings span = bold settings span.name ++ codes ":"
+name_piece settings span = name_in_chain settings span ++ codes ":"
 
 -- spans by their names, and a space where there are any
 abbrev pub names_text : Settings → List PlainShown → List ℕ

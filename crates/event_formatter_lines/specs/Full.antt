@@ -7,7 +7,7 @@ use Rattle.event_formatter_text.specs.Styles.{bold, dimmed}
 use Rattle.event_formatter_text.specs.declared.settings.Settings.{Settings}
 use Rattle.event_formatter_lines.specs.Frames.{framed_text}
 use Rattle.event_formatter_lines.specs.Heads.{PlainHead, level_piece, plain_piece, time_piece}
-use Rattle.event_formatter_lines.specs.Shown.{PlainShown}
+use Rattle.event_formatter_lines.specs.Shown.{PlainShown, name_in_chain}
 
 -- a span's text between braces, where it isn't empty
 abbrev pub braced : Settings → List ℕ → List ℕ
@@ -16,7 +16,7 @@ braced settings (b ∷ bs) = bold settings (codes "{") ++ (b ∷ bs) ++ bold set
 
 -- a span: its name, its text and a colon
 unfoldable pub span_piece : Settings → PlainShown → List ℕ
-span_piece settings span = bold settings span.name ++ braced settings span.text ++ dimmed settings (codes ":")
+span_piece settings span = name_in_chain settings span ++ braced settings span.text ++ dimmed settings (codes ":")
 
 -- the spans, and a space where there are any
 abbrev pub spans_text : Settings → List PlainShown → List ℕ

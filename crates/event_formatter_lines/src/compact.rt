@@ -10,10 +10,8 @@ ghost use Rattle.event_formatter_lines.specs.Shown.{span_at};
 
 use crate::fields::push_fields;
 use crate::head::{Head, push_level, push_plain, push_time};
-use crate::shown::ShownSpans;
-use event_formatter_text::{
-    FormatError, FormatFields, RecordFields, Settings, push_bold, push_dimmed,
-};
+use crate::shown::{ShownSpans, push_name_in_chain};
+use event_formatter_text::{FormatError, FormatFields, RecordFields, Settings, push_dimmed};
 use itoa::Buffer;
 use std::alloc::{AllocError, Global};
 
@@ -29,7 +27,8 @@ fn push_name<S: ShownSpans>(
     ensures { OnOk result (string_bytes out.new ≡ string_bytes out.old
         ++ name_piece settings (span_at (S.spans spans.now) index)) }
 {
-    push_bold(out, settings, spans.name(index))?;
+    let span = spans.span(index);
+    push_name_in_chain(out, settings, &span)?;
     out.push(':')
 }
 
@@ -181,7 +180,7 @@ fn push_text<S: ShownSpans>(
     ensures { OnOk result (string_bytes out.new ≡ string_bytes out.old
         ++ text_piece settings (span_at (S.spans spans.now) index)) }
 {
-    push_behind_space(out, settings, spans.text(index))
+    push_behind_space(out, settings, spans.span(index).text)
 }
 
 // Appends the text of each of the spans.

@@ -12,7 +12,7 @@ ghost use Rattle.event_formatter_lines.specs.Shown.{span_at};
 
 use crate::fields::push_fields;
 use crate::head::{Head, push_level, push_plain, push_time, refused};
-use crate::shown::ShownSpans;
+use crate::shown::{ShownSpans, push_name_in_chain};
 use event_formatter_text::{
     FormatError, FormatFields, RecordFields, Settings, push_bold, push_dimmed,
 };
@@ -71,7 +71,7 @@ fn push_span<S: ShownSpans>(
         ++ span_piece settings (span_at (S.spans spans.now) index)) }
 {
     let span = spans.span(index);
-    push_bold(out, settings, span.name)?;
+    push_name_in_chain(out, settings, &span)?;
     push_text(out, settings, span.text)
 }
 

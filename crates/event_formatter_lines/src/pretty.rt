@@ -201,10 +201,11 @@ fn push_span<S: ShownSpans>(
     ensures { OnOk result (string_bytes out.new ≡ string_bytes out.old
         ++ span_line shows_target (span_at (S.spans spans.now) index)) }
 {
+    let span = spans.span(index);
     out.push_str("    in ")?;
-    push_path(out, shows_target, spans.target(index))?;
-    out.push_str(spans.name(index))?;
-    push_with(out, spans.text(index))?;
+    push_path(out, shows_target, span.target)?;
+    out.push_str(span.name)?;
+    push_with(out, span.text)?;
     out.push('\n')
 }
 

@@ -1,6 +1,5 @@
 mod Blocks
 mod UnescapedText
-mod DraftTexts
 mod MessageText
 pub mod PieceVisits
 mod VisitorText

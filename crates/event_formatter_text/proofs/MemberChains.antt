@@ -7,7 +7,7 @@ use Rattle.tracing_core_fields.specs.PlainField.{PlainField}
 use Rattle.tracing_core_fields.specs.PlainValue.{PlainValue, debug_of}
 use Rattle.tracing_core_fields.specs.Visits.{Visits, all_taken, refused, taken}
 use Rattle.tracing_core_fields.specs.requests.PlainRequests.{PlainValues}
-use Rattle.event_formatter_text.proofs.PieceVisits.{visited}
+use Rattle.event_formatter_text.proofs.PieceVisits.{fields_visited}
 use Rattle.event_formatter_text.specs.MemberChains.{ExtendsWhole, is_still_first, members_of}
 use Rattle.event_formatter_text.specs.Lists.{Formats, entry_piece, joined_unless}
 use Rattle.event_formatter_text.specs.Visitors.{Frame, ShowsAsJson, frame_of, member_piece}
@@ -68,7 +68,7 @@ pub appended : (values : PlainValues) (old : List ℕ) (name : GName) (given : W
     Visits TakesMembers values.callsite values.names values.entries before answer after →
     ExtendsWhole (members_of values) is_first old (told answer after.is_empty) (string_bytes final)
 appended values old name given before after is_first answer final named begun lent first tie visits =
-    let v = visited (λ v. written v.writer) (λ v. v.is_empty) (λ v. frame_of v.writer) (λ s. codes ",")
+    let v = fields_visited (λ v. written v.writer) (λ v. v.is_empty) (λ v. frame_of v.writer) (λ s. codes ",")
     (λ (f : Frame) n value. member_piece n value) visits in
     let ended : string_bytes final ≡ written after.writer =
     ap string_bytes (tie (sym (ap (λ f. f.text) v.0 ∙ ap (λ w. w.out.ghost_name) lent ∙ named))) in

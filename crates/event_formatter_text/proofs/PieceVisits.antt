@@ -7,7 +7,8 @@ use Rattle.std.specs.Option.{option_map}
 use Rattle.tracing_core_fields.specs.PlainField.{PlainField}
 use Rattle.tracing_core_fields.specs.PlainValue.{PlainValue}
 use Rattle.tracing_core_fields.specs.Visits.{Visits, all_taken, refused, taken}
-use Rattle.event_formatter_text.specs.Lists.{Formats, WrotePiece, entry_piece, further, joined, joined_unless, pieces_text}
+use Rattle.event_formatter_text.specs.Lists.{Formats, FormatsOne, WroteField, WrotePiece, entry_piece, further, joined, joined_unless}
+use Rattle.event_formatter_text.specs.Lists.{pieces_text}
 use Rattle.event_formatter_text.specs.declared.error.FormatError.{FormatError}
 use Rattle.event_formatter_text.specs.declared.error.FormatError.TheVariants.{Failed, OutOfMemory}
 
@@ -53,6 +54,16 @@ refused_at separator None fails is_first rest old new OutOfMemory w = tt
 refused_at separator (Some p) false is_first rest old new OutOfMemory w = tt
 refused_at separator (Some p) true is_first rest old new OutOfMemory w = tt
 
+-- one piece was written as a text of pieces is
+one_formatted : (o : Option (List ℕ)) (old new : List ℕ) (answer : Result (Unit {0}) FormatError) → FormatsOne o old answer new →
+    Formats o old answer new
+one_formatted None old new (Ok x) w = absurd w
+one_formatted (Some p) old new (Ok x) w = w
+one_formatted None old new (Err Failed) w = tt
+one_formatted (Some p) old new (Err Failed) w = absurd w
+one_formatted None old new (Err OutOfMemory) w = absurd w
+one_formatted (Some p) old new (Err OutOfMemory) w = tt
+
 -- the separator may be one that stays of the visitor
 module _ {V S : Type 0} (text : V → List ℕ) (is_first : V → Bool) (frame : V → S) (separator : S → List ℕ) (piece : S → List ℕ →
     PlainValue → Option (List ℕ)) where
@@ -91,3 +102,33 @@ module _ {V S : Type 0} (text : V → List ℕ) (is_first : V → Bool) (frame :
               (subst (λ (n : List ℕ). Formats (option_map (further (separator s) (is_first before)) (piece s n value)) (text before) (Ok tt)
               (text next)) is.is_named t.2) later,
         )
+
+  -- the same of a visitor that writes fields by itself
+  abbrev pub TakesFields : V → PlainField → PlainValue → Result (Unit {0}) FormatError → V → Type 0
+  TakesFields before field value answer after = WroteField text is_first frame (separator (frame before)) before
+      (piece (frame before) field.name value) answer after
+
+  as_piece : (before : V) (field : PlainField) (value : PlainValue) (answer : Result (Unit {0}) FormatError) (after : V) →
+      TakesFields before field value answer after → TakesPieces before field value answer after
+  as_piece before field value answer after t = (
+    t.0,
+    t.1,
+    one_formatted (option_map (further (separator (frame before)) (is_first before)) (piece (frame before) field.name value)) (text before)
+        (text after) answer t.2,
+  )
+
+  module _ {callsite : ℕ} {names : List (List ℕ)} where
+    as_pieces : {entries : List (ℕ × PlainValue)} {before after : V} {answer : Result (Unit {0}) FormatError} →
+        Visits TakesFields callsite names entries before answer after → Visits TakesPieces callsite names entries before answer after
+    as_pieces all_taken = all_taken
+    as_pieces {before = before} {after = after} {answer = answer} (refused {value = value} field is t) =
+        refused field is (as_piece before field value answer after t)
+    as_pieces {before = before} (taken {value = value} {next = next} field is t more) =
+        taken field is (as_piece before field value (Ok tt) next t) (as_pieces more)
+
+    -- what stays, and the text of the entries
+    pub fields_visited : {entries : List (ℕ × PlainValue)} {before after : V} {answer : Result (Unit {0}) FormatError} →
+        Visits TakesFields callsite names entries before answer after →
+        (frame after ≡ frame before) × Formats (pieces_text (separator (frame before)) (piece (frame before)) (is_first before) names
+        entries) (text before) answer (text after)
+    fields_visited v = visited (as_pieces v)

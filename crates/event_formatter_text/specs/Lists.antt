@@ -43,9 +43,25 @@ Formats (Some text) old (Err Failed) new = ⊥
 Formats None old (Err Failed) new = Unit {0}
 Formats text old (Err OutOfMemory) new = Unit {0}
 
+-- One piece was appended. A piece that can't be formatted is told as that, never as out of memory, and nothing is appended.
+abbrev pub FormatsOne : Option (List ℕ) → List ℕ → Result (Unit {0}) FormatError → List ℕ → Type 0
+FormatsOne (Some text) old (Ok done) new = new ≡ old ++ text
+FormatsOne None old (Ok done) new = ⊥
+FormatsOne (Some text) old (Err Failed) new = ⊥
+FormatsOne None old (Err Failed) new = new ≡ old
+FormatsOne (Some text) old (Err OutOfMemory) new = Unit {0}
+FormatsOne None old (Err OutOfMemory) new = ⊥
+
 -- A call of a visitor appended its piece, behind the separator unless it is the first; `frame` is what stays.
 abbrev pub WrotePiece : {V S : Type 0} → (V → List ℕ) → (V → Bool) → (V → S) → List ℕ → V → Option (List ℕ) →
     Result (Unit {0}) FormatError → V → Type 0
 WrotePiece text is_first frame separator before piece answer after =
     (frame after ≡ frame before) × OnOk answer (is_first after ≡ false)
     × Formats (option_map (further separator (is_first before)) piece) (text before) answer (text after)
+
+-- The same of a visitor that writes a field by itself: a piece that can't be formatted is told as that, and nothing is appended.
+abbrev pub WroteField : {V S : Type 0} → (V → List ℕ) → (V → Bool) → (V → S) → List ℕ → V → Option (List ℕ) →
+    Result (Unit {0}) FormatError → V → Type 0
+WroteField text is_first frame separator before piece answer after =
+    (frame after ≡ frame before) × OnOk answer (is_first after ≡ false)
+    × FormatsOne (option_map (further separator (is_first before)) piece) (text before) answer (text after)

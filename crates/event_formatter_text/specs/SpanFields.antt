@@ -12,6 +12,10 @@ pub record PlainFields : Type 0 where
   pub words : List (List ℕ)
   pub settings : Settings
 
+-- no text and no words, to be written with these settings
+abbrev pub no_fields : Settings → PlainFields
+no_fields settings = record { text = []; words = []; settings = settings }
+
 abbrev pub plain_fields : FormattedFields → PlainFields
 plain_fields fields =
     record { text = string_bytes fields.text; words = map string_bytes fields.words.items; settings = fields.settings }

@@ -6,7 +6,7 @@ use Rattle.tracing_core_fields.specs.PlainField.{PlainField}
 use Rattle.event_formatter_text.specs.FieldTexts.{field_piece}
 use Rattle.tracing_core_fields.specs.PlainValue.{PlainValue, debug_of}
 use Rattle.tracing_core_fields.specs.requests.PlainRequests.{PlainValues}
-use Rattle.event_formatter_text.specs.Lists.{WrotePiece, list_text}
+use Rattle.event_formatter_text.specs.Lists.{WroteField, list_text}
 use Rattle.event_formatter_text.specs.JsonTexts.{json_piece}
 use Rattle.event_formatter_text.specs.Writers.{written, without_styles}
 use Rattle.event_formatter_text.specs.declared.error.FormatError.{FormatError}
@@ -27,7 +27,7 @@ frame_of writer = record { text = writer.out.ghost_name; settings = writer.setti
 
 abbrev pub ShowsByDefault : DefaultVisitor → PlainField → PlainDebug → Result (Unit {0}) FormatError → DefaultVisitor → Type 0
 ShowsByDefault before field value answer after =
-    WrotePiece (λ v. written v.writer) (λ v. v.is_empty) (λ v. frame_of v.writer) (codes " ") before
+    WroteField (λ v. written v.writer) (λ v. v.is_empty) (λ v. frame_of v.writer) (codes " ") before
     (field_piece before.writer.settings Default field.name value) answer after
 
 -- a field as `name=value`
@@ -40,7 +40,7 @@ default_text settings values = list_text (codes " ") (default_piece settings) va
 
 abbrev pub ShowsPrettily : PrettyVisitor → PlainField → PlainDebug → Result (Unit {0}) FormatError → PrettyVisitor → Type 0
 ShowsPrettily before field value answer after =
-    WrotePiece (λ v. written v.writer) (λ v. v.is_empty) (λ v. frame_of v.writer) (codes ", ") before
+    WroteField (λ v. written v.writer) (λ v. v.is_empty) (λ v. frame_of v.writer) (codes ", ") before
     (field_piece before.writer.settings Pretty field.name value) answer after
 
 -- a field as `name: value`
@@ -53,7 +53,7 @@ pretty_text settings values = list_text (codes ", ") (pretty_piece (without_styl
 
 abbrev pub ShowsAsJson : JsonVisitor → PlainField → PlainDebug → Result (Unit {0}) FormatError → JsonVisitor → Type 0
 ShowsAsJson before field value answer after =
-    WrotePiece (λ v. written v.writer) (λ v. v.is_empty) (λ v. frame_of v.writer) (codes ",") before
+    WroteField (λ v. written v.writer) (λ v. v.is_empty) (λ v. frame_of v.writer) (codes ",") before
     (json_piece field.name value) answer after
 
 -- a field as a member of an object

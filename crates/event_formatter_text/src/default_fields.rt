@@ -1,6 +1,5 @@
 //! The formatter of fields as `name=value`.
-ghost use Rattle.std.specs.Prelude.{[]};
-ghost use Rattle.event_formatter_text.specs.SpanFields.{behind_space};
+ghost use Rattle.event_formatter_text.specs.SpanFields.{behind_space, no_fields};
 ghost use Rattle.event_formatter_text.specs.Visitors.{default_text};
 
 use crate::error::FormatError;
@@ -26,7 +25,7 @@ impl DefaultFields {
 impl FormatFields for DefaultFields {
     ghost text_of = { λ _ settings values. default_text settings values };
 
-    ghost started = { λ _ settings. record { text = []; words = []; settings = settings } };
+    ghost started = { λ _ settings. no_fields settings };
 
     ghost added = { λ _ fields values. behind_space (default_text fields.settings values) fields };
 

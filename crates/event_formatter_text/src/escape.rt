@@ -156,6 +156,18 @@ fn is_plain_far(escape: Escape, bytes: &[u8]) -> bool
     is_plain_block(escape, bytes, bytes.len() - BLOCK)
 }
 
+// The same of a text of a block or more.
+#[inline(never)]
+fn has_special_in_blocks(escape: Escape, bytes: &[u8]) -> bool
+    requires { 16 ≤ length bytes.now }
+    ensures { result ≡ list_any (is_special escape) bytes.now }
+{
+    if is_plain_far(escape, bytes) {
+        return false;
+    }
+    has_special_far(escape, bytes)
+}
+
 /// Whether some byte may be part of a character that is written out.
 #[inline(always)]
 pub(crate) fn has_special(escape: Escape, bytes: &[u8]) -> bool
@@ -164,10 +176,7 @@ pub(crate) fn has_special(escape: Escape, bytes: &[u8]) -> bool
     if bytes.len() < BLOCK {
         return has_special_near(escape, bytes);
     }
-    if is_plain_far(escape, bytes) {
-        return false;
-    }
-    has_special_far(escape, bytes)
+    has_special_in_blocks(escape, bytes)
 }
 
 #[tactic(auto, unfolding(crate::specs::Escapes::sanitized_char))]

@@ -1,5 +1,5 @@
 //! The texts of single fields.
-ghost use Rattle.std.specs.Prelude.{◌≡◌, ◌++◌, [], None, OnOk, codes, if◌then◌else◌, map, string_bytes, unwrap_or};
+ghost use Rattle.std.specs.Prelude.{◌≡◌, ◌++◌, [], OnOk, codes, if◌then◌else◌, map, string_bytes, unwrap_or};
 ghost use Rattle.tracing_core_fields.specs.DebugText.{plain_debug};
 ghost use Rattle.tracing_core_fields.specs.ErrorText.{error_text, source_texts};
 ghost use Rattle.tracing_core_fields.specs.PlainDebug.{bytes_text};
@@ -9,9 +9,10 @@ ghost use Rattle.std.specs.Fmt.{decimal};
 ghost use Rattle.std.specs.Option.{option_map};
 ghost use Rattle.event_formatter_text.specs.FieldTexts.{field_piece, is_message, label, mark, plain_name, separator, shown, shown_later};
 ghost use Rattle.event_formatter_text.specs.FieldTexts.{shown_list, sources_label, sources_text, truth_text, value_text};
-ghost use Rattle.event_formatter_text.specs.Lists.{Formats, further};
+ghost use Rattle.event_formatter_text.specs.Lists.{FormatsOne, further};
 ghost use Rattle.event_formatter_text.specs.Styles.{dimmed};
 
+use crate::cold_path::{out_of_memory, refused};
 use crate::error::FormatError;
 use crate::escape::{Escape, has_special, push_each, push_quoted};
 use crate::settings::Settings;
@@ -189,7 +190,9 @@ fn push_label(
     if in_message {
         return Ok(());
     }
-    push_italic(out, settings, plain_name(name))?;
+    let Ok(()) = push_italic(out, settings, plain_name(name)) else {
+        return Err(refused());
+    };
     push_mark(out, settings, punctuation)
 }
 
@@ -290,8 +293,8 @@ fn push_bytes(out: &mut String, bytes: &[u8]) -> Result<(), AllocError>
 }
 
 // Appends what stands for a value; nothing for one that can't be formatted.
-#[inline(always)]
-fn push_value(
+#[inline(never)]
+fn push_any_value(
     out: &mut String,
     settings: Settings,
     punctuation: Punctuation,
@@ -307,13 +310,34 @@ fn push_value(
         DebugText::Texts { plain, .. } => push_own(out, settings, in_message, plain),
         DebugText::Failing => Ok(()),
         DebugText::I64(number) => push_number(out, *number),
-        DebugText::U64(number) => push_unsigned(out, *number),
+        DebugText::U64(number) => push_number(out, *number),
         DebugText::I128(number) => push_number(out, *number),
         DebugText::U128(number) => push_number(out, *number),
         DebugText::Bool(truth) => push_bool(out, *truth),
         DebugText::Str(text) => push_text(out, settings, in_message, text),
         DebugText::Bytes(bytes) => push_bytes(out, bytes),
         DebugText::Error(error) => push_error(out, settings, punctuation, name, error),
+    }
+}
+
+// The same. What most values are is inlined where it is asked for, and all else stands out of line.
+#[inline(always)]
+fn push_value(
+    out: &mut String,
+    settings: Settings,
+    punctuation: Punctuation,
+    in_message: bool,
+    name: &str,
+    value: &DebugText<'_>,
+) -> Result<(), AllocError>
+    requires { in_message ≡ is_message name.now }
+    ensures { OnOk result (string_bytes out.new ≡ string_bytes out.old
+        ++ unwrap_or (value_text settings punctuation name.now (plain_debug value.now)) []) }
+{
+    match value {
+        DebugText::U64(number) => push_unsigned(out, *number),
+        DebugText::Str(text) => push_text(out, settings, in_message, text),
+        other => push_any_value(out, settings, punctuation, in_message, name, other),
     }
 }
 
@@ -327,21 +351,24 @@ pub(crate) fn push_field(
     name: &str,
     value: &DebugText<'_>,
 ) -> Result<(), FormatError>
-    ensures text { Formats (option_map (further (separator punctuation) is_first)
+    ensures { FormatsOne (option_map (further (separator punctuation) is_first)
         (field_piece settings punctuation name.now (plain_debug value.now)))
         (string_bytes out.old) result (string_bytes out.new) }
-    // A value that can't be formatted is told as that, never as out of memory, and nothing is appended.
-    ensures failed { field_piece settings punctuation name.now (plain_debug value.now) ≡ None →
-        (result ≡ Err FormatError.Failed) × (string_bytes out.new ≡ string_bytes out.old) }
 {
     if matches!(value, DebugText::Failing) {
         return Err(FormatError::Failed);
     }
     if !is_first {
-        push_separator(out, punctuation)?;
+        let Ok(()) = push_separator(out, punctuation) else {
+            return Err(out_of_memory());
+        };
     }
     let in_message = is_message(name);
-    push_label(out, settings, punctuation, in_message, name)?;
-    push_value(out, settings, punctuation, in_message, name, value)?;
+    let Ok(()) = push_label(out, settings, punctuation, in_message, name) else {
+        return Err(out_of_memory());
+    };
+    let Ok(()) = push_value(out, settings, punctuation, in_message, name, value) else {
+        return Err(out_of_memory());
+    };
     Ok(())
 }

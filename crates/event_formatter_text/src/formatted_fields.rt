@@ -1,8 +1,8 @@
 //! The texts of spans' fields, as they are kept.
-ghost use Rattle.std.specs.Prelude.{◌≡◌, ◌++◌, [], IfOk, Some, false, if◌then◌else◌, map, string_bytes, true};
+ghost use Rattle.std.specs.Prelude.{◌≡◌, ◌++◌, IfOk, Some, false, if◌then◌else◌, map, string_bytes, true};
 ghost use Rattle.std.specs.Borrow.{sem};
 ghost use Rattle.std.specs.Result.{is_ok};
-ghost use Rattle.event_formatter_text.specs.SpanFields.{plain_fields, space_behind};
+ghost use Rattle.event_formatter_text.specs.SpanFields.{no_fields, plain_fields, space_behind};
 ghost use Rattle.event_formatter_text.specs.Loans.{LendsKept};
 ghost use Rattle.event_formatter_text.specs.Writers.{settings_of, written};
 
@@ -23,7 +23,7 @@ pub struct FormattedFields {
 impl FormattedFields {
     /// No text and no words.
     pub fn new(alloc: Global, settings: Settings) -> FormattedFields
-        ensures { plain_fields result ≡ record { text = []; words = []; settings = settings } }
+        ensures { plain_fields result ≡ no_fields settings }
     {
         FormattedFields {
             text: String::new(alloc),
@@ -34,7 +34,7 @@ impl FormattedFields {
 
     /// No text and no words, to be written as a new [`Writer`] writes.
     pub fn default(alloc: Global) -> FormattedFields
-        ensures { plain_fields result ≡ record { text = []; words = []; settings = record { styles = false; sanitizes = true } } }
+        ensures { plain_fields result ≡ no_fields (record { styles = false; sanitizes = true }) }
     {
         let settings = Settings {
             styles: false,
@@ -45,7 +45,7 @@ impl FormattedFields {
 
     /// What was kept before, put together again.
     pub fn from_parts(text: String, words: Vec<String>, settings: Settings) -> FormattedFields
-        ensures { plain_fields result ≡ record { text = string_bytes text; words = map string_bytes words.items; settings = settings } }
+        ensures { plain_fields result ≡ record (no_fields settings) { text = string_bytes text; words = map string_bytes words.items } }
     {
         FormattedFields {
             text,

@@ -1,6 +1,7 @@
 //! The formatter of fields as JSON.
-ghost use Rattle.std.specs.Prelude.{[], codes};
+ghost use Rattle.std.specs.Prelude.{codes};
 ghost use Rattle.event_formatter_text.specs.Members.{values_object, with_members};
+ghost use Rattle.event_formatter_text.specs.SpanFields.{no_fields};
 
 use crate::error::FormatError;
 use crate::format_fields::FormatFields;
@@ -28,7 +29,7 @@ impl JsonFields {
 impl FormatFields for JsonFields {
     ghost text_of = { λ _ settings values. values_object values };
 
-    ghost started = { λ _ settings. record { text = codes "{}"; words = []; settings = settings } };
+    ghost started = { λ _ settings. record (no_fields settings) { text = codes "{}" } };
 
     ghost added = { λ _ fields values. with_members values fields };
 

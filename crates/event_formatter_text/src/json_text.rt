@@ -1,11 +1,11 @@
 //! Values as JSON.
-ghost use Rattle.std.specs.Prelude.{◌≡◌, ◌++◌, [], None, OnOk, codes, string_bytes, unwrap_or};
+ghost use Rattle.std.specs.Prelude.{◌≡◌, ◌++◌, [], OnOk, codes, string_bytes, unwrap_or};
 ghost use Rattle.std.specs.Option.{option_map};
 ghost use Rattle.tracing_core_fields.specs.DebugText.{plain_debug};
 ghost use Rattle.event_formatter_text.specs.Escapes.{json_string};
 ghost use Rattle.event_formatter_text.specs.FieldTexts.{plain_name};
 ghost use Rattle.event_formatter_text.specs.JsonTexts.{json_piece, json_value, later_numbers, numbers_inside};
-ghost use Rattle.event_formatter_text.specs.Lists.{Formats, further};
+ghost use Rattle.event_formatter_text.specs.Lists.{FormatsOne, further};
 
 use crate::error::FormatError;
 use crate::escape::{push_json_rest, push_json_string};
@@ -143,11 +143,8 @@ pub(crate) fn push_member(
     name: &str,
     value: &DebugText<'_>,
 ) -> Result<(), FormatError>
-    ensures text { Formats (option_map (further (codes ",") is_first) (json_piece name.now (plain_debug value.now)))
+    ensures { FormatsOne (option_map (further (codes ",") is_first) (json_piece name.now (plain_debug value.now)))
         (string_bytes out.old) result (string_bytes out.new) }
-    // A value that can't be formatted is told as that, never as out of memory, and nothing is appended.
-    ensures failed { json_piece name.now (plain_debug value.now) ≡ None →
-        (result ≡ Err FormatError.Failed) × (string_bytes out.new ≡ string_bytes out.old) }
 {
     if matches!(value, DebugText::Failing) {
         return Err(FormatError::Failed);

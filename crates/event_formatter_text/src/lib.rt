@@ -1,8 +1,9 @@
 //! The texts of fields, with the visitors and formatters that write them; and makers of writers, which take lines, with their routes.
 #![tactic(auto)]
 
+mod cold_path;
 mod default_fields;
-mod draft;
+mod displayed;
 mod error;
 mod escape;
 mod field;
@@ -23,6 +24,7 @@ mod style;
 mod visitors;
 mod writer;
 
+pub use cold_path::{out_of_memory, refused};
 pub use default_fields::DefaultFields;
 pub use error::FormatError;
 pub use escape::{is_plain_json, push_json_inside, push_json_rest, push_json_string};

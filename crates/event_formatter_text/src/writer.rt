@@ -1,5 +1,5 @@
 //! What texts are written to.
-ghost use Rattle.std.specs.Prelude.{◌≡◌, ◌++◌, codes, encode_utf8, false, None, OnOk, if◌then◌else◌, string_bytes, true};
+ghost use Rattle.std.specs.Prelude.{◌≡◌, ◌++◌, codes, encode_utf8, false, OnOk, if◌then◌else◌, string_bytes, true};
 ghost use Rattle.std.specs.Borrow.{sem};
 ghost use Rattle.std.specs.Fmt.{AppendsText};
 ghost use Rattle.std.specs.Option.{option_map};
@@ -7,11 +7,11 @@ ghost use Rattle.std.specs.Result.{is_ok};
 ghost use Rattle.tracing_core_fields.specs.DebugText.{plain_debug};
 ghost use Rattle.event_formatter_text.specs.FieldTexts.{field_piece, separator};
 ghost use Rattle.event_formatter_text.specs.JsonTexts.{json_piece};
-ghost use Rattle.event_formatter_text.specs.Lists.{Formats, further};
+ghost use Rattle.event_formatter_text.specs.Lists.{FormatsOne, further};
 ghost use Rattle.event_formatter_text.specs.Loans.{LendsText};
 ghost use Rattle.event_formatter_text.specs.Writers.{IsSameWriter, settings_of, written};
 
-use crate::draft::push_displayed;
+use crate::displayed::push_displayed;
 use crate::error::FormatError;
 use crate::field_text::{Punctuation, push_field};
 use crate::json_text::push_member;
@@ -133,12 +133,9 @@ impl<'w> Writer<'w> {
         value: &DebugText<'_>,
     ) -> Result<(), FormatError>
         ensures same { IsSameWriter self.old self.new }
-        ensures text { Formats (option_map (further (separator punctuation) is_first)
+        ensures text { FormatsOne (option_map (further (separator punctuation) is_first)
             (field_piece (settings_of self.old) punctuation name.now (plain_debug value.now)))
             (written self.old) result (written self.new) }
-        // A value that can't be formatted is told as that, never as out of memory.
-        ensures failed { field_piece (settings_of self.old) punctuation name.now (plain_debug value.now) ≡ None →
-            result ≡ Err FormatError.Failed }
     {
         push_field(self.out, self.settings, punctuation, is_first, name, value)
     }
@@ -152,10 +149,8 @@ impl<'w> Writer<'w> {
         value: &DebugText<'_>,
     ) -> Result<(), FormatError>
         ensures same { IsSameWriter self.old self.new }
-        ensures text { Formats (option_map (further (codes ",") is_first) (json_piece name.now (plain_debug value.now)))
+        ensures text { FormatsOne (option_map (further (codes ",") is_first) (json_piece name.now (plain_debug value.now)))
             (written self.old) result (written self.new) }
-        // A value that can't be formatted is told as that, never as out of memory.
-        ensures failed { json_piece name.now (plain_debug value.now) ≡ None → result ≡ Err FormatError.Failed }
     {
         push_member(self.out, is_first, name, value)
     }

@@ -31,6 +31,10 @@ level_fair filter = record {
   below = λ m v b a h. a ∙ grind (arith, nat_tests, h);
 }
 
+-- a rule over metadata, with no most verbose level, says what it answers
+pub rule_fair : (passes : PlainMetadata → Bool) → Fair (λ m v b. b ≡ passes m) (λ m k. k ≡ kept_by (passes m)) None
+rule_fair passes = record { interest = λ m v b k a s. fits_kept (passes m) b k a s; below = λ m v b a. tt }
+
 -- asked in turn: the second only where the first passes
 abbrev pub Then : (Bool → Type 0) → Bool → Bool → Type 0
 Then Q true r = Q r

@@ -27,6 +27,9 @@ level_firm filter = record {
       absurd (grind (arith, nat_tests, passed, lt));
 }
 
+pub rule_firm : (passes : PlainMetadata → Bool) → Firm (λ m k. k ≡ kept_by (passes m)) None
+rule_firm passes = record { one = λ m j k x y. x ∙ sym y; below = λ m v s. tt }
+
 -- what is determined by the metadata is said once
 pub closure_firm : (P : Bor Metadata → Bool → Type 0) (hint : Option ℕ) → IsDetermined P → Fair (AnswersBy P) (SaysBy P) hint →
     Firm (SaysBy P) hint

@@ -2,6 +2,7 @@ pub mod Lists
 pub mod AncestorLine
 pub mod Entries
 pub mod AbsentLanes
+pub mod EntryCounts
 pub mod SpanPlaces
 pub mod IdOrder
 pub mod ClosedSpans
@@ -29,3 +30,17 @@ pub mod SlotsByKey
 pub mod KeptSpans
 pub mod ClosableSpans
 pub mod CloseCandidates
+pub mod IndexOrder
+pub mod StandingSlots
+pub mod ChildCounts
+pub mod FreeSlots
+pub mod SlotViews
+pub mod SlotChanges
+pub mod IndexEnds
+pub mod SoundSlots
+pub mod ClosingSlots
+pub mod KeptEntries
+pub mod IndexedSlots
+pub mod SpanRows
+pub mod SpanLoans
+pub mod FilterBits

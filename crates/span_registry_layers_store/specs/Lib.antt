@@ -17,3 +17,4 @@ pub mod SlotIndependence
 pub mod Copies
 pub mod SlotLoans
 pub mod Lookups
+pub mod SpanSlots

@@ -1,26 +1,29 @@
 -- Slots that are lent for writing.
-use Rattle.std.specs.Prelude.{◌≡◌, ℕ, List, Option, Some, map, slice_get, slice_set}
+use Rattle.std.specs.Prelude.{◌≡◌, ℕ, List, Option, Some, map, slice_get, slice_set, Vec}
 use Rattle.std.specs.Borrow.{LendsIf, MutBor, Fml}
 use Rattle.std.specs.Option.{option_map}
 use Rattle.span_registry_layers_store.specs.SlotCalls.{with_places, with_slots}
-use Rattle.span_registry_layers_store.specs.Registries.{PlainSpan, RegistryValue, kin_in, plain_span}
+use Rattle.span_registry_layers_store.specs.Registries.{PlainSpan, RegistryValue, kin_in}
 use Rattle.span_registry_layers_store.specs.Slots.{PlainPlace, plain_place, plain_slot, slot_at, with_slot}
 use Rattle.span_registry_layers_store.specs.Spans.{changed, found}
 use Rattle.span_registry_layers_store.specs.declared.slot.Place.{Place}
 use Rattle.span_registry_layers_store.specs.declared.slot.Slot.{Slot}
 use Rattle.span_registry_layers_store.specs.declared.slot.Tag.{Tag}
-use Rattle.span_registry_layers_store.specs.declared.span.Span.{Span}
 use Rattle.span_registry_layers_store.specs.contracts.registry.Registry as registry
 use Rattle.span_registry_layers_store.specs.contracts.slot.Slot as slot
-use Rattle.span_registry_layers_store.specs.contracts.spans.Spans as spans
 use Rattle.span_registry_layers_store.specs.contracts.extensions.Extensions as extensions
+use Rattle.span_registry_layers_store.specs.contracts.spans.Spans as spans
+use Rattle.span_registry_layers_store.specs.SpanSlots.{AreSound, spans_in, with_slots_in}
+use Rattle.span_registry_layers_store.specs.declared.index.Entry.{Entry}
+use Rattle.span_registry_layers_store.specs.declared.span_slot.SpanSlot.{SpanSlot}
+use Rattle.std.specs.Global.{Global}
 
 -- the slot of an output under a tag stands there, or past the end where there is none
 abbrev pub IsSlotToLend : List Place → ℕ → Tag → ℕ → Type 0
 IsSlotToLend ps key t place =
     (option_map (λ (p : Place). plain_slot p.slot) (slice_get ps place) ≡ slot_at (map plain_place ps) key t)
-    × ((w : Slot) (p : Place) → slice_get ps place ≡ Some p → with_slot (map plain_place ps) key t (plain_slot w) ≡ map plain_place
-    (slice_set ps place (record p { slot = w })))
+    × ((w : Slot) (p : Place) → slice_get ps place ≡ Some p → with_slot (map plain_place ps) key t (plain_slot w) ≡
+    map plain_place (slice_set ps place (record p { slot = w })))
 
 -- the slots end with the last value behind r in place of that slot
 abbrev pub LendsSlot : MutBor (List PlainPlace) → ℕ → Tag → Option (MutBor Slot) → Fml
@@ -29,12 +32,13 @@ LendsSlot s key t r = LendsIf extensions.the_row slot.the_row s r (λ w. with_sl
 abbrev pub slots_of : PlainSpan → List PlainPlace
 slots_of s = s.slots
 
--- the span of an id stands there, or past the end where it isn't open
-abbrev pub IsSpanToLend : List Span → ℕ → ℕ → Type 0
-IsSpanToLend ss id place =
-    (option_map (λ (s : Span). s.slots) (slice_get ss place) ≡ option_map slots_of (found kin_in (map plain_span ss) id))
-    × ((w : List PlainPlace) (s : Span) → slice_get ss place ≡ Some s →
-    changed kin_in (with_places w) (map plain_span ss) id ≡ map plain_span (slice_set ss place (record s { slots = w })))
+-- the slot of a span's outputs stands there, or past the end where it isn't open
+pub record IsSpanToLend (xs : List SpanSlot) (es : List Entry) (id k : ℕ) : Type 0 where
+  pub is : option_map (λ (s : SpanSlot). s.span.slots) (slice_get xs k) ≡ option_map slots_of (found kin_in (spans_in xs es) id)
+  pub put : (w : List PlainPlace) (s : SpanSlot) → slice_get xs k ≡ Some s → changed kin_in (with_places w) (spans_in xs es) id ≡
+      spans_in (slice_set xs k (with_slots_in w s)) es
+  pub sound : (w : List PlainPlace) (s : SpanSlot) → slice_get xs k ≡ Some s → (free : Vec ℕ Global) → AreSound xs free es →
+      AreSound (slice_set xs k (with_slots_in w s)) free es
 
 -- the spans end with the last value behind r as the slots of that span
 abbrev pub LendsSlotsOf : MutBor (List PlainSpan) → ℕ → Option (MutBor (List PlainPlace)) → Fml

@@ -87,6 +87,10 @@ fn put_place(places: &mut Vec<Place>, key: OutputKey, tag: Tag, slot: Slot) -> R
     ensures { PutGives (record { key = key.0; tag = tag; slot = plain_slot slot }) (map plain_place places.old.items)
         result (map plain_place places.new.items) }
 {
+    // Most spans keep few slots, and the first ones take no more room than they need.
+    if places.len() < 4 && places.reserve_exact(1).is_err() {
+        return Err(slot);
+    }
     let place = place_for(places.as_slice(), key, tag);
     match places.insert(place, Place { key, tag, slot }) {
         Ok(()) => Ok(()),
@@ -225,6 +229,13 @@ impl Extensions {
         ensures order { AreInOrder self.new }
     {
         replace_place(&mut self.places, key, tag, slot)
+    }
+
+    /// Lets all slots go. Their memory stays, for later ones.
+    pub(crate) fn clear(&mut self)
+        ensures { self.new ≡ [] }
+    {
+        self.places.clear();
     }
 
     /// Takes the slot out, where there is one. All others stay as they were.

@@ -5,6 +5,7 @@ mod close_candidates;
 mod extensions;
 mod filter_count;
 mod filter_map;
+mod index;
 mod kept_metadata;
 mod lanes;
 mod laws;
@@ -14,8 +15,10 @@ mod record;
 mod registry;
 mod scope;
 mod slot;
+mod slot_room;
 mod span;
 mod span_ref;
+mod span_slot;
 mod spans;
 mod table;
 

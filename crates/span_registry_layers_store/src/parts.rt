@@ -19,15 +19,14 @@ ghost use Rattle.span_registry_layers_store.specs.Views.{current_under, entry_se
 mod closing;
 
 use crate::close_candidates::CloseCandidates;
-use crate::extensions::Extensions;
 use crate::filter_count::FilterCount;
 use crate::filter_map::{FilterId, FilterMap, TooManyFilters};
 use crate::kept_metadata::KeptMetadata;
-use crate::lanes::{current, is_member, lane_at, push_entry};
+use crate::lanes::{Lanes, current, is_member};
 use crate::record::SpanRecord;
 use crate::span::Span;
 use crate::spans::Spans;
-use crate::table::{RegistryTable, copy_lanes};
+use crate::table::RegistryTable;
 use std::alloc::{AllocError, Global};
 use tracing_core_fields::{Attributes, Id, Metadata, RequestError};
 
@@ -35,7 +34,7 @@ use tracing_core_fields::{Attributes, Id, Metadata, RequestError};
 #[derive(Debug, Drop)]
 pub(crate) struct RegistryParts {
     pub(crate) alloc: Global,
-    pub(crate) lanes: Vec<Vec<Id>>,
+    pub(crate) lanes: Lanes,
     pub(crate) spans: Spans,
     /// Which of the spans may not stay.
     pub(crate) close_candidates: CloseCandidates,
@@ -73,7 +72,7 @@ impl RegistryParts {
     {
         Ok(RegistryTable {
             spans: self.spans.rows(self.alloc)?,
-            lanes: copy_lanes(self.alloc, self.lanes.as_slice())?,
+            lanes: self.lanes.copy(self.alloc)?,
         })
     }
 
@@ -81,14 +80,14 @@ impl RegistryParts {
     pub(crate) fn lane(&self, lane: u64) -> &[Id]
         ensures { result.now ≡ lane_at (plain_registry self.now).lanes lane }
     {
-        lane_at(self.lanes.as_slice(), lane)
+        self.lanes.lane(lane)
     }
 
     /// The span that a lane is in.
     pub(crate) fn current_on(&self, lane: u64) -> Option<Id>
         ensures { result ≡ current_on (plain_registry self.now) lane }
     {
-        current(lane_at(self.lanes.as_slice(), lane))
+        current(self.lanes.lane(lane))
     }
 
     /// Whether a span is open.
@@ -212,12 +211,7 @@ impl RegistryParts {
             parent,
             handles: 1,
         };
-        self.spans.push(Span {
-            kin,
-            metadata,
-            passed,
-            slots: Extensions::new(self.alloc),
-        })?;
+        self.spans.push(kin, metadata, passed)?;
         self.next_id = id_after(id.into_u64());
         Ok(())
     }
@@ -289,7 +283,7 @@ impl RegistryParts {
         if !self.is_open(id) {
             return Err(RequestError::UnknownSpan);
         }
-        match push_entry(self.alloc, &mut self.lanes, lane, id) {
+        match self.lanes.push(lane, id) {
             Ok(()) => Ok(()),
             Err(_) => Err(RequestError::OutOfMemory),
         }

@@ -3,8 +3,8 @@ use Rattle.std.specs.Prelude.{ℕ, List, [], ◌∷◌, Bool, true, false, ◌&&
 use Rattle.std.specs.Str.{bytes_eq}
 use Rattle.span_trace_bench.specs.declared.bench.Bench.{Bench}
 use Rattle.span_trace_bench.specs.declared.bench.Bench.TheVariants.{DirectMemory, EventText, DirectFile, TwoOutputs, JsonMemory, Never, NeverSkipped}
-use Rattle.span_trace_bench.specs.declared.bench.Bench.TheVariants.{Refused, Depth64, Open10k, Callsites1k, SpanCycle, SpanCycle10k, Open}
-use Rattle.span_trace_bench.specs.declared.bench.Bench.TheVariants.{FormatFull, FormatCompact, FormatPretty, FormatJson}
+use Rattle.span_trace_bench.specs.declared.bench.Bench.TheVariants.{Refused, Depth64, Open10k, Callsites1k, SpanCycle, SpanCycle10k}
+use Rattle.span_trace_bench.specs.declared.bench.Bench.TheVariants.{CloseOldest10k, Entered64, Open, FormatFull, FormatCompact, FormatPretty, FormatJson}
 
 abbrev pub name_of : Bench → List ℕ
 name_of DirectMemory = codes "direct_memory"
@@ -20,6 +20,8 @@ name_of Open10k = codes "open10k"
 name_of Callsites1k = codes "callsites1k"
 name_of SpanCycle = codes "span_cycle"
 name_of SpanCycle10k = codes "span_cycle10k"
+name_of CloseOldest10k = codes "close_oldest10k"
+name_of Entered64 = codes "entered64"
 name_of Open = codes "open"
 name_of FormatFull = codes "format_full"
 name_of FormatCompact = codes "format_compact"
@@ -29,7 +31,7 @@ name_of FormatJson = codes "format_json"
 abbrev pub all_benches : List Bench
 all_benches = DirectMemory ∷ EventText ∷ DirectFile ∷ TwoOutputs ∷ JsonMemory ∷ Never ∷ NeverSkipped ∷ Refused ∷ Depth64 ∷ Open10k ∷ Callsites1k
     ∷ SpanCycle
-    ∷ SpanCycle10k ∷ Open ∷ FormatFull ∷ FormatCompact ∷ FormatPretty ∷ FormatJson ∷ []
+    ∷ SpanCycle10k ∷ CloseOldest10k ∷ Entered64 ∷ Open ∷ FormatFull ∷ FormatCompact ∷ FormatPretty ∷ FormatJson ∷ []
 
 abbrev pub named_in : List Bench → List ℕ → Option Bench
 named_in [] name = None

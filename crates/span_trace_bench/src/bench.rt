@@ -38,6 +38,10 @@ pub enum Bench {
     SpanCycle,
     /// The same with 10,000 other spans open.
     SpanCycle10k,
+    /// The oldest of 10,000 open spans closes, and another one is opened.
+    CloseOldest10k,
+    /// A span opened, entered, left and closed, while 64 other lanes are in a span each.
+    Entered64,
     /// Spans opened and left open.
     Open,
     /// Events in a span of a stack by itself, written in the full format for a maker that only counts.
@@ -51,7 +55,7 @@ pub enum Bench {
 }
 
 /// The benches that need no folder of the system.
-pub(crate) const IN_MEMORY: [Bench; 17] = [
+pub(crate) const IN_MEMORY: [Bench; 19] = [
     Bench::DirectMemory,
     Bench::EventText,
     Bench::TwoOutputs,
@@ -64,6 +68,8 @@ pub(crate) const IN_MEMORY: [Bench; 17] = [
     Bench::Callsites1k,
     Bench::SpanCycle,
     Bench::SpanCycle10k,
+    Bench::CloseOldest10k,
+    Bench::Entered64,
     Bench::Open,
     Bench::FormatFull,
     Bench::FormatCompact,
@@ -90,6 +96,8 @@ impl Bench {
             "callsites1k" => Some(Bench::Callsites1k),
             "span_cycle" => Some(Bench::SpanCycle),
             "span_cycle10k" => Some(Bench::SpanCycle10k),
+            "close_oldest10k" => Some(Bench::CloseOldest10k),
+            "entered64" => Some(Bench::Entered64),
             "open" => Some(Bench::Open),
             "format_full" => Some(Bench::FormatFull),
             "format_compact" => Some(Bench::FormatCompact),
@@ -117,6 +125,8 @@ impl Bench {
             Bench::Callsites1k => "callsites1k",
             Bench::SpanCycle => "span_cycle",
             Bench::SpanCycle10k => "span_cycle10k",
+            Bench::CloseOldest10k => "close_oldest10k",
+            Bench::Entered64 => "entered64",
             Bench::Open => "open",
             Bench::FormatFull => "format_full",
             Bench::FormatCompact => "format_compact",
@@ -165,6 +175,8 @@ impl Bench {
                 stage.nest(1)
             }
             Bench::SpanCycle10k => stage.scatter(many),
+            Bench::CloseOldest10k => stage.scatter(many),
+            Bench::Entered64 => stage.occupy(64),
             Bench::SpanCycle => Ok(()),
             Bench::Open => Ok(()),
             _ => stage.nest(1),
@@ -180,6 +192,8 @@ impl Bench {
             Bench::EventText => stage.tell_text("twenty bytes of text", count),
             Bench::SpanCycle => stage.cycle(count),
             Bench::SpanCycle10k => stage.cycle(count),
+            Bench::CloseOldest10k => stage.replace_oldest(count),
+            Bench::Entered64 => stage.cycle(count),
             Bench::Open => stage.scatter(count),
             _ => stage.tell(EVENT, count),
         }

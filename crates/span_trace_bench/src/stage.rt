@@ -4,9 +4,10 @@ use crate::counting::CountingFolder;
 use crate::fault::Fault;
 use crate::lines::Counter;
 use crate::stack::{LevelStack, OPENED, stack_over};
-use span_tracing::value::{AnyValue, LentValue};
+use span_tracing::value::{AnyValue, Lend, LentValue};
 use span_tracing::{Folder, LineFormat, Moment, Parent, Reply, Site, SpanName, Trace, event};
 use std::alloc::Global;
+use std::num::NonZeroU64;
 use tracing_core::{FieldSet, Identifier, Kind, Level, LevelFilter, Metadata};
 
 /// Makes spans `outer` with a field `x`.
@@ -161,6 +162,33 @@ impl<D: Folder> Stage<D> {
     /// Opens spans inside no other one, and leaves them open.
     pub(crate) fn scatter(&mut self, count: u64) -> Result<(), Fault> {
         for i in 0..count {
+            let _name = self.open_span(i, Parent::Root)?;
+        }
+        Ok(())
+    }
+
+    /// Adds lanes, each in a span of its own.
+    pub(crate) fn occupy(&mut self, lanes: u64) -> Result<(), Fault> {
+        for i in 0..lanes {
+            let lane = self.trace.thread(None, i.saturating_add(2))?;
+            let reply = self
+                .trace
+                .new_span(lane, OPENED, OUTER, Parent::Root, &OUTER_VALUES);
+            let name = made(reply)?;
+            self.spans = self.spans.saturating_add(1);
+            done(self.trace.enter(lane, OPENED, Some(name)))?;
+        }
+        Ok(())
+    }
+
+    /// Closes the oldest span and opens another one, again and again. Ids are given in order, from 1.
+    pub(crate) fn replace_oldest(&mut self, count: u64) -> Result<(), Fault> {
+        for i in 0..count {
+            let Some(id) = NonZeroU64::new(i.saturating_add(1)) else {
+                return Err(Fault::OddReply);
+            };
+            let oldest = SpanName { stack: 0, id };
+            closed(self.trace.try_close(LANE, moment_at(i), Some(oldest)))?;
             let _name = self.open_span(i, Parent::Root)?;
         }
         Ok(())

@@ -1,6 +1,6 @@
 -- Callsites that an application registers.
-use Rattle.std.specs.Prelude.{◌≡◌, ◌⊎◌, ℕ, true, false, List, None, Some, Result, Ok, Err}
-use Rattle.tracing_core_fields.specs.FieldSet.{field_names}
+use Rattle.std.specs.Prelude.{◌≡◌, ◌<◌, ◌⊎◌, ℕ, true, false, List, None, Some, Result, Ok, Err, is_some}
+use Rattle.tracing_core_fields.specs.FieldSet.{field_names, set_callsite}
 use Rattle.tracing_core_fields.specs.PlainKind.{PlainKind}
 use Rattle.tracing_core_fields.specs.PlainMetadata.{PlainMetadata}
 use Rattle.tracing_core_fields.specs.requests.Interests.{PlainInterest}
@@ -42,14 +42,18 @@ site_metadata target name level fields kind identifier = record {
   kind = kind;
 }
 
--- the fields of a site that is answered
-abbrev pub HasFields : List (List ℕ) → Result Site Refusal → Type 0
-HasFields names (Ok site) = field_names site.fields ≡ names
-HasFields names (Err refusal) = Unit {0}
+-- the fields of a site that is answered, and the callsite that they are of
+abbrev pub HasFields : PlainMetadata → Result Site Refusal → Type 0
+HasFields m (Ok site) = (field_names site.fields ≡ m.field_names) × (set_callsite site.fields ≡ m.callsite)
+HasFields m (Err refusal) = Unit {0}
+
+-- each identifier but the greatest has a callsite
+abbrev pub AreTaken : List PlainMetadata → Type 0
+AreTaken callsites = (n : ℕ) → n < 18446744073709551615 → is_some (named callsites n) ≡ true
 
 -- a callsite was registered under an identifier that was free, or none was left
 abbrev pub MakesSite : {T : Type 0} → Ghosts T → StateValue T → (ℕ → PlainMetadata) → Result Site Refusal → StateValue T → Type 0
 MakesSite g v m result w =
     ((identifier : ℕ) × (named v.callsites identifier ≡ None) × RegistersSite g v (m identifier) result w ×
-    HasFields (m identifier).field_names result) ⊎
-    ((result ≡ Err Taken) × (w ≡ v))
+    HasFields (m identifier) result) ⊎
+    (AreTaken v.callsites × (result ≡ Err Taken) × (w ≡ v))

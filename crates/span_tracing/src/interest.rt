@@ -1,5 +1,5 @@
 //! What a trace keeps of the interest in its callsites.
-ghost use Rattle.std.specs.Prelude.{◌≡◌};
+ghost use Rattle.std.specs.Prelude.{◌≡◌, is_some};
 ghost use Rattle.span_tracing_skeleton.specs.Machine.{named};
 ghost use Rattle.span_tracing_steps.specs.Interests.{is_off_at};
 ghost use Rattle.span_tracing_steps.specs.States.{at_index};
@@ -13,16 +13,19 @@ impl<T: Subscriber + HasRegistry> Trace<T> {
     /// Where the callsite with the identifier stands, for [`is_off`](Trace::is_off); none where it isn't registered. It stays the same
     /// while the trace lives.
     pub fn callsite(&self, identifier: Identifier) -> Option<CallsiteIndex>
-        ensures { at_index self.now.callsites result ≡ named self.now.callsites identifier.0 }
+        // It is the place of the callsite with the identifier.
+        ensures names { at_index self.now.callsites result ≡ named self.now.callsites identifier.0 }
+        // There is a place exactly where there is such a callsite.
+        ensures there { is_some result ≡ is_some (named self.now.callsites identifier.0) }
     {
         self.parts.callsite(identifier)
     }
 }
 
 impl<T: Subscriber> Trace<T> {
-    /// Whether it is kept of the callsite that nobody is interested in it. Then an event there would reach no output, and a span
-    /// wouldn't be made. Whoever makes no request then misses no line (`skipping_misses_nothing`). He isn't told of a lane that isn't
-    /// there, of a moment out of range, or of a parent that is closed.
+    /// Whether it is kept of the callsite that nobody is interested in it. As long as what the trace keeps is what its stack says, an event
+    /// there would reach no output, and a span wouldn't be made: whoever makes no request misses no line (`skipping_misses_nothing`).
+    /// No refusal is told then: of a lane that isn't there, of a moment out of range, or of a parent that is closed.
     pub fn is_off(&self, callsite: CallsiteIndex) -> bool
         ensures { result ≡ is_off_at self.now.interests callsite }
     {

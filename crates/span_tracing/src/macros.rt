@@ -4,28 +4,31 @@
 ///
 /// Each field of the site may be given a value, in any order; one that is given none is left out. A value is anything that has
 /// [`Value`](crate::value::Value): numbers, bools, texts that are owned or lent, bytes, what [`display`](crate::value::display) and
-/// [`debug`](crate::value::debug) wrote, and an `Option` of these. Nothing is copied.
+/// [`debug`](crate::value::debug) wrote, and an `Option` of these. Nothing is copied. The trait [`Lend`](crate::value::Lend) has to be
+/// imported.
 ///
 /// The answer is `Ok(())`, or a [`CallError`](crate::CallError): the trace refused the event, or the site has no field of some name. Then
 /// nothing was done.
 ///
-/// Where nobody is interested in the callsite no value is computed, and the answer is `Ok(())`: no output would be told
-/// (`skipping_misses_nothing`). That the lane isn't there, that the moment is out of range or that a field isn't there isn't told then.
+/// Where nobody is interested in the callsite no value is computed, and the answer is `Ok(())`: no output would be told, as long as what
+/// the trace keeps is what its stack says (`skipping_misses_nothing`). That the lane isn't there, that the moment is out of range
+/// or that a field isn't there isn't told then.
 ///
 /// The trace's expression is written more than once: give a variable or a field.
 #[macro_export]
 macro_rules! event {
-    ($trace:expr, $lane:expr, $moment:expr, $site:expr $(, $field:ident = $value:expr)* $(,)?) => {
+    ($trace:expr, $lane:expr, $moment:expr, $site:expr $(, $($values:tt)*)?) => {
         {
             let site: $crate::Site = $site;
             if $trace.is_off(site.index) {
                 Ok::<(), $crate::CallError>(())
             } else {
                 let at = ($lane, $moment);
+                let mark = true;
                 $crate::with_values!(
-                    site, [],
+                    site, mark, [],
                     ($trace, event, done, at.0, at.1, site.identifier, $crate::Parent::Contextual);
-                    $($field = $value),*
+                    $($($values)*)?
                 )
             }
         }
@@ -38,17 +41,18 @@ macro_rules! event {
 /// The answer is the span's name, or `None` where it was dropped since no output wants it. All calls take a `None`, and do nothing then.
 #[macro_export]
 macro_rules! span {
-    ($trace:expr, $lane:expr, $moment:expr, $site:expr $(, $field:ident = $value:expr)* $(,)?) => {
+    ($trace:expr, $lane:expr, $moment:expr, $site:expr $(, $($values:tt)*)?) => {
         {
             let site: $crate::Site = $site;
             if $trace.is_off(site.index) {
                 Ok::<Option<$crate::SpanName>, $crate::CallError>(None)
             } else {
                 let at = ($lane, $moment);
+                let mark = true;
                 $crate::with_values!(
-                    site, [],
+                    site, mark, [],
                     ($trace, new_span, span, at.0, at.1, site.identifier, $crate::Parent::Contextual);
-                    $($field = $value),*
+                    $($($values)*)?
                 )
             }
         }
@@ -59,11 +63,12 @@ macro_rules! span {
 /// of. Values are given as to [`event!`](crate::event).
 #[macro_export]
 macro_rules! record {
-    ($trace:expr, $lane:expr, $moment:expr, $site:expr, $span:expr $(, $field:ident = $value:expr)* $(,)?) => {
+    ($trace:expr, $lane:expr, $moment:expr, $site:expr, $span:expr $(, $($values:tt)*)?) => {
         {
             let site: $crate::Site = $site;
             let at = ($lane, $moment, $span);
-            $crate::with_values!(site, [], ($trace, record, done, at.0, at.1, at.2); $($field = $value),*)
+            let mark = true;
+            $crate::with_values!(site, mark, [], ($trace, record, done, at.0, at.1, at.2); $($($values)*)?)
         }
     };
 }
@@ -72,15 +77,28 @@ macro_rules! record {
 #[doc(hidden)]
 #[macro_export]
 macro_rules! with_values {
-    ($site:ident, [$($done:tt)*], ($trace:expr, $method:ident, $kind:ident, $($argument:expr),*);) => {
+    ($site:ident, $mark:ident, [$($done:tt)*], ($trace:expr, $method:ident, $kind:ident, $($argument:expr),*);) => {
         $trace.$method($($argument,)* &[$($done)*]).$kind()
     };
-    ($site:ident, [$($done:tt)*], $call:tt; $field:ident = $value:expr $(, $($later:tt)*)?) => {
+    ($site:ident, $mark:ident, [$($done:tt)*], $call:tt; $field:ident = $value:literal $(, $($later:tt)*)?) => {
         match $site.field(stringify!($field)) {
             Err(error) => Err(error),
             Ok(place) => $crate::with_values!(
                 $site,
-                [$($done)* $crate::value::LentValue { field: place, value: $crate::value::Value::value(&$value) },],
+                $mark,
+                [$($done)* $crate::value::LentValue { field: place, value: $crate::value::Literal::literal($value, &$mark) },],
+                $call;
+                $($($later)*)?
+            ),
+        }
+    };
+    ($site:ident, $mark:ident, [$($done:tt)*], $call:tt; $field:ident = $value:expr $(, $($later:tt)*)?) => {
+        match $site.field(stringify!($field)) {
+            Err(error) => Err(error),
+            Ok(place) => $crate::with_values!(
+                $site,
+                $mark,
+                [$($done)* $crate::value::LentValue { field: place, value: ($value).lend() },],
                 $call;
                 $($($later)*)?
             ),

@@ -2,8 +2,10 @@
 ghost use Rattle.std.specs.Prelude.{◌≡◌, ◌∷◌, [], Err, IfOk, None, true, false};
 ghost use Rattle.tracing_core_fields.specs.requests.Lists.{Every};
 ghost use Rattle.tracing_core_moments.specs.Moments.{is_moment};
+ghost use Rattle.span_tracing.specs.OpenedTrace.{HasOutputs};
 ghost use Rattle.span_tracing_laws.specs.runs.StepFollows.{StackIsReady};
-ghost use Rattle.span_tracing_outputs.specs.files.OpenedStack.{of_all};
+ghost use Rattle.span_tracing_outputs.specs.files.OpenedStack.{Answers, of_all, outputs_refusal};
+ghost use Rattle.span_tracing_outputs.specs.files.OpenRefusals.{IsRouted, NamesAnswer};
 ghost use Rattle.span_tracing_outputs.specs.declared.files.output_spec.OutputSpec.{OutputSpec};
 
 use crate::trace::Trace;
@@ -31,9 +33,23 @@ pub fn open_trace<F: Filter, D: Folder>(
 ) -> Result<Trace<FileStack<F, D>>, OpenStackError>
     // A moment out of range is refused, whatever else is wrong.
     ensures moment { is_moment moment ≡ false → result ≡ Err (of_all Refusal.BadMoment) }
+    // At a moment in range, no output, more than 64 outputs, or two with one key are refused; out of memory may be answered instead.
+    ensures told { is_moment moment ≡ true → Answers (outputs_refusal outputs.items) result }
+    // Where each output's route is good, as `OutputSpec::new` makes it, a trace that is opened has good names, and the first bad name
+    // is refused ahead of what a folder refuses; out of memory may be answered instead. A folder's refusal is told only where the folder
+    // told a fault.
+    ensures names { is_moment moment ≡ true → outputs_refusal outputs.items ≡ None → Every IsRouted outputs.items →
+        NamesAnswer D.failed outputs.items result }
     // With honest filters the stack is ready.
     ensures ready { Every (λ (spec : OutputSpec F D). F.honest spec.filter) outputs.items →
         IfOk result (λ trace. StackIsReady ⟦<F as Filter>⟧ ⟦<Lines as span_registry_layers_layers::Layer>⟧ trace.stack) }
+    // With honest filters the trace's outputs and sinks are those that were asked for, under their keys, filters, settings and routes,
+    // with their files open, and no span is open.
+    ensures opened { Every (λ (spec : OutputSpec F D). F.honest spec.filter) outputs.items →
+        IfOk result (λ trace. HasOutputs D.contents D.failed ⟦<F as Filter>⟧ ⟦<Lines as span_registry_layers_layers::Layer>⟧ moment
+        outputs.items trace.stack) }
+    // No callsite is registered.
+    ensures bare { IfOk result (λ trace. (trace.callsites ≡ []) × (trace.interests ≡ [])) }
     // The lane reaches the stack, and is the only one.
     ensures reached { IfOk result (λ trace. trace.is_global ≡ true) }
     ensures lane { IfOk result (λ trace. trace.threads ≡ record { name = None; number = 1 } ∷ []) }
@@ -50,7 +66,6 @@ pub fn open_trace<F: Filter, D: Folder>(
     match trace.set_global_default(handle) {
         Reply::Done => Ok(trace),
         // It is the first default, of a stack that is there.
-        Reply::Refused(refusal) => Err(OpenStackError::from(refusal)),
-        _ => Err(OpenStackError::from(Refusal::UnknownStack)),
+        _ => unreachable!(),
     }
 }

@@ -1,8 +1,8 @@
 //! Callsites that an application registers once and then names.
-ghost use Rattle.std.specs.Prelude.{◌≡◌, IfOk, IfSome, MatchResult, None, Some, map};
+ghost use Rattle.std.specs.Prelude.{◌≡◌, IfOk, MatchOption, MatchResult, None, Some, map};
 ghost use Rattle.tracing_core_fields.specs.FieldSet.{index_of_name};
 ghost use Rattle.tracing_core_fields.specs.Metadata.{metadata_fields, plain_metadata};
-ghost use Rattle.span_tracing.specs.Sites.{MakesSite, RegistersSite, event_kind, site_metadata, span_kind};
+ghost use Rattle.span_tracing.specs.Sites.{AreTaken, MakesSite, RegistersSite, event_kind, site_metadata, span_kind};
 ghost use Rattle.span_tracing_skeleton.specs.declared.call_error.CallError.TheVariants.{NoField};
 ghost use Rattle.span_tracing_skeleton.specs.Machine.{named};
 
@@ -23,13 +23,13 @@ pub struct Site {
     pub fields: FieldSet<'static>,
 }
 
-/// An identifier that no callsite of the trace has, or none where all are taken.
-fn free_identifier<T: Subscriber + HasRegistry>(trace: &Trace<T>) -> Option<Identifier>
-    ensures { IfSome result (λ identifier. named trace.now.callsites identifier.0 ≡ None) }
+/// The number of an identifier that no callsite of the trace has, or none where all but the greatest are taken.
+fn free_number<T: Subscriber + HasRegistry>(trace: &Trace<T>) -> Option<u64>
+    ensures { MatchOption result (AreTaken trace.now.callsites) (λ number. named trace.now.callsites number ≡ None) }
 {
     for number in 0..u64::MAX {
         if trace.callsite(Identifier(number)).is_none() {
-            return Some(Identifier(number));
+            return Some(number);
         }
     }
     None
@@ -40,7 +40,7 @@ impl Site {
     ///
     /// # Errors
     ///
-    /// `OutOfMemory`, or `Taken` where no identifier is left; both leave the trace as it was.
+    /// `OutOfMemory`, or `Taken` where each identifier but the greatest has a callsite; both leave the trace as it was.
     pub fn event<T: Subscriber + HasRegistry>(
         trace: &mut Trace<T>,
         target: &'static str,
@@ -84,9 +84,10 @@ impl Site {
         ensures { MakesSite ⟦<T as Subscriber>⟧ trace.old (site_metadata target.now name.now level (map (λ field. field.now) fields.now)
             kind) result trace.new }
     {
-        let Some(identifier) = free_identifier(trace) else {
+        let Some(number) = free_number(trace) else {
             return Err(Refusal::Taken);
         };
+        let identifier = Identifier(number);
         let fields = FieldSet::new(fields, identifier);
         let metadata = Metadata::new(name, target, level, None, None, None, fields, kind);
         Site::register(trace, &metadata)

@@ -1,6 +1,6 @@
 -- Registering a callsite, and taking a stack.
 use Rattle.std.proofs.Common.{◌≡◌, ℕ, ◌+◌, ◌==◌, Bool, true, false, List, [], ◌∷◌, ◌++◌, Option, Some, None, Result, Ok, Err, refl, sym, ap}
-use Rattle.std.proofs.Common.{◌∙◌, subst, inl, inr}
+use Rattle.std.proofs.Common.{◌∙◌, subst, inl, inr, length}
 use Rattle.std.specs.Prelude.{if◌then◌else◌}
 use Rattle.std.specs.Option.{option_map}
 use Rattle.tracing_core_fields.specs.PlainMetadata.{PlainMetadata, is_same_metadata}
@@ -9,9 +9,10 @@ use Rattle.tracing_core_fields.specs.requests.Interests.{PlainInterest}
 use Rattle.tracing_core_fields.specs.requests.Lists.{Every}
 use Rattle.tracing_core_fields.specs.declared.requests.interest.InterestInner.TheVariants.{Never}
 use Rattle.tracing_core_fields.specs.declared.requests.subscriber.Subscriber.{Ghosts}
-use Rattle.tracing_core.specs.InterestsAndHints.{AskedAll, CallsiteAsked, Each, Hints}
+use Rattle.tracing_core.specs.InterestsAndHints.{Each, InCommon, Raises, RowAsked, heard}
 use Rattle.tracing_core.specs.Commands as commands
-use Rattle.tracing_core.specs.Commands.{Rebuilt, Registered, callsite_with, kept_alike, living}
+use Rattle.tracing_core.specs.CacheRefresh.{Rebuilt}
+use Rattle.tracing_core.specs.Commands.{Registered, callsite_with, kept_alike, living}
 use Rattle.tracing_core.specs.Handles.{subscriber_with}
 use Rattle.tracing_core.specs.CachePreservation.{PreservesCaches}
 use Rattle.tracing_core.specs.TableRows.{KeptCallsite, KeptSubscriber}
@@ -86,12 +87,12 @@ module _ {T : Type 0} (g : Ghosts T) where
   -- one subscriber was asked of a callsite
   abbrev AskedOne : PlainMetadata → KeptSubscriber T → List (KeptSubscriber T) → PlainInterest → Type 0
   AskedOne m e fs k = (f : KeptSubscriber T) × (fs ≡ f ∷ []) × g.says e.subscriber m k ×
-      g.moves e.subscriber (CallsiteRegistered m) k f.subscriber × (f ≡ record e { subscriber = f.subscriber })
+      g.moves e.subscriber (CallsiteRegistered m) k f.subscriber × (f ≡ heard f.subscriber f.interests e)
 
-  asked_one : (m : PlainMetadata) (e : KeptSubscriber T) (fs : List (KeptSubscriber T)) (k : PlainInterest) → AskedAll g m (e ∷ []) fs k →
-      AskedOne m e fs k
-  asked_one m e [] k (o, w, is) = absurd w
-  asked_one m e (f ∷ []) k (o, (j, (own, says, moves, same, joined), end), is) =
+  asked_one : (m : PlainMetadata) (i : ℕ) (e : KeptSubscriber T) (fs : List (KeptSubscriber T)) (k : PlainInterest) →
+      InCommon g true m i (e ∷ []) fs k → AskedOne m e fs k
+  asked_one m i e [] k (o, w, is) = absurd w
+  asked_one m i e (f ∷ []) k (o, (j, (own, (says, moves, same, keeps), joined), end), is) =
       let answer : k ≡ own = is ∙ ap Rattle.tracing_core_fields.specs.requests.Interests.settled (end ∙ joined) in (
         f,
         refl,
@@ -99,11 +100,12 @@ module _ {T : Type 0} (g : Ghosts T) where
         subst (λ (i : PlainInterest). g.moves e.subscriber (CallsiteRegistered m) i f.subscriber) (sym answer) moves,
         same,
       )
-  asked_one m e (f ∷ (h ∷ fs)) k (o, (j, r, w), is) = absurd w
+  asked_one m i e (f ∷ (h ∷ fs)) k (o, (j, r, w), is) = absurd w
 
-  nobody_asked : (m : PlainMetadata) (fs : List (KeptSubscriber T)) (k : PlainInterest) → AskedAll g m [] fs k → (fs ≡ []) × (k ≡ Never)
-  nobody_asked m [] k (o, w, is) = (refl, is ∙ ap Rattle.tracing_core_fields.specs.requests.Interests.settled w)
-  nobody_asked m (f ∷ fs) k (o, w, is) = absurd w
+  nobody_asked : (m : PlainMetadata) (i : ℕ) (fs : List (KeptSubscriber T)) (k : PlainInterest) → InCommon g true m i [] fs k →
+      (fs ≡ []) × (k ≡ Never)
+  nobody_asked m i [] k (o, w, is) = (refl, is ∙ ap Rattle.tracing_core_fields.specs.requests.Interests.settled w)
+  nobody_asked m i (f ∷ fs) k (o, w, is) = absurd w
 
   module _ (p : TraceParts T) (u : Table T TraceCallsite) where
     abbrev pub later : TraceParts T
@@ -204,8 +206,9 @@ module _ {T : Type 0} (g : Ghosts T) where
         PreservesCaches g ghosts p.hub u → Registered g ghosts p.hub site k u → NewCallsite (own_metadata site) k
     new_by None is site k sound keeps w =
         let only : HasOnly None p.hub.global p.hub.subscribers = subst (λ h. HasOnly h p.hub.global p.hub.subscribers) is sound.only in
-        let nobody = nobody_asked (own_metadata site) u.subscribers w.row.interest
-        (subst (λ (es : List (KeptSubscriber T)). AskedAll g (own_metadata site) es u.subscribers w.row.interest) only.0 w.asked.0) in
+        let i = length p.hub.callsites in
+        let nobody = nobody_asked (own_metadata site) i u.subscribers w.row.interest
+        (subst (λ (es : List (KeptSubscriber T)). InCommon g true (own_metadata site) i es u.subscribers w.row.interest) only.0 w.asked.0) in
         new_none (own_metadata site) k is sound keeps (ap (λ (t : Table T TraceCallsite). t.global) w.kept) nobody.0 (w.told ∙ nobody.1)
         (ap (λ (t : Table T TraceCallsite). callsites_of t.callsites) w.kept ∙
         map_more (λ (row : KeptCallsite TraceCallsite). own_metadata row.callsite) p.hub.callsites w.row ∙
@@ -215,8 +218,9 @@ module _ {T : Type 0} (g : Ghosts T) where
     new_by (Some dispatch) is site k sound keeps w =
         let only : HasOnly (Some dispatch) p.hub.global p.hub.subscribers = subst (λ h. HasOnly h p.hub.global p.hub.subscribers) is
         sound.only in
-        let asked = asked_one (own_metadata site) only.0 u.subscribers w.row.interest
-        (subst (λ (es : List (KeptSubscriber T)). AskedAll g (own_metadata site) es u.subscribers w.row.interest) only.1 w.asked.0) in
+        let i = length p.hub.callsites in
+        let asked = asked_one (own_metadata site) i only.0 u.subscribers w.row.interest
+        (subst (λ (es : List (KeptSubscriber T)). InCommon g true (own_metadata site) i es u.subscribers w.row.interest) only.1 w.asked.0) in
         new_some (own_metadata site) k dispatch is only sound keeps (ap (λ (t : Table T TraceCallsite). t.global) w.kept)
         (subst (AskedOne (own_metadata site) only.0 u.subscribers) (sym w.told) asked)
         (ap (λ (t : Table T TraceCallsite). callsites_of t.callsites) w.kept ∙
@@ -278,34 +282,38 @@ module _ {T : Type 0} (g : Ghosts T) where
   abbrev AllAsked : KeptSubscriber T → List (KeptCallsite TraceCallsite) → List (KeptCallsite TraceCallsite) → List (KeptSubscriber T) →
       Type 0
   AllAsked e rows laters fs = (f : KeptSubscriber T) × (fs ≡ f ∷ []) × AskedInTurn g (callsites_of rows) (interests_of laters) e.subscriber
-      f.subscriber × (f ≡ record e { subscriber = f.subscriber }) × (callsites_of laters ≡ callsites_of rows)
+      f.subscriber × (f ≡ heard f.subscriber f.interests e) × (callsites_of laters ≡ callsites_of rows)
 
-  rows_asked : (e : KeptSubscriber T) (es : List (KeptSubscriber T)) (rows laters : List (KeptCallsite TraceCallsite))
-      (fs : List (KeptSubscriber T)) → es ≡ e ∷ [] → Each (CallsiteAsked g ghosts) es rows laters fs → AllAsked e rows laters fs
-  rows_asked e es [] [] fs one w = (e, w ∙ one, refl, refl, refl)
-  rows_asked e es [] (next ∷ laters) fs one w = absurd w
-  rows_asked e es (row ∷ rows) [] fs one w = absurd w
-  rows_asked e es (row ∷ rows) (next ∷ laters) fs one (mid, asked, rest) =
-      let first = asked_one (own_metadata row.callsite) e mid next.interest
-      (subst (λ (xs : List (KeptSubscriber T)). AskedAll g (own_metadata row.callsite) xs mid next.interest) one asked.0) in
-      let others = rows_asked first.0 mid rows laters fs first.1 rest in (
+  rows_asked : (e : KeptSubscriber T) (before after : ℕ × List (KeptSubscriber T)) (rows laters : List (KeptCallsite TraceCallsite)) →
+      before.1 ≡ e ∷ [] → Each (RowAsked g ghosts true) before rows laters after → AllAsked e rows laters after.1
+  rows_asked e before after [] [] one w = (e, ap (λ (p : ℕ × List (KeptSubscriber T)). p.1) w ∙ one, refl, refl, refl)
+  rows_asked e before after [] (next ∷ laters) one w = absurd w
+  rows_asked e before after (row ∷ rows) [] one w = absurd w
+  rows_asked e before after (row ∷ rows) (next ∷ laters) one (mid, (count, (asked, metadata, told, is)), rest) =
+      let m = own_metadata row.callsite in
+      let first = asked_one m before.0 e mid.1 next.interest
+      (subst (λ (xs : List (KeptSubscriber T)). InCommon g true m before.0 xs mid.1 next.interest) one asked) in
+      let others = rows_asked first.0 mid after rows laters first.1 rest in (
         others.0,
         others.1,
         (first.0.subscriber, first.2, first.3, others.2),
-        others.3 ∙ ap (λ (x : KeptSubscriber T). record x { subscriber = others.0.subscriber }) first.4,
-        ap (λ (m : PlainMetadata). m ∷ callsites_of laters) asked.1 ∙ ap (λ (ms : List PlainMetadata). own_metadata row.callsite ∷ ms)
-            others.4,
+        others.3 ∙ ap (heard others.0.subscriber others.0.interests) first.4,
+        ap (λ (n : PlainMetadata). n ∷ callsites_of laters) metadata ∙ ap (λ (ms : List PlainMetadata). m ∷ ms) others.4,
       )
 
+  -- one was asked for its hint
+  abbrev HintGiven : KeptSubscriber T → List (KeptSubscriber T) → Type 0
+  HintGiven e fs = (f : KeptSubscriber T) × (fs ≡ f ∷ []) × g.moves e.subscriber HintAsked (g.hint e.subscriber) f.subscriber ×
+      (top : Option ℕ) × (f ≡ record e { lent = false; hint = Some top; subscriber = f.subscriber })
+
   hint_asked : (e : KeptSubscriber T) (es fs : List (KeptSubscriber T)) (before after : ℕ) → es ≡ e ∷ [] →
-      Each (Hints g) before es fs after → (f : KeptSubscriber T) × (fs ≡ f ∷ []) × g.moves e.subscriber HintAsked (g.hint e.subscriber)
-      f.subscriber × (f ≡ record e { lent = false; subscriber = f.subscriber })
-  hint_asked e es fs before after one w = by_one fs (subst (λ (xs : List (KeptSubscriber T)). Each (Hints g) before xs fs after) one w)
+      Each (Raises g true) before es fs after → HintGiven e fs
+  hint_asked e es fs before after one w = by_one fs
+      (subst (λ (xs : List (KeptSubscriber T)). Each (Raises g true) before xs fs after) one w)
     where
-      by_one : (fs : List (KeptSubscriber T)) → Each (Hints g) before (e ∷ []) fs after → (f : KeptSubscriber T) × (fs ≡ f ∷ []) ×
-          g.moves e.subscriber HintAsked (g.hint e.subscriber) f.subscriber × (f ≡ record e { lent = false; subscriber = f.subscriber })
+      by_one : (fs : List (KeptSubscriber T)) → Each (Raises g true) before (e ∷ []) fs after → HintGiven e fs
       by_one [] w = absurd w
-      by_one (f ∷ []) (j, hints, end) = (f, refl, hints.0, hints.1)
+      by_one (f ∷ []) (j, (top, (told, moves, is), level), end) = (f, refl, moves, top, is)
       by_one (f ∷ (h ∷ fs)) (j, hints, w) = absurd w
 
   module _ (p : TraceParts T) (u : Table T TraceCallsite) (dispatch : Option ℕ) (x : T) where
@@ -321,12 +329,13 @@ module _ {T : Type 0} (g : Ghosts T) where
         let one : begun.subscribers ≡ new ∷ [] = ap (λ (es : List (KeptSubscriber T)). es ++ new ∷ []) only.0 in
         let rebuilt : Rebuilt g ghosts begun u =
         all_asked g ghosts begun u (subst (Every (λ (e : KeptSubscriber T). e.lent ≡ true)) (sym one) (refl, tt)) refreshed in
-        let rows = rows_asked new begun.subscribers begun.callsites u.callsites rebuilt.asked one rebuilt.callsites in
+        let rows = rows_asked new (0, begun.subscribers) (rebuilt.callsites.0, rebuilt.asked) begun.callsites u.callsites one
+        rebuilt.callsites.1 in
         let hint = hint_asked rows.0 rebuilt.asked u.subscribers 0 u.greatest rows.1 rebuilt.hints in
         let f = hint.0 in
-        let serial : f.serial ≡ p.hub.next = ap (λ (e : KeptSubscriber T). e.serial) hint.3 ∙
+        let serial : f.serial ≡ p.hub.next = ap (λ (e : KeptSubscriber T). e.serial) hint.4 ∙
         ap (λ (e : KeptSubscriber T). e.serial) rows.3 in
-        let handles : f.handles ≡ 1 = ap (λ (e : KeptSubscriber T). e.handles) hint.3 ∙ ap (λ (e : KeptSubscriber T). e.handles) rows.3 in
+        let handles : f.handles ≡ 1 = ap (λ (e : KeptSubscriber T). e.handles) hint.4 ∙ ap (λ (e : KeptSubscriber T). e.handles) rows.3 in
         let global : u.global ≡ p.hub.global = ap (λ (t : Table T TraceCallsite). t.global) rebuilt.rest in
         let leads : dispatch ≡ Some f.serial = led ∙ ap (λ (n : ℕ). Some n) (sym serial) in (
           record {

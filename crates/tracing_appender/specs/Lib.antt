@@ -9,17 +9,22 @@ pub use Rattle.tracing_core_moments.specs.Calendar
 pub use Rattle.tracing_core_moments.specs.WorkedDates
 pub use Rattle.tracing_core_moments.specs.declared.period.PeriodKind
 pub use Rattle.tracing_core_moments.specs.Moments
+pub use Rattle.tracing_core_moments.specs.Days
+pub use Rattle.tracing_core_moments.specs.Periods
+pub use Rattle.tracing_core_moments.specs.Names as DatedNames
 pub use Rattle.tracing_appender_rolling.specs.folders.Contents
 pub use Rattle.tracing_appender_rolling.specs.folders.Memory
 pub use Rattle.tracing_appender_rolling.specs.folders.Entries
 pub use Rattle.tracing_appender_rolling.specs.folders.ListedEntries
 pub use Rattle.tracing_appender_rolling.specs.folders.Faulty
+pub use Rattle.tracing_appender_rolling.specs.folders.Disks
 pub use Rattle.tracing_core_moments.specs.declared.moment.Moment
 pub use Rattle.tracing_appender_rolling.specs.declared.folders.fault.FolderFault
 pub use Rattle.tracing_appender_rolling.specs.declared.folders.fault.FolderError
 pub use Rattle.tracing_appender_rolling.specs.declared.folders.fault.FileNumber
 pub use Rattle.tracing_appender_rolling.specs.declared.folders.fault.Entry
 pub use Rattle.tracing_appender_rolling.specs.declared.folders.memory.FileEntry
+pub use Rattle.tracing_appender_rolling.specs.declared.appender.RollingFileAppender
 pub use Rattle.tracing_appender_rolling.specs.Names
 pub use Rattle.tracing_appender_rolling.specs.Builders
 pub use Rattle.tracing_appender_rolling.specs.Sinks

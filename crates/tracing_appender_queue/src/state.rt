@@ -4,9 +4,11 @@ ghost use Rattle.std.specs.Prelude.{◌≡◌, ◌+◌, ◌≤◌, ◌<◌, ℕ,
 ghost use Rattle.std.specs.Prelude.{if◌then◌else◌};
 ghost use Rattle.tracing_appender_queue.specs.Queue.{Queue, new_queue, accepts, accepted, after_offer, after_take, after_mark, mark_next};
 ghost use Rattle.tracing_appender_queue.specs.Queue.{at_head, one_less};
-ghost use Rattle.tracing_appender_queue.specs.Offers.{Offers, Takes};
+ghost use Rattle.tracing_appender_queue.specs.Offers.{Offers, Settles, Takes, TurnsAway};
 
-use std::alloc::{AllocFailed, Global};
+use crate::buffers::SpareBuffers;
+use std::alloc::{AllocError, AllocFailed, Global};
+use std::collections::VecDeque;
 use std::marker::Model;
 use thiserror::Error;
 
@@ -16,7 +18,9 @@ use thiserror::Error;
 /// A lossy queue drops a line that it has no room for, and counts it; a waiting one hands the line back.
 #[derive(Drop)]
 pub struct QueueState {
-    lines: Vec<Vec<u8>>,
+    lines: VecDeque<Vec<u8>>,
+    /// Buffers for copies. A contract doesn't see them.
+    spare: SpareBuffers,
     limit: usize,
     lossy: bool,
     /// How many lines stand before the mark, where it is in the queue.
@@ -51,6 +55,26 @@ pub enum Offered {
     NoRoom(Vec<u8>),
     /// A waiting queue is closed; here is the line.
     Closed(Vec<u8>),
+}
+
+/// What became of a line that was only lent.
+#[derive(Clone, Copy, Debug, PartialEq, Eq)]
+pub enum Settled {
+    /// A copy was taken in, under this number.
+    Accepted(u64),
+    /// A lossy queue had no room, or was closed.
+    Dropped,
+    /// A waiting queue has no room.
+    NoRoom,
+    /// A waiting queue is closed.
+    Closed,
+}
+
+// Why a line isn't taken in.
+enum Refusal {
+    Dropped,
+    NoRoom,
+    Closed,
 }
 
 /// What was taken out of a queue.
@@ -91,7 +115,8 @@ impl QueueState {
             return Err(ZeroLimit);
         }
         Ok(QueueState {
-            lines: Vec::new(alloc),
+            lines: VecDeque::new(alloc),
+            spare: SpareBuffers::new(alloc),
             limit,
             lossy,
             mark: None,
@@ -120,18 +145,84 @@ impl QueueState {
     {
         if self.has_room() {
             let number = self.accepted();
-            self.lines.push(line)?;
+            self.lines.push_back(line)?;
             return Ok(Offered::Accepted(number));
         }
+        match self.turn_away() {
+            Refusal::Dropped => Ok(Offered::Dropped),
+            Refusal::NoRoom => Ok(Offered::NoRoom(line)),
+            Refusal::Closed => Ok(Offered::Closed(line)),
+        }
+    }
+
+    /// Offers a line that is only lent: it is copied where the queue takes it in, and nowhere else. The copy takes
+    /// the buffer of a line that was given back, where there is one.
+    ///
+    /// # Errors
+    ///
+    /// Out of memory; nothing is changed.
+    pub fn settle(&mut self, line: &[u8]) -> Result<Settled, AllocError>
+        // The answer tells what became of the line: a copy was taken in, with its number, or it was dropped, or there is no room or the
+        // queue is closed.
+        ensures ok { IfOk result (λ settled. Settles self.old line.now settled self.new) }
+        // The queue is left as by an offer of the line itself.
+        ensures next { OnOk result (self.new ≡ after_offer self.old line.now) }
+        // Where there is no memory, nothing changes.
+        ensures err { OnErr result (self.new ≡ self.old) }
+        // Memory is wanted only for a line that the queue takes in.
+        ensures memory { OnErr result (accepts self.old ≡ true) }
+    {
+        if !self.has_room() {
+            return match self.turn_away() {
+                Refusal::Dropped => Ok(Settled::Dropped),
+                Refusal::NoRoom => Ok(Settled::NoRoom),
+                Refusal::Closed => Ok(Settled::Closed),
+            };
+        }
+        let number = self.accepted();
+        let copy = self.spare.copy(line)?;
+        match self.lines.push_back(copy) {
+            Ok(()) => Ok(Settled::Accepted(number)),
+            Err(_) => Err(AllocError),
+        }
+    }
+
+    // What becomes of a line that isn't taken in: a lossy queue counts it.
+    fn turn_away(&mut self) -> Refusal
+        ensures { TurnsAway self.old result self.new }
+    {
         if self.lossy {
             self.dropped = self.dropped.saturating_add(1);
-            return Ok(Offered::Dropped);
+            return Refusal::Dropped;
         }
         if self.accepting {
-            Ok(Offered::NoRoom(line))
+            Refusal::NoRoom
         } else {
-            Ok(Offered::Closed(line))
+            Refusal::Closed
         }
+    }
+
+    /// A copy of a line, in the buffer of one that was given back, where there is one.
+    ///
+    /// # Errors
+    ///
+    /// Out of memory.
+    pub fn copy(&mut self, line: &[u8]) -> Result<Vec<u8>, AllocError>
+        // The queue stays as it was.
+        ensures same { self.new ≡ self.old }
+        // The copy has the line's bytes.
+        ensures bytes { IfOk result (λ copy. copy.items ≡ line.now) }
+    {
+        self.spare.copy(line)
+    }
+
+    /// Takes the buffer of a line that is no longer wanted, for a copy of a later one. As many are kept as the queue
+    /// ever made room for; more are let go.
+    pub fn give_back(&mut self, buffer: Vec<u8>)
+        // The queue stays as it was.
+        ensures { self.new ≡ self.old }
+    {
+        self.spare.keep(buffer, self.lines.capacity());
     }
 
     /// Whether a line that is offered now would be taken in.
@@ -158,11 +249,8 @@ impl QueueState {
             self.accepting = false;
             return Some(Taken::Mark);
         }
-        if self.lines.is_empty() {
-            return None;
-        }
+        let line = self.lines.pop_front()?;
         let number = self.handed;
-        let line = self.lines.remove(0);
         self.handed = self.handed.wrapping_add(1);
         self.mark = one_less(self.mark);
         Some(Taken::Line(number, line))
@@ -197,6 +285,13 @@ impl QueueState {
         self.mark = Some(self.lines.len());
         self.sent = true;
         Ok(())
+    }
+
+    /// Whether a line that the queue doesn't take in is dropped, in place of handed back.
+    pub fn lossy(&self) -> bool
+        ensures { result ≡ self.now.lossy }
+    {
+        self.lossy
     }
 
     /// How many lines a lossy queue dropped; the count stops at the greatest number. A waiting queue drops none.

@@ -1,6 +1,6 @@
 -- Which subscribers' caches stay valid after a command.
 use Rattle.std.proofs.Common.{◌≡◌, ℕ, ◌+◌, ◌<◌, ◌≤◌, Bool, true, false, nat_le, List, [], ◌∷◌, ◌++◌, Option, Some, None, Result, Ok, Err}
-use Rattle.std.proofs.Common.{refl, ap, sym, ◌∙◌, subst, arith, ◌⊎◌, inl, inr}
+use Rattle.std.proofs.Common.{refl, ap, sym, ◌∙◌, subst, arith, ◌⊎◌, inl, inr, length}
 use Rattle.std.specs.Prelude.{if◌then◌else◌, ◌==◌, slice_get, OnOk, OnErr, IfOk}
 use Rattle.std.specs.Borrow.{MutBor}
 use Rattle.std.specs.Cmp.{unsigned_Decides}
@@ -9,7 +9,7 @@ use Rattle.tracing_core_fields.specs.PlainMetadata.{PlainMetadata}
 use Rattle.tracing_core.specs.InterestsAndHints.{level_of}
 use Rattle.tracing_core_fields.specs.requests.Calls.{Call, ReplyTo, Asked, CallsiteRegistered, DispatchRegistered}
 use Rattle.tracing_core.specs.SubscriberChange.{AnswersAlike, ChangeGives, ChangeGivesAt, ChangesBy}
-use Rattle.tracing_core.specs.Commands.{AskGives, AskGivesAt, AnswerGives, GateGives, GateGivesAt, AddGives, Rebuilt, Registered}
+use Rattle.tracing_core.specs.Commands.{AskGives, AskGivesAt, AnswerGives, GateGives, GateGivesAt, AddGives, Registered}
 use Rattle.tracing_core.specs.Commands.{RegisterGives, RegisterGivesAt, TakeGives, becomes, kept_alike, known, living, new_callsite}
 use Rattle.tracing_core.specs.Commands.{reached, callsite_with}
 use Rattle.tracing_core.specs.Defaults.{holding, letting_go, globally, global_refusal, locally, default_refusal, given_up, end_gives}
@@ -22,9 +22,9 @@ use Rattle.tracing_core_fields.specs.requests.Interests.{PlainInterest, Covers}
 use Rattle.tracing_core.specs.CachePreservation.{PreservesCaches, PreservesLivingCaches, PreservesUnlentCaches, PreservesCachesBy}
 use Rattle.tracing_core.specs.CachePreservation.{StaysRight}
 use Rattle.tracing_core_fields.specs.requests.Lists.{Every}
-use Rattle.tracing_core.specs.ValidCaches.{IsTrueCallsite, CallsiteRight, HasValidCache, asked_anew}
+use Rattle.tracing_core.specs.ValidCaches.{AnswersRight, CallsiteRight, HasValidCache, IsTrueCallsite, asked_anew}
 use Rattle.tracing_core.specs.HandleSubscribers.{lent_to, given_as}
-use Rattle.tracing_core.specs.CacheRefresh.{Refreshed}
+use Rattle.tracing_core.specs.CacheRefresh.{Formed}
 use Rattle.tracing_core.specs.HubInvariant.{Ascends, IsSound, serials}
 use Rattle.tracing_core_fields.specs.requests.Steady.{SameWord}
 use Rattle.tracing_core.specs.Table.{Table, chosen}
@@ -42,11 +42,11 @@ use Rattle.tracing_core.specs.declared.hub.parts.Lane.{Lane}
 use Rattle.tracing_core.specs.declared.hub.parts.Lane.TheVariants.{Ended, Running}
 use Rattle.tracing_core.specs.declared.hub.parts.LaneDefault.{LaneDefault}
 use Rattle.tracing_core_fields.specs.declared.requests.subscriber.Subscriber.{Ghosts}
-use Rattle.tracing_core.proofs.CacheRebuild.{asked_one, right_onward, same_word}
+use Rattle.tracing_core.proofs.GivenAnswers.{answers_append, answers_onward, gave_one, gives_heard, gives_keeps, right_onward, same_word}
 use Rattle.tracing_core.proofs.SubscriberNumbers.{by_bool, if_either, changed_own, changed_other, without_own, without_other}
 use Rattle.tracing_core.proofs.SubscriberNumbers.{serials_changed, ascends_without, absent_above, entry_appended, entry_last}
 use Rattle.tracing_core.proofs.NumbersNeverReused.{below_next, later_added, later_alike, later_then, later_without}
-use Rattle.tracing_core.proofs.CacheRefresh.{rebuilt_refreshed, refreshed_serials, refreshed_sound, refreshed_right}
+use Rattle.tracing_core.proofs.CacheRefresh.{formed_right, formed_serials, formed_sound}
 use Rattle.tracing_core.proofs.HubInvariant.{every_append, sound_alike, added_sound, asked_serials, registered_sound, row_true}
 use Rattle.tracing_core.proofs.HubInvariant.{new_row_true}
 
@@ -64,9 +64,9 @@ pub data Moved {S : Type 0} (g : Ghosts S) (es fs : List (KeptSubscriber S)) : T
 
 module _ {S C : Type 0} (g : Ghosts S) (h : SiteGhosts C) where
   kept_moved : (t u : Table S C) (e f : KeptSubscriber S) → HasValidCache g h t e → subscriber_with f.serial u.subscribers ≡ Some f →
-      f.lent ≡ false → g.steady f.subscriber → SameWord (g.says e.subscriber) (g.says f.subscriber) (g.hint e.subscriber)
-      (g.hint f.subscriber) → Alike t u → HasValidCache g h u f
-  kept_moved t u e f kept there unlent steady word alike =
+      f.lent ≡ false → f.interests ≡ e.interests → f.hint ≡ e.hint → g.steady f.subscriber →
+      SameWord (g.says e.subscriber) (g.says f.subscriber) (g.hint e.subscriber) (g.hint f.subscriber) → Alike t u → HasValidCache g h u f
+  kept_moved t u e f kept there unlent interests hint steady word alike =
       record {
         stands = there;
         unlent = unlent;
@@ -76,6 +76,10 @@ module _ {S C : Type 0} (g : Ghosts S) (h : SiteGhosts C) where
             (subst (Every (CallsiteRight g h e.subscriber)) (sym alike.callsites) kept.right);
         below = subst (λ o. level_of o ≤ u.greatest) (sym word.same_hint)
             (subst (λ k. level_of (g.hint e.subscriber) ≤ k) (sym alike.greatest) kept.below);
+        kept = answers_onward g h 0 e.subscriber f.subscriber e.interests f.interests u.callsites word
+            (λ j after. ap (λ xs. slice_get xs j) interests)
+            (subst (AnswersRight g h 0 e.subscriber e.interests) (sym alike.callsites) kept.kept);
+        hint = λ top found. kept.hint top (sym hint ∙ found) ∙ sym word.same_hint;
       }
 
   -- nobody changed
@@ -88,7 +92,7 @@ module _ {S C : Type 0} (g : Ghosts S) (h : SiteGhosts C) where
           e,
           refl,
           kept_moved t u e e kept (subst (λ es. subscriber_with e.serial es ≡ Some e) (sym same) kept.stands)
-              kept.unlent kept.steady (same_word g e.subscriber) alike,
+              kept.unlent refl refl kept.steady (same_word g e.subscriber) alike,
         );
       }
 
@@ -98,9 +102,10 @@ module _ {S C : Type 0} (g : Ghosts S) (h : SiteGhosts C) where
   -- one changed, but for its number, and what is its subscriber, and whether it was lent
   pub counted_keeps : (n : ℕ) (change : KeptSubscriber S → KeptSubscriber S) (same : (x : KeptSubscriber S) →
       (change x).serial ≡ x.serial) → ((x : KeptSubscriber S) → (change x).lent ≡ x.lent) →
+      ((x : KeptSubscriber S) → (change x).interests ≡ x.interests) → ((x : KeptSubscriber S) → (change x).hint ≡ x.hint) →
       ((x : KeptSubscriber S) → (change x).subscriber ≡ x.subscriber) → (t u : Table S C) → u.subscribers ≡ changed n change t.subscribers →
       Alike t u → PreservesCaches g h t u
-  counted_keeps n change same lent kept_value t u left alike =
+  counted_keeps n change same lent interests hint kept_value t u left alike =
       record {
         sound = sound_alike h t u (ap (λ (es : List (KeptSubscriber S)). serials es) left ∙ serials_changed n change same t.subscribers)
             alike.next alike.callsites;
@@ -117,7 +122,7 @@ module _ {S C : Type 0} (g : Ghosts S) (h : SiteGhosts C) where
               change e,
               same e,
               kept_moved t u e (change e) kept (subst (λ k. subscriber_with k u.subscribers ≡ Some (change e)) (sym number ∙ sym (same e))
-                  own) (lent e ∙ kept.unlent)
+                  own) (lent e ∙ kept.unlent) (interests e) (hint e)
                   (subst g.steady (sym (kept_value e)) kept.steady)
                   (subst (λ x. SameWord (g.says e.subscriber) (g.says x) (g.hint e.subscriber) (g.hint x)) (sym (kept_value e))
                   (same_word g e.subscriber)) alike,
@@ -127,14 +132,14 @@ module _ {S C : Type 0} (g : Ghosts S) (h : SiteGhosts C) where
               refl,
               kept_moved t u e e kept
                   (subst (λ es. subscriber_with e.serial es ≡ Some e) (sym left) (changed_other n change same e.serial t.subscribers apart ∙
-                  kept.stands)) kept.unlent kept.steady (same_word g e.subscriber) alike,
+                  kept.stands)) kept.unlent refl refl kept.steady (same_word g e.subscriber) alike,
             ));
       }
 
   pub held_keeps : (dispatch : Option ℕ) (t u : Table S C) → u.subscribers ≡ held dispatch t.subscribers → Alike t u →
       PreservesCaches g h t u
   held_keeps None t u left alike = same_keeps t u left alike
-  held_keeps (Some n) t u left alike = counted_keeps n one_more (λ x. refl) (λ x. refl) (λ x. refl) t u left alike
+  held_keeps (Some n) t u left alike = counted_keeps n one_more (λ x. refl) (λ x. refl) (λ x. refl) (λ x. refl) (λ x. refl) t u left alike
 
   pub or_same_keeps : {B : Type 0} (refusal : Option B) (t v u : Table S C) → u ≡ or_same refusal t v → PreservesCaches g h t v →
       PreservesCaches g h t u
@@ -208,7 +213,7 @@ module _ {S C : Type 0} (g : Ghosts S) (h : SiteGhosts C) where
             (λ apart.
             let lives : subscriber_with e.serial u.subscribers ≡ Some e = subst (λ es. subscriber_with e.serial es ≡ Some e) (sym left)
             (without_other e.serial n t.subscribers apart ∙ kept.stands) in
-            inr (e, refl, kept_moved t u e e kept lives kept.unlent kept.steady (same_word g e.subscriber) alike));
+            inr (e, refl, kept_moved t u e e kept lives kept.unlent refl refl kept.steady (same_word g e.subscriber) alike));
       }
 
   given_back_by : (b : Bool) (n : ℕ) (released : Option S) (t u : Table S C) →
@@ -216,7 +221,7 @@ module _ {S C : Type 0} (g : Ghosts S) (h : SiteGhosts C) where
       (None, changed n one_less t.subscribers)).1 → Alike t u → PreservesLivingCaches g h t u
   given_back_by true n released t u left alike = gone_keeps n t u left alike
   given_back_by false n released t u left alike =
-      living_from t u (counted_keeps n one_less (λ x. refl) (λ x. refl) (λ x. refl) t u left alike)
+      living_from t u (counted_keeps n one_less (λ x. refl) (λ x. refl) (λ x. refl) (λ x. refl) (λ x. refl) t u left alike)
 
   given_back_keeps_at : (n : ℕ) (o : Option (KeptSubscriber S)) (t u : Table S C) → u.subscribers ≡ (given_back_at n t.subscribers o).1 →
       Alike t u → PreservesLivingCaches g h t u
@@ -292,7 +297,7 @@ module _ {S C : Type 0} (g : Ghosts S) (h : SiteGhosts C) where
             let lives : subscriber_with e.serial u.subscribers ≡ Some e = changed_other n (given_as w) (λ x. refl) e.serial t.subscribers
             apart ∙ kept.stands in
             subst (HasValidCache g h u) (same_entry u.subscribers e.serial e f lives there)
-            (kept_moved t u e e kept lives kept.unlent kept.steady (same_word g e.subscriber) alike));
+            (kept_moved t u e e kept lives kept.unlent refl refl kept.steady (same_word g e.subscriber) alike));
       }
 
   -- lending
@@ -322,14 +327,14 @@ module _ {S C : Type 0} (g : Ghosts S) (h : SiteGhosts C) where
               becomes after e,
               refl,
               kept_moved t u e (becomes after e) kept (subst (λ k. subscriber_with k u.subscribers ≡ Some (becomes after e)) (sym number)
-                  own) kept.unlent word.0 word.1 alike,
+                  own) kept.unlent refl refl word.0 word.1 alike,
             ))
             (λ apart. (
               e,
               refl,
               kept_moved t u e e kept
                   (subst (λ es. subscriber_with e.serial es ≡ Some e) (sym left)
-                  (changed_other n (becomes after) (λ y. refl) e.serial t.subscribers apart ∙ kept.stands)) kept.unlent kept.steady
+                  (changed_other n (becomes after) (λ y. refl) e.serial t.subscribers apart ∙ kept.stands)) kept.unlent refl refl kept.steady
                   (same_word g e.subscriber) alike,
             ));
       }
@@ -465,19 +470,15 @@ module _ {S C : Type 0} (g : Ghosts S) (h : SiteGhosts C) where
       PreservesCaches g h t u
   gate_keeps t u identifier now result given = gate_keeps_at t u now (callsite_with identifier t.callsites) result given
 
-  -- asking again whoever was lent, and maybe others
-  pub refresh_keeps : (t u : Table S C) → Refreshed g h t u → PreservesCaches g h t u
-  refresh_keeps t u r =
+  -- forming anew what is kept, whoever is asked
+  pub form_keeps : (all : Bool) (t u : Table S C) → Formed g h all t u → PreservesCaches g h t u
+  form_keeps all t u r =
       record {
-        sound = refreshed_sound g h t u r;
-        later = λ sound. later_alike t u (refreshed_serials g h t u r) (ap (λ (v : Table S C). v.next) r.rest);
-        right_of = λ e kept. let a = refreshed_right g h t u e r (inr kept) kept.stands kept.steady kept.callsites in
-            (asked_anew a.0 e, refl, a.1);
+        sound = formed_sound g h all t u r;
+        later = λ sound. later_alike t u (formed_serials g h all t u r) (ap (λ (v : Table S C). v.next) r.rest);
+        right_of = λ e kept. let a = formed_right g h all t u r e (inr (inr kept)) kept.stands kept.steady kept.callsites in
+            (asked_anew a.0 a.1 a.2 e, refl, a.3);
       }
-
-  -- asking all again
-  pub rebuild_keeps : (t u : Table S C) → Rebuilt g h t u → PreservesCaches g h t u
-  rebuild_keeps t u r = refresh_keeps t u (rebuilt_refreshed g h t u r)
 
   with_new : Table S C → S → Table S C
   with_new t z = record t { subscribers = t.subscribers ++ living t.next z ∷ []; next = t.next + 1 }
@@ -492,6 +493,8 @@ module _ {S C : Type 0} (g : Ghosts S) (h : SiteGhosts C) where
         callsites = kept.callsites;
         right = kept.right;
         below = kept.below;
+        kept = kept.kept;
+        hint = kept.hint;
       }
 
   -- a subscriber more
@@ -500,15 +503,15 @@ module _ {S C : Type 0} (g : Ghosts S) (h : SiteGhosts C) where
   add_keeps t u s (Ok dispatch) given =
       let z = given.1.0 in
       let v : Table S C = with_new t z in
-      let asked : Refreshed g h v u = given.1.2 in
+      let asked : Formed g h false v u = given.1.2 in
       record {
-        sound = λ sound. refreshed_sound g h v u asked (added_sound h g t z sound);
-        later = λ sound. later_added t u (living t.next z) refl (refreshed_serials g h v u asked)
+        sound = λ sound. formed_sound g h false v u asked (added_sound h g t z sound);
+        later = λ sound. later_added t u (living t.next z) refl (formed_serials g h false v u asked)
             (ap (λ (w : Table S C). w.next) asked.rest);
         right_of = λ e kept.
             let still : HasValidCache g h v e = kept_with_new t z e kept in
-            let a = refreshed_right g h v u e asked (inr still) still.stands kept.steady kept.callsites in
-            (asked_anew a.0 e, refl, a.1);
+            let a = formed_right g h false v u asked e (inr (inr still)) still.stands kept.steady kept.callsites in
+            (asked_anew a.0 a.1 a.2 e, refl, a.3);
       }
   add_keeps t u s (Err (add.NumbersSpent back)) given = subst (PreservesCaches g h t) (sym given.2) (itself_keeps t)
   add_keeps t u s (Err (add.OutOfMemory back)) given = subst (PreservesCaches g h t) (sym given.2) (itself_keeps t)
@@ -520,13 +523,13 @@ module _ {S C : Type 0} (g : Ghosts S) (h : SiteGhosts C) where
   added_kept t u s dispatch given sound steady =
       let z = given.1.0 in
       let v : Table S C = with_new t z in
-      let asked : Refreshed g h v u = given.1.2 in
+      let asked : Formed g h false v u = given.1.2 in
       let later = g.stays s (DispatchRegistered (Some t.next)) tt z given.1.1 steady in
       let is : is_of t.next (living t.next z) ≡ true = (unsigned_Decides t.next t.next).1 refl in
       let there : subscriber_with t.next v.subscribers ≡ Some (living t.next z) = entry_last t.next t.subscribers (living t.next z)
       (absent_above 0 t.next t.subscribers sound.numbers) is in
-      let a = refreshed_right g h v u (living t.next z) asked (inl refl) there later.0 sound.sites in
-      (asked_anew a.0 (living t.next z), given.0, a.1)
+      let a = formed_right g h false v u asked (living t.next z) (inr (inl refl)) there later.0 sound.sites in
+      (asked_anew a.0 a.1 a.2 (living t.next z), given.0, a.3)
 
   pub added_right : (t u : Table S C) (s : S) (r : Result (Option ℕ) (AddError S)) → AddGives g h t s r u →
       IfOk r (λ dispatch. IsSound h t → g.steady s → (f : KeptSubscriber S) × (dispatch ≡ Some f.serial) × HasValidCache g h u f)
@@ -536,37 +539,49 @@ module _ {S C : Type 0} (g : Ghosts S) (h : SiteGhosts C) where
   -- and of those that were lent and keep theirs
   pub added_others : (t u : Table S C) (s : S) (r : Result (Option ℕ) (AddError S)) → AddGives g h t s r u →
       IfOk r (λ _. (e : KeptSubscriber S) → subscriber_with e.serial t.subscribers ≡ Some e → e.lent ≡ true → g.steady e.subscriber →
-      Every (IsTrueCallsite h) t.callsites → (z : S) × HasValidCache g h u (asked_anew z e))
+      Every (IsTrueCallsite h) t.callsites → (z : S) × (interests : List PlainInterest) × (hint : Option (Option ℕ)) ×
+      HasValidCache g h u (asked_anew z interests hint e))
   unfolding with_new
   added_others t u s (Ok dispatch) given = λ e there lent steady sites.
-      refreshed_right g h (with_new t given.1.0) u e given.1.2 (inl lent)
+      formed_right g h false (with_new t given.1.0) u given.1.2 e (inr (inl lent))
       (entry_appended e.serial t.subscribers (living t.next given.1.0 ∷ []) e there) steady sites
   added_others t u s (Err e) given = tt
 
   registered_kept : (t u : Table S C) (callsite : C) (interest : PlainInterest) (e : KeptSubscriber S) →
-      Registered g h t callsite interest u → HasValidCache g h t e → (z : S) × HasValidCache g h u (becomes z e)
+      Registered g h t callsite interest u → HasValidCache g h t e → StaysRight g h u e
   registered_kept t u callsite interest e r kept =
       let m = h.metadata_of callsite in
+      let n = length t.callsites in
       let callsites : u.callsites ≡ t.callsites ++ r.row ∷ [] = ap (λ (v : Table S C). v.callsites) r.kept in
       let top : u.greatest ≡ t.greatest = ap (λ (v : Table S C). v.greatest) r.kept in
-      let asked = asked_one g m e.serial None r.asked.0.0 t.subscribers u.subscribers e r.asked.0.1 kept.stands in
-      let z = asked.0 in
-      let own = asked.1 in
-      let stays = g.stays e.subscriber (CallsiteRegistered m) own z asked.4 kept.steady in
-      let said : g.says z (h.metadata_of r.row.callsite) own = subst (λ x. g.says z x own) (sym r.asked.1) (stays.1.onward m own asked.3) in (
-        z,
+      let gave = gave_one g true m n e.serial None r.asked.0.0 t.subscribers u.subscribers e r.asked.0.1 kept.stands in
+      let f = gave.0 in
+      let own = gave.1 in
+      let became = gives_heard g true m n own e f gave.3 in
+      let serial : f.serial ≡ e.serial = ap (λ (d : KeptSubscriber S). d.serial) became in
+      let hint : f.hint ≡ e.hint = ap (λ (d : KeptSubscriber S). d.hint) became in
+      let stays = g.stays e.subscriber (CallsiteRegistered m) own f.subscriber gave.3.1 kept.steady in
+      let said : g.says f.subscriber (h.metadata_of r.row.callsite) own =
+      subst (λ x. g.says f.subscriber x own) (sym r.asked.1) (stays.1.onward m own gave.3.0) in
+      let covers : Covers r.row.interest own = subst (λ k. Covers k own) (sym r.asked.0.2) gave.4 in (
+        f,
+        serial,
         record {
-          stands = asked.2;
-          unlent = kept.unlent;
+          stands = subst (λ k. subscriber_with k u.subscribers ≡ Some f) (sym serial) gave.2;
+          unlent = ap (λ (d : KeptSubscriber S). d.lent) became ∙ kept.unlent;
           steady = stays.0;
           callsites = subst (Every (IsTrueCallsite h)) (sym callsites)
               (every_append (IsTrueCallsite h) t.callsites r.row kept.callsites
-              (row_true h g t.subscribers u.subscribers (new_callsite h callsite) r.row r.asked (new_row_true h g callsite r.real)));
-          right = subst (Every (CallsiteRight g h z)) (sym callsites)
-              (every_append (CallsiteRight g h z) t.callsites r.row (right_onward g h e.subscriber z t.callsites stays.1 kept.right)
-              (own, said, subst (λ k. Covers k own) (sym r.asked.0.2) asked.5));
+              (row_true h g true n t.subscribers u.subscribers (new_callsite h callsite) r.row r.asked (new_row_true h g callsite r.real)));
+          right = subst (Every (CallsiteRight g h f.subscriber)) (sym callsites)
+              (every_append (CallsiteRight g h f.subscriber) t.callsites r.row
+              (right_onward g h e.subscriber f.subscriber t.callsites stays.1 kept.right) (own, said, covers));
           below = subst (λ o. level_of o ≤ u.greatest) (sym stays.1.same_hint)
               (subst (λ k. level_of (g.hint e.subscriber) ≤ k) (sym top) kept.below);
+          kept = subst (AnswersRight g h 0 f.subscriber f.interests) (sym callsites)
+              (answers_append g h 0 n e.subscriber f.subscriber e.interests f.interests t.callsites r.row own (omega arith) stays.1
+              (gives_keeps g true m n own e f gave.3) kept.kept (said, covers));
+          hint = λ o found. kept.hint o (sym hint ∙ found) ∙ sym stays.1.same_hint;
         },
       )
 
@@ -576,9 +591,9 @@ module _ {S C : Type 0} (g : Ghosts S) (h : SiteGhosts C) where
   take_keeps t u callsite (Ok interest) given =
       record {
         sound = registered_sound h g t u callsite interest given;
-        later = λ sound. later_alike t u (asked_serials h g (h.metadata_of callsite) t.subscribers u.subscribers None given.asked.0.0
-            given.asked.0.1) (ap (λ (v : Table S C). v.next) given.kept);
-        right_of = λ e kept. let a = registered_kept t u callsite interest e given kept in (becomes a.0 e, refl, a.1);
+        later = λ sound. later_alike t u (asked_serials h g true (h.metadata_of callsite) (length t.callsites) t.subscribers u.subscribers
+            None given.asked.0.0 given.asked.0.1) (ap (λ (v : Table S C). v.next) given.kept);
+        right_of = λ e kept. registered_kept t u callsite interest e given kept;
       }
   take_keeps t u callsite (Err (registering.Taken back)) given = absurd given
   take_keeps t u callsite (Err (registering.OutOfMemory back)) given = subst (PreservesCaches g h t) (sym given.1) (itself_keeps t)

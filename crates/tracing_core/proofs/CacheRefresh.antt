@@ -1,185 +1,150 @@
--- Which subscribers' caches stay valid after a refresh, whoever it asks.
-use Rattle.std.proofs.Common.{◌≡◌, ℕ, ◌≤◌, Bool, true, false, max, List, [], ◌∷◌, Option, Some, None, refl, ap, sym, ◌∙◌, subst, arith, ◌⊎◌}
-use Rattle.std.proofs.Common.{inl, inr}
-use Rattle.std.specs.Prelude.{if◌then◌else◌}
+-- Which subscribers' caches are valid once what is kept was formed anew, whoever was asked.
+use Rattle.std.proofs.Common.{◌≡◌, ℕ, ◌+◌, ◌<◌, ◌≤◌, Bool, true, false, max, List, [], ◌∷◌, Option, Some, None, refl, ap, sym, ◌∙◌, subst}
+use Rattle.std.proofs.Common.{arith, ◌⊎◌, inl, inr}
+use Rattle.std.specs.Prelude.{if◌then◌else◌, slice_get}
 use Rattle.tracing_core_fields.specs.PlainMetadata.{PlainMetadata}
-use Rattle.tracing_core.specs.InterestsAndHints.{Each, Registers, Hints, CallsiteAsked, level_of}
-use Rattle.tracing_core_fields.specs.requests.Interests.{joined, settled, PlainInterest, common, Covers}
+use Rattle.tracing_core.specs.InterestsAndHints.{Each, Gives, GivesHint, Joins, Keeps, Raises, RowAsked, heard, level_of}
+use Rattle.tracing_core_fields.specs.requests.Interests.{settled, PlainInterest, Covers}
 use Rattle.tracing_core_fields.specs.requests.Calls.{CallsiteRegistered, HintAsked}
-use Rattle.tracing_core.specs.Commands.{Rebuilt, becomes}
 use Rattle.tracing_core.specs.Handles.{subscriber_with, is_of}
 use Rattle.tracing_core.specs.CachePreservation.{IsNever, IsOff}
 use Rattle.tracing_core_fields.specs.requests.Lists.{Every}
-use Rattle.tracing_core.specs.ValidCaches.{IsTrueCallsite, CallsiteRight, HasValidCache, asked_anew}
-use Rattle.tracing_core.specs.CacheRefresh.{Answers, Answered, Joins, CallsiteRefreshed, Tells, HintsFromCache, Raises, Refreshed}
-use Rattle.tracing_core.specs.HubInvariant.{Ascends, AreDistinct, IsSound, serials, identifiers}
-use Rattle.tracing_core_fields.specs.requests.Steady.{IsReal, SameWord}
+use Rattle.tracing_core.specs.ValidCaches.{AnswersRight, CallsiteRight, HasValidCache, HintRight, IsTrueCallsite, asked_anew}
+use Rattle.tracing_core.specs.CacheRefresh.{Formed}
+use Rattle.tracing_core.specs.HubInvariant.{Ascends, AreDistinct, IsSound, serials}
+use Rattle.tracing_core_fields.specs.requests.Steady.{SameWord}
 use Rattle.tracing_core.specs.Table.{Table}
 use Rattle.tracing_core_fields.specs.declared.requests.callsite.Callsite.{Ghosts as SiteGhosts}
 use Rattle.tracing_core.specs.TableRows.{KeptCallsite, KeptSubscriber}
 use Rattle.tracing_core_fields.specs.declared.requests.subscriber.Subscriber.{Ghosts}
-use Rattle.tracing_core.proofs.CacheRebuild.{both_words, covers_left, covers_right, covers_self, entry_head, entry_tail, right_onward}
-use Rattle.tracing_core.proofs.CacheRebuild.{same_word}
+use Rattle.tracing_core.proofs.GivenAnswers.{answers_onward, both_words, entry_head, entry_tail, gave_one, gives_heard, gives_keeps}
+use Rattle.tracing_core.proofs.GivenAnswers.{kept_own, right_onward, same_word}
+use Rattle.tracing_core.proofs.Callsites.{asked_identifiers}
+use Rattle.tracing_core.proofs.HubInvariant.{asked_serials, row_true}
 use Rattle.tracing_core.proofs.SubscriberNumbers.{each_serials}
 
-each_map : {K A : Type 0} (R Q : K → A → A → K → Type 0) → ((k j : K) (x y : A) → R k x y j → Q k x y j) → (k last : K) (xs ys : List A) →
-    Each R k xs ys last → Each Q k xs ys last
-each_map R Q f k last [] [] each = each
-each_map R Q f k last [] (y ∷ ys) each = absurd each
-each_map R Q f k last (x ∷ xs) [] each = absurd each
-each_map R Q f k last (x ∷ xs) (y ∷ ys) each = (each.0, f k each.0 x y each.1, each_map R Q f each.0 last xs ys each.2)
+module _ {S C : Type 0} (g : Ghosts S) (h : SiteGhosts C) (all : Bool) where
+  abbrev Subscribers : Type 0
+  Subscribers = List (KeptSubscriber S)
 
-module _ {S C : Type 0} (g : Ghosts S) (h : SiteGhosts C) (t : Table S C) where
-  row_refreshed : (es fs : List (KeptSubscriber S)) (row later : KeptCallsite C) → CallsiteAsked g h es row later fs →
-      CallsiteRefreshed g h t es row later fs
-  row_refreshed es fs row later w = (
-    (
-      w.0.0,
-      each_map (Registers g (h.metadata_of row.callsite)) (Joins g h t row) (λ k j x y r. (r.0, inl (r.1, r.2, r.3), r.4)) None w.0.0
-          es fs w.0.1,
-      w.0.2,
-    ),
-    w.1,
-    w.2,
-    w.3,
+  abbrev Callsites : Type 0
+  Callsites = List (KeptCallsite C)
+
+  -- what it says now, and said before
+  abbrev SaysTheSame : S → S → Type 0
+  SaysTheSame x y = SameWord (g.says x) (g.says y) (g.hint x) (g.hint y)
+
+  -- it is asked, or what it gives otherwise is right
+  abbrev Ready : KeptSubscriber S → Type 0 → Type 0
+  Ready e Right = (all ≡ true) ⊎ ((e.lent ≡ true) ⊎ Right)
+
+  ready_map : (e f : KeptSubscriber S) (X Y : Type 0) → f.lent ≡ e.lent → (X → Y) → Ready e X → Ready f Y
+  ready_map e f X Y same onward (inl asked) = inl asked
+  ready_map e f X Y same onward (inr (inl lent)) = inr (inl (same ∙ lent))
+  ready_map e f X Y same onward (inr (inr right)) = inr (inr (onward right))
+
+  gives_stays : (b : Bool) (m : PlainMetadata) (i : ℕ) (k : PlainInterest) (e f : KeptSubscriber S) → g.steady e.subscriber →
+      Gives g b m i k e f → g.steady f.subscriber × SaysTheSame e.subscriber f.subscriber
+  gives_stays true m i k e f steady a = g.stays e.subscriber (CallsiteRegistered m) k f.subscriber a.1 steady
+  gives_stays false m i k e f steady (inl a) = g.stays e.subscriber (CallsiteRegistered m) k f.subscriber a.1 steady
+  gives_stays false m i k e f steady (inr a) = subst (λ (d : KeptSubscriber S). g.steady d.subscriber × SaysTheSame e.subscriber
+      d.subscriber) (sym a.1) (steady, same_word g e.subscriber)
+
+  said : (b : Bool) (m : PlainMetadata) (i : ℕ) (k : PlainInterest) (e f : KeptSubscriber S) → b ≡ all →
+      Ready e ((own : PlainInterest) → slice_get e.interests i ≡ Some own → g.says e.subscriber m own) → Gives g b m i k e f →
+      g.says e.subscriber m k
+  said true m i k e f is ready a = a.0
+  said false m i k e f is ready (inl a) = a.0
+  said false m i k e f is (inl asked) (inr a) = let both : false ≡ true = is ∙ asked in absurd (cc)
+  said false m i k e f is (inr (inl lent)) (inr a) = let both : false ≡ true = sym a.0 ∙ lent in absurd (cc)
+  said false m i k e f is (inr (inr right)) (inr a) = right k a.2
+
+  -- the subscriber after all gave their answers: what is kept of each callsite is right of it, and so are its kept answers
+  abbrev Heard : ℕ → KeptSubscriber S → Callsites → Subscribers → Type 0
+  Heard i e laters fs =
+      (f : KeptSubscriber S) × (subscriber_with e.serial fs ≡ Some f) × (f ≡ heard f.subscriber f.interests e) × g.steady f.subscriber
+      × SaysTheSame e.subscriber f.subscriber × Every (CallsiteRight g h f.subscriber) laters
+      × AnswersRight g h i f.subscriber f.interests laters × ((j : ℕ) → j < i → slice_get f.interests j ≡ slice_get e.interests j)
+
+  rows_heard : (i : ℕ) (e : KeptSubscriber S) (es : Subscribers) (last : ℕ × Subscribers) (callsites laters : Callsites) →
+      Ready e (AnswersRight g h i e.subscriber e.interests callsites) → g.steady e.subscriber →
+      Each (RowAsked g h all) (i, es) callsites laters last → subscriber_with e.serial es ≡ Some e → Heard i e laters last.1
+  rows_heard i e es last [] [] ready steady each there = (
+    e,
+    subst (λ (p : ℕ × Subscribers). subscriber_with e.serial p.1 ≡ Some e) (sym each) there,
+    refl,
+    steady,
+    same_word g e.subscriber,
+    tt,
+    tt,
+    λ j before. refl,
   )
-
-  -- where all were asked, all counts
-  pub rebuilt_refreshed : (u : Table S C) → Rebuilt g h t u → Refreshed g h t u
-  rebuilt_refreshed u r =
-      record {
-        asked = r.asked;
-        callsites = each_map (CallsiteAsked g h) (CallsiteRefreshed g h t) (λ es fs row later w. row_refreshed es fs row later w)
-            t.subscribers r.asked t.callsites u.callsites r.callsites;
-        hints = each_map (Hints g) (Raises g h t) (λ k j x y r. (g.hint x.subscriber, inl (refl, r.0, r.1), r.2)) 0 u.greatest r.asked
-            u.subscribers r.hints;
-        rest = r.rest;
-      }
-
-  -- one answer, of now or before
-  abbrev Gives : KeptCallsite C → KeptSubscriber S → PlainInterest → KeptSubscriber S → Type 0
-  Gives row e k f = Answers g h t row e k f ⊎ Answered g h t row e k f
-
-  gives_becomes : (row : KeptCallsite C) (x y : KeptSubscriber S) (k : PlainInterest) → Gives row x k y → y ≡ becomes y.subscriber x
-  gives_becomes row x y k (inl a) = a.2
-  gives_becomes row x y k (inr a) = subst (λ (d : KeptSubscriber S). d ≡ becomes d.subscriber x) (sym a.1) refl
-
-  -- one hint, of now or before
-  abbrev Hinted : KeptSubscriber S → Option ℕ → KeptSubscriber S → Type 0
-  Hinted e top f = Tells g h t e top f ⊎ HintsFromCache g h t e top f
-
-  unlent_anew : (x : KeptSubscriber S) → x.lent ≡ false → x ≡ asked_anew x.subscriber x
-  unlent_anew x unlent = ap (λ b. record x { lent = b }) unlent
-
-  hinted_becomes : (x y : KeptSubscriber S) (top : Option ℕ) → Hinted x top y → y ≡ asked_anew y.subscriber x
-  hinted_becomes x y top (inl a) = a.2
-  hinted_becomes x y top (inr a) = subst (λ (d : KeptSubscriber S). d ≡ asked_anew d.subscriber x) (sym a.1) (unlent_anew x a.0)
-
-  answers_serials : (row : KeptCallsite C) (es fs : List (KeptSubscriber S)) (k last : Option PlainInterest) →
-      Each (Joins g h t row) k es fs last → serials fs ≡ serials es
-  answers_serials row es fs k last each =
-      each_serials (Joins g h t row) (λ k j x y r. ap (λ (e : KeptSubscriber S). e.serial) (gives_becomes row x y r.0 r.1)) k last es fs
-      each
-
-  hints_serials : (es fs : List (KeptSubscriber S)) (k last : ℕ) → Each (Raises g h t) k es fs last → serials fs ≡ serials es
-  hints_serials es fs k last each =
-      each_serials (Raises g h t) (λ k j x y r. ap (λ (e : KeptSubscriber S). e.serial) (hinted_becomes x y r.0 r.1)) k last es fs each
-
-  rows_serials : (es fs : List (KeptSubscriber S)) (callsites laters : List (KeptCallsite C)) →
-      Each (CallsiteRefreshed g h t) es callsites laters fs → serials fs ≡ serials es
-  rows_serials es fs [] [] each = ap (λ (xs : List (KeptSubscriber S)). serials xs) each
-  rows_serials es fs [] (later ∷ laters) each = absurd each
-  rows_serials es fs (row ∷ callsites) [] each = absurd each
-  rows_serials es fs (row ∷ callsites) (later ∷ laters) each = rows_serials each.0 fs callsites laters each.2 ∙
-      answers_serials row es each.0 None each.1.0.0 each.1.0.1
-
-  rows_identifiers : (es fs : List (KeptSubscriber S)) (callsites laters : List (KeptCallsite C)) →
-      Each (CallsiteRefreshed g h t) es callsites laters fs → identifiers laters ≡ identifiers callsites
-  rows_identifiers es fs [] [] each = refl
-  rows_identifiers es fs [] (later ∷ laters) each = absurd each
-  rows_identifiers es fs (row ∷ callsites) [] each = absurd each
-  rows_identifiers es fs (row ∷ callsites) (later ∷ laters) each =
-      ap (λ n. n ∷ identifiers laters) (ap (λ (r : KeptCallsite C). r.identifier) each.1.3) ∙
-      ap (λ ns. row.identifier ∷ ns) (rows_identifiers each.0 fs callsites laters each.2)
-
-  rows_true : (es fs : List (KeptSubscriber S)) (callsites laters : List (KeptCallsite C)) →
-      Each (CallsiteRefreshed g h t) es callsites laters fs → Every (IsTrueCallsite h) callsites → Every (IsTrueCallsite h) laters
-  rows_true es fs [] [] each known = tt
-  rows_true es fs [] (later ∷ laters) each known = absurd each
-  rows_true es fs (row ∷ callsites) [] each known = absurd each
-  rows_true es fs (row ∷ callsites) (later ∷ laters) each known =
-      let turn = each.1 in (
+  rows_heard i e es last [] (later ∷ laters) ready steady each there = absurd each
+  rows_heard i e es last (row ∷ callsites) [] ready steady each there = absurd each
+  rows_heard i e es last (row ∷ callsites) (later ∷ laters) ready steady each there =
+      let m = h.metadata_of row.callsite in
+      let turn = each.1.1 in
+      let gave = gave_one g all m i e.serial None turn.0.0 es each.0.1 e turn.0.1 there in
+      let f = gave.0 in
+      let own = gave.1 in
+      let became : f ≡ heard f.subscriber f.interests e = gives_heard g all m i own e f gave.3 in
+      let keeps : Keeps i own e.interests f.interests = gives_keeps g all m i own e f gave.3 in
+      let stays = gives_stays all m i own e f steady gave.3 in
+      let says = said all m i own e f refl (ready_map e e _ _ refl (λ right k found. (right.0 k found).0) ready) gave.3 in
+      let serial : f.serial ≡ e.serial = ap (λ (d : KeptSubscriber S). d.serial) became in
+      let lent : f.lent ≡ e.lent = ap (λ (d : KeptSubscriber S). d.lent) became in
+      let onward = answers_onward g h (i + 1) e.subscriber f.subscriber e.interests f.interests callsites stays.1
+      (λ j after. keeps.0 j (λ (same : j ≡ i). omega arith)) in
+      let next : Each (RowAsked g h all) (i + 1, each.0.1) callsites laters last =
+      subst (λ n. Each (RowAsked g h all) (n, each.0.1) callsites laters last) each.1.0 each.2 in
+      let rest = rows_heard (i + 1) f each.0.1 last callsites laters (ready_map e f _ _ lent (λ right. onward right.1) ready) stays.0 next
+      (subst (λ n. subscriber_with n each.0.1 ≡ Some f) (sym serial) gave.2) in
+      let word = both_words g e.subscriber f.subscriber rest.0.subscriber stays.1 rest.4 in
+      let right : g.says rest.0.subscriber (h.metadata_of later.callsite) own × Covers later.interest own = (
+        subst (λ (n : PlainMetadata). g.says rest.0.subscriber n own) (sym turn.1) (word.onward m own says),
+        subst (λ k. Covers k own) (sym turn.0.2) gave.4,
+      ) in (
+        rest.0,
+        subst (λ n. subscriber_with n last.1 ≡ Some rest.0) serial rest.1,
+        rest.2 ∙ ap (heard rest.0.subscriber rest.0.interests) became,
+        rest.3,
+        word,
+        ((own, right.0, right.1), rest.5),
         (
-          ap (λ (r : KeptCallsite C). r.level) turn.3 ∙ known.0.0 ∙ ap (λ (x : PlainMetadata). x.level) (sym turn.1),
-          subst IsReal (sym turn.1) known.0.1,
-          ap (λ (r : KeptCallsite C). r.identifier) turn.3 ∙ known.0.2 ∙ ap (λ (x : PlainMetadata). x.callsite) (sym turn.1),
+          λ k found.
+              let same : own ≡ k = kept_own g h (slice_get f.interests i) own k keeps.1 (sym (rest.7 i (omega arith)) ∙ found) in
+              subst (λ (n : PlainInterest). g.says rest.0.subscriber (h.metadata_of later.callsite) n × Covers later.interest n) same right,
+          rest.6,
         ),
-        rows_true each.0 fs callsites laters each.2 known.1,
+        λ j before. rest.7 j (omega arith) ∙ keeps.0 j (λ (same : j ≡ i). omega arith),
       )
 
-  -- nobody came or went
-  pub refreshed_serials : (u : Table S C) → Refreshed g h t u → serials u.subscribers ≡ serials t.subscribers
-  refreshed_serials u r = hints_serials r.asked u.subscribers 0 u.greatest r.hints ∙
-      rows_serials t.subscribers r.asked t.callsites u.callsites r.callsites
+  -- whoever gives a hint keeps it, and counts as not lent
+  hinted : (b : Bool) (top : Option ℕ) (e f : KeptSubscriber S) → GivesHint g b top e f →
+      f ≡ asked_anew f.subscriber e.interests (Some top) e
+  hinted true top e f a = a.2
+  hinted false top e f (inl a) = a.2
+  hinted false top e f (inr a) =
+      let same : e ≡ asked_anew e.subscriber e.interests (Some top) e =
+      ap (λ b. record e { lent = b }) a.0 ∙ ap (λ o. record e { lent = false; hint = o }) a.2 in
+      subst (λ (d : KeptSubscriber S). d ≡ asked_anew d.subscriber e.interests (Some top) e) (sym a.1) same
 
-  pub refreshed_sound : (u : Table S C) → Refreshed g h t u → IsSound h t → IsSound h u
-  refreshed_sound u r sound =
-      let next : u.next ≡ t.next = ap (λ (v : Table S C). v.next) r.rest in
-      record {
-        numbers = subst (λ n. Ascends 0 (serials u.subscribers) n) (sym next)
-            (subst (λ ns. Ascends 0 ns t.next) (sym (refreshed_serials u r)) sound.numbers);
-        apart = subst AreDistinct (sym (rows_identifiers t.subscribers r.asked t.callsites u.callsites r.callsites)) sound.apart;
-        sites = rows_true t.subscribers r.asked t.callsites u.callsites r.callsites sound.sites;
-      }
+  hint_stays : (b : Bool) (top : Option ℕ) (e f : KeptSubscriber S) → g.steady e.subscriber → GivesHint g b top e f →
+      g.steady f.subscriber × SaysTheSame e.subscriber f.subscriber
+  hint_stays true top e f steady a = g.stays e.subscriber HintAsked (g.hint e.subscriber) f.subscriber a.1 steady
+  hint_stays false top e f steady (inl a) = g.stays e.subscriber HintAsked (g.hint e.subscriber) f.subscriber a.1 steady
+  hint_stays false top e f steady (inr a) = subst (λ (d : KeptSubscriber S). g.steady d.subscriber × SaysTheSame e.subscriber d.subscriber)
+      (sym a.1) (steady, same_word g e.subscriber)
 
-  covers_start : (row : KeptCallsite C) (es fs : List (KeptSubscriber S)) (j : PlainInterest) (last : Option PlainInterest) →
-      Each (Joins g h t row) (Some j) es fs last → Covers (settled last) j
-  covers_start row [] [] j last e = subst (λ o. Covers (settled o) j) (sym e) (covers_self j)
-  covers_start row [] (y ∷ ys) j last e = absurd e
-  covers_start row (x ∷ xs) [] j last e = absurd e
-  covers_start row (x ∷ xs) (y ∷ ys) j last e =
-      covers_left (settled last) j e.1.0
-      (covers_start row xs ys (common j e.1.0) last (subst (λ o. Each (Joins g h t row) o xs ys last) e.1.2 e.2))
+  hint_told : (b : Bool) (top : Option ℕ) (e f : KeptSubscriber S) → b ≡ all → Ready e (HintRight g e.subscriber e.hint) →
+      GivesHint g b top e f → top ≡ g.hint e.subscriber
+  hint_told true top e f is ready a = a.0
+  hint_told false top e f is ready (inl a) = a.0
+  hint_told false top e f is (inl asked) (inr a) = let both : false ≡ true = is ∙ asked in absurd (cc)
+  hint_told false top e f is (inr (inl lent)) (inr a) = let both : false ≡ true = sym a.0 ∙ lent in absurd (cc)
+  hint_told false top e f is (inr (inr right)) (inr a) = right top a.2
 
-  covers_joined : (row : KeptCallsite C) (es fs : List (KeptSubscriber S)) (o : Option PlainInterest) (k : PlainInterest)
-      (last : Option PlainInterest) → Each (Joins g h t row) (joined o k) es fs last → Covers (settled last) k
-  covers_joined row es fs None k last e = covers_start row es fs k last e
-  covers_joined row es fs (Some j) k last e = covers_right (settled last) j k (covers_start row es fs (common j k) last e)
-
-  -- it gave an answer, and what is kept covers it
-  abbrev GaveOne : KeptCallsite C → ℕ → KeptSubscriber S → List (KeptSubscriber S) → PlainInterest → Type 0
-  GaveOne row n e fs k = (z : S) × (own : PlainInterest) × (subscriber_with n fs ≡ Some (becomes z e)) × Gives row e own (becomes z e) ×
-      Covers k own
-
-  gave_head : (b : Bool) (row : KeptCallsite C) (n : ℕ) (o mid last : Option PlainInterest) (x y e : KeptSubscriber S)
-      (xs ys : List (KeptSubscriber S)) → is_of n x ≡ b → Joins g h t row o x y mid → Each (Joins g h t row) mid xs ys last →
-      (if b then Some x else subscriber_with n xs) ≡ Some e → (subscriber_with n xs ≡ Some e → GaveOne row n e ys (settled last)) →
-      GaveOne row n e (y ∷ ys) (settled last)
-  gave_head true row n o mid last x y e xs ys is r each there later =
-      let same : x ≡ e = cc in
-      let became : y ≡ becomes y.subscriber x = gives_becomes row x y r.0 r.1 in
-      let here : is_of n y ≡ true = ap (is_of n) became ∙ is in
-      let left : y ≡ becomes y.subscriber e = became ∙ ap (becomes y.subscriber) same in (
-        y.subscriber,
-        r.0,
-        entry_head n y ys here ∙ ap (λ (f : KeptSubscriber S). Some f) left,
-        subst (λ (d : KeptSubscriber S). Gives row d r.0 (becomes y.subscriber e)) same
-            (subst (λ (d : KeptSubscriber S). Gives row x r.0 d) left r.1),
-        covers_joined row xs ys o r.0 last (subst (λ j. Each (Joins g h t row) j xs ys last) r.2 each),
-      )
-  gave_head false row n o mid last x y e xs ys is r each there later =
-      let w = later there in
-      let away : is_of n y ≡ false = ap (is_of n) (gives_becomes row x y r.0 r.1) ∙ is in
-      (w.0, w.1, entry_tail n y ys away ∙ w.2, w.3, w.4)
-
-  gave_one : (row : KeptCallsite C) (n : ℕ) (o last : Option PlainInterest) (es fs : List (KeptSubscriber S)) (e : KeptSubscriber S) →
-      Each (Joins g h t row) o es fs last → subscriber_with n es ≡ Some e → GaveOne row n e fs (settled last)
-  gave_one row n o last [] fs e each there = absurd (cc)
-  gave_one row n o last (x ∷ xs) [] e each there = absurd each
-  gave_one row n o last (x ∷ xs) (y ∷ ys) e each there =
-      gave_head (is_of n x) row n o each.0 last x y e xs ys refl each.1 each.2 there (λ w. gave_one row n each.0 last xs ys e each.2 w)
-
-  raises_grow : (before last : ℕ) (es fs : List (KeptSubscriber S)) → Each (Raises g h t) before es fs last → before ≤ last
+  raises_grow : (before last : ℕ) (es fs : Subscribers) → Each (Raises g all) before es fs last → before ≤ last
   raises_grow before last [] [] e = omega arith
   raises_grow before last [] (y ∷ ys) e = absurd e
   raises_grow before last (x ∷ xs) [] e = absurd e
@@ -189,148 +154,136 @@ module _ {S C : Type 0} (g : Ghosts S) (h : SiteGhosts C) (t : Table S C) where
       omega arith
 
   -- it gave a hint, and the greatest level covers it
-  abbrev GaveHint : ℕ → KeptSubscriber S → List (KeptSubscriber S) → ℕ → Type 0
-  GaveHint n e fs last = (z : S) × (top : Option ℕ) × (subscriber_with n fs ≡ Some (asked_anew z e)) × Hinted e top (asked_anew z e) ×
+  abbrev GaveHint : ℕ → KeptSubscriber S → Subscribers → ℕ → Type 0
+  GaveHint n e fs last = (f : KeptSubscriber S) × (top : Option ℕ) × (subscriber_with n fs ≡ Some f) × GivesHint g all top e f ×
       (level_of top ≤ last)
 
-  hint_head : (b : Bool) (n before mid last : ℕ) (x y e : KeptSubscriber S) (xs ys : List (KeptSubscriber S)) → is_of n x ≡ b →
-      Raises g h t before x y mid → Each (Raises g h t) mid xs ys last → (if b then Some x else subscriber_with n xs) ≡ Some e →
+  hint_head : (b : Bool) (n before mid last : ℕ) (x y e : KeptSubscriber S) (xs ys : Subscribers) → is_of n x ≡ b →
+      Raises g all before x y mid → Each (Raises g all) mid xs ys last → (if b then Some x else subscriber_with n xs) ≡ Some e →
       (subscriber_with n xs ≡ Some e → GaveHint n e ys last) → GaveHint n e (y ∷ ys) last
   hint_head true n before mid last x y e xs ys is r each there later =
       let same : x ≡ e = cc in
-      let became : y ≡ asked_anew y.subscriber x = hinted_becomes x y r.0 r.1 in
-      let here : is_of n y ≡ true = ap (is_of n) became ∙ is in
-      let left : y ≡ asked_anew y.subscriber e = became ∙ ap (asked_anew y.subscriber) same in
+      let here : is_of n y ≡ true = ap (is_of n) (hinted all r.0 x y r.1) ∙ is in
       let more : mid ≤ last = raises_grow mid last xs ys each in
       let top : mid ≡ max before (level_of r.0) = r.2 in
-      let below : level_of r.0 ≤ last = omega arith in (
-        y.subscriber,
-        r.0,
-        entry_head n y ys here ∙ ap (λ (f : KeptSubscriber S). Some f) left,
-        subst (λ (d : KeptSubscriber S). Hinted d r.0 (asked_anew y.subscriber e)) same
-            (subst (λ (d : KeptSubscriber S). Hinted x r.0 d) left r.1),
-        below,
-      )
+      let below : level_of r.0 ≤ last = omega arith in
+      (y, r.0, entry_head n y ys here, subst (λ (d : KeptSubscriber S). GivesHint g all r.0 d y) same r.1, below)
   hint_head false n before mid last x y e xs ys is r each there later =
       let w = later there in
-      let away : is_of n y ≡ false = ap (is_of n) (hinted_becomes x y r.0 r.1) ∙ is in
+      let away : is_of n y ≡ false = ap (is_of n) (hinted all r.0 x y r.1) ∙ is in
       (w.0, w.1, entry_tail n y ys away ∙ w.2, w.3, w.4)
 
-  gave_hint : (n before last : ℕ) (es fs : List (KeptSubscriber S)) (e : KeptSubscriber S) → Each (Raises g h t) before es fs last →
+  gave_hint : (n before last : ℕ) (es fs : Subscribers) (e : KeptSubscriber S) → Each (Raises g all) before es fs last →
       subscriber_with n es ≡ Some e → GaveHint n e fs last
   gave_hint n before last [] fs e each there = absurd (cc)
   gave_hint n before last (x ∷ xs) [] e each there = absurd each
   gave_hint n before last (x ∷ xs) (y ∷ ys) e each there =
       hint_head (is_of n x) n before each.0 last x y e xs ys refl each.1 each.2 there (λ w. gave_hint n each.0 last xs ys e each.2 w)
 
-  -- whoever is asked, or gives what is right of it
-  abbrev pub IsHeard : KeptSubscriber S → Type 0
-  IsHeard x = (x.lent ≡ true) ⊎ HasValidCache g h t x
+  hints_serials : (es fs : Subscribers) (k last : ℕ) → Each (Raises g all) k es fs last → serials fs ≡ serials es
+  hints_serials es fs k last each =
+      each_serials (Raises g all) (λ k j x y r. ap (λ (e : KeptSubscriber S). e.serial) (hinted all r.0 x y r.1)) k last es fs each
 
-  -- what it says now, and said before
-  abbrev SaysTheSame : S → S → Type 0
-  SaysTheSame x y = SameWord (g.says x) (g.says y) (g.hint x) (g.hint y)
+  rows_serials : (before after : ℕ × Subscribers) (callsites laters : Callsites) →
+      Each (RowAsked g h all) before callsites laters after → serials after.1 ≡ serials before.1
+  rows_serials before after [] [] each = ap (λ (p : ℕ × Subscribers). serials p.1) each
+  rows_serials before after [] (later ∷ laters) each = absurd each
+  rows_serials before after (row ∷ callsites) [] each = absurd each
+  rows_serials before after (row ∷ callsites) (later ∷ laters) each = rows_serials each.0 after callsites laters each.2 ∙
+      asked_serials h g all (h.metadata_of row.callsite) before.0 before.1 each.0.1 None each.1.1.0.0 each.1.1.0.1
 
-  said : (row : KeptCallsite C) (x : KeptSubscriber S) (y : S) (own : PlainInterest) (f : KeptSubscriber S) → IsHeard x →
-      SaysTheSame x.subscriber y → Gives row (becomes y x) own f → g.says y (h.metadata_of row.callsite) own
-  said row x y own f heard word (inl a) = a.0
-  said row x y own f (inl lent) word (inr a) = let unlent : x.lent ≡ false = a.0 in absurd (cc)
-  said row x y own f (inr kept) word (inr a) = word.onward (h.metadata_of row.callsite) own (a.3 x refl kept)
+  rows_true : (before after : ℕ × Subscribers) (callsites laters : Callsites) → Each (RowAsked g h all) before callsites laters after →
+      Every (IsTrueCallsite h) callsites → Every (IsTrueCallsite h) laters
+  rows_true before after [] [] each known = tt
+  rows_true before after [] (later ∷ laters) each known = absurd each
+  rows_true before after (row ∷ callsites) [] each known = absurd each
+  rows_true before after (row ∷ callsites) (later ∷ laters) each known = (
+    row_true h g all before.0 before.1 each.0.1 row later each.1.1 known.0,
+    rows_true each.0 after callsites laters each.2 known.1,
+  )
 
-  stays_row : (row : KeptCallsite C) (e : KeptSubscriber S) (own : PlainInterest) (f : KeptSubscriber S) → g.steady e.subscriber →
-      Gives row e own f → g.steady f.subscriber × SaysTheSame e.subscriber f.subscriber
-  stays_row row e own f steady (inl a) = g.stays e.subscriber (CallsiteRegistered (h.metadata_of row.callsite)) own f.subscriber a.1 steady
-  stays_row row e own f steady (inr a) = subst (λ (d : KeptSubscriber S). g.steady d.subscriber × SaysTheSame e.subscriber d.subscriber)
-      (sym a.1) (steady, same_word g e.subscriber)
+  module _ (t u : Table S C) (r : Formed g h all t u) where
+    -- nobody came or went
+    pub formed_serials : serials u.subscribers ≡ serials t.subscribers
+    formed_serials = hints_serials r.asked u.subscribers 0 u.greatest r.hints ∙
+        rows_serials (0, t.subscribers) (r.callsites.0, r.asked) t.callsites u.callsites r.callsites.1
 
-  hint_told : (x : KeptSubscriber S) (y : S) (top : Option ℕ) (f : KeptSubscriber S) → IsHeard x → SaysTheSame x.subscriber y →
-      Hinted (becomes y x) top f → top ≡ g.hint y
-  hint_told x y top f heard word (inl a) = a.0
-  hint_told x y top f (inl lent) word (inr a) = let unlent : x.lent ≡ false = a.0 in absurd (cc)
-  hint_told x y top f (inr kept) word (inr a) = a.3 x refl kept ∙ sym word.same_hint
+    formed_true : Every (IsTrueCallsite h) t.callsites → Every (IsTrueCallsite h) u.callsites
+    formed_true known = rows_true (0, t.subscribers) (r.callsites.0, r.asked) t.callsites u.callsites r.callsites.1 known
 
-  stays_hint : (e : KeptSubscriber S) (top : Option ℕ) (f : KeptSubscriber S) → g.steady e.subscriber → Hinted e top f →
-      g.steady f.subscriber × SaysTheSame e.subscriber f.subscriber
-  stays_hint e top f steady (inl a) = g.stays e.subscriber HintAsked (g.hint e.subscriber) f.subscriber a.1 steady
-  stays_hint e top f steady (inr a) = subst (λ (d : KeptSubscriber S). g.steady d.subscriber × SaysTheSame e.subscriber d.subscriber)
-      (sym a.1) (steady, same_word g e.subscriber)
-
-  rows_heard : (x : KeptSubscriber S) (y : S) (es fs : List (KeptSubscriber S)) (callsites laters : List (KeptCallsite C)) → IsHeard x →
-      g.steady y → SaysTheSame x.subscriber y → Each (CallsiteRefreshed g h t) es callsites laters fs →
-      subscriber_with x.serial es ≡ Some (becomes y x) →
-      (z : S) × (subscriber_with x.serial fs ≡ Some (becomes z x)) × g.steady z × SaysTheSame x.subscriber z ×
-      Every (CallsiteRight g h z) laters
-  rows_heard x y es fs [] [] heard steady word each there =
-      (y, subst (λ xs. subscriber_with x.serial xs ≡ Some (becomes y x)) (sym each) there, steady, word, tt)
-  rows_heard x y es fs [] (later ∷ laters) heard steady word each there = absurd each
-  rows_heard x y es fs (row ∷ callsites) [] heard steady word each there = absurd each
-  rows_heard x y es fs (row ∷ callsites) (later ∷ laters) heard steady word each there =
-      let m = h.metadata_of row.callsite in
-      let turn = each.1 in
-      let gave = gave_one row x.serial None turn.0.0 es each.0 (becomes y x) turn.0.1 there in
-      let own = gave.1 in
-      let says = said row x y own (becomes gave.0 x) heard word gave.3 in
-      let stays = stays_row row (becomes y x) own (becomes gave.0 x) steady gave.3 in
-      let rest = rows_heard x gave.0 each.0 fs callsites laters heard stays.0 (both_words g x.subscriber y gave.0 word stays.1) each.2
-      gave.2 in (
-        rest.0,
-        rest.1,
-        rest.2,
-        rest.3,
-        (
-          (
-            own,
-            subst (λ n. g.says rest.0 n own) (sym turn.1) (rest.3.onward m own (word.back m own says)),
-            subst (λ k. Covers k own) (sym turn.0.2) gave.4,
-          ),
-          rest.4,
-        ),
-      )
-
-  -- a refresh makes what is kept right of whoever was lent and is consistent, and keeps it right of others
-  pub refreshed_right : (u : Table S C) (x : KeptSubscriber S) → Refreshed g h t u → IsHeard x →
-      subscriber_with x.serial t.subscribers ≡ Some x → g.steady x.subscriber → Every (IsTrueCallsite h) t.callsites →
-      (z : S) × HasValidCache g h u (asked_anew z x)
-  refreshed_right u x r heard there steady known =
-      let a = rows_heard x x.subscriber t.subscribers r.asked t.callsites u.callsites heard steady (same_word g x.subscriber) r.callsites
-      there in
-      let b = gave_hint x.serial 0 u.greatest r.asked u.subscribers (becomes a.0 x) r.hints a.1 in
-      let top : b.1 ≡ g.hint a.0 = hint_told x a.0 b.1 (asked_anew b.0 x) heard a.3 b.3 in
-      let kept = stays_hint (becomes a.0 x) b.1 (asked_anew b.0 x) a.2 b.3 in (
-        b.0,
+    pub formed_sound : IsSound h t → IsSound h u
+    formed_sound sound =
+        let next : u.next ≡ t.next = ap (λ (v : Table S C). v.next) r.rest in
         record {
-          stands = b.2;
-          unlent = refl;
-          steady = kept.0;
-          callsites = rows_true t.subscribers r.asked t.callsites u.callsites r.callsites known;
-          right = right_onward g h a.0 b.0 u.callsites kept.1 a.4;
-          below = subst (λ o. level_of o ≤ u.greatest) (top ∙ sym kept.1.same_hint) b.4;
-        },
-      )
+          numbers = subst (λ n. Ascends 0 (serials u.subscribers) n) (sym next)
+              (subst (λ ns. Ascends 0 ns t.next) (sym formed_serials) sound.numbers);
+          apart = subst AreDistinct
+              (sym (asked_identifiers g h all (0, t.subscribers) (r.callsites.0, r.asked) t.callsites u.callsites r.callsites.1)) sound.apart;
+          sites = formed_true sound.sites;
+        }
 
-  answers_nobody : (row : KeptCallsite C) (fs : List (KeptSubscriber S)) (last : Option PlainInterest) →
-      Each (Joins g h t row) None [] fs last → (fs ≡ []) × (last ≡ None)
-  answers_nobody row [] last each = (refl, each)
-  answers_nobody row (f ∷ fs) last each = absurd each
+    -- whoever is asked, or of whom the cache is valid
+    abbrev pub IsHeard : KeptSubscriber S → Type 0
+    IsHeard x = (all ≡ true) ⊎ ((x.lent ≡ true) ⊎ HasValidCache g h t x)
 
-  rows_off : (es fs : List (KeptSubscriber S)) (callsites laters : List (KeptCallsite C)) → es ≡ [] →
-      Each (CallsiteRefreshed g h t) es callsites laters fs → (fs ≡ []) × Every IsNever laters
-  rows_off es fs [] [] none each = (each ∙ none, tt)
-  rows_off es fs [] (later ∷ laters) none each = absurd each
-  rows_off es fs (row ∷ callsites) [] none each = absurd each
-  rows_off es fs (row ∷ callsites) (later ∷ laters) none each =
-      let nobody = answers_nobody row each.0 each.1.0.0 (subst (λ xs. Each (Joins g h t row) None xs each.0 each.1.0.0) none each.1.0.1) in
-      let rest = rows_off each.0 fs callsites laters nobody.0 each.2 in
-      (rest.0, (each.1.0.2 ∙ ap settled nobody.1, rest.1))
+    -- then what is kept is right of it, if it is consistent
+    pub formed_right : (x : KeptSubscriber S) → IsHeard x → subscriber_with x.serial t.subscribers ≡ Some x → g.steady x.subscriber →
+        Every (IsTrueCallsite h) t.callsites →
+        (z : S) × (interests : List PlainInterest) × (hint : Option (Option ℕ)) × HasValidCache g h u (asked_anew z interests hint x)
+    formed_right x heard there steady known =
+        let a = rows_heard 0 x t.subscribers (r.callsites.0, r.asked) t.callsites u.callsites (ready_map x x _ _ refl (λ kept. kept.kept) heard)
+        steady r.callsites.1 there in
+        let e = a.0 in
+        let b = gave_hint x.serial 0 u.greatest r.asked u.subscribers e r.hints a.1 in
+        let f = b.0 in
+        let lent : e.lent ≡ x.lent = ap (λ (d : KeptSubscriber S). d.lent) a.2 in
+        let hint : e.hint ≡ x.hint = ap (λ (d : KeptSubscriber S). d.hint) a.2 in
+        let ready : Ready e (HintRight g e.subscriber e.hint) = ready_map x e _ _ lent
+        (λ kept top found. kept.hint top (sym hint ∙ found) ∙ sym a.4.same_hint) heard in
+        let top : b.1 ≡ g.hint e.subscriber = hint_told all b.1 e f refl ready b.3 in
+        let kept = hint_stays all b.1 e f a.3 b.3 in
+        let is : f ≡ asked_anew f.subscriber e.interests (Some b.1) x =
+        hinted all b.1 e f b.3 ∙ ap (asked_anew f.subscriber e.interests (Some b.1)) a.2 in
+        let told : b.1 ≡ g.hint f.subscriber = top ∙ sym kept.1.same_hint in (
+          f.subscriber,
+          e.interests,
+          Some b.1,
+          record {
+            stands = b.2 ∙ ap (λ (d : KeptSubscriber S). Some d) is;
+            unlent = refl;
+            steady = kept.0;
+            callsites = formed_true known;
+            right = right_onward g h e.subscriber f.subscriber u.callsites kept.1 a.5;
+            below = subst (λ o. level_of o ≤ u.greatest) told b.4;
+            kept = answers_onward g h 0 e.subscriber f.subscriber e.interests e.interests u.callsites kept.1 (λ j after. refl) a.6;
+            hint = λ o found. let same : b.1 ≡ o = cc in sym same ∙ told;
+          },
+        )
 
-  hints_off : (fs : List (KeptSubscriber S)) (last : ℕ) → Each (Raises g h t) 0 [] fs last → last ≡ 0
-  hints_off [] last each = each
-  hints_off (f ∷ fs) last each = absurd each
+  answers_nobody : (m : PlainMetadata) (i : ℕ) (es fs : Subscribers) (last : Option PlainInterest) → es ≡ [] →
+      Each (Joins g all m i) None es fs last → (fs ≡ []) × (last ≡ None)
+  answers_nobody m i [] [] last none each = (refl, each)
+  answers_nobody m i [] (f ∷ fs) last none each = absurd each
+  answers_nobody m i (e ∷ es) fs last none each = absurd (cc)
+
+  rows_off : (before after : ℕ × Subscribers) (callsites laters : Callsites) → before.1 ≡ [] →
+      Each (RowAsked g h all) before callsites laters after → (after.1 ≡ []) × Every IsNever laters
+  rows_off before after [] [] none each = (ap (λ (p : ℕ × Subscribers). p.1) each ∙ none, tt)
+  rows_off before after [] (later ∷ laters) none each = absurd each
+  rows_off before after (row ∷ callsites) [] none each = absurd each
+  rows_off before after (row ∷ callsites) (later ∷ laters) none each =
+      let turn = each.1.1.0 in
+      let nobody = answers_nobody (h.metadata_of row.callsite) before.0 before.1 each.0.1 turn.0 none turn.1 in
+      let rest = rows_off each.0 after callsites laters nobody.0 each.2 in
+      (rest.0, (turn.2 ∙ ap settled nobody.1, rest.1))
+
+  hints_off : (es fs : Subscribers) (last : ℕ) → es ≡ [] → Each (Raises g all) 0 es fs last → last ≡ 0
+  hints_off [] [] last none each = each
+  hints_off [] (f ∷ fs) last none each = absurd each
+  hints_off (e ∷ es) fs last none each = absurd (cc)
 
   -- where there is nobody, all is off
-  pub refreshed_off : (u : Table S C) → Refreshed g h t u → t.subscribers ≡ [] → IsOff u
-  refreshed_off u r none =
-      let callsites = rows_off t.subscribers r.asked t.callsites u.callsites none r.callsites in (
-        hints_off u.subscribers u.greatest (subst (λ es. Each (Raises g h t) 0 es u.subscribers u.greatest) callsites.0 r.hints),
-        callsites.1,
-      )
+  pub formed_off : (t u : Table S C) → Formed g h all t u → t.subscribers ≡ [] → IsOff u
+  formed_off t u r none =
+      let callsites = rows_off (0, t.subscribers) (r.callsites.0, r.asked) t.callsites u.callsites none r.callsites.1 in
+      (hints_off r.asked u.subscribers u.greatest callsites.0 r.hints, callsites.1)

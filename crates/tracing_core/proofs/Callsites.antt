@@ -3,7 +3,7 @@ use Rattle.std.proofs.Common.{◌≡◌, ◌==◌, ℕ, zero, suc, Bool, true, f
 use Rattle.std.proofs.Common.{◌∙◌, subst, arith}
 use Rattle.std.specs.Prelude.{if◌then◌else◌, cond, option_and_then, slice_get}
 use Rattle.std.specs.Option.{option_map}
-use Rattle.tracing_core.specs.InterestsAndHints.{Each, CallsiteAsked}
+use Rattle.tracing_core.specs.InterestsAndHints.{Each, RowAsked}
 use Rattle.tracing_core.specs.Commands.{is_at, callsite_with}
 use Rattle.tracing_core.specs.Indices.{index_among, index_of_callsite}
 use Rattle.tracing_core.specs.HubInvariant.{AreDistinct, identifiers}
@@ -115,13 +115,13 @@ module _ {C : Type 0} where
       let away : (r.identifier == n) ≡ false = grind arith in
       rw away (ap (option_map suc) (distinct_place callsites place n apart.1 is))
 
-module _ {S C : Type 0} (g : Ghosts S) (h : SiteGhosts C) where
+module _ {S C : Type 0} (g : Ghosts S) (h : SiteGhosts C) (all : Bool) where
   -- asking leaves the identifiers
-  pub asked_identifiers : (es fs : List (KeptSubscriber S)) (callsites laters : List (KeptCallsite C)) →
-      Each (CallsiteAsked g h) es callsites laters fs → identifiers laters ≡ identifiers callsites
-  asked_identifiers es fs [] [] each = refl
-  asked_identifiers es fs [] (later ∷ laters) each = absurd each
-  asked_identifiers es fs (row ∷ callsites) [] each = absurd each
-  asked_identifiers es fs (row ∷ callsites) (later ∷ laters) each =
-      ap (λ n. n ∷ identifiers laters) (ap (λ (r : KeptCallsite C). r.identifier) each.1.3) ∙
-      ap (λ ns. row.identifier ∷ ns) (asked_identifiers each.0 fs callsites laters each.2)
+  pub asked_identifiers : (before after : ℕ × List (KeptSubscriber S)) (callsites laters : List (KeptCallsite C)) →
+      Each (RowAsked g h all) before callsites laters after → identifiers laters ≡ identifiers callsites
+  asked_identifiers before after [] [] each = refl
+  asked_identifiers before after [] (later ∷ laters) each = absurd each
+  asked_identifiers before after (row ∷ callsites) [] each = absurd each
+  asked_identifiers before after (row ∷ callsites) (later ∷ laters) each =
+      ap (λ n. n ∷ identifiers laters) (ap (λ (r : KeptCallsite C). r.identifier) each.1.1.3) ∙
+      ap (λ ns. row.identifier ∷ ns) (asked_identifiers each.0 after callsites laters each.2)

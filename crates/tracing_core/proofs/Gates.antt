@@ -16,7 +16,7 @@ use Rattle.tracing_core_fields.specs.declared.requests.callsite.Callsite.{Ghosts
 use Rattle.tracing_core.specs.TableRows.{KeptCallsite, KeptSubscriber}
 use Rattle.tracing_core_fields.specs.declared.requests.interest.InterestInner.TheVariants.{Never, Sometimes, Always}
 use Rattle.tracing_core_fields.specs.declared.requests.subscriber.Subscriber.{Ghosts}
-use Rattle.tracing_core.proofs.CacheRebuild.{row_every}
+use Rattle.tracing_core.proofs.GivenAnswers.{row_every}
 
 refused : (hint : Option ℕ) (greatest level : ℕ) (p : Bool) → HintFits hint level p → level_of hint ≤ greatest → level ≤ 5 →
     nat_le level greatest ≡ false → p ≡ false

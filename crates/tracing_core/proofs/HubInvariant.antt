@@ -1,7 +1,8 @@
 -- What commands leave sound.
-use Rattle.std.proofs.Common.{◌≡◌, ℕ, ◌+◌, true, false, List, [], ◌∷◌, ◌++◌, Option, Some, None, refl, ap, sym, ◌∙◌, subst, arith}
+use Rattle.std.proofs.Common.{◌≡◌, ℕ, ◌+◌, Bool, true, false, List, [], ◌∷◌, ◌++◌, length, Option, Some, None}
+use Rattle.std.proofs.Common.{refl, ap, sym, ◌∙◌, subst, arith}
 use Rattle.tracing_core_fields.specs.PlainMetadata.{PlainMetadata}
-use Rattle.tracing_core.specs.InterestsAndHints.{Each, Registers, CallsiteAsked}
+use Rattle.tracing_core.specs.InterestsAndHints.{Each, Joins, CallsiteAsked}
 use Rattle.tracing_core.specs.Commands.{Registered, living, new_callsite, callsite_with, is_at}
 use Rattle.tracing_core_fields.specs.requests.Interests.{PlainInterest}
 use Rattle.tracing_core_fields.specs.requests.Lists.{Every}
@@ -12,6 +13,7 @@ use Rattle.tracing_core.specs.Table.{Table}
 use Rattle.tracing_core_fields.specs.declared.requests.callsite.Callsite.{Ghosts as SiteGhosts}
 use Rattle.tracing_core.specs.TableRows.{KeptCallsite, KeptSubscriber}
 use Rattle.tracing_core_fields.specs.declared.requests.subscriber.Subscriber.{Ghosts}
+use Rattle.tracing_core.proofs.GivenAnswers.{gives_heard}
 use Rattle.tracing_core.proofs.SubscriberNumbers.{by_bool, each_serials, ascends_append, serials_append}
 
 pub every_append : {A : Type 0} (P : A → Type 0) (xs : List A) (x : A) → Every P xs → P x → Every P (xs ++ x ∷ [])
@@ -60,15 +62,16 @@ module _ {S C : Type 0} (h : SiteGhosts C) where
       }
 
   module _ (g : Ghosts S) where
-    pub asked_serials : (m : PlainMetadata) (es fs : List (KeptSubscriber S)) (k last : Option PlainInterest) →
-        Each (Registers g m) k es fs last → serials fs ≡ serials es
-    asked_serials m es fs k last each = each_serials (Registers g m) (λ k j x y r. ap (λ (e : KeptSubscriber S). e.serial) r.3) k last es fs
-        each
+    pub asked_serials : (all : Bool) (m : PlainMetadata) (i : ℕ) (es fs : List (KeptSubscriber S)) (k last : Option PlainInterest) →
+        Each (Joins g all m i) k es fs last → serials fs ≡ serials es
+    asked_serials all m i es fs k last each =
+        each_serials (Joins g all m i) (λ k j x y r. ap (λ (e : KeptSubscriber S). e.serial) (gives_heard g all m i r.0 x y r.1)) k last es
+        fs each
 
     -- what was true of a callsite is true of it once it was asked of
-    pub row_true : (es fs : List (KeptSubscriber S)) (row later : KeptCallsite C) → CallsiteAsked g h es row later fs →
-        IsTrueCallsite h row → IsTrueCallsite h later
-    row_true es fs row later turn known = (
+    pub row_true : (all : Bool) (i : ℕ) (es fs : List (KeptSubscriber S)) (row later : KeptCallsite C) →
+        CallsiteAsked g h all i es row later fs → IsTrueCallsite h row → IsTrueCallsite h later
+    row_true all i es fs row later turn known = (
       ap (λ (r : KeptCallsite C). r.level) turn.3 ∙ known.0 ∙ ap (λ (x : PlainMetadata). x.level) (sym turn.1),
       subst IsReal (sym turn.1) known.1,
       ap (λ (r : KeptCallsite C). r.identifier) turn.3 ∙ known.2 ∙ ap (λ (x : PlainMetadata). x.callsite) (sym turn.1),
@@ -94,8 +97,8 @@ module _ {S C : Type 0} (h : SiteGhosts C) where
     registered_sound t u callsite interest r sound =
         let callsites : u.callsites ≡ t.callsites ++ r.row ∷ [] = ap (λ (v : Table S C). v.callsites) r.kept in
         let next : u.next ≡ t.next = ap (λ (v : Table S C). v.next) r.kept in
-        let numbers : serials u.subscribers ≡ serials t.subscribers = asked_serials (h.metadata_of callsite) t.subscribers u.subscribers
-        None r.asked.0.0 r.asked.0.1 in
+        let numbers : serials u.subscribers ≡ serials t.subscribers = asked_serials true (h.metadata_of callsite) (length t.callsites)
+        t.subscribers u.subscribers None r.asked.0.0 r.asked.0.1 in
         let number : r.row.identifier ≡ (h.metadata_of callsite).callsite = ap (λ (x : KeptCallsite C). x.identifier) r.asked.3 in
         let unknown : callsite_with r.row.identifier t.callsites ≡ None = subst (λ n. callsite_with n t.callsites ≡ None) (sym number)
         r.unknown in
@@ -109,5 +112,5 @@ module _ {S C : Type 0} (h : SiteGhosts C) where
               );
           sites = subst (Every (IsTrueCallsite h)) (sym callsites)
               (every_append (IsTrueCallsite h) t.callsites r.row sound.sites
-              (row_true t.subscribers u.subscribers (new_callsite h callsite) r.row r.asked (new_row_true callsite r.real)));
+              (row_true true (length t.callsites) t.subscribers u.subscribers (new_callsite h callsite) r.row r.asked (new_row_true callsite r.real)));
         }

@@ -1,5 +1,5 @@
 -- Requests at callsites that are told by their index.
-use Rattle.std.proofs.Common.{◌≡◌, ℕ, Bool, List, length, Option, Some, None, Result, refl, ap, sym, ◌∙◌, subst}
+use Rattle.std.proofs.Common.{◌≡◌, ℕ, Bool, List, length, Option, Some, None, Result, ap, sym, ◌∙◌, subst}
 use Rattle.tracing_core_fields.specs.FieldSet.{field_names, set_callsite}
 use Rattle.tracing_core_fields.specs.IndexedEntries.{indexed_entries}
 use Rattle.tracing_core_fields.specs.PlainMetadata.{PlainMetadata}
@@ -8,7 +8,7 @@ use Rattle.tracing_core_fields.specs.declared.field.FieldSet.{FieldSet}
 use Rattle.tracing_core_fields.specs.declared.indexed_values.IndexedValues.{IndexedValues}
 use Rattle.tracing_core_fields.specs.declared.value_set.ValueSet.{ValueSet}
 use Rattle.tracing_core_fields.specs.requests.Calls.{EventDispatched, Recorded, SpanMade}
-use Rattle.tracing_core_fields.specs.requests.PlainRequests.{PlainRequest, PlainValues, plain_values}
+use Rattle.tracing_core_fields.specs.requests.PlainRequests.{plain_values}
 use Rattle.tracing_core_moments.specs.declared.at.At.{At}
 use Rattle.tracing_core_fields.specs.declared.requests.callsite.Callsite.{Ghosts as SiteGhosts}
 use Rattle.tracing_core_fields.specs.declared.requests.refusal.RequestError.{RequestError}

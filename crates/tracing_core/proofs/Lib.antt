@@ -2,7 +2,7 @@ pub mod Subscribers
 pub mod EachElement
 pub mod AskedSubscriber
 pub mod Tables
-pub mod CacheRebuild
+pub mod GivenAnswers
 pub mod SubscriberNumbers
 pub mod NumbersNeverReused
 pub mod HubInvariant

@@ -6,7 +6,7 @@ use Rattle.tracing_core.specs.CachePreservation.{IsLater}
 use Rattle.tracing_core.specs.HubInvariant.{Ascends, serials}
 use Rattle.tracing_core.specs.Table.{Table}
 use Rattle.tracing_core.specs.TableRows.{KeptSubscriber}
-use Rattle.tracing_core.proofs.CacheRebuild.{entry_head, entry_tail}
+use Rattle.tracing_core.proofs.GivenAnswers.{entry_head, entry_tail}
 use Rattle.tracing_core.proofs.SubscriberNumbers.{by_bool, if_either, ascends_within}
 
 head_same : (m n : ℕ) (ms ns : List ℕ) → m ∷ ms ≡ n ∷ ns → m ≡ n

@@ -5,7 +5,7 @@ use Rattle.tracing_core.specs.InterestsAndHints.{Each}
 use Rattle.tracing_core.specs.Handles.{subscriber_with, changed, without, is_of}
 use Rattle.tracing_core.specs.HubInvariant.{Ascends, serials}
 use Rattle.tracing_core.specs.TableRows.{KeptSubscriber}
-use Rattle.tracing_core.proofs.CacheRebuild.{entry_head, entry_tail}
+use Rattle.tracing_core.proofs.GivenAnswers.{entry_head, entry_tail}
 
 pub if_either : {X : Type 0} (P : X → Type 0) (b : Bool) (x y : X) → (b ≡ true → P x) → (b ≡ false → P y) → P (if b then x else y)
 if_either P true x y first second = first refl

@@ -1,5 +1,5 @@
 -- Small facts on what tables hold.
-use Rattle.std.proofs.Common.{◌≡◌, List, Option, Some, None, false, refl, subst, ap, ◌∙◌, [], ◌∷◌, ◌++◌}
+use Rattle.std.proofs.Common.{◌≡◌, ℕ, Bool, List, Option, Some, None, false, refl, subst, ap, ◌∙◌, [], ◌∷◌, ◌++◌}
 use Rattle.std.specs.Option.{is_some}
 use Rattle.tracing_core.specs.InterestsAndHints.{CallsiteAsked}
 use Rattle.tracing_core.specs.Table.{Table}
@@ -11,13 +11,14 @@ pub none_of : {A : Type 0} (o : Option A) → is_some o ≡ false → o ≡ None
 none_of None e = refl
 none_of (Some x) e = absurd (cc)
 
--- the same callsite, asked of the same subscribers
-pub asked_alike : {S C : Type 0} (g : Ghosts S) (h : SiteGhosts C) (es es' fs fs' : List (KeptSubscriber S))
-    (row row' later : KeptCallsite C) → es ≡ es' → row ≡ row' → fs ≡ fs' → CallsiteAsked g h es row later fs →
-    CallsiteAsked g h es' row' later fs'
-asked_alike g h es es' fs fs' row row' later e r f asked =
-    subst (λ x. CallsiteAsked g h es' row' later x) f
-    (subst (λ x. CallsiteAsked g h es' x later fs) r (subst (λ x. CallsiteAsked g h x row later fs) e asked))
+-- the same callsite at the same index, asked of the same subscribers
+pub asked_alike : {S C : Type 0} (g : Ghosts S) (h : SiteGhosts C) (all : Bool) (i j : ℕ) (es es' fs fs' : List (KeptSubscriber S))
+    (row row' later : KeptCallsite C) → i ≡ j → es ≡ es' → row ≡ row' → fs ≡ fs' → CallsiteAsked g h all i es row later fs →
+    CallsiteAsked g h all j es' row' later fs'
+asked_alike g h all i j es es' fs fs' row row' later n e r f asked =
+    subst (λ k. CallsiteAsked g h all k es' row' later fs') n
+    (subst (λ x. CallsiteAsked g h all i es' row' later x) f
+    (subst (λ x. CallsiteAsked g h all i es' x later fs) r (subst (λ x. CallsiteAsked g h all i x row later fs) e asked)))
 
 -- the same subscribers and callsites
 pub same_at : {S C : Type 0} (v t : Table S C) (es : List (KeptSubscriber S)) (rs : List (KeptCallsite C)) → v ≡ t → es ≡ v.subscribers →

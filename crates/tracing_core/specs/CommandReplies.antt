@@ -2,13 +2,13 @@
 use Rattle.std.specs.Prelude.{◌≡◌, ℕ, Bool, true, false, List, [], ◌∷◌, ◌++◌, Option, Some, None, Result, Ok, Err, length, slice_get}
 use Rattle.std.specs.Prelude.{slice_set}
 use Rattle.std.specs.Option.{option_map}
-use Rattle.tracing_core.specs.Commands.{AddGives, GateGives, RegisterGives, Rebuilt, reached, callsite_with}
+use Rattle.tracing_core.specs.Commands.{AddGives, GateGives, RegisterGives, reached, callsite_with}
 use Rattle.tracing_core.specs.Defaults.{was_set, holding, letting_go, global_refusal, globally, default_refusal, locally, guard_of, running}
 use Rattle.tracing_core.specs.Defaults.{end_gives, reset_gives}
 use Rattle.tracing_core.specs.Handles.{given_back, hold_refusal}
 use Rattle.tracing_core_fields.specs.requests.Refusals.{or_refused, or_same}
 use Rattle.tracing_core.specs.CachePreservation.{PreservesCachesBy}
-use Rattle.tracing_core.specs.CacheRefresh.{Refreshed}
+use Rattle.tracing_core.specs.CacheRefresh.{Rebuilt, Refreshed}
 use Rattle.tracing_core.specs.Table.{Table}
 use Rattle.tracing_core_moments.specs.declared.at.At.{At}
 use Rattle.tracing_core_fields.specs.declared.requests.callsite.Callsite.{Ghosts as SiteGhosts}

@@ -1,8 +1,8 @@
 -- What the commands of a hub leave and answer.
 use Rattle.std.specs.Prelude.{◌≡◌, ℕ, ◌+◌, ◌==◌, nat_le, Bool, true, false, if◌then◌else◌, List, [], ◌∷◌, ◌++◌, Option, Some, None, Result}
-use Rattle.std.specs.Prelude.{Ok, Err, slice_get}
+use Rattle.std.specs.Prelude.{Ok, Err, length, slice_get}
 use Rattle.tracing_core_fields.specs.PlainMetadata.{PlainMetadata, is_same_metadata}
-use Rattle.tracing_core.specs.InterestsAndHints.{Each, CallsiteAsked, Hints}
+use Rattle.tracing_core.specs.InterestsAndHints.{CallsiteAsked}
 use Rattle.tracing_core_fields.specs.requests.Calls.{Asked, DispatchRegistered}
 use Rattle.tracing_core.specs.Handles.{subscriber_with, changed, most}
 use Rattle.tracing_core_fields.specs.requests.Interests.{PlainInterest}
@@ -42,7 +42,7 @@ known greatest level interest = if nat_le level greatest then known_by interest 
 
 -- a subscriber with its first handle, which counts as lent until it is asked
 abbrev pub living : {S : Type 0} → ℕ → S → KeptSubscriber S
-living serial subscriber = record { serial = serial; handles = 1; lent = true; subscriber = subscriber }
+living serial subscriber = record { serial = serial; handles = 1; lent = true; interests = []; hint = None; subscriber = subscriber }
 
 abbrev pub becomes : {S : Type 0} → S → KeptSubscriber S → KeptSubscriber S
 becomes subscriber e = record e { subscriber = subscriber }
@@ -76,13 +76,6 @@ module _ {S : Type 0} (g : Ghosts S) where
   AskGives m at (Some serial) es answer fs = AskGivesAt m at serial es (subscriber_with serial es) answer fs
 
   module _ {C : Type 0} (h : SiteGhosts C) where
-    -- all were asked of each callsite, and then for their hints
-    pub record Rebuilt (t u : Table S C) : Type 0 where
-      pub asked : List (KeptSubscriber S)
-      pub callsites : Each (CallsiteAsked g h) t.subscribers t.callsites u.callsites asked
-      pub hints : Each (Hints g) 0 asked u.subscribers u.greatest
-      pub rest : u ≡ record t { subscribers = u.subscribers; callsites = u.callsites; greatest = u.greatest }
-
     abbrev pub AddGives : Table S C → S → Result (Option ℕ) (AddError S) → Table S C → Type 0
     AddGives t s (Ok dispatch) u =
         (dispatch ≡ Some t.next)
@@ -96,7 +89,7 @@ module _ {S : Type 0} (g : Ghosts S) where
       pub real : IsReal (h.metadata_of callsite)
       pub unknown : callsite_with (h.metadata_of callsite).callsite t.callsites ≡ None
       pub row : KeptCallsite C
-      pub asked : CallsiteAsked g h t.subscribers (new_callsite h callsite) row u.subscribers
+      pub asked : CallsiteAsked g h true (length t.callsites) t.subscribers (new_callsite h callsite) row u.subscribers
       pub told : interest ≡ row.interest
       pub kept : u ≡ record t { subscribers = u.subscribers; callsites = t.callsites ++ row ∷ [] }
 

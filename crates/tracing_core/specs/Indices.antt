@@ -1,5 +1,5 @@
 -- Where a callsite stands among those that are registered.
-use Rattle.std.specs.Prelude.{◌≡◌, ℕ, suc, ◌==◌, if◌then◌else◌, List, [], ◌∷◌, ◌++◌, Option, Some, None, Result, Ok, Err}
+use Rattle.std.specs.Prelude.{◌≡◌, ℕ, suc, ◌==◌, true, if◌then◌else◌, List, [], ◌∷◌, ◌++◌, length, Option, Some, None, Result, Ok, Err}
 use Rattle.std.specs.Option.{option_map}
 use Rattle.tracing_core_fields.specs.requests.Interests.{PlainInterest}
 use Rattle.tracing_core_fields.specs.requests.Steady.{IsReal}
@@ -24,6 +24,6 @@ index_of_callsite n callsites = index_among n (identifiers callsites)
 abbrev pub TakesCallsite : {S C : Type 0} → Ghosts S → SiteGhosts C → List (KeptCallsite C) → List (KeptSubscriber S) → C →
     Result PlainInterest C → List (KeptCallsite C) → List (KeptSubscriber S) → Type 0
 TakesCallsite {C = C} g h callsites es callsite (Ok interest) later fs =
-    IsReal (h.metadata_of callsite) × (row : KeptCallsite C) × CallsiteAsked g h es (new_callsite h callsite) row fs ×
+    IsReal (h.metadata_of callsite) × (row : KeptCallsite C) × CallsiteAsked g h true (length callsites) es (new_callsite h callsite) row fs ×
     (interest ≡ row.interest) × (later ≡ callsites ++ row ∷ [])
 TakesCallsite g h callsites es callsite (Err back) later fs = (back ≡ callsite) × (later ≡ callsites) × (fs ≡ es)

@@ -116,7 +116,7 @@ impl<S, C> Hub<S, C> {
         Ok(lane)
     }
 
-    /// The most verbose level that some subscriber enabled at the last rebuild.
+    /// The most verbose level that some subscriber enabled at the last rebuild, refresh or `add`.
     pub fn max_level(&self) -> LevelFilter
         ensures { result ≡ self.now.greatest }
     {

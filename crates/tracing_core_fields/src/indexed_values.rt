@@ -1,13 +1,18 @@
 //! Values of fields that are told by their index, kept or lent.
-ghost use Rattle.std.specs.Prelude.{◌≡◌, ◌==◌, length};
-ghost use Rattle.std.specs.Option.{is_none};
+ghost use Rattle.std.specs.Prelude.{◌≡◌, ◌<◌, ◌==◌, length};
+ghost use Rattle.std.specs.Option.{is_none, option_map};
+ghost use Rattle.tracing_core_fields.specs.FieldSet.{field_names, set_callsite};
 ghost use Rattle.tracing_core_fields.specs.IndexedEntries.{count_below, entries_below, indexed_count, indexed_entries};
 ghost use Rattle.tracing_core_fields.specs.OwnedValues.{plain_owned};
 ghost use Rattle.tracing_core_fields.specs.PlainValue.{plain_value};
 ghost use Rattle.tracing_core_fields.specs.Values.{has_entry};
+ghost use Rattle.tracing_core_fields.specs.Visits.{TakesIfThere};
 
+use crate::field::FieldSet;
 use crate::owned_value::{FieldValue, OwnedValue};
+use crate::record::{record_usual, record_value};
 use crate::value_set::AnyValue;
+use crate::visit_kinds::VisitKinds;
 
 /// A field, by its index in its set, with a value that is lent.
 #[derive(Clone, Copy, Debug, PartialEq, Eq)]
@@ -42,9 +47,11 @@ pub(crate) trait IndexedValue {
     fn field(&self) -> usize
         ensures { result ≡ place self.now };
 
-    /// The value.
-    fn lend(&self) -> AnyValue<'_>
-        ensures { plain_value result ≡ meaning self.now };
+    /// Hands the value to the visitor, as that of the field at the index, which the set has.
+    fn record<V: VisitKinds>(&self, fields: &FieldSet<'_>, visitor: &mut V) -> Result<(), V::Error>
+        requires { place self.now < length (field_names fields.now) }
+        ensures { TakesIfThere V.takes (set_callsite fields.now) (field_names fields.now)
+            (option_map (λ value. (place self.now, value)) (meaning self.now)) visitor.old result visitor.new };
 
     /// Whether the value is `Empty`.
     fn is_empty(&self) -> bool
@@ -61,9 +68,13 @@ impl IndexedValue for FieldValue {
         self.field
     }
 
-    #[inline(always)]
-    fn lend(&self) -> AnyValue<'_> {
-        self.value.lend()
+    // Few requests keep their values, so these go by code that is shared.
+    fn record<V: VisitKinds>(
+        &self,
+        fields: &FieldSet<'_>,
+        visitor: &mut V,
+    ) -> Result<(), V::Error> {
+        record_value(fields, self.field, &self.value.lend(), visitor)
     }
 
     fn is_empty(&self) -> bool {
@@ -82,8 +93,12 @@ impl IndexedValue for LentValue<'_> {
     }
 
     #[inline(always)]
-    fn lend(&self) -> AnyValue<'_> {
-        self.value
+    fn record<V: VisitKinds>(
+        &self,
+        fields: &FieldSet<'_>,
+        visitor: &mut V,
+    ) -> Result<(), V::Error> {
+        record_usual(fields, self.field, &self.value, visitor)
     }
 
     fn is_empty(&self) -> bool {

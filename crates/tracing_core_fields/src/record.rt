@@ -1,9 +1,9 @@
 //! How a visitor takes the entries of a value set.
-ghost use Rattle.std.specs.Prelude.{◌≡◌, ◌<◌, ◌≤◌, MatchOption, length};
-ghost use Rattle.tracing_core_fields.specs.Field.{plain_field};
+ghost use Rattle.std.specs.Prelude.{◌≡◌, ◌<◌, ◌≤◌, length};
+ghost use Rattle.std.specs.Option.{option_map};
 ghost use Rattle.tracing_core_fields.specs.FieldSet.{field_names, set_callsite};
 ghost use Rattle.tracing_core_fields.specs.IndexedEntries.{entries_below, indexed_entry};
-ghost use Rattle.tracing_core_fields.specs.PlainValue.{present_value};
+ghost use Rattle.tracing_core_fields.specs.PlainValue.{plain_value};
 ghost use Rattle.tracing_core_fields.specs.ValueSet.{entries_of, fields_of_values};
 ghost use Rattle.tracing_core_fields.specs.Values.{given_entry, given_entries, placed_entry, placed_entries};
 ghost use Rattle.tracing_core_fields.specs.Visits.{TakesIfThere, Visits};
@@ -13,29 +13,31 @@ use crate::indexed_values::{IndexedValue, IndexedValues};
 use crate::value_set::{AnyValue, ValueSet, Values};
 use crate::visit_kinds::VisitKinds;
 
-// Hands the value to the visitor by the call of its kind. A value that isn't there is passed over. It stands out of line, for the
-// kinds that are seldom met.
+/// Hands on the value of the field at the index, by the call of its kind. `Empty` is passed over. It stands out of line, for the kinds
+/// that are seldom met, and makes the field itself, so that other callers need no room for one.
 #[inline(never)]
-fn record_value<V: VisitKinds>(
+pub(crate) fn record_value<V: VisitKinds>(
+    fields: &FieldSet<'_>,
+    index: usize,
+    value: &AnyValue<'_>,
     visitor: &mut V,
-    field: &Field<'_>,
-    value: &Option<AnyValue<'_>>,
 ) -> Result<(), V::Error>
-    ensures { MatchOption (present_value value.now)
-        ((result ≡ Ok tt) × (visitor.new ≡ visitor.old))
-        (λ plain. V.takes visitor.old (plain_field field.now) plain result visitor.new) }
+    requires { index < length (field_names fields.now) }
+    ensures { TakesIfThere V.takes (set_callsite fields.now) (field_names fields.now)
+        (option_map (λ plain. (index, plain)) (plain_value value.now)) visitor.old result visitor.new }
 {
+    let field = &fields.at(index);
     match value {
-        None | Some(AnyValue::Empty) => Ok(()),
-        Some(AnyValue::I64(n)) => visitor.record_i64(field, *n),
-        Some(AnyValue::U64(n)) => visitor.record_u64(field, *n),
-        Some(AnyValue::I128(n)) => visitor.record_i128(field, *n),
-        Some(AnyValue::U128(n)) => visitor.record_u128(field, *n),
-        Some(AnyValue::Bool(b)) => visitor.record_bool(field, *b),
-        Some(AnyValue::Str(text)) => visitor.record_str(field, text),
-        Some(AnyValue::Bytes(bytes)) => visitor.record_bytes(field, bytes),
-        Some(AnyValue::Error(error)) => visitor.record_error(field, error),
-        Some(AnyValue::Debug(text)) => visitor.record_debug(field, text),
+        AnyValue::Empty => Ok(()),
+        AnyValue::I64(n) => visitor.record_i64(field, *n),
+        AnyValue::U64(n) => visitor.record_u64(field, *n),
+        AnyValue::I128(n) => visitor.record_i128(field, *n),
+        AnyValue::U128(n) => visitor.record_u128(field, *n),
+        AnyValue::Bool(b) => visitor.record_bool(field, *b),
+        AnyValue::Str(text) => visitor.record_str(field, text),
+        AnyValue::Bytes(bytes) => visitor.record_bytes(field, bytes),
+        AnyValue::Error(error) => visitor.record_error(field, error),
+        AnyValue::Debug(text) => visitor.record_debug(field, text),
     }
 }
 
@@ -48,10 +50,11 @@ fn record_entry<'a, V: VisitKinds>(
     ensures { TakesIfThere V.takes (set_callsite fields.now) (field_names fields.now)
         (given_entry fields.now entry.now) visitor.old result visitor.new }
 {
-    if fields.contains(&entry.0) {
-        record_value(visitor, &fields.at(entry.0.index()), &entry.1)
-    } else {
-        Ok(())
+    match &entry.1 {
+        Some(value) if fields.contains(&entry.0) => {
+            record_value(fields, entry.0.index(), value, visitor)
+        }
+        _ => Ok(()),
     }
 }
 
@@ -70,8 +73,28 @@ fn record_given<'a, V: VisitKinds>(
     Ok(())
 }
 
-// Hands on the value of the field at the index. Numbers and texts, which most values are, go by a call of their own, so
-// that the compiler knows their kind.
+/// Hands on the value of the field at the index. Numbers and texts, which most values are, go by a call of their own, so
+/// that the compiler knows their kind.
+#[inline(always)]
+pub(crate) fn record_usual<V: VisitKinds>(
+    fields: &FieldSet<'_>,
+    index: usize,
+    value: &AnyValue<'_>,
+    visitor: &mut V,
+) -> Result<(), V::Error>
+    requires { index < length (field_names fields.now) }
+    ensures { TakesIfThere V.takes (set_callsite fields.now) (field_names fields.now)
+        (option_map (λ plain. (index, plain)) (plain_value value.now)) visitor.old result visitor.new }
+{
+    match value {
+        AnyValue::I64(n) => visitor.record_i64(&fields.at(index), *n),
+        AnyValue::U64(n) => visitor.record_u64(&fields.at(index), *n),
+        AnyValue::Str(text) => visitor.record_str(&fields.at(index), text),
+        other => record_value(fields, index, other, visitor),
+    }
+}
+
+// Hands on the value of the field at the index, where there is one.
 #[inline(always)]
 fn record_at<V: VisitKinds>(
     fields: &FieldSet<'_>,
@@ -84,10 +107,8 @@ fn record_at<V: VisitKinds>(
         (placed_entry (index, value.now)) visitor.old result visitor.new }
 {
     match value {
-        Some(AnyValue::I64(n)) => visitor.record_i64(&fields.at(index), *n),
-        Some(AnyValue::U64(n)) => visitor.record_u64(&fields.at(index), *n),
-        Some(AnyValue::Str(text)) => visitor.record_str(&fields.at(index), text),
-        other => record_value(visitor, &fields.at(index), other),
+        None => Ok(()),
+        Some(value) => record_usual(fields, index, value, visitor),
     }
 }
 
@@ -117,9 +138,8 @@ fn record_given_at<I: IndexedValue, V: VisitKinds>(
     ensures { TakesIfThere V.takes (set_callsite fields.now) (field_names fields.now)
         (indexed_entry I.place I.meaning (length (field_names fields.now)) given.now) visitor.old result visitor.new }
 {
-    let index = given.field();
-    if index < fields.len() {
-        record_at(fields, index, &Some(given.lend()), visitor)
+    if given.field() < fields.len() {
+        given.record(fields, visitor)
     } else {
         Ok(())
     }

@@ -18,6 +18,12 @@ pub struct Moment {
 pub struct BadMoment;
 
 impl Moment {
+    /// 1970-01-01T00:00:00Z.
+    pub const EPOCH: Moment = Moment {
+        seconds: 0,
+        nanoseconds: 0,
+    };
+
     /// The point so many seconds after 1970-01-01T00:00:00Z, and so many nanoseconds later.
     ///
     /// # Errors

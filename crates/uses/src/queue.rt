@@ -5,7 +5,7 @@ ghost use Rattle.std.specs.Option.{option_map};
 ghost use Rattle.tracing_appender_queue.specs.Queue.{new_queue, accepts, after_offer, after_take, after_mark, mark_next};
 
 use std::alloc::{AllocError, Global};
-use tracing_appender_queue::{MarkError, Offered, QueueState, Taken, ZeroLimit};
+use tracing_appender_queue::{MarkError, QueueState, Settled, Taken, ZeroLimit};
 
 /// A queue that drops lines rather than let the program wait for room. Its limit is at least one line.
 pub fn dropping_queue(alloc: Global, limit: usize) -> QueueState
@@ -18,20 +18,19 @@ pub fn dropping_queue(alloc: Global, limit: usize) -> QueueState
     }
 }
 
-/// Puts a copy of a text into the queue, and tells whether it was taken in.
+/// Puts a copy of a text into the queue, and tells whether it was taken in. A text that isn't is not copied.
 ///
 /// # Errors
 ///
 /// Out of memory; the queue is as it was.
-pub fn offer_text(alloc: Global, queue: &mut QueueState, text: &str) -> Result<bool, AllocError>
+pub fn offer_text(queue: &mut QueueState, text: &str) -> Result<bool, AllocError>
     ensures taken { IfOk result (λ taken. taken ≡ accepts queue.old) }
     ensures next { OnOk result (queue.new ≡ after_offer queue.old text.now) }
     ensures err { OnErr result (queue.new ≡ queue.old) }
 {
-    let line = Vec::from_slice(alloc, text.as_bytes())?;
-    match queue.offer(line)? {
-        Offered::Accepted(_) => Ok(true),
-        _ => Ok(false),
+    match queue.settle(text.as_bytes())? {
+        Settled::Accepted(_) => Ok(true),
+        Settled::Dropped | Settled::NoRoom | Settled::Closed => Ok(false),
     }
 }
 
@@ -64,8 +63,8 @@ pub fn two_in_order(
     ensures second { IfOk result (λ lines. option_map (λ line. line.items) lines.1 ≡ Some second.now) }
 {
     let mut queue = dropping_queue(alloc, 2);
-    offer_text(alloc, &mut queue, first)?;
-    offer_text(alloc, &mut queue, second)?;
+    offer_text(&mut queue, first)?;
+    offer_text(&mut queue, second)?;
     let one = next_line(&mut queue);
     let two = next_line(&mut queue);
     Ok((one, two))

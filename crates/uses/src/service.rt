@@ -1,6 +1,7 @@
 //! A service whose functions log inside spans of their own.
 
 use span_registry_layers::Filter;
+use span_tracing::value::Lend;
 use span_tracing::{CallError, Clock, FileStack, Folder, Site, Trace, event, record, span};
 use std::alloc::{AllocError, Global};
 
@@ -50,7 +51,7 @@ impl From<AllocError> for ServiceError {
 }
 
 impl<F: Filter, D: Folder, C: Clock> Service<F, D, C> {
-    /// Serves a request in a span of its own: the span is left and closed whatever comes of the request.
+    /// Serves a request in a span of its own: once it is entered, it is left and closed whatever comes of the request.
     ///
     /// # Errors
     ///
@@ -60,11 +61,11 @@ impl<F: Filter, D: Folder, C: Clock> Service<F, D, C> {
         let request = span!(self.trace, 0, now, self.sites.request, number = number)?;
         self.trace.enter(0, now, request).done()?;
         let served = self.serve_inside(alloc, number);
-        if let Ok(size) = served {
-            record!(self.trace, 0, now, self.sites.request, request, size = size)?;
-        }
+        let size = served.ok();
+        let recorded = record!(self.trace, 0, now, self.sites.request, request, size = size);
         self.trace.exit(0, now, request).done()?;
         self.trace.try_close(0, now, request).done()?;
+        recorded?;
         served
     }
 
@@ -94,16 +95,17 @@ impl<F: Filter, D: Folder, C: Clock> Service<F, D, C> {
         } else {
             None
         };
-        event!(
+        let told = event!(
             self.trace,
             0,
             now,
             self.sites.told,
             number = found,
             message = "looked"
-        )?;
+        );
         self.trace.exit(0, now, look).done()?;
         self.trace.try_close(0, now, look).done()?;
+        told?;
         found.ok_or(ServiceError::NotFound)
     }
 }

@@ -6,6 +6,7 @@ ghost use Rattle.tracing_core.specs.Metadata.{plain_metadata};
 
 mod clocked;
 mod json;
+mod skipped;
 
 use crate::boxed::{under_both, under_box, under_context_closure};
 use crate::choice::{by_closure, by_level, under_choice};
@@ -242,9 +243,9 @@ fn lines_come_out_in_order(rt: HostRuntime) -> Result<(), Fail> {
     assert_eq!(rt; one.ok_or("no line")?.as_slice(), b"a".as_slice());
     assert_eq!(rt; two.ok_or("no line")?.as_slice(), b"b".as_slice());
     let mut queue = dropping_queue(alloc, 2);
-    assert!(rt; offer_text(alloc, &mut queue, "c")?);
+    assert!(rt; offer_text(&mut queue, "c")?);
     close_behind(&mut queue)?;
-    assert!(rt; !offer_text(alloc, &mut queue, "d")?);
+    assert!(rt; !offer_text(&mut queue, "d")?);
     assert!(rt; next_line(&mut queue).is_some());
     assert!(rt; next_line(&mut queue).is_none());
     Ok(())

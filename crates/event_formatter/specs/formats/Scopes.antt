@@ -14,10 +14,6 @@ abbrev pub shown_span : ℕ → PlainSpan → PlainShown
 shown_span key s =
     record { name = s.metadata.name; target = s.metadata.target; text = text_of (kept_at key s.slots) }
 
-abbrev pub target_or_none : Option PlainSpan → List ℕ
-target_or_none None = []
-target_or_none (Some s) = s.metadata.target
-
 abbrev pub shown_or_nothing : ℕ → Option PlainSpan → PlainShown
 shown_or_nothing key None = nothing_shown
 shown_or_nothing key (Some s) = shown_span key s

@@ -1,6 +1,6 @@
 //! The field formatters as one type.
-ghost use Rattle.std.specs.Prelude.{[]};
 ghost use Rattle.event_formatter_text.specs.Lists.{Formats};
+ghost use Rattle.event_formatter_text.specs.SpanFields.{no_fields};
 ghost use Rattle.event_formatter_text.specs.Writers.{IsSameWriter, settings_of, written};
 ghost use Rattle.event_formatter.specs.formats.FieldFormats.{added, started_text, text_of};
 
@@ -49,7 +49,7 @@ impl Fields {
 impl FormatFields for Fields {
     ghost text_of = { text_of };
 
-    ghost started = { λ fields settings. record { text = started_text fields; words = []; settings = settings } };
+    ghost started = { λ fields settings. record (no_fields settings) { text = started_text fields } };
 
     ghost added = { added };
 

@@ -1,6 +1,7 @@
 //! Fields as the pretty format keeps them with spans.
-ghost use Rattle.std.specs.Prelude.{[], codes, string_bytes};
+ghost use Rattle.std.specs.Prelude.{codes, string_bytes};
 ghost use Rattle.event_formatter_text.specs.Lists.{Formats, pieces_text};
+ghost use Rattle.event_formatter_text.specs.SpanFields.{no_fields};
 ghost use Rattle.event_formatter_text.specs.Visitors.{pretty_piece, pretty_text};
 ghost use Rattle.event_formatter_text.specs.Writers.{without_styles};
 ghost use Rattle.event_formatter.specs.formats.FieldFormats.{behind_comma};
@@ -31,7 +32,7 @@ fn push_more_values<R: RecordFields>(
 impl FormatFields for Pretty {
     ghost text_of = { λ _ settings values. pretty_text settings values };
 
-    ghost started = { λ _ settings. record { text = []; words = []; settings = settings } };
+    ghost started = { λ _ settings. no_fields settings };
 
     ghost added = { λ _ kept values. behind_comma kept values };
 

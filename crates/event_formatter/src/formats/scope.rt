@@ -2,11 +2,11 @@
 ghost use Rattle.std.specs.Prelude.{◌≡◌, ◌<◌, [], ◌∷◌, IfOk, OnOk, map, reverse};
 ghost use Rattle.std.specs.Option.{option_map};
 ghost use Rattle.tracing_core_fields.specs.requests.PlainRequests.{plain_event};
-ghost use Rattle.span_registry_layers_layers.specs.Contexts.{event_span, lane_span, ref_in, span_in};
+ghost use Rattle.span_registry_layers_layers.specs.Contexts.{event_span, lane_span, ref_in};
 ghost use Rattle.span_registry_layers_layers.specs.FilterViews.{view};
 ghost use Rattle.span_registry_layers_store.specs.References.{plain_ref, scope_left};
 ghost use Rattle.event_formatter_lines.specs.Shown.{plain_shown};
-ghost use Rattle.event_formatter.specs.formats.Scopes.{shown_span, target_or_none};
+ghost use Rattle.event_formatter.specs.formats.Scopes.{shown_span};
 ghost use Rattle.event_formatter.specs.formats.ScopeIds.{FillsScope, HasNumber, IsSeen, ShowsScope, id_of_ref, ids_to, ids_up};
 
 use crate::formats::cold_path::refused;
@@ -23,16 +23,6 @@ pub struct ScopedSpans<'c, 'r> {
     pub(crate) context: &'c Context<'r>,
     pub(crate) key: OutputKey,
     pub(crate) ids: &'c [Id],
-}
-
-// The target of a span, where it is open and seen.
-fn target_in<'a>(context: &'a Context<'_>, id: &Id) -> &'a str
-    ensures { result.now ≡ target_or_none (span_in (view context.now) id.now) }
-{
-    match context.metadata(id) {
-        Some(metadata) => metadata.target(),
-        None => "",
-    }
 }
 
 // A span as a line shows it.
@@ -57,24 +47,6 @@ impl ShownSpans for ScopedSpans<'_, '_> {
 
     fn count(&self) -> usize {
         self.ids.len()
-    }
-
-    fn name(&self, index: usize) -> &str {
-        match self.context.span(&self.ids[index]) {
-            Some(span) => span.name(),
-            None => "",
-        }
-    }
-
-    fn target(&self, index: usize) -> &str {
-        target_in(self.context, &self.ids[index])
-    }
-
-    fn text(&self, index: usize) -> &str {
-        match self.context.span(&self.ids[index]) {
-            Some(span) => kept_text(&span, self.key),
-            None => "",
-        }
     }
 
     #[inline(always)]

@@ -7,6 +7,7 @@ mod json_in_span;
 mod pretty;
 
 ghost use Rattle.std.specs.Prelude.{◌≡◌, map};
+ghost use Rattle.event_formatter_lines.specs.Shown.{plain_shown};
 
 use super::common::{ONE_AND_FAILING, PLAIN, STYLED};
 use event_formatter_lines::*;
@@ -37,17 +38,9 @@ fn timed(level: Option<Level>) -> Head<'static> {
     }
 }
 
-// A span of a test.
-#[derive(Clone, Copy, Drop)]
-struct Row {
-    name: &'static str,
-    target: &'static str,
-    text: &'static str,
-}
-
 // A span of the target `app`.
-fn row(name: &'static str, text: &'static str) -> Row {
-    Row {
+fn row(name: &'static str, text: &'static str) -> ShownSpan<'static> {
+    ShownSpan {
         name,
         target: "app",
         text,
@@ -57,27 +50,18 @@ fn row(name: &'static str, text: &'static str) -> Row {
 // The spans of a test, from the root on.
 #[derive(Drop)]
 struct Rows<'a> {
-    rows: &'a [Row],
+    rows: &'a [ShownSpan<'static>],
 }
 
 impl ShownSpans for Rows<'_> {
-    ghost spans = { λ it. map (λ row. record { name = row.name.now; target = row.target.now; text = row.text.now })
-        it.rows.now };
+    ghost spans = { λ it. map plain_shown it.rows.now };
 
     fn count(&self) -> usize {
         self.rows.len()
     }
 
-    fn name(&self, index: usize) -> &str {
-        self.rows[index].name
-    }
-
-    fn target(&self, index: usize) -> &str {
-        self.rows[index].target
-    }
-
-    fn text(&self, index: usize) -> &str {
-        self.rows[index].text
+    fn span(&self, index: usize) -> ShownSpan<'_> {
+        self.rows[index]
     }
 }
 

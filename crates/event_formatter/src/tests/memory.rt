@@ -12,12 +12,13 @@ pub struct Starved {
 }
 
 impl FormatFields for Starved {
-    ghost use Rattle.std.specs.Prelude.{[], None};
+    ghost use Rattle.std.specs.Prelude.{None};
+    ghost use Rattle.event_formatter_text.specs.SpanFields.{no_fields};
     ghost use Rattle.event_formatter_text.specs.Visitors.{default_text};
 
     ghost text_of = { λ _ settings values. default_text settings values };
 
-    ghost started = { λ _ settings. record { text = []; words = []; settings = settings } };
+    ghost started = { λ _ settings. no_fields settings };
 
     ghost added = { λ _ fields values. None };
 

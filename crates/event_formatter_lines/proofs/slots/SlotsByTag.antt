@@ -192,7 +192,7 @@ fields_same a a' b b' c c' d d' e e' p q r s u =
     ∙ ap (λ (v : Option PlainSlot). slots_of a' b' c' v e) s
     ∙ ap (λ (v : List PlainPlace). slots_of a' b' c' d' v) u
 
-put_by_tag : (key : ℕ) (t : Tag) (ps : List PlainPlace) (s : PlainSlot) →
+pub put_by_tag : (key : ℕ) (t : Tag) (ps : List PlainPlace) (s : PlainSlot) →
     by_tag key (put_slot ps key t s) ≡ with_under t (Some s) (by_tag key ps)
 unfolding by_tag
 put_by_tag key tag.Text ps s =
@@ -225,7 +225,7 @@ without_by_tag key tag.Words ps order =
     fields_same _ _ _ _ _ _ _ _ _ _ (without_other key tag.Words tag.Text refl ps) (without_other key tag.Words tag.Timings refl ps)
     (without_other key tag.Words tag.Number refl ps) (without_same key tag.Words ps order) (without_others key tag.Words ps)
 
-slot_by_tag : (key : ℕ) (t : Tag) (ps : List PlainPlace) → slot_under t (by_tag key ps) ≡ slot_at ps key t
+pub slot_by_tag : (key : ℕ) (t : Tag) (ps : List PlainPlace) → slot_under t (by_tag key ps) ≡ slot_at ps key t
 unfolding by_tag
 slot_by_tag key tag.Text ps = refl
 slot_by_tag key tag.Timings ps = refl

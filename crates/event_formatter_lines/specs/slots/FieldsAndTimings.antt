@@ -82,7 +82,7 @@ AddsMore added before false after = after ≡ before
 
 -- these fields and timings alone are kept, or nothing
 abbrev pub kept_alone : Bool → PlainFields → Option Timings → PlainKept
-kept_alone true fields timings = record { fields = Some fields; timings = timings }
+kept_alone true fields timings = record nothing_kept { fields = Some fields; timings = timings }
 kept_alone false fields timings = nothing_kept
 
 abbrev pub is_whole : FirstText → Bool
@@ -94,8 +94,8 @@ is_whole first.Nothing = false
 -- with in its place; nothing, where there is none for that either
 abbrev pub kept_first : FirstText → (PlainFields → Option PlainFields) → PlainFields → Option Timings → PlainKept
 kept_first first.Whole added started timings =
-    record { fields = Some (fields_after added started); timings = timings }
-kept_first first.Started added started timings = record { fields = Some started; timings = timings }
+    record nothing_kept { fields = Some (fields_after added started); timings = timings }
+kept_first first.Started added started timings = record nothing_kept { fields = Some started; timings = timings }
 kept_first first.Nothing added started timings = nothing_kept
 
 -- what is kept once values were recorded: they are added to the fields, or to what spans start with where none are

@@ -25,17 +25,28 @@ fn clear(slots: &mut Extensions, key: OutputKey)
     take(slots, key, Tag::Timings);
 }
 
-fn put_timings(slots: &mut Extensions, key: OutputKey, timings: Option<Timings>) -> bool
+// Puts timings where there are none, and answers whether that found memory.
+fn put_timings(
+    alloc: Global,
+    slots: &mut Extensions,
+    key: OutputKey,
+    timings: Option<Timings>,
+) -> bool
+    requires { (by_tag key.0 slots.old).timings ≡ None }
     ensures { PutsTimings timings (by_tag key.0 slots.old) result (by_tag key.0 slots.new) }
 {
     match timings {
         None => true,
-        Some(timings) => put(slots, key, Tag::Timings, Slot::Timings(timings)),
+        Some(timings) => match Box::new(alloc, timings) {
+            Ok(timings) => put(slots, key, Tag::Timings, Slot::Timings(timings)),
+            Err(_) => false,
+        },
     }
 }
 
 // Keeps these alone, or nothing without memory, and answers which.
 fn keep_alone(
+    alloc: Global,
     slots: &mut Extensions,
     key: OutputKey,
     fields: FormattedFields,
@@ -45,7 +56,7 @@ fn keep_alone(
         (by_tag key.0 slots.new) }
 {
     clear(slots, key);
-    let kept = put_timings(slots, key, timings) && put_fields(slots, key, fields);
+    let kept = put_timings(alloc, slots, key, timings) && put_fields(slots, key, fields);
     if !kept {
         clear(slots, key);
     }
@@ -71,7 +82,7 @@ fn keep_made<F: FormatFields, R: RecordFields>(
         return FirstText::Nothing;
     };
     let is_added = add_list(alloc, &mut kept, formatter, fields);
-    if !keep_alone(slots, key, kept, timings) {
+    if !keep_alone(alloc, slots, key, kept, timings) {
         return FirstText::Nothing;
     }
     if is_added {

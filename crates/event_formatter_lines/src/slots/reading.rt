@@ -4,11 +4,11 @@ ghost use Rattle.std.specs.Option.{option_map};
 ghost use Rattle.span_registry_layers_store.specs.References.{plain_ref};
 ghost use Rattle.span_registry_layers_store.specs.Slots.{plain_slot};
 ghost use Rattle.event_formatter_lines.specs.slots.SlotsByTag.{by_tag};
-ghost use Rattle.event_formatter_lines.specs.slots.FieldsAndTimings.{kept_at, settings_by, text_by, text_of, timings_by};
+ghost use Rattle.event_formatter_lines.specs.slots.FieldsAndTimings.{kept_at, settings_by, text_by, text_of};
 
 use crate::slots::settings_number::settings_of;
 use event_formatter_text::Settings;
-use span_registry_layers_store::{Extensions, OutputKey, Slot, SpanRef, Tag, Timings};
+use span_registry_layers_store::{Extensions, OutputKey, Slot, SpanRef, Tag};
 
 fn text_in<'a>(slot: Option<&'a Slot>) -> &'a str
     ensures { result.now ≡ unwrap_or (text_by (option_map (λ s. plain_slot s.now) slot.entry)) [] }
@@ -34,16 +34,5 @@ pub(crate) fn settings_in(slots: &Extensions, key: OutputKey) -> Settings
     match slots.get(key, Tag::Number) {
         Some(Slot::Number(number)) => settings_of(*number),
         _ => settings_of(2),
-    }
-}
-
-/// How long the span was busy and idle, where that is kept.
-#[tactic(auto, unfolding(crate::specs::slots::SlotsByTag::by_tag))]
-pub(crate) fn timings_in(slots: &Extensions, key: OutputKey) -> Option<Timings>
-    ensures { result ≡ timings_by (by_tag key.0 slots.now).timings }
-{
-    match slots.get(key, Tag::Timings) {
-        Some(Slot::Timings(timings)) => Some(*timings),
-        _ => None,
     }
 }

@@ -1,13 +1,13 @@
 //! How long spans were busy and idle, as it is kept.
-ghost use Rattle.std.specs.Prelude.{◌≡◌, is_some};
+ghost use Rattle.std.specs.Prelude.{◌≡◌, Some, is_some};
 ghost use Rattle.std.specs.Option.{option_map};
 ghost use Rattle.span_registry_layers_layers.specs.FilterViews.{SameLoan, left, view};
+ghost use Rattle.span_registry_layers_store.specs.Slots.{plain_slot};
+ghost use Rattle.event_formatter_lines.specs.slots.FieldsAndTimings.{timings_by};
 ghost use Rattle.event_formatter_lines.specs.slots.SlotsByTag.{Leaves, by_tag, kept_by};
 ghost use Rattle.event_formatter_lines.specs.slots.SpanUpdates.{Rekeeps, kept_in};
-ghost use Rattle.event_formatter_lines.specs.slots.SteppedTimings.{kept_stepped, timings_after};
+ghost use Rattle.event_formatter_lines.specs.slots.SteppedTimings.{kept_stepped, slot_after, timings_after};
 
-use crate::slots::own_slots::put;
-use crate::slots::reading::timings_in;
 use crate::times::{timings_after_close, timings_after_enter, timings_after_exit};
 use span_registry_layers_layers::Context;
 use span_registry_layers_store::{Extensions, OutputKey, Slot, Tag, Timings};
@@ -36,19 +36,36 @@ fn timings_after(step: TimingStep, at: At, timings: &Timings) -> Timings
     }
 }
 
+// The same of timings in a box, which are changed.
+fn step_boxed(timings: &mut Box<Timings>, step: TimingStep, at: At) -> Timings
+    ensures kept { timings.new.value ≡ timings_after step at timings.old.value }
+    ensures answered { result ≡ timings.new.value }
+{
+    let after = timings_after(step, at, timings);
+    **timings = after;
+    after
+}
+
+// The same of a slot, where it has timings.
+fn step_slot(slot: &mut Slot, step: TimingStep, at: At) -> Option<Timings>
+    ensures kept { plain_slot slot.new ≡ slot_after step at (plain_slot slot.old) }
+    ensures answered { result ≡ timings_by (Some (plain_slot slot.new)) }
+{
+    match slot {
+        Slot::Timings(timings) => Some(step_boxed(timings, step, at)),
+        Slot::Text(_) | Slot::Number(_) | Slot::Words(_) => None,
+    }
+}
+
 // The same of timings that are kept in slots.
 fn step_kept(slots: &mut Extensions, key: OutputKey, step: TimingStep, at: At) -> Option<Timings>
     ensures kept { Leaves (by_tag key.0 slots.old) (kept_stepped step at (kept_by (by_tag key.0 slots.old)))
         (by_tag key.0 slots.new) }
     ensures answered { result ≡ (kept_stepped step at (kept_by (by_tag key.0 slots.old))).timings }
 {
-    match timings_in(slots, key) {
+    match slots.get_mut(key, Tag::Timings) {
         None => None,
-        Some(timings) => {
-            let after = timings_after(step, at, &timings);
-            let _put = put(slots, key, Tag::Timings, Slot::Timings(after));
-            Some(after)
-        }
+        Some(slot) => step_slot(slot, step, at),
     }
 }
 

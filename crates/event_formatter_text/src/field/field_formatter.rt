@@ -1,6 +1,6 @@
 //! Functions that write a field, as field formatters.
 ghost use Rattle.std.specs.Prelude.{◌≡◌, [], false, Some};
-ghost use Rattle.event_formatter_text.specs.SpanFields.{Adds, behind_space, plain_fields};
+ghost use Rattle.event_formatter_text.specs.SpanFields.{Adds, behind_space, no_fields, plain_fields};
 ghost use Rattle.event_formatter_text.specs.Lists.{Formats};
 ghost use Rattle.event_formatter_text.specs.field.Pieces.{before_field, fields_text};
 
@@ -102,7 +102,7 @@ fn add_fields_to<F: WritePiece, R: RecordFields>(
 impl<F: WritePiece> FormatFields for FieldFn<F> {
     ghost text_of = { λ formatter settings values. fields_text [] (F.piece formatter.function settings) values };
 
-    ghost started = { λ _ settings. record { text = []; words = []; settings = settings } };
+    ghost started = { λ _ settings. no_fields settings };
 
     ghost added = { λ formatter fields values.
         behind_space (fields_text [] (F.piece formatter.function fields.settings) values) fields };
@@ -135,7 +135,7 @@ impl<D: AsStr, F: WritePiece> FormatFields for Delimited<D, FieldFn<F>> {
     ghost text_of = { λ formatter settings values.
         fields_text (D.text formatter.delimiter) (F.piece formatter.inner.function settings) values };
 
-    ghost started = { λ _ settings. record { text = []; words = []; settings = settings } };
+    ghost started = { λ _ settings. no_fields settings };
 
     ghost added = { λ formatter fields values. behind_space
         (fields_text (D.text formatter.delimiter) (F.piece formatter.inner.function fields.settings) values) fields };

@@ -12,6 +12,7 @@ use Rattle.event_formatter_text.specs.declared.format_fields.FormatFields.{Ghost
 use Rattle.event_formatter_text.specs.declared.settings.Settings.{Settings}
 use Rattle.event_formatter.specs.formats.Contexts.{PlainContext}
 use Rattle.span_tracing_outputs.specs.OutputMachines.{PlainLine}
+use Rattle.span_tracing_outputs.specs.StackFollows.{LinedStack}
 use Rattle.span_tracing_outputs.specs.OutputFolds.{Numbered}
 use Rattle.span_tracing_outputs.specs.TraceFollows.{IsReady, Rests, TraceFollows}
 use Rattle.span_tracing_outputs.specs.TraceStacks.{TraceMoves, TraceStackValue}
@@ -36,13 +37,13 @@ module _ {N E F S : Type 0} (n : Ghosts N) (line_of : E → Settings → PlainCo
       OutputsStay x y
 
   same_stays : (x : Stack) → OutputsStay x x
-  same_stays x = record { sinks = refl; rows = refl }
+  same_stays x = record { sinks = refl; registry = refl; rows = refl }
 
-  rested : (x y : Stack) → IsReady g y → Rests n line_of g takes x y → Kept x y
-  rested x y ready rests = (
+  rested : (x y : Stack) → IsReady g y → y.stack.registry ≡ x.stack.registry → Rests n line_of g takes x y → Kept x y
+  rested x y ready spans rests = (
     ready,
     λ outs a. (rests.agreed outs a.0, ap length rests.sinks ∙ a.1),
-    record { sinks = rests.sinks; rows = rests.rows },
+    record { sinks = rests.sinks; registry = spans; rows = rests.rows },
   )
 
   then : (x y z : Stack) → Kept x y → Kept y z → Kept x z
@@ -51,14 +52,17 @@ module _ {N E F S : Type 0} (n : Ghosts N) (line_of : E → Settings → PlainCo
     λ outs a. two.1 outs (one.1 outs a),
     record {
       sinks = two.2.sinks ∙ one.2.sinks;
+      registry = two.2.registry ∙ one.2.registry;
       rows = two.2.rows ∙
           one.2.rows;
     },
   )
 
   asked : (x : Stack) (m : PlainMetadata) (k : PlainInterest) (y : Stack) → IsReady g x → sg.moves x (CallsiteRegistered m) k y → Kept x y
-  asked x m k y ready moves = rested x y (law.ready x (CallsiteRegistered m) k y ready (moved x (CallsiteRegistered m) k y moves))
-      (law.goes x (CallsiteRegistered m) k y ready (moved x (CallsiteRegistered m) k y moves)).2
+  asked x m k y ready moves =
+      let goes = law.goes x (CallsiteRegistered m) k y ready (moved x (CallsiteRegistered m) k y moves) in
+      rested x y (law.ready x (CallsiteRegistered m) k y ready (moved x (CallsiteRegistered m) k y moves))
+      (ap (λ (s : LinedStack N E F). s.registry) goes.1.1) goes.2
 
   in_turn : (ms : List PlainMetadata) (ks : List PlainInterest) (x y : Stack) → IsReady g x → AskedInTurn sg ms ks x y → Kept x y
   in_turn [] [] x y ready same = subst (Kept x) (sym same) (ready, λ outs a. a, same_stays x)
@@ -69,8 +73,10 @@ module _ {N E F S : Type 0} (n : Ghosts N) (line_of : E → Settings → PlainCo
       then x z y one (in_turn ms ks z y one.0 rest)
 
   hinted : (x y : Stack) (hint : Option ℕ) → IsReady g x → sg.moves x HintAsked hint y → Kept x y
-  hinted x y hint ready moves = rested x y (law.ready x HintAsked hint y ready (moved x HintAsked hint y moves))
-      (law.goes x HintAsked hint y ready (moved x HintAsked hint y moves)).2
+  hinted x y hint ready moves =
+      let goes = law.goes x HintAsked hint y ready (moved x HintAsked hint y moves) in
+      rested x y (law.ready x HintAsked hint y ready (moved x HintAsked hint y moves))
+      (ap (λ (s : LinedStack N E F). s.registry) goes.1) goes.2
 
   handled : (x y : Stack) (number : ℕ) → IsReady g x → sg.moves x (DispatchRegistered (Some number)) tt y → Kept x y
   handled x y number ready moves =

@@ -25,9 +25,10 @@ use Rattle.span_tracing_laws.specs.runs.Runs.{OutsAgree, RunFollows, RunGives}
 use Rattle.span_tracing_laws.specs.runs.StepFollows.{Follows, StackIsReady, Traced, registry_of}
 
 module _ {N E F S : Type 0} where
-  -- the sinks are the same, and so are the outputs with their filters, but for what they were last told
+  -- the sinks are the same, and so are the spans, and the outputs with their filters but for what they were last told
   pub record OutputsStay (x y : TraceStackValue N E F S) : Type 0 where
     pub sinks : y.sinks ≡ x.sinks
+    pub registry : y.stack.registry ≡ x.stack.registry
     pub rows : map (marked false) y.stack.rows ≡ map (marked false) x.stack.rows
 
   abbrev pub StackStays : Option (TraceStackValue N E F S) → Option (TraceStackValue N E F S) → Type 0
@@ -50,9 +51,8 @@ module _ {N E F S : Type 0} (n : Ghosts N) (line_of : E → Settings → PlainCo
       RunGives sg v steps replies w →
       RunFollows n line_of g takes h v steps replies w × StackIsReady g h w.stack
 
-  -- Setup calls leave a stack ready, its outputs as they agreed, and its filters and sinks as they were: a stack that is added while it is
-  -- ready, and one that is
-  -- asked of another callsite.
+  -- Setup calls leave a stack ready, its outputs as they agreed, and its spans, filters and sinks as they were: a stack that is added while
+  -- it is ready, and one that is asked of another callsite.
   pub record SetupFollows : Type 0 where
     pub added : (v : Traced N E F S) (x : TraceStackValue N E F S) (w : Traced N E F S) → IsReady g x → AddGives sg v x (Ok tt) w →
         StackIsReady g h w.stack × ((outs : List (Numbered N)) → OutsAgree n line_of g (Some x) outs → OutsAgree n line_of g w.stack outs) ×

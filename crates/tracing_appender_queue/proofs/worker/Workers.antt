@@ -1,6 +1,6 @@
 -- Steps of workers, cut in parts and in another order.
 use Rattle.std.proofs.Common.{◌≡◌, ◌≢◌, ◌==◌, ℕ, suc, ◌+◌, Bool, true, false, cond, List, [], ◌∷◌, ◌++◌, length, refl, ap, subst, sym, ◌∙◌}
-use Rattle.std.proofs.Common.{arith, Option}
+use Rattle.std.proofs.Common.{arith}
 use Rattle.std.proofs.lemmas.Bool.{eq-eqb, eqb-true, ne_eqb, false≢true}
 use Rattle.std.proofs.lemmas.List.{length-append, append-nil}
 use Rattle.tracing_core_moments.specs.declared.moment.Moment.{Moment}
@@ -13,7 +13,7 @@ use Rattle.tracing_appender_queue.specs.Queue.{Queue}
 use Rattle.tracing_appender_queue.specs.declared.worker.step.Written.{Written}
 use Rattle.tracing_appender_queue.specs.worker.Batches.{lines_in, queue_in}
 use Rattle.tracing_appender_queue.specs.worker.Steps.{is_missed, missed_in, last_whole, LineTo, LinesTo, flushed_if, AllWhole}
-use Rattle.tracing_appender_queue.specs.worker.Workers.{Worker, StepTo, StepsTo, total, StepsMayBeCut, StepOf, StepsMayChangePlaces}
+use Rattle.tracing_appender_queue.specs.worker.Workers.{Worker, StepTo, StepsTo, total, StepsMayBeCut, StepsMayChangePlaces}
 use Rattle.tracing_appender_queue.proofs.worker.CutSteps.{cut}
 use Rattle.tracing_appender_queue.proofs.worker.FolderAfterSteps.{folders_cut}
 use Rattle.tracing_appender_queue.proofs.worker.StepDeterminism.{steps_once}

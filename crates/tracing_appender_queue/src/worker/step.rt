@@ -23,11 +23,14 @@ pub struct Batched {
     pub missed: usize,
 }
 
-/// What became of a line.
+/// What became of a line of a step.
 #[derive(Clone, Copy, Debug, PartialEq, Eq)]
-enum Written {
+pub enum Written {
+    /// Its writes took all of it.
     Whole,
+    /// This fault ended its writes.
     Failed(FolderFault),
+    /// It found no memory.
     Missed,
 }
 
@@ -145,6 +148,7 @@ pub fn batch<D: Folder>(
             break;
         };
         let fate = write_line(appender, line.as_slice(), moment);
+        queue.give_back(line);
         if fate.is_missed() {
             missed += 1;
         }

@@ -1,7 +1,8 @@
 //! Asking subscribers of callsites and for their hints.
-ghost use Rattle.std.specs.Prelude.{◌≡◌, None, max};
+ghost use Rattle.std.specs.Prelude.{◌≡◌, false, IfSome, Some, None, max, slice_get};
 ghost use Rattle.tracing_core_fields.specs.Metadata.{plain_metadata};
-ghost use Rattle.tracing_core.specs.InterestsAndHints.{Each, Registers, Hints, AskedAll, CallsiteAsked, level_of};
+ghost use Rattle.tracing_core.specs.InterestsAndHints.{Each, Keeps, Answers, Gives, Joins, InCommon, Tells, GivesHint, Raises};
+ghost use Rattle.tracing_core.specs.InterestsAndHints.{CallsiteAsked, CallsitesAsked, level_of};
 ghost use Rattle.tracing_core_fields.specs.requests.Interests.{joined, settled};
 
 use crate::hub::parts::{RegisteredCallsite, RegisteredSubscriber};
@@ -27,38 +28,141 @@ fn settle(interest: Option<Interest>) -> Interest
     }
 }
 
+// Keeps an answer at its index, behind those before it where there is memory.
+fn keep(answers: &mut Vec<Interest>, index: usize, answer: Interest)
+    ensures { Keeps index answer answers.old.items answers.new.items }
+{
+    if index < answers.len() {
+        answers[index] = answer;
+    } else if index == answers.len() {
+        let _kept = answers.push(answer);
+    }
+}
+
 impl<S: Subscriber> RegisteredSubscriber<S> {
-    fn register(&mut self, metadata: &Metadata<'_>, before: Option<Interest>) -> Option<Interest>
-        ensures { Registers ⟦<S as Subscriber>⟧ (plain_metadata metadata.now) before self.old self.new result }
+    // Asks it of the callsite at the index.
+    fn ask(&mut self, index: usize, metadata: &Metadata<'_>) -> Interest
+        ensures { Answers ⟦<S as Subscriber>⟧ (plain_metadata metadata.now) index result self.old self.new }
     {
         let answer = self.subscriber.register_callsite(metadata);
+        keep(&mut self.interests, index, answer);
+        answer
+    }
+
+    // Its answer of the callsite at the index: a kept one counts, unless all are asked.
+    fn answer(&mut self, all: bool, index: usize, metadata: &Metadata<'_>) -> Interest
+        ensures { Gives ⟦<S as Subscriber>⟧ all (plain_metadata metadata.now) index result self.old self.new }
+    {
+        if all {
+            return self.ask(index, metadata);
+        }
+        match self.kept_answer(index) {
+            None => self.ask(index, metadata),
+            Some(answer) => answer,
+        }
+    }
+
+    fn join(
+        &mut self,
+        all: bool,
+        index: usize,
+        metadata: &Metadata<'_>,
+        before: Option<Interest>,
+    ) -> Option<Interest>
+        ensures { Joins ⟦<S as Subscriber>⟧ all (plain_metadata metadata.now) index before self.old self.new result }
+    {
+        let answer = self.answer(all, index, metadata);
         join(before, answer)
     }
 }
 
-fn ask_each<S: Subscriber>(
+impl<S> RegisteredSubscriber<S> {
+    // Whether what it answered before counts no more.
+    fn is_changed(&self) -> bool
+        ensures { result ≡ false → self.now.lent ≡ false }
+    {
+        self.lent || self.unsure
+    }
+
+    // What it answered of the callsite at the index, where that counts.
+    fn kept_answer(&self, index: usize) -> Option<Interest>
+        ensures { IfSome result (λ k. (self.now.lent ≡ false) × (slice_get self.now.interests index ≡ Some k)) }
+    {
+        if self.is_changed() {
+            return None;
+        }
+        match self.interests.get(index) {
+            None => None,
+            Some(answer) => Some(*answer),
+        }
+    }
+
+    // What it answered for its hint, where that counts.
+    fn kept_hint(&self) -> Option<Option<LevelFilter>>
+        ensures { IfSome result (λ top. (self.now.lent ≡ false) × (self.now.hint ≡ Some top)) }
+    {
+        if self.is_changed() { None } else { self.hint }
+    }
+
+    // Makes room for one more answer, and tells whether there is.
+    fn reserve_answer(&mut self) -> bool
+        ensures { self.new ≡ self.old }
+    {
+        self.interests.reserve(1).is_ok()
+    }
+}
+
+// Makes room in each for one more answer, and tells whether there is.
+pub(crate) fn reserve_answers<S>(subscribers: &mut [RegisteredSubscriber<S>]) -> bool
+    ensures { subscribers.new ≡ subscribers.old }
+{
+    let mut found = true;
+    for subscriber in subscribers.iter_mut() {
+        if !subscriber.reserve_answer() {
+            found = false;
+        }
+    }
+    found
+}
+
+fn join_each<S: Subscriber>(
+    all: bool,
+    index: usize,
     subscribers: &mut [RegisteredSubscriber<S>],
     metadata: &Metadata<'_>,
 ) -> Option<Interest>
-    ensures { Each (Registers ⟦<S as Subscriber>⟧ (plain_metadata metadata.now)) None subscribers.old subscribers.new
-        result }
+    ensures { Each (Joins ⟦<S as Subscriber>⟧ all (plain_metadata metadata.now) index) None subscribers.old
+        subscribers.new result }
 {
     let mut interest = None;
     for subscriber in subscribers.iter_mut() {
-        interest = subscriber.register(metadata, interest);
+        interest = subscriber.join(all, index, metadata, interest);
     }
     interest
 }
 
-// Asks all of a callsite, in order, and answers their common interest.
-pub(crate) fn ask_all<S: Subscriber>(
+// The common interest of all in the callsite at the index, each of which gives its answer in order.
+pub(crate) fn common_of<S: Subscriber>(
+    all: bool,
+    index: usize,
     subscribers: &mut [RegisteredSubscriber<S>],
     metadata: &Metadata<'_>,
 ) -> Interest
-    ensures { AskedAll ⟦<S as Subscriber>⟧ (plain_metadata metadata.now) subscribers.old subscribers.new result }
+    ensures { InCommon ⟦<S as Subscriber>⟧ all (plain_metadata metadata.now) index subscribers.old subscribers.new
+        result }
 {
-    let interest = ask_each(subscribers, metadata);
+    let interest = join_each(all, index, subscribers, metadata);
     settle(interest)
+}
+
+// The same hint.
+fn copy_of(hint: &Option<LevelFilter>) -> Option<LevelFilter>
+    ensures { result ≡ hint.now }
+{
+    match hint {
+        None => None,
+        Some(level) => Some(*level),
+    }
 }
 
 // The level that a hint lets through: an absent one counts as the most verbose.
@@ -79,58 +183,94 @@ fn higher(a: LevelFilter, b: LevelFilter) -> LevelFilter
 }
 
 impl<S: Subscriber> RegisteredSubscriber<S> {
-    fn ask_hint(&mut self, before: LevelFilter) -> LevelFilter
-        ensures { Hints ⟦<S as Subscriber>⟧ before self.old self.new result }
+    // Asks it for its hint. Then it doesn't count as lent.
+    fn ask_hint(&mut self) -> Option<LevelFilter>
+        ensures { Tells ⟦<S as Subscriber>⟧ result self.old self.new }
     {
         self.lent = false;
+        self.unsure = false;
         let hint = self.subscriber.max_level_hint();
+        self.hint = Some(copy_of(&hint));
+        hint
+    }
+
+    // Its hint: a kept one counts, unless all are asked.
+    fn hint(&mut self, all: bool) -> Option<LevelFilter>
+        ensures { GivesHint ⟦<S as Subscriber>⟧ all result self.old self.new }
+    {
+        if all {
+            return self.ask_hint();
+        }
+        match self.kept_hint() {
+            None => self.ask_hint(),
+            Some(hint) => hint,
+        }
+    }
+
+    fn raise(&mut self, all: bool, before: LevelFilter) -> LevelFilter
+        ensures { Raises ⟦<S as Subscriber>⟧ all before self.old self.new result }
+    {
+        let hint = self.hint(all);
         higher(before, top_of(hint))
     }
 }
 
-// Asks all for their hints, in order, and answers the greatest level. Then nobody counts as lent.
-pub(crate) fn ask_hints<S: Subscriber>(subscribers: &mut [RegisteredSubscriber<S>]) -> LevelFilter
-    ensures { Each (Hints ⟦<S as Subscriber>⟧) 0 subscribers.old subscribers.new result }
+// The greatest level of all, each of which gives its hint in order. Then nobody counts as lent.
+pub(crate) fn ask_hints<S: Subscriber>(
+    all: bool,
+    subscribers: &mut [RegisteredSubscriber<S>],
+) -> LevelFilter
+    ensures { Each (Raises ⟦<S as Subscriber>⟧ all) 0 subscribers.old subscribers.new result }
 {
     let mut greatest = LevelFilter::OFF;
     for subscriber in subscribers.iter_mut() {
-        greatest = subscriber.ask_hint(greatest);
+        greatest = subscriber.raise(all, greatest);
     }
     greatest
 }
 
 impl<C: Callsite> RegisteredCallsite<C> {
-    // Asks all of the callsite, and tells it what they have in common.
-    pub(crate) fn ask<S: Subscriber>(&mut self, subscribers: &mut [RegisteredSubscriber<S>])
-        ensures { CallsiteAsked ⟦<S as Subscriber>⟧ ⟦<C as Callsite>⟧ subscribers.old self.old self.new
+    // All give their answers of the callsite, which stands at the index, and it is told what they have in common.
+    pub(crate) fn ask<S: Subscriber>(
+        &mut self,
+        all: bool,
+        index: usize,
+        subscribers: &mut [RegisteredSubscriber<S>],
+    )
+        ensures { CallsiteAsked ⟦<S as Subscriber>⟧ ⟦<C as Callsite>⟧ all index subscribers.old self.old self.new
             subscribers.new }
     {
-        let interest = self.interest_of_all(subscribers);
+        let interest = self.interest_of_all(all, index, subscribers);
         self.callsite.set_interest(interest);
         self.interest = interest;
     }
 
     fn interest_of_all<S: Subscriber>(
         &self,
+        all: bool,
+        index: usize,
         subscribers: &mut [RegisteredSubscriber<S>],
     ) -> Interest
-        ensures { AskedAll ⟦<S as Subscriber>⟧ (C.metadata_of self.now.callsite) subscribers.old subscribers.new
-            result }
+        ensures { InCommon ⟦<S as Subscriber>⟧ all (C.metadata_of self.now.callsite) index subscribers.old
+            subscribers.new result }
     {
         let metadata = self.callsite.metadata();
-        ask_all(subscribers, &metadata)
+        common_of(all, index, subscribers, &metadata)
     }
 }
 
-// Asks all of each callsite, in order.
+// All give their answers of each callsite, in order.
 pub(crate) fn ask_callsites<S: Subscriber, C: Callsite>(
+    all: bool,
     subscribers: &mut [RegisteredSubscriber<S>],
     callsites: &mut [RegisteredCallsite<C>],
 )
-    ensures { Each (CallsiteAsked ⟦<S as Subscriber>⟧ ⟦<C as Callsite>⟧) subscribers.old callsites.old callsites.new
+    ensures { CallsitesAsked ⟦<S as Subscriber>⟧ ⟦<C as Callsite>⟧ all subscribers.old callsites.old callsites.new
         subscribers.new }
 {
+    let mut index = 0;
     for callsite in callsites.iter_mut() {
-        callsite.ask(subscribers);
+        callsite.ask(all, index, subscribers);
+        index += 1;
     }
 }

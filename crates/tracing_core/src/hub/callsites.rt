@@ -1,11 +1,11 @@
 //! The callsites of a hub, found by their identifiers in one step.
 ghost use Rattle.std.specs.Prelude.{◌≡◌, [], None, Some, IfSome, IsTrue, slice_get};
 ghost use Rattle.std.specs.Option.{option_map};
-ghost use Rattle.tracing_core.specs.InterestsAndHints.{Each, CallsiteAsked};
+ghost use Rattle.tracing_core.specs.InterestsAndHints.{CallsitesAsked};
 ghost use Rattle.tracing_core.specs.Commands.{callsite_with};
 ghost use Rattle.tracing_core.specs.Indices.{TakesCallsite, index_of_callsite};
 
-use crate::hub::asking::ask_callsites;
+use crate::hub::asking::{ask_callsites, reserve_answers};
 use crate::hub::parts::{RegisteredCallsite, RegisteredSubscriber};
 use std::alloc::Global;
 use std::collections::HashMap;
@@ -115,12 +115,16 @@ impl<C> Callsites<C> {
 }
 
 impl<C: Callsite> Callsites<C> {
-    // Asks all of each callsite, in order.
-    pub(crate) fn ask_all<S: Subscriber>(&mut self, subscribers: &mut [RegisteredSubscriber<S>])
-        ensures { Each (CallsiteAsked ⟦<S as Subscriber>⟧ ⟦<C as Callsite>⟧) subscribers.old self.old self.new
+    // Forms anew what is kept of each callsite, in order, by whether all are asked.
+    pub(crate) fn ask_each<S: Subscriber>(
+        &mut self,
+        all: bool,
+        subscribers: &mut [RegisteredSubscriber<S>],
+    )
+        ensures { CallsitesAsked ⟦<S as Subscriber>⟧ ⟦<C as Callsite>⟧ all subscribers.old self.old self.new
             subscribers.new }
     {
-        ask_callsites(subscribers, &mut self.callsites);
+        ask_callsites(all, subscribers, &mut self.callsites);
     }
 
     // Takes a callsite whose identifier isn't known, and asks all of it; for lack of memory it comes back.
@@ -137,10 +141,14 @@ impl<C: Callsite> Callsites<C> {
         if self.callsites.reserve(1).is_err() {
             return Err(row.into_callsite());
         }
-        let Ok(_) = self.indices.insert(row.identifier(), self.callsites.len()) else {
+        if !reserve_answers(subscribers) {
+            return Err(row.into_callsite());
+        }
+        let index = self.callsites.len();
+        let Ok(_) = self.indices.insert(row.identifier(), index) else {
             return Err(row.into_callsite());
         };
-        row.ask(subscribers);
+        row.ask(true, index, subscribers);
         let interest = row.interest();
         self.callsites.push_reserved(row);
         Ok(interest)

@@ -81,7 +81,7 @@ impl<S: Subscriber, C: Callsite> Hub<S, C> {
     }
 
     /// Takes a handle back. The subscriber comes back with its last one; what is kept of callsites, and the
-    /// greatest level, stay as they are until the next rebuild.
+    /// greatest level, stay as they are until the next rebuild, refresh or `add`.
     pub fn release(&mut self, dispatch: Dispatch) -> Option<S>
         // The subscriber comes back exactly where this was its last handle.
         ensures answer { result ≡ (given_back dispatch self.old.subscribers).0 }

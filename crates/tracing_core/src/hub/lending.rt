@@ -58,7 +58,7 @@ impl<S, C> Hub<S, C> {
 
 impl<S: Subscriber, C: Callsite> Hub<S, C> {
     /// Lends the subscriber that the handle leads to for writing, and marks it as lent: what is kept of it
-    /// counts for nothing until the next rebuild.
+    /// counts for nothing until the next rebuild, refresh or `add`.
     pub fn subscriber_mut(&mut self, dispatch: &Dispatch) -> Option<&mut S>
         ensures lent { option_map (λ subscriber. subscriber.now) result
             ≡ option_map (λ kept. kept.subscriber) (living_of dispatch.now self.old.subscribers) }
@@ -73,7 +73,8 @@ impl<S: Subscriber, C: Callsite> Hub<S, C> {
     /// Hands the subscriber that the handle leads to, for writing, to `change`, and answers what that does, or
     /// `None` where there is none. The subscriber doesn't count as lent: this is for a `change` that leaves as
     /// they are what the subscriber says of its interests, its hint, and that it is consistent. Then what is
-    /// kept stays right. For any other change take [`Hub::subscriber_mut`].
+    /// kept stays right. For any other change take [`Hub::subscriber_mut`]. Today's [`Hub::refresh`] asks it again;
+    /// no clause promises that.
     pub fn with_subscriber_mut<T, F: FnOnce(&mut S) -> T>(
         &mut self,
         dispatch: &Dispatch,
@@ -102,6 +103,7 @@ fn change_at<S, T, F: FnOnce(&mut S) -> T>(
     let index = index_or_end(subscribers, serial);
     if index < subscribers.len() {
         let registered = &mut subscribers[index];
+        registered.unsure = true;
         Some(change(&mut registered.subscriber))
     } else {
         None

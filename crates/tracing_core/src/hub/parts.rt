@@ -11,6 +11,12 @@ pub(crate) struct RegisteredSubscriber<S> {
     pub(crate) handles: u64,
     // whether it was lent for writing since it was last asked, or was never asked
     pub(crate) lent: bool,
+    // whether it was handed out for writing since then without a mark: then it is asked again, too
+    pub(crate) unsure: bool,
+    // what it answered of each callsite, by its index, as far as there was memory
+    pub(crate) interests: Vec<Interest>,
+    // what it answered for its hint
+    pub(crate) hint: Option<Option<LevelFilter>>,
     pub(crate) subscriber: S,
 }
 
@@ -23,6 +29,8 @@ impl<S> Model for RegisteredSubscriber<S> {
       serial = e.serial;
       handles = e.handles;
       lent = e.lent;
+      interests = e.interests.items;
+      hint = e.hint;
       subscriber = e.subscriber;
     } };
 }

@@ -36,7 +36,7 @@ pub struct HubTable {
     pub lanes: Vec<Lane>,
     /// The callsites, in order of registration.
     pub callsites: Vec<KeptInterest>,
-    /// The most verbose level that some subscriber enabled at the last rebuild.
+    /// The most verbose level that some subscriber enabled at the last rebuild, refresh or `add`.
     pub greatest: LevelFilter,
 }
 

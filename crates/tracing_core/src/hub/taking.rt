@@ -1,12 +1,13 @@
 //! Taking subscribers and callsites, and asking all again.
-ghost use Rattle.std.specs.Prelude.{◌≡◌, ◌==◌, Some, None, [], true, IfOk};
-ghost use Rattle.tracing_core.specs.Commands.{Rebuilt, AddGives, RegisterGives, TakeGives, kept_alike, callsite_with};
+ghost use Rattle.std.specs.Prelude.{◌≡◌, ◌==◌, ℕ, List, Option, Some, None, [], true, IfOk};
+ghost use Rattle.tracing_core.specs.Commands.{AddGives, RegisterGives, TakeGives, kept_alike, callsite_with};
 ghost use Rattle.tracing_core.specs.Handles.{subscriber_with, most};
 ghost use Rattle.tracing_core.specs.TableRows.{KeptSubscriber};
 ghost use Rattle.tracing_core.specs.CachePreservation.{PreservesCaches, IsOff};
+ghost use Rattle.tracing_core_fields.specs.requests.Interests.{PlainInterest};
 ghost use Rattle.tracing_core_fields.specs.requests.Lists.{Every};
 ghost use Rattle.tracing_core.specs.ValidCaches.{IsTrueCallsite, HasValidCache, asked_anew};
-ghost use Rattle.tracing_core.specs.CacheRefresh.{Refreshed};
+ghost use Rattle.tracing_core.specs.CacheRefresh.{Formed, Rebuilt, Refreshed};
 ghost use Rattle.tracing_core.specs.HubInvariant.{IsSound};
 
 use crate::dispatch::Dispatch;
@@ -14,6 +15,7 @@ use crate::hub::Hub;
 use crate::hub::asking::ask_hints;
 use crate::hub::parts::RegisteredSubscriber;
 use crate::refusal::{AddError, RegisterError};
+use std::alloc::AllocError;
 use tracing_core_fields::{Callsite, Interest, Subscriber, weak_of};
 
 impl<S: Subscriber, C: Callsite> Hub<S, C> {
@@ -24,20 +26,21 @@ impl<S: Subscriber, C: Callsite> Hub<S, C> {
         // Afterwards the cache is valid of each consistent subscriber.
         ensures right { (e : KeptSubscriber S) → subscriber_with e.serial self.old.subscribers ≡ Some e →
             S.steady e.subscriber → Every (IsTrueCallsite ⟦<C as Callsite>⟧) self.old.callsites →
-            ((z : S) × HasValidCache ⟦<S as Subscriber>⟧ ⟦<C as Callsite>⟧ self.new (asked_anew z e)) }
+            ((z : S) × (interests : List PlainInterest) × (hint : Option (Option ℕ)) ×
+            HasValidCache ⟦<S as Subscriber>⟧ ⟦<C as Callsite>⟧ self.new (asked_anew z interests hint e)) }
         ensures keeps { PreservesCaches ⟦<S as Subscriber>⟧ ⟦<C as Callsite>⟧ self.old self.new }
         // Without a subscriber nobody is interested in any callsite afterwards, and the level is `OFF`.
         ensures nobody { self.old.subscribers ≡ [] → IsOff self.new }
     {
-        self.ask_all_again()
+        self.form(true)
     }
 
-    // Asks all of everything.
-    fn ask_all_again(&mut self)
-        ensures { Rebuilt ⟦<S as Subscriber>⟧ ⟦<C as Callsite>⟧ self.old self.new }
+    // Forms anew what is kept, by whether all are asked.
+    fn form(&mut self, all: bool)
+        ensures { Formed ⟦<S as Subscriber>⟧ ⟦<C as Callsite>⟧ all self.old self.new }
     {
-        self.callsites.ask_all(&mut self.subscribers);
-        self.greatest = ask_hints(&mut self.subscribers);
+        self.callsites.ask_each(all, &mut self.subscribers);
+        self.greatest = ask_hints(all, &mut self.subscribers);
     }
 
     /// Asks again whoever was lent since it was last asked, and maybe others, and forms what is kept anew: of
@@ -48,19 +51,13 @@ impl<S: Subscriber, C: Callsite> Hub<S, C> {
         ensures right { (e : KeptSubscriber S) → subscriber_with e.serial self.old.subscribers ≡ Some e → e.lent ≡ true
             →
             S.steady e.subscriber → Every (IsTrueCallsite ⟦<C as Callsite>⟧) self.old.callsites →
-            ((z : S) × HasValidCache ⟦<S as Subscriber>⟧ ⟦<C as Callsite>⟧ self.new (asked_anew z e)) }
+            ((z : S) × (interests : List PlainInterest) × (hint : Option (Option ℕ)) ×
+            HasValidCache ⟦<S as Subscriber>⟧ ⟦<C as Callsite>⟧ self.new (asked_anew z interests hint e)) }
         ensures keeps { PreservesCaches ⟦<S as Subscriber>⟧ ⟦<C as Callsite>⟧ self.old self.new }
         // Without a subscriber nobody is interested in any callsite afterwards, and the level is `OFF`.
         ensures nobody { self.old.subscribers ≡ [] → IsOff self.new }
     {
-        self.ask_again()
-    }
-
-    // Asks again: here everyone, since no answers are kept but the common ones.
-    fn ask_again(&mut self)
-        ensures { Refreshed ⟦<S as Subscriber>⟧ ⟦<C as Callsite>⟧ self.old self.new }
-    {
-        self.ask_all_again();
+        self.form(false)
     }
 
     // Whether every number was given.
@@ -70,7 +67,16 @@ impl<S: Subscriber, C: Callsite> Hub<S, C> {
         self.next == u64::MAX
     }
 
-    // Takes a subscriber, and asks again.
+    // Room for an answer of each callsite.
+    fn room_for_answers(&self) -> Result<Vec<Interest>, AllocError>
+        ensures { IfOk result (λ answers. answers.items ≡ []) }
+    {
+        let mut answers = Vec::new(*self.subscribers.allocator());
+        answers.reserve(self.callsites.as_slice().len())?;
+        Ok(answers)
+    }
+
+    // Takes a subscriber, and refreshes.
     fn take_in(&mut self, subscriber: S) -> Result<Dispatch, AddError<S>>
         ensures { AddGives ⟦<S as Subscriber>⟧ ⟦<C as Callsite>⟧ self.old subscriber result self.new }
     {
@@ -80,6 +86,9 @@ impl<S: Subscriber, C: Callsite> Hub<S, C> {
         if self.subscribers.reserve(1).is_err() {
             return Err(AddError::OutOfMemory(subscriber));
         }
+        let Ok(interests) = self.room_for_answers() else {
+            return Err(AddError::OutOfMemory(subscriber));
+        };
         let serial = self.next;
         let mut subscriber = subscriber;
         subscriber.on_register_dispatch(&weak_of(Some(serial)));
@@ -87,10 +96,13 @@ impl<S: Subscriber, C: Callsite> Hub<S, C> {
             serial,
             handles: 1,
             lent: true,
+            unsure: false,
+            interests,
+            hint: None,
             subscriber,
         });
         self.next = serial + 1;
-        self.ask_again();
+        self.refresh();
         Ok(Dispatch::new(Some(serial)))
     }
 
@@ -140,7 +152,8 @@ impl<S: Subscriber, C: Callsite> Hub<S, C> {
         ensures others { IfOk result (λ _. (e : KeptSubscriber S) →
             subscriber_with e.serial self.old.subscribers ≡ Some e → e.lent ≡ true → S.steady e.subscriber →
             Every (IsTrueCallsite ⟦<C as Callsite>⟧) self.old.callsites →
-            ((z : S) × HasValidCache ⟦<S as Subscriber>⟧ ⟦<C as Callsite>⟧ self.new (asked_anew z e))) }
+            ((z : S) × (interests : List PlainInterest) × (hint : Option (Option ℕ)) ×
+            HasValidCache ⟦<S as Subscriber>⟧ ⟦<C as Callsite>⟧ self.new (asked_anew z interests hint e))) }
         ensures keeps { PreservesCaches ⟦<S as Subscriber>⟧ ⟦<C as Callsite>⟧ self.old self.new }
     {
         self.take_in(subscriber)

@@ -3,6 +3,7 @@ use std::alloc::Global;
 use std::test::Fail;
 use tracing_core_fields::{FieldSet, Id, Identifier, Kind, Level, LevelFilter, Metadata};
 
+mod asking;
 mod everything;
 mod indexed;
 mod listener;

@@ -1,6 +1,7 @@
 //! Files of JSON lines, read back by `serde_json`.
 
 use serde_json::Value;
+use span_tracing::value::Lend;
 use span_tracing::{
     Builder, CallError, FileStack, LineSettings, MemoryFolder, Moment, OutputKey, OutputSpec,
     Reply, Rotation, Route, SinkSpec, Site, Trace, event, open_stack, span,

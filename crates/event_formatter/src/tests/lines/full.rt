@@ -2,11 +2,11 @@ use super::*;
 use event_formatter_text::DefaultFields;
 use std::test::Fail;
 
-fn outer() -> [Row; 1] {
+fn outer() -> [ShownSpan<'static>; 1] {
     [row("outer", "x=42")]
 }
 
-fn bare_span() -> [Row; 1] {
+fn bare_span() -> [ShownSpan<'static>; 1] {
     [row("s", "")]
 }
 
@@ -15,7 +15,7 @@ fn line_of(
     alloc: Global,
     settings: Settings,
     head: &Head<'_>,
-    rows: &[Row],
+    rows: &[ShownSpan<'static>],
     values: &[Option<AnyValue<'_>>],
 ) -> Result<String, FormatError> {
     let mut out = String::new(alloc);

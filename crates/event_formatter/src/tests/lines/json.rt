@@ -7,12 +7,12 @@ const FLAT: JsonShape = JsonShape {
     span_list: true,
 };
 
-fn json_span() -> [Row; 1] {
+fn json_span() -> [ShownSpan<'static>; 1] {
     [row("json_span", "{\"answer\":42,\"number\":3}")]
 }
 
 // Spans with no members, with a text that is no object, and with none.
-fn others() -> [Row; 4] {
+fn others() -> [ShownSpan<'static>; 4] {
     [
         row("empty", "{}"),
         row("a\"b\\", "x=\"42\" \u{1b}"),
@@ -26,7 +26,7 @@ fn line_of(
     alloc: Global,
     shape: JsonShape,
     head: &Head<'_>,
-    rows: &[Row],
+    rows: &[ShownSpan<'static>],
     values: &[Option<AnyValue<'_>>],
 ) -> Result<String, FormatError> {
     let mut out = String::new(alloc);

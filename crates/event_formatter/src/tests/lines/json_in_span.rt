@@ -1,12 +1,12 @@
 use super::*;
 use std::test::Fail;
 
-fn span() -> Row {
+fn span() -> ShownSpan<'static> {
     row("request", "{\"id\":7}")
 }
 
 // Spans whose names are escaped, empty or long, and spans that keep no members of an object.
-fn others() -> [Row; 7] {
+fn others() -> [ShownSpan<'static>; 7] {
     [
         row(
             "a name of many bytes with a quote at its end\"",
@@ -35,16 +35,11 @@ fn short_line(
     time: &str,
     level: Level,
     target: &str,
-    row: &Row,
+    row: &ShownSpan<'static>,
     values: &[Option<AnyValue<'_>>],
 ) -> Result<String, FormatError> {
     let mut out = String::new(alloc);
-    let span = ShownSpan {
-        name: row.name,
-        target: row.target,
-        text: row.text,
-    };
-    push_json_line_in_span(&mut out, time, level, target, &span, &fields_of(values))?;
+    push_json_line_in_span(&mut out, time, level, target, row, &fields_of(values))?;
     Ok(out)
 }
 
@@ -54,7 +49,7 @@ fn same_line(
     time: &str,
     level: Level,
     target: &str,
-    row: Row,
+    row: ShownSpan<'static>,
     values: &[Option<AnyValue<'_>>],
 ) -> Result<String, FormatError> {
     let mut out = String::new(alloc);

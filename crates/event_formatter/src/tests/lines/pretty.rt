@@ -3,14 +3,14 @@ use event_formatter_text::PrettyFields;
 use std::test::Fail;
 use tracing_core_fields::DebugText;
 
-fn outer() -> [Row; 1] {
+fn outer() -> [ShownSpan<'static>; 1] {
     [row("outer", "x: 42")]
 }
 
-fn both() -> [Row; 2] {
+fn both() -> [ShownSpan<'static>; 2] {
     [
         row("outer", "x: 42"),
-        Row {
+        ShownSpan {
             name: "inner",
             target: "app::db",
             text: "",
@@ -30,7 +30,7 @@ fn lines_of_values(
     head: &Head<'_>,
     place: &Place<'_>,
     shows_target: bool,
-    rows: &[Row],
+    rows: &[ShownSpan<'static>],
     values: &[Option<AnyValue<'_>>],
 ) -> Result<String, FormatError> {
     let mut out = String::new(alloc);
@@ -56,7 +56,7 @@ fn lines_of(
     head: &Head<'_>,
     place: &Place<'_>,
     shows_target: bool,
-    rows: &[Row],
+    rows: &[ShownSpan<'static>],
 ) -> Result<String, FormatError> {
     lines_of_values(alloc, head, place, shows_target, rows, &hi_and_three())
 }

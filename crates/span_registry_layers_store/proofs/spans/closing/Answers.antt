@@ -1,22 +1,20 @@
-use Rattle.std.proofs.Common.{arith, ◌-◌, ◌∙◌, sym}
-use Rattle.span_registry_layers_store.specs.Lanes.{plain_lanes}
-use Rattle.span_registry_layers_store.specs.Places.{kin_of}
-use Rattle.span_registry_layers_store.proofs.ClosedSpans.{closes_at, settled_end, settled_turn}
+use Rattle.std.proofs.Common.{arith, sym, ◌∙◌, ◌-◌}
+use Rattle.span_registry_layers_store.proofs.ClosingSlots.{closes_here, stay_end, stay_next}
 use Rattle.span_registry_layers_store.proofs.spans.closing.Goals as goal
 
 pub loop-rest-init : goal.loop-rest-init
-loop-rest-init c = record { within = omega arith; settled = settled_end kin_of (plain_lanes c.args.lanes.now) c.args.spans.now }
+loop-rest-init c = record { within = omega arith; settled = stay_end c.args.lanes.now c.args.slots.now c.args.index.now }
 
-pub returns-then-not-stays : goal.returns-then-not-stays
-returns-then-not-stays c =
-    closes_at kin_of (plain_lanes c.args.lanes.now) c.args.spans.now (c.loop-rest.rest - 1) c.loop-rest.rest c.index-spans-rest.result
-    (omega arith) c.loop-rest.invariant.within c.index-spans-rest.is c.loop-rest.invariant.settled
-    (rw (c.later_than.ensures) at (sym c.stays.ensures ∙ c.if-not-stays.true))
+pub returns-then-goes : goal.returns-then-goes
+returns-then-goes c =
+    closes_here c.args.lanes.now c.args.slots.now c.args.index.now (c.loop-rest.rest - 1) c.loop-rest.rest
+    c.index-index-rest.result (omega arith) c.loop-rest.invariant.within c.index-index-rest.is c.requires.rise c.requires.children
+    (sym c.goes.ensures ∙ c.if-goes.true) c.loop-rest.invariant.settled
 
 pub loop-rest-preserved : goal.loop-rest-preserved
 loop-rest-preserved c = record {
   within = omega arith;
-  settled = settled_turn kin_of (plain_lanes c.args.lanes.now) c.args.spans.now (c.loop-rest.rest - 1) c.loop-rest.rest
-      c.index-spans-rest.result (omega arith) c.loop-rest.invariant.within c.index-spans-rest.is c.loop-rest.invariant.settled
-      (rw (c.later_than.ensures) at (sym c.stays.ensures ∙ c.if-not-stays.false));
+  settled = stay_next c.args.lanes.now c.args.slots.now c.args.index.now (c.loop-rest.rest - 1) c.loop-rest.rest
+      c.index-index-rest.result (omega arith) c.loop-rest.invariant.within c.index-index-rest.is c.requires.children
+      (sym c.goes.ensures ∙ c.if-goes.false) c.loop-rest.invariant.settled;
 }

@@ -1,4 +1,4 @@
-// A subscriber that says and answers always the same.
+// A subscriber that says and answers always the same, until it is changed.
 ghost use Rattle.std.specs.Prelude.{◌≡◌, None};
 ghost use Rattle.tracing_core_fields.specs.requests.Interests.{says_always};
 
@@ -12,11 +12,17 @@ use tracing_core_moments::At;
 pub struct Everything {
     name: u64,
     interest: Interest,
+    /// How often it was asked of a callsite or for its hint.
+    questions: u64,
 }
 
 impl Everything {
     pub fn new(name: u64, interest: Interest) -> Everything {
-        Everything { name, interest }
+        Everything {
+            name,
+            interest,
+            questions: 0,
+        }
     }
 
     pub fn rename(&mut self, name: u64) {
@@ -25,6 +31,15 @@ impl Everything {
 
     pub fn name(&self) -> u64 {
         self.name
+    }
+
+    /// Says this of all callsites from now on.
+    pub fn say(&mut self, interest: Interest) {
+        self.interest = interest;
+    }
+
+    pub fn questions(&self) -> u64 {
+        self.questions
     }
 }
 
@@ -70,6 +85,7 @@ impl Subscriber for Everything {
     fn on_register_dispatch(&mut self, _dispatch: &WeakDispatch) {}
 
     fn register_callsite(&mut self, _metadata: &Metadata<'_>) -> Interest {
+        self.questions = self.questions.wrapping_add(1);
         self.interest
     }
 
@@ -78,6 +94,7 @@ impl Subscriber for Everything {
     }
 
     fn max_level_hint(&mut self) -> Option<LevelFilter> {
+        self.questions = self.questions.wrapping_add(1);
         None
     }
 

@@ -3,12 +3,12 @@ use Rattle.event_formatter_text.specs.Lists.{pieces_text}
 use Rattle.event_formatter_text.specs.Visitors.{pretty_piece, frame_of}
 use Rattle.event_formatter_text.specs.Writers.{written}
 use Rattle.event_formatter_text.proofs.VisitorText.{wrote_text}
-use Rattle.event_formatter_text.proofs.PieceVisits.{visited}
+use Rattle.event_formatter_text.proofs.PieceVisits.{fields_visited}
 use Rattle.event_formatter_text.proofs.pretty_fields.PrettyFieldsFormatFields.format_fields.Goals as goal
 
 pub returns-clause-text : goal.returns-clause-text
 returns-clause-text g c =
-    let v = visited (λ v. written v.writer) (λ v. v.is_empty) (λ v. frame_of v.writer) (λ s. codes ", ")
+    let v = fields_visited (λ v. written v.writer) (λ v. v.is_empty) (λ v. frame_of v.writer) (λ s. codes ", ")
     (λ s name value. pretty_piece s.settings name value) c.record.ensures in
     let values = g.R.RecordFields.values c.args.fields.now in
     wrote_text (λ s b. pieces_text (codes ", ") (pretty_piece s) b values.names values.entries) _ c.new-visitor.result.writer

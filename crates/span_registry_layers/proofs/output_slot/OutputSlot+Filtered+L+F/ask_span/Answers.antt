@@ -11,10 +11,10 @@ returns-clause-asked g c =
     let row = c.args.self.now in
     let m = plain_metadata c.args.metadata.now in
     let passes = c.passes-passes.result in
-    let said = c.ask_span-heard.result in
+    let said = c.ask_span-said.result in
     let asked : AsksLayer g.F.Filter g.L.Layer m (view c.new-context.result) passes c.inner.result.now c.with-own.result.passed
     said.0.passed =
-    (c.ask_span-heard.ensures.room, c.ask_span-heard.ensures.others, (said.1, c.ask_span-heard.ensures.kept)) in
+    (c.ask_span-said.ensures.room, c.ask_span-said.ensures.others, (said.1, c.ask_span-said.ensures.kept)) in
     let of_layer = subst (λ l. AsksLayer g.F.Filter g.L.Layer m (view c.new-context.result) passes l c.with-own.result.passed said.0.passed)
     c.inner.ensures asked in
     let in_view = subst (λ v. AsksLayer g.F.Filter g.L.Layer m v passes row.output.layer c.with-own.result.passed said.0.passed)

@@ -15,17 +15,17 @@ returns-in-len1-up-clause-kept g n c =
     let v = view c.args.context.now in
     λ later numbers same.
     let both =
-    kept_by_both (λ l. g.L.Layer.kept c.layer-item.result m v c.args.passes l c.ask_span-first.result.1)
-    (λ l. KeptByEach g.L.Layer rest m v c.args.passes l c.ask_each-some.result.1)
-    (length c.args.verdicts.passed) (length c.ask_span-first.result.0.passed) (g.L.Layer.numbers c.layer-item.result)
-    (numbers_of g.L.Layer rest) c.ask_span-first.result.0.passed c.ask_each-some.result.0.passed
-    c.ask_span-first.ensures.room c.ask_each-some.ensures.others c.ask_span-first.ensures.kept
-    (subst (λ (w : View). (l : List Bool) → AreNumbers (length c.ask_span-first.result.0.passed) (numbers_of g.L.Layer rest) →
-    SameOf (numbers_of g.L.Layer rest) c.ask_each-some.result.0.passed l →
-    KeptByEach g.L.Layer rest m w c.args.passes l c.ask_each-some.result.1)
-    (same_view c.args.context.now c.ask_span-first.new.context c.ask_span-first.ensures.lent c.ask_span-first.ensures.same)
-    c.ask_each-some.ensures.kept) later
+    kept_by_both (λ l. g.L.Layer.kept c.layer-item.result m v c.args.passes l c.ask_span-verdicts.result.1)
+    (λ l. KeptByEach g.L.Layer rest m v c.args.passes l c.ask_each-verdicts.result.1)
+    (length c.args.verdicts.passed) (length c.ask_span-verdicts.result.0.passed) (g.L.Layer.numbers c.layer-item.result)
+    (numbers_of g.L.Layer rest) c.ask_span-verdicts.result.0.passed c.ask_each-verdicts.result.0.passed
+    c.ask_span-verdicts.ensures.room c.ask_each-verdicts.ensures.others c.ask_span-verdicts.ensures.kept
+    (subst (λ (w : View). (l : List Bool) → AreNumbers (length c.ask_span-verdicts.result.0.passed) (numbers_of g.L.Layer rest) →
+    SameOf (numbers_of g.L.Layer rest) c.ask_each-verdicts.result.0.passed l →
+    KeptByEach g.L.Layer rest m w c.args.passes l c.ask_each-verdicts.result.1)
+    (same_view c.args.context.now c.ask_span-verdicts.new.context c.ask_span-verdicts.ensures.lent c.ask_span-verdicts.ensures.same)
+    c.ask_each-verdicts.ensures.kept) later
     (subst (λ xs. AreNumbers (length c.args.verdicts.passed) (numbers_of g.L.Layer xs)) split numbers)
-    (subst (λ xs. SameOf (numbers_of g.L.Layer xs) c.ask_each-some.result.0.passed later) split same) in
-    subst (λ xs. KeptByEach g.L.Layer xs m v c.args.passes later (c.ask_span-first.result.1 || c.ask_each-some.result.1)) (sym split)
-    (c.ask_span-first.result.1, c.ask_each-some.result.1, both.0, both.1, refl)
+    (subst (λ xs. SameOf (numbers_of g.L.Layer xs) c.ask_each-verdicts.result.0.passed later) split same) in
+    subst (λ xs. KeptByEach g.L.Layer xs m v c.args.passes later (c.ask_span-verdicts.result.1 || c.ask_each-verdicts.result.1)) (sym split)
+    (c.ask_span-verdicts.result.1, c.ask_each-verdicts.result.1, both.0, both.1, refl)

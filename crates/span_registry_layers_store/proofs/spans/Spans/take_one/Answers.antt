@@ -1,46 +1,49 @@
-use Rattle.std.proofs.Common.{◌∙◌, List, ap, map, sym, subst, Ok}
-use Rattle.span_registry_layers_store.specs.Places.{IsPlace, kin_of}
-use Rattle.span_registry_layers_store.specs.Registries.{PlainSpan, plain_span}
-use Rattle.span_registry_layers_store.specs.Spans.{is_open}
-use Rattle.span_registry_layers_store.proofs.Handles.{handles_there, is_there, more_there, taken_full, taken_more, taken_unknown}
-use Rattle.span_registry_layers_store.proofs.PlainSpans.{open_mapped}
-use Rattle.span_registry_layers_store.proofs.IdOrder.{more_rising, rising_slice}
+use Rattle.std.proofs.Common.{◌∙◌, List, ap, sym, refl, Ok}
+use Rattle.span_registry_layers_store.specs.Registries.{PlainSpan}
+use Rattle.span_registry_layers_store.specs.SpanSlots.{spans_in, standing}
+use Rattle.span_registry_layers_store.proofs.Handles.{taken_full, taken_more, taken_unknown}
+use Rattle.span_registry_layers_store.proofs.SlotViews.{is_open_nowhere}
+use Rattle.span_registry_layers_store.proofs.SlotChanges.{handles_there, more_handles, more_there, none_told, open_there, slot_told}
+use Rattle.span_registry_layers_store.proofs.SlotChanges.{sound_put}
 use Rattle.span_registry_layers_store.proofs.spans.Spans.take_one.Goals as goal
-
-pub place_of-requires : goal.place_of-requires
-place_of-requires c = rising_slice c.as_slice.result.now c.self.inside.spans.items c.as_slice.ensures.value c.self.invariant
 
 pub returns-in_default : goal.returns-in_default
 returns-in_default c =
-    let spans = c.self.inside.spans.items in
-    rw (← c.self.view_is) (sym (taken_unknown (map plain_span spans) c.args.id (open_mapped spans c.args.id ∙
-    ap (λ xs. is_open kin_of xs c.args.id) (sym c.as_slice.ensures.value) ∙ c.in_default.ensures)))
+    let xs = c.self.inside.slots.items in
+    let es = c.self.inside.index.items in
+    rw (← c.self.view_is) (sym (taken_unknown (spans_in xs es) c.args.id
+    (is_open_nowhere (standing xs es) c.args.id
+    (none_told c.as_slice.result.now xs c.as_slice-2.result.now es c.args.id c.as_slice.ensures.value c.as_slice-2.ensures.value
+    c.in_default.ensures))))
 
 pub returns-then-index : goal.returns-then-index
 returns-then-index c =
-    let spans = c.self.inside.spans.items in
-    let p : IsPlace spans c.args.id c.in-Some.place = subst (λ xs. IsPlace xs c.args.id c.in-Some.place) c.as_slice.ensures.value
-    c.in-Some.ensures in
+    let xs = c.self.inside.slots.items in
+    let es = c.self.inside.index.items in
+    let p = slot_told c.as_slice.result.now xs c.as_slice-2.result.now es c.args.id c.in-Some.slot c.as_slice.ensures.value
+    c.as_slice-2.ensures.value c.in-Some.ensures in
     let s = c.index.result.now in
-    rw (← c.self.view_is) (sym (taken_full (map plain_span spans) c.args.id s.kin.handles
-    (is_there spans c.args.id c.in-Some.place s p c.index.ensures) (handles_there spans c.args.id c.in-Some.place s p c.index.ensures)
+    rw (← c.self.view_is) (sym (taken_full (spans_in xs es) c.args.id s.span.kin.handles
+    (open_there xs es c.args.id c.in-Some.slot s p c.index.ensures) (handles_there xs es c.args.id c.in-Some.slot s p c.index.ensures)
     c.if-index.true))
 
 pub invariant_of-self : goal.invariant_of-self
 invariant_of-self c =
-    let spans = c.self.inside.spans.items in
-    let p : IsPlace spans c.args.id c.in-Some.place = subst (λ xs. IsPlace xs c.args.id c.in-Some.place) c.as_slice.ensures.value
-    c.in-Some.ensures in
-    more_rising _ (map plain_span spans) c.args.id
-    (more_there spans c.args.id c.in-Some.place c.index_mut.result.now p c.index_mut.ensures.value) c.self.invariant
+    let xs = c.self.inside.slots.items in
+    let es = c.self.inside.index.items in
+    let p = slot_told c.as_slice.result.now xs c.as_slice-2.result.now es c.args.id c.in-Some.slot c.as_slice.ensures.value
+    c.as_slice-2.ensures.value c.in-Some.ensures in
+    sound_put xs c.self.inside.free es c.args.id c.in-Some.slot c.index_mut.result.now c.self.invariant p c.index_mut.ensures.value
+    more_handles (λ x. refl) (λ x. refl) (λ x. refl) refl
 
 pub returns : goal.returns
 returns c =
-    let spans = c.self.inside.spans.items in
-    let p : IsPlace spans c.args.id c.in-Some.place = subst (λ xs. IsPlace xs c.args.id c.in-Some.place) c.as_slice.ensures.value
-    c.in-Some.ensures in
+    let xs = c.self.inside.slots.items in
+    let es = c.self.inside.index.items in
+    let p = slot_told c.as_slice.result.now xs c.as_slice-2.result.now es c.args.id c.in-Some.slot c.as_slice.ensures.value
+    c.as_slice-2.ensures.value c.in-Some.ensures in
     let s = c.index.result.now in
     rw (← c.self.view_is) (ap (λ (ss : List PlainSpan). (Ok c.args.id, ss))
-    (more_there spans c.args.id c.in-Some.place c.index_mut.result.now p c.index_mut.ensures.value)
-    ∙ sym (taken_more (map plain_span spans) c.args.id s.kin.handles (is_there spans c.args.id c.in-Some.place s p c.index.ensures)
-    (handles_there spans c.args.id c.in-Some.place s p c.index.ensures) c.if-index.false))
+    (more_there xs c.self.inside.free es c.args.id c.in-Some.slot c.index_mut.result.now c.self.invariant p c.index_mut.ensures.value)
+    ∙ sym (taken_more (spans_in xs es) c.args.id s.span.kin.handles (open_there xs es c.args.id c.in-Some.slot s p c.index.ensures)
+    (handles_there xs es c.args.id c.in-Some.slot s p c.index.ensures) c.if-index.false))

@@ -1,5 +1,4 @@
-use Rattle.std.proofs.Common.{◌≡◌, Err, subst, sym, ◌∙◌}
-use Rattle.tracing_appender_rolling.specs.declared.folders.fault.FolderError.TheVariants.{Fault, OutOfMemory}
+use Rattle.std.proofs.Common.{Err, subst}
 use Rattle.tracing_appender_rolling.specs.declared.folders.fault.FolderError.{FolderError}
 use Rattle.tracing_appender_rolling.specs.LineHandover.{HandsLine}
 use Rattle.tracing_appender_rolling.specs.Builders.{builder_names}

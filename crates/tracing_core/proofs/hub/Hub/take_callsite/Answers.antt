@@ -1,4 +1,4 @@
-use Rattle.std.proofs.Common.{◌≡◌, ◌++◌, ap, sym, ◌∙◌, refl, arith, take, drop, length}
+use Rattle.std.proofs.Common.{◌≡◌, ◌++◌, true, ap, sym, ◌∙◌, refl, arith, take, drop, length}
 use Rattle.std.proofs.lemmas.List.{with_items_is}
 use Rattle.tracing_core.specs.Commands.{new_callsite}
 use Rattle.tracing_core.specs.Table.{Table}
@@ -15,8 +15,9 @@ returns-in-Ok g c =
       real = taken.0;
       unknown = c.requires;
       row = taken.1;
-      asked = asked_alike g.S.Subscriber g.C.Callsite _ _ _ _ (new_callsite g.C.Callsite c.args.callsite)
-          (new_callsite g.C.Callsite c.args.callsite) taken.1 (c.deref_mut.ensures.value ∙
+      asked = asked_alike g.S.Subscriber g.C.Callsite true _ _ _ _ _ _ (new_callsite g.C.Callsite c.args.callsite)
+          (new_callsite g.C.Callsite c.args.callsite) taken.1
+          (ap (λ (t : Table g.row.S.Denot g.row.C.Denot). length t.callsites) c.self.view_is) (c.deref_mut.ensures.value ∙
           ap (λ (t : Table g.row.S.Denot g.row.C.Denot). t.subscribers) c.self.view_is) refl (sym whole) taken.2;
       told = taken.3;
       kept = kept_at _ _ _ _ taken.1 c.self.view_is taken.4;

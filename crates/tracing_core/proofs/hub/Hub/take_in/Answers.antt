@@ -1,6 +1,8 @@
 use Rattle.std.proofs.Common.{◌≡◌, ◌+◌, ap, ◌∙◌, subst, List, [], ◌∷◌, ◌++◌}
 use Rattle.tracing_core_fields.specs.requests.Calls.{DispatchRegistered}
+use Rattle.tracing_core_fields.specs.requests.Interests.{PlainInterest}
 use Rattle.tracing_core.specs.Commands.{living}
+use Rattle.tracing_core.specs.InterestsAndHints.{heard}
 use Rattle.tracing_core.specs.CacheRefresh.{Refreshed}
 use Rattle.tracing_core.specs.TableRows.{KeptSubscriber}
 use Rattle.tracing_core.proofs.hub.Hub.take_in.Goals as goal
@@ -9,8 +11,10 @@ pub returns : goal.returns
 returns g c =
     let i = c.self.inside in
     let z = c.on_register_dispatch.new.self in
+    let new = λ (kept : List PlainInterest). heard z kept (living i.next z) in
     let pushed : c.push_reserved.new.self.items ≡ i.subscribers.items ++ living i.next z ∷ [] = c.push_reserved.ensures.items ∙
-    ap (λ (es : List (KeptSubscriber g.row.S.Denot)). es ++ living i.next z ∷ []) c.reserve.ensures.items in
+    ap (λ (es : List (KeptSubscriber g.row.S.Denot)). es ++ new c.in-Ok.interests.items ∷ []) c.reserve.ensures.items ∙
+    ap (λ (kept : List PlainInterest). i.subscribers.items ++ new kept ∷ []) c.in-Ok.ensures in
     rw (← c.self.view_is) (
       c.new.ensures,
       (
@@ -25,6 +29,6 @@ returns g c =
               entered = i.entered.items;
               global = i.global;
               greatest = i.greatest;
-            }) c.ask_again.new.self) pushed c.ask_again.ensures,
+            }) c.refresh.new.self) pushed c.refresh.ensures.asked,
       ),
     )
