@@ -6,7 +6,7 @@ usage: scripts/gate.py [CRATE..] [--tests try|prove] [--edits new|all|drawn]
 
 CRATE..          these crates and those below them alone
 --tests prove    proves the tests too, over what the crates' proofs kept, and then runs them; without it they run unproved
---edits drawn    judges each edit that docs/edits.ledger lacks, and of the others one of 24 shares at random; writes nothing (this is what .ci/run does)
+--edits drawn    judges each edit that docs/edits.ledger lacks, and of the others a share at random; writes nothing (this is what .ci/run does)
 --edits new      judges each edit that the ledger lacks, and writes the ledger
 --edits all      judges each edit, and writes the ledger
 --quick          proves nothing: runs all tests, and the programs on their inputs, cases and scenes, unproved. It is for a hurry, and no gate
@@ -152,7 +152,8 @@ class Gate:
     def __init__(self, crates, room, how, top):
         self.crates, self.how, self.top, self.by_name = crates, how, top, {it.name: it for it in crates}
         self.known = ledger.read(LEDGER)
-        self.drawn = ledger.drawn({it.name: [label_of(it, file) for file in rt.edits_of(it)[0]] for it in crates}, seed(top)) if how.edits == "drawn" else set()
+        self.shares = ledger.shares({it.name: [label_of(it, file) for file in rt.edits_of(it)[0]] for it in crates})
+        self.draw = ledger.drawn(seed(top)) if how.edits == "drawn" else None
         self.spent, self.sums, self.open, self.refused, self.failed, self.passed = {}, {}, {}, set(), [], 0
         self.seconds = json.loads(rtlib.text_of(SECONDS) or "{}")
         # the crates whose edits were looked at, so that the ledger's lines of all others stay
@@ -199,12 +200,13 @@ class Gate:
 
     def planned(self, crate):
         """Returns the sums of the crate's edits, and in groups the files of those that are to be judged."""
-        base, sums, wanted = ledger.base(crate), {}, []
+        own, below, sums, wanted = ledger.own(crate), ledger.below(crate), {}, []
         for file in rt.edits_of(crate)[0]:
             label = label_of(crate, file)
-            sums[label] = ledger.sum_of(file, base)
-            is_known = self.how.edits != "all" and self.known.get(label) == sums[label]
-            if not is_known or label in self.drawn:
+            sums[label] = ledger.sum_of(file, own), below
+            known = self.known.get(label, ("", ""))
+            is_known = self.how.edits != "all" and known[0] == sums[label][0]
+            if not is_known or self.draw is not None and ledger.is_drawn(self.shares[label], self.draw, known[1] != below):
                 wanted.append(edits.Edit(crate, file))
         return sums, [[it.file for it in group] for group in edits.groups_of(crate, wanted)]
 
@@ -216,7 +218,7 @@ class Gate:
         print(f"== {name}: {key[1]}: {it.cpu:.0f} s of processors, {it.wall:.0f} s\n{it.said}", end="")
         if part == "plan" and it.is_well:
             sums, groups = it.gave
-            self.sums.update(sums)
+            self.sums.update({label: tuple(its) for label, its in sums.items()})
             self.seen.add(name)
             crate = self.by_name[name]
             for at, files in enumerate(groups, 1):
@@ -250,7 +252,7 @@ class Gate:
         """Writes the ledger: what was refused in this run, what rests on the ledger still, and what it had of crates whose edits weren't looked at, as
         far as there are such files."""
         left_out = {it: its for it, its in self.known.items() if it.partition("/")[0] not in self.seen and os.path.isfile(edit_file(it))}
-        rests = {it: its for it, its in self.sums.items() if it not in self.failed and self.known.get(it) == its}
+        rests = {it: self.known[it] for it, its in self.sums.items() if it not in self.failed and self.known.get(it, "")[:1] == its[:1]}
         ledger.write(f"{self.top}/{LEDGER}", {**left_out, **rests, **{it: self.sums[it] for it in self.refused}})
 
 
@@ -341,7 +343,8 @@ def told(gate, minutes):
     for part, (cpu, wall, number) in gate.spent.items():
         print(f"gate: {part}: {number} tasks, {cpu / 60:.1f} minutes of processors, {wall / 60:.1f} minutes if one after another")
     judged = len(gate.refused) + sum("/" in it for it in gate.failed)
-    print(f"gate: {judged} edits judged; {len(gate.sums) - judged} rest on {LEDGER}")
+    older = sum(it not in gate.refused and gate.known.get(it, its) != its for it, its in gate.sums.items())
+    print(f"gate: {judged} edits judged; {len(gate.sums) - judged} rest on {LEDGER}, {older} of them over older contracts below")
     print(f"gate: {sum(it[0] for it in gate.spent.values()) / 60:.1f} minutes of processors, {minutes:.1f} minutes")
     if gate.failed:
         print(f"gate: FAILED: {'; '.join(gate.failed)}")

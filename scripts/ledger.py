@@ -1,30 +1,31 @@
 """The ledger `docs/edits.ledger`: which edits were refused, and over what.
 
-A line is CRATE/EDIT and a sum of all that the refusal rests on: the edit, the crate's sources, definitions and proofs but for its tests, the contracts
-of the crates below, and the toolchain's logic. Where any of it changes, the sum does, and the gate judges the edit again."""
+A line is CRATE/EDIT and two sums of what the refusal rests on. The first is of the edit, the crate's sources, definitions and proofs but for its tests,
+and the toolchain's logic. Where any of it changes, the gate judges the edit again. The second is of the contracts of the crates below. Where only they
+have changed, the line is *older*: a run judges one of 8 such edits again, and one of 24 of those whose line has both sums."""
 import hashlib
 import os
 
 from kit import LOGIC, rtlib
 
-# Into how many shares the edits are parted, of which a run draws one.
-SHARES = 24
-HEAD = "# Each edit that was refused, and the sum of what that rests on. Written by scripts/gate.py --edits all (or new); see docs/GATE.md.\n"
+# Into how many shares the edits are parted. A run draws one of them, and of the edits whose line is older one of so many.
+SHARES, SHARES_OF_OLDER = 24, 8
+HEAD = "# Each edit that was refused, and the sums of what that rests on. Written by scripts/gate.py --edits all (or new); see docs/GATE.md.\n"
 
 
 def read(file):
-    """Returns what stands behind each CRATE/EDIT, as the sum in the ledger."""
+    """Returns the two sums that stand behind each CRATE/EDIT in the ledger."""
     if not os.path.isfile(file):
         return {}
     with open(file, encoding="utf-8") as it:
         rows = [line.split() for line in it if line.strip() and not line.startswith("#")]
-    return {row[0]: " ".join(row[1:]) for row in rows}
+    return {row[0]: (*row[1:], "", "")[:2] for row in rows}
 
 
 def write(file, sums):
     with open(file, "w", encoding="utf-8") as it:
         it.write(HEAD)
-        it.writelines(f"{label} {sums[label]}\n" for label in sorted(sums))
+        it.writelines(" ".join([label, *sums[label]]) + "\n" for label in sorted(sums))
 
 
 def texts_below(folder):
@@ -62,19 +63,25 @@ def contracts(crate):
     return found.hexdigest()
 
 
-def base(crate):
-    """Returns a sum of what each edit of the crate rests on, but for the edit itself. The libraries below are built."""
+def own(crate):
+    """Returns a sum of the crate's own text, which each of its edits rests on."""
     found = hashlib.sha256(LOGIC.encode())
-    found.update(repr([crate.name, crate.of_kit, [(it.name, contracts(it)) for it in crate.below()]]).encode())
+    found.update(repr([crate.name, crate.of_kit]).encode())
     for part in rtlib.PARTS:
         for row in texts_of(crate, part):
             found.update(repr((part, row)).encode())
     return found.hexdigest()
 
 
-def sum_of(edit, base_of_crate):
+def below(crate):
+    """Returns a sum of the contracts of all crates below, whose libraries are built."""
+    found = hashlib.sha256(repr([(it.name, contracts(it)) for it in crate.below()]).encode())
+    return found.hexdigest()[:16]
+
+
+def sum_of(edit, own_of_crate):
     with open(edit, "rb") as it:
-        return hashlib.sha256(base_of_crate.encode() + it.read()).hexdigest()[:32]
+        return hashlib.sha256(own_of_crate.encode() + it.read()).hexdigest()[:32]
 
 
 def parts(labels, most):
@@ -83,11 +90,21 @@ def parts(labels, most):
     return [labels[len(labels) * at // number : len(labels) * (at + 1) // number] for at in range(number)]
 
 
-def drawn(edits, seed):
-    """Returns the edits that are judged again in the run with this seed, whatever the ledger says: one of 24 shares of about as many. `edits` has the
-    labels of each crate's. Those of a crate stay together as far as a share has room for them, since edits that go into one check share its beginning."""
+def shares(edits):
+    """Returns the share of each edit, one of 24 of about as many. `edits` has the labels of each crate's. Those of a crate stay together as far as a share
+    has room for them, since edits that go into one check share its beginning."""
     most = max(1, -(-sum(map(len, edits.values())) // SHARES))
-    shares = [[] for _ in range(SHARES)]
+    found = [[] for _ in range(SHARES)]
     for part in sorted((it for labels in edits.values() if labels for it in parts(sorted(labels), most)), key=lambda it: (-len(it), it)):
-        min(shares, key=len).extend(part)
-    return {*shares[hashlib.sha256(seed.encode()).digest()[0] % SHARES]}
+        min(found, key=len).extend(part)
+    return {label: at for at, labels in enumerate(found) for label in labels}
+
+
+def drawn(seed):
+    """Returns the share that a run with this seed draws."""
+    return hashlib.sha256(seed.encode()).digest()[0] % SHARES
+
+
+def is_drawn(share, draw, is_older):
+    """Returns whether a run that draws this share judges an edit of the share again, whatever the ledger says of it."""
+    return share == draw or is_older and share % SHARES_OF_OLDER == draw % SHARES_OF_OLDER
