@@ -2,14 +2,14 @@
 
 A line is CRATE/EDIT and two sums of what the refusal rests on. The first is of the edit, the crate's sources, definitions and proofs but for its tests,
 and the toolchain's logic. Where any of it changes, the gate judges the edit again. The second is of the contracts of the crates below. Where only they
-have changed, the line is *older*: a run judges one of 8 such edits again, and one of 24 of those whose line has both sums."""
+have changed, the line is *older*: a run judges one of 8 such edits again, and one of 48 of those whose line has both sums."""
 import hashlib
 import os
 
 from kit import LOGIC, rtlib
 
 # Into how many shares the edits are parted. A run draws one of them, and of the edits whose line is older one of so many.
-SHARES, SHARES_OF_OLDER = 24, 8
+SHARES, SHARES_OF_OLDER = 48, 8
 HEAD = "# Each edit that was refused, and the sums of what that rests on. Written by scripts/gate.py --edits all (or new); see docs/GATE.md.\n"
 
 
@@ -91,7 +91,7 @@ def parts(labels, most):
 
 
 def shares(edits):
-    """Returns the share of each edit, one of 24 of about as many. `edits` has the labels of each crate's. Those of a crate stay together as far as a share
+    """Returns the share of each edit, one of 48 of about as many. `edits` has the labels of each crate's. Those of a crate stay together as far as a share
     has room for them, since edits that go into one check share its beginning."""
     most = max(1, -(-sum(map(len, edits.values())) // SHARES))
     found = [[] for _ in range(SHARES)]
