@@ -1,7 +1,7 @@
 #!/usr/bin/env python3
 """The gate of this repository: proves every crate from nothing, once, and runs and tries all that rests on those proofs.
 
-usage: scripts/gate.py [CRATE..] [--tests try|prove] [--edits new|all|drawn]
+usage: scripts/gate.py [CRATE..] [--tests try|prove] [--edits new|all|drawn] [--minutes N]
        scripts/gate.py [CRATE..] --quick
 
 CRATE..          these crates and those below them alone
@@ -9,6 +9,7 @@ CRATE..          these crates and those below them alone
 --edits drawn    judges each edit that docs/edits.ledger lacks, and of the others a share at random; writes nothing (this is what .ci/run does)
 --edits new      judges each edit that the ledger lacks, and writes the ledger
 --edits all      judges each edit, and writes the ledger
+--minutes N      begins to judge no edit after so many minutes. Those that are left are named, and have no line in the ledger, so the next run judges them
 --quick          proves nothing: runs all tests, and the programs on their inputs, cases and scenes, unproved. It is for a hurry, and no gate
 
 The last line is `N passed, M failed`. RT_JOBS says how many processors it may use; else it takes all. docs/GATE.md says what it checks and why."""
@@ -154,7 +155,8 @@ class Gate:
         self.known = ledger.read(LEDGER)
         self.shares = ledger.shares({it.name: [label_of(it, file) for file in rt.edits_of(it)[0]] for it in crates})
         self.draw = ledger.drawn(seed(top)) if how.edits == "drawn" else None
-        self.spent, self.sums, self.open, self.refused, self.failed, self.passed = {}, {}, {}, set(), [], 0
+        self.spent, self.sums, self.open, self.refused, self.failed, self.passed, self.left = {}, {}, {}, set(), [], 0, []
+        self.last_begin = time.time() + 60 * how.minutes if how.minutes else None
         self.seconds = json.loads(rtlib.text_of(SECONDS) or "{}")
         # the crates whose edits were looked at, so that the ledger's lines of all others stay
         self.seen = set()
@@ -210,6 +212,12 @@ class Gate:
                 wanted.append(edits.Edit(crate, file))
         return sums, [[it.file for it in group] for group in edits.groups_of(crate, wanted)]
 
+    def judged(self, crate, files):
+        """Returns by the edit's name whether it is refused and what to say, and nothing where the time for edits is over."""
+        if self.last_begin and time.time() > self.last_begin:
+            return {os.path.basename(file): None for file in files}
+        return edits.judge(crate, crate.kept, [edits.Edit(crate, it) for it in files])
+
     def ended(self, key, it):
         """Tells what came of a task, and returns the tasks that follow from it."""
         name, part = key[0], key[1].partition(" ")[0]
@@ -222,10 +230,11 @@ class Gate:
             self.seen.add(name)
             crate = self.by_name[name]
             for at, files in enumerate(groups, 1):
-                call = lambda jobs, files=files: edits.judge(crate, crate.kept, [edits.Edit(crate, it) for it in files])
+                call = lambda jobs, files=files: self.judged(crate, files)
                 follow[name, f"edits {at}"] = lanes.Task([], 25 * len(files), call)
         elif part == "edits" and it.is_well:
-            for edit, (is_refused, text) in sorted(it.gave.items()):
+            self.left += [f"{name}/{edit}" for edit, came in it.gave.items() if not came]
+            for edit, (is_refused, text) in sorted((edit, came) for edit, came in it.gave.items() if came):
                 print(f"gate: must-fail {name}/{edit}: {text}")
                 self.count(is_refused, f"{name}/{edit}")
                 self.refused |= {f"{name}/{edit}"} if is_refused else set()
@@ -343,8 +352,12 @@ def told(gate, minutes):
     for part, (cpu, wall, number) in gate.spent.items():
         print(f"gate: {part}: {number} tasks, {cpu / 60:.1f} minutes of processors, {wall / 60:.1f} minutes if one after another")
     judged = len(gate.refused) + sum("/" in it for it in gate.failed)
-    older = sum(it not in gate.refused and gate.known.get(it, its) != its for it, its in gate.sums.items())
-    print(f"gate: {judged} edits judged; {len(gate.sums) - judged} rest on {LEDGER}, {older} of them over older contracts below")
+    left = {it for it in gate.left if gate.known.get(it, ("",))[0] != gate.sums[it][0]}
+    rest = gate.sums.keys() - gate.refused - left - {*gate.failed}
+    older = sum(gate.known[it] != gate.sums[it] for it in rest)
+    print(f"gate: {judged} edits judged; {len(rest)} rest on {LEDGER}, {older} of them over older contracts below")
+    if left:
+        print(f"gate: NOT JUDGED for want of time: {len(left)} edits, which the next run judges: {'; '.join(sorted(left))}")
     print(f"gate: {sum(it[0] for it in gate.spent.values()) / 60:.1f} minutes of processors, {minutes:.1f} minutes")
     if gate.failed:
         print(f"gate: FAILED: {'; '.join(gate.failed)}")
@@ -357,6 +370,7 @@ def main():
     reader.add_argument("crates", nargs="*")
     reader.add_argument("--tests", choices=["try", "prove"], default="try")
     reader.add_argument("--edits", choices=["drawn", "new", "all"], default="drawn")
+    reader.add_argument("--minutes", type=float)
     reader.add_argument("--quick", action="store_true")
     how = reader.parse_args()
     top = os.path.dirname(os.path.dirname(os.path.realpath(__file__)))

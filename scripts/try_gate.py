@@ -175,16 +175,17 @@ def tried(name, changes, crate, wanted):
 
 
 def ledger_tried():
-    """Returns whether an edit that the ledger has rests on it, and one whose crate changed is judged again."""
+    """Returns whether an edit that the ledger has rests on it, one whose crate changed is judged again, and one that there is no time for is named."""
     with tempfile.TemporaryDirectory(prefix="try-gate-") as root:
         laid(root, {})
+        left = "NOT JUDGED for want of time: 1 edits" in gate(root, "low", "--minutes", "0.001")[1]
         gate(root, "low", "--edits", "all")
         rests = "0 edits judged; 1 rest" in gate(root, "low", "--edits", "new")[1]
         with open(f"{root}/{LIB}", "a", encoding="utf-8") as it:
             it.write("\npub fn more() {}\n")
         again = "1 edits judged; 0 rest" in gate(root, "low", "--edits", "new")[1]
-        print(f"{'ok ' if rests and again else 'BAD'} the ledger: {rests}, {again}", flush=True)
-        return rests and again
+        print(f"{'ok ' if rests and again and left else 'BAD'} the ledger: {rests}, {again}, {left}", flush=True)
+        return rests and again and left
 
 
 def main(words):
