@@ -107,7 +107,6 @@ module _ (xs : List SpanSlot) (free : Vec ℕ Global) (es : List Entry) (id k : 
         apart = sound.apart;
         all = rw (now, size) (let as_long = length_changed f (standing xs es) id in let all = sound.all in omega (arith, as_long, all));
         room = let room = sound.room in omega (arith, size, room);
-        few = let few = sound.few in omega (arith, size, few);
         children = subst CountChildren (sym now) (count_kept f ids parents same (standing xs es) id sound.children);
       }
 

@@ -47,10 +47,10 @@ module _ (slots : List SpanSlot) (free left : Vec ℕ Global) (k : ℕ) (kin : S
     (passed : FilterMap) (s t : SpanSlot) where
   -- into a free slot
   pub takes_free : free.items ≡ left.items ++ k ∷ [] → vec_capacity left ≡ vec_capacity free → AreFree slots free.items →
-      Apart free.items → length slots ≤ vec_capacity free → length slots ≤ 4294967295 → s ≡ get_or slots k s → t ≡
+      Apart free.items → length slots ≤ vec_capacity free → s ≡ get_or slots k s → t ≡
       taken_by kin metadata passed s →
       TakesSlot slots free (fresh kin metadata passed) k (set slots k t) left
-  takes_free is capacity vacant apart fits few read gives =
+  takes_free is capacity vacant apart fits read gives =
       let vacant_all : AreFree slots (left.items ++ k ∷ []) = subst (λ ks. AreFree slots ks) is vacant in
       let one = last_free slots k left.items vacant_all in
       let here = get_at slots k s one.1 read in
@@ -69,7 +69,6 @@ module _ (slots : List SpanSlot) (free left : Vec ℕ Global) (k : ℕ) (kin : S
         apart = rest_apart k left.items apart_all;
         all = omega (arith, size, sizes, more);
         room = omega (arith, size, capacity, fits);
-        few = omega (arith, size, few);
       }
 
 abbrev fresh_with : SpanRecord → Arc OwnedMetadata Global → FilterMap → List PlainPlace → SpanSlot
@@ -84,10 +83,10 @@ module _ (slots later : List SpanSlot) (free left : Vec ℕ Global) (k : ℕ) (k
     (passed : FilterMap) (sl : List PlainPlace) where
   -- into a new slot
   pub takes_new : length free.items ≡ 0 → length left.items ≡ 0 → vec_capacity left ≡ vec_capacity free →
-      length slots < vec_capacity free → length slots < 4294967295 → k ≡ length slots → sl ≡ [] →
+      length slots < vec_capacity free → k ≡ length slots → sl ≡ [] →
       later ≡ slots ++ fresh_with kin metadata passed sl ∷ [] →
       TakesSlot slots free (fresh kin metadata passed) k later left
-  takes_new none_free none_later capacity fits few at_end empty is =
+  takes_new none_free none_later capacity fits at_end empty is =
       let nothing = none_left left.items none_later in
       let now : later ≡ slots ++ fresh kin metadata passed ∷ [] = is ∙
       ap (λ (x : List PlainPlace). slots ++ fresh_with kin metadata passed x ∷ []) empty in
@@ -106,7 +105,6 @@ module _ (slots later : List SpanSlot) (free left : Vec ℕ Global) (k : ℕ) (k
         apart = subst Apart (sym nothing) tt;
         all = omega (arith, size, more, none_free, none_later);
         room = omega (arith, size, more, capacity, fits);
-        few = omega (arith, size, more, few);
       }
 
 -- what a call that only looks at the end of the index leaves
@@ -121,14 +119,13 @@ sound_end slots later free kept index left sound same free_same room ends rise i
       apart = subst Apart (sym free_same) sound.apart;
       all = rw (ends, free_same) sound.all;
       room = room;
-      few = sound.few;
       children = subst CountChildren (sym ends) sound.children;
     })
 
 pub counts_fit : (slots : List SpanSlot) (free : Vec ℕ Global) (index : List Entry) → AreSound slots free index →
-    CountsFit slots index
-counts_fit slots free index sound = λ id s here. let below = children_below (standing slots index) id s sound.children here in
-    let all = sound.all in let few = sound.few in omega (arith, below, all, few)
+    length slots ≤ 18446744073709551615 → CountsFit slots index
+counts_fit slots free index sound few = λ id s here. let below = children_below (standing slots index) id s sound.children here in
+    let all = sound.all in omega (arith, below, all, few)
 
 module _ (slots counted later : List SpanSlot) (free left : Vec ℕ Global) (index : List Entry) (kin : SpanRecord)
     (metadata : Arc OwnedMetadata Global) (passed : FilterMap) (k : ℕ) (sound : AreSound slots free index) (ends : EndsOpen slots index)
@@ -160,7 +157,6 @@ module _ (slots counted later : List SpanSlot) (free left : Vec ℕ Global) (ind
         apart = takes.apart;
         all = let all = sound.all in let taken = takes.all in omega (arith, all, taken, as_many, one_more, same, size);
         room = takes.room;
-        few = takes.few;
         children = subst CountChildren (sym stands_last)
             (count_new kin.parent 0 (standing slots index) new_slot refl refl (standing_rise 0 slots index sound.rise) sound.children);
       }
@@ -223,7 +219,6 @@ module _ (slots : List SpanSlot) (free : Vec ℕ Global) (index : List Entry) (i
           apart = subst Apart (sym more) (more_apart slots k s free.items here was.0 sound.vacant sound.apart);
           all = let all = sound.all in omega (arith, all, as_many, same_many, one_less, set_size, vacated_size, free_size, one_more, size);
           room = let room = sound.room in omega (arith, room, capacity, set_size, vacated_size, size);
-          few = let few = sound.few in omega (arith, few, set_size, vacated_size, size);
           children = subst CountChildren (sym
               (left_standing ∙ ap (less_children (gone (standing slots index) id))
               (parent ∙ ap (λ (j : ℕ). before_only j s.span.kin.parent) same_id)))

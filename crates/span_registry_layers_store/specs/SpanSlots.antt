@@ -102,7 +102,7 @@ Apart [] = Unit {0}
 Apart (k ∷ ks) = AllByRecursion (λ (j : ℕ). k ≡ j → ⊥) ks × Apart ks
 
 -- what is true of the fields: ids rise in the index, where each open span has its entry, free slots are vacant and apart, each slot is
--- free or holds an open span, there is room for each in the list of free slots, their numbers fit, and children are counted
+-- free or holds an open span, there is room for each in the list of free slots, and children are counted
 pub record AreSound (slots : List SpanSlot) (free : Vec ℕ Global) (index : List Entry) : Type 0 where
   pub rise : Rises entry_kin 0 index
   pub indexed : AreIndexed slots index
@@ -110,7 +110,6 @@ pub record AreSound (slots : List SpanSlot) (free : Vec ℕ Global) (index : Lis
   pub apart : Apart free.items
   pub all : length free.items + length (standing slots index) ≡ length slots
   pub room : length slots ≤ vec_capacity free
-  pub few : length slots ≤ 4294967295
   pub children : CountChildren (standing slots index)
 
 -- the last entry leads to an open span
@@ -152,7 +151,7 @@ stays_by lanes s = nat_lt 0 s.span.kin.handles || (is_entered lanes s.span.kin.i
 
 -- a count of children has room for one more
 abbrev pub CountsFit : List SpanSlot → List Entry → Type 0
-CountsFit slots index = (id : ℕ) (s : SpanSlot) → found slot_kin (standing slots index) id ≡ Some s → s.children < 4294967295
+CountsFit slots index = (id : ℕ) (s : SpanSlot) → found slot_kin (standing slots index) id ≡ Some s → s.children < 18446744073709551615
 
 -- counts of children change, and nothing else: slots that were free are so still, and open spans have their entries
 pub record ChangesCounts (f : List SpanSlot → List SpanSlot) (slots later : Vec SpanSlot Global) (index : List Entry) : Type 0 where
@@ -184,7 +183,6 @@ pub record TakesSlot (slots : List SpanSlot) (free : Vec ℕ Global) (t : SpanSl
   pub apart : Apart left.items
   pub all : length later + length free.items ≡ length slots + length left.items + 1
   pub room : length later ≤ vec_capacity left
-  pub few : length later ≤ 4294967295
 
 -- an entry leads to an open span that doesn't stay
 abbrev pub goes_at : List (List ℕ) → ℕ → Option SpanSlot → Bool

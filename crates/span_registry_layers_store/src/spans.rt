@@ -34,7 +34,7 @@ pub(crate) struct Spans {
     alloc: Global,
     slots: Vec<SpanSlot>,
     /// Slots that hold no span.
-    free: Vec<u32>,
+    free: Vec<usize>,
     /// The slots of spans, by their ids.
     index: Vec<Entry>,
     /// Which slots spans stand in, by the last digits of their ids. They are looked at, and may be wrong.

@@ -1,4 +1,4 @@
-use Rattle.std.proofs.Common.{◌∙◌, ◌++◌, ◌∷◌, [], ◌≤◌, length, map, List, ap, sym, subst, vec_capacity}
+use Rattle.std.proofs.Common.{arith, ◌∙◌, ◌++◌, ◌∷◌, [], ◌≤◌, length, map, List, ap, sym, subst, vec_capacity}
 use Rattle.span_registry_layers_store.specs.Registries.{PlainSpan}
 use Rattle.span_registry_layers_store.specs.SpanSlots.{AreIndexed, CountsFit, new_span, plain_slot_span, spans_in}
 use Rattle.span_registry_layers_store.specs.declared.index.Entry.{Entry}
@@ -18,7 +18,7 @@ add_child-requires-clause-few c =
     c.self.invariant
     c.as_slice.ensures.value c.tidy.ensures.same c.reserve.ensures.items c.tidy.ensures.rise c.tidy.ensures.indexed c.make_room.ensures.free
     fits in
-    let few : CountsFit xs now = counts_fit xs c.make_room.new.free now sound in
+    let few : CountsFit xs now = counts_fit xs c.make_room.new.free now sound (omega (arith, c.len.ensures)) in
     subst (λ (is : List Entry). CountsFit c.make_room.new.slots.items is) (sym c.as_slice-3.ensures.value)
     (subst (λ (ss : List SpanSlot). CountsFit ss now) (sym c.make_room.ensures.slots) few)
 

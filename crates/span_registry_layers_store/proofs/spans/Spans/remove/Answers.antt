@@ -15,9 +15,6 @@ vacate-requires-clause-room c =
     c.as_slice-2.ensures.value c.in-Some.ensures in
     room_there xs c.self.inside.free es c.args.id c.in-Some.slot c.index.result.now c.self.invariant p c.index.ensures
 
-pub vacate-requires-clause-few : goal.vacate-requires-clause-few
-vacate-requires-clause-few c = c.self.invariant.few
-
 pub drop_child-requires-clause-indexed : goal.drop_child-requires-clause-indexed
 drop_child-requires-clause-indexed c =
     let xs = c.self.inside.slots.items in
