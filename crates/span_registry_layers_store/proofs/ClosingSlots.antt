@@ -7,8 +7,8 @@ use Rattle.std.proofs.lemmas.Bool.{false≢true}
 use Rattle.std.proofs.lemmas.Option.{none-some, same_Some}
 use Rattle.span_registry_layers_store.specs.RegistryCalls.{ClosesFirst, ClosesTo, dropped}
 use Rattle.span_registry_layers_store.specs.Registries.{PlainSpan, kin_in}
-use Rattle.span_registry_layers_store.specs.SpanSlots.{AreIndexed, CountChildren, entry_kin, goes, goes_at, holds, holds_in, if_holds, plain_slot_span}
-use Rattle.span_registry_layers_store.specs.SpanSlots.{spans_in, standing, stays_by}
+use Rattle.span_registry_layers_store.specs.SpanSlots.{AreIndexed, CountChildren, entry_kin, goes, goes_at, holds, holds_in, if_holds}
+use Rattle.span_registry_layers_store.specs.SpanSlots.{plain_slot_span, spans_in, standing, stays_by}
 use Rattle.span_registry_layers_store.specs.Spans.{AllStay, Rises, closed_of, keep_if, keeps, open_of, stays, unless}
 use Rattle.span_registry_layers_store.specs.declared.index.Entry.{Entry}
 use Rattle.span_registry_layers_store.specs.declared.span_slot.SpanSlot.{SpanSlot}

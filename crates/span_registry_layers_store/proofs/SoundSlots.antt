@@ -9,8 +9,8 @@ use Rattle.tracing_core_fields.specs.declared.owned_metadata.OwnedMetadata.{Owne
 use Rattle.span_registry_layers_store.specs.RegistryCalls.{dropped}
 use Rattle.span_registry_layers_store.specs.Registries.{PlainSpan}
 use Rattle.span_registry_layers_store.specs.SpanSlots.{AreIndexed, Apart, AreFree, AreSound, ChangesCounts, CountChildren, CountsFit}
-use Rattle.span_registry_layers_store.specs.SpanSlots.{EndsOpen, IsFree, IsSlotOf, IsVacated, TakesSlot, before_only, entry_at, entry_kin, fresh}
-use Rattle.span_registry_layers_store.specs.SpanSlots.{gone, if_holds, less_children, let_go, more_children, new_span, one_child_less}
+use Rattle.span_registry_layers_store.specs.SpanSlots.{EndsOpen, IsFree, IsSlotOf, IsVacated, TakesSlot, before_only, entry_at, entry_kin}
+use Rattle.span_registry_layers_store.specs.SpanSlots.{fresh, gone, if_holds, less_children, let_go, more_children, new_span, one_child_less}
 use Rattle.span_registry_layers_store.specs.SpanSlots.{one_child_more, plain_slot_span, slot_kin, spans_in, standing, taken_by}
 use Rattle.span_registry_layers_store.specs.Slots.{PlainPlace}
 use Rattle.span_registry_layers_store.specs.Spans.{Rises, changed, found}
@@ -286,9 +286,9 @@ module _ (slots : Vec SpanSlot Global) (index : List Entry) (parent : Option ℕ
 
 -- what a new span found room in
 module _ (slots slice : List SpanSlot) (room : Vec SpanSlot Global) (free kept : Vec ℕ Global) (index ends now : List Entry)
-    (sound : AreSound slots free index) (lent : slice ≡ slots) (ended : standing slice ends ≡ standing slice index) (same_index : now ≡ ends)
-    (rise : Rises entry_kin 0 ends) (indexed : AreIndexed slice ends) (same_slots : room.items ≡ slots) (same_free : kept.items ≡ free.items)
-    (fits : length room.items ≤ vec_capacity kept) where
+    (sound : AreSound slots free index) (lent : slice ≡ slots) (ended : standing slice ends ≡ standing slice index)
+    (same_index : now ≡ ends) (rise : Rises entry_kin 0 ends) (indexed : AreIndexed slice ends) (same_slots : room.items ≡ slots)
+    (same_free : kept.items ≡ free.items) (fits : length room.items ≤ vec_capacity kept) where
   as_before : standing slots now ≡ standing slots index
   as_before = ap (standing slots) same_index ∙ subst (λ ss. standing ss ends ≡ standing ss index) lent ended
 

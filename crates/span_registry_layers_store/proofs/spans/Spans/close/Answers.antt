@@ -53,7 +53,8 @@ invariant_of-self c =
     let xs = c.self.inside.index.slots.items in
     let es = c.self.inside.index.entries.items in
     let p = c.in-Some.ensures in
-    subst (λ (v : Vec Entry Global). AreSound c.drop_child.new.self.slots.items c.vacate.new.free v.items) (sym c.drop_child.ensures.entries)
+    subst (λ (v : Vec Entry Global). AreSound c.drop_child.new.self.slots.items c.vacate.new.free v.items)
+    (sym c.drop_child.ensures.entries)
     (removed_sound xs c.self.inside.free es c.args.id c.in-Some.slot c.index-3.result.now c.self.invariant p c.index-3.ensures
     c.vacate.new.slots.items c.drop_child.new.self.slots.items c.vacate.new.free c.parent_before-counted.result c.vacate.ensures.slots
     c.vacate.ensures.free c.vacate.ensures.capacity c.drop_child.ensures.counts.size c.parent_before-counted.ensures
@@ -64,7 +65,8 @@ returns-clause-closes c =
     let xs = c.self.inside.index.slots.items in
     let es = c.self.inside.index.entries.items in
     let p = c.in-Some.ensures in
-    let there = keeps_there xs es c.args.id c.in-Some.slot c.index.result.now p c.index.ensures c.args.lanes.now c.self.invariant.children in
+    let there = keeps_there xs es c.args.id c.in-Some.slot c.index.result.now p c.index.ensures c.args.lanes.now
+    c.self.invariant.children in
     rw (← c.self.view_is) (
       sym there ∙ sym c.stays.ensures ∙ c.if-stays.false,
       c.parent_of-parent.ensures ∙ sym (parent_there xs es c.args.id c.in-Some.slot c.index-2.result.now p c.index-2.ensures),
@@ -76,4 +78,5 @@ returns-clause-closes c =
     )
 
 pub returns-clause-rise : goal.returns-clause-rise
-returns-clause-rise c = rw (← c.self.view_is) (rise_told c.self.inside.index.slots.items c.self.inside.index.entries.items c.self.invariant.rise)
+returns-clause-rise c = rw (← c.self.view_is) (rise_told c.self.inside.index.slots.items c.self.inside.index.entries.items
+    c.self.invariant.rise)

@@ -8,8 +8,7 @@ pub returns-in-None : goal.returns-in-None
 returns-in-None c =
     let xs = c.self.inside.index.slots.items in
     let es = c.self.inside.index.entries.items in
-    rw (← c.self.view_is) (sym (none_shown (standing xs es) c.args.id
-    c.in-None.ensures))
+    rw (← c.self.view_is) (sym (none_shown (standing xs es) c.args.id c.in-None.ensures))
 
 pub returns-in-Some : goal.returns-in-Some
 returns-in-Some c =

@@ -11,8 +11,7 @@ returns-in_default c =
     let xs = c.self.inside.index.slots.items in
     let es = c.self.inside.index.entries.items in
     rw (← c.self.view_is) (sym (given_none (spans_in xs es) c.args.id 0
-    (no_handles_shown (standing xs es) c.args.id
-    c.in_default.ensures) refl))
+    (no_handles_shown (standing xs es) c.args.id c.in_default.ensures) refl))
 
 pub returns-then-index-eq0 : goal.returns-then-index-eq0
 returns-then-index-eq0 c =

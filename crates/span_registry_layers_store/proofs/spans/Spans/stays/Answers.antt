@@ -6,11 +6,11 @@ pub returns-in-None-clause-stays : goal.returns-in-None-clause-stays
 returns-in-None-clause-stays c =
     let xs = c.self.inside.index.slots.items in
     let es = c.self.inside.index.entries.items in
-    rw (← c.self.view_is) (keeps_nowhere c.args.lanes.now xs es c.args.id
-    c.in-None.ensures)
+    rw (← c.self.view_is) (keeps_nowhere c.args.lanes.now xs es c.args.id c.in-None.ensures)
 
 pub returns-in-None-clause-rise : goal.returns-in-None-clause-rise
-returns-in-None-clause-rise c = rw (← c.self.view_is) (rise_told c.self.inside.index.slots.items c.self.inside.index.entries.items c.self.invariant.rise)
+returns-in-None-clause-rise c = rw (← c.self.view_is) (rise_told c.self.inside.index.slots.items
+    c.self.inside.index.entries.items c.self.invariant.rise)
 
 pub returns-in-Some-clause-stays : goal.returns-in-Some-clause-stays
 returns-in-Some-clause-stays c =
@@ -22,4 +22,5 @@ returns-in-Some-clause-stays c =
     c.self.invariant.children)
 
 pub returns-in-Some-clause-rise : goal.returns-in-Some-clause-rise
-returns-in-Some-clause-rise c = rw (← c.self.view_is) (rise_told c.self.inside.index.slots.items c.self.inside.index.entries.items c.self.invariant.rise)
+returns-in-Some-clause-rise c = rw (← c.self.view_is) (rise_told c.self.inside.index.slots.items
+    c.self.inside.index.entries.items c.self.invariant.rise)

@@ -3,8 +3,7 @@ use Rattle.span_registry_layers_store.specs.Registries.{PlainSpan}
 use Rattle.span_registry_layers_store.specs.SpanSlots.{spans_in, standing}
 use Rattle.span_registry_layers_store.proofs.Handles.{taken_full, taken_more, taken_unknown}
 use Rattle.span_registry_layers_store.proofs.SlotViews.{is_open_nowhere}
-use Rattle.span_registry_layers_store.proofs.SlotChanges.{handles_there, more_handles, more_there, open_there}
-use Rattle.span_registry_layers_store.proofs.SlotChanges.{sound_put}
+use Rattle.span_registry_layers_store.proofs.SlotChanges.{handles_there, more_handles, more_there, open_there, sound_put}
 use Rattle.span_registry_layers_store.proofs.spans.Spans.take_one.Goals as goal
 
 pub returns-in_default : goal.returns-in_default
@@ -12,8 +11,7 @@ returns-in_default c =
     let xs = c.self.inside.index.slots.items in
     let es = c.self.inside.index.entries.items in
     rw (← c.self.view_is) (sym (taken_unknown (spans_in xs es) c.args.id
-    (is_open_nowhere (standing xs es) c.args.id
-    c.in_default.ensures)))
+    (is_open_nowhere (standing xs es) c.args.id c.in_default.ensures)))
 
 pub returns-then-index : goal.returns-then-index
 returns-then-index c =
