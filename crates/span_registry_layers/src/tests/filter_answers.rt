@@ -1,8 +1,6 @@
 // What filters answer.
 use super::*;
-use crate::{
-    And, Context, ContextTest, DynFilterFn, FilterFn, MetadataTest, Not, Or, filter_fn,
-};
+use crate::{And, Context, ContextTest, DynFilterFn, FilterFn, MetadataTest, Not, Or, filter_fn};
 use tracing_core::LevelFilter;
 
 /// Whether a filter passes DEBUG events of a target, and its interest in them.
