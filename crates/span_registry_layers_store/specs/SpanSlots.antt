@@ -90,7 +90,7 @@ pub record AreIndexed (slots : List SpanSlot) (index : List Entry) : Type 0 wher
 
 -- a slot of the list of free slots holds no span, and nothing that outputs keep
 abbrev pub IsFree : List SpanSlot → ℕ → Type 0
-IsFree slots k = IfSome (slice_get slots k) (λ (s : SpanSlot). (s.is_open ≡ false) × (s.span.slots ≡ [])) × (k < length slots)
+IsFree slots k = IfSome (slice_get slots k) (λ (s : SpanSlot). (s.is_open ≡ false) × (s.span.extensions ≡ [])) × (k < length slots)
 
 abbrev pub AreFree : List SpanSlot → List ℕ → Type 0
 AreFree slots [] = Unit {0}
@@ -123,7 +123,7 @@ taken_by kin metadata passed s =
     record { span = record s.span { kin = kin; metadata = metadata; passed = passed }; is_open = true; children = 0 }
 
 abbrev pub let_go : SpanSlot → SpanSlot
-let_go s = record s { span = record s.span { slots = [] }; is_open = false }
+let_go s = record s { span = record s.span { extensions = [] }; is_open = false }
 
 abbrev pub one_child_more : SpanSlot → SpanSlot
 one_child_more s = record s { children = s.children + 1 }
@@ -168,10 +168,10 @@ IsVacated slots k later = (s : SpanSlot) → slice_get slots k ≡ Some s → la
 -- a slot with a new span
 abbrev pub fresh : SpanRecord → Arc OwnedMetadata Global → FilterMap → SpanSlot
 fresh kin metadata passed = record
-    { span = record { kin = kin; metadata = metadata; passed = passed; slots = [] }; is_open = true; children = 0 }
+    { span = record { kin = kin; metadata = metadata; passed = passed; extensions = [] }; is_open = true; children = 0 }
 
 abbrev pub new_span : SpanRecord → Arc OwnedMetadata Global → FilterMap → PlainSpan
-new_span kin metadata passed = plain_span (record { kin = kin; metadata = metadata; passed = passed; slots = [] })
+new_span kin metadata passed = plain_span (record { kin = kin; metadata = metadata; passed = passed; extensions = [] })
 
 -- a span is put into a slot that was free or is new
 pub record TakesSlot (slots : List SpanSlot) (free : Vec ℕ Global) (t : SpanSlot) (k : ℕ) (later : List SpanSlot) (left : Vec ℕ Global) :
@@ -194,4 +194,4 @@ goes slots lanes e = goes_at lanes e.id (slice_get slots e.slot)
 
 -- with other slots of outputs
 abbrev pub with_slots_in : List PlainPlace → SpanSlot → SpanSlot
-with_slots_in w s = record s { span = record s.span { slots = w } }
+with_slots_in w s = record s { span = record s.span { extensions = w } }

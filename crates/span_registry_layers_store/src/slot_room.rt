@@ -56,7 +56,7 @@ pub(crate) fn occupy(
                 kin,
                 metadata,
                 passed,
-                slots: Extensions::new(alloc),
+                extensions: Extensions::new(alloc),
             };
             slots.push_reserved(SpanSlot {
                 span,
