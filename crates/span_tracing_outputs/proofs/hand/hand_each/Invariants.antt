@@ -1,7 +1,7 @@
 use Rattle.std.proofs.Common.{◌≡◌, length, List}
 use Rattle.span_tracing_outputs.specs.SinkLines.{TakesEach}
 use Rattle.span_tracing_outputs.proofs.SinkLines.{TakesFrom, cleared_to}
-use Rattle.span_tracing_outputs.proofs.hand.hand_over.Given as goal
+use Rattle.span_tracing_outputs.proofs.hand.hand_each.Given as goal
 
 abbrev pub invariant-loop-place : goal.invariant-loop-place
 invariant-loop-place g l = record {
