@@ -131,9 +131,7 @@ impl<'a> Context<'a> {
         ensures lent { option_map (λ s. s.now) result ≡ option_map slots_in (span_in (view self.old) id.now) }
         ensures* ends { sem 𝓛 (LendsSlots self.entry id.now result) }
     {
-        if !self.exists(id) {
-            return None;
-        }
-        self.registry.extensions_mut(id)
+        let filter = self.filter;
+        self.registry.extensions_mut_under(id, filter)
     }
 }

@@ -10,6 +10,7 @@ ghost use Rattle.span_registry_layers_layers.specs.FilterViews.{Closed, Entered,
 ghost use Rattle.span_registry_layers_layers.specs.SpanCalls.{hook};
 
 mod boxed;
+mod boxed_send;
 mod combined;
 mod dynamic;
 mod ext;

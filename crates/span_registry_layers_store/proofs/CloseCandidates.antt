@@ -1,6 +1,7 @@
 -- What each call leaves of the note on which spans may not stay.
 use Rattle.std.proofs.Common.{◌≡◌, ◌∙◌, ◌+◌, ◌++◌, ◌∷◌, [], ℕ, nat_lt, List, Bool, true, false, Option, Some, None, Result, refl, ap, sym}
 use Rattle.std.proofs.Common.{subst, arith}
+use Rattle.std.proofs.lemmas.Bool.{false≢true}
 use Rattle.std.proofs.lemmas.Bool.Decides.{nat_tests}
 use Rattle.tracing_core_fields.specs.requests.Refusals.{or_same}
 use Rattle.tracing_core_fields.specs.declared.requests.refusal.RequestError.{RequestError}
@@ -11,7 +12,7 @@ use Rattle.span_registry_layers_store.specs.SlotCalls.{with_places, with_slots}
 use Rattle.span_registry_layers_store.specs.Lanes.{pushed, removed}
 use Rattle.span_registry_layers_store.specs.Registries.{PlainSpan, RegistryValue, kin_in, one_less, one_more, with_span}
 use Rattle.span_registry_layers_store.specs.IdOrder.{Rises}
-use Rattle.span_registry_layers_store.specs.CloseCandidates.{IsWhole, MayGo, OthersStay, after_close, at_most}
+use Rattle.span_registry_layers_store.specs.CloseCandidates.{IsFirst, IsWhole, MayGo, OthersStay, after_close, at_most}
 use Rattle.span_registry_layers_store.specs.Slots.{PlainPlace}
 use Rattle.span_registry_layers_store.specs.Spans.{AllStay, StayBut, changed, keeps, parent_of}
 use Rattle.span_registry_layers_store.specs.declared.close_candidates.CloseCandidates.{CloseCandidates}
@@ -45,6 +46,21 @@ module _ (u : CloseCandidates) (x : RegistryValue) (whole : IsWhole u x) where
     -- another one may go then
     pub other_loosened : (other : ℕ) → stays ≡ true → IsWhole (One other) x
     other_loosened other test = (whole.0, stay_any x.lanes (Some other) x.spans (one_kept test))
+
+  -- one that is noted alone, and one that was found among all
+  pub one_first : (id : ℕ) → u ≡ One id → IsFirst u x id
+  one_first id is = record {
+    may = may_be u id is;
+    goes = λ rise kept. one_goes id (keeps kin_in x.lanes x.spans id) is rise refl kept;
+    stay = λ rise kept. one_stays id (keeps kin_in x.lanes x.spans id) is rise refl kept;
+  }
+
+  pub any_first : (id : ℕ) → u ≡ Anybody → ClosesFirst x.lanes x.spans id × (keeps kin_in x.lanes x.spans id ≡ false) → IsFirst u x id
+  any_first id is first = record {
+    may = subst (λ v. MayGo id v) (sym is) tt;
+    goes = λ rise kept. first.0;
+    stay = λ rise kept. absurd (false≢true (sym first.1 ∙ kept));
+  }
 
   pub first_loosened : (other : ℕ) → u ≡ Nobody → IsWhole (One other) x
   first_loosened other is = (whole.0, stay_any x.lanes (Some other) x.spans (subst (λ v. OthersStay v x.lanes x.spans) is whole.1))

@@ -7,17 +7,18 @@ use Rattle.std.proofs.lemmas.Bool.{false≢true}
 use Rattle.std.proofs.lemmas.Option.{none-some, same_Some}
 use Rattle.span_registry_layers_store.specs.RegistryCalls.{ClosesFirst, ClosesTo, dropped}
 use Rattle.span_registry_layers_store.specs.Registries.{PlainSpan, kin_in}
-use Rattle.span_registry_layers_store.specs.SpanSlots.{CountChildren, entry_kin, goes, goes_at, holds, if_holds, plain_slot_span, spans_in}
-use Rattle.span_registry_layers_store.specs.SpanSlots.{standing, stays_by}
-use Rattle.span_registry_layers_store.specs.Spans.{AllStay, Rises, closed_of, keep_if, open_of, stays, unless}
+use Rattle.span_registry_layers_store.specs.SpanSlots.{AreIndexed, CountChildren, entry_kin, goes, goes_at, holds, holds_in, if_holds}
+use Rattle.span_registry_layers_store.specs.SpanSlots.{plain_slot_span, spans_in, standing, stays_by}
+use Rattle.span_registry_layers_store.specs.Spans.{AllStay, Rises, closed_of, keep_if, keeps, open_of, stays, unless}
 use Rattle.span_registry_layers_store.specs.declared.index.Entry.{Entry}
 use Rattle.span_registry_layers_store.specs.declared.span_slot.SpanSlot.{SpanSlot}
 use Rattle.span_registry_layers_store.proofs.ParentLinks.{stays_carried}
 use Rattle.span_registry_layers_store.proofs.ClosedSpans.{settled_more, settled_none}
-use Rattle.span_registry_layers_store.proofs.ChildCounts.{stays_counted}
+use Rattle.span_registry_layers_store.proofs.ChildCounts.{keeps_counted, stays_counted}
 use Rattle.span_registry_layers_store.proofs.Lists.{get_at}
 use Rattle.span_registry_layers_store.proofs.SpanPlaces.{differs}
-use Rattle.span_registry_layers_store.proofs.StandingSlots.{held, held_test}
+use Rattle.span_registry_layers_store.proofs.SlotViews.{keeps_shown}
+use Rattle.span_registry_layers_store.proofs.StandingSlots.{held, held_test, slot_shown}
 
 begins : (es : List Entry) (n : ℕ) (e : Entry) → n < length es → e ≡ get_or es n e → drop n es ≡ e ∷ drop (suc n) es
 begins [] n e h is = absurd (omega arith)
@@ -155,3 +156,23 @@ module _ (lanes : List (List ℕ)) where
   closes_here slots es n r e er within read rise counts test settled =
       closes_from slots 0 es n e rise (get_at es n e (omega arith) read) counts test
       (subst (λ (j : ℕ). AllStay kin_in lanes (spans_in slots (drop j es))) er settled)
+
+  and_parts : (b c : Bool) → (b && c) ≡ true → (b ≡ true) × (c ≡ true)
+  and_parts true c test = (refl, test)
+  and_parts false c test = absurd (false≢true test)
+
+  gone_at : (o : Option SpanSlot) (slots : List SpanSlot) (es : List Entry) (id k : ℕ) → Rises entry_kin 0 es → AreIndexed slots es →
+      CountChildren (standing slots es) → slice_get slots k ≡ o → goes_at lanes id o ≡ true →
+      keeps kin_in lanes (spans_in slots es) id ≡ false
+  gone_at None slots es id k rise indexed counts here test = absurd (false≢true test)
+  gone_at (Some s) slots es id k rise indexed counts here test =
+      let both = and_parts (holds id s) (not (stays_by lanes s)) test in
+      let p = slot_shown slots es id k rise indexed (ap (holds_in id) here ∙ both.0) in
+      keeps_shown lanes (standing slots es) id ∙ keeps_counted lanes (standing slots es) id s counts (p.here ∙ here) ∙
+      not_false (stays_by lanes s) both.1
+
+  -- what goes isn't kept
+  pub none_keeps : (slots : List SpanSlot) (es : List Entry) (e : Entry) → Rises entry_kin 0 es → AreIndexed slots es →
+      CountChildren (standing slots es) → goes slots lanes e ≡ true → keeps kin_in lanes (spans_in slots es) e.id ≡ false
+  none_keeps slots es e rise indexed counts test =
+      gone_at (slice_get slots e.slot) slots es e.id e.slot rise indexed counts refl test

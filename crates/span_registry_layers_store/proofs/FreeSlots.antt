@@ -69,14 +69,14 @@ beside_more id (s ∷ ss) t after j (suc m) other = beside_more id ss t after j 
 pub free_apart : (slots : List SpanSlot) (j k : ℕ) (s : SpanSlot) → slice_get slots k ≡ Some s → s.is_open ≡ true → IsFree slots j → j ≡
     k → ⊥
 free_apart slots j k s here stands free same =
-    let there : IfSome (slice_get slots k) (λ (t : SpanSlot). (t.is_open ≡ false) × (t.span.slots ≡ [])) =
-    subst (λ (m : ℕ). IfSome (slice_get slots m) (λ (t : SpanSlot). (t.is_open ≡ false) × (t.span.slots ≡ []))) same free.0 in
-    let closed : (s.is_open ≡ false) × (s.span.slots ≡ []) = rw here at there in
+    let there : IfSome (slice_get slots k) (λ (t : SpanSlot). (t.is_open ≡ false) × (t.span.extensions ≡ [])) =
+    subst (λ (m : ℕ). IfSome (slice_get slots m) (λ (t : SpanSlot). (t.is_open ≡ false) × (t.span.extensions ≡ []))) same free.0 in
+    let closed : (s.is_open ≡ false) × (s.span.extensions ≡ []) = rw here at there in
     true≢false (sym stands ∙ closed.0)
 
 pub still_free : (slots : List SpanSlot) (j k : ℕ) (t : SpanSlot) → (j ≡ k → ⊥) → IsFree slots j → IsFree (set slots k t) j
 still_free slots j k t other free = (
-  subst (λ (o : Option SpanSlot). IfSome o (λ (s : SpanSlot). (s.is_open ≡ false) × (s.span.slots ≡ [])))
+  subst (λ (o : Option SpanSlot). IfSome o (λ (s : SpanSlot). (s.is_open ≡ false) × (s.span.extensions ≡ [])))
       (sym (set_other slots k j t other)) free.0,
   let within = free.1 in let same = length-set slots k t in omega (arith, within, same),
 )

@@ -23,14 +23,12 @@ and_both : (b c : Bool) → b ≡ true → c ≡ true → (b && c) ≡ true
 and_both b c is also = rw (is, also) refl
 
 -- the same of the fields that slices were lent of
-pub none_told : (slots xs : List SpanSlot) (index es : List Entry) (id : ℕ) → slots ≡ xs → index ≡ es →
-    found slot_kin (standing slots index) id ≡ None → found slot_kin (standing xs es) id ≡ None
-none_told slots xs index es id a b h =
-    sym (ap (λ ss. found slot_kin (standing ss index) id) a ∙ ap (λ is. found slot_kin (standing xs is) id) b) ∙ h
-
-pub slot_told : (slots xs : List SpanSlot) (index es : List Entry) (id k : ℕ) → slots ≡ xs → index ≡ es → IsSlotOf slots index id k →
-    IsSlotOf xs es id k
-slot_told slots xs index es id k a b p = subst (λ is. IsSlotOf xs is id k) b (subst (λ ss. IsSlotOf ss index id k) a p)
+pub index_told : (o : Option ℕ) (slots xs : List SpanSlot) (index es : List Entry) (id : ℕ) → slots ≡ xs → index ≡ es →
+    MatchOption o (found slot_kin (standing slots index) id ≡ None) (λ k. IsSlotOf slots index id k) →
+    MatchOption o (found slot_kin (standing xs es) id ≡ None) (λ k. IsSlotOf xs es id k)
+index_told o slots xs index es id a b told =
+    subst (λ is. MatchOption o (found slot_kin (standing xs is) id ≡ None) (λ k. IsSlotOf xs is id k)) b
+    (subst (λ ss. MatchOption o (found slot_kin (standing ss index) id ≡ None) (λ k. IsSlotOf ss index id k)) a told)
 
 pub rise_told : (slots : List SpanSlot) (es : List Entry) → Rises entry_kin 0 es → Rises kin_in 0 (spans_in slots es)
 rise_told slots es rise = rise_shown 0 (standing slots es) (standing_rise 0 slots es rise)
@@ -107,7 +105,6 @@ module _ (xs : List SpanSlot) (free : Vec ℕ Global) (es : List Entry) (id k : 
         apart = sound.apart;
         all = rw (now, size) (let as_long = length_changed f (standing xs es) id in let all = sound.all in omega (arith, as_long, all));
         room = let room = sound.room in omega (arith, size, room);
-        few = let few = sound.few in omega (arith, size, few);
         children = subst CountChildren (sym now) (count_kept f ids parents same (standing xs es) id sound.children);
       }
 
@@ -131,14 +128,8 @@ some_at (x ∷ xs) (suc k) h = some_at xs k (omega arith)
 open_shown_at : (ys : List SpanSlot) (id : ℕ) → is_open kin_in (map plain_slot_span ys) id ≡ is_some (found slot_kin ys id)
 open_shown_at ys id = sym (open_found (map plain_slot_span ys) id) ∙ ap is_some (found_shown ys id) ∙ some_mapped (found slot_kin ys id)
 
-open_if : (o : Option ℕ) (xs : List SpanSlot) (es : List Entry) (id : ℕ) →
-    MatchOption o (found slot_kin (standing xs es) id ≡ None) (λ k. IsSlotOf xs es id k) → is_some o ≡ is_open kin_in (spans_in xs es) id
-open_if None xs es id here = sym (is_open_nowhere (standing xs es) id here)
-open_if (Some k) xs es id p = sym (open_shown_at (standing xs es) id ∙ ap is_some p.here ∙ some_at xs k p.within)
-
 -- a span is open where it has a slot
-pub open_told : (o : Option ℕ) (slots xs : List SpanSlot) (index es : List Entry) (id : ℕ) → slots ≡ xs → index ≡ es →
-    MatchOption o (found slot_kin (standing slots index) id ≡ None) (λ k. IsSlotOf slots index id k) → is_some o ≡
-    is_open kin_in (spans_in xs es) id
-open_told o slots xs index es id a b told = open_if o slots index id told ∙ ap (λ ss. is_open kin_in (spans_in ss index) id) a ∙
-    ap (λ is. is_open kin_in (spans_in xs is) id) b
+pub open_told : (o : Option ℕ) (xs : List SpanSlot) (es : List Entry) (id : ℕ) →
+    MatchOption o (found slot_kin (standing xs es) id ≡ None) (λ k. IsSlotOf xs es id k) → is_some o ≡ is_open kin_in (spans_in xs es) id
+open_told None xs es id here = sym (is_open_nowhere (standing xs es) id here)
+open_told (Some k) xs es id p = sym (open_shown_at (standing xs es) id ∙ ap is_some p.here ∙ some_at xs k p.within)

@@ -9,8 +9,8 @@ use Rattle.tracing_core_fields.specs.declared.owned_metadata.OwnedMetadata.{Owne
 use Rattle.span_registry_layers_store.specs.RegistryCalls.{dropped}
 use Rattle.span_registry_layers_store.specs.Registries.{PlainSpan}
 use Rattle.span_registry_layers_store.specs.SpanSlots.{AreIndexed, Apart, AreFree, AreSound, ChangesCounts, CountChildren, CountsFit}
-use Rattle.span_registry_layers_store.specs.SpanSlots.{EndsOpen, IsFree, IsSlotOf, IsVacated, TakesSlot, before_only, entry_kin, fresh}
-use Rattle.span_registry_layers_store.specs.SpanSlots.{gone, if_holds, less_children, let_go, more_children, new_span, one_child_less}
+use Rattle.span_registry_layers_store.specs.SpanSlots.{EndsOpen, IsFree, IsSlotOf, IsVacated, TakesSlot, before_only, entry_at, entry_kin}
+use Rattle.span_registry_layers_store.specs.SpanSlots.{fresh, gone, if_holds, less_children, let_go, more_children, new_span, one_child_less}
 use Rattle.span_registry_layers_store.specs.SpanSlots.{one_child_more, plain_slot_span, slot_kin, spans_in, standing, taken_by}
 use Rattle.span_registry_layers_store.specs.Slots.{PlainPlace}
 use Rattle.span_registry_layers_store.specs.Spans.{Rises, changed, found}
@@ -37,24 +37,24 @@ pub free_within : (slots : List SpanSlot) (free : List ℕ) (left : List ℕ) (k
     k < length slots
 free_within slots free left k is vacant = (last_free slots k left (subst (λ ks. AreFree slots ks) is vacant)).1
 
-taken_fresh : (kin : SpanRecord) (metadata : Arc OwnedMetadata Global) (passed : FilterMap) (s : SpanSlot) → s.span.slots ≡ [] →
+taken_fresh : (kin : SpanRecord) (metadata : Arc OwnedMetadata Global) (passed : FilterMap) (s : SpanSlot) → s.span.extensions ≡ [] →
     taken_by kin metadata passed s ≡ fresh kin metadata passed
 taken_fresh kin metadata passed s is =
     ap (λ (sl : List PlainPlace). record
-    { span = record { kin = kin; metadata = metadata; passed = passed; slots = sl }; is_open = true; children = 0 }) is
+    { span = record { kin = kin; metadata = metadata; passed = passed; extensions = sl }; is_open = true; children = 0 }) is
 
 module _ (slots : List SpanSlot) (free left : Vec ℕ Global) (k : ℕ) (kin : SpanRecord) (metadata : Arc OwnedMetadata Global)
     (passed : FilterMap) (s t : SpanSlot) where
   -- into a free slot
   pub takes_free : free.items ≡ left.items ++ k ∷ [] → vec_capacity left ≡ vec_capacity free → AreFree slots free.items →
-      Apart free.items → length slots ≤ vec_capacity free → length slots ≤ 4294967295 → s ≡ get_or slots k s → t ≡
+      Apart free.items → length slots ≤ vec_capacity free → s ≡ get_or slots k s → t ≡
       taken_by kin metadata passed s →
       TakesSlot slots free (fresh kin metadata passed) k (set slots k t) left
-  takes_free is capacity vacant apart fits few read gives =
+  takes_free is capacity vacant apart fits read gives =
       let vacant_all : AreFree slots (left.items ++ k ∷ []) = subst (λ ks. AreFree slots ks) is vacant in
       let one = last_free slots k left.items vacant_all in
       let here = get_at slots k s one.1 read in
-      let empty : (s.is_open ≡ false) × (s.span.slots ≡ []) = rw here at one.0 in
+      let empty : (s.is_open ≡ false) × (s.span.extensions ≡ []) = rw here at one.0 in
       let same : t ≡ fresh kin metadata passed = gives ∙ taken_fresh kin metadata passed s empty.1 in
       let apart_all : Apart (left.items ++ k ∷ []) = subst Apart is apart in
       let size = length-set slots k t in
@@ -69,12 +69,11 @@ module _ (slots : List SpanSlot) (free left : Vec ℕ Global) (k : ℕ) (kin : S
         apart = rest_apart k left.items apart_all;
         all = omega (arith, size, sizes, more);
         room = omega (arith, size, capacity, fits);
-        few = omega (arith, size, few);
       }
 
 abbrev fresh_with : SpanRecord → Arc OwnedMetadata Global → FilterMap → List PlainPlace → SpanSlot
 fresh_with kin metadata passed sl =
-    record { span = record { kin = kin; metadata = metadata; passed = passed; slots = sl }; is_open = true; children = 0 }
+    record { span = record { kin = kin; metadata = metadata; passed = passed; extensions = sl }; is_open = true; children = 0 }
 
 pub none_left : (ks : List ℕ) → length ks ≡ 0 → ks ≡ []
 none_left [] is = refl
@@ -84,10 +83,10 @@ module _ (slots later : List SpanSlot) (free left : Vec ℕ Global) (k : ℕ) (k
     (passed : FilterMap) (sl : List PlainPlace) where
   -- into a new slot
   pub takes_new : length free.items ≡ 0 → length left.items ≡ 0 → vec_capacity left ≡ vec_capacity free →
-      length slots < vec_capacity free → length slots < 4294967295 → k ≡ length slots → sl ≡ [] →
+      length slots < vec_capacity free → k ≡ length slots → sl ≡ [] →
       later ≡ slots ++ fresh_with kin metadata passed sl ∷ [] →
       TakesSlot slots free (fresh kin metadata passed) k later left
-  takes_new none_free none_later capacity fits few at_end empty is =
+  takes_new none_free none_later capacity fits at_end empty is =
       let nothing = none_left left.items none_later in
       let now : later ≡ slots ++ fresh kin metadata passed ∷ [] = is ∙
       ap (λ (x : List PlainPlace). slots ++ fresh_with kin metadata passed x ∷ []) empty in
@@ -106,7 +105,6 @@ module _ (slots later : List SpanSlot) (free left : Vec ℕ Global) (k : ℕ) (k
         apart = subst Apart (sym nothing) tt;
         all = omega (arith, size, more, none_free, none_later);
         room = omega (arith, size, more, capacity, fits);
-        few = omega (arith, size, more, few);
       }
 
 -- what a call that only looks at the end of the index leaves
@@ -121,14 +119,13 @@ sound_end slots later free kept index left sound same free_same room ends rise i
       apart = subst Apart (sym free_same) sound.apart;
       all = rw (ends, free_same) sound.all;
       room = room;
-      few = sound.few;
       children = subst CountChildren (sym ends) sound.children;
     })
 
 pub counts_fit : (slots : List SpanSlot) (free : Vec ℕ Global) (index : List Entry) → AreSound slots free index →
-    CountsFit slots index
-counts_fit slots free index sound = λ id s here. let below = children_below (standing slots index) id s sound.children here in
-    let all = sound.all in let few = sound.few in omega (arith, below, all, few)
+    length slots ≤ 18446744073709551615 → CountsFit slots index
+counts_fit slots free index sound few = λ id s here. let below = children_below (standing slots index) id s sound.children here in
+    let all = sound.all in omega (arith, below, all, few)
 
 module _ (slots counted later : List SpanSlot) (free left : Vec ℕ Global) (index : List Entry) (kin : SpanRecord)
     (metadata : Arc OwnedMetadata Global) (passed : FilterMap) (k : ℕ) (sound : AreSound slots free index) (ends : EndsOpen slots index)
@@ -160,7 +157,6 @@ module _ (slots counted later : List SpanSlot) (free left : Vec ℕ Global) (ind
         apart = takes.apart;
         all = let all = sound.all in let taken = takes.all in omega (arith, all, taken, as_many, one_more, same, size);
         room = takes.room;
-        few = takes.few;
         children = subst CountChildren (sym stands_last)
             (count_new kin.parent 0 (standing slots index) new_slot refl refl (standing_rise 0 slots index sound.rise) sound.children);
       }
@@ -223,7 +219,6 @@ module _ (slots : List SpanSlot) (free : Vec ℕ Global) (index : List Entry) (i
           apart = subst Apart (sym more) (more_apart slots k s free.items here was.0 sound.vacant sound.apart);
           all = let all = sound.all in omega (arith, all, as_many, same_many, one_less, set_size, vacated_size, free_size, one_more, size);
           room = let room = sound.room in omega (arith, room, capacity, set_size, vacated_size, size);
-          few = let few = sound.few in omega (arith, few, set_size, vacated_size, size);
           children = subst CountChildren (sym
               (left_standing ∙ ap (less_children (gone (standing slots index) id))
               (parent ∙ ap (λ (j : ℕ). before_only j s.span.kin.parent) same_id)))
@@ -244,99 +239,90 @@ counts_there f slots index id k s same_span same_open p read rise =
 module _ (slots later : Vec SpanSlot Global) (index : List Entry) (parent : Option ℕ) (id k : ℕ) (s : SpanSlot) (named : parent ≡ Some id)
     (p : IsSlotOf slots.items index id k) (read : s ≡ get_or slots.items k s) (rise : Rises entry_kin 0 index)
     (capacity : vec_capacity later ≡ vec_capacity slots) where
+  counted_at : (f : SpanSlot → SpanSlot) → ((x : SpanSlot) → (f x).span ≡ x.span) → ((x : SpanSlot) → (f x).is_open ≡ x.is_open) →
+      (g : List SpanSlot → List SpanSlot) → ((ss : List SpanSlot) → changed slot_kin f ss id ≡ g ss) → (t : SpanSlot) → t ≡ f s →
+      later.items ≡ set slots.items k t → ChangesCounts g slots later index
+  counted_at f same_span same_open g counts t gives now =
+      let is : later.items ≡ set slots.items k (f s) = now ∙ ap (set slots.items k) gives in
+      record {
+        standing_is = ap (λ ss. standing ss index) is ∙ counts_there f slots.items index id k s same_span same_open p read rise ∙
+            counts (standing slots.items index);
+        size = ap length is ∙ length-set slots.items k (f s);
+        capacity = capacity;
+        still_free = λ ks free. subst (λ ss. AreFree ss ks) (sym is) (free_there slots.items index id k s p read (f s) ks free);
+        still_indexed = λ indexed. subst (λ ss. AreIndexed ss index) (sym is)
+            (put_indexed slots.items index k s (f s) p.within (reads slots.items index id k s p read) indexed
+            (ap (λ (sp : Span). sp.kin.id) (same_span s)) (same_open s));
+      }
+
   pub more_at : (t : SpanSlot) → t ≡ one_child_more s → later.items ≡ set slots.items k t →
       ChangesCounts (λ ss. more_children ss parent) slots later index
-  more_at t gives now =
-      let is : later.items ≡ set slots.items k (one_child_more s) = now ∙ ap (set slots.items k) gives in
-      record {
-        standing_is = ap (λ ss. standing ss index) is ∙
-            counts_there one_child_more slots.items index id k s (λ x. refl) (λ x. refl) p read rise ∙
-            ap (more_children (standing slots.items index)) (sym named);
-        size = ap length is ∙ length-set slots.items k (one_child_more s);
-        capacity = capacity;
-        still_free = λ ks free. subst (λ ss. AreFree ss ks) (sym is)
-            (free_there slots.items index id k s p read (one_child_more s) ks free);
-        still_indexed = λ indexed. subst (λ ss. AreIndexed ss index) (sym is)
-            (put_indexed slots.items index k s (one_child_more s) p.within (reads slots.items index id k s p read) indexed refl refl);
-      }
+  more_at = counted_at one_child_more (λ x. refl) (λ x. refl) (λ ss. more_children ss parent) (λ ss. ap (more_children ss) (sym named))
 
   pub less_at : (t : SpanSlot) → t ≡ one_child_less s → later.items ≡ set slots.items k t →
       ChangesCounts (λ ss. less_children ss parent) slots later index
-  less_at t gives now =
-      let is : later.items ≡ set slots.items k (one_child_less s) = now ∙ ap (set slots.items k) gives in
-      record {
-        standing_is = ap (λ ss. standing ss index) is ∙
-            counts_there one_child_less slots.items index id k s (λ x. refl) (λ x. refl) p read rise ∙
-            ap (less_children (standing slots.items index)) (sym named);
-        size = ap length is ∙ length-set slots.items k (one_child_less s);
-        capacity = capacity;
-        still_free = λ ks free. subst (λ ss. AreFree ss ks) (sym is)
-            (free_there slots.items index id k s p read (one_child_less s) ks free);
-        still_indexed = λ indexed. subst (λ ss. AreIndexed ss index) (sym is)
-            (put_indexed slots.items index k s (one_child_less s) p.within (reads slots.items index id k s p read) indexed refl refl);
-      }
+  less_at = counted_at one_child_less (λ x. refl) (λ x. refl) (λ ss. less_children ss parent) (λ ss. ap (less_children ss) (sym named))
 
 -- the parent isn't open
-pub more_nowhere : (slots : Vec SpanSlot Global) (slice : List SpanSlot) (index : List Entry) (parent : Option ℕ) (id : ℕ) → parent ≡
-    Some id → slice ≡ slots.items → found slot_kin (standing slice index) id ≡ None →
-    ChangesCounts (λ ss. more_children ss parent) slots slots index
-more_nowhere slots slice index parent id named same none_there = record {
-  standing_is = sym (ap (more_children (standing slots.items index)) named ∙
-      none_changed one_child_more (standing slots.items index) id
-      (sym (ap (λ ss. found slot_kin (standing ss index) id) same) ∙ none_there));
+pub nothing_counted : (f : List SpanSlot → List SpanSlot) (slots : Vec SpanSlot Global) (index : List Entry) →
+    f (standing slots.items index) ≡ standing slots.items index → ChangesCounts f slots slots index
+nothing_counted f slots index same = record {
+  standing_is = sym same;
   size = refl;
   capacity = refl;
   still_free = λ ks free. free;
   still_indexed = λ indexed. indexed;
 }
 
-pub less_nowhere : (slots : Vec SpanSlot Global) (slice : List SpanSlot) (index : List Entry) (parent : Option ℕ) (id : ℕ) → parent ≡
-    Some id → slice ≡ slots.items → found slot_kin (standing slice index) id ≡ None →
-    ChangesCounts (λ ss. less_children ss parent) slots slots index
-less_nowhere slots slice index parent id named same none_there = record {
-  standing_is = sym (ap (less_children (standing slots.items index)) named ∙
-      none_changed one_child_less (standing slots.items index) id
-      (sym (ap (λ ss. found slot_kin (standing ss index) id) same) ∙ none_there));
-  size = refl;
-  capacity = refl;
-  still_free = λ ks free. free;
-  still_indexed = λ indexed. indexed;
-}
+module _ (slots : Vec SpanSlot Global) (index : List Entry) (parent : Option ℕ) (id : ℕ) (named : parent ≡ Some id)
+    (none_there : found slot_kin (standing slots.items index) id ≡ None) where
+  pub more_nowhere : ChangesCounts (λ ss. more_children ss parent) slots slots index
+  more_nowhere = nothing_counted (λ ss. more_children ss parent) slots index
+      (ap (more_children (standing slots.items index)) named ∙ none_changed one_child_more (standing slots.items index) id none_there)
 
--- what stands after a new span has found room
-module _ (slots slice : List SpanSlot) (free kept : Vec ℕ Global) (index ends now : List Entry) (sound : AreSound slots free index)
-    (lent : slice ≡ slots) (ended : standing slice ends ≡ standing slice index) (same_index : now ≡ ends) where
-  pub ended_standing : standing slots now ≡ standing slots index
-  ended_standing = ap (standing slots) same_index ∙ subst (λ ss. standing ss ends ≡ standing ss index) lent ended
+  pub less_nowhere : ChangesCounts (λ ss. less_children ss parent) slots slots index
+  less_nowhere = nothing_counted (λ ss. less_children ss parent) slots index
+      (ap (less_children (standing slots.items index)) named ∙ none_changed one_child_less (standing slots.items index) id none_there)
 
-  pub ended_sound : Rises entry_kin 0 ends → AreIndexed slice ends → kept.items ≡ free.items → length slots ≤ vec_capacity kept →
-      AreSound slots kept now
-  ended_sound rise indexed free_same room =
-      sound_end slots slots free kept index now sound refl free_same room ended_standing
+-- what a new span found room in
+module _ (slots slice : List SpanSlot) (room : Vec SpanSlot Global) (free kept : Vec ℕ Global) (index ends now : List Entry)
+    (sound : AreSound slots free index) (lent : slice ≡ slots) (ended : standing slice ends ≡ standing slice index)
+    (same_index : now ≡ ends) (rise : Rises entry_kin 0 ends) (indexed : AreIndexed slice ends) (same_slots : room.items ≡ slots)
+    (same_free : kept.items ≡ free.items) (fits : length room.items ≤ vec_capacity kept) where
+  as_before : standing slots now ≡ standing slots index
+  as_before = ap (standing slots) same_index ∙ subst (λ ss. standing ss ends ≡ standing ss index) lent ended
+
+  roomy : AreSound slots kept now
+  roomy =
+      sound_end slots slots free kept index now sound refl same_free (subst (λ ss. length ss ≤ vec_capacity kept) same_slots fits) as_before
       (subst (λ es. Rises entry_kin 0 es) (sym same_index) rise)
       (subst (λ es. AreIndexed slots es) (sym same_index) (subst (λ ss. AreIndexed ss ends) lent indexed))
 
-  pub ended_open : EndsOpen slice ends → EndsOpen slots now
-  ended_open open_end = subst (λ es. EndsOpen slots es) (sym same_index) (subst (λ ss. EndsOpen ss ends) lent open_end)
+  pub room_indexed : AreIndexed room.items now
+  room_indexed = subst (λ ss. AreIndexed ss now) (sym same_slots) roomy.indexed
 
-  pub ended_below : (id : ℕ) → AllByRecursion (λ (s : PlainSpan). s.kin.id < id) (spans_in slots index) →
-      AllByRecursion (λ (s : PlainSpan). s.kin.id < id) (spans_in slots now)
-  ended_below id below = subst (λ ss. AllByRecursion (λ (s : PlainSpan). s.kin.id < id) (map plain_slot_span ss)) (sym ended_standing) below
+  pub room_counts : length slots ≤ 18446744073709551615 → CountsFit room.items now
+  room_counts few = subst (λ ss. CountsFit ss now) (sym same_slots) (counts_fit slots kept now roomy few)
 
--- counts over slices are counts over the fields
-pub counts_told : (parent : Option ℕ) (room counted : Vec SpanSlot Global) (slots : List SpanSlot) (slice index : List Entry) → slice ≡
-    index → room.items ≡ slots → ChangesCounts (λ ss. more_children ss parent) room counted slice →
-    (standing counted.items index ≡ more_children (standing slots index) parent) × (length counted.items ≡ length slots)
-counts_told parent room counted slots slice index lent same counts = (
-  subst (λ (is : List Entry). standing counted.items is ≡ more_children (standing slots is) parent) lent
-      (subst (λ (ss : List SpanSlot). standing counted.items slice ≡ more_children (standing ss slice) parent) same counts.standing_is),
-  counts.size ∙ ap length same,
-)
+  module _ (last : EndsOpen slice ends) (counted : Vec SpanSlot Global) (later : List SpanSlot) (left : Vec ℕ Global) (kin : SpanRecord)
+      (metadata : Arc OwnedMetadata Global) (passed : FilterMap) (k : ℕ)
+      (below : AllByRecursion (λ (s : PlainSpan). s.kin.id < kin.id) (spans_in slots index))
+      (counts : ChangesCounts (λ ss. more_children ss kin.parent) room counted now)
+      (takes : TakesSlot counted.items kept (fresh kin metadata passed) k later left) where
+    opens : EndsOpen slots now
+    opens = subst (λ es. EndsOpen slots es) (sym same_index) (subst (λ ss. EndsOpen ss ends) lent last)
 
-pub counts_indexed : (parent : Option ℕ) (room counted : Vec SpanSlot Global) (slots : List SpanSlot) (slice index : List Entry) → slice ≡
-    index → room.items ≡ slots → ChangesCounts (λ ss. more_children ss parent) room counted slice → AreIndexed slots index →
-    AreIndexed counted.items index
-counts_indexed parent room counted slots slice index lent same counts indexed =
-    subst (λ (is : List Entry). AreIndexed counted.items is) lent (counts.still_indexed
-    (subst (λ (is : List Entry). AreIndexed room.items is) (sym lent)
-    (subst (λ (ss : List SpanSlot). AreIndexed ss index) (sym same) indexed)))
+    beneath : AllByRecursion (λ (s : PlainSpan). s.kin.id < kin.id) (spans_in slots now)
+    beneath = subst (λ ss. AllByRecursion (λ (s : PlainSpan). s.kin.id < kin.id) (map plain_slot_span ss)) (sym as_before) below
+
+    more : standing counted.items now ≡ more_children (standing slots now) kin.parent
+    more = subst (λ ss. standing counted.items now ≡ more_children (standing ss now) kin.parent) same_slots counts.standing_is
+
+    pub made_sound : AreSound later left (now ++ entry_at kin.id k ∷ [])
+    made_sound = pushed_sound slots counted.items later kept left now kin metadata passed k roomy opens beneath
+        (counts.size ∙ ap length same_slots) more takes (counts.still_indexed room_indexed)
+
+    pub made_view : spans_in later (now ++ entry_at kin.id k ∷ []) ≡ spans_in slots index ++ new_span kin metadata passed ∷ []
+    made_view = pushed_view slots counted.items later kept left now kin metadata passed k roomy opens beneath
+        (counts.size ∙ ap length same_slots) more takes (counts.still_indexed room_indexed) ∙
+        ap (λ ss. map plain_slot_span ss ++ new_span kin metadata passed ∷ []) as_before

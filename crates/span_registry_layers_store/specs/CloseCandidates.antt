@@ -1,8 +1,9 @@
 -- Which spans of a registry may not stay.
-use Rattle.std.specs.Prelude.{◌≡◌, ℕ, List, Option, Some, None}
+use Rattle.std.specs.Prelude.{◌≡◌, ℕ, List, Option, Some, None, true, false}
 use Rattle.span_registry_layers_store.specs.Registries.{PlainSpan, RegistryValue, kin_in}
 use Rattle.span_registry_layers_store.specs.IdOrder.{IsBelow}
-use Rattle.span_registry_layers_store.specs.Spans.{StayBut}
+use Rattle.span_registry_layers_store.specs.RegistryCalls.{ClosesFirst}
+use Rattle.span_registry_layers_store.specs.Spans.{AllStay, Rises, StayBut, keeps}
 use Rattle.span_registry_layers_store.specs.declared.close_candidates.CloseCandidates.{CloseCandidates}
 use Rattle.span_registry_layers_store.specs.declared.close_candidates.CloseCandidates.TheVariants.{Nobody, One, Anybody}
 
@@ -27,6 +28,12 @@ abbrev pub after_close : CloseCandidates → Option ℕ → CloseCandidates
 after_close Nobody parent = at_most parent
 after_close (One id) parent = at_most parent
 after_close Anybody parent = Anybody
+
+-- among those that may go the span of the id closes first, unless it stays: then all do
+pub record IsFirst (u : CloseCandidates) (x : RegistryValue) (id : ℕ) : Type 0 where
+  pub may : MayGo id u
+  pub goes : Rises kin_in 0 x.spans → keeps kin_in x.lanes x.spans id ≡ false → ClosesFirst x.lanes x.spans id
+  pub stay : Rises kin_in 0 x.spans → keeps kin_in x.lanes x.spans id ≡ true → AllStay kin_in x.lanes x.spans
 
 -- ids are below the next one, and all spans stay but those that may go
 abbrev pub IsWhole : CloseCandidates → RegistryValue → Type 0

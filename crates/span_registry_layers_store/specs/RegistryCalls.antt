@@ -13,7 +13,7 @@ use Rattle.span_registry_layers_store.specs.declared.filter_map.TooManyFilters.{
 use Rattle.span_registry_layers_store.specs.Registries.{PlainSpan, RegistryValue, closing_in, kin_in, knows, one_less, one_more, swept}
 use Rattle.span_registry_layers_store.specs.Registries.{under, with_entry, with_handle, with_span, without_handle}
 use Rattle.span_registry_layers_store.specs.IdOrder.{IsRising}
-use Rattle.span_registry_layers_store.specs.Spans.{changed, closed_of, handles_of, is_open, open_of}
+use Rattle.span_registry_layers_store.specs.Spans.{changed, closed_of, handles_of, is_open, keeps, open_of, parent_of}
 
 -- the greatest id, and the greatest number of handles
 abbrev pub most : ℕ
@@ -113,6 +113,12 @@ IsNext x id = (s : PlainSpan) × (later : List PlainSpan) × (s.kin.id ≡ id) �
 abbrev pub dropped : List PlainSpan → ℕ → List PlainSpan
 dropped [] id = []
 dropped (s ∷ ss) id = if s.kin.id == id then ss else s ∷ dropped ss id
+
+-- the span of the id goes, unless it stays; its parent is answered
+abbrev pub GoesUnlessKept : List (List ℕ) → List PlainSpan → ℕ → Option (Option ℕ) → List PlainSpan → Type 0
+GoesUnlessKept lanes ss id None left = (keeps kin_in lanes ss id ≡ true) × (left ≡ ss)
+GoesUnlessKept lanes ss id (Some parent) left =
+    (keeps kin_in lanes ss id ≡ false) × (parent ≡ parent_of kin_in ss id) × (left ≡ dropped ss id)
 
 -- the span of the id closes first, and leaves these
 pub record ClosesTo (lanes : List (List ℕ)) (ss others : List PlainSpan) (id : ℕ) : Type 0 where

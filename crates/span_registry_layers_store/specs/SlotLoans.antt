@@ -6,6 +6,7 @@ use Rattle.span_registry_layers_store.specs.SlotCalls.{with_places, with_slots}
 use Rattle.span_registry_layers_store.specs.Registries.{PlainSpan, RegistryValue, kin_in}
 use Rattle.span_registry_layers_store.specs.Slots.{PlainPlace, plain_place, plain_slot, slot_at, with_slot}
 use Rattle.span_registry_layers_store.specs.Spans.{changed, found}
+use Rattle.span_registry_layers_store.specs.Views.{seen_if}
 use Rattle.span_registry_layers_store.specs.declared.slot.Place.{Place}
 use Rattle.span_registry_layers_store.specs.declared.slot.Slot.{Slot}
 use Rattle.span_registry_layers_store.specs.declared.slot.Tag.{Tag}
@@ -32,9 +33,10 @@ LendsSlot s key t r = LendsIf extensions.the_row slot.the_row s r (λ w. with_sl
 abbrev pub slots_of : PlainSpan → List PlainPlace
 slots_of s = s.slots
 
--- the slot of a span's outputs stands there, or past the end where it isn't open
-pub record IsSpanToLend (xs : List SpanSlot) (es : List Entry) (id k : ℕ) : Type 0 where
-  pub is : option_map (λ (s : SpanSlot). s.span.slots) (slice_get xs k) ≡ option_map slots_of (found kin_in (spans_in xs es) id)
+-- the span stands in that slot, or past the end where it isn't open or seen
+pub record IsSpanToLend (xs : List SpanSlot) (es : List Entry) (mask : Option ℕ) (id k : ℕ) : Type 0 where
+  pub is : option_map (λ (s : SpanSlot). s.span.extensions) (slice_get xs k) ≡
+      option_map slots_of (seen_if mask (found kin_in (spans_in xs es) id))
   pub put : (w : List PlainPlace) (s : SpanSlot) → slice_get xs k ≡ Some s → changed kin_in (with_places w) (spans_in xs es) id ≡
       spans_in (slice_set xs k (with_slots_in w s)) es
   pub sound : (w : List PlainPlace) (s : SpanSlot) → slice_get xs k ≡ Some s → (free : Vec ℕ Global) → AreSound xs free es →

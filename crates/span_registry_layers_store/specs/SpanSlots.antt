@@ -90,7 +90,7 @@ pub record AreIndexed (slots : List SpanSlot) (index : List Entry) : Type 0 wher
 
 -- a slot of the list of free slots holds no span, and nothing that outputs keep
 abbrev pub IsFree : List SpanSlot → ℕ → Type 0
-IsFree slots k = IfSome (slice_get slots k) (λ (s : SpanSlot). (s.is_open ≡ false) × (s.span.slots ≡ [])) × (k < length slots)
+IsFree slots k = IfSome (slice_get slots k) (λ (s : SpanSlot). (s.is_open ≡ false) × (s.span.extensions ≡ [])) × (k < length slots)
 
 abbrev pub AreFree : List SpanSlot → List ℕ → Type 0
 AreFree slots [] = Unit {0}
@@ -102,7 +102,7 @@ Apart [] = Unit {0}
 Apart (k ∷ ks) = AllByRecursion (λ (j : ℕ). k ≡ j → ⊥) ks × Apart ks
 
 -- what is true of the fields: ids rise in the index, where each open span has its entry, free slots are vacant and apart, each slot is
--- free or holds an open span, there is room for each in the list of free slots, their numbers fit, and children are counted
+-- free or holds an open span, there is room for each in the list of free slots, and children are counted
 pub record AreSound (slots : List SpanSlot) (free : Vec ℕ Global) (index : List Entry) : Type 0 where
   pub rise : Rises entry_kin 0 index
   pub indexed : AreIndexed slots index
@@ -110,7 +110,6 @@ pub record AreSound (slots : List SpanSlot) (free : Vec ℕ Global) (index : Lis
   pub apart : Apart free.items
   pub all : length free.items + length (standing slots index) ≡ length slots
   pub room : length slots ≤ vec_capacity free
-  pub few : length slots ≤ 4294967295
   pub children : CountChildren (standing slots index)
 
 -- the last entry leads to an open span
@@ -124,7 +123,7 @@ taken_by kin metadata passed s =
     record { span = record s.span { kin = kin; metadata = metadata; passed = passed }; is_open = true; children = 0 }
 
 abbrev pub let_go : SpanSlot → SpanSlot
-let_go s = record s { span = record s.span { slots = [] }; is_open = false }
+let_go s = record s { span = record s.span { extensions = [] }; is_open = false }
 
 abbrev pub one_child_more : SpanSlot → SpanSlot
 one_child_more s = record s { children = s.children + 1 }
@@ -152,7 +151,7 @@ stays_by lanes s = nat_lt 0 s.span.kin.handles || (is_entered lanes s.span.kin.i
 
 -- a count of children has room for one more
 abbrev pub CountsFit : List SpanSlot → List Entry → Type 0
-CountsFit slots index = (id : ℕ) (s : SpanSlot) → found slot_kin (standing slots index) id ≡ Some s → s.children < 4294967295
+CountsFit slots index = (id : ℕ) (s : SpanSlot) → found slot_kin (standing slots index) id ≡ Some s → s.children < 18446744073709551615
 
 -- counts of children change, and nothing else: slots that were free are so still, and open spans have their entries
 pub record ChangesCounts (f : List SpanSlot → List SpanSlot) (slots later : Vec SpanSlot Global) (index : List Entry) : Type 0 where
@@ -169,10 +168,10 @@ IsVacated slots k later = (s : SpanSlot) → slice_get slots k ≡ Some s → la
 -- a slot with a new span
 abbrev pub fresh : SpanRecord → Arc OwnedMetadata Global → FilterMap → SpanSlot
 fresh kin metadata passed = record
-    { span = record { kin = kin; metadata = metadata; passed = passed; slots = [] }; is_open = true; children = 0 }
+    { span = record { kin = kin; metadata = metadata; passed = passed; extensions = [] }; is_open = true; children = 0 }
 
 abbrev pub new_span : SpanRecord → Arc OwnedMetadata Global → FilterMap → PlainSpan
-new_span kin metadata passed = plain_span (record { kin = kin; metadata = metadata; passed = passed; slots = [] })
+new_span kin metadata passed = plain_span (record { kin = kin; metadata = metadata; passed = passed; extensions = [] })
 
 -- a span is put into a slot that was free or is new
 pub record TakesSlot (slots : List SpanSlot) (free : Vec ℕ Global) (t : SpanSlot) (k : ℕ) (later : List SpanSlot) (left : Vec ℕ Global) :
@@ -184,7 +183,6 @@ pub record TakesSlot (slots : List SpanSlot) (free : Vec ℕ Global) (t : SpanSl
   pub apart : Apart left.items
   pub all : length later + length free.items ≡ length slots + length left.items + 1
   pub room : length later ≤ vec_capacity left
-  pub few : length later ≤ 4294967295
 
 -- an entry leads to an open span that doesn't stay
 abbrev pub goes_at : List (List ℕ) → ℕ → Option SpanSlot → Bool
@@ -196,4 +194,4 @@ goes slots lanes e = goes_at lanes e.id (slice_get slots e.slot)
 
 -- with other slots of outputs
 abbrev pub with_slots_in : List PlainPlace → SpanSlot → SpanSlot
-with_slots_in w s = record s { span = record s.span { slots = w } }
+with_slots_in w s = record s { span = record s.span { extensions = w } }

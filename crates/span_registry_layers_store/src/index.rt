@@ -41,9 +41,9 @@ fn hint_of(count: usize, id: Id) -> usize {
     (id.into_u64() as usize) & count.wrapping_sub(1)
 }
 
-// The slot that the hint for an id names, where the span stands there.
+/// The slot that the hint for an id names, where the span stands there.
 #[inline(always)]
-fn slot_by_hint(slots: &[SpanSlot], hints: &[u32], id: Id) -> Option<usize>
+pub(crate) fn slot_by_hint(slots: &[SpanSlot], hints: &[u32], id: Id) -> Option<usize>
     ensures { IfSome result (λ slot. holds_in id (slice_get slots.now slot) ≡ true) }
 {
     let slot = *hints.get(hint_of(hints.len(), id))? as usize;
@@ -64,9 +64,9 @@ fn place_by_halves(index: &[Entry], id: Id) -> Option<usize>
     }
 }
 
-// The slot of a span, where it is open, looked for by halves. Apart, so that callers stay small.
+/// The slot of a span, where it is open, looked for by halves. Apart, so that callers stay small.
 #[inline(never)]
-fn slot_by_halves(slots: &[SpanSlot], index: &[Entry], id: Id) -> Option<usize>
+pub(crate) fn slot_by_halves(slots: &[SpanSlot], index: &[Entry], id: Id) -> Option<usize>
     requires { Rises entry_kin 0 index.now }
     ensures { MatchOption result (found slot_kin (standing slots.now index.now) id ≡ None) (λ slot.
         IsSlotOf slots.now index.now id slot) }
@@ -81,20 +81,6 @@ fn slot_by_halves(slots: &[SpanSlot], index: &[Entry], id: Id) -> Option<usize>
                 None
             }
         }
-    }
-}
-
-/// The slot of a span, where it is open. Where the hint for it names another one, it is looked for by halves.
-#[inline(always)]
-pub(crate) fn slot_of(slots: &[SpanSlot], index: &[Entry], hints: &[u32], id: Id) -> Option<usize>
-    requires rise { Rises entry_kin 0 index.now }
-    requires indexed { AreIndexed slots.now index.now }
-    ensures { MatchOption result (found slot_kin (standing slots.now index.now) id ≡ None) (λ slot.
-        IsSlotOf slots.now index.now id slot) }
-{
-    match slot_by_hint(slots, hints, id) {
-        Some(slot) => Some(slot),
-        None => slot_by_halves(slots, index, id),
     }
 }
 
@@ -141,7 +127,8 @@ pub(crate) fn tidy(slots: &[SpanSlot], open_ones: usize, index: &mut Vec<Entry>)
     drop_last(slots, index);
 }
 
-/// Notes which slot a span stands in. The hint of another id may lie there, which is then looked for by halves.
+/// Notes which slot a span stands in, where that is a number of 32 bits. The hint of another id may lie there, which is then looked for by
+/// halves.
 #[inline(always)]
 pub(crate) fn note_slot(hints: &mut Vec<u32>, id: Id, slot: usize) {
     let Ok(slot) = u32::try_from(slot) else {

@@ -15,6 +15,7 @@ mod record;
 mod registry;
 mod scope;
 mod slot;
+mod slot_index;
 mod slot_room;
 mod span;
 mod span_ref;

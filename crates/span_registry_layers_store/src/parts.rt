@@ -66,13 +66,15 @@ pub(crate) fn is_seen(span: &Span, filter: Option<FilterId>) -> bool
 }
 
 impl RegistryParts {
-    /// A copy of the spans and lanes.
+    /// A copy of what is kept, but for what outputs keep with spans.
     pub(crate) fn table(&self) -> Result<RegistryTable, AllocError>
         ensures { IfOk result (λ copy. CopyOf (plain_registry self.now) copy) }
     {
         Ok(RegistryTable {
             spans: self.spans.rows(self.alloc)?,
             lanes: self.lanes.copy(self.alloc)?,
+            next_id: self.next_id,
+            filters: self.filters.count(),
         })
     }
 

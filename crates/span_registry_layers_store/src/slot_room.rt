@@ -13,48 +13,42 @@ use std::sync::Arc;
 use tracing_core_fields::OwnedMetadata;
 
 /// Makes room for one more span, and for its slot among the free ones.
-pub(crate) fn make_room(slots: &mut Vec<SpanSlot>, free: &mut Vec<u32>) -> Result<(), AllocError>
+pub(crate) fn make_room(slots: &mut Vec<SpanSlot>, free: &mut Vec<usize>) -> Result<(), AllocError>
     requires { length slots.old.items ≤ vec_capacity free.old }
     ensures slots { slots.new.items ≡ slots.old.items }
     ensures free { free.new.items ≡ free.old.items }
     ensures fits { length slots.new.items ≤ vec_capacity free.new }
     ensures room { OnOk result (free.new.items ≡ [] →
-        (length slots.new.items < vec_capacity slots.new) × (length slots.new.items < vec_capacity free.new) ×
-        (length slots.new.items < 4294967295)) }
+        (length slots.new.items < vec_capacity slots.new) × (length slots.new.items < vec_capacity free.new)) }
 {
     if !free.is_empty() {
         return Ok(());
     }
-    if slots.len() >= 4_294_967_295 {
-        return Err(AllocError);
-    }
     slots.reserve(1)?;
-    free.reserve(slots.len() + 1)?;
+    free.reserve(slots.capacity())?;
     Ok(())
 }
 
 /// Puts a span into a free slot, or into a new one.
 pub(crate) fn occupy(
     slots: &mut Vec<SpanSlot>,
-    free: &mut Vec<u32>,
+    free: &mut Vec<usize>,
     alloc: Global,
     kin: SpanRecord,
     metadata: Arc<OwnedMetadata>,
     passed: FilterMap,
 ) -> usize
     requires room { free.old.items ≡ [] →
-        (length slots.old.items < vec_capacity slots.old) × (length slots.old.items < vec_capacity free.old) ×
-        (length slots.old.items < 4294967295) }
+        (length slots.old.items < vec_capacity slots.old) × (length slots.old.items < vec_capacity free.old) }
     requires fits { length slots.old.items ≤ vec_capacity free.old }
-    requires few { length slots.old.items ≤ 4294967295 }
     requires free { AreFree slots.old.items free.old.items }
     requires apart { Apart free.old.items }
     ensures { TakesSlot slots.old.items free.old (fresh kin metadata passed) result slots.new.items free.new }
 {
     match free.pop() {
         Some(slot) => {
-            slots[slot as usize].take(kin, metadata, passed);
-            slot as usize
+            slots[slot].take(kin, metadata, passed);
+            slot
         }
         None => {
             let slot = slots.len();
@@ -62,7 +56,7 @@ pub(crate) fn occupy(
                 kin,
                 metadata,
                 passed,
-                slots: Extensions::new(alloc),
+                extensions: Extensions::new(alloc),
             };
             slots.push_reserved(SpanSlot {
                 span,
@@ -75,8 +69,7 @@ pub(crate) fn occupy(
 }
 
 /// Lets the span of a slot go, and counts the slot among the free ones.
-pub(crate) fn vacate(slots: &mut Vec<SpanSlot>, free: &mut Vec<u32>, slot: usize)
-    requires few { length slots.old.items ≤ 4294967295 }
+pub(crate) fn vacate(slots: &mut Vec<SpanSlot>, free: &mut Vec<usize>, slot: usize)
     requires within { slot < length slots.old.items }
     requires room { length free.old.items < vec_capacity free.old }
     ensures slots { IsVacated slots.old.items slot slots.new.items }
@@ -84,5 +77,5 @@ pub(crate) fn vacate(slots: &mut Vec<SpanSlot>, free: &mut Vec<u32>, slot: usize
     ensures capacity { vec_capacity free.new ≡ vec_capacity free.old }
 {
     slots[slot].let_go();
-    free.push_reserved(slot as u32);
+    free.push_reserved(slot);
 }

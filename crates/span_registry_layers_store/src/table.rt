@@ -32,6 +32,10 @@ pub struct RegistryTable {
     pub spans: Vec<SpanRow>,
     /// The entries of each lane, the earliest first. Lanes after the last one that was ever entered are missing.
     pub lanes: Vec<Vec<Id>>,
+    /// The id of the next span; none where all ids were given.
+    pub next_id: Option<Id>,
+    /// How many filters are registered.
+    pub filters: u8,
 }
 
 #[tactic(auto, using(crate::proofs::Lists::map_more))]

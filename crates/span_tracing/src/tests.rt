@@ -1,6 +1,7 @@
 //! The tests of the crates below; one output, folders that refuse, and random runs over four outputs beside a slow model of them.
 
 mod common;
+mod copies;
 mod faulty;
 mod files;
 mod model;

@@ -10,7 +10,7 @@ use Rattle.span_registry_layers_layers.specs.declared.filter.Filter.{Ghosts as F
 use Rattle.span_registry_layers_layers.specs.declared.layer.Layer.{Ghosts as LayerGhosts}
 use Rattle.span_registry_layers.specs.InterestCache.{is_refused_by}
 use Rattle.span_registry_layers.specs.Stacks.{EventCached, WhereKnown, TellsUnless, cleared as unmarked, is_above}
-use Rattle.span_tracing_outputs.specs.SinkLines.{NoLines, TakesEach}
+use Rattle.span_tracing_outputs.specs.SinkLines.{HandsOver, NoLines, TakesEach}
 use Rattle.span_tracing_outputs.specs.OutputMachines.{PlainLine}
 use Rattle.span_tracing_outputs.specs.StackFollows.{LinedStack}
 use Rattle.span_tracing_outputs.specs.TraceStacks.{IsAtRest, TraceMoves, TraceStackValue}
@@ -24,6 +24,14 @@ module _ {N E F : Type 0} where
   takes_nothing takes at [] (k ∷ ks) none paired = absurd (omega (arith, paired))
   takes_nothing takes at (row ∷ rows) [] none paired = absurd (omega (arith, paired))
   takes_nothing takes at (row ∷ rows) (k ∷ ks) none paired = (rw none.0 refl, takes_nothing takes at rows ks none.1 (omega (arith, paired)))
+
+  -- where no output keeps a line, all stays as it is
+  pub nothing_handed : {S : Type 0} (takes : S → At → PlainLine → S → Type 0) (at : At) (s : LinedStack N E F) (sinks : List S) →
+      NoLines s.rows → length sinks ≡ length s.rows → HandsOver takes at s sinks s sinks
+  nothing_handed takes at s sinks none paired = (
+    takes_nothing takes at s.rows sinks none paired,
+    ap (λ (ls : List (Lined N E F)). record s { rows = ls }) (sym (cleared_same s.rows none)),
+  )
 
   module _ (g : FilterGhosts F) (h : LayerGhosts (Lines N E)) where
     refused_stays : (s : LinedStack N E F) (e : PlainEvent) (at : At) → is_above s.hint e.metadata.level ≡ true → unmarked s ≡ s →
@@ -44,9 +52,5 @@ module _ {N E F : Type 0} where
     ignored takes x level rest above same e at is root = (
       x.stack,
       refused_stays x.stack e at (ap (is_above x.stack.hint) is ∙ above) same root,
-      (
-        takes_nothing takes at x.stack.rows x.sinks rest.1 rest.0,
-        ap (λ (ls : List (Lined N E F)). record x.stack { rows = ls })
-            (sym (cleared_same x.stack.rows rest.1)),
-      ),
+      nothing_handed takes at x.stack x.sinks rest.1 rest.0,
     )

@@ -1,10 +1,12 @@
 -- Lines that are handed to sinks, one output after the other.
 use Rattle.std.proofs.Common.{◌≡◌, ℕ, zero, suc, ◌<◌, ◌≤◌, List, [], ◌∷◌, length, map, Option, Some, None, slice_get, slice_set, refl, ap}
 use Rattle.std.proofs.Common.{sym, ◌∙◌, subst, arith}
+use Rattle.std.specs.Option.{option_map}
 use Rattle.tracing_core_moments.specs.declared.at.At.{At}
-use Rattle.span_tracing_outputs.specs.SinkLines.{LinesIf, TakesAll, TakesEach, cleared_at, cleared_row}
+use Rattle.span_registry_layers_layers.specs.declared.filtered.Filtered.{Filtered}
+use Rattle.span_tracing_outputs.specs.SinkLines.{LinesIf, NoLines, TakesAll, TakesEach, cleared_at, cleared_row}
 use Rattle.span_tracing_outputs.specs.OutputMachines.{PlainLine}
-use Rattle.span_tracing_outputs.specs.Turns.{Lined}
+use Rattle.span_tracing_outputs.specs.Turns.{Lined, Lines}
 
 length_set : {A : Type 0} (xs : List A) (n : ℕ) (x : A) → length (slice_set xs n x) ≡ length xs
 length_set [] zero x = refl
@@ -51,6 +53,19 @@ module _ {N E F : Type 0} where
   cleared_length zero rows = refl
   cleared_length (suc n) [] = refl
   cleared_length (suc n) (row ∷ rows) = ap suc (cleared_length n rows)
+
+  -- a lone output that keeps no line
+  pub idle_alone : (rows : List (Lined N E F)) (o : Filtered (Lines N E) F) → length rows ≡ 1 →
+      Some o ≡ option_map (λ (row : Lined N E F). row.output) (slice_get rows 0) → o.layer.output.maker ≡ [] → NoLines rows
+  idle_alone [] o one is none = absurd (omega (arith, one))
+  idle_alone (row ∷ []) o one is none =
+      let same : o ≡ row.output = cc in
+      (ap (λ (f : Filtered (Lines N E) F). f.layer.output.maker) (sym same) ∙ none, tt)
+  idle_alone (row ∷ next ∷ rows) o one is none = absurd (omega (arith, one))
+
+  -- it has no line any more, and so none has
+  pub lone_cleared : (rows : List (Lined N E F)) → length rows ≡ 1 → cleared_at (slice_get rows 0) 0 rows ≡ map cleared_row rows
+  lone_cleared rows one = clears_next 0 rows ∙ all_cleared 1 rows (omega (arith, one))
 
   module _ {S : Type 0} (takes : S → At → PlainLine → S → Type 0) (at : At) where
     -- so many sinks are as they are, and the others take their lines
@@ -108,3 +123,11 @@ module _ {N E F : Type 0} where
     all_taken (suc n) [] (k ∷ ks) same le = absurd (cc)
     all_taken (suc n) (r ∷ rs) [] same le = absurd (cc)
     all_taken (suc n) (r ∷ rs) (k ∷ ks) same le = (refl, all_taken n rs ks (omega (arith, same)) (omega (arith, le)))
+
+    -- the lone output's lines went to its sink
+    pub lone_taken : (rows : List (Lined N E F)) (sinks nexts : List S) → length rows ≡ 1 → length sinks ≡ 1 →
+        LinesIf takes at (slice_get rows 0) 0 sinks nexts → TakesEach takes at rows sinks nexts
+    lone_taken rows sinks nexts one alone lines =
+        let same : length nexts ≡ length sinks = lines_length (slice_get rows 0) 0 sinks nexts lines in
+        turn 0 rows sinks nexts (omega (arith, one, alone)) (omega (arith, alone)) lines nexts
+        (all_taken 1 rows nexts (omega (arith, one, alone, same)) (omega (arith, alone, same)))

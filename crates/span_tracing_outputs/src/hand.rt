@@ -1,9 +1,9 @@
 //! The lines of a request, handed to the sinks of their outputs.
-ghost use Rattle.std.specs.Prelude.{◌≡◌, ◌<◌, length, map, slice_get};
-ghost use Rattle.span_tracing_outputs.specs.SinkLines.{HandsOver, LinesIf, cleared_at, cleared_row};
+ghost use Rattle.std.specs.Prelude.{◌≡◌, ◌<◌, IsTrue, length, map, slice_get};
+ghost use Rattle.span_tracing_outputs.specs.SinkLines.{HandsOver, LinesIf, NoLines, cleared_at, cleared_row};
 
 use crate::pending::PendingLines;
-use crate::sink::{LineSink, take_all};
+use crate::sink::{LineSink, copied, take_all};
 use event_formatter::{FormatEvent, Layer};
 use event_formatter_text::FormatFields;
 use span_registry_layers::Stack;
@@ -11,6 +11,7 @@ use span_registry_layers_layers::{Filter, Filtered};
 use tracing_core_moments::At;
 
 // The lines of the output at a place go to the sink there.
+#[inline(always)]
 fn hand_lines<N: FormatFields + Drop, E: FormatEvent, F: Filter, S: LineSink>(
     stack: &Stack<Filtered<Layer<N, E, PendingLines>, F>>,
     sinks: &mut Vec<S>,
@@ -50,10 +51,38 @@ pub(crate) fn clear_lines<N: FormatFields + Drop, E: FormatEvent, F: Filter>(
     }
 }
 
-/// Hands the lines that the outputs keep to their sinks, outputs in order, and each output's lines in order. No output
-/// keeps a line afterwards, and nothing else of the stack changes. It needs as
-/// many sinks as outputs.
-pub fn hand_over<N: FormatFields + Drop, E: FormatEvent, F: Filter, S: LineSink>(
+// Whether a lone output keeps no line.
+#[inline(always)]
+fn is_idle<N: FormatFields + Drop, E: FormatEvent, F: Filter>(
+    stack: &Stack<Filtered<Layer<N, E, PendingLines>, F>>,
+) -> bool
+    requires { length stack.now.rows ≡ 1 }
+    ensures { IsTrue result → NoLines stack.now.rows }
+{
+    match stack.output(0) {
+        None => false,
+        Some(output) => output.inner().writer().is_empty(),
+    }
+}
+
+// The lines of a lone output go to its sink, without a loop.
+#[inline(never)]
+fn hand_only<N: FormatFields + Drop, E: FormatEvent, F: Filter, S: LineSink>(
+    stack: &mut Stack<Filtered<Layer<N, E, PendingLines>, F>>,
+    sinks: &mut Vec<S>,
+    at: At,
+)
+    requires outputs { length stack.old.rows ≡ 1 }
+    requires sinks { length sinks.old.items ≡ 1 }
+    ensures { HandsOver S.takes at stack.old sinks.old.items stack.new sinks.new.items }
+{
+    hand_lines(stack, sinks, at, 0);
+    clear_at(stack, 0);
+}
+
+// The lines of each of several outputs go to its sink.
+#[inline(never)]
+fn hand_each<N: FormatFields + Drop, E: FormatEvent, F: Filter, S: LineSink>(
     stack: &mut Stack<Filtered<Layer<N, E, PendingLines>, F>>,
     sinks: &mut Vec<S>,
     at: At,
@@ -65,4 +94,27 @@ pub fn hand_over<N: FormatFields + Drop, E: FormatEvent, F: Filter, S: LineSink>
         hand_lines(stack, sinks, at, place);
         clear_at(stack, place);
     }
+}
+
+/// Hands the lines that the outputs keep to their sinks, outputs in order, and each output's lines in order. No output
+/// keeps a line afterwards, and nothing else of the stack changes. It needs as
+/// many sinks as outputs.
+// Most calls on spans leave no line at a lone output, which is seen at once.
+#[inline(always)]
+pub fn hand_over<N: FormatFields + Drop, E: FormatEvent, F: Filter, S: LineSink>(
+    stack: &mut Stack<Filtered<Layer<N, E, PendingLines>, F>>,
+    sinks: &mut Vec<S>,
+    at: At,
+)
+    requires { length sinks.old.items ≡ length stack.old.rows }
+    ensures { HandsOver S.takes at stack.old sinks.old.items stack.new sinks.new.items }
+{
+    if sinks.len() != 1 {
+        hand_each(stack, sinks, copied(at));
+        return;
+    }
+    if is_idle(stack) {
+        return;
+    }
+    hand_only(stack, sinks, copied(at));
 }

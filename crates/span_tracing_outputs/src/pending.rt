@@ -1,5 +1,5 @@
 //! The lines of a request, until they are handed on.
-ghost use Rattle.std.specs.Prelude.{◌≡◌, ◌≤◌, [], length, map};
+ghost use Rattle.std.specs.Prelude.{◌≡◌, ◌≤◌, [], IsTrue, length, map};
 ghost use Rattle.std.specs.Result.{is_ok};
 ghost use Rattle.span_tracing_outputs.specs.OutputMachines.{one_more_line};
 ghost use Rattle.span_tracing_outputs.specs.BufferedLines.{TakesLine, lines_of, plain_line};
@@ -59,6 +59,13 @@ impl PendingLines {
         ensures { map plain_line result.now ≡ self.now }
     {
         &self.buffers.as_slice()[..self.used]
+    }
+
+    // Whether there is no line.
+    pub(crate) fn is_empty(&self) -> bool
+        ensures { IsTrue result → self.now ≡ [] }
+    {
+        self.used == 0
     }
 
     /// Forgets the lines. Their buffers stay.

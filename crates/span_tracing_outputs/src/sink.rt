@@ -19,9 +19,21 @@ pub trait LineSink: Drop {
         ensures { takes self.old at (record { level = level; bytes = line.now }) self.new };
 }
 
-/// Hands over lines, in order.
+/// The same place and moment. Where only the copy is handed to calls that aren't inlined, the compiler keeps `at` in registers.
+#[inline(always)]
+pub(crate) fn copied(at: At) -> At
+    ensures { result ≡ at }
+{
+    At {
+        lane: at.lane,
+        seconds: at.seconds,
+        nanoseconds: at.nanoseconds,
+    }
+}
+
+// Hands over any number of lines. It stands out of line, since most requests have one line or none.
 #[inline(never)]
-pub(crate) fn take_all<S: LineSink>(sink: &mut S, at: At, lines: &[PendingLine])
+fn take_several<S: LineSink>(sink: &mut S, at: At, lines: &[PendingLine])
     ensures { TakesAll S.takes at (map plain_line lines.now) sink.old sink.new }
 {
     let mut rest = lines;
@@ -29,4 +41,16 @@ pub(crate) fn take_all<S: LineSink>(sink: &mut S, at: At, lines: &[PendingLine])
         sink.take(at, line.level, line.bytes.as_slice());
         rest = later;
     }
+}
+
+/// Hands over lines, in order.
+#[inline(always)]
+pub(crate) fn take_all<S: LineSink>(sink: &mut S, at: At, lines: &[PendingLine])
+    ensures { TakesAll S.takes at (map plain_line lines.now) sink.old sink.new }
+{
+    if let [only] = lines {
+        sink.take(at, only.level, only.bytes.as_slice());
+        return;
+    }
+    take_several(sink, copied(at), lines);
 }

@@ -3,6 +3,8 @@
 #![tactic(auto)]
 
 mod call;
+mod call_copies;
+mod call_equality;
 mod call_error;
 mod has_registry;
 mod refusal;

@@ -6,7 +6,7 @@ use crate::callsite::TraceCallsite;
 use span_tracing_skeleton::HasRegistry;
 use std::alloc::Global;
 use tracing_core::{Dispatch, Hub};
-use tracing_core_fields::Subscriber;
+use tracing_core_fields::{Subscriber, WeakDispatch};
 
 /// A lane's name and thread.
 #[derive(Debug, Drop)]
@@ -49,13 +49,24 @@ impl<T: Subscriber> TraceParts<T> {
         self.alloc
     }
 
+    // The handle that requests of the stack are made by.
+    #[inline(always)]
+    pub(crate) fn weak_handle(&self) -> Option<WeakDispatch>
+        ensures { result ≡ self.now.handle }
+    {
+        match &self.handle {
+            None => None,
+            Some(handle) => Some(handle.downgrade()),
+        }
+    }
+
     /// The stack, where there is one.
     pub fn stack(&self) -> Option<&T>
         ensures { option_copied result ≡ stack_in self.now }
     {
-        match &self.handle {
+        match self.weak_handle() {
             None => None,
-            Some(handle) => self.hub.subscriber(handle),
+            Some(handle) => self.hub.subscriber(&handle),
         }
     }
 

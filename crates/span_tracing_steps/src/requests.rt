@@ -151,13 +151,13 @@ impl<T: Subscriber + HasRegistry> TraceParts<T> {
             (record { lane = lane; moment = moment; callsite = callsite; parent = parent; values = plain_entries values.entry }))
             Done (value_in self.new) }
     {
-        let Some(handle) = &self.handle else {
+        let Some(handle) = self.weak_handle() else {
             unreachable!()
         };
         // The refusals were looked for, so nothing stands in its way.
         let at = at_of(lane, moment);
         let parent = parent_of(parent);
-        let _told = self.hub.event_at(handle, index, parent, values, at);
+        let _told = self.hub.event_at(&handle, index, parent, values, at);
     }
 
     // An event, whatever is to be said of it.
@@ -239,12 +239,15 @@ impl<T: Subscriber + HasRegistry> TraceParts<T> {
         if !self.hub.has_been_set() {
             return Reply::Span(None);
         }
-        let Some(handle) = &self.handle else {
+        let Some(handle) = self.weak_handle() else {
             unreachable!()
         };
         let at = at_of(span.lane, span.moment);
         let parent = parent_of(span.parent);
-        match self.hub.new_span_at(handle, index, parent, span.values, at) {
+        match self
+            .hub
+            .new_span_at(&handle, index, parent, span.values, at)
+        {
             None => unreachable!(),
             Some(made) => reply_of(made),
         }
@@ -267,12 +270,12 @@ impl<T: Subscriber + HasRegistry> TraceParts<T> {
             return Reply::Enabled(false);
         }
         let Some(index) = found else { unreachable!() };
-        let Some(handle) = &self.handle else {
+        let Some(handle) = self.weak_handle() else {
             unreachable!()
         };
         match self
             .hub
-            .enabled_at(handle, index, at_of(call.lane, call.moment))
+            .enabled_at(&handle, index, at_of(call.lane, call.moment))
         {
             None => unreachable!(),
             Some(wanted) => Reply::Enabled(wanted),

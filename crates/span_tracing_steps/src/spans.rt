@@ -51,13 +51,13 @@ impl<T: Subscriber + HasRegistry> TraceParts<T> {
         let Some(index) = self.callsite_of(name) else {
             return Reply::Done;
         };
-        let Some(handle) = &self.handle else {
+        let Some(handle) = self.weak_handle() else {
             unreachable!()
         };
         let at = at_of(request.lane, request.moment);
         let _told = self
             .hub
-            .record_at(handle, index, &id_of(name), request.values, at);
+            .record_at(&handle, index, &id_of(name), request.values, at);
         Reply::Done
     }
 
@@ -78,13 +78,13 @@ impl<T: Subscriber + HasRegistry> TraceParts<T> {
         let Some(followed) = call.follows else {
             return Reply::Done;
         };
-        let Some(handle) = &self.handle else {
+        let Some(handle) = self.weak_handle() else {
             unreachable!()
         };
         let at = at_of(call.lane, call.moment);
         let _told = self
             .hub
-            .record_follows_from(handle, &id_of(name), &id_of(followed), at);
+            .record_follows_from(&handle, &id_of(name), &id_of(followed), at);
         Reply::Done
     }
 
@@ -103,12 +103,12 @@ impl<T: Subscriber + HasRegistry> TraceParts<T> {
         let Some(name) = call.span else {
             return Reply::Done;
         };
-        let Some(handle) = &self.handle else {
+        let Some(handle) = self.weak_handle() else {
             unreachable!()
         };
         match self
             .hub
-            .enter(handle, &id_of(name), at_of(call.lane, call.moment))
+            .enter(&handle, &id_of(name), at_of(call.lane, call.moment))
         {
             Ok(()) => Reply::Done,
             Err(_) => Reply::Refused(Refusal::OutOfMemory),
@@ -128,11 +128,11 @@ impl<T: Subscriber + HasRegistry> TraceParts<T> {
         let Some(name) = call.span else {
             return Reply::Done;
         };
-        let Some(handle) = &self.handle else {
+        let Some(handle) = self.weak_handle() else {
             unreachable!()
         };
         self.hub
-            .exit(handle, &id_of(name), at_of(call.lane, call.moment));
+            .exit(&handle, &id_of(name), at_of(call.lane, call.moment));
         Reply::Done
     }
 
@@ -150,12 +150,12 @@ impl<T: Subscriber + HasRegistry> TraceParts<T> {
         let Some(name) = call.span else {
             return Reply::Done;
         };
-        let Some(handle) = &self.handle else {
+        let Some(handle) = self.weak_handle() else {
             unreachable!()
         };
         let _same = self
             .hub
-            .clone_span(handle, &id_of(name), at_of(call.lane, call.moment));
+            .clone_span(&handle, &id_of(name), at_of(call.lane, call.moment));
         Reply::Done
     }
 
@@ -172,12 +172,12 @@ impl<T: Subscriber + HasRegistry> TraceParts<T> {
         let Some(name) = call.span else {
             return Reply::Closed(false);
         };
-        let Some(handle) = &self.handle else {
+        let Some(handle) = self.weak_handle() else {
             unreachable!()
         };
         Reply::Closed(
             self.hub
-                .try_close(handle, id_of(name), at_of(call.lane, call.moment)),
+                .try_close(&handle, id_of(name), at_of(call.lane, call.moment)),
         )
     }
 }

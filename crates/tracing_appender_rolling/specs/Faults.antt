@@ -41,3 +41,7 @@ after_write f (Err (Fault fault)) = record f { writes = min (f.writes + 1) (2 ^ 
 abbrev pub unit_of : {T : Type 0} → Result T FolderError → Result (Unit {0}) FolderError
 unit_of (Ok value) = Ok tt
 unit_of (Err e) = Err e
+
+-- lines were lost before any folder was asked, so the last fault stays
+abbrev pub with_lost_writes : Faults → ℕ → Faults
+with_lost_writes f lines = record f { writes = min (f.writes + lines) (2 ^ 64 - 1) }

@@ -56,7 +56,7 @@ impl<D: Folder> RollingFileAppender<D> {
     ghost use Rattle.tracing_appender_rolling.specs.Appenders.{Holds, LooksAt, MissesAt, IsOpened, FailedAt};
     ghost use Rattle.tracing_appender_rolling.specs.Looks.{Held, Switches, end_at};
     ghost use Rattle.tracing_appender_rolling.specs.AnyFolder.{RollsAt};
-    ghost use Rattle.tracing_appender_rolling.specs.Faults.{after_write};
+    ghost use Rattle.tracing_appender_rolling.specs.Faults.{after_write, with_lost_writes};
     ghost use Rattle.tracing_appender_rolling.specs.PrunedSinks.{PrunedSink, AgreesSink, RollsSink, WritesSink};
 
     /// Opens the file of the moment's period, after retention. Names are not looked at.
@@ -206,7 +206,15 @@ impl<D: Folder> RollingFileAppender<D> {
         outcome
     }
 
-    /// What was lost to the folder's faults.
+    /// Counts so many lines among the writes that failed, for whoever lost them in front of the appender, as a closed queue
+    /// does. The folder isn't asked, and the last fault stays as it was.
+    pub fn add_lost_writes(&mut self, lines: usize)
+        ensures { self.new ≡ record self.old { faults = with_lost_writes self.old.faults lines } }
+    {
+        self.faults = self.faults.with_lost_writes(lines);
+    }
+
+    /// What was lost to the folder's faults, or on the way to the folder.
     pub fn faults(&self) -> Faults
         ensures { result ≡ self.now.faults }
     {

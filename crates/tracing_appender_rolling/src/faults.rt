@@ -1,17 +1,18 @@
-//! What was lost to a folder's faults.
+//! What was lost to a folder's faults, or on the way to the folder.
 
 ghost use Rattle.std.specs.Prelude.{◌≡◌};
 
 use crate::folders::{FolderError, FolderFault};
 
-/// What was lost to a folder's faults. Each count stops at the greatest number.
+/// What was lost to a folder's faults, or on the way to the folder. Each count stops at the greatest number.
 #[derive(Clone, Copy, Debug, PartialEq, Eq)]
 pub struct Faults {
     /// Openings that failed; the old file stays in use.
     pub switches: usize,
     /// Listings and removals that failed. A listing whose directory isn't there yet is no failure.
     pub retentions: usize,
-    /// Lines whose write failed; the rest of such a line is lost.
+    /// Lines whose write failed, where the rest of each is lost; and lines that were lost on their way here, as by a
+    /// closed queue.
     pub writes: usize,
     /// The last fault.
     pub last: Option<FolderFault>,
@@ -19,6 +20,7 @@ pub struct Faults {
 
 impl Faults {
     ghost use Rattle.tracing_appender_rolling.specs.Faults.{no_faults, after_switch, after_retention, after_listing, after_write};
+    ghost use Rattle.tracing_appender_rolling.specs.Faults.{with_lost_writes};
 
     pub(crate) fn none() -> Faults
         ensures { result ≡ no_faults }
@@ -28,6 +30,16 @@ impl Faults {
             retentions: 0,
             writes: 0,
             last: None,
+        }
+    }
+
+    /// The counts once so many further lines were lost before any folder was asked. The last fault stays as it was.
+    pub fn with_lost_writes(self, lines: usize) -> Faults
+        ensures { result ≡ with_lost_writes self lines }
+    {
+        Faults {
+            writes: self.writes.saturating_add(lines),
+            ..self
         }
     }
 

@@ -2,6 +2,7 @@
 ghost use Rattle.std.specs.Prelude.{◌≡◌, None};
 
 use std::marker::Model;
+use tracing_core_fields::{WeakDispatch, weak_of};
 
 /// A handle to a subscriber of a hub, or to none.
 ///
@@ -33,6 +34,13 @@ impl Dispatch {
         ensures { result ≡ serial }
     {
         Dispatch { serial }
+    }
+
+    /// The handle to the same subscriber that doesn't keep it in the hub. It can be copied, and requests are made by it.
+    pub fn downgrade(&self) -> WeakDispatch
+        ensures { result ≡ self.now }
+    {
+        weak_of(self.serial)
     }
 
     pub(crate) fn serial(&self) -> Option<u64>

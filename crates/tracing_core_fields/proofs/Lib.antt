@@ -6,5 +6,6 @@ mod VisitLemmas
 mod BytesLemmas
 mod NamesLemmas
 pub mod IndexedLemmas
+pub mod OwnedCopies
 mod StyledLemmas
 mod OptionLemmas

@@ -22,6 +22,7 @@ pub mod PlainValue
 pub mod Visits
 pub mod OwnedMetadatas
 pub mod OwnedValues
+pub mod OwnedCopies
 pub mod IndexedEntries
 pub mod Values
 pub mod ValueSet

@@ -203,7 +203,7 @@ pub fn log_event<C: Callsite>(hub: &mut Hub<Tally, C>, event: &Event<'_, '_>, at
 pub fn events_of<C: Callsite>(hub: &Hub<Tally, C>, dispatch: &Dispatch) -> Option<u64>
     ensures { result ≡ option_map (λ e. e.subscriber.events) (living_of dispatch.now hub.now.subscribers) }
 {
-    match hub.subscriber(dispatch) {
+    match hub.subscriber(&dispatch.downgrade()) {
         Some(tally) => Some(tally.events),
         None => None,
     }

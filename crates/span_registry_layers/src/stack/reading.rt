@@ -1,5 +1,5 @@
 //! Reading a stack.
-ghost use Rattle.std.specs.Prelude.{◌≡◌, IfOk, IsTrue, slice_get, true};
+ghost use Rattle.std.specs.Prelude.{◌≡◌, IfOk, IsTrue, length, slice_get, true};
 ghost use Rattle.std.specs.Option.{option_map};
 ghost use Rattle.span_registry_layers_store.specs.Copies.{CopyOf};
 ghost use Rattle.span_registry_layers.specs.Stacks.{cleared, is_above};
@@ -17,7 +17,7 @@ impl<O> Stack<O> {
         &self.parts.registry
     }
 
-    /// A copy of the open spans and of the lanes' entries.
+    /// A copy of the open spans, of the lanes' entries, of the next id and of the number of filters.
     ///
     /// # Errors
     ///
@@ -26,6 +26,13 @@ impl<O> Stack<O> {
         ensures { IfOk result (λ copy. CopyOf self.now.registry copy) }
     {
         self.parts.registry.table()
+    }
+
+    /// How many outputs it has.
+    pub fn len(&self) -> usize
+        ensures { result ≡ length self.now.rows }
+    {
+        self.parts.rows.len()
     }
 
     /// The output at this place, counted from 0.

@@ -1,6 +1,6 @@
 // What filters answer.
 use super::*;
-use crate::{And, FilterFn, MetadataTest, Not, Or, filter_fn};
+use crate::{And, Context, ContextTest, DynFilterFn, FilterFn, MetadataTest, Not, Or, filter_fn};
 use tracing_core::LevelFilter;
 
 /// Whether a filter passes DEBUG events of a target, and its interest in them.
@@ -64,5 +64,43 @@ fn a_box_answers_what_is_in_it(rt: HostRuntime) -> Result<(), Fail> {
     let (passed, interest) = asked(&boxed, &mut registry, "app");
     assert!(rt; !passed && interest.is_never());
     assert!(rt; boxed.max_level_hint() == Some(LevelFilter::INFO));
+    Ok(())
+}
+
+/// Hands a filter on that may cross threads.
+fn sendable<F: Filter + Send>(filter: F) -> F {
+    filter
+}
+
+#[test]
+fn a_box_that_may_be_sent_answers_what_is_in_it(rt: HostRuntime) -> Result<(), Fail> {
+    let mut registry = Registry::new(rt.alloc());
+    let boxed: Box<dyn Filter + Send> = Box::new(rt.alloc(), LevelFilter::INFO)?;
+    let boxed = sendable(boxed);
+    let (passed, interest) = asked(&boxed, &mut registry, "app");
+    assert!(rt; !passed && interest.is_never());
+    assert!(rt; boxed.max_level_hint() == Some(LevelFilter::INFO));
+    let open: Box<dyn Filter + Send> = Box::new(rt.alloc(), LevelFilter::TRACE)?;
+    let (passed, interest) = asked(&open, &mut registry, "app");
+    assert!(rt; passed && interest.is_always());
+    Ok(())
+}
+
+#[test]
+fn a_filter_that_keeps_a_closure_may_be_sent(rt: HostRuntime) -> Result<(), Fail> {
+    let mut registry = Registry::new(rt.alloc());
+    let of_app: MetadataTest = Box::new(rt.alloc(), |metadata: &Metadata<'_>| -> bool {
+        metadata.target() == "app"
+    })?;
+    let filter = sendable(FilterFn::new(of_app));
+    let (passed, _) = asked(&filter, &mut registry, "app");
+    assert!(rt; passed);
+    let nowhere: ContextTest = Box::new(
+        rt.alloc(),
+        |_metadata: &Metadata<'_>, _context: &Context<'_>| -> bool { false },
+    )?;
+    let filter = sendable(DynFilterFn::new(nowhere));
+    let (passed, _) = asked(&filter, &mut registry, "app");
+    assert!(rt; !passed);
     Ok(())
 }

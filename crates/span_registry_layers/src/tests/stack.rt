@@ -122,7 +122,7 @@ fn is_in(current: CurrentSpan, span: Id) -> bool {
 fn surface_stack(rt: HostRuntime) -> Result<(), Fail> {
     let mut stack = counted(rt.alloc(), LevelFilter::INFO)?;
     assert!(rt; tell_info(&mut stack) && told(&stack) == 2 && stack.passed(0) == Some(true));
-    assert!(rt; stack.told(0) == Some(true) && stack.told(1).is_none());
+    assert!(rt; stack.told(0) == Some(true) && stack.told(1).is_none() && stack.len() == 1);
     let span = make_recorded(&mut stack).ok_or("a span")?;
     assert!(rt; stack.record_follows_from(&span, &span, PLACE).is_ok());
     assert!(rt; stack.enter(&span, PLACE).is_ok() && is_in(stack.current_span(0), span));

@@ -11,11 +11,11 @@ use crate::context::Context;
 use crate::filter::{Filter, SpanCall};
 use tracing_core_fields::{Event, Interest, LevelFilter, Metadata};
 
-/// Decides by metadata and by what the context shows.
-pub type ContextTest = Box<dyn Fn(&Metadata<'_>, &Context<'_>) -> bool>;
+/// Decides by metadata and by what the context shows. It can be sent to another thread, and so can a filter that keeps it.
+pub type ContextTest = Box<dyn Fn(&Metadata<'_>, &Context<'_>) -> bool + Send>;
 
-/// Says what a filter's interest in a callsite is.
-pub type CallsiteTest = Box<dyn Fn(&Metadata<'_>) -> Interest>;
+/// Says what a filter's interest in a callsite is. It can be sent to another thread.
+pub type CallsiteTest = Box<dyn Fn(&Metadata<'_>) -> Interest + Send>;
 
 /// A closure that can be asked of any callsite.
 #[derive(Drop)]

@@ -10,8 +10,8 @@ use crate::context::Context;
 use crate::filter::{Filter, SpanCall};
 use tracing_core_fields::{Event, Interest, LevelFilter, Metadata};
 
-/// Decides by metadata alone.
-pub type MetadataTest = Box<dyn Fn(&Metadata<'_>) -> bool>;
+/// Decides by metadata alone. It can be sent to another thread, and so can a filter that keeps it.
+pub type MetadataTest = Box<dyn Fn(&Metadata<'_>) -> bool + Send>;
 
 /// A filter that asks a closure about metadata.
 #[derive(Drop)]

@@ -95,7 +95,7 @@ fn push_plain(
 
 /// Keeps the id with its span. Answers whether nothing was kept with the span before.
 fn mark(spans: &mut Spans, id: Id) -> bool {
-    match spans.slots_mut(id) {
+    match spans.extensions_mut(id, None) {
         None => false,
         Some(kept) => kept
             .insert(OutputKey(1), Tag::Number, Slot::Number(id.into_u64()))
@@ -107,7 +107,7 @@ fn mark(spans: &mut Spans, id: Id) -> bool {
 fn is_marked(spans: &Spans, id: Id) -> bool {
     match spans.find(id) {
         None => !spans.is_open(id),
-        Some(span) => match span.slots.get(OutputKey(1), Tag::Number) {
+        Some(span) => match span.extensions.get(OutputKey(1), Tag::Number) {
             Some(Slot::Number(number)) => *number == id.into_u64() && span.kin.id == id,
             _ => false,
         },
@@ -182,10 +182,13 @@ fn agree(both: &Both, alloc: Global) -> Result<bool, AllocError> {
     )
 }
 
-/// Takes the span out of both. Answers whether they name the same parent.
+/// Takes the span out of both, unless it stays. Answers whether they name the same parent.
 fn remove_both(both: &mut Both, id: Id) -> bool {
-    let above = both.slots.remove(id);
-    above == both.plain.remove(id)
+    let stays = both.plain.stays(both.plain_lanes.as_slice(), id);
+    match both.slots.close(&both.lanes, id) {
+        None => stays,
+        Some(above) => !stays && above == both.plain.remove(id),
+    }
 }
 
 /// Closes what closes next, in both.
@@ -296,10 +299,11 @@ fn one_more(both: &mut Both, seed: &mut u64, alloc: Global) -> Result<bool, Fail
     Ok(is_made && agree_on(both, parent) && agree_on(both, made))
 }
 
-/// Takes out any span, if it is still there.
+/// Gives up the handle of any span, if it is still there, and takes the span out, unless it has children.
 fn any_goes(both: &mut Both, seed: &mut u64) -> Result<bool, Fail> {
     let id = any_id(both, seed)?;
-    Ok(remove_both(both, id) && agree_on(both, id))
+    let is_given_up = both.slots.give_up(id) == both.plain.give_up(id);
+    Ok(is_given_up && remove_both(both, id) && agree_on(both, id))
 }
 
 #[test]

@@ -9,7 +9,7 @@ struct BothLanes {
     plain: Vec<Vec<Id>>,
 }
 
-/// One of 20 ids, of which each four have the same last digits.
+/// One of 20 ids, of which each four have the same remainder.
 fn id_at(place: u64) -> Result<Id, Fail> {
     let number = (place / 5)
         .saturating_mul(1024)

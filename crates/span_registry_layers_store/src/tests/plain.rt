@@ -232,7 +232,7 @@ impl PlainSpans {
             kin,
             metadata,
             passed,
-            slots: Extensions::new(self.alloc),
+            extensions: Extensions::new(self.alloc),
         })?;
         Ok(())
     }

@@ -3,6 +3,7 @@ ghost use Rattle.std.specs.Prelude.{◌≡◌, ◌∷◌, [], IfOk};
 ghost use Rattle.span_tracing_outputs.specs.sinks.Routed.{EachFrom, RoutingGives, TakesIf, TakesSent, goes_to};
 
 use crate::LineSink;
+use crate::sink::copied;
 use event_formatter_text::Route;
 use std::alloc::{AllocError, Global};
 use std::marker::Model;
@@ -92,7 +93,8 @@ fn take_if<S: LineSink>(is_taken: bool, sink: &mut S, at: At, level: Level, line
     }
 }
 
-// Hands a line to the sinks that it goes to.
+// Hands a line to the sinks that it goes to. It stands out of line, since most outputs have a lone sink.
+#[inline(never)]
 fn take_each<S: LineSink>(route: &Route, sinks: &mut [S], at: At, level: Level, line: &[u8])
     ensures { EachFrom (TakesSent S.takes route.now at (record { level = level; bytes = line.now })) 0 sinks.old sinks.new }
 {
@@ -101,6 +103,18 @@ fn take_each<S: LineSink>(route: &Route, sinks: &mut [S], at: At, level: Level, 
         take_if(is_sent(route, level, place), sink, at, level, line);
         place += 1;
     }
+}
+
+// The same. A lone sink needs no loop.
+#[inline(always)]
+fn take_routed<S: LineSink>(route: &Route, sinks: &mut [S], at: At, level: Level, line: &[u8])
+    ensures { EachFrom (TakesSent S.takes route.now at (record { level = level; bytes = line.now })) 0 sinks.old sinks.new }
+{
+    if let [only] = sinks {
+        take_if(is_sent(route, level, 0), only, at, level, line);
+        return;
+    }
+    take_each(route, sinks, copied(at), level, line);
 }
 
 impl<S: Drop> RoutedSinks<S> {
@@ -162,7 +176,8 @@ impl<S: LineSink> LineSink for RoutedSinks<S> {
 
     ghost takes = { TakesRouted S.takes };
 
+    #[inline(always)]
     fn take(&mut self, at: At, level: Level, line: &[u8]) {
-        take_each(&self.route, self.sinks.as_mut_slice(), at, level, line);
+        take_routed(&self.route, self.sinks.as_mut_slice(), at, level, line);
     }
 }

@@ -10,7 +10,7 @@ use crate::hub::Hub;
 use crate::hub::lending::hold_refusal;
 use crate::hub::subscribers::{give_back, take_handle};
 use crate::refusal::{HandleError, TooManyHandles};
-use tracing_core_fields::{Callsite, Subscriber, WeakDispatch, serial_of, weak_of};
+use tracing_core_fields::{Callsite, Subscriber, WeakDispatch, serial_of};
 
 impl<S, C> Hub<S, C> {
     // Why there can't be a further handle to the subscriber of the number.
@@ -34,7 +34,7 @@ impl<S, C> Hub<S, C> {
     pub fn downgrade(&self, dispatch: &Dispatch) -> WeakDispatch
         ensures { result ≡ dispatch.now }
     {
-        weak_of(dispatch.serial())
+        dispatch.downgrade()
     }
 
     // One handle more, where the subscriber lives.

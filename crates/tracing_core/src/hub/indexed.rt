@@ -8,7 +8,6 @@ ghost use Rattle.tracing_core.specs.CachePreservation.{PreservesCaches};
 ghost use Rattle.tracing_core_fields.specs.requests.Calls.{EventDispatched, Recorded, SpanMade};
 ghost use Rattle.tracing_core_fields.specs.requests.PlainRequests.{plain_event, plain_request};
 
-use crate::dispatch::Dispatch;
 use crate::hub::Hub;
 use crate::hub::handing::{event_at, new_span_at, record_at};
 use crate::hub::index::CallsiteIndex;
@@ -16,7 +15,7 @@ use crate::hub::parts::RegisteredSubscriber;
 use crate::hub::registered::ask_one;
 use tracing_core_fields::{
     Attributes, Callsite, Event, Id, IndexedValues, Metadata, Record, RequestError, Subscriber,
-    ValueSet,
+    ValueSet, WeakDispatch, serial_of,
 };
 use tracing_core_moments::At;
 
@@ -110,7 +109,12 @@ fn tell_values<S: Subscriber>(
 impl<S: Subscriber, C: Callsite> Hub<S, C> {
     /// Whether the subscriber of the handle wants a span or an event of the callsite of the index, or `None` where no
     /// callsite stands there.
-    pub fn enabled_at(&mut self, dispatch: &Dispatch, index: CallsiteIndex, at: At) -> Option<bool>
+    pub fn enabled_at(
+        &mut self,
+        dispatch: &WeakDispatch,
+        index: CallsiteIndex,
+        at: At,
+    ) -> Option<bool>
         ensures gives { AskAtGives ⟦<S as Subscriber>⟧ ⟦<C as Callsite>⟧ (slice_get self.old.callsites index.0) at
             dispatch.now self.old result self.new }
         // A sound hub stays sound, and its cache stays valid of each subscriber of which it was.
@@ -119,7 +123,7 @@ impl<S: Subscriber, C: Callsite> Hub<S, C> {
         self.ask_at(dispatch, index, at)
     }
 
-    fn ask_at(&mut self, dispatch: &Dispatch, index: CallsiteIndex, at: At) -> Option<bool>
+    fn ask_at(&mut self, dispatch: &WeakDispatch, index: CallsiteIndex, at: At) -> Option<bool>
         ensures { AskAtGives ⟦<S as Subscriber>⟧ ⟦<C as Callsite>⟧ (slice_get self.old.callsites index.0) at
             dispatch.now self.old result self.new }
     {
@@ -127,7 +131,7 @@ impl<S: Subscriber, C: Callsite> Hub<S, C> {
             None => None,
             Some(registered) => {
                 let metadata = registered.callsite.metadata();
-                Some(ask_one(&mut self.subscribers, dispatch.serial(), &metadata, at))
+                Some(ask_one(&mut self.subscribers, serial_of(dispatch), &metadata, at))
             }
         }
     }
@@ -137,7 +141,7 @@ impl<S: Subscriber, C: Callsite> Hub<S, C> {
     /// field that the callsite lacks is passed over.
     pub fn event_at(
         &mut self,
-        dispatch: &Dispatch,
+        dispatch: &WeakDispatch,
         index: CallsiteIndex,
         parent: RequestParent,
         values: IndexedValues<'_>,
@@ -152,7 +156,7 @@ impl<S: Subscriber, C: Callsite> Hub<S, C> {
 
     fn hand_event(
         &mut self,
-        dispatch: &Dispatch,
+        dispatch: &WeakDispatch,
         index: CallsiteIndex,
         parent: RequestParent,
         values: IndexedValues<'_>,
@@ -167,7 +171,7 @@ impl<S: Subscriber, C: Callsite> Hub<S, C> {
                 let metadata = registered.callsite.metadata();
                 Some(tell_event(
                     &mut self.subscribers,
-                    dispatch.serial(),
+                    serial_of(dispatch),
                     &metadata,
                     parent,
                     values,
@@ -181,7 +185,7 @@ impl<S: Subscriber, C: Callsite> Hub<S, C> {
     /// callsite stands there. Values are told as to [`Hub::event_at`].
     pub fn new_span_at(
         &mut self,
-        dispatch: &Dispatch,
+        dispatch: &WeakDispatch,
         index: CallsiteIndex,
         parent: RequestParent,
         values: IndexedValues<'_>,
@@ -196,7 +200,7 @@ impl<S: Subscriber, C: Callsite> Hub<S, C> {
 
     fn hand_span(
         &mut self,
-        dispatch: &Dispatch,
+        dispatch: &WeakDispatch,
         index: CallsiteIndex,
         parent: RequestParent,
         values: IndexedValues<'_>,
@@ -211,7 +215,7 @@ impl<S: Subscriber, C: Callsite> Hub<S, C> {
                 let metadata = registered.callsite.metadata();
                 Some(make_span(
                     &mut self.subscribers,
-                    dispatch.serial(),
+                    serial_of(dispatch),
                     &metadata,
                     parent,
                     values,
@@ -225,7 +229,7 @@ impl<S: Subscriber, C: Callsite> Hub<S, C> {
     /// callsite stands there. Values are told as to [`Hub::event_at`].
     pub fn record_at(
         &mut self,
-        dispatch: &Dispatch,
+        dispatch: &WeakDispatch,
         index: CallsiteIndex,
         span: &Id,
         values: IndexedValues<'_>,
@@ -240,7 +244,7 @@ impl<S: Subscriber, C: Callsite> Hub<S, C> {
 
     fn hand_values(
         &mut self,
-        dispatch: &Dispatch,
+        dispatch: &WeakDispatch,
         index: CallsiteIndex,
         span: &Id,
         values: IndexedValues<'_>,
@@ -255,7 +259,7 @@ impl<S: Subscriber, C: Callsite> Hub<S, C> {
                 let metadata = registered.callsite.metadata();
                 Some(tell_values(
                     &mut self.subscribers,
-                    dispatch.serial(),
+                    serial_of(dispatch),
                     &metadata,
                     span,
                     values,

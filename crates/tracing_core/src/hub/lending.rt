@@ -8,20 +8,19 @@ ghost use Rattle.tracing_core.specs.CachePreservation.{PreservesCaches, Preserve
 ghost use Rattle.tracing_core.specs.HandleSubscribers.{living_of, lent_to, IsIndexOrEnd, IsIndexToLend};
 ghost use Rattle.tracing_core.specs.SubscriberLoan.{LendsSubscriber};
 
-use crate::dispatch::Dispatch;
 use crate::hub::Hub;
 use crate::hub::parts::RegisteredSubscriber;
 use crate::hub::subscribers::index_of;
 use crate::refusal::HandleError;
-use tracing_core_fields::{Callsite, Subscriber};
+use tracing_core_fields::{Callsite, Subscriber, WeakDispatch, serial_of};
 
 impl<S, C> Hub<S, C> {
     /// The subscriber that the handle leads to.
-    pub fn subscriber(&self, dispatch: &Dispatch) -> Option<&S>
+    pub fn subscriber(&self, dispatch: &WeakDispatch) -> Option<&S>
         ensures { option_map (λ subscriber. subscriber.now) result
             ≡ option_map (λ kept. kept.subscriber) (living_of dispatch.now self.now.subscribers) }
     {
-        let index = index_or_end(&self.subscribers, dispatch.serial());
+        let index = index_or_end(&self.subscribers, serial_of(dispatch));
         match self.subscribers.get(index) {
             None => None,
             Some(registered) => Some(&registered.subscriber),
@@ -40,12 +39,12 @@ impl<S, C> Hub<S, C> {
     }
 
     // Lends the subscriber, and marks it.
-    fn lend(&mut self, dispatch: &Dispatch) -> Option<&mut S>
+    fn lend(&mut self, dispatch: &WeakDispatch) -> Option<&mut S>
         ensures lent { option_map (λ subscriber. subscriber.now) result
             ≡ option_map (λ kept. kept.subscriber) (living_of dispatch.now self.old.subscribers) }
         ensures* ends { sem 𝓛 (LendsSubscriber S.row C.row self.entry dispatch.now result) }
     {
-        let index = index_to_lend(&self.subscribers, dispatch.serial());
+        let index = index_to_lend(&self.subscribers, serial_of(dispatch));
         match self.subscribers.get_mut(index) {
             None => None,
             Some(registered) => {
@@ -59,7 +58,7 @@ impl<S, C> Hub<S, C> {
 impl<S: Subscriber, C: Callsite> Hub<S, C> {
     /// Lends the subscriber that the handle leads to for writing, and marks it as lent: what is kept of it
     /// counts for nothing until the next rebuild, refresh or `add`.
-    pub fn subscriber_mut(&mut self, dispatch: &Dispatch) -> Option<&mut S>
+    pub fn subscriber_mut(&mut self, dispatch: &WeakDispatch) -> Option<&mut S>
         ensures lent { option_map (λ subscriber. subscriber.now) result
             ≡ option_map (λ kept. kept.subscriber) (living_of dispatch.now self.old.subscribers) }
         // The cache stays valid of the other subscribers that aren't lent, whatever the lent one becomes.
@@ -77,7 +76,7 @@ impl<S: Subscriber, C: Callsite> Hub<S, C> {
     /// no clause promises that.
     pub fn with_subscriber_mut<T, F: FnOnce(&mut S) -> T>(
         &mut self,
-        dispatch: &Dispatch,
+        dispatch: &WeakDispatch,
         change: F,
     ) -> Option<T>
         requires { F.IsAlwaysCallable change }
@@ -87,7 +86,7 @@ impl<S: Subscriber, C: Callsite> Hub<S, C> {
         ensures keeps { ChangesBy F.FnOnce change (AnswersAlike ⟦<S as Subscriber>⟧) →
             PreservesCaches ⟦<S as Subscriber>⟧ ⟦<C as Callsite>⟧ self.old self.new }
     {
-        change_at(&mut self.subscribers, dispatch.serial(), change)
+        change_at(&mut self.subscribers, serial_of(dispatch), change)
     }
 }
 

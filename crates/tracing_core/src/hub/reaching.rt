@@ -15,7 +15,7 @@ use crate::hub::lending::index_or_end;
 use crate::hub::parts::RegisteredSubscriber;
 use tracing_core_fields::{
     Attributes, Callsite, CurrentSpan, Event, Id, Interest, Metadata, RequestError, Subscriber,
-    serial_of,
+    WeakDispatch, serial_of,
 };
 use tracing_core_moments::At;
 
@@ -43,14 +43,18 @@ impl<S, C> Hub<S, C> {
     pub(crate) fn reached_handle(&self, lane: u64) -> Dispatch
         ensures { result ≡ reached self.now lane }
     {
-        Dispatch::new(serial_of(&self.reached(lane)))
+        Dispatch::new(self.reached_serial(lane))
     }
 }
 
 impl<S: Subscriber, C: Callsite> Hub<S, C> {
     /// Asks the subscriber of the handle for its interest in a callsite, which is never where there is
     /// none. What is kept of callsites stays.
-    pub fn register_callsite(&mut self, dispatch: &Dispatch, metadata: &Metadata<'_>) -> Interest
+    pub fn register_callsite(
+        &mut self,
+        dispatch: &WeakDispatch,
+        metadata: &Metadata<'_>,
+    ) -> Interest
         ensures answer { (e : KeptSubscriber S) → living_of dispatch.now self.old.subscribers ≡ Some e →
             S.says e.subscriber (plain_metadata metadata.now) result }
         // This is one call of the handle's subscriber, and nothing else changes; where there is none, the answer is that of
@@ -59,7 +63,7 @@ impl<S: Subscriber, C: Callsite> Hub<S, C> {
             self.old result self.new }
         ensures keeps { PreservesCaches ⟦<S as Subscriber>⟧ ⟦<C as Callsite>⟧ self.old self.new }
     {
-        register_callsite_at(&mut self.subscribers, dispatch.serial(), metadata)
+        register_callsite_at(&mut self.subscribers, serial_of(dispatch), metadata)
     }
 
     /// Whether the subscriber that the lane reaches wants a span or an event of the callsite. It is asked
@@ -70,7 +74,7 @@ impl<S: Subscriber, C: Callsite> Hub<S, C> {
         ensures rest { self.new ≡ record self.old { subscribers = self.new.subscribers } }
         ensures keeps { PreservesCaches ⟦<S as Subscriber>⟧ ⟦<C as Callsite>⟧ self.old self.new }
     {
-        let dispatch = self.reached_handle(at.lane);
+        let dispatch = self.reached(at.lane);
         self.enabled(&dispatch, metadata, at)
     }
 
@@ -80,7 +84,7 @@ impl<S: Subscriber, C: Callsite> Hub<S, C> {
             (reached self.old at.lane) self.old result self.new }
         ensures keeps { PreservesCaches ⟦<S as Subscriber>⟧ ⟦<C as Callsite>⟧ self.old self.new }
     {
-        let dispatch = self.reached_handle(at.lane);
+        let dispatch = self.reached(at.lane);
         self.event(&dispatch, event, at)
     }
 
@@ -94,7 +98,7 @@ impl<S: Subscriber, C: Callsite> Hub<S, C> {
             (reached self.old at.lane) self.old result self.new }
         ensures keeps { PreservesCaches ⟦<S as Subscriber>⟧ ⟦<C as Callsite>⟧ self.old self.new }
     {
-        let dispatch = self.reached_handle(at.lane);
+        let dispatch = self.reached(at.lane);
         self.new_span(&dispatch, attributes, at)
     }
 
@@ -104,7 +108,7 @@ impl<S: Subscriber, C: Callsite> Hub<S, C> {
             self.new }
         ensures keeps { PreservesCaches ⟦<S as Subscriber>⟧ ⟦<C as Callsite>⟧ self.old self.new }
     {
-        let dispatch = self.reached_handle(at.lane);
+        let dispatch = self.reached(at.lane);
         self.current_span(&dispatch, at)
     }
 }

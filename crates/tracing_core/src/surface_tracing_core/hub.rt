@@ -50,15 +50,16 @@ fn surface_hub_handles(rt: HostRuntime) -> Result<(), Fail> {
     let copy = hub.clone(&first)?;
     let weak = hub.downgrade(&first);
     let third = hub.upgrade(&weak)?.ok_or("it lives")?;
-    assert!(rt; hub.subscriber(&first).is_some() && hub.first_subscriber().is_some());
-    assert!(rt; hub.subscriber_mut(&first).is_some());
+    assert!(rt; hub.subscriber(&weak).is_some() && hub.first_subscriber().is_some());
+    assert!(rt; hub.subscriber_mut(&weak).is_some());
     let guard = hub.set_default(lane, &first)?;
     let Err(WrongLane(guard)) = hub.reset(lane + 1, guard) else {
         panic!(&rt; "another lane took a guard");
     };
     assert!(rt; hub.reset(lane, guard).is_ok() && hub.release(copy).is_none());
     assert!(rt; hub.release(third).is_none() && hub.release(first).is_some());
-    assert!(rt; hub.upgrade(&weak)?.is_none() && hub.subscriber(&Dispatch::none()).is_none());
+    let nobody = Dispatch::none().downgrade();
+    assert!(rt; hub.upgrade(&weak)?.is_none() && hub.subscriber(&nobody).is_none());
     Ok(())
 }
 
@@ -69,7 +70,8 @@ fn surface_hub_requests(rt: HostRuntime) -> Result<(), Fail> {
     let fields = FieldSet::new(&[], Identifier(3));
     let metadata = span_metadata(fields);
     let values = fields.value_set_all(&[]);
-    let first = hub.add(NoSubscriber::new()).ok().ok_or("memory")?;
+    let counted = hub.add(NoSubscriber::new()).ok().ok_or("memory")?;
+    let first = counted.downgrade();
     let attributes = Attributes::new(&metadata, values);
     let id = hub
         .new_span(&first, &attributes, moment(lane))?
@@ -126,14 +128,20 @@ fn surface_hub_scopes(rt: HostRuntime) -> Result<(), Fail> {
     let first = hub.add(boxed).ok().ok_or("memory")?;
     let (found, reset) = hub.with_default(lane, &first, |hub| {
         hub.get_default(lane, |hub, dispatch| {
-            let found = hub.subscriber(dispatch).is_some();
-            let again = hub.get_default(lane, |hub, inner| hub.subscriber(inner).is_some());
+            let found = hub.subscriber(&dispatch.downgrade()).is_some();
+            let again = hub.get_default(
+                lane,
+                |hub, inner| hub.subscriber(&inner.downgrade()).is_some(),
+            );
             (found, again, hub.get_current(lane, |_, _| ()).is_some())
         })
     })?;
     assert_eq!(rt; found, (true, false, false));
     assert!(rt; reset.is_ok());
-    let outside = hub.get_current(lane, |hub, dispatch| hub.subscriber(dispatch).is_some());
+    let outside = hub.get_current(
+        lane,
+        |hub, dispatch| hub.subscriber(&dispatch.downgrade()).is_some(),
+    );
     assert_eq!(rt; outside, Some(false));
     Ok(())
 }

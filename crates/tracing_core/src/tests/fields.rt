@@ -2,6 +2,7 @@ use std::test::Fail;
 use tracing_core_fields::*;
 
 mod kinds;
+mod owned;
 mod visits;
 
 const NAMES: [&str; 3] = ["message", "count", "count"];

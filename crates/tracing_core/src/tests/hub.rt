@@ -123,7 +123,7 @@ fn weak_handles_keep_nobody(rt: HostRuntime) -> Result<(), Fail> {
     let first = add(&mut hub, 2, Interest::never())?;
     let weak = hub.downgrade(&first);
     assert!(rt;
-        hub.subscriber(&first)
+        hub.subscriber(&first.downgrade())
             .is_some_and(|subscriber| subscriber.name() == 2)
     );
     let second = hub.upgrade(&weak)?.ok_or("it lives")?;
@@ -153,7 +153,7 @@ fn guards_are_spent_in_any_order(rt: HostRuntime) -> Result<(), Fail> {
     };
     let gone = hub.reset(lane, outer).ok().ok_or("the lane's guard")?;
     assert!(rt; gone.is_some_and(|subscriber| subscriber.name() == 2));
-    assert!(rt; hub.subscriber(&Dispatch::none()).is_none());
+    assert!(rt; hub.subscriber(&Dispatch::none().downgrade()).is_none());
     let kept = hub.reset(lane, inner).ok().ok_or("the lane's guard")?;
     assert!(rt; kept.is_none());
     let last = hub.end_thread(lane)?;
@@ -215,7 +215,8 @@ fn requests_reach_the_handle(rt: HostRuntime) -> Result<(), Fail> {
     let (mut hub, lane, first) = hub_of(rt.alloc())?;
     let fields = FieldSet::new(&[], Identifier(5));
     let metadata = metadata_of(fields);
-    let nobody = Dispatch::none();
+    let first = first.downgrade();
+    let nobody = Dispatch::none().downgrade();
     let id = Id::from_u64(4).ok_or("an id")?;
     assert!(rt; hub.enabled(&first, &metadata, at(lane)));
     assert!(rt; !hub.enabled(&nobody, &metadata, at(lane)));
@@ -250,7 +251,8 @@ fn events_and_spans_reach_the_handle(rt: HostRuntime) -> Result<(), Fail> {
     let fields = FieldSet::new(&[], Identifier(5));
     let metadata = metadata_of(fields);
     let first = add(&mut hub, 1, Interest::always())?;
-    let nobody = Dispatch::none();
+    let first = first.downgrade();
+    let nobody = Dispatch::none().downgrade();
     let id = Id::from_u64(4).ok_or("an id")?;
     let values = fields.value_set_all(&[]);
     let event = Event::new(&metadata, values);

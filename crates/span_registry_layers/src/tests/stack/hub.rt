@@ -44,7 +44,7 @@ fn surface_hubs_of_stacks(rt: HostRuntime) -> Result<(), Fail> {
     let mut hub: Hub<Stack<Counted>, DefaultCallsite> = Hub::new(rt.alloc());
     let handle = hub.add(stack).ok().ok_or("a handle")?;
     // Attached once, and once told that the hub took the stack.
-    let stack = hub.subscriber(&handle).ok_or("the stack")?;
+    let stack = hub.subscriber(&handle.downgrade()).ok_or("the stack")?;
     assert!(rt; told(stack) == 2);
     Ok(())
 }

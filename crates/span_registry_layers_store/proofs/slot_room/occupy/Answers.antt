@@ -10,7 +10,7 @@ index_mut-requires c = let within =
 pub returns-in-Some : goal.returns-in-Some
 returns-in-Some c = takes_free c.args.slots.now.items c.args.free.now c.pop.new.self c.in-Some.slot c.args.kin c.args.metadata
     c.args.passed c.index_mut.result.now c.take.new.self c.in-Some.ensures.items c.in-Some.ensures.capacity c.requires.free
-    c.requires.apart c.requires.fits c.requires.few c.index_mut.ensures.value c.take.ensures
+    c.requires.apart c.requires.fits c.index_mut.ensures.value c.take.ensures
 
 pub returns-in-None : goal.returns-in-None
 returns-in-None c =
@@ -19,5 +19,5 @@ returns-in-None c =
     let room = c.requires.room (none_left c.args.free.now.items (omega (arith, none_before))) in
     takes_new c.args.slots.now.items c.push_reserved.new.self.items c.args.free.now c.pop.new.self c.len-slot.result c.args.kin
     c.args.metadata c.args.passed c.new.result
-    (omega (arith, none_before)) (omega (arith, none_after)) c.in-None.ensures.capacity room.1 room.2
+    (omega (arith, none_before)) (omega (arith, none_after)) c.in-None.ensures.capacity room.1
     (let n = c.len-slot.ensures in omega (arith, n)) c.new.ensures c.push_reserved.ensures.items

@@ -177,6 +177,26 @@ fn a_refused_write_is_told_and_counted(rt: HostRuntime) -> Result<(), Fail> {
     Ok(())
 }
 
+#[test]
+fn lines_lost_elsewhere_are_counted_beside_failed_ones(rt: HostRuntime) -> Result<(), Fail> {
+    let alloc = rt.alloc();
+    let folder = refusing(alloc, &[2])?;
+    let mut appender = daily(alloc, folder, "t", FEBRUARY).map_err(|refusal| refusal.error)?;
+    appender.add_lost_writes(2);
+    assert_eq!(rt; appender.faults().writes, 2);
+    assert_eq!(rt; appender.faults().last, None);
+    assert!(rt; appender.write_all_at(b"a", FEBRUARY).is_err());
+    appender.add_lost_writes(1);
+    assert_eq!(rt; appender.faults().writes, 4);
+    assert_eq!(rt; appender.faults().last, Some(FolderFault::Refused));
+    assert_eq!(rt; appender.folder().failures(), 1);
+    appender.add_lost_writes(usize::MAX);
+    assert_eq!(rt; appender.faults().writes, usize::MAX);
+    appender.add_lost_writes(1);
+    assert_eq!(rt; appender.faults().writes, usize::MAX);
+    Ok(())
+}
+
 /// A daily appender over a folder whose writes with the numbers take at most so many bytes. The opening is call 1.
 fn slowed(
     alloc: Global,

@@ -31,11 +31,15 @@ fn assert_registered(hub: &mut TestHub, identifier: u64) -> Result<(), Fail> {
 }
 
 fn questions(hub: &TestHub, dispatch: &Dispatch) -> Result<u64, Fail> {
-    Ok(hub.subscriber(dispatch).ok_or("it is gone")?.questions())
+    Ok(
+        hub.subscriber(&dispatch.downgrade())
+            .ok_or("it is gone")?
+            .questions(),
+    )
 }
 
 fn change(hub: &mut TestHub, dispatch: &Dispatch, interest: Interest) -> Result<(), Fail> {
-    hub.subscriber_mut(dispatch)
+    hub.subscriber_mut(&dispatch.downgrade())
         .ok_or("it is gone")?
         .say(interest);
     Ok(())
@@ -148,7 +152,10 @@ fn a_refresh_keeps_right_what_was_right(rt: HostRuntime) -> Result<(), Fail> {
     )?;
     let lane = hub.thread()?;
     assert!(rt; hub.set_default(lane, &first).is_ok());
-    let changed = hub.with_subscriber_mut(&first, |subscriber| subscriber.say(Interest::always()));
+    let changed = hub.with_subscriber_mut(
+        &first.downgrade(),
+        |subscriber| subscriber.say(Interest::always()),
+    );
     assert!(rt; changed.is_some());
     assert_eq!(rt; hub.gate(Identifier(3), at(lane)), Some(true));
     change(&mut hub, &second, Interest::never())?;

@@ -23,11 +23,18 @@ fn digit<'a>(field: usize, number: u64) -> LentValue<'a> {
     }
 }
 
-/// A hub with one subscriber and the callsite, the handle, and the callsite's index.
+/// A hub with one subscriber and the callsite, a handle that isn't counted, and the callsite's index.
 fn hub_at<'a>(
     alloc: Global,
     metadata: &'a Metadata<'a>,
-) -> Result<(Hub<Listener, DefaultCallsite<'a>>, Dispatch, CallsiteIndex), Fail> {
+) -> Result<
+    (
+        Hub<Listener, DefaultCallsite<'a>>,
+        WeakDispatch,
+        CallsiteIndex,
+    ),
+    Fail,
+> {
     let mut hub = Hub::new(alloc);
     let first = hub.add(Listener::new()).ok().ok_or("a subscriber")?;
     let _interest = hub
@@ -35,13 +42,13 @@ fn hub_at<'a>(
         .ok()
         .ok_or("a callsite")?;
     let index = hub.index_of(Identifier(5)).ok_or("an index")?;
-    Ok((hub, first, index))
+    Ok((hub, first.downgrade(), index))
 }
 
 /// How often the subscriber was told something, the digits that it was told last, and where.
 fn told(
     hub: &Hub<Listener, DefaultCallsite<'_>>,
-    dispatch: &Dispatch,
+    dispatch: &WeakDispatch,
 ) -> Result<(u64, u64, Place), Fail> {
     let listener = hub.subscriber(dispatch).ok_or("a subscriber")?;
     Ok((listener.calls, listener.digits, listener.place))
@@ -122,7 +129,7 @@ fn values_of_a_span_and_questions_reach_the_subscriber(rt: HostRuntime) -> Resul
     );
     assert_eq!(rt; told(&hub, &first)?, (1, 12, Place::Under(id)));
     assert_eq!(rt; hub.enabled_at(&first, index, at(0)), Some(true));
-    let nobody = Dispatch::none();
+    let nobody = Dispatch::none().downgrade();
     assert_eq!(rt; hub.enabled_at(&nobody, index, at(0)), Some(false));
     assert_eq!(rt;
         hub.record_at(&nobody, index, &id, IndexedValues::Lent(&values), at(0)),
@@ -140,6 +147,7 @@ fn an_index_of_another_hub_may_stand_nowhere(rt: HostRuntime) -> Result<(), Fail
     let (_, _, index) = hub_at(rt.alloc(), &metadata)?;
     let mut hub: Hub<Listener, DefaultCallsite<'_>> = Hub::new(rt.alloc());
     let first = hub.add(Listener::new()).ok().ok_or("a subscriber")?;
+    let first = first.downgrade();
     let id = Id::from_u64(9).ok_or("an id")?;
     let parent = RequestParent::Root;
     assert!(rt; hub.enabled_at(&first, index, at(0)).is_none());

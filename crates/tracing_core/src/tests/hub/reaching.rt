@@ -49,8 +49,11 @@ fn requests_of_a_lane_reach_its_default(rt: HostRuntime) -> Result<(), Fail> {
     let (mut hub, lane, first) = hub_of(rt.alloc())?;
     let fields = FieldSet::new(&[], Identifier(5));
     let metadata = metadata_of(fields);
-    let nobody = Dispatch::none();
-    assert!(rt; hub.register_callsite(&first, &metadata).is_always());
+    let nobody = Dispatch::none().downgrade();
+    assert!(rt;
+        hub.register_callsite(&first.downgrade(), &metadata)
+            .is_always()
+    );
     assert!(rt; hub.register_callsite(&nobody, &metadata).is_never());
     assert!(rt; !hub.enabled_here(&metadata, at(lane)));
     assert!(rt; matches!(hub.current_span_here(at(lane)), CurrentSpan::Unknown));
@@ -77,23 +80,49 @@ fn requests_of_a_lane_reach_its_default(rt: HostRuntime) -> Result<(), Fail> {
     Ok(())
 }
 
+/// A subscriber that only a default holds is reached without a handle; where it is gone, nobody is.
+#[test]
+fn weak_handles_reach_whoever_lives(rt: HostRuntime) -> Result<(), Fail> {
+    let (mut hub, lane, first) = hub_of(rt.alloc())?;
+    let fields = FieldSet::new(&[], Identifier(5));
+    let metadata = metadata_of(fields);
+    let weak = first.downgrade();
+    let guard = hub.set_default(lane, &first)?;
+    assert!(rt; hub.release(first).is_none());
+    assert!(rt; hub.enabled(&weak, &metadata, at(lane)));
+    assert!(rt; matches!(hub.current_span(&weak, at(lane)), CurrentSpan::Outside));
+    let gone = hub.reset(lane, guard).ok().ok_or("the lane's guard")?;
+    assert!(rt; gone.is_some() && hub.subscriber(&weak).is_none());
+    assert!(rt; !hub.enabled(&weak, &metadata, at(lane)));
+    assert!(rt; matches!(hub.current_span(&weak, at(lane)), CurrentSpan::Unknown));
+    Ok(())
+}
+
 #[test]
 fn a_changed_subscriber_isnt_lent(rt: HostRuntime) -> Result<(), Fail> {
     let (mut hub, _, first) = hub_of(rt.alloc())?;
     let second = add(&mut hub, 2, Interest::always())?;
-    let before = hub.with_subscriber_mut(&second, |subscriber: &mut Everything| {
+    let before = hub.with_subscriber_mut(&second.downgrade(), |subscriber: &mut Everything| {
         let name = subscriber.name();
         subscriber.rename(7);
         name
     });
     assert_eq!(rt; before, Some(2));
-    let name = hub.subscriber(&second).ok_or("the second")?.name();
+    let name = hub
+        .subscriber(&second.downgrade())
+        .ok_or("the second")?
+        .name();
     assert_eq!(rt; name, 7);
-    let name = hub.subscriber(&first).ok_or("the first")?.name();
+    let name = hub
+        .subscriber(&first.downgrade())
+        .ok_or("the first")?
+        .name();
     assert_eq!(rt; name, 1);
-    let nobody = hub.with_subscriber_mut(&Dispatch::none(), |subscriber: &mut Everything| {
-        subscriber.rename(8)
-    });
+    let nobody = Dispatch::none().downgrade();
+    let nobody = hub.with_subscriber_mut(
+        &nobody,
+        |subscriber: &mut Everything| subscriber.rename(8),
+    );
     assert!(rt; nobody.is_none());
     Ok(())
 }

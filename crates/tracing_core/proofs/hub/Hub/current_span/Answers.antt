@@ -6,6 +6,6 @@ use Rattle.tracing_core.proofs.hub.Hub.current_span.Goals as goal
 
 pub returns-clause-keeps : goal.returns-clause-keeps
 returns-clause-keeps g c =
-    handed_keeps g.S.Subscriber g.C.Callsite (CurrentAsked c.args.at) c.current_span_at.result c.serial.ensures c.self.view_is
+    handed_keeps g.S.Subscriber g.C.Callsite (CurrentAsked c.args.at) c.current_span_at.result c.serial_of.ensures c.self.view_is
     c.deref_mut.ensures.value
     (with_items_is c.self.inside.subscribers c.current_span_at.new.subscribers (omega arith)) c.current_span_at.ensures

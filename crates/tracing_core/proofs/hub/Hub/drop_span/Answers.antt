@@ -6,5 +6,5 @@ use Rattle.tracing_core.proofs.hub.Hub.drop_span.Goals as goal
 
 pub returns-clause-keeps : goal.returns-clause-keeps
 returns-clause-keeps g c =
-    handed_keeps g.S.Subscriber g.C.Callsite (Dropped c.args.span c.args.at) tt c.serial.ensures c.self.view_is c.deref_mut.ensures.value
+    handed_keeps g.S.Subscriber g.C.Callsite (Dropped c.args.span c.args.at) tt c.serial_of.ensures c.self.view_is c.deref_mut.ensures.value
     (with_items_is c.self.inside.subscribers c.drop_span_at.new.subscribers (omega arith)) c.drop_span_at.ensures

@@ -6,6 +6,6 @@ use Rattle.tracing_core.proofs.hub.Hub.enabled.Goals as goal
 
 pub returns-clause-keeps : goal.returns-clause-keeps
 returns-clause-keeps g c =
-    asked_keeps g.S.Subscriber g.C.Callsite (plain_metadata c.args.metadata.now) c.args.at c.ask_one.result c.serial.ensures c.self.view_is
+    asked_keeps g.S.Subscriber g.C.Callsite (plain_metadata c.args.metadata.now) c.args.at c.ask_one.result c.serial_of.ensures c.self.view_is
     c.deref_mut.ensures.value
     (with_items_is c.self.inside.subscribers c.ask_one.new.subscribers (omega arith)) c.ask_one.ensures

@@ -8,5 +8,5 @@ use Rattle.tracing_core.proofs.hub.Hub.event_enabled.Goals as goal
 pub returns-clause-keeps : goal.returns-clause-keeps
 returns-clause-keeps g c =
     handed_keeps g.S.Subscriber g.C.Callsite (EventAsked (plain_event c.args.event.now) c.args.at) c.event_enabled_at.result
-    c.serial.ensures c.self.view_is c.deref_mut.ensures.value
+    c.serial_of.ensures c.self.view_is c.deref_mut.ensures.value
     (with_items_is c.self.inside.subscribers c.event_enabled_at.new.subscribers (omega arith)) c.event_enabled_at.ensures

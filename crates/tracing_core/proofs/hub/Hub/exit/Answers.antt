@@ -6,5 +6,5 @@ use Rattle.tracing_core.proofs.hub.Hub.exit.Goals as goal
 
 pub returns-clause-keeps : goal.returns-clause-keeps
 returns-clause-keeps g c =
-    handed_keeps g.S.Subscriber g.C.Callsite (Exited c.args.span.now c.args.at) tt c.serial.ensures c.self.view_is c.deref_mut.ensures.value
+    handed_keeps g.S.Subscriber g.C.Callsite (Exited c.args.span.now c.args.at) tt c.serial_of.ensures c.self.view_is c.deref_mut.ensures.value
     (with_items_is c.self.inside.subscribers c.exit_at.new.subscribers (omega arith)) c.exit_at.ensures

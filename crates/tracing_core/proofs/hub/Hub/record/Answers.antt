@@ -8,5 +8,5 @@ use Rattle.tracing_core.proofs.hub.Hub.record.Goals as goal
 pub returns-clause-keeps : goal.returns-clause-keeps
 returns-clause-keeps g c =
     handed_keeps g.S.Subscriber g.C.Callsite (Recorded c.args.span.now (plain_record c.args.values.now) c.args.at) c.record_at.result
-    c.serial.ensures c.self.view_is c.deref_mut.ensures.value
+    c.serial_of.ensures c.self.view_is c.deref_mut.ensures.value
     (with_items_is c.self.inside.subscribers c.record_at.new.subscribers (omega arith)) c.record_at.ensures

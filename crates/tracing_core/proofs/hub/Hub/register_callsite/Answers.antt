@@ -8,5 +8,5 @@ use Rattle.tracing_core.proofs.hub.Hub.register_callsite.Goals as goal
 pub returns-clause-keeps : goal.returns-clause-keeps
 returns-clause-keeps g c =
     handed_keeps g.S.Subscriber g.C.Callsite (CallsiteRegistered (plain_metadata c.args.metadata.now)) c.register_callsite_at.result
-    c.serial.ensures c.self.view_is c.deref_mut.ensures.value
+    c.serial_of.ensures c.self.view_is c.deref_mut.ensures.value
     (with_items_is c.self.inside.subscribers c.register_callsite_at.new.subscribers (omega arith)) c.register_callsite_at.ensures.handed

@@ -6,6 +6,6 @@ use Rattle.tracing_core.proofs.hub.Hub.try_close.Goals as goal
 
 pub returns-clause-keeps : goal.returns-clause-keeps
 returns-clause-keeps g c =
-    handed_keeps g.S.Subscriber g.C.Callsite (CloseTried c.args.span c.args.at) c.try_close_at.result c.serial.ensures c.self.view_is
+    handed_keeps g.S.Subscriber g.C.Callsite (CloseTried c.args.span c.args.at) c.try_close_at.result c.serial_of.ensures c.self.view_is
     c.deref_mut.ensures.value
     (with_items_is c.self.inside.subscribers c.try_close_at.new.subscribers (omega arith)) c.try_close_at.ensures
