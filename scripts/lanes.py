@@ -95,8 +95,9 @@ class Run:
         self.left += more
 
     def start(self):
-        """Starts tasks, those with the longest chain first, while a processor and memory are free."""
-        self.left.sort(key=lambda it: -self.chain[it])
+        """Starts tasks, those with the longest chain first, while a processor and memory are free. Edits come after all else, since there may be no time
+        for some of them."""
+        self.left.sort(key=lambda it: (it[1].startswith("edits"), -self.chain[it]))
         ready = [it for it in self.left if all(below in self.ended for below in self.tasks[it].waits)]
         for key in ready:
             if not all(self.ended[below].is_well for below in self.tasks[key].waits):
