@@ -1,2 +1,1 @@
 pub mod SpanNames
-pub mod TwoStacks

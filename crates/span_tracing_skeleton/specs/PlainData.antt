@@ -7,10 +7,12 @@ use Rattle.span_tracing_skeleton.specs.declared.call.Parent.{Parent}
 use Rattle.span_tracing_skeleton.specs.declared.call.SpanCall.{SpanCall}
 use Rattle.span_tracing_skeleton.specs.declared.call.SpanName.{SpanName}
 use Rattle.span_tracing_skeleton.specs.declared.call.EventCall.{EventCall}
+use Rattle.span_tracing_skeleton.specs.declared.call.DefaultCall.{DefaultCall}
 use Rattle.span_tracing_skeleton.specs.declared.call.EnabledCall.{EnabledCall}
 use Rattle.span_tracing_skeleton.specs.declared.call.FollowsCall.{FollowsCall}
 use Rattle.span_tracing_skeleton.specs.declared.call.NewSpanCall.{NewSpanCall}
 use Rattle.span_tracing_skeleton.specs.declared.call.RecordCall.{RecordCall}
+use Rattle.span_tracing_skeleton.specs.declared.call.ResetCall.{ResetCall}
 use Rattle.span_tracing_skeleton.specs.declared.call.Step.{Step}
 use Rattle.span_tracing_skeleton.specs.declared.call.Step.TheVariants as steps
 
@@ -45,6 +47,10 @@ pub data PlainStep : Type 0 where
   ExitStep : SpanCall → PlainStep
   CloneStep : SpanCall → PlainStep
   CloseStep : SpanCall → PlainStep
+  DefaultStep : DefaultCall → PlainStep
+  ResetStep : ResetCall → PlainStep
+  CloneHandleStep : ℕ → PlainStep
+  ReleaseStep : ℕ → PlainStep
 
 abbrev pub event_request : EventCall → Request
 event_request e = record {
@@ -80,6 +86,10 @@ plain_step (steps.Enter call) = EnterStep call
 plain_step (steps.Exit call) = ExitStep call
 plain_step (steps.CloneSpan call) = CloneStep call
 plain_step (steps.TryClose call) = CloseStep call
+plain_step (steps.SetDefault call) = DefaultStep call
+plain_step (steps.ResetDefault call) = ResetStep call
+plain_step (steps.CloneHandle handle) = CloneHandleStep handle
+plain_step (steps.Release handle) = ReleaseStep handle
 
 abbrev pub plain_steps : List Step → List PlainStep
 plain_steps ss = map plain_step ss

@@ -1,15 +1,16 @@
 -- The numbers of refusals.
 use Rattle.std.specs.Prelude.{ℕ}
 use Rattle.span_tracing_skeleton.specs.declared.refusal.Refusal.{Refusal}
-use Rattle.span_tracing_skeleton.specs.declared.refusal.Refusal.TheVariants.{UnknownCallsite, UnknownStack, UnknownSpan, ForeignParent}
+use Rattle.span_tracing_skeleton.specs.declared.refusal.Refusal.TheVariants.{UnknownCallsite, UnknownStack, ReleasedStack, UnknownSpan, ForeignParent}
 use Rattle.span_tracing_skeleton.specs.declared.refusal.Refusal.TheVariants.{NoOutput, TooManyFilters, EqualKeys, BadLinkName, BadName}
 use Rattle.span_tracing_skeleton.specs.declared.refusal.Refusal.TheVariants.{FolderRefused, BadMoment, OutOfMemory, BadRoute}
 use Rattle.span_tracing_skeleton.specs.declared.refusal.Refusal.TheVariants.{JsonFieldsNeeded, UnknownLane, GlobalSet, Taken}
-use Rattle.span_tracing_skeleton.specs.declared.refusal.Refusal.TheVariants.{TooManyHandles, IdsSpent}
+use Rattle.span_tracing_skeleton.specs.declared.refusal.Refusal.TheVariants.{TooManyHandles, IdsSpent, WrongLane}
 
 abbrev pub refusal_number : Refusal → ℕ
 refusal_number UnknownCallsite = 1
 refusal_number UnknownStack = 2
+refusal_number ReleasedStack = 3
 refusal_number UnknownSpan = 4
 refusal_number ForeignParent = 5
 refusal_number NoOutput = 6
@@ -27,3 +28,4 @@ refusal_number GlobalSet = 24
 refusal_number Taken = 25
 refusal_number TooManyHandles = 26
 refusal_number IdsSpent = 27
+refusal_number WrongLane = 28

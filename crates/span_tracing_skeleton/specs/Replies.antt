@@ -1,7 +1,7 @@
 -- Replies as results.
-use Rattle.std.specs.Prelude.{Bool, false, Option, None, Result, Ok, Err}
+use Rattle.std.specs.Prelude.{ℕ, Bool, false, Option, Some, None, Result, Ok, Err}
 use Rattle.span_tracing_skeleton.specs.declared.call.Reply.{Reply}
-use Rattle.span_tracing_skeleton.specs.declared.call.Reply.TheVariants.{Closed, Done, Enabled, Refused, Span}
+use Rattle.span_tracing_skeleton.specs.declared.call.Reply.TheVariants.{Closed, Done, Enabled, Guard, Handle, Refused, Span}
 use Rattle.span_tracing_skeleton.specs.declared.call.SpanName.{SpanName}
 use Rattle.span_tracing_skeleton.specs.declared.call_error.CallError.{CallError}
 use Rattle.span_tracing_skeleton.specs.declared.call_error.CallError.TheVariants as error
@@ -11,6 +11,8 @@ as_done Done = Ok tt
 as_done (Enabled wanted) = Ok tt
 as_done (Span span) = Ok tt
 as_done (Closed closed) = Ok tt
+as_done (Handle handle) = Ok tt
+as_done (Guard guard) = Ok tt
 as_done (Refused refusal) = Err (error.Refused refusal)
 
 -- the span that was made
@@ -19,6 +21,8 @@ as_span Done = Ok None
 as_span (Enabled wanted) = Ok None
 as_span (Span span) = Ok span
 as_span (Closed closed) = Ok None
+as_span (Handle handle) = Ok None
+as_span (Guard guard) = Ok None
 as_span (Refused refusal) = Err (error.Refused refusal)
 
 -- whether a span closed
@@ -27,4 +31,26 @@ as_closed Done = Ok false
 as_closed (Enabled wanted) = Ok false
 as_closed (Span span) = Ok false
 as_closed (Closed closed) = Ok closed
+as_closed (Handle handle) = Ok false
+as_closed (Guard guard) = Ok false
 as_closed (Refused refusal) = Err (error.Refused refusal)
+
+-- the handle that was given
+abbrev pub as_handle : Reply → Result (Option ℕ) CallError
+as_handle Done = Ok None
+as_handle (Enabled wanted) = Ok None
+as_handle (Span span) = Ok None
+as_handle (Closed closed) = Ok None
+as_handle (Handle handle) = Ok (Some handle)
+as_handle (Guard guard) = Ok None
+as_handle (Refused refusal) = Err (error.Refused refusal)
+
+-- the guard that was given
+abbrev pub as_guard : Reply → Result (Option ℕ) CallError
+as_guard Done = Ok None
+as_guard (Enabled wanted) = Ok None
+as_guard (Span span) = Ok None
+as_guard (Closed closed) = Ok None
+as_guard (Handle handle) = Ok None
+as_guard (Guard guard) = Ok (Some guard)
+as_guard (Refused refusal) = Err (error.Refused refusal)

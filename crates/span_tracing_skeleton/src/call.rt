@@ -85,10 +85,25 @@ pub struct EnabledCall {
     pub callsite: Identifier,
 }
 
+/// A lane's own default from now on: the stack with this handle, or none, so that the lane reaches nothing.
+#[derive(Clone, Copy, Debug, PartialEq, Eq)]
+pub struct DefaultCall {
+    pub lane: usize,
+    pub handle: Option<usize>,
+}
+
+/// Gives a lane the default back that its guard keeps, and spends the guard.
+#[derive(Clone, Copy, Debug, PartialEq, Eq)]
+pub struct ResetCall {
+    pub lane: usize,
+    pub guard: usize,
+}
+
 /// One step of a trace.
 #[derive(Debug, Drop)]
 pub enum Step {
-    /// Makes the stack with this handle the one that lanes reach.
+    /// Makes the stack with this handle the one that lanes reach that have no default of their own. The trace holds it once more
+    /// from then on, and the handle stays as it was.
     SetGlobalDefault(usize),
     Event(EventCall),
     /// Asks whether a request would be made. It is no request, and leaves no mark.
@@ -104,6 +119,14 @@ pub enum Step {
     CloneSpan(SpanCall),
     /// Gives up one handle of a span.
     TryClose(SpanCall),
+    /// Gives a lane a default of its own, and answers a guard that keeps the one before.
+    SetDefault(DefaultCall),
+    /// Gives a lane the default back that its guard keeps.
+    ResetDefault(ResetCall),
+    /// Takes one more handle of the stack with this handle.
+    CloneHandle(usize),
+    /// Spends a handle. Where nobody else holds its stack, that is released.
+    Release(usize),
 }
 
 /// The answer to a step.
@@ -116,11 +139,15 @@ pub enum Reply {
     Span(Option<SpanName>),
     /// Whether the span closed.
     Closed(bool),
+    /// The number of the new handle.
+    Handle(usize),
+    /// The number of the guard.
+    Guard(usize),
     Refused(Refusal),
 }
 
 impl Reply {
-    ghost use Rattle.span_tracing_skeleton.specs.Replies.{as_closed, as_done, as_span};
+    ghost use Rattle.span_tracing_skeleton.specs.Replies.{as_closed, as_done, as_guard, as_handle, as_span};
 
     /// The answer to a call whose reply says no more than that it was done.
     ///
@@ -163,6 +190,36 @@ impl Reply {
             Reply::Refused(refusal) => Err(CallError::Refused(refusal)),
             Reply::Closed(is_closed) => Ok(is_closed),
             _ => Ok(false),
+        }
+    }
+
+    /// The number of the handle that a call gave, and none where the reply tells of none.
+    ///
+    /// # Errors
+    ///
+    /// The refusal, where the call was refused.
+    pub fn handle(self) -> Result<Option<usize>, CallError>
+        ensures { result ≡ as_handle self }
+    {
+        match self {
+            Reply::Refused(refusal) => Err(CallError::Refused(refusal)),
+            Reply::Handle(handle) => Ok(Some(handle)),
+            _ => Ok(None),
+        }
+    }
+
+    /// The number of the guard that a call gave, and none where the reply tells of none.
+    ///
+    /// # Errors
+    ///
+    /// The refusal, where the call was refused.
+    pub fn guard(self) -> Result<Option<usize>, CallError>
+        ensures { result ≡ as_guard self }
+    {
+        match self {
+            Reply::Refused(refusal) => Err(CallError::Refused(refusal)),
+            Reply::Guard(guard) => Ok(Some(guard)),
+            _ => Ok(None),
         }
     }
 }

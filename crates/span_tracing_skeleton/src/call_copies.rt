@@ -64,6 +64,10 @@ impl Clone for Step {
             Step::Exit(call) => Step::Exit(*call),
             Step::CloneSpan(call) => Step::CloneSpan(*call),
             Step::TryClose(call) => Step::TryClose(*call),
+            Step::SetDefault(call) => Step::SetDefault(*call),
+            Step::ResetDefault(call) => Step::ResetDefault(*call),
+            Step::CloneHandle(handle) => Step::CloneHandle(*handle),
+            Step::Release(handle) => Step::Release(*handle),
         })
     }
 }

@@ -103,6 +103,10 @@ impl Step {
             (Step::Exit(a), Step::Exit(b)) => is_same_call(a, b),
             (Step::CloneSpan(a), Step::CloneSpan(b)) => is_same_call(a, b),
             (Step::TryClose(a), Step::TryClose(b)) => is_same_call(a, b),
+            (Step::SetDefault(a), Step::SetDefault(b)) => *a == *b,
+            (Step::ResetDefault(a), Step::ResetDefault(b)) => *a == *b,
+            (Step::CloneHandle(a), Step::CloneHandle(b)) => *a == *b,
+            (Step::Release(a), Step::Release(b)) => *a == *b,
             _ => false,
         }
     }

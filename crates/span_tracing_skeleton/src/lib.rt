@@ -10,8 +10,8 @@ mod has_registry;
 mod refusal;
 
 pub use call::{
-    EnabledCall, EventCall, FollowsCall, NewSpanCall, Parent, RecordCall, Reply, SpanCall,
-    SpanName, Step,
+    DefaultCall, EnabledCall, EventCall, FollowsCall, NewSpanCall, Parent, RecordCall, Reply,
+    ResetCall, SpanCall, SpanName, Step,
 };
 pub use call_error::CallError;
 pub use has_registry::HasRegistry;

@@ -9,8 +9,10 @@ use thiserror::Error;
 pub enum Refusal {
     #[error("the callsite isn't registered, or is of the other kind")]
     UnknownCallsite,
-    #[error("no such stack")]
+    #[error("no such stack, or no such handle")]
     UnknownStack,
+    #[error("the stack was released, or the handle is spent")]
+    ReleasedStack,
     #[error("the span isn't open, or has no handle to give up")]
     UnknownSpan,
     #[error("the parent stands in another stack than the one that the lane reaches")]
@@ -41,10 +43,12 @@ pub enum Refusal {
     GlobalSet,
     #[error("the identifier is taken by other metadata")]
     Taken,
-    #[error("the span has as many handles as can be counted")]
+    #[error("the span or the stack has as many handles as can be counted")]
     TooManyHandles,
     #[error("all span ids are given")]
     IdsSpent,
+    #[error("the guard isn't this lane's, or is spent")]
+    WrongLane,
 }
 
 impl Refusal {
@@ -57,6 +61,7 @@ impl Refusal {
         match self {
             Refusal::UnknownCallsite => 1,
             Refusal::UnknownStack => 2,
+            Refusal::ReleasedStack => 3,
             Refusal::UnknownSpan => 4,
             Refusal::ForeignParent => 5,
             Refusal::NoOutput => 6,
@@ -74,6 +79,7 @@ impl Refusal {
             Refusal::Taken => 25,
             Refusal::TooManyHandles => 26,
             Refusal::IdsSpent => 27,
+            Refusal::WrongLane => 28,
         }
     }
 }

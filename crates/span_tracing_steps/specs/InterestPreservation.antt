@@ -1,5 +1,5 @@
--- What is kept of the interest in callsites stays what the stack says.
-use Rattle.std.specs.Prelude.{Result, Ok}
+-- What is kept of the interest in callsites stays right of each stack.
+use Rattle.std.specs.Prelude.{ℕ, Result, Ok}
 use Rattle.tracing_core_fields.specs.PlainMetadata.{PlainMetadata}
 use Rattle.tracing_core_fields.specs.requests.Interests.{PlainInterest}
 use Rattle.tracing_core_fields.specs.declared.requests.subscriber.Subscriber.{Ghosts}
@@ -15,7 +15,8 @@ use Rattle.span_tracing_steps.specs.Steps.{StepGives}
 -- of a new trace, after a consistent stack was added, after a callsite was registered, and after each step
 pub record CacheStaysValid {T : Type 0} (g : Ghosts T) (registry_of : T → RegistryValue) : Type 0 where
   pub new : KeepsWord g new_state
-  pub added : (v : StateValue T) (x : T) (w : StateValue T) → g.steady x → AddGives g v x (Ok tt) w → KeepsWord g w
+  pub added : (v : StateValue T) (x : T) (handle : ℕ) (w : StateValue T) → KeepsWord g v → g.steady x → AddGives g v x (Ok handle) w →
+      KeepsWord g w
   pub registered : (v : StateValue T) (m : PlainMetadata) (r : Result PlainInterest Refusal) (w : StateValue T) → KeepsWord g v →
       RegisterGives g v m r w → KeepsWord g w
   pub stepped : (v : StateValue T) (step : PlainStep) (reply : Reply) (w : StateValue T) → KeepsWord g v →

@@ -1,34 +1,32 @@
 -- What is kept of the interest in callsites.
-use Rattle.std.specs.Prelude.{◌≡◌, Bool, true, false, List, [], ◌∷◌, Option, Some, None, slice_get}
-use Rattle.tracing_core_fields.specs.PlainMetadata.{PlainMetadata}
-use Rattle.tracing_core.specs.declared.hub.index.CallsiteIndex.{CallsiteIndex}
+use Rattle.std.specs.Prelude.{◌≡◌, ℕ, Bool, true, false, List, Option, Some, None, slice_get}
 use Rattle.tracing_core_fields.specs.requests.Interests.{PlainInterest}
 use Rattle.tracing_core_fields.specs.declared.requests.interest.InterestInner.TheVariants.{Never, Sometimes, Always}
 use Rattle.tracing_core_fields.specs.declared.requests.subscriber.Subscriber.{Ghosts}
+use Rattle.tracing_core.specs.Handles.{subscriber_with}
+use Rattle.tracing_core.specs.HubInvariant.{IsSound as IsSoundHub}
+use Rattle.tracing_core.specs.TableRows.{KeptCallsite, KeptSubscriber}
+use Rattle.tracing_core.specs.ValidCaches.{HasValidCache}
+use Rattle.tracing_core.specs.declared.hub.index.CallsiteIndex.{CallsiteIndex}
 use Rattle.span_tracing_steps.specs.States.{StateValue}
+use Rattle.span_tracing_steps.specs.contracts.callsite.TraceCallsiteCallsite.TheImpl.{ghosts}
+use Rattle.span_tracing_steps.specs.declared.callsite.TraceCallsite.{TraceCallsite}
 
-abbrev pub is_never : Option PlainInterest → Bool
+abbrev pub is_interest_never : PlainInterest → Bool
+is_interest_never Never = true
+is_interest_never Sometimes = false
+is_interest_never Always = false
+
+abbrev pub is_never : Option (KeptCallsite TraceCallsite) → Bool
 is_never None = false
-is_never (Some Never) = true
-is_never (Some Sometimes) = false
-is_never (Some Always) = false
+is_never (Some row) = is_interest_never row.interest
 
 -- of the callsite at an index it is kept that nobody is interested in it
-abbrev pub is_off_at : List PlainInterest → CallsiteIndex → Bool
-is_off_at interests index = is_never (slice_get interests index.0)
-
--- of each callsite its own
-abbrev pub EachKept : (PlainMetadata → PlainInterest → Type 0) → List PlainMetadata → List PlainInterest → Type 0
-EachKept says [] [] = Unit {0}
-EachKept says [] (k ∷ ks) = ⊥
-EachKept says (m ∷ ms) [] = ⊥
-EachKept says (m ∷ ms) (k ∷ ks) = says m k × EachKept says ms ks
+abbrev pub is_off_at : List (KeptCallsite TraceCallsite) → CallsiteIndex → Bool
+is_off_at callsites index = is_never (slice_get callsites index.0)
 
 module _ {T : Type 0} (g : Ghosts T) where
-  abbrev pub KeepsWordOf : Option T → List PlainMetadata → List PlainInterest → Type 0
-  KeepsWordOf None ms ks = EachKept (λ m k. k ≡ Never) ms ks
-  KeepsWordOf (Some x) ms ks = g.steady x × EachKept (g.says x) ms ks
-
-  -- the stack is consistent, and what is kept of each callsite is what it says of it; where there is no stack, nobody is interested
-  abbrev pub KeepsWord : StateValue T → Type 0
-  KeepsWord v = KeepsWordOf v.stack v.callsites v.interests
+  -- the hub is sound, and what is kept of the interest in callsites is right of each stack, which is consistent
+  pub record KeepsWord (v : StateValue T) : Type 0 where
+    pub sound : IsSoundHub ghosts v.hub
+    pub valid : (number : ℕ) (e : KeptSubscriber T) → subscriber_with number v.hub.subscribers ≡ Some e → HasValidCache g ghosts v.hub e

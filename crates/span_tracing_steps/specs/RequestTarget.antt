@@ -7,7 +7,9 @@ use Rattle.tracing_core_moments.specs.declared.moment.Moment.{Moment}
 use Rattle.tracing_core.specs.declared.hub.index.CallsiteIndex.{CallsiteIndex}
 use Rattle.span_registry_layers_store.specs.Registries.{RegistryValue}
 use Rattle.span_tracing_skeleton.specs.IgnoredEvents.{Ignores}
-use Rattle.span_tracing_skeleton.specs.Machine.{known, request_refusal, told_parent}
+use Rattle.span_tracing_skeleton.specs.Looking.{known}
+use Rattle.span_tracing_skeleton.specs.Acting.{told_parent}
+use Rattle.span_tracing_skeleton.specs.Order.{request_refusal}
 use Rattle.span_tracing_skeleton.specs.declared.call.Parent.{Parent}
 use Rattle.span_tracing_skeleton.specs.declared.refusal.Refusal.{Refusal}
 use Rattle.span_tracing_steps.specs.States.{StateValue, at_index, skeleton_of}
@@ -16,7 +18,7 @@ use Rattle.span_tracing_steps.specs.States.{StateValue, at_index, skeleton_of}
 abbrev pub FoundFor : {T : Type 0} → (T → RegistryValue) → StateValue T → ℕ → Moment → ℕ → Bool → Parent → Result CallsiteIndex Refusal →
     Type 0
 FoundFor registry_of v lane moment number is_span parent (Ok index) =
-    (at_index v.callsites (Some index) ≡ known (skeleton_of registry_of v) number is_span)
+    (at_index (skeleton_of registry_of v).callsites (Some index) ≡ known (skeleton_of registry_of v) number is_span)
     × (is_some (known (skeleton_of registry_of v) number is_span) ≡ true)
     × (request_refusal (skeleton_of registry_of v) lane moment number is_span parent ≡ None)
 FoundFor registry_of v lane moment number is_span parent (Err refusal) = request_refusal (skeleton_of registry_of v) lane moment number

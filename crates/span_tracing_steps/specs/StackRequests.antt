@@ -5,7 +5,7 @@ use Rattle.tracing_core_fields.specs.PlainValue.{PlainValue}
 use Rattle.tracing_core_fields.specs.requests.PlainRequests.{PlainRequest, PlainValues}
 use Rattle.tracing_core_moments.specs.declared.at.At.{At}
 use Rattle.tracing_core_moments.specs.declared.moment.Moment.{Moment}
-use Rattle.span_tracing_skeleton.specs.Machine.{told_parent}
+use Rattle.span_tracing_skeleton.specs.Acting.{told_parent}
 use Rattle.span_tracing_skeleton.specs.PlainData.{Request}
 use Rattle.span_tracing_skeleton.specs.declared.call.SpanName.{SpanName}
 use Rattle.span_tracing_skeleton.specs.SpanNames.{name_of}
@@ -25,7 +25,7 @@ own_values m values = record { callsite = m.callsite; names = m.field_names; ent
 abbrev pub request_of : PlainMetadata → Request → PlainRequest
 request_of m r = record { metadata = m; values = own_values m r.values; parent = told_parent r.parent }
 
--- the name of a span of the one stack
-abbrev pub named_as : Option ℕ → Option SpanName
-named_as None = None
-named_as (Some id) = Some (name_of 0 id)
+-- the name of a span of the stack with a number
+abbrev pub named_as : ℕ → Option ℕ → Option SpanName
+named_as stack None = None
+named_as stack (Some id) = Some (name_of stack id)

@@ -1,15 +1,20 @@
--- What a trace is without where it lies in memory.
-use Rattle.std.specs.Prelude.{ℕ, List, [], ◌∷◌, length, map, Bool, true, false, Option, Some, None, string_bytes, slice_get}
+-- What a trace is without where it lies in memory: what its hub keeps, and its lists of numbers.
+use Rattle.std.specs.Prelude.{ℕ, List, [], ◌∷◌, map, Option, Some, None, string_bytes, slice_get}
 use Rattle.std.specs.Option.{option_map}
 use Rattle.tracing_core_fields.specs.PlainMetadata.{PlainMetadata}
-use Rattle.tracing_core_fields.specs.requests.Interests.{PlainInterest}
-use Rattle.tracing_core.specs.Defaults.{was_set}
-use Rattle.tracing_core.specs.TableRows.{KeptCallsite, KeptSubscriber}
 use Rattle.tracing_core.specs.HandleSubscribers.{living_of}
+use Rattle.tracing_core.specs.Handles.{subscriber_with}
+use Rattle.tracing_core.specs.Table.{Table, fresh, own_setting}
+use Rattle.tracing_core.specs.TableRows.{KeptCallsite, KeptSubscriber}
+use Rattle.tracing_core.specs.declared.guard.DefaultGuard.{DefaultGuard}
 use Rattle.tracing_core.specs.declared.hub.index.CallsiteIndex.{CallsiteIndex}
+use Rattle.tracing_core.specs.declared.hub.parts.Lane.{Lane}
+use Rattle.tracing_core.specs.declared.hub.parts.LaneDefault.{LaneDefault}
+use Rattle.tracing_core.specs.declared.hub.parts.LaneDefault.TheVariants as hub
 use Rattle.span_registry_layers_store.specs.SlotIndependence.{bare}
 use Rattle.span_registry_layers_store.specs.Registries.{RegistryValue, new_registry}
-use Rattle.span_tracing_skeleton.specs.Skeleton.{Skeleton}
+use Rattle.span_tracing_skeleton.specs.Looking.{inner}
+use Rattle.span_tracing_skeleton.specs.Skeleton.{Skeleton, HeldStack, GuardValue, Default, Unset, Nowhere, Own}
 use Rattle.span_tracing_steps.specs.Callsites.{own_metadata}
 use Rattle.span_tracing_steps.specs.declared.callsite.TraceCallsite.{TraceCallsite}
 use Rattle.span_tracing_steps.specs.declared.parts.Thread.{Thread}
@@ -23,66 +28,86 @@ pub record PlainThread : Type 0 where
 abbrev pub plain_thread : Thread → PlainThread
 plain_thread thread = record { name = option_map string_bytes thread.name; number = thread.thread_id }
 
--- callsites in order of registering, what is kept of the interest in each, the lanes' threads, whether the stack is the global default, and
--- the stack, where there is one
+-- what the hub keeps: stacks by their numbers with who holds them, callsites with the interest in them, lanes with their own defaults, and
+-- the global default; the lanes' threads; by number what each handle leads to, and each guard, where it isn't spent; and by number each
+-- stack that was released and waits to be taken
 pub record StateValue (T : Type 0) : Type 0 where
-  pub callsites : List PlainMetadata
-  pub interests : List PlainInterest
+  pub hub : Table T TraceCallsite
   pub threads : List PlainThread
-  pub is_global : Bool
-  pub stack : Option T
+  pub handles : List (Option (Option ℕ))
+  pub guards : List (Option DefaultGuard)
+  pub retired : List (Option T)
+
+abbrev pub value_in : {T : Type 0} → TraceParts T → StateValue T
+value_in p = record {
+  hub = p.hub;
+  threads = map plain_thread p.threads.items;
+  handles = p.handles.items;
+  guards = p.guards.items;
+  retired = p.retired.items;
+}
+
+-- no callsite, no lane, no stack
+abbrev pub new_state : {T : Type 0} → StateValue T
+new_state = record { hub = fresh; threads = []; handles = []; guards = []; retired = [] }
 
 abbrev pub callsites_of : List (KeptCallsite TraceCallsite) → List PlainMetadata
 callsites_of rows = map (λ (row : KeptCallsite TraceCallsite). own_metadata row.callsite) rows
 
-abbrev pub interests_of : List (KeptCallsite TraceCallsite) → List PlainInterest
-interests_of rows = map (λ (row : KeptCallsite TraceCallsite). row.interest) rows
+abbrev pub plain_default : LaneDefault → Default
+plain_default hub.Unset = Unset
+plain_default hub.Nothing = Nowhere
+plain_default (hub.To number) = Own number
 
--- the stack that a handle leads to
-abbrev pub stack_of : {T : Type 0} → Option (Option ℕ) → List (KeptSubscriber T) → Option T
-stack_of None subscribers = None
-stack_of {T = T} (Some dispatch) subscribers = option_map (λ (e : KeptSubscriber T). e.subscriber) (living_of dispatch subscribers)
+abbrev pub lane_default : Lane → Default
+lane_default lane = plain_default (own_setting (Some lane))
 
-abbrev pub stack_in : {T : Type 0} → TraceParts T → Option T
-stack_in p = stack_of p.handle p.hub.subscribers
+abbrev pub plain_guard : Option DefaultGuard → Option GuardValue
+plain_guard None = None
+plain_guard (Some guard) = Some (record { lane = guard.lane; restores = plain_default guard.before })
 
-abbrev pub value_in : {T : Type 0} → TraceParts T → StateValue T
-value_in p = record {
-  callsites = callsites_of p.hub.callsites;
-  interests = interests_of p.hub.callsites;
-  threads = map plain_thread p.threads.items;
-  is_global = was_set p.hub.global;
-  stack = stack_in p;
-}
+module _ {T : Type 0} (registry_of : T → RegistryValue) where
+  abbrev pub held_stack : KeptSubscriber T → HeldStack
+  held_stack e = record { number = e.serial; holds = e.handles; registry = bare (registry_of e.subscriber) }
 
--- the registry of the one stack that there may be, without slots
-abbrev pub registries_in : {T : Type 0} → (T → RegistryValue) → Option T → List RegistryValue
-registries_in registry_of None = []
-registries_in registry_of (Some x) = bare (registry_of x) ∷ []
+  abbrev pub skeleton_of : StateValue T → Skeleton
+  skeleton_of v = record {
+    callsites = callsites_of v.hub.callsites;
+    lanes = map lane_default v.hub.lanes;
+    given = v.hub.next;
+    stacks = map held_stack v.hub.subscribers;
+    handles = map inner v.handles;
+    guards = map plain_guard v.guards;
+    default = plain_default v.hub.global;
+  }
 
--- the one stack is the first
-abbrev pub default_in : Bool → Option ℕ
-default_in false = None
-default_in true = Some 0
+  -- the registry of a stack without its slots; where there is none, what a new one would have
+  abbrev pub registry_of_stack : Option T → RegistryValue
+  registry_of_stack None = new_registry
+  registry_of_stack (Some x) = bare (registry_of x)
 
-abbrev pub skeleton_of : {T : Type 0} → (T → RegistryValue) → StateValue T → Skeleton
-skeleton_of registry_of v = record {
-  callsites = v.callsites;
-  lanes = length v.threads;
-  stacks = registries_in registry_of v.stack;
-  default = default_in v.is_global;
-}
+module _ {T : Type 0} where
+  -- the stack of the number, where somebody holds it
+  abbrev pub held_in : StateValue T → ℕ → Option T
+  held_in v stack = option_map (λ (e : KeptSubscriber T). e.subscriber) (subscriber_with stack v.hub.subscribers)
 
--- the registry of a stack without its slots; where there is none, what a new one would have
-abbrev pub registry_in : {T : Type 0} → (T → RegistryValue) → Option T → RegistryValue
-registry_in registry_of None = new_registry
-registry_in registry_of (Some x) = bare (registry_of x)
+  abbrev pub or_retired : Option T → Option (Option T) → Option T
+  or_retired None retired = inner retired
+  or_retired (Some x) retired = Some x
+
+  -- the stack of the number, also one that was released and waits to be taken
+  abbrev pub stack_in : StateValue T → ℕ → Option T
+  stack_in v stack = or_retired (held_in v stack) (slice_get v.retired stack)
+
+  -- what a handle leads to
+  abbrev pub behind : StateValue T → ℕ → Option ℕ
+  behind v handle = inner (slice_get v.handles handle)
+
+  -- the stack that a handle leads to
+  abbrev pub stack_behind : Option ℕ → StateValue T → Option T
+  stack_behind dispatch v = option_map (λ (e : KeptSubscriber T). e.subscriber) (living_of dispatch v.hub.subscribers)
 
 -- the callsite at an index, where one is told
 abbrev pub at_index : List PlainMetadata → Option CallsiteIndex → Option PlainMetadata
 at_index callsites None = None
 at_index callsites (Some index) = slice_get callsites index.0
-
--- no callsite, no lane, no stack
-abbrev pub new_state : {T : Type 0} → StateValue T
-new_state = record { callsites = []; interests = []; threads = []; is_global = false; stack = None }
