@@ -25,6 +25,7 @@ use Rattle.span_tracing_laws.specs.json.Texts.{AreObjectsHanded, HoldsObjects, I
 use Rattle.span_tracing_outputs.specs.sinks.Fates.{NoneDropped}
 use Rattle.span_tracing_outputs.specs.sinks.Routed.{Routed}
 use Rattle.span_tracing_outputs.specs.declared.sinks.sink.RollingSink.{RollingSink}
+use Rattle.span_tracing_steps.specs.States.{stack_in}
 use Rattle.span_tracing_laws.specs.runs.Files.{FileTrace, FilesStand, routed_at}
 use Rattle.span_tracing_laws.specs.runs.Runs.{AgreesPlain, Plain, StepWithMask, lines_of, steps_of}
 use Rattle.span_tracing_laws.specs.json_runs.Steps.{EventsAreFormatted, IsSkeletonInRange, StepsInRange}
@@ -47,20 +48,20 @@ module _ {N : Type 0} (n : Ghosts N) where
   abbrev pub JsonOutputsRun : Type 0
   JsonOutputsRun =
       (p : Plain N) (turns : List StepWithMask) → IsSkeletonInRange p.skeleton → StepsInRange (steps_of turns) →
-      (place : ℕ) (o : Numbered N) → slice_get p.outs place ≡ Some o → IsJsonOutput n o → NoFaultIsTold o turns →
-      IfSome (slice_get (lines_of n p turns) place) AreObjectsRun
+      (stack place : ℕ) (o : Numbered N) → slice_get (p.outs stack) place ≡ Some o → IsJsonOutput n o → NoFaultIsTold o turns →
+      IfSome (slice_get (lines_of n p turns stack) place) AreObjectsRun
 
 -- the file of a name holds one object of JSON on each line, if the text that its opening found was made up of such, as the empty text is
 abbrev pub FileHoldsObjects : PrunedSink → Contents → List ℕ → Type 0
 FileHoldsObjects s c name = IfSome (s.sink.found name) IsObjectLines → IfSome (bytes_at c.files name) HoldsObjects
 
 module _ {N E F D : Type 0} (contents : D → Option Contents) where
-  -- so do all files of each sink of the output at a place, where the sink dropped no line in the run, was handed objects alone before it,
+  -- so do all files of each sink of a stack's output at a place, where the sink dropped no line in the run, was handed objects alone before it,
   -- and the contents of its folder are known
-  abbrev pub SinksHoldObjects : FileTrace N E F D → FileTrace N E F D → ℕ → Type 0
-  SinksHoldObjects v w place =
-      (number : ℕ) (olds news : Routed (RollingSink D)) (old new : RollingSink D) → routed_at v.stack place ≡ Some olds →
-      routed_at w.stack place ≡ Some news →
+  abbrev pub SinksHoldObjects : FileTrace N E F D → FileTrace N E F D → ℕ → ℕ → Type 0
+  SinksHoldObjects v w stack place =
+      (number : ℕ) (olds news : Routed (RollingSink D)) (old new : RollingSink D) → routed_at (stack_in v stack) place ≡ Some olds →
+      routed_at (stack_in w stack) place ≡ Some news →
       slice_get olds.sinks number ≡ Some old → slice_get news.sinks number ≡ Some new → NoneDropped old new → (s : PrunedSink) →
       AgreesSink contents old.appender s → AreObjectsHanded s.sink.handed →
       (c : Contents) → contents new.appender.folder ≡ Some c → (name : List ℕ) → FileHoldsObjects s c name
@@ -72,8 +73,8 @@ module _ {N E F D : Type 0} (contents : D → Option Contents) (failed : D → �
   JsonFilesHoldObjects =
       (v : FileTrace N E F D) (turns : List StepWithMask) (w : FileTrace N E F D) → FilesStand contents failed n line_of g v turns w →
       (p : Plain N) → AgreesPlain n line_of g v p → IsSkeletonInRange p.skeleton → StepsInRange (steps_of turns) →
-      (place : ℕ) (o : Numbered N) → slice_get p.outs place ≡ Some o → IsJsonOutput n o → NoFaultIsTold o turns →
-      SinksHoldObjects contents v w place
+      (stack place : ℕ) (o : Numbered N) → slice_get (p.outs stack) place ≡ Some o → IsJsonOutput n o → NoFaultIsTold o turns →
+      SinksHoldObjects contents v w stack place
 
 -- a layer has the JSON formatter of fields, and writes lines in the JSON format
 abbrev pub IsJsonLayer : {T : Type 0} → Lines Fields (Format LineFormat T) → Type 0
@@ -94,6 +95,7 @@ module _ {T F D : Type 0} (contents : D → Option Contents) (failed : D → ℕ
       (v : FileTrace Fields (Format LineFormat T) F D) (turns : List StepWithMask) (w : FileTrace Fields (Format LineFormat T) F D) →
       FilesStand contents failed n line_of g v turns w →
       (p : Plain Fields) → AgreesPlain n line_of g v p → IsSkeletonInRange p.skeleton → StepsInRange (steps_of turns) →
-      (place : ℕ) (o : Numbered Fields) → slice_get p.outs place ≡ Some o → HasJsonLayer v.stack place → KeepsJson o.out →
+      (stack place : ℕ) (o : Numbered Fields) → slice_get (p.outs stack) place ≡ Some o → HasJsonLayer (stack_in v stack) place →
+      KeepsJson o.out →
       AreObjectLines o.out.lines →
-      (o.out.config.log_internal_errors ≡ false) ⊎ EventsAreFormatted (steps_of turns) → SinksHoldObjects contents v w place
+      (o.out.config.log_internal_errors ≡ false) ⊎ EventsAreFormatted (steps_of turns) → SinksHoldObjects contents v w stack place

@@ -2,12 +2,12 @@
 use Rattle.std.specs.Prelude.{ℕ, List, IsSome}
 use Rattle.std.specs.List.{AllByRecursion}
 use Rattle.tracing_core_fields.specs.PlainValue.{PlainValue, debug_of}
-use Rattle.span_registry_layers_store.specs.Registries.{PlainSpan, RegistryValue}
+use Rattle.span_registry_layers_store.specs.Registries.{PlainSpan}
 use Rattle.event_formatter_text.specs.JsonLaws.{IsInRange}
 use Rattle.event_formatter_text.specs.JsonTexts.{json_value}
 use Rattle.span_tracing_skeleton.specs.PlainData.{PlainStep, GlobalStep, EventStep, EnabledStep, SpanStep, RecordStep, FollowsFromStep}
-use Rattle.span_tracing_skeleton.specs.PlainData.{EnterStep, ExitStep, CloneStep, CloseStep}
-use Rattle.span_tracing_skeleton.specs.Skeleton.{Skeleton}
+use Rattle.span_tracing_skeleton.specs.PlainData.{EnterStep, ExitStep, CloneStep, CloseStep, DefaultStep, ResetStep, CloneHandleStep, ReleaseStep}
+use Rattle.span_tracing_skeleton.specs.Skeleton.{HeldStack, Skeleton}
 use Rattle.span_tracing_laws.specs.json.Objects.{IsPlaceInRange}
 
 -- the numbers of values are in the ranges of their types
@@ -30,6 +30,10 @@ Brings of_event of_span (EnterStep call) = Unit {0}
 Brings of_event of_span (ExitStep call) = Unit {0}
 Brings of_event of_span (CloneStep call) = Unit {0}
 Brings of_event of_span (CloseStep call) = Unit {0}
+Brings of_event of_span (DefaultStep call) = Unit {0}
+Brings of_event of_span (ResetStep call) = Unit {0}
+Brings of_event of_span (CloneHandleStep handle) = Unit {0}
+Brings of_event of_span (ReleaseStep handle) = Unit {0}
 
 -- any values
 abbrev pub AnyValues : List (ℕ × PlainValue) → Type 0
@@ -46,4 +50,4 @@ EventsAreFormatted steps = AllByRecursion (Brings ValuesAreFormatted AnyValues) 
 -- the numbers of the lines in the source of callsites and of the stacks' open spans are in range
 pub record IsSkeletonInRange (s : Skeleton) : Type 0 where
   pub callsites : AllByRecursion IsPlaceInRange s.callsites
-  pub spans : AllByRecursion (λ (x : RegistryValue). AllByRecursion (λ (y : PlainSpan). IsPlaceInRange y.metadata) x.spans) s.stacks
+  pub spans : AllByRecursion (λ (k : HeldStack). AllByRecursion (λ (y : PlainSpan). IsPlaceInRange y.metadata) k.registry.spans) s.stacks

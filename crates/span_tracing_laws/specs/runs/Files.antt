@@ -19,6 +19,7 @@ use Rattle.span_tracing_outputs.specs.sinks.Takes.{TakesLine}
 use Rattle.span_tracing_outputs.specs.declared.sinks.sink.RollingSink.{RollingSink}
 use Rattle.span_tracing_skeleton.specs.PlainData.{PlainStep}
 use Rattle.span_tracing_skeleton.specs.declared.call.Reply.{Reply}
+use Rattle.span_tracing_steps.specs.States.{stack_in}
 use Rattle.span_tracing_laws.specs.runs.StepFollows.{Traced}
 use Rattle.span_tracing_laws.specs.runs.Runs.{AgreesPlain, Plain, RunFollows, StepWithMask, lines_of}
 
@@ -33,14 +34,15 @@ FileTrace N E F D = Traced N E F (Routed (RollingSink D))
 
 module _ {N E F D : Type 0} (contents : D → Option Contents) (failed : D → ℕ) (n : Ghosts N) (line_of : E → Settings → PlainContext →
     PlainEvent → Option (List ℕ)) (g : FilterGhosts F) where
-  -- each sink of each output took those lines of the output's machine that the route sends to it, in order, each at its own moment,
+  -- each sink of each output of each stack took those lines of the output's machine that the route sends to it, in order, each at its own moment,
   -- whatever became of them at the
   -- other sinks; what that says of looks, openings and writes over any folder the laws of sinks tell
   abbrev pub SinksTakeTheirs : FileTrace N E F D → List StepWithMask → FileTrace N E F D → Type 0
   SinksTakeTheirs v turns w =
-      (p : Plain N) → AgreesPlain n line_of g v p → (place : ℕ) (olds : Routed (RollingSink D)) → routed_at v.stack place ≡ Some olds →
-      (run : List (At × PlainLine)) × (news : Routed (RollingSink D)) × (slice_get (lines_of n p turns) place ≡ Some run) ×
-      (routed_at w.stack place ≡ Some news) × TookTheirs (TakesLine contents failed) run olds news
+      (p : Plain N) → AgreesPlain n line_of g v p → (stack place : ℕ) (olds : Routed (RollingSink D)) →
+      routed_at (stack_in v stack) place ≡ Some olds →
+      (run : List (At × PlainLine)) × (news : Routed (RollingSink D)) × (slice_get (lines_of n p turns stack) place ≡ Some run) ×
+      (routed_at (stack_in w stack) place ≡ Some news) × TookTheirs (TakesLine contents failed) run olds news
 
   -- Where a sink of an output dropped no line and its folder's contents are known, exactly those lines of the output's machine that the
   -- route sends to it stand in its
@@ -49,11 +51,11 @@ module _ {N E F D : Type 0} (contents : D → Option Contents) (failed : D → �
   -- greatest moment so far lay.
   abbrev pub FilesStand : FileTrace N E F D → List StepWithMask → FileTrace N E F D → Type 0
   FilesStand v turns w =
-      (p : Plain N) → AgreesPlain n line_of g v p → (place number : ℕ) (olds news : Routed (RollingSink D)) (old new : RollingSink D) →
-      routed_at v.stack place ≡ Some olds → routed_at w.stack place ≡ Some news →
+      (p : Plain N) → AgreesPlain n line_of g v p → (stack place number : ℕ) (olds news : Routed (RollingSink D))
+      (old new : RollingSink D) → routed_at (stack_in v stack) place ≡ Some olds → routed_at (stack_in w stack) place ≡ Some news →
       slice_get olds.sinks number ≡ Some old → slice_get news.sinks number ≡ Some new → NoneDropped old new → (s : PrunedSink) →
       AgreesSink contents old.appender s → (c : Contents) → contents new.appender.folder ≡ Some c →
-      (run : List (At × PlainLine)) × (slice_get (lines_of n p turns) place ≡ Some run) ×
+      (run : List (At × PlainLine)) × (slice_get (lines_of n p turns stack) place ≡ Some run) ×
       ((led : LeftBy contents (sent_to olds.route number run) s old.appender new.appender) × LinesStand led.last c)
 
   module _ (h : LayerGhosts (Lines N E)) where

@@ -1,5 +1,5 @@
 -- Laws of steps and runs.
-use Rattle.std.specs.Prelude.{◌≡◌, ℕ, false, List, map, Option, Some, None, Result, Ok}
+use Rattle.std.specs.Prelude.{◌≡◌, ◌==◌, ℕ, false, List, map, Option, Some, None, Result, Ok}
 use Rattle.tracing_core_fields.specs.PlainMetadata.{PlainMetadata}
 use Rattle.tracing_core_fields.specs.requests.Interests.{PlainInterest}
 use Rattle.span_tracing_outputs.specs.OutputFolds.{Numbered}
@@ -20,9 +20,10 @@ use Rattle.span_tracing_outputs.specs.TraceStacks.{TraceStackValue}
 use Rattle.span_tracing_outputs.specs.Turns.{Lines}
 use Rattle.span_tracing_skeleton.specs.PlainData.{PlainStep}
 use Rattle.span_tracing_skeleton.specs.declared.call.Reply.{Reply}
+use Rattle.span_tracing_steps.specs.States.{stack_in}
 use Rattle.span_tracing_steps.specs.Steps.{StepGives}
 use Rattle.span_tracing_laws.specs.runs.Runs.{OutsAgree, RunFollows, RunGives}
-use Rattle.span_tracing_laws.specs.runs.StepFollows.{Follows, StackIsReady, Traced, registry_of}
+use Rattle.span_tracing_laws.specs.runs.StepFollows.{Follows, TraceIsReady, Traced, registry_of}
 
 module _ {N E F S : Type 0} where
   -- the sinks are the same, and so are the spans, and the outputs with their filters but for what they were last told
@@ -41,23 +42,27 @@ module _ {N E F S : Type 0} (n : Ghosts N) (line_of : E → Settings → PlainCo
     (takes : S → At → PlainLine → S → Type 0) (h : LayerGhosts (Lines N E)) (sg : SubscriberGhosts (TraceStackValue N E F S)) where
   -- each step of a trace over a stack with sinks follows the skeleton and the output machines, and leaves the stack ready for the next one
   abbrev pub StepsFollow : Type 0
-  StepsFollow = (v : Traced N E F S) (step : PlainStep) (reply : Reply) (w : Traced N E F S) → StackIsReady g h v.stack →
+  StepsFollow = (v : Traced N E F S) (step : PlainStep) (reply : Reply) (w : Traced N E F S) → TraceIsReady g h v →
       StepGives sg registry_of v step reply w →
-      Follows n line_of g takes h v step reply w × StackIsReady g h w.stack
+      Follows n line_of g takes h v step reply w × TraceIsReady g h w
 
   -- so does a run of steps
   abbrev pub RunsFollow : Type 0
-  RunsFollow = (v : Traced N E F S) (steps : List PlainStep) (replies : List Reply) (w : Traced N E F S) → StackIsReady g h v.stack →
+  RunsFollow = (v : Traced N E F S) (steps : List PlainStep) (replies : List Reply) (w : Traced N E F S) → TraceIsReady g h v →
       RunGives sg v steps replies w →
-      RunFollows n line_of g takes h v steps replies w × StackIsReady g h w.stack
+      RunFollows n line_of g takes h v steps replies w × TraceIsReady g h w
 
-  -- Setup calls leave a stack ready, its outputs as they agreed, and its spans, filters and sinks as they were: a stack that is added while
-  -- it is ready, and one that is asked of another callsite.
+  -- a stack is the same but for what its filters and outputs were last told, and agrees with the machines that it agreed with
+  pub record StackKeeps (o p : Option (TraceStackValue N E F S)) : Type 0 where
+    pub stays : StackStays o p
+    pub agrees : (outs : List (Numbered N)) → OutsAgree n line_of g o outs → OutsAgree n line_of g p outs
+
+  -- Setup calls leave a trace ready, and its outputs, spans, filters and sinks as they were: a stack that is added while it is ready stands
+  -- under the next number, and a callsite is registered.
   pub record SetupFollows : Type 0 where
-    pub added : (v : Traced N E F S) (x : TraceStackValue N E F S) (w : Traced N E F S) → IsReady g x → AddGives sg v x (Ok tt) w →
-        StackIsReady g h w.stack × ((outs : List (Numbered N)) → OutsAgree n line_of g (Some x) outs → OutsAgree n line_of g w.stack outs) ×
-        StackStays (Some x) w.stack
+    pub added : (v : Traced N E F S) (x : TraceStackValue N E F S) (handle : ℕ) (w : Traced N E F S) → TraceIsReady g h v → IsReady g x →
+        AddGives sg v x (Ok handle) w → TraceIsReady g h w × StackKeeps (Some x) (stack_in w v.hub.next) ×
+        ((stack : ℕ) → (stack == v.hub.next) ≡ false → StackKeeps (stack_in v stack) (stack_in w stack))
     pub registered : (v : Traced N E F S) (m : PlainMetadata) (r : Result PlainInterest Refusal) (w : Traced N E F S) →
-        StackIsReady g h v.stack → RegisterGives sg v m r w →
-        StackIsReady g h w.stack × ((outs : List (Numbered N)) → OutsAgree n line_of g v.stack outs → OutsAgree n line_of g w.stack outs) ×
-        StackStays v.stack w.stack
+        TraceIsReady g h v → RegisterGives sg v m r w →
+        TraceIsReady g h w × ((stack : ℕ) → StackKeeps (stack_in v stack) (stack_in w stack))

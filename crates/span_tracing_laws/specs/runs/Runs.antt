@@ -21,14 +21,15 @@ use Rattle.span_tracing_skeleton.specs.Skeleton.{Skeleton, Answers}
 use Rattle.span_tracing_skeleton.specs.declared.call.Reply.{Reply}
 use Rattle.span_tracing_skeleton.specs.declared.call.Reply.TheVariants.{Refused}
 use Rattle.span_tracing_skeleton.specs.declared.refusal.Refusal.TheVariants.{OutOfMemory}
+use Rattle.span_tracing_steps.specs.States.{stack_in}
 use Rattle.span_tracing_steps.specs.Steps.{StepGives}
 use Rattle.span_tracing_laws.specs.runs.StepFollows.{FindsNoMemory, FollowsStep, Traced, registry_of, skeleton_of}
-use Rattle.span_tracing_laws.specs.runs.StepNotices.{Told, told_of}
+use Rattle.span_tracing_laws.specs.runs.StepNotices.{Told, told_of, told_to}
 
--- the state of the plain machine: what decides replies, and the output machines
+-- the state of the plain machine: what decides replies, and of each stack, by its number, the output machines
 pub record Plain (N : Type 0) : Type 0 where
   pub skeleton : Skeleton
-  pub outs : List (Numbered N)
+  pub outs : ℕ → List (Numbered N)
 
 -- a step as it went: with these answers of filters, and these fates of texts and lines; or it found no memory, and did nothing
 pub data StepWithMask : Type 0 where
@@ -57,17 +58,19 @@ module _ {N : Type 0} (n : Ghosts N) where
   lines_left (Some told) outs fates = map (lines_at told.at) (lines_offered (outs_told n (told.lists outs) outs fates))
 
   abbrev pub plain_after : Plain N → StepWithMask → Plain N
-  plain_after p (Went step a fates) =
-      record { skeleton = after p.skeleton step a; outs = outs_left (told_of N p.skeleton step a) p.outs fates }
+  plain_after p (Went step a fates) = record {
+    skeleton = after p.skeleton step a;
+    outs = λ stack. outs_left (told_to N stack (told_of N p.skeleton step a)) (p.outs stack) fates;
+  }
   plain_after p (Starved step) = p
 
   abbrev pub plain_reply : Plain N → StepWithMask → Reply
   plain_reply p (Went step a fates) = reply_of p.skeleton step a
   plain_reply p (Starved step) = Refused OutOfMemory
 
-  abbrev pub turn_lines : Plain N → StepWithMask → List (List (At × PlainLine))
-  turn_lines p (Went step a fates) = lines_left (told_of N p.skeleton step a) p.outs fates
-  turn_lines p (Starved step) = none_for p.outs
+  abbrev pub turn_lines : Plain N → StepWithMask → ℕ → List (List (At × PlainLine))
+  turn_lines p (Went step a fates) stack = lines_left (told_to N stack (told_of N p.skeleton step a)) (p.outs stack) fates
+  turn_lines p (Starved step) stack = none_for (p.outs stack)
 
   -- turns in order
   abbrev pub plain_run : Plain N → List StepWithMask → Plain N
@@ -78,10 +81,10 @@ module _ {N : Type 0} (n : Ghosts N) where
   replies_of p [] = []
   replies_of p (t ∷ ts) = plain_reply p t ∷ replies_of (plain_after p t) ts
 
-  -- for each output all lines that go to its sink, in order, each with where and when it is handed over
-  abbrev pub lines_of : Plain N → List StepWithMask → List (List (At × PlainLine))
-  lines_of p [] = none_for p.outs
-  lines_of p (t ∷ ts) = joined (turn_lines p t) (lines_of (plain_after p t) ts)
+  -- for each output of a stack all lines that go to its sink, in order, each with where and when it is handed over
+  abbrev pub lines_of : Plain N → List StepWithMask → ℕ → List (List (At × PlainLine))
+  lines_of p [] stack = none_for (p.outs stack)
+  lines_of p (t ∷ ts) stack = joined (turn_lines p t stack) (lines_of (plain_after p t) ts stack)
 
 module _ {N E F S : Type 0} (n : Ghosts N) (line_of : E → Settings → PlainContext → PlainEvent → Option (List ℕ)) (g : FilterGhosts F) where
   -- each output keeps what its machine does, and has a sink
@@ -89,9 +92,9 @@ module _ {N E F S : Type 0} (n : Ghosts N) (line_of : E → Settings → PlainCo
   OutsAgree None outs = outs ≡ []
   OutsAgree (Some x) outs = EachAgrees n line_of g x.stack.registry x.stack.rows outs × (length x.sinks ≡ length outs)
 
-  -- a trace has this skeleton, and its outputs agree with these machines
+  -- a trace has this skeleton, and the outputs of each stack agree with these machines, also of one that was released and isn't taken
   abbrev pub AgreesPlain : Traced N E F S → Plain N → Type 0
-  AgreesPlain v p = (skeleton_of v ≡ p.skeleton) × OutsAgree v.stack p.outs
+  AgreesPlain v p = (skeleton_of v ≡ p.skeleton) × ((stack : ℕ) → OutsAgree (stack_in v stack) (p.outs stack))
 
   module _ (takes : S → At → PlainLine → S → Type 0) where
     -- each sink took its run
@@ -120,7 +123,7 @@ module _ {N E F S : Type 0} (n : Ghosts N) (line_of : E → Settings → PlainCo
         pub each : steps_of turns ≡ steps
         pub goes : TurnsGo v turns replies w
         pub agreed : (p : Plain N) → AgreesPlain v p → (replies ≡ replies_of n p turns) × AgreesPlain w (plain_run n p turns) ×
-            SinksTake v.stack w.stack (lines_of n p turns)
+            ((stack : ℕ) → SinksTake (stack_in v stack) (stack_in w stack) (lines_of n p turns stack))
 
 -- steps in order, each as it is given
 abbrev pub RunGives : {N E F S : Type 0} → SubscriberGhosts (TraceStackValue N E F S) → Traced N E F S → List PlainStep → List Reply →

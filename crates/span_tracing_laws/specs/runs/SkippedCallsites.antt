@@ -8,7 +8,7 @@ use Rattle.span_registry_layers_layers.specs.declared.filter.Filter.{Ghosts as F
 use Rattle.span_registry_layers_layers.specs.declared.layer.Layer.{Ghosts as LayerGhosts}
 use Rattle.span_tracing_outputs.specs.TraceStacks.{TraceStackValue}
 use Rattle.span_tracing_outputs.specs.Turns.{Lines}
-use Rattle.span_tracing_skeleton.specs.Machine.{known}
+use Rattle.span_tracing_skeleton.specs.Looking.{known}
 use Rattle.span_tracing_skeleton.specs.PlainData.{Request, EventStep, SpanStep}
 use Rattle.span_tracing_skeleton.specs.Skeleton.{Answers, Unasked, Wanted, Dropped, Passed, Heard}
 use Rattle.span_tracing_steps.specs.Interests.{KeepsWord, is_off_at}
@@ -31,11 +31,11 @@ MakesNone (Passed passed) = ⊥
 MakesNone (Heard passed told) = ⊥
 
 module _ {N E F S : Type 0} (g : FilterGhosts F) (h : LayerGhosts (Lines N E)) (sg : SubscriberGhosts (TraceStackValue N E F S)) where
-  -- it is kept of a callsite that nobody is interested in it, and what is kept is what the stack says
+  -- it is kept of a callsite that nobody is interested in it, and what is kept is right of each stack
   pub record IsOff (v : Traced N E F S) (index : CallsiteIndex) (m : PlainMetadata) : Type 0 where
     pub word : KeepsWord sg v
-    pub stands : slice_get v.callsites index.0 ≡ Some m
-    pub off : is_off_at v.interests index ≡ true
+    pub stands : slice_get (skeleton_of v).callsites index.0 ≡ Some m
+    pub off : is_off_at v.hub.callsites index ≡ true
 
   -- then an event there is told to nobody, and a span isn't made
   pub record SkipsNothing : Type 0 where

@@ -1,5 +1,5 @@
--- What a step makes of a trace over a stack of outputs with sinks.
-use Rattle.std.specs.Prelude.{◌≡◌, ◌⊎◌, ℕ, Bool, true, false, List, Option, Some, None, IsSome}
+-- What a step makes of a trace over stacks of outputs with sinks.
+use Rattle.std.specs.Prelude.{◌≡◌, ◌⊎◌, ℕ, Bool, true, false, length, List, Option, Some, None, IsSome}
 use Rattle.tracing_core_fields.specs.PlainMetadata.{PlainMetadata}
 use Rattle.tracing_core_moments.specs.declared.at.At.{At}
 use Rattle.span_registry_layers_store.specs.Registries.{RegistryValue}
@@ -18,19 +18,23 @@ use Rattle.span_tracing_outputs.specs.TraceFollows.{EachAnswers, EachAsked, IsRe
 use Rattle.span_tracing_outputs.specs.TraceFollows.{verdicts_from}
 use Rattle.span_tracing_outputs.specs.TraceStacks.{TraceStackValue}
 use Rattle.span_tracing_outputs.specs.Turns.{Lines}
-use Rattle.span_tracing_skeleton.specs.Machine.{after, known, named, refusal_of, reply_of}
+use Rattle.span_tracing_skeleton.specs.Looking.{known, named, reach}
+use Rattle.span_tracing_skeleton.specs.Machine.{after, reply_of}
+use Rattle.span_tracing_skeleton.specs.Order.{refusal_of}
 use Rattle.span_tracing_skeleton.specs.PlainData.{PlainStep, GlobalStep, EventStep, EnabledStep, SpanStep, RecordStep, FollowsFromStep}
-use Rattle.span_tracing_skeleton.specs.PlainData.{EnterStep, ExitStep, CloneStep, CloseStep}
+use Rattle.span_tracing_skeleton.specs.PlainData.{EnterStep, ExitStep, CloneStep, CloseStep, DefaultStep, ResetStep, CloneHandleStep, ReleaseStep}
 use Rattle.span_tracing_skeleton.specs.Skeleton.{Skeleton, Answers, Unasked, Wanted, Dropped, Passed, Heard}
 use Rattle.span_tracing_skeleton.specs.declared.call.Reply.{Reply}
 use Rattle.span_tracing_skeleton.specs.declared.call.Reply.TheVariants.{Refused}
 use Rattle.span_tracing_skeleton.specs.declared.refusal.Refusal.TheVariants.{OutOfMemory}
 use Rattle.span_tracing_steps.specs.States as states
-use Rattle.span_tracing_steps.specs.States.{StateValue}
+use Rattle.span_tracing_steps.specs.States.{StateValue, held_in, stack_in}
+use Rattle.span_tracing_steps.specs.contracts.callsite.TraceCallsiteCallsite.TheImpl.{ghosts}
+use Rattle.tracing_core.specs.HubInvariant.{IsSound as IsSoundHub}
 use Rattle.span_tracing_steps.specs.StackRequests.{place_at, request_of}
-use Rattle.span_tracing_laws.specs.runs.StepNotices.{Told, told_of}
+use Rattle.span_tracing_laws.specs.runs.StepNotices.{Told, told_of, told_to}
 
--- a trace over a stack of outputs with sinks
+-- a trace over stacks of outputs with sinks
 abbrev pub Traced : Type 0 → Type 0 → Type 0 → Type 0 → Type 0
 Traced N E F S = StateValue (TraceStackValue N E F S)
 
@@ -40,17 +44,19 @@ registry_of x = x.stack.registry
 abbrev pub skeleton_of : {N E F S : Type 0} → Traced N E F S → Skeleton
 skeleton_of v = states.skeleton_of registry_of v
 
--- where the stack is reached, and the callsite is known, the filters are asked; else nobody is
-abbrev pub AskedWhere : Bool → Option PlainMetadata → (PlainMetadata → Answers → Type 0) → Answers → Type 0
-AskedWhere false callsite asked a = a ≡ Unasked
-AskedWhere true None asked a = a ≡ Unasked
-AskedWhere true (Some m) asked a = asked m a
+-- where a stack is reached, and the callsite is known, its filters are asked; else nobody is
+abbrev pub AskedWhere : Option ℕ → Option PlainMetadata → (ℕ → PlainMetadata → Answers → Type 0) → Answers → Type 0
+AskedWhere None callsite asked a = a ≡ Unasked
+AskedWhere (Some stack) None asked a = a ≡ Unasked
+AskedWhere (Some stack) (Some m) asked a = asked stack m a
 
 module _ {N E F S : Type 0} (g : FilterGhosts F) (h : LayerGhosts (Lines N E)) where
-  -- what is kept of the filters' answers is right, and no output keeps a line
-  abbrev pub StackIsReady : Option (TraceStackValue N E F S) → Type 0
-  StackIsReady None = Unit {0}
-  StackIsReady (Some x) = IsReady g x
+  -- the hub is sound, each stack that was given has a place to wait in, and of each stack that somebody holds what is kept of its filters'
+  -- answers is right, and no output keeps a line
+  pub record TraceIsReady (v : Traced N E F S) : Type 0 where
+    pub sound : IsSoundHub ghosts v.hub
+    pub given : length v.retired ≡ v.hub.next
+    pub stacks : (number : ℕ) (x : TraceStackValue N E F S) → held_in v number ≡ Some x → IsReady g x
 
   -- what the filters of the reached stack may answer of a callsite, there and then
   abbrev pub AnswersEvent : Option (TraceStackValue N E F S) → PlainEvent → At → Answers → Type 0
@@ -82,18 +88,22 @@ module _ {N E F S : Type 0} (g : FilterGhosts F) (h : LayerGhosts (Lines N E)) w
 
   abbrev pub IsAnswered : Traced N E F S → PlainStep → Answers → Type 0
   IsAnswered v (GlobalStep handle) a = a ≡ Unasked
-  IsAnswered v (EventStep e) a = AskedWhere v.is_global (known (skeleton_of v) e.callsite false)
-      (λ m b. AnswersEvent v.stack (request_of m e) (place_at e.lane e.moment) b) a
-  IsAnswered v (EnabledStep call) a = AskedWhere v.is_global (named v.callsites call.callsite.0)
-      (λ m b. AnswersQuestion v.stack m (place_at call.lane call.moment) b) a
-  IsAnswered v (SpanStep n) a = AskedWhere v.is_global (known (skeleton_of v) n.callsite true)
-      (λ m b. AnswersSpan v.stack m (place_at n.lane n.moment) b) a
+  IsAnswered v (EventStep e) a = AskedWhere (reach (skeleton_of v) e.lane) (known (skeleton_of v) e.callsite false)
+      (λ stack m b. AnswersEvent (held_in v stack) (request_of m e) (place_at e.lane e.moment) b) a
+  IsAnswered v (EnabledStep call) a = AskedWhere (reach (skeleton_of v) call.lane) (named (skeleton_of v).callsites call.callsite.0)
+      (λ stack m b. AnswersQuestion (held_in v stack) m (place_at call.lane call.moment) b) a
+  IsAnswered v (SpanStep n) a = AskedWhere (reach (skeleton_of v) n.lane) (known (skeleton_of v) n.callsite true)
+      (λ stack m b. AnswersSpan (held_in v stack) m (place_at n.lane n.moment) b) a
   IsAnswered v (RecordStep r) a = a ≡ Unasked
   IsAnswered v (FollowsFromStep call) a = a ≡ Unasked
   IsAnswered v (EnterStep call) a = a ≡ Unasked
   IsAnswered v (ExitStep call) a = a ≡ Unasked
   IsAnswered v (CloneStep call) a = a ≡ Unasked
   IsAnswered v (CloseStep call) a = a ≡ Unasked
+  IsAnswered v (DefaultStep call) a = a ≡ Unasked
+  IsAnswered v (ResetStep call) a = a ≡ Unasked
+  IsAnswered v (CloneHandleStep handle) a = a ≡ Unasked
+  IsAnswered v (ReleaseStep handle) a = a ≡ Unasked
 
 module _ {N E F S : Type 0} (n : Ghosts N) (line_of : E → Settings → PlainContext → PlainEvent → Option (List ℕ)) (g : FilterGhosts F)
     (takes : S → At → PlainLine → S → Type 0) where
@@ -112,28 +122,32 @@ module _ {N E F S : Type 0} (n : Ghosts N) (line_of : E → Settings → PlainCo
 
   module _ (h : LayerGhosts (Lines N E)) where
     -- with these answers, which the filters may give there and then, and these fates of texts and lines: the reply and the next skeleton
-    -- are the plain ones, and
-    -- the outputs follow what they are told
+    -- are the plain ones, and the outputs of each stack follow what they are told, also those of one that was released
     pub record FollowsStep (v : Traced N E F S) (step : PlainStep) (reply : Reply) (w : Traced N E F S) : Type 0 where
       pub answers : Answers
       pub fates : Fates
       pub asked : refusal_of (skeleton_of v) step ≡ None → IsAnswered g h v step answers
       pub replied : reply ≡ reply_of (skeleton_of v) step answers
       pub skeleton : skeleton_of w ≡ after (skeleton_of v) step answers
-      pub outputs : OutputsFollow (told_of N (skeleton_of v) step answers) fates v.stack w.stack
+      pub outputs : (number : ℕ) →
+          OutputsFollow (told_to N number (told_of N (skeleton_of v) step answers)) fates (stack_in v number) (stack_in w number)
 
-    -- what takes room of its own: a new span of the reached stack, and an entry of a span
+    -- what takes room of its own: a new span of a reached stack, an entry of a span, a guard, and a handle
     abbrev pub TakesRoom : Traced N E F S → PlainStep → Type 0
     TakesRoom v (GlobalStep handle) = ⊥
     TakesRoom v (EventStep e) = ⊥
     TakesRoom v (EnabledStep call) = ⊥
-    TakesRoom v (SpanStep n) = v.is_global ≡ true
+    TakesRoom v (SpanStep n) = IsSome (reach (skeleton_of v) n.lane)
     TakesRoom v (RecordStep r) = ⊥
     TakesRoom v (FollowsFromStep call) = ⊥
     TakesRoom v (EnterStep call) = IsSome call.span
     TakesRoom v (ExitStep call) = ⊥
     TakesRoom v (CloneStep call) = ⊥
     TakesRoom v (CloseStep call) = ⊥
+    TakesRoom v (DefaultStep call) = Unit {0}
+    TakesRoom v (ResetStep call) = ⊥
+    TakesRoom v (CloneHandleStep handle) = Unit {0}
+    TakesRoom v (ReleaseStep handle) = ⊥
 
     -- a step that takes room finds no memory where nothing else stands in its way, and then changes nothing
     abbrev pub FindsNoMemory : Traced N E F S → PlainStep → Reply → Traced N E F S → Type 0
