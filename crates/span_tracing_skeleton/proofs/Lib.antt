@@ -1,1 +1,3 @@
+pub mod FirstRefusals
 pub mod SpanNames
+pub mod TwoStacks
