@@ -3,3 +3,7 @@ pub mod Lanes
 pub mod Refusals
 pub mod Stacks
 pub mod Registries
+pub mod IndexedRequests
+pub mod UnrefusedRequests
+pub mod HoldChanges
+pub mod Registration

@@ -72,7 +72,8 @@ module _ {T : Type 0} (registry_of : T → RegistryValue) where
       registry_at (skeleton_of registry_of v) number ≡ registry_of_stack registry_of (held_in v number)
   registry_is v number = ap registry_in (held_with number v.hub.subscribers) ∙ registry_map (subscriber_with number v.hub.subscribers)
 
-  abbrev leading : StateValue T → Option ℕ → Option T
+  -- the subscriber that a handle leads to
+  abbrev pub leading : StateValue T → Option ℕ → Option T
   leading v dispatch = option_map (λ (e : KeptSubscriber T). e.subscriber) (living_of dispatch v.hub.subscribers)
 
   while_is : (v : StateValue T) (d : Option ℕ) → while_held (skeleton_of registry_of v) d ≡ (if is_some (leading v d) then d else None)

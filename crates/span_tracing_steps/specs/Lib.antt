@@ -8,3 +8,4 @@ pub mod Setup
 pub mod Interests
 pub mod InterestPreservation
 pub mod RequestTarget
+pub mod FullHandles

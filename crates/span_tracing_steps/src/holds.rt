@@ -1,11 +1,13 @@
 //! Who holds stacks: handles, lanes' own defaults, guards and the global default.
 ghost use Rattle.std.specs.Prelude.{◌≡◌, None, slice_get};
+ghost use Rattle.std.specs.Option.{option_copied};
 ghost use Rattle.tracing_core.specs.Defaults.{guard_of, locally};
 ghost use Rattle.span_tracing_skeleton.specs.Looking.{inner};
 ghost use Rattle.span_tracing_skeleton.specs.Order.{chosen_refusal, default_refusal, further_refusal, global_refusal, reset_refusal};
-ghost use Rattle.span_tracing_skeleton.specs.Refusing.{guard_refusal, handle_refusal, hold_refusal};
+ghost use Rattle.span_tracing_skeleton.specs.Refusing.{guard_refusal, handle_refusal, hold_refusal, lane_refusal};
 ghost use Rattle.span_tracing_skeleton.specs.PlainData.{CloneHandleStep, DefaultStep, GlobalStep, ReleaseStep, ResetStep};
-ghost use Rattle.span_tracing_steps.specs.States.{skeleton_of, value_in};
+ghost use Rattle.span_tracing_steps.specs.States.{behind, skeleton_of, value_in};
+ghost use Rattle.span_tracing_steps.specs.FullHandles.{full_by};
 ghost use Rattle.span_tracing_steps.specs.Steps.{StepGives, asked_for, put_away};
 
 use crate::parts::TraceParts;
@@ -13,14 +15,34 @@ use span_tracing_skeleton::{DefaultCall, HasRegistry, Refusal, Reply, ResetCall}
 use tracing_core::{DefaultGuard, Dispatch, HandleError};
 use tracing_core_fields::{Subscriber, WeakDispatch, serial_of};
 
+// The handle with a number, where it was given and isn't spent.
+fn handle_at(handles: &[Option<Dispatch>], number: usize) -> Option<&Dispatch>
+    ensures { option_copied result ≡ inner (slice_get handles.now number) }
+{
+    match handles.get(number) {
+        Some(Some(handle)) => Some(handle),
+        Some(None) | None => None,
+    }
+}
+
+// Why there can't be a further handle, where it is one of a subscriber that lives.
+fn full_refusal(error: Option<HandleError>) -> Option<Refusal>
+    ensures { result ≡ full_by error }
+{
+    match error {
+        Some(HandleError::TooMany) => Some(Refusal::TooManyHandles),
+        Some(HandleError::Unknown) | None => None,
+    }
+}
+
 impl<T: Subscriber> TraceParts<T> {
     // What a handle leads to, where it was given and isn't spent.
     fn behind(&self, handle: usize) -> Option<WeakDispatch>
         ensures { result ≡ inner (slice_get (value_in self.now).handles handle) }
     {
-        match self.handles.get(handle) {
-            Some(Some(dispatch)) => Some(dispatch.downgrade()),
-            Some(None) | None => None,
+        match handle_at(&self.handles, handle) {
+            Some(dispatch) => Some(dispatch.downgrade()),
+            None => None,
         }
     }
 
@@ -65,10 +87,9 @@ impl<T: Subscriber + HasRegistry> TraceParts<T> {
     fn hold_refusal(&self, handle: usize) -> Option<Refusal>
         ensures { result ≡ hold_refusal (skeleton_of T.registry_of (value_in self.now)) handle }
     {
-        let dispatch = self.behind(handle)?;
-        match self.hub.hold_refusal(&dispatch) {
-            Some(HandleError::TooMany) => Some(Refusal::TooManyHandles),
-            Some(HandleError::Unknown) | None => None,
+        match self.behind(handle) {
+            None => None,
+            Some(dispatch) => full_refusal(self.hub.hold_refusal(&dispatch)),
         }
     }
 
@@ -147,7 +168,7 @@ impl<T: Subscriber + HasRegistry> TraceParts<T> {
         if let Some(refusal) = self.global_refusal(handle) {
             return Reply::Refused(refusal);
         }
-        let Some(Some(dispatch)) = self.handles.get(handle) else {
+        let Some(dispatch) = handle_at(&self.handles, handle) else {
             unreachable!()
         };
         // It is a handle of a stack that is held, and the first default.
@@ -155,26 +176,57 @@ impl<T: Subscriber + HasRegistry> TraceParts<T> {
         Reply::Done
     }
 
+    // Has a lane reach nothing.
+    fn choose_nothing(&mut self, lane: usize) -> DefaultGuard
+        requires sound { IsSound self.old }
+        requires free { lane_refusal (skeleton_of T.registry_of (value_in self.old)) lane ≡ None }
+        ensures sound { IsSound self.new }
+        ensures room { self.new.guards ≡ self.old.guards }
+        ensures guard { result ≡ guard_of (value_in self.old).hub lane }
+        ensures state { value_in self.new ≡ record (value_in self.old) { hub = locally (value_in self.old).hub lane None } }
+    {
+        let Ok(guard) = self.hub.set_default(lane as u64, &Dispatch::none()) else {
+            unreachable!()
+        };
+        guard
+    }
+
+    // Has a lane reach the stack of a handle.
+    fn choose_stack(&mut self, lane: usize, handle: usize) -> DefaultGuard
+        requires sound { IsSound self.old }
+        requires free { lane_refusal (skeleton_of T.registry_of (value_in self.old)) lane ≡ None }
+        requires held { further_refusal (skeleton_of T.registry_of (value_in self.old)) handle ≡ None }
+        ensures sound { IsSound self.new }
+        ensures room { self.new.guards ≡ self.old.guards }
+        ensures guard { result ≡ guard_of (value_in self.old).hub lane }
+        ensures state { value_in self.new ≡ record (value_in self.old) {
+          hub = locally (value_in self.old).hub lane (behind (value_in self.old) handle);
+        } }
+    {
+        let Some(dispatch) = handle_at(&self.handles, handle) else {
+            unreachable!()
+        };
+        let Ok(guard) = self.hub.set_default(lane as u64, dispatch) else {
+            unreachable!()
+        };
+        guard
+    }
+
     // Gives a lane a default of its own, which nothing refuses.
     fn choose(&mut self, lane: usize, handle: Option<usize>) -> DefaultGuard
         requires sound { IsSound self.old }
-        requires free { default_refusal (skeleton_of T.registry_of (value_in self.old)) (record { lane = lane; handle = handle }) ≡ None }
+        requires free { lane_refusal (skeleton_of T.registry_of (value_in self.old)) lane ≡ None }
+        requires held { chosen_refusal (skeleton_of T.registry_of (value_in self.old)) handle ≡ None }
         ensures sound { IsSound self.new }
+        ensures room { self.new.guards ≡ self.old.guards }
         ensures guard { result ≡ guard_of (value_in self.old).hub lane }
         ensures state { value_in self.new ≡ record (value_in self.old) {
           hub = locally (value_in self.old).hub lane (asked_for (value_in self.old) handle);
         } }
     {
-        let set = match handle {
-            None => self.hub.set_default(lane as u64, &Dispatch::none()),
-            Some(handle) => match self.handles.get(handle) {
-                Some(Some(dispatch)) => self.hub.set_default(lane as u64, dispatch),
-                Some(None) | None => unreachable!(),
-            },
-        };
-        match set {
-            Ok(guard) => guard,
-            Err(_) => unreachable!(),
+        match handle {
+            None => self.choose_nothing(lane),
+            Some(handle) => self.choose_stack(lane, handle),
         }
     }
 
@@ -237,7 +289,7 @@ impl<T: Subscriber + HasRegistry> TraceParts<T> {
             return Reply::Refused(Refusal::OutOfMemory);
         }
         let number = self.handles.len();
-        let Some(Some(dispatch)) = self.handles.get(handle) else {
+        let Some(dispatch) = handle_at(&self.handles, handle) else {
             unreachable!()
         };
         let Ok(another) = self.hub.clone(dispatch) else {

@@ -1,18 +1,20 @@
-use Rattle.std.proofs.Common.{rules, ◌≡◌, None, slice_get, ℕ, ◌+◌, ◌-◌, ◌*◌, ◌<◌, ◌≤◌, length, ◌/◌, ◌%◌, Bool, true, false, nat_eq, nat_lt, List, [], ◌∷◌, ◌++◌, slice_index_or, slice_set, bit_and, bit_or, Fits, w8, w32, w64, Bor, MutBor}
-use Rattle.tracing_core.specs.Defaults.{guard_of, locally}
+use Rattle.std.proofs.Common.{◌≡◌, Ok, Err, Option, Some, sym, ap, ◌∙◌}
+use Rattle.std.specs.Prelude.{slice_get}
+use Rattle.std.specs.Option.{option_copied}
+use Rattle.tracing_core_fields.specs.requests.Refusals.{or_refused}
+use Rattle.tracing_core.specs.declared.refusal.HandleError.{HandleError}
 use Rattle.span_tracing_skeleton.specs.Looking.{inner}
-use Rattle.span_tracing_skeleton.specs.Order.{chosen_refusal, default_refusal, further_refusal, global_refusal, reset_refusal}
-use Rattle.span_tracing_skeleton.specs.Refusing.{guard_refusal, handle_refusal, hold_refusal}
-use Rattle.span_tracing_skeleton.specs.PlainData.{CloneHandleStep, DefaultStep, GlobalStep, ReleaseStep, ResetStep}
-use Rattle.span_tracing_steps.specs.States.{skeleton_of, value_in}
-use Rattle.span_tracing_steps.specs.Steps.{StepGives, asked_for, put_away}
-use Rattle.span_tracing_steps.specs.TraceInvariant.{IsSound}
+use Rattle.span_tracing_steps.specs.States.{value_in}
+use Rattle.span_tracing_steps.proofs.HoldChanges.{further_free}
 use Rattle.span_tracing_steps.proofs.parts.TraceParts.clone_handle.Goals as goal
 
--- src/holds.rt:244:13
 pub unreachable-requires-in_default-clone : goal.unreachable-requires-in_default-clone
-unreachable-requires-in_default-clone g c = ?
-
--- src/holds.rt:225:5
-pub returns-clause-gives : goal.returns-clause-gives
-returns-clause-gives g c = ?
+unreachable-requires-in_default-clone g c =
+    let d = c.in-Some-handle_at.dispatch.now in
+    let led : Some d ≡ inner (slice_get c.args.self.now.handles.items c.args.handle) =
+    ap option_copied (sym c.in-Some-handle_at.is) ∙ c.handle_at.ensures ∙
+    ap (λ xs. inner (slice_get xs c.args.handle)) (c.deref.ensures.value ∙ c.reserve.ensures.items) in
+    let free = further_free g.T.HasRegistry.registry_of (value_in c.args.self.now) c.args.handle d led
+    (sym c.further_refusal.ensures ∙ c.in_default.is) in
+    let ok : Err c.in_default-clone.field-0 ≡ Ok d = sym c.in_default-clone.is ∙ c.clone.ensures.answer ∙
+    ap (λ (o : Option HandleError). or_refused o d) free in absurd (cc)

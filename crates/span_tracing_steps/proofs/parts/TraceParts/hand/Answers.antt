@@ -1,20 +1,12 @@
-use Rattle.std.proofs.Common.{rules, ◌≡◌, IsTrue, None, Ok, Some, false, ℕ, ◌+◌, ◌-◌, ◌*◌, ◌<◌, ◌≤◌, length, ◌/◌, ◌%◌, Bool, true, nat_eq, nat_lt, List, [], ◌∷◌, ◌++◌, slice_index_or, slice_set, bit_and, bit_or, Fits, w8, w32, w64, Bor, MutBor}
-use Rattle.tracing_core_fields.specs.IndexedEntries.{plain_entries}
-use Rattle.tracing_core.specs.IndexedRequests.{plain_parent}
-use Rattle.tracing_core_fields.specs.requests.PlainRequests.{explicit_parent}
-use Rattle.span_tracing_skeleton.specs.Acting.{told_parent}
-use Rattle.span_tracing_skeleton.specs.Looking.{reach}
-use Rattle.span_tracing_skeleton.specs.Machine.{or_refused}
-use Rattle.span_tracing_skeleton.specs.declared.call.Reply.TheVariants.{Done}
-use Rattle.span_tracing_skeleton.specs.PlainData.{EnabledStep, EventStep, SpanStep}
-use Rattle.span_tracing_steps.specs.Actions.{plain_request}
-use Rattle.span_tracing_steps.specs.RequestTarget.{FoundFor, GoesTo, StaysAt}
-use Rattle.span_tracing_steps.specs.States.{at_index, skeleton_of, value_in}
-use Rattle.span_tracing_steps.specs.Steps.{StepGives, span_reply}
-use Rattle.span_tracing_steps.specs.StackRequests.{named_as, place_at}
-use Rattle.span_tracing_steps.specs.TraceInvariant.{IsSound}
+use Rattle.std.proofs.Common.{refl}
+use Rattle.span_tracing_steps.specs.States.{value_in}
+use Rattle.span_tracing_steps.proofs.UnrefusedRequests.{event_given}
 use Rattle.span_tracing_steps.proofs.parts.TraceParts.hand.Goals as goal
 
--- src/requests.rt:152:5
 pub returns-clause-gives : goal.returns-clause-gives
-returns-clause-gives g c = ?
+returns-clause-gives g c =
+    event_given g.T.Subscriber g.T.HasRegistry.registry_of (value_in c.args.self.now) c.event_at-told.new.self c.weak_of-handle.result
+    c.args.stack c.weak_of-handle.ensures
+    (record { lane = c.args.lane; moment = c.args.moment; callsite = c.args.callsite; parent = c.args.parent; values = c.args.values })
+    c.args.index c.parent_of-parent.result c.at_of-at.result c.event_at-told.result c.parent_of-parent.ensures c.at_of-at.ensures
+    c.requires.found c.requires.reached c.event_at-told.ensures.gives

@@ -1,20 +1,12 @@
-use Rattle.std.proofs.Common.{rules, ◌≡◌, IsTrue, None, Ok, Some, false, ℕ, ◌+◌, ◌-◌, ◌*◌, ◌<◌, ◌≤◌, length, ◌/◌, ◌%◌, Bool, true, nat_eq, nat_lt, List, [], ◌∷◌, ◌++◌, slice_index_or, slice_set, bit_and, bit_or, Fits, w8, w32, w64, Bor, MutBor}
-use Rattle.tracing_core_fields.specs.IndexedEntries.{plain_entries}
-use Rattle.tracing_core.specs.IndexedRequests.{plain_parent}
-use Rattle.tracing_core_fields.specs.requests.PlainRequests.{explicit_parent}
-use Rattle.span_tracing_skeleton.specs.Acting.{told_parent}
-use Rattle.span_tracing_skeleton.specs.Looking.{reach}
-use Rattle.span_tracing_skeleton.specs.Machine.{or_refused}
-use Rattle.span_tracing_skeleton.specs.declared.call.Reply.TheVariants.{Done}
-use Rattle.span_tracing_skeleton.specs.PlainData.{EnabledStep, EventStep, SpanStep}
-use Rattle.span_tracing_steps.specs.Actions.{plain_request}
-use Rattle.span_tracing_steps.specs.RequestTarget.{FoundFor, GoesTo, StaysAt}
-use Rattle.span_tracing_steps.specs.States.{at_index, skeleton_of, value_in}
-use Rattle.span_tracing_steps.specs.Steps.{StepGives, span_reply}
-use Rattle.span_tracing_steps.specs.StackRequests.{named_as, place_at}
-use Rattle.span_tracing_steps.specs.TraceInvariant.{IsSound}
+use Rattle.std.proofs.Common.{sym, ◌∙◌}
+use Rattle.span_tracing_steps.specs.States.{value_in}
+use Rattle.span_tracing_steps.proofs.UnrefusedRequests.{span_given}
 use Rattle.span_tracing_steps.proofs.parts.TraceParts.new_span.Goals as goal
 
--- src/requests.rt:239:5
 pub returns-clause-gives : goal.returns-clause-gives
-returns-clause-gives g c = ?
+returns-clause-gives g c =
+    span_given g.T.Subscriber g.T.HasRegistry.registry_of (value_in c.args.self.now) c.new_span_at.new.self c.weak_of-handle.result
+    c.in-Some-reached.stack c.weak_of-handle.ensures c.args.span.now c.find_for.result c.in-Ok.index c.parent_of-parent.result
+    c.at_of-at.result c.new_span_at.result c.in-Some-new_span_at.made c.reply_of.result c.parent_of-parent.ensures c.at_of-at.ensures
+    c.in-Ok.is c.find_for.ensures (sym c.ids_refusal.ensures ∙ c.in_default.is) (sym c.reach-reached.ensures ∙ c.in-Some-reached.is)
+    c.in-Some-new_span_at.is c.reply_of.ensures c.new_span_at.ensures.gives

@@ -1,14 +1,14 @@
-use Rattle.std.proofs.Common.{rules, ◌≡◌, None, slice_get, ℕ, ◌+◌, ◌-◌, ◌*◌, ◌<◌, ◌≤◌, length, ◌/◌, ◌%◌, Bool, true, false, nat_eq, nat_lt, List, [], ◌∷◌, ◌++◌, slice_index_or, slice_set, bit_and, bit_or, Fits, w8, w32, w64, Bor, MutBor}
-use Rattle.tracing_core.specs.Defaults.{guard_of, locally}
+use Rattle.std.proofs.Common.{Some, sym, ap, ◌∙◌}
+use Rattle.std.specs.Prelude.{slice_get}
+use Rattle.std.specs.Option.{option_copied}
 use Rattle.span_tracing_skeleton.specs.Looking.{inner}
-use Rattle.span_tracing_skeleton.specs.Order.{chosen_refusal, default_refusal, further_refusal, global_refusal, reset_refusal}
-use Rattle.span_tracing_skeleton.specs.Refusing.{guard_refusal, handle_refusal, hold_refusal}
-use Rattle.span_tracing_skeleton.specs.PlainData.{CloneHandleStep, DefaultStep, GlobalStep, ReleaseStep, ResetStep}
-use Rattle.span_tracing_steps.specs.States.{skeleton_of, value_in}
-use Rattle.span_tracing_steps.specs.Steps.{StepGives, asked_for, put_away}
-use Rattle.span_tracing_steps.specs.TraceInvariant.{IsSound}
+use Rattle.span_tracing_steps.specs.States.{value_in}
+use Rattle.span_tracing_steps.proofs.HoldChanges.{global_given}
 use Rattle.span_tracing_steps.proofs.parts.TraceParts.set_global_default.Goals as goal
 
--- src/holds.rt:140:5
 pub returns-clause-gives : goal.returns-clause-gives
-returns-clause-gives g c = ?
+returns-clause-gives g c =
+    global_given g.T.Subscriber g.T.HasRegistry.registry_of (value_in c.args.self.now) c.args.handle c.in-Some-handle_at.dispatch.now
+    c.set_global_default-set.new.self (ap option_copied (sym c.in-Some-handle_at.is) ∙ c.handle_at.ensures ∙
+    ap (λ xs. inner (slice_get xs c.args.handle)) c.deref.ensures.value)
+    (sym c.global_refusal.ensures ∙ c.in_default.is) c.set_global_default-set.ensures.state
