@@ -7,3 +7,4 @@ pub mod IndexedRequests
 pub mod UnrefusedRequests
 pub mod HoldChanges
 pub mod Registration
+pub mod InterestPreservation

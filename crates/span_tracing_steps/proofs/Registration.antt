@@ -47,13 +47,17 @@ module _ {T : Type 0} (g : Ghosts T) where
   stays_at t u callsite (Some None) r w = same t u w.1
   stays_at t u callsite (Some (Some k)) r w = same t u w.1
 
+  pub hub_stays : (t u : Table T TraceCallsite) (callsite : TraceCallsite) (r : Result PlainInterest (RegisterError TraceCallsite)) →
+      HubRegisters g ghosts t callsite r u → Stays t u
+  hub_stays t u callsite r gives = stays_at t u callsite (kept_alike ghosts (own_metadata callsite)
+      (callsite_with (own_metadata callsite).callsite t.callsites)) r gives
+
   -- parts stay sound
   pub register_sound : (p : TraceParts T) (u : Table T TraceCallsite) (callsite : TraceCallsite)
       (r : Result PlainInterest (RegisterError TraceCallsite)) → IsSound p → HubRegisters g ghosts p.hub callsite r u →
       PreservesCaches g ghosts p.hub u → IsSound (record p { hub = u })
   register_sound p u callsite r sound gives keeps =
-      let stays = stays_at p.hub u callsite (kept_alike ghosts (own_metadata callsite)
-      (callsite_with (own_metadata callsite).callsite p.hub.callsites)) r gives in
+      let stays = hub_stays p.hub u callsite r gives in
       record {
         hub = keeps.sound sound.hub;
         lanes = sound.lanes ∙ ap (λ (ls : List Lane). length ls) (sym stays.lanes);
@@ -71,12 +75,16 @@ module _ {T : Type 0} (g : Ghosts T) where
   told_at v u callsite m None (Err (errors.OutOfMemory back)) is own w =
       inr (refl, ap (λ (t : Table T TraceCallsite). record v { hub = t }) w.1)
   told_at v u callsite m (Some None) (Err (errors.Taken back)) is own w =
-      inl (callsite, own, inl (
-        refl,
-        subst (λ (x : Option (Option PlainInterest)). RegisterGivesAt g ghosts v.hub callsite x (Err (errors.Taken callsite)) v.hub) is
-            (refl, refl),
-        ap (λ (t : Table T TraceCallsite). record v { hub = t }) w.1,
-      ))
+      inl (
+        callsite,
+        own,
+        inl (
+          refl,
+          subst (λ (x : Option (Option PlainInterest)). RegisterGivesAt g ghosts v.hub callsite x (Err (errors.Taken callsite)) v.hub) is
+              (refl, refl),
+          ap (λ (t : Table T TraceCallsite). record v { hub = t }) w.1,
+        ),
+      )
   told_at v u callsite m (Some None) (Err (errors.OutOfMemory back)) is own w = absurd (cc)
   told_at v u callsite m (Some (Some k)) (Err (errors.Taken back)) is own w = absurd (cc)
   told_at v u callsite m (Some (Some k)) (Err (errors.OutOfMemory back)) is own w = absurd (cc)
