@@ -19,9 +19,11 @@ use Rattle.span_tracing_outputs.specs.OutputNotices.{sweep_told}
 use Rattle.span_tracing_outputs.specs.OutputMachines.{Call, Closed, Entered, Happened, Left, Made, OnSpan, Recorded, Said}
 use Rattle.span_tracing_outputs.specs.OutputFolds.{Numbered, call_lists, event_lists}
 use Rattle.span_tracing_skeleton.specs.Acting as acting
-use Rattle.span_tracing_skeleton.specs.Acting.{asked_for, cloned, entered, given_up, held, left, let_go, let_go_at, made_by, parent_id, restored}
+use Rattle.span_tracing_skeleton.specs.Acting.{asked_for, cloned, entered, given_up, held, left, let_go, let_go_at, made_by, parent_id}
+use Rattle.span_tracing_skeleton.specs.Acting.{restored}
 use Rattle.span_tracing_skeleton.specs.Acting.{with_made, with_registry}
-use Rattle.span_tracing_skeleton.specs.Looking.{callsite_of, chosen, default_of, guard_at, if_kind, is_kind, known, named, reach, registry_at}
+use Rattle.span_tracing_skeleton.specs.Looking.{callsite_of, chosen, default_of, guard_at, if_kind, is_kind, known, named, reach}
+use Rattle.span_tracing_skeleton.specs.Looking.{registry_at}
 use Rattle.span_tracing_skeleton.specs.Looking.{registry_in, stack_behind, stack_with}
 use Rattle.span_tracing_skeleton.specs.Machine.{acted, after, or_same}
 use Rattle.span_tracing_skeleton.specs.Order.{refusal_of}
@@ -183,7 +185,8 @@ made_by_is : (s : Skeleton) (n : Request) (a : Answers) → IsSkeletonInRange s 
 made_by_is s n Unasked range = range
 made_by_is s n (Wanted b) range = range
 made_by_is s n Dropped range = range
-made_by_is s n (Passed passed) range = made_is s (reach s n.lane) n (known s n.callsite true) passed (known_is s n.callsite true range) range
+made_by_is s n (Passed passed) range =
+    made_is s (reach s n.lane) n (known s n.callsite true) passed (known_is s n.callsite true range) range
 made_by_is s n (Heard passed told) range = range
 
 cloned_is : (s : Skeleton) (o : Option SpanName) → IsSkeletonInRange s → IsSkeletonInRange (cloned s o)
@@ -359,11 +362,11 @@ module _ (Q : PlainEvent → Type 0) where
     told_is : (s : Skeleton) (step : PlainStep) (a : Answers) → IsSkeletonInRange s → Brings R ValuesInRange step →
         IfSome (told_by N s step a) ListsAreSaid
     told_is s (GlobalStep handle) a range brings = tt
-    told_is s (EventStep e) a range brings = event_told_is s e (reach s e.lane) (known s e.callsite false) a (known_is s e.callsite false range)
-        brings
+    told_is s (EventStep e) a range brings = event_told_is s e (reach s e.lane) (known s e.callsite false) a
+        (known_is s e.callsite false range) brings
     told_is s (EnabledStep call) a range brings = tt
-    told_is s (SpanStep n) a range brings = span_told_is s n (reach s n.lane) (known s n.callsite true) a (known_is s n.callsite true range) range
-        brings
+    told_is s (SpanStep n) a range brings = span_told_is s n (reach s n.lane) (known s n.callsite true) a
+        (known_is s n.callsite true range) range brings
     told_is s (RecordStep r) a range brings = record_told_is s r r.span range brings
     told_is s (FollowsFromStep call) a range brings = tt
     told_is s (EnterStep call) a range brings = enter_told_is s call call.span range

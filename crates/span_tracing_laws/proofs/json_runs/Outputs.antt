@@ -1,5 +1,6 @@
 -- The lines of a JSON output over a run.
-use Rattle.std.proofs.Common.{◌≡◌, ◌==◌, inl, inr, ℕ, zero, suc, Bool, true, false, ◌||◌, if◌then◌else◌, List, [], ◌∷◌, map, Option, Some, None}
+use Rattle.std.proofs.Common.{◌≡◌, ◌==◌, inl, inr, ℕ, zero, suc, Bool, true, false, ◌||◌, if◌then◌else◌, List, [], ◌∷◌, map, Option, Some}
+use Rattle.std.proofs.Common.{None}
 use Rattle.std.proofs.Common.{IfSome, IsSome, is_none, refl, sym, ap, subst, ◌∙◌}
 use Rattle.std.proofs.ByRecursion.{All-append, all_kept_by}
 use Rattle.std.specs.List.{AllByRecursion, list_any}

@@ -102,7 +102,8 @@ module _ {T C : Type 0} (g : Ghosts T) (h : SiteGhosts C) (Ready : T → Type 0)
   pairs_then (e ∷ es) (f ∷ fs) [] one two = absurd two
   pairs_then (e ∷ es) (f ∷ fs) (d ∷ ds) one two = (pair_then e f d one.0 two.0, pairs_then es fs ds one.1 two.1)
 
-  given_pair : (all : Bool) (m : PlainMetadata) (i : ℕ) (k : PlainInterest) (e f : KeptSubscriber T) → Gives g all m i k e f → Pair Ready Kept e f
+  given_pair : (all : Bool) (m : PlainMetadata) (i : ℕ) (k : PlainInterest) (e f : KeptSubscriber T) → Gives g all m i k e f →
+      Pair Ready Kept e f
   given_pair true m i k e f a = (ap (λ (d : KeptSubscriber T). d.serial) a.2, λ is. asked e.subscriber m k f.subscriber is a.1)
   given_pair false m i k e f (inl a) = (ap (λ (d : KeptSubscriber T). d.serial) a.2, λ is. asked e.subscriber m k f.subscriber is a.1)
   given_pair false m i k e f (inr a) = subst (Pair Ready Kept e) (sym a.1) (pair_same e)
@@ -140,7 +141,8 @@ module _ {T C : Type 0} (g : Ghosts T) (h : SiteGhosts C) (Ready : T → Type 0)
 
   rows_pairs : (all : Bool) (before after : ℕ × List (KeptSubscriber T)) (rows laters : List (KeptCallsite C)) →
       Each (RowAsked g h all) before rows laters after → Pairs Ready Kept before.1 after.1
-  rows_pairs all before after [] [] each = subst (λ (p : ℕ × List (KeptSubscriber T)). Pairs Ready Kept before.1 p.1) (sym each) (pairs_same before.1)
+  rows_pairs all before after [] [] each =
+      subst (λ (p : ℕ × List (KeptSubscriber T)). Pairs Ready Kept before.1 p.1) (sym each) (pairs_same before.1)
   rows_pairs all before after [] (later ∷ laters) each = absurd each
   rows_pairs all before after (row ∷ rows) [] each = absurd each
   rows_pairs all before after (row ∷ rows) (later ∷ laters) each =

@@ -28,7 +28,8 @@ use Rattle.span_registry_layers_store.specs.Registries.{RegistryValue}
 use Rattle.span_tracing_skeleton.specs.Acting as acting
 use Rattle.span_tracing_skeleton.specs.Acting.{leading_to, let_go, let_go_at, with_registry}
 use Rattle.span_tracing_skeleton.specs.Looking as looking
-use Rattle.span_tracing_skeleton.specs.Looking.{default_of, guard_at, inner, is_held, own_of, registry_at, registry_in, stack_with, while_held}
+use Rattle.span_tracing_skeleton.specs.Looking.{default_of, guard_at, inner, is_held, own_of, registry_at, registry_in, stack_with}
+use Rattle.span_tracing_skeleton.specs.Looking.{while_held}
 use Rattle.span_tracing_skeleton.specs.Skeleton.{Skeleton, HeldStack, GuardValue, Default}
 use Rattle.span_tracing_steps.specs.States.{StateValue, behind, held_in, held_stack, lane_default, or_retired, plain_default, plain_guard}
 use Rattle.span_tracing_steps.specs.States.{skeleton_of, stack_in}
@@ -211,7 +212,8 @@ module _ {T : Type 0} where
   -- with the stack that it has
   pub becoming_same : (v : StateValue T) (stack : ℕ) (x : T) → held_in v stack ≡ Some x → becoming stack x v ≡ v
   becoming_same v stack x there =
-      ap (λ (es : List (KeptSubscriber T)). record v { hub = record v.hub { subscribers = es } }) (same_stacks stack v.hub.subscribers x there)
+      ap (λ (es : List (KeptSubscriber T)). record v { hub = record v.hub { subscribers = es } })
+      (same_stacks stack v.hub.subscribers x there)
 
   pub became_in : (v : StateValue T) (stack : ℕ) (x y : T) → held_in v stack ≡ Some x → stack_in (becoming stack y v) stack ≡ Some y
   became_in v stack x y there =
@@ -416,7 +418,8 @@ module _ {T : Type 0} (registry_of : T → RegistryValue) where
       skeleton_of registry_of (steps.with_handle v o) ≡ acting.with_new_handle (skeleton_of registry_of v) o
   handle_skeleton v o =
       let s = skeleton_of registry_of v in
-      ap (λ (ks : List HeldStack). record s { stacks = ks; handles = map inner (v.handles ++ Some o ∷ []) }) (held_map o v.hub.subscribers) ∙
+      ap (λ (ks : List HeldStack). record s { stacks = ks; handles = map inner (v.handles ++ Some o ∷ []) })
+      (held_map o v.hub.subscribers) ∙
       ap (λ (os : List (Option ℕ)). record s { stacks = acting.held o s.stacks; handles = os })
       (map-append inner v.handles (Some o ∷ []))
 

@@ -140,7 +140,7 @@ module _ {N E F S : Type 0} (n : Ghosts N) (line_of : E → Settings → PlainCo
         (subst (λ (fs : Fates). TurnAgrees v (Went step f.answers fs) reply w p) fated
         (went_agrees v step reply w f p.skeleton p.outs agrees.0 agrees.1))
     turn_agrees v (Starved step) reply w p (told, none, takes, same) agrees =
-        subst (λ (u : Traced N E F S). TurnAgrees v (Starved step) reply u p) (sym same) 
+        subst (λ (u : Traced N E F S). TurnAgrees v (Starved step) reply u p) (sym same)
         (told, agrees, λ stack. stays (stack_in v stack) (p.outs stack) (agrees.1 stack))
 
     append : (o p q : Option Stack) (ones twos : List (List (At × PlainLine))) → SinksTake n line_of g takes o p ones →

@@ -1,5 +1,5 @@
 -- Setup calls leave a trace ready.
-use Rattle.std.proofs.Common.{◌≡◌, inl, inr, ℕ, ◌==◌, ◌+◌, Bool, true, false, List, [], ◌∷◌, ◌++◌, length, Option, Some, None, Result, Ok, Err}
+use Rattle.std.proofs.Common.{◌≡◌, inl, inr, ℕ, ◌==◌, ◌+◌, true, false, List, [], ◌∷◌, ◌++◌, length, Option, Some, None, Result, Ok, Err}
 use Rattle.std.proofs.Common.{refl, sym, ap, ◌∙◌, subst, arith}
 use Rattle.std.specs.Cmp.{unsigned_Decides}
 use Rattle.std.specs.Prelude.{slice_get}
@@ -12,9 +12,7 @@ use Rattle.tracing_core_moments.specs.declared.at.At.{At}
 use Rattle.tracing_core_fields.specs.declared.requests.subscriber.Subscriber.{Ghosts as SubscriberGhosts}
 use Rattle.tracing_core.specs.CacheRefresh.{Formed}
 use Rattle.tracing_core.specs.Commands.{RegisterGives as HubRegisters, RegisterGivesAt as HubRegistersAt, callsite_with, kept_alike, living}
-use Rattle.tracing_core.specs.Handles.{is_of}
 use Rattle.tracing_core.specs.Table.{Table}
-use Rattle.tracing_core.specs.TableRows.{KeptSubscriber}
 use Rattle.tracing_core.proofs.CachePreservation.{add_keeps, register_keeps}
 use Rattle.tracing_core.proofs.SubscriberNumbers.{by_bool}
 use Rattle.span_registry_layers_layers.specs.declared.filter.Filter.{Ghosts as FilterGhosts}
@@ -35,7 +33,7 @@ use Rattle.span_tracing_steps.specs.States.{held_in, or_retired, stack_in}
 use Rattle.span_tracing_steps.specs.contracts.callsite.TraceCallsiteCallsite.TheImpl.{ghosts}
 use Rattle.span_tracing_steps.specs.declared.callsite.TraceCallsite.{TraceCallsite}
 use Rattle.span_tracing_laws.specs.runs.StepFollows.{TraceIsReady, Traced}
-use Rattle.span_tracing_laws.specs.runs.Laws.{OutputsStay, SetupFollows, StackKeeps, StackStays}
+use Rattle.span_tracing_laws.specs.runs.Laws.{OutputsStay, SetupFollows, StackKeeps}
 use Rattle.span_tracing_laws.specs.runs.Runs.{OutsAgree}
 use Rattle.span_tracing_laws.proofs.runs.AskedStacks.{Alike, Pairs, appended_other, appended_own, formed_pairs, joined_pairs, pairs_at}
 use Rattle.span_tracing_laws.proofs.runs.HubStacks.{none_appended, with_number}
@@ -153,7 +151,8 @@ module _ {N E F S : Type 0} (n : Ghosts N) (line_of : E → Settings → PlainCo
       appended_own next es z ready.sound.numbers ∙ ap (λ (y : Stack). Some y) same in
       let others = λ (number : ℕ) (apart : (number == next) ≡ false).
       appended_other number es (living next z) (apart_from number next apart) in
-      let new_alike : AlikeStacks (Some x) (held_in w next) = subst (λ (o : Option Stack). AlikeStacks o (held_in w next)) new (alike next) in
+      let new_alike : AlikeStacks (Some x) (held_in w next) =
+      subst (λ (o : Option Stack). AlikeStacks o (held_in w next)) new (alike next) in
       let other_alike = λ (number : ℕ) (apart : (number == next) ≡ false).
       subst (λ (o : Option Stack). AlikeStacks o (held_in w number)) (others number apart) (alike number) in
       let own_ready = λ (y : Stack) (at : Some x ≡ Some y). let is : x ≡ y = cc in subst (IsReady g) is own in (

@@ -1,5 +1,5 @@
 -- At a callsite in which nobody is interested no filter passes anything.
-use Rattle.std.proofs.Common.{◌≡◌, ◌⊎◌, ℕ, zero, suc, Bool, true, false, List, [], ◌∷◌, Option, Some, None, slice_get, refl, sym, ◌∙◌}
+use Rattle.std.proofs.Common.{◌≡◌, ℕ, zero, suc, Bool, true, false, List, [], ◌∷◌, Option, Some, None, slice_get, refl, sym, ◌∙◌}
 use Rattle.std.proofs.Common.{subst, inl, inr}
 use Rattle.tracing_core_fields.specs.PlainMetadata.{PlainMetadata}
 use Rattle.tracing_core.specs.declared.hub.index.CallsiteIndex.{CallsiteIndex}
@@ -24,7 +24,7 @@ use Rattle.span_tracing_outputs.specs.TraceFollows.{EachAnswers, EachAsked, some
 use Rattle.span_tracing_outputs.specs.TraceStacks.{TraceStackValue}
 use Rattle.span_tracing_outputs.specs.Turns.{Lined, Lines}
 use Rattle.span_tracing_skeleton.specs.Looking.{known, reach}
-use Rattle.span_tracing_skeleton.specs.PlainData.{Request, EventStep, SpanStep}
+use Rattle.span_tracing_skeleton.specs.PlainData.{Request}
 use Rattle.span_tracing_skeleton.specs.Skeleton.{Answers, Unasked, Wanted, Dropped, Passed, Heard}
 use Rattle.span_tracing_steps.specs.Callsites.{own_metadata}
 use Rattle.span_tracing_steps.specs.Interests.{is_interest_never, is_never}
@@ -32,7 +32,7 @@ use Rattle.span_tracing_steps.specs.States.{callsites_of, held_in}
 use Rattle.span_tracing_steps.specs.contracts.callsite.TraceCallsiteCallsite.TheImpl.{ghosts}
 use Rattle.span_tracing_steps.specs.declared.callsite.TraceCallsite.{TraceCallsite}
 use Rattle.span_tracing_steps.specs.StackRequests.{place_at, request_of}
-use Rattle.span_tracing_laws.specs.runs.StepFollows.{AnswersEvent, AnswersSpan, AskedWhere, IsAnswered, Traced, skeleton_of}
+use Rattle.span_tracing_laws.specs.runs.StepFollows.{AnswersEvent, AnswersSpan, AskedWhere, Traced, skeleton_of}
 use Rattle.span_tracing_laws.specs.runs.SkippedCallsites.{IsOff, MakesNone, SkipsNothing, TellsNobody}
 use Rattle.span_tracing_laws.proofs.runs.HubStacks.{kept_at}
 

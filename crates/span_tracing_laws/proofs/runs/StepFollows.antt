@@ -1,5 +1,5 @@
 -- Each step follows the skeleton and the output machines.
-use Rattle.std.proofs.Common.{◌≡◌, inl, inr, ℕ, Bool, true, false, not, ◌==◌, nat_lt, List, [], length, map, Option, Some, None, IfSome, Result}
+use Rattle.std.proofs.Common.{◌≡◌, inl, inr, ℕ, Bool, true, false, not, ◌==◌, nat_lt, List, [], length, Option, Some, None, IfSome, Result}
 use Rattle.std.proofs.Common.{Ok, Err, refl, sym, ap, ◌∙◌, subst, arith}
 use Rattle.std.specs.Cmp.{unsigned_Decides}
 use Rattle.std.specs.Prelude.{IsSome, if◌then◌else◌, slice_get}
@@ -56,7 +56,8 @@ use Rattle.span_tracing_skeleton.specs.Order.{call_refusal, refusal_of, request_
 use Rattle.span_tracing_skeleton.specs.PlainData.{PlainStep, Request, RecordRequest, on_span, GlobalStep, EventStep, EnabledStep, SpanStep}
 use Rattle.span_tracing_skeleton.specs.PlainData.{RecordStep, FollowsFromStep, EnterStep, ExitStep, CloneStep, CloseStep, DefaultStep}
 use Rattle.span_tracing_skeleton.specs.PlainData.{ResetStep, CloneHandleStep, ReleaseStep}
-use Rattle.span_tracing_skeleton.specs.Refusing.{bare_refusal, callsite_refusal, count_refusal, first, ids_refusal, lane_refusal, moment_refusal}
+use Rattle.span_tracing_skeleton.specs.Refusing.{bare_refusal, callsite_refusal, count_refusal, first, ids_refusal, lane_refusal}
+use Rattle.span_tracing_skeleton.specs.Refusing.{moment_refusal}
 use Rattle.span_tracing_skeleton.specs.Refusing.{parent_refusal}
 use Rattle.span_tracing_skeleton.specs.Skeleton.{Skeleton, Answers, Unasked, Wanted, Dropped, Passed, Heard}
 use Rattle.span_tracing_skeleton.specs.declared.call.DefaultCall.{DefaultCall}
@@ -75,20 +76,22 @@ use Rattle.span_tracing_skeleton.specs.declared.refusal.Refusal.TheVariants.{Out
 use Rattle.span_tracing_steps.specs.States.{behind, held_in, or_retired, stack_in}
 use Rattle.span_tracing_steps.specs.Steps as steps
 use Rattle.span_tracing_steps.specs.Steps.{CallGoes, CloneGoes, CloseGoes, EnterGoes, EventGoes, ExitGoes, FollowsGoes, OrStarved}
-use Rattle.span_tracing_steps.specs.Steps.{QuestionGoes, RecordGoes, SpanGoes, StepGives, StepGoes, StepUnless, ValuesGo, put_away, span_reply}
+use Rattle.span_tracing_steps.specs.Steps.{QuestionGoes, RecordGoes, SpanGoes, StepGives, StepGoes, StepUnless, ValuesGo, put_away}
+use Rattle.span_tracing_steps.specs.Steps.{span_reply}
 use Rattle.span_tracing_steps.specs.StackRequests.{own_values, place_at, request_of}
 use Rattle.span_tracing_steps.specs.contracts.callsite.TraceCallsiteCallsite.TheImpl.{ghosts}
 use Rattle.span_tracing_laws.specs.runs.StepFollows.{AnswersEvent, AnswersQuestion, AnswersSpan, AskedWhere, Follows, FollowsStep}
 use Rattle.span_tracing_laws.specs.runs.StepFollows.{IsAnswered, OutputsFollow, StackFollows, TraceIsReady, Traced, registry_of}
 use Rattle.span_tracing_laws.specs.runs.StepFollows.{skeleton_of}
 use Rattle.span_tracing_laws.specs.runs.StepNotices.{Told, close_told_by, enter_told_by, event_told_by, exit_told_by, record_told_by}
-use Rattle.span_tracing_laws.specs.runs.StepNotices.{span_told_by, told_by, told_of, told_to, values_told_by}
+use Rattle.span_tracing_laws.specs.runs.StepNotices.{span_told_by, told_by, told_to, values_told_by}
 use Rattle.span_tracing_laws.proofs.runs.HubStacks.{asked_same, back_both, became_elsewhere, became_in, became_other, became_own, becoming}
 use Rattle.span_tracing_laws.proofs.runs.HubStacks.{becoming_same, behind_same, default_skeleton, global_skeleton, handle_skeleton}
 use Rattle.span_tracing_laws.proofs.runs.HubStacks.{held_same, held_serials, held_there, moved_by, put_count, reach_held, registry_given}
 use Rattle.span_tracing_laws.proofs.runs.HubStacks.{registry_stays, registry_there, release_skeleton, reset_skeleton, skeleton_became}
 use Rattle.span_tracing_laws.proofs.runs.HubStacks.{with_number}
-use Rattle.span_tracing_laws.proofs.runs.UnrefusedSteps.{call_held, call_open, clone_none, close_none, first_none, follows_held, handle_bare}
+use Rattle.span_tracing_laws.proofs.runs.UnrefusedSteps.{call_held, call_open, clone_none, close_none, first_none, follows_held}
+use Rattle.span_tracing_laws.proofs.runs.UnrefusedSteps.{handle_bare}
 use Rattle.span_tracing_laws.proofs.runs.UnrefusedSteps.{ids_left, open_bare, parent_known, second_none}
 
 -- what is told to a stack
@@ -199,6 +202,41 @@ module _ {N E F S : Type 0} (n : Ghosts N) (line_of : E → Settings → PlainCo
   dropped_untold s e None k = refl
   dropped_untold s e (Some stack) None = refl
   dropped_untold s e (Some stack) (Some m) = refl
+
+  -- what the reached stack is told of an event, and of a new span
+  event_tells : (s : Skeleton) (e : Request) (o : Option ℕ) (k : Option PlainMetadata) (passed told : List Bool) (stack : ℕ)
+      (m : PlainMetadata) (r : RegistryValue) → o ≡ Some stack → k ≡ Some m → registry_at s stack ≡ r →
+      event_told_by N s e o k (Heard passed told) ≡ Some (record {
+        stack = stack;
+        at = place_at e.lane e.moment;
+        lists = event_lists r (place_at e.lane e.moment) (request_of m e) told;
+      })
+  event_tells s e o k passed told stack m r at is home =
+      ap (λ (p : Option ℕ). event_told_by N s e p k (Heard passed told)) at ∙
+      ap (λ (c : Option PlainMetadata). event_told_by N s e (Some stack) c (Heard passed told)) is ∙
+      ap (λ (x : RegistryValue). Some (record {
+        stack = stack;
+        at = place_at e.lane e.moment;
+        lists = event_lists x (place_at e.lane e.moment) (request_of m e) told;
+      })) home
+
+  span_tells : (s : Skeleton) (q : Request) (o : Option ℕ) (k : Option PlainMetadata) (passed : List Bool) (stack : ℕ)
+      (m : PlainMetadata) (r : RegistryValue) → o ≡ Some stack → k ≡ Some m → registry_at s stack ≡ r →
+      span_told_by N s q o k (Passed passed) ≡ Some (record {
+        stack = stack;
+        at = place_at q.lane q.moment;
+        lists = call_lists (span_told (with_span r m (parent_id r q.lane q.parent) passed) (place_at q.lane q.moment)
+            (Made (request_of m q)) r.next_id);
+      })
+  span_tells s q o k passed stack m r at is home =
+      ap (λ (p : Option ℕ). span_told_by N s q p k (Passed passed)) at ∙
+      ap (λ (c : Option PlainMetadata). span_told_by N s q (Some stack) c (Passed passed)) is ∙
+      ap (λ (x : RegistryValue). Some (record {
+        stack = stack;
+        at = place_at q.lane q.moment;
+        lists = call_lists (span_told (with_span x m (parent_id x q.lane q.parent) passed) (place_at q.lane q.moment)
+            (Made (request_of m q)) x.next_id);
+      })) home
 
   -- the skeleton over another stack
   skeleton_after : (v w : Traced N E F S) (stack : ℕ) (y : Stack) (r : RegistryValue) → w ≡ becoming stack y v →
@@ -376,10 +414,8 @@ module _ {N E F S : Type 0} (n : Ghosts N) (line_of : E → Settings → PlainCo
               (skeleton_stays v w stack x call.0 there call.2 told.3.skeleton)
               (told_after v w stack x call.0 (event_told_by N s e (reach s e.lane) (known s e.callsite false) answers)
               (record { stack = stack; at = here; lists = event_lists (bare x.stack.registry) here q told.1 }) told.3.fates
-              (ap (λ (o : Option ℕ). event_told_by N s e o (known s e.callsite false) answers) at ∙
-              ap (λ (c : Option PlainMetadata). event_told_by N s e (Some stack) c answers) is ∙
-              ap (λ (r : RegistryValue). Some (record { stack = stack; at = here; lists = event_lists r here q told.1 })) home) refl there
-              call.2 told.3.outputs),
+              (event_tells s e (reach s e.lane) (known s e.callsite false) told.0 told.1 stack m (bare x.stack.registry) at is home) refl
+              there call.2 told.3.outputs),
           call.3,
         )
 
@@ -488,15 +524,11 @@ module _ {N E F S : Type 0} (n : Ghosts N) (line_of : E → Settings → PlainCo
               (record {
                 stack = stack;
                 at = here;
-                lists = call_lists (span_told (with_new (bare x.stack.registry)) here (Made (request_of m q)) (bare x.stack.registry).next_id);
+                lists = call_lists
+                    (span_told (with_new (bare x.stack.registry)) here (Made (request_of m q)) (bare x.stack.registry).next_id);
               }) outs.fates
-              (ap (λ (o : Option ℕ). span_told_by N s q o (known s q.callsite true) (Passed passed)) at ∙
-              ap (λ (c : Option PlainMetadata). span_told_by N s q (Some stack) c (Passed passed)) is ∙
-              ap (λ (r : RegistryValue). Some (record {
-                stack = stack;
-                at = here;
-                lists = call_lists (span_told (with_new r) here (Made (request_of m q)) r.next_id);
-              })) home) refl there call.2 outs.outputs),
+              (span_tells s q (reach s q.lane) (known s q.callsite true) passed stack m (bare x.stack.registry) at is home) refl there
+              call.2 outs.outputs),
           call.3,
         )
 
@@ -521,7 +553,8 @@ module _ {N E F S : Type 0} (n : Ghosts N) (line_of : E → Settings → PlainCo
         let outs : OutputsStep n line_of g takes here (lists kept) kept x call.0 =
         subst (λ (a : Result (Unit {0}) RequestError). IfTaken a x (OutputsStep n line_of g takes here (lists kept) kept x call.0) call.0)
         answer call.1.1 in (
-          made v (RecordStep r) reply w Unasked outs.fates none refl done (skeleton_stays v w name.stack x call.0 there call.2 outs.skeleton)
+          made v (RecordStep r) reply w Unasked outs.fates none refl done
+              (skeleton_stays v w name.stack x call.0 there call.2 outs.skeleton)
               (told_after v w name.stack x call.0 (record_told_by N s r r.span)
               (record { stack = name.stack; at = here; lists = lists kept }) outs.fates
               (ap (record_told_by N s r) on ∙ ap (values_told_by N s r name) is ∙
@@ -542,14 +575,14 @@ module _ {N E F S : Type 0} (n : Ghosts N) (line_of : E → Settings → PlainCo
     follows_goes : (v : Traced N E F S) (ask : FollowsCall) (span follows : Option SpanName) (reply : Reply) (w : Traced N E F S) →
         ask.span ≡ span → TraceIsReady g h v → refusal_of (skeleton_of v) (FollowsFromStep ask) ≡ None → reply ≡ Done →
         FollowsGoes sg span follows v ask w → Goes v (FollowsFromStep ask) reply w
-    follows_goes v ask None follows reply w on ready none done same = rested v (FollowsFromStep ask) reply w Unasked none refl done refl refl
-        same ready
+    follows_goes v ask None follows reply w on ready none done same = rested v (FollowsFromStep ask) reply w Unasked none refl done
+        refl refl same ready
     follows_goes v ask (Some name) None reply w on ready none done same = rested v (FollowsFromStep ask) reply w Unasked none refl done
         refl refl same ready
     follows_goes v ask (Some name) (Some followed) reply w on ready none done goes =
         let (x, there) = held_there registry_of v name.stack (follows_held (skeleton_of v) ask name on none) in
-        let call = called name.stack x (FollowsRecorded name.id.value followed.id.value (place_at ask.lane ask.moment)) goes.0 v w ready there
-        goes.1 in
+        let call = called name.stack x (FollowsRecorded name.id.value followed.id.value (place_at ask.lane ask.moment)) goes.0 v w ready
+        there goes.1 in
         rested v (FollowsFromStep ask) reply w Unasked none refl done refl refl (stays v w name.stack x call.0 there call.2 call.1.1) ready
 
     -- an entry
@@ -767,7 +800,8 @@ module _ {N E F S : Type 0} (n : Ghosts N) (line_of : E → Settings → PlainCo
     step_goes v (SpanStep q) reply w ready none goes = span_goes v q reply w (reach (skeleton_of v) q.lane)
         (known (skeleton_of v) q.callsite true) refl refl ready none goes
     step_goes v (RecordStep r) reply w ready none goes = record_goes v r r.span reply w refl ready none goes.0 goes.1
-    step_goes v (FollowsFromStep ask) reply w ready none goes = follows_goes v ask ask.span ask.follows reply w refl ready none goes.0 goes.1
+    step_goes v (FollowsFromStep ask) reply w ready none goes = follows_goes v ask ask.span ask.follows reply w refl ready none goes.0
+        goes.1
     step_goes v (EnterStep ask) reply w ready none goes = enter_goes v ask ask.span reply w refl ready none goes
     step_goes v (ExitStep ask) reply w ready none goes = exit_goes v ask ask.span reply w refl ready none goes.0 goes.1
     step_goes v (CloneStep ask) reply w ready none goes = clone_goes v ask ask.span reply w refl ready none goes.0 goes.1

@@ -16,8 +16,10 @@ use Rattle.span_registry_layers_store.specs.Spans as spans
 use Rattle.span_tracing_skeleton.specs.Acting.{told_parent}
 use Rattle.span_tracing_skeleton.specs.Looking.{handles_in, has_open, is_held, leads_to, reach, reached, registry_at}
 use Rattle.span_tracing_skeleton.specs.Order.{call_refusal, follows_refusal, pair_refusal}
-use Rattle.span_tracing_skeleton.specs.Refusing.{closed_refusal, first, foreign_refusal, ids_refusal, lane_refusal, life_refusal, living_refusal}
-use Rattle.span_tracing_skeleton.specs.Refusing.{moment_refusal, named_refusal, number_refusal, open_refusal, parent_refusal, span_refusal, when}
+use Rattle.span_tracing_skeleton.specs.Refusing.{closed_refusal, first, foreign_refusal, ids_refusal, lane_refusal, life_refusal}
+use Rattle.span_tracing_skeleton.specs.Refusing.{living_refusal}
+use Rattle.span_tracing_skeleton.specs.Refusing.{moment_refusal, named_refusal, number_refusal, open_refusal, parent_refusal, span_refusal}
+use Rattle.span_tracing_skeleton.specs.Refusing.{when}
 use Rattle.span_tracing_skeleton.specs.Skeleton.{Skeleton}
 use Rattle.span_tracing_skeleton.specs.declared.call.FollowsCall.{FollowsCall}
 use Rattle.span_tracing_skeleton.specs.declared.call.Parent.{Parent}
@@ -25,7 +27,8 @@ use Rattle.span_tracing_skeleton.specs.declared.call.Parent.TheVariants.{Context
 use Rattle.span_tracing_skeleton.specs.declared.call.SpanCall.{SpanCall}
 use Rattle.span_tracing_skeleton.specs.declared.call.SpanName.{SpanName}
 use Rattle.span_tracing_skeleton.specs.declared.refusal.Refusal.{Refusal}
-use Rattle.span_tracing_skeleton.specs.declared.refusal.Refusal.TheVariants.{ForeignParent, IdsSpent, ReleasedStack, TooManyHandles, UnknownSpan}
+use Rattle.span_tracing_skeleton.specs.declared.refusal.Refusal.TheVariants.{ForeignParent, IdsSpent, ReleasedStack, TooManyHandles}
+use Rattle.span_tracing_skeleton.specs.declared.refusal.Refusal.TheVariants.{UnknownSpan}
 
 pub first_none : (a b : Option Refusal) → first a b ≡ None → a ≡ None
 first_none None b none = refl
