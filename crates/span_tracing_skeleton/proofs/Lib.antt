@@ -1,1 +1,5 @@
+pub mod FirstRefusals
+pub mod HeldStacks
+pub mod HolderCounts
 pub mod SpanNames
+pub mod TwoStacks

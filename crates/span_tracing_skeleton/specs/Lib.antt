@@ -9,3 +9,5 @@ pub mod Acting
 pub mod Looking
 pub mod Order
 pub mod Refusing
+pub mod Setup
+pub mod Counting

@@ -1,10 +1,10 @@
 -- The numbers of refusals.
 use Rattle.std.specs.Prelude.{ℕ}
 use Rattle.span_tracing_skeleton.specs.declared.refusal.Refusal.{Refusal}
-use Rattle.span_tracing_skeleton.specs.declared.refusal.Refusal.TheVariants.{UnknownCallsite, UnknownStack, ReleasedStack, UnknownSpan, ForeignParent}
-use Rattle.span_tracing_skeleton.specs.declared.refusal.Refusal.TheVariants.{NoOutput, TooManyFilters, EqualKeys, BadLinkName, BadName}
-use Rattle.span_tracing_skeleton.specs.declared.refusal.Refusal.TheVariants.{FolderRefused, BadMoment, OutOfMemory, BadRoute}
-use Rattle.span_tracing_skeleton.specs.declared.refusal.Refusal.TheVariants.{JsonFieldsNeeded, UnknownLane, GlobalSet, Taken}
+use Rattle.span_tracing_skeleton.specs.declared.refusal.Refusal.TheVariants.{UnknownCallsite, UnknownStack, ReleasedStack, UnknownSpan}
+use Rattle.span_tracing_skeleton.specs.declared.refusal.Refusal.TheVariants.{ForeignParent, NoOutput, TooManyFilters, EqualKeys}
+use Rattle.span_tracing_skeleton.specs.declared.refusal.Refusal.TheVariants.{BadLinkName, BadName, FolderRefused, BadMoment, OutOfMemory}
+use Rattle.span_tracing_skeleton.specs.declared.refusal.Refusal.TheVariants.{BadRoute, JsonFieldsNeeded, UnknownLane, GlobalSet, Taken}
 use Rattle.span_tracing_skeleton.specs.declared.refusal.Refusal.TheVariants.{TooManyHandles, IdsSpent, WrongLane}
 
 abbrev pub refusal_number : Refusal → ℕ

@@ -8,8 +8,8 @@ use Rattle.span_tracing_skeleton.specs.declared.call.Parent.{Parent}
 use Rattle.span_tracing_skeleton.specs.declared.call.Parent.TheVariants.{Contextual, Root, Explicit}
 use Rattle.span_tracing_skeleton.specs.declared.refusal.Refusal.{Refusal}
 use Rattle.span_tracing_skeleton.specs.declared.refusal.Refusal.TheVariants.{UnknownCallsite, UnknownStack, ReleasedStack, UnknownSpan}
-use Rattle.span_tracing_skeleton.specs.declared.refusal.Refusal.TheVariants.{ForeignParent, BadMoment, UnknownLane, TooManyHandles, IdsSpent}
-use Rattle.span_tracing_skeleton.specs.declared.refusal.Refusal.TheVariants.{WrongLane}
+use Rattle.span_tracing_skeleton.specs.declared.refusal.Refusal.TheVariants.{ForeignParent, BadMoment, UnknownLane, TooManyHandles}
+use Rattle.span_tracing_skeleton.specs.declared.refusal.Refusal.TheVariants.{IdsSpent, WrongLane}
 use Rattle.span_tracing_skeleton.specs.Skeleton.{Skeleton, HeldStack, GuardValue}
 use Rattle.span_tracing_skeleton.specs.Looking.{guard_at, handles_in, has_open, is_held, knows_stack, leads_to, reach, reached}
 use Rattle.span_tracing_skeleton.specs.Looking.{stack_behind, stack_with}

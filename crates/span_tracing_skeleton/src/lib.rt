@@ -7,6 +7,7 @@ mod call_copies;
 mod call_equality;
 mod call_error;
 mod has_registry;
+mod laws;
 mod refusal;
 
 pub use call::{
@@ -15,4 +16,5 @@ pub use call::{
 };
 pub use call_error::CallError;
 pub use has_registry::HasRegistry;
+pub use laws::stays_counted;
 pub use refusal::Refusal;

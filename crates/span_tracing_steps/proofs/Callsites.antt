@@ -8,7 +8,7 @@ use Rattle.tracing_core.specs.Indices.{index_of_callsite}
 use Rattle.tracing_core.specs.TableRows.{KeptCallsite}
 use Rattle.tracing_core.specs.ValidCaches.{IsTrueCallsite}
 use Rattle.tracing_core.specs.declared.hub.index.CallsiteIndex.{CallsiteIndex}
-use Rattle.span_tracing_skeleton.specs.Machine.{named}
+use Rattle.span_tracing_skeleton.specs.Looking.{named}
 use Rattle.span_tracing_steps.specs.Callsites.{own_metadata}
 use Rattle.span_tracing_steps.specs.States.{at_index, callsites_of}
 use Rattle.span_tracing_steps.specs.contracts.callsite.TraceCallsiteCallsite.TheImpl.{ghosts}

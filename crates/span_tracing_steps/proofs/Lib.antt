@@ -1,9 +1,5 @@
-pub mod SlotlessRegistry
 pub mod Callsites
-pub mod StackCalls
-pub mod IndexedRequests
-pub mod UnrefusedRequests
-pub mod FullRefresh
-pub mod Registration
-pub mod Stackless
-pub mod InterestPreservation
+pub mod Lanes
+pub mod Refusals
+pub mod Stacks
+pub mod Registries

@@ -1,20 +1,29 @@
 -- What setup calls leave of a trace.
-use Rattle.std.specs.Prelude.{◌≡◌, ◌⊎◌, ℕ, [], ◌∷◌, ◌++◌, length, Option, Some, None, Result, Ok, Err}
+use Rattle.std.specs.Prelude.{◌≡◌, ◌⊎◌, ℕ, [], ◌∷◌, ◌++◌, length, false, Option, Some, None, Result, Ok, Err}
 use Rattle.tracing_core_fields.specs.PlainMetadata.{PlainMetadata}
 use Rattle.tracing_core_fields.specs.requests.Interests.{PlainInterest}
 use Rattle.tracing_core_fields.specs.declared.requests.subscriber.Subscriber.{Ghosts}
 use Rattle.tracing_core.specs.Commands.{AddGives as HubAdds, RegisterGives as HubRegisters}
+use Rattle.tracing_core.specs.declared.hub.parts.Lane.TheVariants.{Running}
+use Rattle.tracing_core.specs.declared.hub.parts.LaneDefault.TheVariants.{Unset}
 use Rattle.tracing_core.specs.declared.refusal.RegisterError.TheVariants as errors
 use Rattle.span_tracing_skeleton.specs.declared.refusal.Refusal.{Refusal}
 use Rattle.span_tracing_skeleton.specs.declared.refusal.Refusal.TheVariants.{OutOfMemory, Taken}
 use Rattle.span_tracing_steps.specs.Callsites.{own_metadata}
-use Rattle.span_tracing_steps.specs.States.{StateValue}
+use Rattle.span_tracing_steps.specs.States.{PlainThread, StateValue}
 use Rattle.span_tracing_steps.specs.contracts.callsite.TraceCallsiteCallsite.TheImpl.{ghosts}
 use Rattle.span_tracing_steps.specs.declared.callsite.TraceCallsite.{TraceCallsite}
 
 -- the metadata at an identifier, whose fields are that callsite's own
 abbrev pub own_at : ℕ → PlainMetadata → PlainMetadata
 own_at number m = record m { callsite = number }
+
+-- with a lane, which has no default of its own
+abbrev pub with_thread : {T : Type 0} → StateValue T → PlainThread → StateValue T
+with_thread v thread = record v {
+  hub = record v.hub { lanes = v.hub.lanes ++ Running Unset ∷ []; entered = v.hub.entered ++ false ∷ [] };
+  threads = v.threads ++ thread ∷ [];
+}
 
 module _ {T : Type 0} (g : Ghosts T) where
   abbrev pub RegistersAs : TraceCallsite → StateValue T → Result PlainInterest Refusal → StateValue T → Type 0

@@ -2,7 +2,6 @@
 use Rattle.std.specs.Prelude.{ℕ, List, [], ◌∷◌, map, Option, Some, None, string_bytes, slice_get}
 use Rattle.std.specs.Option.{option_map}
 use Rattle.tracing_core_fields.specs.PlainMetadata.{PlainMetadata}
-use Rattle.tracing_core.specs.HandleSubscribers.{living_of}
 use Rattle.tracing_core.specs.Handles.{subscriber_with}
 use Rattle.tracing_core.specs.Table.{Table, fresh, own_setting}
 use Rattle.tracing_core.specs.TableRows.{KeptCallsite, KeptSubscriber}
@@ -101,11 +100,7 @@ module _ {T : Type 0} where
 
   -- what a handle leads to
   abbrev pub behind : StateValue T → ℕ → Option ℕ
-  behind v handle = inner (slice_get v.handles handle)
-
-  -- the stack that a handle leads to
-  abbrev pub stack_behind : Option ℕ → StateValue T → Option T
-  stack_behind dispatch v = option_map (λ (e : KeptSubscriber T). e.subscriber) (living_of dispatch v.hub.subscribers)
+  behind v handle = inner (inner (slice_get v.handles handle))
 
 -- the callsite at an index, where one is told
 abbrev pub at_index : List PlainMetadata → Option CallsiteIndex → Option PlainMetadata

@@ -1,16 +1,17 @@
-//! Which steps are refused, by reading alone.
-ghost use Rattle.std.specs.Prelude.{◌≡◌, not, Some, None, is_some};
+//! Which steps are refused, by reading alone: of lanes, callsites, stacks and spans.
+ghost use Rattle.std.specs.Prelude.{◌≡◌, is_some};
 ghost use Rattle.std.specs.Option.{option_copied, option_map};
 ghost use Rattle.span_registry_layers_store.specs.Registries.{PlainSpan, kin_in};
 ghost use Rattle.span_registry_layers_store.specs.Spans.{found};
-ghost use Rattle.span_tracing_skeleton.specs.Machine.{call_refusal, callsite_of, count_refusal, enabled_refusal, first, follows_refusal};
-ghost use Rattle.span_tracing_skeleton.specs.Machine.{foreign_refusal, handle_refusal, handles_in, has_open, ids_refusal, knows_stack};
-ghost use Rattle.span_tracing_skeleton.specs.Machine.{lane_refusal, moment_refusal, named, open_refusal, pair_refusal, parent_refusal};
-ghost use Rattle.span_tracing_skeleton.specs.Machine.{registry_at, span_refusal, stack_refusal, when};
-ghost use Rattle.span_tracing_skeleton.specs.declared.refusal.Refusal.TheVariants.{GlobalSet, UnknownStack};
+ghost use Rattle.span_tracing_skeleton.specs.Looking.{callsite_of, handles_in, has_open, is_held, knows_stack, leads_to, named};
+ghost use Rattle.span_tracing_skeleton.specs.Looking.{reach, registry_at};
+ghost use Rattle.span_tracing_skeleton.specs.Order.{call_refusal, enabled_refusal, follows_refusal, pair_refusal};
+ghost use Rattle.span_tracing_skeleton.specs.Refusing.{bare_refusal, closed_refusal, count_refusal, first, foreign_refusal, ids_refusal};
+ghost use Rattle.span_tracing_skeleton.specs.Refusing.{lane_refusal, life_refusal, living_refusal, moment_refusal, named_refusal};
+ghost use Rattle.span_tracing_skeleton.specs.Refusing.{number_refusal, open_refusal, parent_refusal, span_refusal};
 ghost use Rattle.span_tracing_skeleton.specs.PlainData.{on_span};
 ghost use Rattle.span_tracing_steps.specs.Actions.{plain_record};
-ghost use Rattle.span_tracing_steps.specs.States.{at_index, registry_in, skeleton_of, value_in};
+ghost use Rattle.span_tracing_steps.specs.States.{at_index, registry_of_stack, skeleton_of, value_in};
 
 use crate::action::RecordRequest;
 use crate::parts::TraceParts;
@@ -19,51 +20,82 @@ use span_tracing_skeleton::{
     EnabledCall, FollowsCall, HasRegistry, Parent, Refusal, SpanCall, SpanName,
 };
 use tracing_core::CallsiteIndex;
-use tracing_core_fields::Subscriber;
+use tracing_core_fields::{Subscriber, serial_of};
 use tracing_core_moments::Moment;
 
 impl<T: Subscriber + HasRegistry> TraceParts<T> {
     ghost use Rattle.span_tracing_steps.specs.TraceInvariant.{IsSound};
 
-    // The stack with this number, where it was given.
+    /// The number of the stack that a lane reaches.
     #[inline(always)]
-    #[tactic(auto, using(crate::proofs::SlotlessRegistry::registry_by))]
-    fn stack_at(&self, number: usize) -> Option<&T>
-        ensures { registry_in T.registry_of (option_copied result) ≡ registry_at (skeleton_of T.registry_of (value_in self.now)) number }
+    pub(crate) fn reach(&self, lane: usize) -> Option<usize>
+        ensures { result ≡ reach (skeleton_of T.registry_of (value_in self.now)) lane }
     {
-        if number == 0 { self.stack() } else { None }
+        let handle = self.hub.reached(lane as u64);
+        match self.hub.subscriber(&handle) {
+            None => None,
+            Some(_) => match serial_of(&handle) {
+                None => None,
+                Some(serial) => Some(serial as usize),
+            },
+        }
+    }
+
+    // The stack with a number, where somebody holds it, as the registry of its spans.
+    #[inline(always)]
+    fn held_at(&self, number: usize) -> Option<&T>
+        ensures { registry_of_stack T.registry_of (option_copied result)
+            ≡ registry_at (skeleton_of T.registry_of (value_in self.now)) number }
+    {
+        self.held(number)
+    }
+
+    fn knows_stack(&self, number: usize) -> bool
+        requires { IsSound self.now }
+        ensures { result ≡ knows_stack (skeleton_of T.registry_of (value_in self.now)) number }
+    {
+        number < self.given()
+    }
+
+    fn is_held(&self, number: usize) -> bool
+        ensures { result ≡ is_held (skeleton_of T.registry_of (value_in self.now)) number }
+    {
+        match self.held(number) {
+            None => false,
+            Some(_) => true,
+        }
     }
 
     /// Whether the span is open.
     #[inline(never)]
-    #[tactic(auto, using(crate::proofs::SlotlessRegistry::open_bare))]
+    #[tactic(auto, using(crate::proofs::Registries::open_bare))]
     fn is_open(&self, name: SpanName) -> bool
         ensures { result ≡ has_open (skeleton_of T.registry_of (value_in self.now)) name }
     {
-        match self.stack_at(name.stack) {
+        match self.held_at(name.stack) {
             None => false,
             Some(stack) => stack.registry().is_open(&id_of(name)),
         }
     }
 
     /// How many handles the span has, and 0 where it is not open.
-    #[tactic(auto, using(crate::proofs::SlotlessRegistry::handles_bare))]
+    #[tactic(auto, using(crate::proofs::Registries::handles_bare))]
     fn handles_of(&self, name: SpanName) -> usize
         ensures { result ≡ handles_in (skeleton_of T.registry_of (value_in self.now)) name }
     {
-        match self.stack_at(name.stack) {
+        match self.held_at(name.stack) {
             None => 0,
             Some(stack) => stack.registry().handles_of(&id_of(name)),
         }
     }
 
     // The identifier of an open span's callsite.
-    #[tactic(auto, using(crate::proofs::SlotlessRegistry::number_bare))]
+    #[tactic(auto, using(crate::proofs::Registries::number_bare))]
     fn number_of(&self, name: SpanName) -> Option<u64>
         ensures { result ≡ option_map (λ (s : PlainSpan). s.metadata.callsite)
             (found kin_in (registry_at (skeleton_of T.registry_of (value_in self.now)) name.stack).spans name.id.value) }
     {
-        match self.stack_at(name.stack) {
+        match self.held_at(name.stack) {
             None => None,
             Some(stack) => match stack.registry().span(&id_of(name)) {
                 None => None,
@@ -75,7 +107,7 @@ impl<T: Subscriber + HasRegistry> TraceParts<T> {
     /// Where the callsite of an open span stands.
     pub(crate) fn callsite_of(&self, name: SpanName) -> Option<CallsiteIndex>
         requires { IsSound self.now }
-        ensures names { at_index (value_in self.now).callsites result
+        ensures names { at_index (skeleton_of T.registry_of (value_in self.now)).callsites result
             ≡ callsite_of (skeleton_of T.registry_of (value_in self.now)) name }
         ensures there { is_some result ≡ is_some (callsite_of (skeleton_of T.registry_of (value_in self.now)) name) }
     {
@@ -85,43 +117,102 @@ impl<T: Subscriber + HasRegistry> TraceParts<T> {
         }
     }
 
-    #[tactic(auto, using(crate::proofs::SlotlessRegistry::first_alone))]
-    fn knows_stack(&self, stack: usize) -> bool
-        ensures { result ≡ knows_stack (skeleton_of T.registry_of (value_in self.now)) stack }
+    // Why no call goes to the stack of a span: its number was never given.
+    fn number_refusal(&self, name: SpanName) -> Option<Refusal>
+        requires { IsSound self.now }
+        ensures { result ≡ number_refusal (skeleton_of T.registry_of (value_in self.now)) name.stack }
     {
-        self.stack().is_some() && stack == 0
-    }
-
-    /// The refusal of a parent.
-    pub(crate) fn parent_refusal(&self, parent: Parent) -> Option<Refusal>
-        ensures { result ≡ parent_refusal (skeleton_of T.registry_of (value_in self.now)) parent }
-    {
-        match parent {
-            Parent::Contextual => None,
-            Parent::Root => None,
-            Parent::Explicit(name) => {
-                if !self.knows_stack(name.stack) {
-                    return Some(Refusal::UnknownStack);
-                }
-                if !self.hub.has_been_set() {
-                    return Some(Refusal::ForeignParent);
-                }
-                if !self.is_open(name) {
-                    return Some(Refusal::UnknownSpan);
-                }
-                None
-            }
+        if self.knows_stack(name.stack) {
+            None
+        } else {
+            Some(Refusal::UnknownStack)
         }
     }
 
-    /// The refusal of a lane, and then of a moment.
-    #[tactic(auto, using(crate::proofs::SlotlessRegistry::length_map))]
-    pub(crate) fn place_refusal(&self, lane: usize, moment: Moment) -> Option<Refusal>
-        ensures { result ≡ first (lane_refusal (skeleton_of T.registry_of (value_in self.now)) lane)
-            (moment_refusal moment) }
+    // Why no call goes to the stack with a number: it was released.
+    pub(crate) fn life_refusal(&self, number: usize) -> Option<Refusal>
+        ensures { result ≡ life_refusal (skeleton_of T.registry_of (value_in self.now)) number }
+    {
+        if self.is_held(number) {
+            None
+        } else {
+            Some(Refusal::ReleasedStack)
+        }
+    }
+
+    fn closed_refusal(&self, name: SpanName) -> Option<Refusal>
+        ensures { result ≡ closed_refusal (skeleton_of T.registry_of (value_in self.now)) name }
+    {
+        if self.is_open(name) {
+            None
+        } else {
+            Some(Refusal::UnknownSpan)
+        }
+    }
+
+    // Why no call goes to the stack with the span's number.
+    fn stack_refusal(&self, name: SpanName) -> Option<Refusal>
+        requires { IsSound self.now }
+        ensures { result ≡ first (number_refusal (skeleton_of T.registry_of (value_in self.now)) name.stack)
+            (life_refusal (skeleton_of T.registry_of (value_in self.now)) name.stack) }
+    {
+        let refusal = self.number_refusal(name);
+        if refusal.is_some() {
+            return refusal;
+        }
+        self.life_refusal(name.stack)
+    }
+
+    /// The refusal of a parent of a request on a lane.
+    pub(crate) fn parent_refusal(&self, lane: usize, parent: Parent) -> Option<Refusal>
+        requires { IsSound self.now }
+        ensures { result ≡ parent_refusal (skeleton_of T.registry_of (value_in self.now)) lane parent }
+    {
+        let Parent::Explicit(name) = parent else {
+            return None;
+        };
+        let refusal = self.stack_refusal(name);
+        if refusal.is_some() {
+            return refusal;
+        }
+        if !self.leads_to(lane, name.stack) {
+            return Some(Refusal::ForeignParent);
+        }
+        self.closed_refusal(name)
+    }
+
+    // Whether the lane reaches the stack with a number.
+    fn leads_to(&self, lane: usize, number: usize) -> bool
+        ensures { result ≡ leads_to (reach (skeleton_of T.registry_of (value_in self.now)) lane) number }
+    {
+        match self.reach(lane) {
+            None => false,
+            Some(reached) => number == reached,
+        }
+    }
+
+    /// The refusal of a lane.
+    #[tactic(auto, using(crate::proofs::Lanes::lanes_alike))]
+    pub(crate) fn lane_refusal(&self, lane: usize) -> Option<Refusal>
+        requires { IsSound self.now }
+        ensures { result ≡ lane_refusal (skeleton_of T.registry_of (value_in self.now)) lane }
     {
         if self.threads.len() <= lane {
             return Some(Refusal::UnknownLane);
+        }
+        None
+    }
+
+    /// The refusal of a lane, and then of a moment.
+    #[inline(always)]
+    pub(crate) fn place_refusal(&self, lane: usize, moment: Moment) -> Option<Refusal>
+        requires { IsSound self.now }
+        ensures { result ≡ first (lane_refusal (skeleton_of T.registry_of (value_in self.now)) lane)
+            (moment_refusal moment) }
+    {
+        let refusal = self.lane_refusal(lane);
+        if refusal.is_some() {
+            return refusal;
         }
         if !moment.is_in_range() {
             return Some(Refusal::BadMoment);
@@ -129,14 +220,13 @@ impl<T: Subscriber + HasRegistry> TraceParts<T> {
         None
     }
 
-    /// Why no span is made: the stack is reached, and all ids were given.
-    pub(crate) fn ids_refusal(&self) -> Option<Refusal>
-        ensures { result ≡ ids_refusal (skeleton_of T.registry_of (value_in self.now)) }
+    /// Why no span is made on a lane: a stack is reached, and all its ids were given.
+    pub(crate) fn ids_refusal(&self, reached: Option<usize>, lane: usize) -> Option<Refusal>
+        requires { reached ≡ reach (skeleton_of T.registry_of (value_in self.now)) lane }
+        ensures { result ≡ ids_refusal (skeleton_of T.registry_of (value_in self.now)) lane }
     {
-        if !self.hub.has_been_set() {
-            return None;
-        }
-        match self.stack() {
+        let number = reached?;
+        match self.held_at(number) {
             None => None,
             Some(stack) => match stack.registry().next_id() {
                 None => Some(Refusal::IdsSpent),
@@ -151,11 +241,14 @@ impl<T: Subscriber + HasRegistry> TraceParts<T> {
         call: &EnabledCall,
         callsite: Option<CallsiteIndex>,
     ) -> Option<Refusal>
-        requires { is_some callsite ≡ is_some (named (value_in self.now).callsites call.now.callsite.0) }
+        requires sound { IsSound self.now }
+        requires there { is_some callsite
+            ≡ is_some (named (skeleton_of T.registry_of (value_in self.now)).callsites call.now.callsite.0) }
         ensures { result ≡ enabled_refusal (skeleton_of T.registry_of (value_in self.now)) call.now }
     {
-        if let Some(refusal) = self.place_refusal(call.lane, call.moment) {
-            return Some(refusal);
+        let refusal = self.place_refusal(call.lane, call.moment);
+        if refusal.is_some() {
+            return refusal;
         }
         match callsite {
             None => Some(Refusal::UnknownCallsite),
@@ -164,71 +257,60 @@ impl<T: Subscriber + HasRegistry> TraceParts<T> {
     }
 
     fn span_refusal(&self, span: Option<SpanName>) -> Option<Refusal>
+        requires { IsSound self.now }
         ensures { result ≡ span_refusal (skeleton_of T.registry_of (value_in self.now)) span }
     {
-        match span {
-            None => None,
-            Some(name) => {
-                if !self.knows_stack(name.stack) {
-                    return Some(Refusal::UnknownStack);
-                }
-                if !self.is_open(name) {
-                    return Some(Refusal::UnknownSpan);
-                }
-                None
-            }
+        let name = span?;
+        let refusal = self.stack_refusal(name);
+        if refusal.is_some() {
+            return refusal;
         }
+        self.closed_refusal(name)
     }
 
     /// Why a call on a span isn't made.
     pub(crate) fn call_refusal(&self, call: &SpanCall) -> Option<Refusal>
+        requires { IsSound self.now }
         ensures { result ≡ call_refusal (skeleton_of T.registry_of (value_in self.now)) call.now }
     {
-        if let Some(refusal) = self.place_refusal(call.lane, call.moment) {
-            return Some(refusal);
+        let refusal = self.place_refusal(call.lane, call.moment);
+        if refusal.is_some() {
+            return refusal;
         }
         self.span_refusal(call.span)
     }
 
     /// Why values aren't told.
     pub(crate) fn values_refusal(&self, request: &RecordRequest<'_>) -> Option<Refusal>
+        requires { IsSound self.now }
         ensures { result ≡ call_refusal (skeleton_of T.registry_of (value_in self.now))
             (on_span (plain_record request.now)) }
     {
-        if let Some(refusal) = self.place_refusal(request.lane, request.moment) {
-            return Some(refusal);
+        let refusal = self.place_refusal(request.lane, request.moment);
+        if refusal.is_some() {
+            return refusal;
         }
         self.span_refusal(request.span)
     }
 
-    fn stack_refusal(&self, span: Option<SpanName>) -> Option<Refusal>
-        ensures { result ≡ stack_refusal (skeleton_of T.registry_of (value_in self.now)) span }
+    fn named_refusal(&self, span: Option<SpanName>) -> Option<Refusal>
+        requires { IsSound self.now }
+        ensures { result ≡ named_refusal (skeleton_of T.registry_of (value_in self.now)) span }
     {
-        match span {
-            None => None,
-            Some(name) => {
-                if self.knows_stack(name.stack) {
-                    None
-                } else {
-                    Some(Refusal::UnknownStack)
-                }
-            }
-        }
+        self.number_refusal(span?)
+    }
+
+    fn living_refusal(&self, span: Option<SpanName>) -> Option<Refusal>
+        ensures { result ≡ living_refusal (skeleton_of T.registry_of (value_in self.now)) span }
+    {
+        let name = span?;
+        self.life_refusal(name.stack)
     }
 
     fn open_refusal(&self, span: Option<SpanName>) -> Option<Refusal>
         ensures { result ≡ open_refusal (skeleton_of T.registry_of (value_in self.now)) span }
     {
-        match span {
-            None => None,
-            Some(name) => {
-                if self.is_open(name) {
-                    None
-                } else {
-                    Some(Refusal::UnknownSpan)
-                }
-            }
-        }
+        self.closed_refusal(span?)
     }
 
     // A span follows spans of its own stack.
@@ -244,16 +326,37 @@ impl<T: Subscriber + HasRegistry> TraceParts<T> {
         }
     }
 
-    // The stacks of both are looked at first, then whether they are one stack, and then whether the spans are open.
-    fn pair_refusal(&self, call: &FollowsCall) -> Option<Refusal>
-        ensures { result ≡ pair_refusal (skeleton_of T.registry_of (value_in self.now)) call.now.span
-            call.now.follows }
+    // The stacks of both are looked for, and then whether both are held.
+    fn stacks_refusal(&self, call: &FollowsCall) -> Option<Refusal>
+        requires { IsSound self.now }
+        ensures { result ≡ first (named_refusal (skeleton_of T.registry_of (value_in self.now)) call.now.span)
+            (first (named_refusal (skeleton_of T.registry_of (value_in self.now)) call.now.follows)
+            (first (living_refusal (skeleton_of T.registry_of (value_in self.now)) call.now.span)
+            (living_refusal (skeleton_of T.registry_of (value_in self.now)) call.now.follows))) }
     {
-        let refusal = self.stack_refusal(call.span);
+        let refusal = self.named_refusal(call.span);
         if refusal.is_some() {
             return refusal;
         }
-        let refusal = self.stack_refusal(call.follows);
+        let refusal = self.named_refusal(call.follows);
+        if refusal.is_some() {
+            return refusal;
+        }
+        let refusal = self.living_refusal(call.span);
+        if refusal.is_some() {
+            return refusal;
+        }
+        self.living_refusal(call.follows)
+    }
+
+    // After their stacks it is looked whether these are one, and then whether the spans are open.
+    #[tactic(auto, using(crate::proofs::Refusals::first_of_four))]
+    fn pair_refusal(&self, call: &FollowsCall) -> Option<Refusal>
+        requires { IsSound self.now }
+        ensures { result ≡ pair_refusal (skeleton_of T.registry_of (value_in self.now)) call.now.span
+            call.now.follows }
+    {
+        let refusal = self.stacks_refusal(call);
         if refusal.is_some() {
             return refusal;
         }
@@ -270,10 +373,12 @@ impl<T: Subscriber + HasRegistry> TraceParts<T> {
 
     /// Why it isn't told that a span follows another one.
     pub(crate) fn follows_refusal(&self, call: &FollowsCall) -> Option<Refusal>
+        requires { IsSound self.now }
         ensures { result ≡ follows_refusal (skeleton_of T.registry_of (value_in self.now)) call.now }
     {
-        if let Some(refusal) = self.place_refusal(call.lane, call.moment) {
-            return Some(refusal);
+        let refusal = self.place_refusal(call.lane, call.moment);
+        if refusal.is_some() {
+            return refusal;
         }
         self.pair_refusal(call)
     }
@@ -281,33 +386,26 @@ impl<T: Subscriber + HasRegistry> TraceParts<T> {
     fn count_refusal(&self, span: Option<SpanName>) -> Option<Refusal>
         ensures { result ≡ count_refusal (skeleton_of T.registry_of (value_in self.now)) span }
     {
-        match span {
-            None => None,
-            Some(name) => {
-                if self.handles_of(name) == usize::MAX {
-                    return Some(Refusal::TooManyHandles);
-                }
-                None
-            }
+        let name = span?;
+        if self.handles_of(name) == usize::MAX {
+            return Some(Refusal::TooManyHandles);
         }
+        None
     }
 
-    fn handle_refusal(&self, span: Option<SpanName>) -> Option<Refusal>
-        ensures { result ≡ handle_refusal (skeleton_of T.registry_of (value_in self.now)) span }
+    fn bare_refusal(&self, span: Option<SpanName>) -> Option<Refusal>
+        ensures { result ≡ bare_refusal (skeleton_of T.registry_of (value_in self.now)) span }
     {
-        match span {
-            None => None,
-            Some(name) => {
-                if self.handles_of(name) == 0 {
-                    return Some(Refusal::UnknownSpan);
-                }
-                None
-            }
+        let name = span?;
+        if self.handles_of(name) == 0 {
+            return Some(Refusal::UnknownSpan);
         }
+        None
     }
 
     /// Why no handle is taken.
     pub(crate) fn clone_refusal(&self, call: &SpanCall) -> Option<Refusal>
+        requires { IsSound self.now }
         ensures { result ≡ first (call_refusal (skeleton_of T.registry_of (value_in self.now)) call.now)
             (count_refusal (skeleton_of T.registry_of (value_in self.now)) call.now.span) }
     {
@@ -320,27 +418,14 @@ impl<T: Subscriber + HasRegistry> TraceParts<T> {
 
     /// Why no handle is given up.
     pub(crate) fn close_refusal(&self, call: &SpanCall) -> Option<Refusal>
+        requires { IsSound self.now }
         ensures { result ≡ first (call_refusal (skeleton_of T.registry_of (value_in self.now)) call.now)
-            (handle_refusal (skeleton_of T.registry_of (value_in self.now)) call.now.span) }
+            (bare_refusal (skeleton_of T.registry_of (value_in self.now)) call.now.span) }
     {
         let refusal = self.call_refusal(call);
         if refusal.is_some() {
             return refusal;
         }
-        self.handle_refusal(call.span)
-    }
-
-    /// Why the stack with this handle isn't made the one that lanes reach.
-    pub(crate) fn global_refusal(&self, handle: usize) -> Option<Refusal>
-        ensures { result ≡ first (when (not (knows_stack (skeleton_of T.registry_of (value_in self.now)) handle))
-            UnknownStack) (when (is_some (skeleton_of T.registry_of (value_in self.now)).default) GlobalSet) }
-    {
-        if !self.knows_stack(handle) {
-            return Some(Refusal::UnknownStack);
-        }
-        if self.hub.has_been_set() {
-            return Some(Refusal::GlobalSet);
-        }
-        None
+        self.bare_refusal(call.span)
     }
 }

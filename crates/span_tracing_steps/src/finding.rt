@@ -1,6 +1,6 @@
 //! Where callsites stand, and which requests at them are refused.
 ghost use Rattle.std.specs.Prelude.{◌≡◌, false, true, if◌then◌else◌, IfSome, None, Ok, Some, is_some};
-ghost use Rattle.span_tracing_skeleton.specs.Machine.{if_kind, known, named};
+ghost use Rattle.span_tracing_skeleton.specs.Looking.{if_kind, known, named};
 ghost use Rattle.span_tracing_steps.specs.RequestTarget.{FoundFor};
 ghost use Rattle.span_tracing_steps.specs.States.{at_index, skeleton_of, value_in};
 
@@ -17,8 +17,8 @@ impl<T: Subscriber + HasRegistry> TraceParts<T> {
     #[tactic(auto, using(crate::proofs::Callsites::index_names, crate::proofs::Callsites::index_there))]
     pub(crate) fn find(&self, number: u64) -> Option<CallsiteIndex>
         requires { IsSound self.now }
-        ensures names { at_index (value_in self.now).callsites result ≡ named (value_in self.now).callsites number }
-        ensures there { is_some result ≡ is_some (named (value_in self.now).callsites number) }
+        ensures names { at_index (skeleton_of T.registry_of (value_in self.now)).callsites result ≡ named (skeleton_of T.registry_of (value_in self.now)).callsites number }
+        ensures there { is_some result ≡ is_some (named (skeleton_of T.registry_of (value_in self.now)).callsites number) }
     {
         self.hub.index_of(Identifier(number))
     }
@@ -27,8 +27,8 @@ impl<T: Subscriber + HasRegistry> TraceParts<T> {
     #[inline(always)]
     fn is_kind(&self, index: CallsiteIndex, is_span: bool) -> bool
         requires { IsSound self.now }
-        ensures { if_kind (at_index (value_in self.now).callsites (Some index)) is_span
-            ≡ (if result then at_index (value_in self.now).callsites (Some index) else None) }
+        ensures { if_kind (at_index (skeleton_of T.registry_of (value_in self.now)).callsites (Some index)) is_span
+            ≡ (if result then at_index (skeleton_of T.registry_of (value_in self.now)).callsites (Some index) else None) }
     {
         let Some(metadata) = self.hub.metadata_at(index) else {
             return false;
@@ -44,7 +44,7 @@ impl<T: Subscriber + HasRegistry> TraceParts<T> {
     /// Where the callsite of this kind with the identifier stands.
     pub(crate) fn known(&self, number: u64, is_span: bool) -> Option<CallsiteIndex>
         requires { IsSound self.now }
-        ensures names { at_index (value_in self.now).callsites result
+        ensures names { at_index (skeleton_of T.registry_of (value_in self.now)).callsites result
             ≡ known (skeleton_of T.registry_of (value_in self.now)) number is_span }
         ensures there { is_some result ≡ is_some (known (skeleton_of T.registry_of (value_in self.now)) number is_span) }
     {
@@ -73,7 +73,7 @@ impl<T: Subscriber + HasRegistry> TraceParts<T> {
         let Some(index) = self.known(request.callsite, is_span) else {
             return Err(Refusal::UnknownCallsite);
         };
-        match self.parent_refusal(request.parent) {
+        match self.parent_refusal(request.lane, request.parent) {
             Some(refusal) => Err(refusal),
             None => Ok(index),
         }
@@ -83,7 +83,7 @@ impl<T: Subscriber + HasRegistry> TraceParts<T> {
     #[inline(always)]
     fn counted_event(&self, number: u64) -> Option<CallsiteIndex>
         requires { IsSound self.now }
-        ensures { IfSome result (λ index. (at_index (value_in self.now).callsites (Some index) ≡ known (skeleton_of T.registry_of
+        ensures { IfSome result (λ index. (at_index (skeleton_of T.registry_of (value_in self.now)).callsites (Some index) ≡ known (skeleton_of T.registry_of
             (value_in self.now)) number false) × (is_some (known (skeleton_of T.registry_of (value_in self.now)) number false) ≡ true)) }
     {
         let Some(index) = self.hub.counted_index_of(Identifier(number)) else {

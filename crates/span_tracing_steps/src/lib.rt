@@ -5,6 +5,7 @@ mod action;
 mod callsite;
 mod checks;
 mod finding;
+mod holds;
 mod interest;
 mod laws;
 mod parts;

@@ -1,12 +1,12 @@
 //! All that a trace keeps.
 ghost use Rattle.std.specs.Prelude.{◌≡◌};
 ghost use Rattle.std.specs.Option.{option_copied};
+ghost use Rattle.span_tracing_steps.specs.States.{held_in, stack_in, value_in};
 
 use crate::callsite::TraceCallsite;
-use span_tracing_skeleton::HasRegistry;
 use std::alloc::Global;
-use tracing_core::{Dispatch, Hub};
-use tracing_core_fields::{Subscriber, WeakDispatch};
+use tracing_core::{DefaultGuard, Dispatch, Hub};
+use tracing_core_fields::{Subscriber, weak_of};
 
 /// A lane's name and thread.
 #[derive(Debug, Drop)]
@@ -17,13 +17,15 @@ pub struct Thread {
     pub thread_id: u64,
 }
 
-/// The lanes' threads, and the hub with the callsites and the one stack.
+/// The lanes' threads; the hub with callsites, stacks and defaults; handles and guards by number, where they aren't spent; and stacks that
+/// were released and wait to be taken, each in the place of its number.
 pub struct TraceParts<T> {
     pub(crate) alloc: Global,
     pub(crate) threads: Vec<Thread>,
     pub(crate) hub: Hub<T, TraceCallsite>,
-    /// The stack's handle, where there is a stack.
-    pub(crate) handle: Option<Dispatch>,
+    pub(crate) handles: Vec<Option<Dispatch>>,
+    pub(crate) guards: Vec<Option<DefaultGuard>>,
+    pub(crate) retired: Vec<Option<T>>,
 }
 
 /// It is written down, so that whoever lets a trace's parts go needs no proof of his own for each of its parts.
@@ -33,14 +35,15 @@ impl<T: Drop> Drop for TraceParts<T> {
             alloc: _alloc,
             threads: _threads,
             hub: _hub,
-            handle: _handle,
+            handles: _handles,
+            guards: _guards,
+            retired: _retired,
         } = self;
     }
 }
 
 impl<T: Subscriber> TraceParts<T> {
     ghost use Rattle.span_tracing_steps.specs.TraceInvariant.{IsSound};
-    ghost use Rattle.span_tracing_steps.specs.States.{stack_in};
 
     /// The allocator that was given at first.
     pub fn alloc(&self) -> Global
@@ -49,32 +52,32 @@ impl<T: Subscriber> TraceParts<T> {
         self.alloc
     }
 
-    // The handle that requests of the stack are made by.
-    #[inline(always)]
-    pub(crate) fn weak_handle(&self) -> Option<WeakDispatch>
-        ensures { result ≡ self.now.handle }
-    {
-        match &self.handle {
-            None => None,
-            Some(handle) => Some(handle.downgrade()),
-        }
-    }
-
-    /// The stack, where there is one.
-    pub fn stack(&self) -> Option<&T>
-        ensures { option_copied result ≡ stack_in self.now }
-    {
-        match self.weak_handle() {
-            None => None,
-            Some(handle) => self.hub.subscriber(&handle),
-        }
-    }
-
-    // The same, where it is known that the hub has no other subscriber.
-    pub(crate) fn only_stack(&self) -> Option<&T>
+    /// How many stacks were given.
+    pub fn given(&self) -> usize
         requires { IsSound self.now }
-        ensures { option_copied result ≡ stack_in self.now }
+        ensures { result ≡ (value_in self.now).hub.next }
     {
-        self.hub.first_subscriber()
+        self.retired.len()
+    }
+
+    /// The stack with a number, where somebody holds it.
+    #[inline(always)]
+    pub fn held(&self, number: usize) -> Option<&T>
+        ensures { option_copied result ≡ held_in (value_in self.now) number }
+    {
+        self.hub.subscriber(&weak_of(Some(number as u64)))
+    }
+
+    /// The stack with a number, where somebody holds it, or where it was released and isn't taken yet.
+    pub fn stack(&self, number: usize) -> Option<&T>
+        ensures { option_copied result ≡ stack_in (value_in self.now) number }
+    {
+        match self.held(number) {
+            Some(stack) => Some(stack),
+            None => match self.retired.get(number) {
+                Some(Some(stack)) => Some(stack),
+                Some(None) | None => None,
+            },
+        }
     }
 }

@@ -1,14 +1,16 @@
 //! Events, questions and new spans.
-ghost use Rattle.std.specs.Prelude.{◌≡◌, IsTrue, None, Ok, Some, false, true};
+ghost use Rattle.std.specs.Prelude.{◌≡◌, IsTrue, None, Ok, Some, false};
 ghost use Rattle.tracing_core_fields.specs.IndexedEntries.{plain_entries};
 ghost use Rattle.tracing_core.specs.IndexedRequests.{plain_parent};
 ghost use Rattle.tracing_core_fields.specs.requests.PlainRequests.{explicit_parent};
-ghost use Rattle.span_tracing_skeleton.specs.Machine.{or_refused, told_parent};
+ghost use Rattle.span_tracing_skeleton.specs.Acting.{told_parent};
+ghost use Rattle.span_tracing_skeleton.specs.Looking.{reach};
+ghost use Rattle.span_tracing_skeleton.specs.Machine.{or_refused};
 ghost use Rattle.span_tracing_skeleton.specs.declared.call.Reply.TheVariants.{Done};
 ghost use Rattle.span_tracing_skeleton.specs.PlainData.{EnabledStep, EventStep, SpanStep};
 ghost use Rattle.span_tracing_steps.specs.Actions.{plain_request};
-ghost use Rattle.span_tracing_steps.specs.RequestTarget.{FoundFor, StaysAt};
-ghost use Rattle.span_tracing_steps.specs.States.{at_index, value_in};
+ghost use Rattle.span_tracing_steps.specs.RequestTarget.{FoundFor, GoesTo, StaysAt};
+ghost use Rattle.span_tracing_steps.specs.States.{at_index, skeleton_of, value_in};
 ghost use Rattle.span_tracing_steps.specs.Steps.{StepGives, span_reply};
 ghost use Rattle.span_tracing_steps.specs.StackRequests.{named_as, place_at};
 
@@ -16,7 +18,7 @@ use crate::action::Request;
 use crate::parts::TraceParts;
 use span_tracing_skeleton::{EnabledCall, HasRegistry, Parent, Refusal, Reply, SpanName};
 use tracing_core::{CallsiteIndex, RequestParent};
-use tracing_core_fields::{Id, IndexedValues, RequestError, Subscriber};
+use tracing_core_fields::{Id, IndexedValues, RequestError, Subscriber, serial_of, weak_of};
 use tracing_core_moments::{At, Moment};
 
 /// Where and when.
@@ -59,25 +61,25 @@ fn names_none(parent: Parent) -> bool
     }
 }
 
-// The name of the span that was made.
-fn name_of(id: Option<Id>) -> Option<SpanName>
-    ensures { result ≡ named_as id }
+// The name of the span that a stack made.
+fn name_of(stack: usize, id: Option<Id>) -> Option<SpanName>
+    ensures { result ≡ named_as stack id }
 {
     match id {
         None => None,
         Some(id) => Some(SpanName {
-            stack: 0,
+            stack,
             id: id.into_non_zero_u64(),
         }),
     }
 }
 
 // A parent was looked for, and that ids are left, so that only out of memory is new.
-fn reply_of(made: Result<Option<Id>, RequestError>) -> Reply
-    ensures { result ≡ span_reply made }
+fn reply_of(stack: usize, made: Result<Option<Id>, RequestError>) -> Reply
+    ensures { result ≡ span_reply stack made }
 {
     match made {
-        Ok(id) => Reply::Span(name_of(id)),
+        Ok(id) => Reply::Span(name_of(stack, id)),
         Err(RequestError::IdsSpent) => Reply::Refused(Refusal::IdsSpent),
         Err(_) => Reply::Refused(Refusal::OutOfMemory),
     }
@@ -86,12 +88,31 @@ fn reply_of(made: Result<Option<Id>, RequestError>) -> Reply
 impl<T: Subscriber + HasRegistry> TraceParts<T> {
     ghost use Rattle.span_tracing_steps.specs.TraceInvariant.{IsSound};
 
+    // The stack that has to be told of an event at the callsite of the index: that which the lane reaches, unless it ignores the event.
+    #[inline(always)]
+    fn goes_to(&self, lane: usize, index: CallsiteIndex, parent: Parent) -> Option<usize>
+        ensures { GoesTo ⟦<T as Subscriber>⟧ T.registry_of (value_in self.now) lane index parent result }
+    {
+        let handle = self.hub.reached(lane as u64);
+        match self.hub.subscriber(&handle) {
+            None => None,
+            Some(stack) => {
+                if self.is_ignored(stack, index, parent) {
+                    return None;
+                }
+                match serial_of(&handle) {
+                    None => None,
+                    Some(serial) => Some(serial as usize),
+                }
+            }
+        }
+    }
+
     // Whether the stack stays as it is at each event of the callsite at the index under this parent.
     #[inline(always)]
-    fn ignores(&self, index: CallsiteIndex, parent: Parent) -> bool
-        requires { IsSound self.now }
-        ensures { IsTrue result → StaysAt ⟦<T as Subscriber>⟧ parent (at_index (value_in self.now).callsites (Some
-            index)) (value_in self.now).stack }
+    fn is_ignored(&self, stack: &T, index: CallsiteIndex, parent: Parent) -> bool
+        ensures { IsTrue result → StaysAt ⟦<T as Subscriber>⟧ parent
+            (at_index (skeleton_of T.registry_of (value_in self.now)).callsites (Some index)) stack.now }
     {
         if !names_none(parent) {
             return false;
@@ -99,13 +120,10 @@ impl<T: Subscriber + HasRegistry> TraceParts<T> {
         let Some(metadata) = self.hub.metadata_at(index) else {
             return false;
         };
-        match self.only_stack() {
-            None => false,
-            Some(stack) => stack.ignores(*metadata.level()),
-        }
+        stack.ignores(*metadata.level())
     }
 
-    // Tells the stack of an event that nothing refuses, where the stack is reached and doesn't ignore it.
+    // Tells the reached stack of an event that nothing refuses, where there is one and it doesn't ignore it.
     #[inline(always)]
     fn tell(&mut self, index: CallsiteIndex, event: &Request<'_>)
         requires sound { IsSound self.old }
@@ -115,13 +133,11 @@ impl<T: Subscriber + HasRegistry> TraceParts<T> {
         ensures gives { StepGives ⟦<T as Subscriber>⟧ T.registry_of (value_in self.old) (EventStep
             (plain_request event.now)) Done (value_in self.new) }
     {
-        if !self.hub.has_been_set() {
+        let Some(stack) = self.goes_to(event.lane, index, event.parent) else {
             return;
-        }
-        if self.ignores(index, event.parent) {
-            return;
-        }
+        };
         self.hand(
+            stack,
             index,
             event.lane,
             event.moment,
@@ -131,11 +147,12 @@ impl<T: Subscriber + HasRegistry> TraceParts<T> {
         );
     }
 
-    // Hands an event to the stack, which is reached. It stands out of line, so that an event that the stack ignores saves no registers for
-    // it.
+    // Hands an event to the stack, which the lane reaches. It stands out of line, so that an event that the stack ignores saves no registers
+    // for it.
     #[inline(never)]
     fn hand(
         &mut self,
+        stack: usize,
         index: CallsiteIndex,
         lane: usize,
         moment: Moment,
@@ -145,16 +162,14 @@ impl<T: Subscriber + HasRegistry> TraceParts<T> {
     )
         requires sound { IsSound self.old }
         requires found { FoundFor T.registry_of (value_in self.old) lane moment callsite false parent (Ok index) }
-        requires reached { (value_in self.old).is_global ≡ true }
+        requires reached { reach (skeleton_of T.registry_of (value_in self.old)) lane ≡ Some stack }
         ensures sound { IsSound self.new }
         ensures gives { StepGives ⟦<T as Subscriber>⟧ T.registry_of (value_in self.old) (EventStep
             (record { lane = lane; moment = moment; callsite = callsite; parent = parent; values = plain_entries values.entry }))
             Done (value_in self.new) }
     {
-        let Some(handle) = self.weak_handle() else {
-            unreachable!()
-        };
         // The refusals were looked for, so nothing stands in its way.
+        let handle = weak_of(Some(stack as u64));
         let at = at_of(lane, moment);
         let parent = parent_of(parent);
         let _told = self.hub.event_at(&handle, index, parent, values, at);
@@ -197,7 +212,7 @@ impl<T: Subscriber + HasRegistry> TraceParts<T> {
     pub fn event(&mut self, event: &Request<'_>) -> Reply
         requires { IsSound self.old }
         ensures sound { IsSound self.new }
-        // A refused event changes nothing; any other is done, and the stack takes it where it is the global default.
+        // A refused event changes nothing; any other is done, and the stack that the lane reaches takes it.
         ensures gives { StepGives ⟦<T as Subscriber>⟧ T.registry_of (value_in self.old) (EventStep
             (plain_request event.now)) result (value_in self.new) }
     {
@@ -224,8 +239,7 @@ impl<T: Subscriber + HasRegistry> TraceParts<T> {
     pub fn new_span(&mut self, span: &Request<'_>) -> Reply
         requires { IsSound self.old }
         ensures sound { IsSound self.new }
-        // A refused span changes nothing; else the stack takes it where it is the global default, and its answer is told, or else it
-        // is dropped.
+        // A refused span changes nothing; else the stack that the lane reaches takes it, and its answer is told, or else it is dropped.
         ensures gives { StepGives ⟦<T as Subscriber>⟧ T.registry_of (value_in self.old) (SpanStep
             (plain_request span.now)) result (value_in self.new) }
     {
@@ -233,15 +247,14 @@ impl<T: Subscriber + HasRegistry> TraceParts<T> {
             Err(refusal) => return Reply::Refused(refusal),
             Ok(index) => index,
         };
-        if let Some(refusal) = self.ids_refusal() {
+        let reached = self.reach(span.lane);
+        if let Some(refusal) = self.ids_refusal(reached, span.lane) {
             return Reply::Refused(refusal);
         }
-        if !self.hub.has_been_set() {
+        let Some(stack) = reached else {
             return Reply::Span(None);
-        }
-        let Some(handle) = self.weak_handle() else {
-            unreachable!()
         };
+        let handle = weak_of(Some(stack as u64));
         let at = at_of(span.lane, span.moment);
         let parent = parent_of(span.parent);
         match self
@@ -249,7 +262,7 @@ impl<T: Subscriber + HasRegistry> TraceParts<T> {
             .new_span_at(&handle, index, parent, span.values, at)
         {
             None => unreachable!(),
-            Some(made) => reply_of(made),
+            Some(made) => reply_of(stack, made),
         }
     }
 
@@ -257,8 +270,7 @@ impl<T: Subscriber + HasRegistry> TraceParts<T> {
     pub fn enabled(&mut self, call: &EnabledCall) -> Reply
         requires { IsSound self.old }
         ensures sound { IsSound self.new }
-        // A refused question changes nothing; else the stack is asked where it is the global default, and where it isn't, the answer
-        // is no.
+        // A refused question changes nothing; else the reached stack is asked, and where none is, the answer is no.
         ensures gives { StepGives ⟦<T as Subscriber>⟧ T.registry_of (value_in self.old) (EnabledStep
             call.now) result (value_in self.new) }
     {
@@ -266,13 +278,11 @@ impl<T: Subscriber + HasRegistry> TraceParts<T> {
         if let Some(refusal) = self.enabled_refusal(call, found) {
             return Reply::Refused(refusal);
         }
-        if !self.hub.has_been_set() {
+        let Some(stack) = self.reach(call.lane) else {
             return Reply::Enabled(false);
-        }
-        let Some(index) = found else { unreachable!() };
-        let Some(handle) = self.weak_handle() else {
-            unreachable!()
         };
+        let Some(index) = found else { unreachable!() };
+        let handle = weak_of(Some(stack as u64));
         match self
             .hub
             .enabled_at(&handle, index, at_of(call.lane, call.moment))

@@ -1,8 +1,8 @@
 //! Setup calls, which are no steps.
-ghost use Rattle.std.specs.Prelude.{◌≡◌, ◌++◌, ◌∷◌, [], IfOk, OnErr, OnOk, length, string_bytes};
+ghost use Rattle.std.specs.Prelude.{◌≡◌, IfOk, OnErr, OnOk, length, string_bytes};
 ghost use Rattle.std.specs.Option.{option_map};
 ghost use Rattle.tracing_core_fields.specs.Metadata.{plain_metadata};
-ghost use Rattle.span_tracing_steps.specs.Setup.{AddGives, RegisterGives, own_at};
+ghost use Rattle.span_tracing_steps.specs.Setup.{AddGives, RegisterGives, own_at, with_thread};
 ghost use Rattle.span_tracing_steps.specs.States.{new_state, value_in};
 
 use crate::callsite::TraceCallsite;
@@ -25,7 +25,9 @@ impl<T: Subscriber> TraceParts<T> {
             alloc,
             threads: Vec::new(alloc),
             hub: Hub::new(alloc),
-            handle: None,
+            handles: Vec::new(alloc),
+            guards: Vec::new(alloc),
+            retired: Vec::new(alloc),
         }
     }
 
@@ -34,23 +36,24 @@ impl<T: Subscriber> TraceParts<T> {
     /// # Errors
     ///
     /// Out of memory, which changes nothing.
-    #[tactic(auto, using(crate::proofs::SlotlessRegistry::length_map, crate::proofs::SlotlessRegistry::map_more))]
     pub fn thread(&mut self, name: Option<String>, thread_id: u64) -> Result<usize, AllocError>
         requires { IsSound self.old }
         ensures sound { IsSound self.new }
         ensures number { IfOk result (λ lane. lane ≡ length (value_in self.old).threads) }
-        ensures ok { OnOk result (value_in self.new ≡ record (value_in self.old) {
-          threads = (value_in self.old).threads ++ (record { name = option_map string_bytes name; number = thread_id }) ∷ [];
-        }) }
+        // The lane stands behind the others, with its thread and no default of its own.
+        ensures ok { OnOk result (value_in self.new ≡ with_thread (value_in self.old)
+            (record { name = option_map string_bytes name; number = thread_id })) }
         // Where there is no memory, nothing changes.
         ensures err { OnErr result (value_in self.new ≡ value_in self.old) }
     {
+        self.threads.reserve(1)?;
+        self.hub.thread()?;
         let lane = self.threads.len();
-        self.threads.push(Thread { name, thread_id })?;
+        self.threads.push_reserved(Thread { name, thread_id });
         Ok(lane)
     }
 
-    /// Registers a callsite under an identifier, and answers the interest in it that is kept: what the stack says of it,
+    /// Registers a callsite under an identifier, and answers the interest in it that is kept: what the stacks have in common of it,
     /// and never where there is no stack. Equal metadata may be registered again, which answers the kept interest
     /// and changes nothing.
     ///
@@ -64,7 +67,7 @@ impl<T: Subscriber> TraceParts<T> {
     ) -> Result<Interest, Refusal>
         requires { IsSound self.old }
         ensures sound { IsSound self.new }
-        // A callsite that isn't known is kept behind the others, with its metadata and what the stack says of it; a known one changes
+        // A callsite that isn't known is kept behind the others, with its metadata and what the stacks say of it; a known one changes
         // nothing.
         ensures gives { RegisterGives ⟦<T as Subscriber>⟧ (value_in self.old)
             (own_at identifier.0 (plain_metadata metadata.now)) result (value_in self.new) }
@@ -79,23 +82,30 @@ impl<T: Subscriber> TraceParts<T> {
         }
     }
 
-    /// Takes a stack, where there is none, and asks it of each callsite.
+    /// Takes a stack, asks it of each callsite, and answers the number of its handle.
     ///
     /// # Errors
     ///
     /// Out of memory, which changes nothing and gives the stack back.
-    pub fn add_stack(&mut self, stack: T) -> Result<(), T>
-        requires sound { IsSound self.old }
-        requires none { (value_in self.old).stack ≡ None }
+    pub fn add_stack(&mut self, stack: T) -> Result<usize, T>
+        requires { IsSound self.old }
         ensures sound { IsSound self.new }
         // The stack is told its handle, is asked of each callsite in order and for its hint, and is kept with what it said; where
         // there is no memory, it comes back, and nothing changes.
         ensures gives { AddGives ⟦<T as Subscriber>⟧ (value_in self.old) stack result (value_in self.new) }
     {
+        if self.handles.reserve(1).is_err() {
+            return Err(stack);
+        }
+        if self.retired.reserve(1).is_err() {
+            return Err(stack);
+        }
         match self.hub.add(stack) {
             Ok(handle) => {
-                self.handle = Some(handle);
-                Ok(())
+                let number = self.handles.len();
+                self.handles.push_reserved(Some(handle));
+                self.retired.push_reserved(None);
+                Ok(number)
             }
             Err(AddError::OutOfMemory(stack)) => Err(stack),
             Err(AddError::NumbersSpent(stack)) => Err(stack),

@@ -1,6 +1,6 @@
 //! Calls on spans that are there.
-ghost use Rattle.std.specs.Prelude.{◌≡◌};
-ghost use Rattle.span_tracing_skeleton.specs.PlainData.{CloneStep, CloseStep, EnterStep, ExitStep, FollowsFromStep, GlobalStep, RecordStep};
+ghost use Rattle.std.specs.Prelude.{◌≡◌, Some};
+ghost use Rattle.span_tracing_skeleton.specs.PlainData.{CloneStep, CloseStep, EnterStep, ExitStep, FollowsFromStep, RecordStep};
 ghost use Rattle.span_tracing_steps.specs.Actions.{plain_record};
 ghost use Rattle.span_tracing_steps.specs.States.{value_in};
 ghost use Rattle.span_tracing_steps.specs.Steps.{StepGives};
@@ -8,30 +8,18 @@ ghost use Rattle.span_tracing_steps.specs.Steps.{StepGives};
 use crate::action::RecordRequest;
 use crate::parts::TraceParts;
 use crate::requests::{at_of, id_of};
-use span_tracing_skeleton::{FollowsCall, HasRegistry, Refusal, Reply, SpanCall};
-use tracing_core_fields::Subscriber;
+use span_tracing_skeleton::{FollowsCall, HasRegistry, Refusal, Reply, SpanCall, SpanName};
+use tracing_core_fields::{Subscriber, WeakDispatch, weak_of};
+
+// What requests of a span's stack are made by.
+fn handle_of(name: SpanName) -> WeakDispatch
+    ensures { result ≡ Some name.stack }
+{
+    weak_of(Some(name.stack as u64))
+}
 
 impl<T: Subscriber + HasRegistry> TraceParts<T> {
     ghost use Rattle.span_tracing_steps.specs.TraceInvariant.{IsSound};
-
-    /// Makes the stack with this handle the one that lanes reach.
-    pub fn set_global_default(&mut self, handle: usize) -> Reply
-        requires { IsSound self.old }
-        ensures sound { IsSound self.new }
-        // A refused call changes nothing; else the stack becomes the one that lanes reach, and nothing else changes.
-        ensures gives { StepGives ⟦<T as Subscriber>⟧ T.registry_of (value_in self.old) (GlobalStep handle) result
-            (value_in self.new) }
-    {
-        if let Some(refusal) = self.global_refusal(handle) {
-            return Reply::Refused(refusal);
-        }
-        let Some(dispatch) = &self.handle else {
-            unreachable!()
-        };
-        // It is the stack's own handle, and the first default.
-        let _set = self.hub.set_global_default(dispatch);
-        Reply::Done
-    }
 
     /// Adds values to a span's.
     pub fn record(&mut self, request: &RecordRequest<'_>) -> Reply
@@ -51,9 +39,7 @@ impl<T: Subscriber + HasRegistry> TraceParts<T> {
         let Some(index) = self.callsite_of(name) else {
             return Reply::Done;
         };
-        let Some(handle) = self.weak_handle() else {
-            unreachable!()
-        };
+        let handle = handle_of(name);
         let at = at_of(request.lane, request.moment);
         let _told = self
             .hub
@@ -78,9 +64,7 @@ impl<T: Subscriber + HasRegistry> TraceParts<T> {
         let Some(followed) = call.follows else {
             return Reply::Done;
         };
-        let Some(handle) = self.weak_handle() else {
-            unreachable!()
-        };
+        let handle = handle_of(name);
         let at = at_of(call.lane, call.moment);
         let _told = self
             .hub
@@ -103,9 +87,7 @@ impl<T: Subscriber + HasRegistry> TraceParts<T> {
         let Some(name) = call.span else {
             return Reply::Done;
         };
-        let Some(handle) = self.weak_handle() else {
-            unreachable!()
-        };
+        let handle = handle_of(name);
         match self
             .hub
             .enter(&handle, &id_of(name), at_of(call.lane, call.moment))
@@ -128,9 +110,7 @@ impl<T: Subscriber + HasRegistry> TraceParts<T> {
         let Some(name) = call.span else {
             return Reply::Done;
         };
-        let Some(handle) = self.weak_handle() else {
-            unreachable!()
-        };
+        let handle = handle_of(name);
         self.hub
             .exit(&handle, &id_of(name), at_of(call.lane, call.moment));
         Reply::Done
@@ -150,9 +130,7 @@ impl<T: Subscriber + HasRegistry> TraceParts<T> {
         let Some(name) = call.span else {
             return Reply::Done;
         };
-        let Some(handle) = self.weak_handle() else {
-            unreachable!()
-        };
+        let handle = handle_of(name);
         let _same = self
             .hub
             .clone_span(&handle, &id_of(name), at_of(call.lane, call.moment));
@@ -172,9 +150,7 @@ impl<T: Subscriber + HasRegistry> TraceParts<T> {
         let Some(name) = call.span else {
             return Reply::Closed(false);
         };
-        let Some(handle) = self.weak_handle() else {
-            unreachable!()
-        };
+        let handle = handle_of(name);
         Reply::Closed(
             self.hub
                 .try_close(&handle, id_of(name), at_of(call.lane, call.moment)),

@@ -1,4 +1,6 @@
 //! What remembers the default that a lane had before.
+ghost use Rattle.std.specs.Prelude.{◌≡◌};
+
 use crate::hub::LaneDefault;
 use thiserror::Error;
 
@@ -8,6 +10,15 @@ use thiserror::Error;
 pub struct DefaultGuard {
     pub(crate) lane: u64,
     pub(crate) before: LaneDefault,
+}
+
+impl DefaultGuard {
+    /// The number of the lane whose default it remembers.
+    pub fn lane(&self) -> u64
+        ensures { result ≡ self.now.lane }
+    {
+        self.lane
+    }
 }
 
 /// The guard is of another lane. It comes back.

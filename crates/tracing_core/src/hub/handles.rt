@@ -30,6 +30,13 @@ impl<S, C> Hub<S, C> {
         Ok(Dispatch::new(dispatch.serial()))
     }
 
+    /// Why there can't be a further handle to the same subscriber: it was released, or has as many handles as can be counted.
+    pub fn hold_refusal(&self, dispatch: &WeakDispatch) -> Option<HandleError>
+        ensures { result ≡ hold_refusal dispatch.now self.now.subscribers }
+    {
+        self.further_refusal(serial_of(dispatch))
+    }
+
     /// A handle to the same subscriber that doesn't keep it in the hub.
     pub fn downgrade(&self, dispatch: &Dispatch) -> WeakDispatch
         ensures { result ≡ dispatch.now }

@@ -1,19 +1,10 @@
-use Rattle.std.proofs.Common.{◌≡◌, Bool, false, Option, Some, None, is_some, sym, ap, ◌∙◌}
-use Rattle.std.specs.Prelude.{if◌then◌else◌, slice_get}
-use Rattle.tracing_core_fields.specs.PlainMetadata.{PlainMetadata}
-use Rattle.span_tracing_skeleton.specs.Machine.{if_kind, named}
-use Rattle.span_tracing_steps.specs.States.{callsites_of}
-use Rattle.span_tracing_steps.proofs.Callsites.{index_names, index_there}
+use Rattle.std.proofs.Common.{rules, ◌≡◌, false, true, if◌then◌else◌, IfSome, None, Ok, Some, is_some, ℕ, ◌+◌, ◌-◌, ◌*◌, ◌<◌, ◌≤◌, length, ◌/◌, ◌%◌, Bool, nat_eq, nat_lt, List, [], ◌∷◌, ◌++◌, slice_index_or, slice_set, bit_and, bit_or, Fits, w8, w32, w64, Bor, MutBor}
+use Rattle.span_tracing_skeleton.specs.Looking.{if_kind, known, named}
+use Rattle.span_tracing_steps.specs.RequestTarget.{FoundFor}
+use Rattle.span_tracing_steps.specs.States.{at_index, skeleton_of, value_in}
+use Rattle.span_tracing_steps.specs.TraceInvariant.{IsSound}
 use Rattle.span_tracing_steps.proofs.parts.TraceParts.counted_event.Goals as goal
 
+-- src/finding.rt:83:5
 pub returns-then-is_kind : goal.returns-then-is_kind
-returns-then-is_kind g c =
-    let rows = c.args.self.now.hub.callsites in
-    let found = slice_get (callsites_of rows) c.in-Some.index.0 in
-    let stands = sym c.in-Some.ensures in
-    let names : found ≡ named (callsites_of rows) c.args.number = index_names rows c.args.number (Some c.in-Some.index) c.requires.hub.sites
-    stands in
-    let is : if_kind (named (callsites_of rows) c.args.number) false ≡ found =
-    ap (λ (o : Option PlainMetadata). if_kind o false) (sym names) ∙ c.is_kind.ensures ∙
-    ap (λ (b : Bool). if b then found else None) c.if-is_kind.true in
-    (sym is, ap is_some is ∙ ap is_some names ∙ sym (index_there rows c.args.number (Some c.in-Some.index) c.requires.hub.sites stands))
+returns-then-is_kind g c = ?

@@ -1,29 +1,20 @@
-use Rattle.std.proofs.Common.{Ok, refl, subst, sym, ◌∙◌}
-use Rattle.std.specs.Prelude.{slice_get}
-use Rattle.tracing_core.specs.IndexedRequests.{EventAtGives}
-use Rattle.tracing_core_moments.specs.declared.at.At.{At}
-use Rattle.span_tracing_steps.specs.contracts.callsite.TraceCallsiteCallsite.TheImpl.{ghosts}
-use Rattle.span_tracing_steps.proofs.UnrefusedRequests.{event_given}
+use Rattle.std.proofs.Common.{rules, ◌≡◌, IsTrue, None, Ok, Some, false, ℕ, ◌+◌, ◌-◌, ◌*◌, ◌<◌, ◌≤◌, length, ◌/◌, ◌%◌, Bool, true, nat_eq, nat_lt, List, [], ◌∷◌, ◌++◌, slice_index_or, slice_set, bit_and, bit_or, Fits, w8, w32, w64, Bor, MutBor}
+use Rattle.tracing_core_fields.specs.IndexedEntries.{plain_entries}
+use Rattle.tracing_core.specs.IndexedRequests.{plain_parent}
+use Rattle.tracing_core_fields.specs.requests.PlainRequests.{explicit_parent}
+use Rattle.span_tracing_skeleton.specs.Acting.{told_parent}
+use Rattle.span_tracing_skeleton.specs.Looking.{reach}
+use Rattle.span_tracing_skeleton.specs.Machine.{or_refused}
+use Rattle.span_tracing_skeleton.specs.declared.call.Reply.TheVariants.{Done}
+use Rattle.span_tracing_skeleton.specs.PlainData.{EnabledStep, EventStep, SpanStep}
+use Rattle.span_tracing_steps.specs.Actions.{plain_request}
+use Rattle.span_tracing_steps.specs.RequestTarget.{FoundFor, GoesTo, StaysAt}
+use Rattle.span_tracing_steps.specs.States.{at_index, skeleton_of, value_in}
+use Rattle.span_tracing_steps.specs.Steps.{StepGives, span_reply}
+use Rattle.span_tracing_steps.specs.StackRequests.{named_as, place_at}
+use Rattle.span_tracing_steps.specs.TraceInvariant.{IsSound}
 use Rattle.span_tracing_steps.proofs.parts.TraceParts.hand.Goals as goal
 
-pub returns-clause-sound : goal.returns-clause-sound
-returns-clause-sound g c =
-    (event_given g.T.Subscriber g.T.HasRegistry.registry_of c.args.self.now c.event_at-told.new.self c.in-Some.handle (sym c.weak_handle.ensures ∙ c.in-Some.is)
-    c.requires.sound c.event_at-told.ensures.keeps
-    (record { lane = c.args.lane; moment = c.args.moment; callsite = c.args.callsite; parent = c.args.parent; values = c.args.values })
-    (Ok c.args.index) c.args.index c.parent_of-parent.result c.event_at-told.result
-    c.parent_of-parent.ensures refl c.requires.found c.requires.reached
-    (subst (λ (at : At). EventAtGives g.T.Subscriber ghosts (slice_get c.args.self.now.hub.callsites c.args.index.0) c.args.values
-    c.parent_of-parent.result at c.in-Some.handle c.args.self.now.hub c.event_at-told.result c.event_at-told.new.self)
-    c.at_of-at.ensures c.event_at-told.ensures.gives)).0
-
+-- src/requests.rt:152:5
 pub returns-clause-gives : goal.returns-clause-gives
-returns-clause-gives g c =
-    (event_given g.T.Subscriber g.T.HasRegistry.registry_of c.args.self.now c.event_at-told.new.self c.in-Some.handle (sym c.weak_handle.ensures ∙ c.in-Some.is)
-    c.requires.sound c.event_at-told.ensures.keeps
-    (record { lane = c.args.lane; moment = c.args.moment; callsite = c.args.callsite; parent = c.args.parent; values = c.args.values })
-    (Ok c.args.index) c.args.index c.parent_of-parent.result c.event_at-told.result
-    c.parent_of-parent.ensures refl c.requires.found c.requires.reached
-    (subst (λ (at : At). EventAtGives g.T.Subscriber ghosts (slice_get c.args.self.now.hub.callsites c.args.index.0) c.args.values
-    c.parent_of-parent.result at c.in-Some.handle c.args.self.now.hub c.event_at-told.result c.event_at-told.new.self)
-    c.at_of-at.ensures c.event_at-told.ensures.gives)).1
+returns-clause-gives g c = ?

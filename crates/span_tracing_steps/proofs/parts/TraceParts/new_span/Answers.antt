@@ -1,31 +1,20 @@
-use Rattle.std.proofs.Common.{sym, ◌∙◌, subst}
-use Rattle.std.specs.Prelude.{slice_get}
-use Rattle.tracing_core.specs.IndexedRequests.{SpanAtGives}
-use Rattle.tracing_core_moments.specs.declared.at.At.{At}
-use Rattle.span_tracing_steps.specs.contracts.callsite.TraceCallsiteCallsite.TheImpl.{ghosts}
-use Rattle.span_tracing_steps.proofs.UnrefusedRequests.{span_given}
+use Rattle.std.proofs.Common.{rules, ◌≡◌, IsTrue, None, Ok, Some, false, ℕ, ◌+◌, ◌-◌, ◌*◌, ◌<◌, ◌≤◌, length, ◌/◌, ◌%◌, Bool, true, nat_eq, nat_lt, List, [], ◌∷◌, ◌++◌, slice_index_or, slice_set, bit_and, bit_or, Fits, w8, w32, w64, Bor, MutBor}
+use Rattle.tracing_core_fields.specs.IndexedEntries.{plain_entries}
+use Rattle.tracing_core.specs.IndexedRequests.{plain_parent}
+use Rattle.tracing_core_fields.specs.requests.PlainRequests.{explicit_parent}
+use Rattle.span_tracing_skeleton.specs.Acting.{told_parent}
+use Rattle.span_tracing_skeleton.specs.Looking.{reach}
+use Rattle.span_tracing_skeleton.specs.Machine.{or_refused}
+use Rattle.span_tracing_skeleton.specs.declared.call.Reply.TheVariants.{Done}
+use Rattle.span_tracing_skeleton.specs.PlainData.{EnabledStep, EventStep, SpanStep}
+use Rattle.span_tracing_steps.specs.Actions.{plain_request}
+use Rattle.span_tracing_steps.specs.RequestTarget.{FoundFor, GoesTo, StaysAt}
+use Rattle.span_tracing_steps.specs.States.{at_index, skeleton_of, value_in}
+use Rattle.span_tracing_steps.specs.Steps.{StepGives, span_reply}
+use Rattle.span_tracing_steps.specs.StackRequests.{named_as, place_at}
+use Rattle.span_tracing_steps.specs.TraceInvariant.{IsSound}
 use Rattle.span_tracing_steps.proofs.parts.TraceParts.new_span.Goals as goal
 
-pub returns-clause-sound : goal.returns-clause-sound
-returns-clause-sound g c =
-    (span_given g.T.Subscriber g.T.HasRegistry.registry_of c.args.self.now c.new_span_at.new.self c.in-Some-weak_handle.handle
-    (sym c.weak_handle.ensures ∙ c.in-Some-weak_handle.is) c.requires c.new_span_at.ensures.keeps c.args.span.now c.find_for.result c.in-Ok.index c.parent_of-parent.result
-    c.new_span_at.result c.in-Some-new_span_at.made c.reply_of.result
-    c.parent_of-parent.ensures c.in-Ok.is c.find_for.ensures (sym c.ids_refusal.ensures ∙ c.in_default.is) (sym c.has_been_set.ensures ∙
-    c.if-not-has_been_set.false)
-    c.in-Some-new_span_at.is c.reply_of.ensures
-    (subst (λ (at : At). SpanAtGives g.T.Subscriber ghosts (slice_get c.args.self.now.hub.callsites c.in-Ok.index.0)
-    c.args.span.now.values c.parent_of-parent.result at c.in-Some-weak_handle.handle c.args.self.now.hub c.new_span_at.result
-    c.new_span_at.new.self) c.at_of-at.ensures c.new_span_at.ensures.gives)).0
-
+-- src/requests.rt:239:5
 pub returns-clause-gives : goal.returns-clause-gives
-returns-clause-gives g c =
-    (span_given g.T.Subscriber g.T.HasRegistry.registry_of c.args.self.now c.new_span_at.new.self c.in-Some-weak_handle.handle
-    (sym c.weak_handle.ensures ∙ c.in-Some-weak_handle.is) c.requires c.new_span_at.ensures.keeps c.args.span.now c.find_for.result c.in-Ok.index c.parent_of-parent.result
-    c.new_span_at.result c.in-Some-new_span_at.made c.reply_of.result
-    c.parent_of-parent.ensures c.in-Ok.is c.find_for.ensures (sym c.ids_refusal.ensures ∙ c.in_default.is) (sym c.has_been_set.ensures ∙
-    c.if-not-has_been_set.false)
-    c.in-Some-new_span_at.is c.reply_of.ensures
-    (subst (λ (at : At). SpanAtGives g.T.Subscriber ghosts (slice_get c.args.self.now.hub.callsites c.in-Ok.index.0)
-    c.args.span.now.values c.parent_of-parent.result at c.in-Some-weak_handle.handle c.args.self.now.hub c.new_span_at.result
-    c.new_span_at.new.self) c.at_of-at.ensures c.new_span_at.ensures.gives)).1
+returns-clause-gives g c = ?

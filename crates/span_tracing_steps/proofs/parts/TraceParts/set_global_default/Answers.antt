@@ -1,11 +1,14 @@
-use Rattle.std.proofs.Common.{sym, ◌∙◌}
-use Rattle.span_tracing_steps.specs.States.{value_in}
-use Rattle.span_tracing_steps.proofs.StackCalls.{set_sound}
-use Rattle.span_tracing_steps.proofs.UnrefusedRequests.{unset_by}
+use Rattle.std.proofs.Common.{rules, ◌≡◌, None, slice_get, ℕ, ◌+◌, ◌-◌, ◌*◌, ◌<◌, ◌≤◌, length, ◌/◌, ◌%◌, Bool, true, false, nat_eq, nat_lt, List, [], ◌∷◌, ◌++◌, slice_index_or, slice_set, bit_and, bit_or, Fits, w8, w32, w64, Bor, MutBor}
+use Rattle.tracing_core.specs.Defaults.{guard_of, locally}
+use Rattle.span_tracing_skeleton.specs.Looking.{inner}
+use Rattle.span_tracing_skeleton.specs.Order.{chosen_refusal, default_refusal, further_refusal, global_refusal, reset_refusal}
+use Rattle.span_tracing_skeleton.specs.Refusing.{guard_refusal, handle_refusal, hold_refusal}
+use Rattle.span_tracing_skeleton.specs.PlainData.{CloneHandleStep, DefaultStep, GlobalStep, ReleaseStep, ResetStep}
+use Rattle.span_tracing_steps.specs.States.{skeleton_of, value_in}
+use Rattle.span_tracing_steps.specs.Steps.{StepGives, asked_for, put_away}
+use Rattle.span_tracing_steps.specs.TraceInvariant.{IsSound}
 use Rattle.span_tracing_steps.proofs.parts.TraceParts.set_global_default.Goals as goal
 
-pub returns-clause-sound : goal.returns-clause-sound
-returns-clause-sound g c =
-    set_sound g.T.Subscriber c.args.self.now c.set_global_default-set.new.self c.in-Some-handle.dispatch c.in-Some-handle.is c.requires
-    (unset_by g.T.HasRegistry.registry_of (value_in c.args.self.now) c.args.handle (sym c.global_refusal.ensures ∙ c.in_default.is))
-    c.set_global_default-set.ensures.state c.set_global_default-set.ensures.keeps
+-- src/holds.rt:140:5
+pub returns-clause-gives : goal.returns-clause-gives
+returns-clause-gives g c = ?

@@ -1,9 +1,20 @@
-use Rattle.std.proofs.Common.{Ok, refl, sym, ◌∙◌}
-use Rattle.span_tracing_steps.specs.States.{value_in}
-use Rattle.span_tracing_steps.proofs.UnrefusedRequests.{event_ignored}
+use Rattle.std.proofs.Common.{rules, ◌≡◌, IsTrue, None, Ok, Some, false, ℕ, ◌+◌, ◌-◌, ◌*◌, ◌<◌, ◌≤◌, length, ◌/◌, ◌%◌, Bool, true, nat_eq, nat_lt, List, [], ◌∷◌, ◌++◌, slice_index_or, slice_set, bit_and, bit_or, Fits, w8, w32, w64, Bor, MutBor}
+use Rattle.tracing_core_fields.specs.IndexedEntries.{plain_entries}
+use Rattle.tracing_core.specs.IndexedRequests.{plain_parent}
+use Rattle.tracing_core_fields.specs.requests.PlainRequests.{explicit_parent}
+use Rattle.span_tracing_skeleton.specs.Acting.{told_parent}
+use Rattle.span_tracing_skeleton.specs.Looking.{reach}
+use Rattle.span_tracing_skeleton.specs.Machine.{or_refused}
+use Rattle.span_tracing_skeleton.specs.declared.call.Reply.TheVariants.{Done}
+use Rattle.span_tracing_skeleton.specs.PlainData.{EnabledStep, EventStep, SpanStep}
+use Rattle.span_tracing_steps.specs.Actions.{plain_request}
+use Rattle.span_tracing_steps.specs.RequestTarget.{FoundFor, GoesTo, StaysAt}
+use Rattle.span_tracing_steps.specs.States.{at_index, skeleton_of, value_in}
+use Rattle.span_tracing_steps.specs.Steps.{StepGives, span_reply}
+use Rattle.span_tracing_steps.specs.StackRequests.{named_as, place_at}
+use Rattle.span_tracing_steps.specs.TraceInvariant.{IsSound}
 use Rattle.span_tracing_steps.proofs.parts.TraceParts.tell.Goals as goal
 
-pub returns-then-ignores-clause-gives : goal.returns-then-ignores-clause-gives
-returns-then-ignores-clause-gives g c =
-    event_ignored g.T.Subscriber g.T.HasRegistry.registry_of (value_in c.args.self.now) c.args.event.now (Ok c.args.index) c.args.index refl
-    c.requires.found (sym c.has_been_set.ensures ∙ c.if-not-has_been_set.false) (c.ignores.ensures c.if-ignores.true)
+-- src/requests.rt:137:13
+pub returns-in_default-clause-gives : goal.returns-in_default-clause-gives
+returns-in_default-clause-gives g c = ?

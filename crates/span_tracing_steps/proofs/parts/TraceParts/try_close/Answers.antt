@@ -1,9 +1,0 @@
-use Rattle.std.proofs.Common.{sym, ◌∙◌}
-use Rattle.tracing_core_fields.specs.requests.Calls.{CloseTried}
-use Rattle.span_tracing_steps.proofs.StackCalls.{called_sound}
-use Rattle.span_tracing_steps.proofs.parts.TraceParts.try_close.Goals as goal
-
-pub returns-clause-sound : goal.returns-clause-sound
-returns-clause-sound g c =
-    called_sound g.T.Subscriber c.args.self.now c.try_close.new.self c.in-Some-weak_handle.handle (sym c.weak_handle.ensures ∙ c.in-Some-weak_handle.is) c.requires
-    (CloseTried c.id_of.result c.at_of.result) c.try_close.result c.try_close.ensures.gives c.try_close.ensures.keeps
