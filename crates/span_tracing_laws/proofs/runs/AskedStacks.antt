@@ -2,7 +2,6 @@
 use Rattle.std.proofs.Common.{◌≡◌, inl, inr, ◌==◌, ℕ, Bool, true, false, List, [], ◌∷◌, ◌++◌, Option, Some, None, refl, sym, ap, ◌∙◌, subst}
 use Rattle.std.specs.Prelude.{if◌then◌else◌}
 use Rattle.std.specs.Cmp.{unsigned_Decides}
-use Rattle.std.specs.Option.{option_map}
 use Rattle.tracing_core_fields.specs.PlainMetadata.{PlainMetadata}
 use Rattle.tracing_core_fields.specs.requests.Calls.{CallsiteRegistered, HintAsked}
 use Rattle.tracing_core_fields.specs.requests.Interests.{PlainInterest}
@@ -16,18 +15,15 @@ use Rattle.tracing_core.specs.InterestsAndHints.{Each, Gives, GivesHint, Joins, 
 use Rattle.tracing_core.specs.Table.{Table}
 use Rattle.tracing_core.specs.TableRows.{KeptCallsite, KeptSubscriber}
 use Rattle.tracing_core.proofs.SubscriberNumbers.{absent_above, entry_last}
-use Rattle.span_tracing_laws.proofs.runs.HubStacks.{with_number}
+use Rattle.span_tracing_laws.proofs.runs.HubStacks.{kept_value, with_number}
 
 module _ {T : Type 0} where
   other_if : (b : Bool) (e : KeptSubscriber T) (o p : Option (KeptSubscriber T)) →
-      option_map (λ (k : KeptSubscriber T). k.subscriber) o ≡ option_map (λ (k : KeptSubscriber T). k.subscriber) p →
-      option_map (λ (k : KeptSubscriber T). k.subscriber) (if b then Some e else o) ≡
-      option_map (λ (k : KeptSubscriber T). k.subscriber) (if b then Some e else p)
+      kept_value o ≡ kept_value p → kept_value (if b then Some e else o) ≡ kept_value (if b then Some e else p)
   other_if true e o p later = refl
   other_if false e o p later = later
 
-  last_if : (b : Bool) (d : KeptSubscriber T) → b ≡ false → option_map (λ (k : KeptSubscriber T). k.subscriber)
-      (if b then Some d else None) ≡ None
+  last_if : (b : Bool) (d : KeptSubscriber T) → b ≡ false → kept_value (if b then Some d else None) ≡ None
   last_if true d away = absurd (cc)
   last_if false d away = refl
 
@@ -42,8 +38,7 @@ module _ {T : Type 0} where
   pub appended_own : (next : ℕ) (es : List (KeptSubscriber T)) (z : T) → Ascends 0 (serials es) next →
       with_number next (es ++ living next z ∷ []) ≡ Some z
   appended_own next es z up =
-      ap (λ (o : Option (KeptSubscriber T)). option_map (λ (k : KeptSubscriber T). k.subscriber) o)
-      (entry_last next es (living next z) (absent_above 0 next es up) ((unsigned_Decides next next).1 refl))
+      ap kept_value (entry_last next es (living next z) (absent_above 0 next es up) ((unsigned_Decides next next).1 refl))
 
 module _ {T : Type 0} (Ready : T → Type 0) (Kept : T → T → Type 0) where
   abbrev pub Pair : KeptSubscriber T → KeptSubscriber T → Type 0
@@ -63,9 +58,7 @@ module _ {T : Type 0} (Ready : T → Type 0) (Kept : T → T → Type 0) where
   Alike (Some x) (Some y) = Ready x → Kept x y
 
   alike_if : (b c : Bool) (e f : KeptSubscriber T) (o p : Option (KeptSubscriber T)) → b ≡ c → Pair e f →
-      Alike (option_map (λ (k : KeptSubscriber T). k.subscriber) o) (option_map (λ (k : KeptSubscriber T). k.subscriber) p) →
-      Alike (option_map (λ (k : KeptSubscriber T). k.subscriber) (if b then Some e else o))
-      (option_map (λ (k : KeptSubscriber T). k.subscriber) (if c then Some f else p))
+      Alike (kept_value o) (kept_value p) → Alike (kept_value (if b then Some e else o)) (kept_value (if c then Some f else p))
   alike_if true true e f o p is pair later = pair.1
   alike_if true false e f o p is pair later = absurd (cc)
   alike_if false true e f o p is pair later = absurd (cc)

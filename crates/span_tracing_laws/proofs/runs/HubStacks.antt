@@ -65,18 +65,19 @@ inner_twice None = refl
 inner_twice (Some x) = refl
 
 module _ {T : Type 0} where
-  abbrev pub with_number : ℕ → List (KeptSubscriber T) → Option T
-  with_number m es = option_map (λ (e : KeptSubscriber T). e.subscriber) (subscriber_with m es)
+  abbrev pub kept_value : Option (KeptSubscriber T) → Option T
+  kept_value o = option_map (λ (e : KeptSubscriber T). e.subscriber) o
 
-  pub kept_at : (o : Option (KeptSubscriber T)) (x : T) → option_map (λ (e : KeptSubscriber T). e.subscriber) o ≡ Some x →
-      (e : KeptSubscriber T) × (o ≡ Some e) × (e.subscriber ≡ x)
+  -- the value of the subscriber of the number, where it lives
+  abbrev pub with_number : ℕ → List (KeptSubscriber T) → Option T
+  with_number m es = kept_value (subscriber_with m es)
+
+  pub kept_at : (o : Option (KeptSubscriber T)) (x : T) → kept_value o ≡ Some x → (e : KeptSubscriber T) × (o ≡ Some e) × (e.subscriber ≡ x)
   kept_at None x is = absurd (cc)
   kept_at (Some e) x is = let same : e.subscriber ≡ x = cc in (e, refl, same)
 
   value_if : (b c : Bool) (d e : KeptSubscriber T) (o p : Option (KeptSubscriber T)) → b ≡ c → d.subscriber ≡ e.subscriber →
-      option_map (λ (k : KeptSubscriber T). k.subscriber) o ≡ option_map (λ (k : KeptSubscriber T). k.subscriber) p →
-      option_map (λ (k : KeptSubscriber T). k.subscriber) (if b then Some d else o) ≡
-      option_map (λ (k : KeptSubscriber T). k.subscriber) (if c then Some e else p)
+      kept_value o ≡ kept_value p → kept_value (if b then Some d else o) ≡ kept_value (if c then Some e else p)
   value_if true true d e o p same value later = ap (λ (x : T). Some x) value
   value_if true false d e o p same value later = absurd (cc)
   value_if false true d e o p same value later = absurd (cc)
@@ -103,14 +104,11 @@ module _ {T : Type 0} where
       with_number n (changed n (becomes y) es) ≡ Some y
   became_own n y es x there =
       let kept = kept_at (subscriber_with n es) x there in
-      ap (λ (o : Option (KeptSubscriber T)). option_map (λ (e : KeptSubscriber T). e.subscriber) o)
-      (changed_own n (becomes y) (λ d. refl) es kept.0 kept.1)
+      ap kept_value (changed_own n (becomes y) (λ d. refl) es kept.0 kept.1)
 
   pub became_other : (n : ℕ) (y : T) (es : List (KeptSubscriber T)) (m : ℕ) → (m == n) ≡ false →
       with_number m (changed n (becomes y) es) ≡ with_number m es
-  became_other n y es m apart =
-      ap (λ (o : Option (KeptSubscriber T)). option_map (λ (e : KeptSubscriber T). e.subscriber) o)
-      (changed_other n (becomes y) (λ d. refl) m es apart)
+  became_other n y es m apart = ap kept_value (changed_other n (becomes y) (λ d. refl) m es apart)
 
   -- who is left, and who waits, as a hold is given up
   module _ (n : ℕ) (es : List (KeptSubscriber T)) (end : ℕ) (retired : List (Option T)) (up : Ascends 0 (serials es) end)
@@ -130,12 +128,10 @@ module _ {T : Type 0} where
         or_retired (with_number n es) (slice_get retired n)
     gone_own e there =
         let below : n < end = below_next n 0 end es e up there in
-        let gone : with_number n (without n es) ≡ None = ap (λ (o : Option (KeptSubscriber T)). option_map
-        (λ (k : KeptSubscriber T). k.subscriber) o) (without_own n 0 end es up) in
+        let gone : with_number n (without n es) ≡ None = ap kept_value (without_own n 0 end es up) in
         let waits : slice_get (slice_set retired n (Some e.subscriber)) n ≡ Some (Some e.subscriber) =
         set_own retired n (Some e.subscriber) (omega arith) in
-        let was : with_number n es ≡ Some e.subscriber = ap (λ (o : Option (KeptSubscriber T)). option_map
-        (λ (k : KeptSubscriber T). k.subscriber) o) there in
+        let was : with_number n es ≡ Some e.subscriber = ap kept_value there in
         ap (λ (o : Option T). or_retired o (slice_get (slice_set retired n (Some e.subscriber)) n)) gone ∙
         ap (λ (o : Option (Option T)). or_retired None o) waits ∙
         sym (ap (λ (o : Option T). or_retired o (slice_get retired n)) was)
@@ -144,7 +140,7 @@ module _ {T : Type 0} where
         or_retired (with_number m (without n es)) (slice_get (slice_set retired n (Some e.subscriber)) m) ≡
         or_retired (with_number m es) (slice_get retired m)
     gone_other e m apart =
-        ap (λ (o : Option (KeptSubscriber T)). or_retired (option_map (λ (k : KeptSubscriber T). k.subscriber) o)
+        ap (λ (o : Option (KeptSubscriber T)). or_retired (kept_value o)
         (slice_get (slice_set retired n (Some e.subscriber)) m)) (without_other m n es apart) ∙
         ap (λ (o : Option (Option T)). or_retired (with_number m es) o) (set_other retired n m (Some e.subscriber) apart)
 
@@ -162,12 +158,10 @@ module _ {T : Type 0} where
         by_bool (m == n)
         (λ here.
         let number : m ≡ n = (unsigned_Decides m n).0 here in
-        let gone : with_number n (without n es) ≡ None = ap (λ (o : Option (KeptSubscriber T)). option_map
-        (λ (k : KeptSubscriber T). k.subscriber) o) (without_own n 0 end es up) in
+        let gone : with_number n (without n es) ≡ None = ap kept_value (without_own n 0 end es up) in
         let clash : None ≡ Some x = sym gone ∙ subst (λ k. with_number k (without n es) ≡ Some x) number left in
         absurd (cc))
-        (λ apart. sym (ap (λ (o : Option (KeptSubscriber T)). option_map (λ (k : KeptSubscriber T). k.subscriber) o)
-        (without_other m n es apart)) ∙ left)
+        (λ apart. sym (ap kept_value (without_other m n es apart)) ∙ left)
 
     one_less_both : Both (None, changed n one_less es)
     one_less_both = (
@@ -199,7 +193,7 @@ module _ {T : Type 0} where
   becoming stack y v = record v { hub = record v.hub { subscribers = changed stack (becomes y) v.hub.subscribers } }
 
   stack_if : (b : Bool) (n : ℕ) (e : KeptSubscriber T) (es rest : List (KeptSubscriber T)) (x : T) →
-      option_map (λ (k : KeptSubscriber T). k.subscriber) (if b then Some e else subscriber_with n es) ≡ Some x →
+      kept_value (if b then Some e else subscriber_with n es) ≡ Some x →
       (with_number n es ≡ Some x → rest ≡ es) → (if b then becomes x e ∷ es else e ∷ rest) ≡ e ∷ es
   stack_if true n e es rest x is later =
       let same : e.subscriber ≡ x = cc in ap (λ (z : T). becomes z e ∷ es) (sym same)
@@ -230,7 +224,7 @@ module _ {T : Type 0} where
 
   module _ (g : Ghosts T) where
     moves_at : (c : Call) (r : ReplyTo c) (stack : ℕ) (es fs : List (KeptSubscriber T)) (o : Option (KeptSubscriber T)) (x : T) →
-        option_map (λ (e : KeptSubscriber T). e.subscriber) o ≡ Some x → CallGivesAt g c (Some stack) es o r fs →
+        kept_value o ≡ Some x → CallGivesAt g c (Some stack) es o r fs →
         (y : T) × g.moves x c r y × (fs ≡ changed stack (becomes y) es)
     moves_at c r stack es fs None x is given = absurd (cc)
     moves_at c r stack es fs (Some e) x is given =
@@ -324,8 +318,7 @@ module _ {T : Type 0} (registry_of : T → RegistryValue) where
   stack_at m [] = refl
   stack_at m (e ∷ es) = with_if (is_of m e) e (stack_with m (map hs es)) (subscriber_with m es) (stack_at m es)
 
-  registry_kept : (o : Option (KeptSubscriber T)) (x : T) → option_map (λ (e : KeptSubscriber T). e.subscriber) o ≡ Some x →
-      registry_in (option_map hs o) ≡ bare (registry_of x)
+  registry_kept : (o : Option (KeptSubscriber T)) (x : T) → kept_value o ≡ Some x → registry_in (option_map hs o) ≡ bare (registry_of x)
   registry_kept None x is = absurd (cc)
   registry_kept (Some e) x is = let same : e.subscriber ≡ x = cc in ap (λ (z : T). bare (registry_of z)) same
 
@@ -335,8 +328,7 @@ module _ {T : Type 0} (registry_of : T → RegistryValue) where
   registry_there v stack x there = ap registry_in (stack_at stack v.hub.subscribers) ∙
       registry_kept (subscriber_with stack v.hub.subscribers) x there
 
-  held_by : (o : Option (KeptSubscriber T)) → is_some (option_map hs o) ≡ true →
-      (x : T) × (option_map (λ (e : KeptSubscriber T). e.subscriber) o ≡ Some x)
+  held_by : (o : Option (KeptSubscriber T)) → is_some (option_map hs o) ≡ true → (x : T) × (kept_value o ≡ Some x)
   held_by None is = absurd (cc)
   held_by (Some e) is = (e.subscriber, refl)
 
