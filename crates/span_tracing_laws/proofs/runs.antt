@@ -1,3 +1,5 @@
+pub mod HubStacks
+pub mod AskedStacks
 pub mod UnrefusedSteps
 pub mod StepFollows
 pub mod Runs

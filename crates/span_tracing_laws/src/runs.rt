@@ -13,8 +13,8 @@ use span_tracing_outputs::{
 use tracing_appender_rolling::Folder;
 use tracing_core_fields::Subscriber;
 
-/// Setup calls leave a stack ready for steps. Its outputs agree with the machines that they agreed with, and its filters, layers and
-/// sinks are as they were.
+/// Setup calls leave a trace ready for steps. The outputs of each stack, also of one that is added, agree with the machines that they
+/// agreed with, and its filters, layers and sinks are as they were.
 pub fn setup_follows<N: FormatFields + Drop, E: FormatEvent, F: Filter, S: LineSink>()
     ensures { SetupFollows ⟦<N as FormatFields>⟧ E.line_of ⟦<F as Filter>⟧ S.takes
         ⟦<Layer<N, E, PendingLines> as span_registry_layers_layers::Layer>⟧
@@ -23,7 +23,8 @@ pub fn setup_follows<N: FormatFields + Drop, E: FormatEvent, F: Filter, S: LineS
     trace_follows::<N, E, F, S>();
 }
 
-/// A step of a trace over a stack of outputs with sinks goes as the skeleton and the output machines do.
+/// A step of a trace over stacks of outputs with sinks goes as the skeleton and the output machines of each stack do, also of one that was
+/// released and isn't taken yet.
 pub fn steps_follow<N: FormatFields + Drop, E: FormatEvent, F: Filter, S: LineSink>()
     ensures { StepsFollow ⟦<N as FormatFields>⟧ E.line_of ⟦<F as Filter>⟧ S.takes
         ⟦<Layer<N, E, PendingLines> as span_registry_layers_layers::Layer>⟧
@@ -33,9 +34,9 @@ pub fn steps_follow<N: FormatFields + Drop, E: FormatEvent, F: Filter, S: LineSi
 }
 
 /// A run of steps goes as the skeleton and the output machines do: from each plain state that the trace agrees with, the
-/// replies are the plain ones, the trace agrees with the plain state afterwards, and each output's sink took exactly the
-/// lines of the output's machine, in order, each with where and when it was handed over. A step that found no memory did
-/// nothing.
+/// replies are the plain ones, the trace agrees with the plain state afterwards, and of each stack each output's sink took
+/// exactly the lines of the output's machine, in order, each with where and when it was handed over. A step that found no
+/// memory did nothing.
 pub fn runs_follow<N: FormatFields + Drop, E: FormatEvent, F: Filter, S: LineSink>()
     ensures { RunsFollow ⟦<N as FormatFields>⟧ E.line_of ⟦<F as Filter>⟧ S.takes
         ⟦<Layer<N, E, PendingLines> as span_registry_layers_layers::Layer>⟧

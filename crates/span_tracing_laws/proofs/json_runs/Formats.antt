@@ -15,6 +15,7 @@ use Rattle.span_tracing_outputs.specs.LayerAgreement.{Matches}
 use Rattle.span_tracing_outputs.specs.OutputFolds.{EachAgrees, Numbered}
 use Rattle.span_tracing_outputs.specs.TraceStacks.{TraceStackValue}
 use Rattle.span_tracing_outputs.specs.Turns.{Lined, own}
+use Rattle.span_tracing_steps.specs.States.{stack_in}
 use Rattle.span_tracing_laws.specs.json.Formats.{JsonFormatWritesObjects}
 use Rattle.span_tracing_laws.specs.json.Objects.{IsJsonOut, KeepsJson, WritesEach}
 use Rattle.span_tracing_laws.specs.runs.Runs.{OutsAgree, StepWithMask, steps_of}
@@ -56,6 +57,6 @@ module _ {T F D : Type 0} (contents : D → Option Contents) (failed : D → ℕ
     PlainContext → PlainEvent → Option (List ℕ)) (g : FilterGhosts F) (writes : JsonFormatWritesObjects n line_of)
     (hold : JsonFilesHoldObjects contents failed n line_of g) where
   pub format_files_hold : JsonFormatFilesHoldObjects contents failed n line_of g
-  format_files_hold v turns w stand p agrees skeleton range place o at has kept lines quiet =
-      let json = json_there n line_of g writes v.stack p.outs place o agrees.1 has at kept in
-      hold v turns w stand p agrees skeleton range place o at (json.0, lines) (untold o turns json.1 quiet)
+  format_files_hold v turns w stand p agrees skeleton range stack place o at has kept lines quiet =
+      let json = json_there n line_of g writes (stack_in v stack) (p.outs stack) place o (agrees.1 stack) has at kept in
+      hold v turns w stand p agrees skeleton range stack place o at (json.0, lines) (untold o turns json.1 quiet)

@@ -70,10 +70,11 @@ module _ {D : Type 0} (contents : D → Option Contents) where
 module _ {N E F D : Type 0} (contents : D → Option Contents) (failed : D → ℕ) (n : Ghosts N) (line_of : E → Settings → PlainContext →
     PlainEvent → Option (List ℕ)) (g : FilterGhosts F) (runs : JsonOutputsRun n) (files : FilesHoldObjects) (give : LinesGiveObjects) where
   pub files_hold : JsonFilesHoldObjects contents failed n line_of g
-  files_hold v turns w stand p agrees skeleton range place o at json quiet number olds news old new before after old_is new_is none s keeps
-      handed c known name found =
-      let (run, run_is, (led, lines)) = stand p agrees place number olds news old new before after old_is new_is none s keeps c known in
+  files_hold v turns w stand p agrees skeleton range stack place o at json quiet number olds news old new before after old_is new_is none s
+      keeps handed c known name found =
+      let (run, run_is, (led, lines)) =
+      stand p agrees stack place number olds news old new before after old_is new_is none s keeps c known in
       let objects : AreObjectsRun run = subst (λ (x : Option (List (At × PlainLine))). IfSome x AreObjectsRun) run_is
-      (runs p turns skeleton range place o at json quiet) in
+      (runs p turns skeleton range stack place o at json quiet) in
       file_holds contents files give (sent_to olds.route number run) s old.appender new.appender led c lines
       (sent_are olds.route number run objects) handed name found

@@ -2,14 +2,14 @@
 use Rattle.std.proofs.Common.{◌==◌, ℕ, Bool, true, false, if◌then◌else◌, List, [], ◌∷◌, Option, Some, None, IfSome}
 use Rattle.std.proofs.ByRecursion.{All-append, all_kept_by}
 use Rattle.std.specs.List.{AllByRecursion}
-use Rattle.std.specs.Prelude.{get_or, nat_lt, length, set, suc, zero}
+use Rattle.std.specs.Prelude.{nat_le, nat_lt, length}
 use Rattle.tracing_core_fields.specs.PlainMetadata.{PlainMetadata}
 use Rattle.tracing_core_fields.specs.PlainValue.{PlainValue, debug_of}
 use Rattle.tracing_core_fields.specs.requests.PlainRequests.{PlainEvent}
 use Rattle.tracing_core_moments.specs.declared.at.At.{At}
 use Rattle.span_registry_layers_store.specs.SlotIndependence.{ids_of}
 use Rattle.span_registry_layers_store.specs.RegistryCalls.{dropped}
-use Rattle.span_registry_layers_store.specs.Registries.{PlainSpan, RegistryValue, closing_in, kin_in, new_registry, one_less, one_more}
+use Rattle.span_registry_layers_store.specs.Registries.{PlainSpan, RegistryValue, closing_in, kin_in, one_less, one_more}
 use Rattle.span_registry_layers_store.specs.Registries.{with_span, without_entry, without_handle}
 use Rattle.span_registry_layers_store.specs.Spans.{changed, found, keep_if, open_of, stays}
 use Rattle.span_registry_layers_store.specs.Views.{seen, seen_if, sees}
@@ -18,12 +18,19 @@ use Rattle.span_tracing_outputs.specs.OutputNotices.{Notice, call_told, closes_t
 use Rattle.span_tracing_outputs.specs.OutputNotices.{sweep_told}
 use Rattle.span_tracing_outputs.specs.OutputMachines.{Call, Closed, Entered, Happened, Left, Made, OnSpan, Recorded, Said}
 use Rattle.span_tracing_outputs.specs.OutputFolds.{Numbered, call_lists, event_lists}
-use Rattle.span_tracing_skeleton.specs.Machine.{acted, after, callsite_of, cloned, entered, given_up, if_kind, is_kind, known, left}
-use Rattle.span_tracing_skeleton.specs.Machine.{made_by, named, or_same, parent_id, reached, reached_by, refusal_of, registry_at, with_made}
-use Rattle.span_tracing_skeleton.specs.Machine.{with_made_by, with_registry}
+use Rattle.span_tracing_skeleton.specs.Acting as acting
+use Rattle.span_tracing_skeleton.specs.Acting.{asked_for, cloned, entered, given_up, held, left, let_go, let_go_at, made_by, parent_id}
+use Rattle.span_tracing_skeleton.specs.Acting.{restored}
+use Rattle.span_tracing_skeleton.specs.Acting.{with_made, with_registry}
+use Rattle.span_tracing_skeleton.specs.Looking.{callsite_of, chosen, default_of, guard_at, if_kind, is_kind, known, named, reach}
+use Rattle.span_tracing_skeleton.specs.Looking.{registry_at}
+use Rattle.span_tracing_skeleton.specs.Looking.{registry_in, stack_behind, stack_with}
+use Rattle.span_tracing_skeleton.specs.Machine.{acted, after, or_same}
+use Rattle.span_tracing_skeleton.specs.Order.{refusal_of}
 use Rattle.span_tracing_skeleton.specs.PlainData.{PlainStep, Request, RecordRequest, GlobalStep, EventStep, EnabledStep, SpanStep}
-use Rattle.span_tracing_skeleton.specs.PlainData.{RecordStep, FollowsFromStep, EnterStep, ExitStep, CloneStep, CloseStep}
-use Rattle.span_tracing_skeleton.specs.Skeleton.{Skeleton, Answers, Unasked, Wanted, Dropped, Passed, Heard}
+use Rattle.span_tracing_skeleton.specs.PlainData.{RecordStep, FollowsFromStep, EnterStep, ExitStep, CloneStep, CloseStep, DefaultStep}
+use Rattle.span_tracing_skeleton.specs.PlainData.{ResetStep, CloneHandleStep, ReleaseStep}
+use Rattle.span_tracing_skeleton.specs.Skeleton.{GuardValue, HeldStack, Skeleton, Answers, Unasked, Wanted, Dropped, Passed, Heard}
 use Rattle.span_tracing_skeleton.specs.declared.call.SpanCall.{SpanCall}
 use Rattle.span_tracing_skeleton.specs.declared.call.SpanName.{SpanName}
 use Rattle.span_tracing_skeleton.specs.declared.refusal.Refusal.{Refusal}
@@ -100,48 +107,86 @@ with_span_is : (x : RegistryValue) (m : PlainMetadata) (parent : Option ℕ) (pa
     SpansInRange (with_span x m parent passed).spans
 with_span_is x m parent passed all is = All-append IsSpanInRange x.spans _ all (is, tt)
 
-abbrev IsRegistryInRange : RegistryValue → Type 0
-IsRegistryInRange x = SpansInRange x.spans
+abbrev IsHeldInRange : HeldStack → Type 0
+IsHeldInRange k = SpansInRange k.registry.spans
 
-stack_is : (xs : List RegistryValue) (stack : ℕ) → AllByRecursion IsRegistryInRange xs → SpansInRange (get_or xs stack new_registry).spans
+abbrev AreHeldInRange : List HeldStack → Type 0
+AreHeldInRange ks = AllByRecursion IsHeldInRange ks
+
+registry_if : (same : Bool) (k : HeldStack) (o : Option HeldStack) → IsHeldInRange k → SpansInRange (registry_in o).spans →
+    SpansInRange (registry_in (if same then Some k else o)).spans
+registry_if true k o is later = is
+registry_if false k o is later = later
+
+stack_is : (ks : List HeldStack) (stack : ℕ) → AreHeldInRange ks → SpansInRange (registry_in (stack_with stack ks)).spans
 stack_is [] stack all = tt
-stack_is (x ∷ xs) zero all = all.0
-stack_is (x ∷ xs) (suc stack) all = stack_is xs stack all.1
+stack_is (k ∷ ks) stack all = registry_if (k.number == stack) k (stack_with stack ks) all.0 (stack_is ks stack all.1)
 
-other_is : (xs : List RegistryValue) (stack : ℕ) (y : RegistryValue) → AllByRecursion IsRegistryInRange xs → SpansInRange y.spans →
-    AllByRecursion IsRegistryInRange (set xs stack y)
-other_is [] stack y all is = tt
-other_is (x ∷ xs) zero y all is = (is, all.1)
-other_is (x ∷ xs) (suc stack) y all is = (all.0, other_is xs stack y all.1 is)
+module _ (f : HeldStack → HeldStack) (keeps : (k : HeldStack) → IsHeldInRange k → IsHeldInRange (f k)) where
+  other_is : (ks : List HeldStack) (stack : ℕ) → AreHeldInRange ks → AreHeldInRange (acting.changed stack f ks)
+  other_is [] stack all = tt
+  other_is (k ∷ ks) stack all = by_test (k.number == stack) (acting.changed stack f ks) (other_is ks stack all.1)
+    where
+      by_test : (same : Bool) (later : List HeldStack) → AreHeldInRange later → AreHeldInRange (if same then f k ∷ ks else k ∷ later)
+      by_test true later rest = (keeps k all.0, all.1)
+      by_test false later rest = (all.0, rest)
+
+without_is : (ks : List HeldStack) (stack : ℕ) → AreHeldInRange ks → AreHeldInRange (acting.without stack ks)
+without_is [] stack all = tt
+without_is (k ∷ ks) stack all = by_test (k.number == stack) (acting.without stack ks) (without_is ks stack all.1)
+  where
+    by_test : (same : Bool) (later : List HeldStack) → AreHeldInRange later → AreHeldInRange (if same then ks else k ∷ later)
+    by_test true later rest = all.1
+    by_test false later rest = (all.0, rest)
+
+held_is : (o : Option ℕ) (ks : List HeldStack) → AreHeldInRange ks → AreHeldInRange (held o ks)
+held_is None ks all = all
+held_is (Some stack) ks all = other_is acting.one_more (λ k is. is) ks stack all
+
+let_go_if : (last : Bool) (stack : ℕ) (ks : List HeldStack) → AreHeldInRange ks →
+    AreHeldInRange (if last then acting.without stack ks else acting.changed stack acting.one_less ks)
+let_go_if true stack ks all = without_is ks stack all
+let_go_if false stack ks all = other_is acting.one_less (λ k is. is) ks stack all
+
+let_go_in : (stack : ℕ) (ks : List HeldStack) (o : Option HeldStack) → AreHeldInRange ks → AreHeldInRange (let_go_at stack ks o)
+let_go_in stack ks None all = all
+let_go_in stack ks (Some k) all = let_go_if (nat_le k.holds 1) stack ks all
+
+let_go_is : (o : Option ℕ) (ks : List HeldStack) → AreHeldInRange ks → AreHeldInRange (let_go o ks)
+let_go_is None ks all = all
+let_go_is (Some stack) ks all = let_go_in stack ks (stack_with stack ks) all
 
 spans_are : (s : Skeleton) (stack : ℕ) → IsSkeletonInRange s → SpansInRange (registry_at s stack).spans
 spans_are s stack range = stack_is s.stacks stack range.spans
 
-reached_is : (s : Skeleton) (default : Option ℕ) → IsSkeletonInRange s → SpansInRange (reached_by s default).spans
-reached_is s None range = tt
-reached_is s (Some stack) range = spans_are s stack range
-
 with_is : (s : Skeleton) (stack : ℕ) (y : RegistryValue) → IsSkeletonInRange s → SpansInRange y.spans →
     IsSkeletonInRange (with_registry s stack y)
-with_is s stack y range is = record { callsites = range.callsites; spans = other_is s.stacks stack y range.spans is }
+with_is s stack y range is = record {
+  callsites = range.callsites;
+  spans = other_is (λ (k : HeldStack). record k { registry = y }) (λ k old. is) s.stacks stack range.spans;
+}
 
-made_in : (default : Option ℕ) (s : Skeleton) (n : Request) (o : Option PlainMetadata) (passed : List Bool) → IfSome o IsPlaceInRange →
-    IsSkeletonInRange s → IsSkeletonInRange (with_made_by default s n o passed)
-made_in None s n o passed is range = range
-made_in (Some stack) s n None passed is range = range
-made_in (Some stack) s n (Some m) passed is range =
+made_is : (s : Skeleton) (o : Option ℕ) (n : Request) (k : Option PlainMetadata) (passed : List Bool) → IfSome k IsPlaceInRange →
+    IsSkeletonInRange s → IsSkeletonInRange (with_made s o n k passed)
+made_is s None n k passed is range = range
+made_is s (Some stack) n None passed is range = range
+made_is s (Some stack) n (Some m) passed is range =
     with_is s stack _ range (with_span_is (registry_at s stack) m (parent_id (registry_at s stack) n.lane n.parent) passed
     (spans_are s stack range) is)
 
-made_is : (s : Skeleton) (n : Request) (o : Option PlainMetadata) (passed : List Bool) → IfSome o IsPlaceInRange → IsSkeletonInRange s →
-    IsSkeletonInRange (with_made s n o passed)
-made_is s n o passed is range = made_in s.default s n o passed is range
+restored_is : (s : Skeleton) (lane guard : ℕ) (o : Option GuardValue) → IsSkeletonInRange s → IsSkeletonInRange (restored s lane guard o)
+restored_is s lane guard None range = range
+restored_is s lane guard (Some g) range = record {
+  callsites = range.callsites;
+  spans = let_go_is (chosen (default_of s lane)) s.stacks range.spans;
+}
 
 made_by_is : (s : Skeleton) (n : Request) (a : Answers) → IsSkeletonInRange s → IsSkeletonInRange (made_by s n a)
 made_by_is s n Unasked range = range
 made_by_is s n (Wanted b) range = range
 made_by_is s n Dropped range = range
-made_by_is s n (Passed passed) range = made_is s n (known s n.callsite true) passed (known_is s n.callsite true range) range
+made_by_is s n (Passed passed) range =
+    made_is s (reach s n.lane) n (known s n.callsite true) passed (known_is s n.callsite true range) range
 made_by_is s n (Heard passed told) range = range
 
 cloned_is : (s : Skeleton) (o : Option SpanName) → IsSkeletonInRange s → IsSkeletonInRange (cloned s o)
@@ -164,7 +209,10 @@ given_up_is s (Some name) range =
     (changed_is one_less (λ x is. is) (registry_at s name.stack).spans name.id.value (spans_are s name.stack range)))
 
 acted_is : (s : Skeleton) (step : PlainStep) (a : Answers) → IsSkeletonInRange s → IsSkeletonInRange (acted s step a)
-acted_is s (GlobalStep handle) a range = record { callsites = range.callsites; spans = range.spans }
+acted_is s (GlobalStep handle) a range = record {
+  callsites = range.callsites;
+  spans = held_is (stack_behind s handle) s.stacks range.spans;
+}
 acted_is s (EventStep e) a range = range
 acted_is s (EnabledStep call) a range = range
 acted_is s (SpanStep n) a range = made_by_is s n a range
@@ -174,6 +222,19 @@ acted_is s (EnterStep call) a range = entered_is s call.lane call.span range
 acted_is s (ExitStep call) a range = left_is s call.lane call.span range
 acted_is s (CloneStep call) a range = cloned_is s call.span range
 acted_is s (CloseStep call) a range = given_up_is s call.span range
+acted_is s (DefaultStep call) a range = record {
+  callsites = range.callsites;
+  spans = held_is (asked_for s call.handle) s.stacks range.spans;
+}
+acted_is s (ResetStep call) a range = restored_is s call.lane call.guard (guard_at s call.guard) range
+acted_is s (CloneHandleStep handle) a range = record {
+  callsites = range.callsites;
+  spans = held_is (stack_behind s handle) s.stacks range.spans;
+}
+acted_is s (ReleaseStep handle) a range = record {
+  callsites = range.callsites;
+  spans = let_go_is (stack_behind s handle) s.stacks range.spans;
+}
 
 same_or : (o : Option Refusal) (s t : Skeleton) → IsSkeletonInRange s → IsSkeletonInRange t → IsSkeletonInRange (or_same o s t)
 same_or None s t old new = new
@@ -239,27 +300,30 @@ module _ (Q : PlainEvent → Type 0) where
 
   module _ (N : Type 0) (R : List (ℕ × PlainValue) → Type 0) (event_is : (m : PlainMetadata) (r : Request) → IsPlaceInRange m → R r.values →
       Q (request_of m r)) where
-    event_told_is : (s : Skeleton) (e : Request) (o : Option PlainMetadata) (a : Answers) → IfSome o IsPlaceInRange → R e.values →
-        IfSome (event_told_by N s e o a) ListsAreSaid
-    event_told_is s e None a is brings = tt
-    event_told_is s e (Some m) Unasked is brings = tt
-    event_told_is s e (Some m) (Wanted b) is brings = tt
-    event_told_is s e (Some m) Dropped is brings = tt
-    event_told_is s e (Some m) (Passed passed) is brings = tt
-    event_told_is s e (Some m) (Heard passed told) is brings = λ outs. events_are_said (reached s) (place_at e.lane e.moment)
-        (request_of m e) told outs (event_is m e is brings)
+    event_told_is : (s : Skeleton) (e : Request) (o : Option ℕ) (k : Option PlainMetadata) (a : Answers) → IfSome k IsPlaceInRange →
+        R e.values → IfSome (event_told_by N s e o k a) ListsAreSaid
+    event_told_is s e None k a is brings = tt
+    event_told_is s e (Some stack) None a is brings = tt
+    event_told_is s e (Some stack) (Some m) Unasked is brings = tt
+    event_told_is s e (Some stack) (Some m) (Wanted b) is brings = tt
+    event_told_is s e (Some stack) (Some m) Dropped is brings = tt
+    event_told_is s e (Some stack) (Some m) (Passed passed) is brings = tt
+    event_told_is s e (Some stack) (Some m) (Heard passed told) is brings =
+        λ outs. events_are_said (registry_at s stack) (place_at e.lane e.moment) (request_of m e) told outs (event_is m e is brings)
 
-    span_told_is : (s : Skeleton) (n : Request) (o : Option PlainMetadata) (a : Answers) → IfSome o IsPlaceInRange → IsSkeletonInRange s →
-        ValuesInRange n.values → IfSome (span_told_by N s n o a) ListsAreSaid
-    span_told_is s n None a is range brings = tt
-    span_told_is s n (Some m) Unasked is range brings = tt
-    span_told_is s n (Some m) (Wanted b) is range brings = tt
-    span_told_is s n (Some m) Dropped is range brings = tt
-    span_told_is s n (Some m) (Passed passed) is range brings =
-        λ outs. calls_are_said _ outs (λ number. span_is_said _ (place_at n.lane n.moment) (Made (request_of m n)) (reached s).next_id
-        number (with_span_is (reached s) m (parent_id (reached s) n.lane n.parent) passed (reached_is s s.default range) is)
+    span_told_is : (s : Skeleton) (n : Request) (o : Option ℕ) (k : Option PlainMetadata) (a : Answers) → IfSome k IsPlaceInRange →
+        IsSkeletonInRange s → ValuesInRange n.values → IfSome (span_told_by N s n o k a) ListsAreSaid
+    span_told_is s n None k a is range brings = tt
+    span_told_is s n (Some stack) None a is range brings = tt
+    span_told_is s n (Some stack) (Some m) Unasked is range brings = tt
+    span_told_is s n (Some stack) (Some m) (Wanted b) is range brings = tt
+    span_told_is s n (Some stack) (Some m) Dropped is range brings = tt
+    span_told_is s n (Some stack) (Some m) (Passed passed) is range brings =
+        let x = registry_at s stack in
+        λ outs. calls_are_said _ outs (λ number. span_is_said _ (place_at n.lane n.moment) (Made (request_of m n)) x.next_id
+        number (with_span_is x m (parent_id x n.lane n.parent) passed (spans_are s stack range) is)
         (own_in_range m n.values brings))
-    span_told_is s n (Some m) (Heard passed told) is range brings = tt
+    span_told_is s n (Some stack) (Some m) (Heard passed told) is range brings = tt
 
     values_told_is : (s : Skeleton) (r : RecordRequest) (name : SpanName) (o : Option PlainMetadata) → IsSkeletonInRange s →
         ValuesInRange r.values → IfSome (values_told_by N s r name o) ListsAreSaid
@@ -298,15 +362,21 @@ module _ (Q : PlainEvent → Type 0) where
     told_is : (s : Skeleton) (step : PlainStep) (a : Answers) → IsSkeletonInRange s → Brings R ValuesInRange step →
         IfSome (told_by N s step a) ListsAreSaid
     told_is s (GlobalStep handle) a range brings = tt
-    told_is s (EventStep e) a range brings = event_told_is s e (known s e.callsite false) a (known_is s e.callsite false range) brings
+    told_is s (EventStep e) a range brings = event_told_is s e (reach s e.lane) (known s e.callsite false) a
+        (known_is s e.callsite false range) brings
     told_is s (EnabledStep call) a range brings = tt
-    told_is s (SpanStep n) a range brings = span_told_is s n (known s n.callsite true) a (known_is s n.callsite true range) range brings
+    told_is s (SpanStep n) a range brings = span_told_is s n (reach s n.lane) (known s n.callsite true) a
+        (known_is s n.callsite true range) range brings
     told_is s (RecordStep r) a range brings = record_told_is s r r.span range brings
     told_is s (FollowsFromStep call) a range brings = tt
     told_is s (EnterStep call) a range brings = enter_told_is s call call.span range
     told_is s (ExitStep call) a range brings = exit_told_is s call call.span range
     told_is s (CloneStep call) a range brings = tt
     told_is s (CloseStep call) a range brings = close_told_is s call call.span range
+    told_is s (DefaultStep call) a range brings = tt
+    told_is s (ResetStep call) a range brings = tt
+    told_is s (CloneHandleStep handle) a range brings = tt
+    told_is s (ReleaseStep handle) a range brings = tt
 
     unless_refused : (o : Option Refusal) (told : Option (Told N)) → IfSome told ListsAreSaid → IfSome (or_same o None told) ListsAreSaid
     unless_refused None told is = is

@@ -1,5 +1,6 @@
 -- The lines of a JSON output over a run.
-use Rattle.std.proofs.Common.{◌≡◌, inl, inr, ℕ, zero, suc, Bool, true, false, ◌||◌, if◌then◌else◌, List, [], ◌∷◌, map, Option, Some, None}
+use Rattle.std.proofs.Common.{◌≡◌, ◌==◌, inl, inr, ℕ, zero, suc, Bool, true, false, ◌||◌, if◌then◌else◌, List, [], ◌∷◌, map, Option, Some}
+use Rattle.std.proofs.Common.{None}
 use Rattle.std.proofs.Common.{IfSome, IsSome, is_none, refl, sym, ap, subst, ◌∙◌}
 use Rattle.std.proofs.ByRecursion.{All-append, all_kept_by}
 use Rattle.std.specs.List.{AllByRecursion, list_any}
@@ -19,7 +20,8 @@ use Rattle.span_tracing_outputs.specs.OutputMachines.{Fate, Fated, Happened, OnS
 use Rattle.span_tracing_outputs.specs.OutputFolds.{Fates, Numbered, first_of, outs_told, rest_of}
 use Rattle.span_tracing_outputs.specs.TraceFollows.{at_rest, lines_offered}
 use Rattle.span_tracing_skeleton.specs.PlainData.{PlainStep, Request, GlobalStep, EventStep, EnabledStep, SpanStep, RecordStep}
-use Rattle.span_tracing_skeleton.specs.PlainData.{FollowsFromStep, EnterStep, ExitStep, CloneStep, CloseStep}
+use Rattle.span_tracing_skeleton.specs.PlainData.{FollowsFromStep, EnterStep, ExitStep, CloneStep, CloseStep, DefaultStep, ResetStep}
+use Rattle.span_tracing_skeleton.specs.PlainData.{CloneHandleStep, ReleaseStep}
 use Rattle.span_tracing_skeleton.specs.Skeleton.{Answers}
 use Rattle.span_tracing_steps.specs.StackRequests.{own_values, request_of}
 use Rattle.span_tracing_outputs.specs.sinks.OutputRuns.{joined}
@@ -28,7 +30,7 @@ use Rattle.span_tracing_laws.specs.json.Objects.{AreFormattedSaid, AreInRangeSai
 use Rattle.span_tracing_laws.specs.json.Objects.{IsFormattedSaid, IsInRangeSaid, IsJsonOut, IsPlaceInRange, JsonRuns, WritesEach}
 use Rattle.span_tracing_laws.specs.runs.Runs.{Plain, StepWithMask, Starved, Went, lines_left, lines_of, none_for, outs_left, plain_after}
 use Rattle.span_tracing_laws.specs.runs.Runs.{steps_of, turn_lines}
-use Rattle.span_tracing_laws.specs.runs.StepNotices.{Told, told_of}
+use Rattle.span_tracing_laws.specs.runs.StepNotices.{Told, told_of, told_to}
 use Rattle.span_tracing_laws.proofs.json_runs.NumbersInRange.{AreSaid, EachIsSaid, ListsAreSaid, Says, after_is, own_in_range, step_is_told}
 use Rattle.span_tracing_laws.specs.json_runs.JsonRuns.{AreObjectsRun, JsonOutputsRun}
 use Rattle.span_tracing_laws.specs.json_runs.Steps.{AnyValues, Brings, EventsAreFormatted, IsSkeletonInRange, StepsInRange}
@@ -105,25 +107,37 @@ module _ (Q : PlainEvent → Type 0) where
                 place later,
           )
 
-      abbrev Goes : Plain N → ℕ → Type 0
-      Goes p place = IsSkeletonInRange p.skeleton × StandsAt p.outs place
+      -- what is told to one stack is told
+      told_if : (same : Bool) (told : Told N) → ListsAreSaid Q told → IfSome (if same then Some told else None) (ListsAreSaid Q)
+      told_if true told all = all
+      told_if false told all = tt
 
-      turn_is : (p : Plain N) (step : PlainStep) (a : Answers) (fates : Fates) (place : ℕ) → Goes p place → Brings R ValuesInRange step →
-          Goes (plain_after n p (Went step a fates)) place × IfSome (slice_get (turn_lines n p (Went step a fates)) place) AreObjectsRun
-      turn_is p step a fates place is brings =
-          let by = by_told (told_of N p.skeleton step a) p.outs fates place (step_is_told Q N R event_is p.skeleton step a is.0 brings)
-          is.1 in
-          ((after_is p.skeleton step a is.0, by.0), by.1)
+      told_to_is : (stack : ℕ) (told : Option (Told N)) → IfSome told (ListsAreSaid Q) → IfSome (told_to N stack told) (ListsAreSaid Q)
+      told_to_is stack None all = tt
+      told_to_is stack (Some told) all = told_if (told.stack == stack) told all
 
-      pub run_is : (p : Plain N) (turns : List StepWithMask) (place : ℕ) → Goes p place →
-          AllByRecursion (Brings R ValuesInRange) (steps_of turns) → IfSome (slice_get (lines_of n p turns) place) AreObjectsRun
-      run_is p [] place is brings = none_is p.outs place
-      run_is p (Went step a fates ∷ ts) place is brings =
-          let turn = turn_is p step a fates place is brings.0 in
-          joined_is (turn_lines n p (Went step a fates)) (lines_of n (plain_after n p (Went step a fates)) ts) place turn.1
-          (run_is (plain_after n p (Went step a fates)) ts place turn.0 brings.1)
-      run_is p (Starved step ∷ ts) place is brings = joined_is (none_for p.outs) (lines_of n p ts) place (none_is p.outs place)
-          (run_is p ts place is brings.1)
+      module _ (stack : ℕ) where
+        abbrev Goes : Plain N → ℕ → Type 0
+        Goes p place = IsSkeletonInRange p.skeleton × StandsAt (p.outs stack) place
+
+        turn_is : (p : Plain N) (step : PlainStep) (a : Answers) (fates : Fates) (place : ℕ) → Goes p place →
+            Brings R ValuesInRange step →
+            Goes (plain_after n p (Went step a fates)) place ×
+            IfSome (slice_get (turn_lines n p (Went step a fates) stack) place) AreObjectsRun
+        turn_is p step a fates place is brings =
+            let by = by_told (told_to N stack (told_of N p.skeleton step a)) (p.outs stack) fates place
+            (told_to_is stack (told_of N p.skeleton step a) (step_is_told Q N R event_is p.skeleton step a is.0 brings)) is.1 in
+            ((after_is p.skeleton step a is.0, by.0), by.1)
+
+        pub run_is : (p : Plain N) (turns : List StepWithMask) (place : ℕ) → Goes p place →
+            AllByRecursion (Brings R ValuesInRange) (steps_of turns) → IfSome (slice_get (lines_of n p turns stack) place) AreObjectsRun
+        run_is p [] place is brings = none_is (p.outs stack) place
+        run_is p (Went step a fates ∷ ts) place is brings =
+            let turn = turn_is p step a fates place is brings.0 in
+            joined_is (turn_lines n p (Went step a fates) stack) (lines_of n (plain_after n p (Went step a fates)) ts stack) place turn.1
+            (run_is (plain_after n p (Went step a fates)) ts place turn.0 brings.1)
+        run_is p (Starved step ∷ ts) place is brings = joined_is (none_for (p.outs stack)) (lines_of n p ts stack) place
+            (none_is (p.outs stack) place) (run_is p ts place is brings.1)
 
 -- values that can be formatted
 piece_is_there : (f : List ℕ → List ℕ) (o : Option (List ℕ)) → IsSome o → is_none (option_map f o) ≡ false
@@ -166,6 +180,10 @@ both_brought (EnterStep call) range formatted = tt
 both_brought (ExitStep call) range formatted = tt
 both_brought (CloneStep call) range formatted = tt
 both_brought (CloseStep call) range formatted = tt
+both_brought (DefaultStep call) range formatted = tt
+both_brought (ResetStep call) range formatted = tt
+both_brought (CloneHandleStep handle) range formatted = tt
+both_brought (ReleaseStep handle) range formatted = tt
 
 all_brought : (steps : List PlainStep) → StepsInRange steps → EventsAreFormatted steps → AllByRecursion (Brings AreBoth ValuesInRange) steps
 all_brought [] range formatted = tt
@@ -225,11 +243,11 @@ module _ {N : Type 0} (n : Ghosts N) (laws : JsonRuns n) where
       (kept.0, subst WritesEach (sym kept.1.format) each, laws.formatted o ts both.0 both.1 json each lines)
 
   pub outputs_run : JsonOutputsRun n
-  outputs_run p turns skeleton range place o at json (inl off) =
-      run_is IsEventInRange n Quiet (λ x is. is.2) (λ x is. (rested_json x is.0, is.1, tt)) quiet_goes ValuesInRange event_in_range p turns
-      place
+  outputs_run p turns skeleton range stack place o at json (inl off) =
+      run_is IsEventInRange n Quiet (λ x is. is.2) (λ x is. (rested_json x is.0, is.1, tt)) quiet_goes ValuesInRange event_in_range stack p
+      turns place
       (skeleton, subst (λ (x : Option (Numbered N)). IfSome x (λ (y : Numbered N). Quiet y.out)) (sym at) (json.0, off, json.1)) range
-  outputs_run p turns skeleton range place o at json (inr (each, formatted)) =
-      run_is IsBoth n Whole (λ x is. is.2) (λ x is. (rested_json x is.0, is.1, tt)) whole_goes AreBoth event_is_both p turns place
+  outputs_run p turns skeleton range stack place o at json (inr (each, formatted)) =
+      run_is IsBoth n Whole (λ x is. is.2) (λ x is. (rested_json x is.0, is.1, tt)) whole_goes AreBoth event_is_both stack p turns place
       (skeleton, subst (λ (x : Option (Numbered N)). IfSome x (λ (y : Numbered N). Whole y.out)) (sym at) (json.0, each, json.1))
       (all_brought (steps_of turns) range formatted)

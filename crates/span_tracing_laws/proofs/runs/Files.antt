@@ -20,6 +20,7 @@ use Rattle.span_tracing_outputs.specs.sinks.Takes.{TakesLine}
 use Rattle.span_tracing_outputs.specs.declared.sinks.sink.RollingSink.{RollingSink}
 use Rattle.span_tracing_skeleton.specs.PlainData.{PlainStep}
 use Rattle.span_tracing_skeleton.specs.declared.call.Reply.{Reply}
+use Rattle.span_tracing_steps.specs.States.{stack_in}
 use Rattle.span_tracing_laws.specs.runs.Files.{FileTrace, FilesFollow, FilesStand, SinksTakeTheirs, routed_at}
 use Rattle.span_tracing_laws.specs.runs.Runs.{RunFollows, SinksTake, StepWithMask, lines_of}
 
@@ -47,17 +48,17 @@ module _ {N E F D : Type 0} (contents : D → Option Contents) (failed : D → �
 
   sinks_take : (v : FileTrace N E F D) (steps : List PlainStep) (replies : List Reply) (w : FileTrace N E F D)
       (run : RunFollows n line_of g takes h v steps replies w) → SinksTakeTheirs contents failed n line_of g v run.turns w
-  sinks_take v steps replies w run p agrees place olds at = taken_by v.stack w.stack place olds (lines_of n p run.turns)
-      (run.agreed p agrees).2 at
+  sinks_take v steps replies w run p agrees stack place olds at = taken_by (stack_in v stack) (stack_in w stack) place olds
+      (lines_of n p run.turns stack) ((run.agreed p agrees).2 stack) at
 
   same_some : {A : Type 0} (x y : A) (o : Option A) → o ≡ Some x → o ≡ Some y → x ≡ y
   same_some x y o first second = let both : Some x ≡ Some y = sym first ∙ second in cc
 
   files_stand : (v : FileTrace N E F D) (turns : List StepWithMask) (w : FileTrace N E F D) →
       SinksTakeTheirs contents failed n line_of g v turns w → FilesStand contents failed n line_of g v turns w
-  files_stand v turns w takes p agrees place number olds news old new before after old_is new_is none s keeps c known =
-      let taken = takes p agrees place olds before in
-      let same : taken.1 ≡ news = same_some taken.1 news (routed_at w.stack place) taken.3 after in
+  files_stand v turns w takes p agrees stack place number olds news old new before after old_is new_is none s keeps c known =
+      let taken = takes p agrees stack place olds before in
+      let same : taken.1 ≡ news = same_some taken.1 news (routed_at (stack_in w stack) place) taken.3 after in
       let one = taken.4.sinks number old old_is in
       let also : one.0 ≡ new = same_some one.0 new (slice_get news.sinks number)
       (subst (λ (r : Sinks). slice_get r.sinks number ≡ Some one.0) same one.1) new_is in

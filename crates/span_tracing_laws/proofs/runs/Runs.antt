@@ -21,12 +21,13 @@ use Rattle.span_tracing_skeleton.specs.Machine.{after, reply_of}
 use Rattle.span_tracing_skeleton.specs.PlainData.{PlainStep}
 use Rattle.span_tracing_skeleton.specs.Skeleton.{Skeleton, Answers}
 use Rattle.span_tracing_skeleton.specs.declared.call.Reply.{Reply}
-use Rattle.span_tracing_laws.specs.runs.StepFollows.{Follows, FollowsStep, OutputsFollow, StackIsReady, Traced, skeleton_of}
+use Rattle.span_tracing_steps.specs.States.{stack_in}
+use Rattle.span_tracing_laws.specs.runs.StepFollows.{Follows, FollowsStep, OutputsFollow, TraceIsReady, Traced, skeleton_of}
 use Rattle.span_tracing_laws.specs.runs.Laws.{StepsFollow}
 use Rattle.span_tracing_laws.specs.runs.Runs.{AgreesPlain, OutsAgree, Plain, RunFollows, RunGives, SinksTake, Starved, StepWithMask}
 use Rattle.span_tracing_laws.specs.runs.Runs.{TurnGoes, TurnsGo, Went, lines_left, lines_of, none_for, outs_left, plain_after, plain_reply}
 use Rattle.span_tracing_laws.specs.runs.Runs.{plain_run, replies_of, steps_of, turn_lines}
-use Rattle.span_tracing_laws.specs.runs.StepNotices.{Told, told_of}
+use Rattle.span_tracing_laws.specs.runs.StepNotices.{Told, told_of, told_to}
 
 length_map : {A B : Type 0} (f : A → B) (xs : List A) → length (map f xs) ≡ length xs
 length_map f [] = refl
@@ -106,21 +107,25 @@ module _ {N E F S : Type 0} (n : Ghosts N) (line_of : E → Settings → PlainCo
           lists_run takes compose told.at (lines_offered later) x.sinks y.sinks go.sinks,
         )
 
+    -- of each stack
+    abbrev AllTake : Traced N E F S → Traced N E F S → (ℕ → List (List (At × PlainLine))) → Type 0
+    AllTake v w runs = (stack : ℕ) → SinksTake n line_of g takes (stack_in v stack) (stack_in w stack) (runs stack)
+
     abbrev TurnAgrees : Traced N E F S → StepWithMask → Reply → Traced N E F S → Plain N → Type 0
-    TurnAgrees v t reply w p = (reply ≡ plain_reply n p t) × AgreesPlain n line_of g w (plain_after n p t) ×
-        SinksTake n line_of g takes v.stack w.stack (turn_lines n p t)
+    TurnAgrees v t reply w p = (reply ≡ plain_reply n p t) × AgreesPlain n line_of g w (plain_after n p t) × AllTake v w (turn_lines n p t)
 
     went_agrees : (v : Traced N E F S) (step : PlainStep) (reply : Reply) (w : Traced N E F S)
-        (f : FollowsStep n line_of g takes h v step reply w) (k : Skeleton) (outs : List (Numbered N)) → skeleton_of v ≡ k →
-        OutsAgree n line_of g v.stack outs →
+        (f : FollowsStep n line_of g takes h v step reply w) (k : Skeleton) (outs : ℕ → List (Numbered N)) → skeleton_of v ≡ k →
+        ((stack : ℕ) → OutsAgree n line_of g (stack_in v stack) (outs stack)) →
         TurnAgrees v (Went step f.answers f.fates) reply w (record { skeleton = k; outs = outs })
     went_agrees v step reply w f k outs same a =
-        let left = by_told (told_of N k step f.answers) f.fates v.stack w.stack outs
-        (subst (λ (s : Skeleton). OutputsFollow n line_of g takes (told_of N s step f.answers) f.fates v.stack w.stack) same f.outputs)
-        a in (
+        let follows = subst (λ (s : Skeleton). (number : ℕ) → OutputsFollow n line_of g takes
+        (told_to N number (told_of N s step f.answers)) f.fates (stack_in v number) (stack_in w number)) same f.outputs in
+        let left = λ (stack : ℕ). by_told (told_to N stack (told_of N k step f.answers)) f.fates (stack_in v stack) (stack_in w stack)
+        (outs stack) (follows stack) (a stack) in (
           f.replied ∙ ap (λ (s : Skeleton). reply_of s step f.answers) same,
-          (f.skeleton ∙ ap (λ (s : Skeleton). after s step f.answers) same, left.0),
-          left.1,
+          (f.skeleton ∙ ap (λ (s : Skeleton). after s step f.answers) same, λ stack. (left stack).0),
+          λ stack. (left stack).1,
         )
 
     stays : (o : Option Stack) (outs : List (Numbered N)) → OutsAgree n line_of g o outs → SinksTake n line_of g takes o o (none_for outs)
@@ -135,7 +140,8 @@ module _ {N E F S : Type 0} (n : Ghosts N) (line_of : E → Settings → PlainCo
         (subst (λ (fs : Fates). TurnAgrees v (Went step f.answers fs) reply w p) fated
         (went_agrees v step reply w f p.skeleton p.outs agrees.0 agrees.1))
     turn_agrees v (Starved step) reply w p (told, none, takes, same) agrees =
-        subst (λ (u : Traced N E F S). TurnAgrees v (Starved step) reply u p) (sym same) (told, agrees, stays v.stack p.outs agrees.1)
+        subst (λ (u : Traced N E F S). TurnAgrees v (Starved step) reply u p) (sym same)
+        (told, agrees, λ stack. stays (stack_in v stack) (p.outs stack) (agrees.1 stack))
 
     append : (o p q : Option Stack) (ones twos : List (List (At × PlainLine))) → SinksTake n line_of g takes o p ones →
         SinksTake n line_of g takes p q twos → SinksTake n line_of g takes o q (joined ones twos)
@@ -148,12 +154,12 @@ module _ {N E F S : Type 0} (n : Ghosts N) (line_of : E → Settings → PlainCo
 
     abbrev RunAgrees : Traced N E F S → List StepWithMask → List Reply → Traced N E F S → Plain N → Type 0
     RunAgrees v turns replies w p = (replies ≡ replies_of n p turns) × AgreesPlain n line_of g w (plain_run n p turns) ×
-        SinksTake n line_of g takes v.stack w.stack (lines_of n p turns)
+        AllTake v w (lines_of n p turns)
 
     run_agrees : (v : Traced N E F S) (turns : List StepWithMask) (replies : List Reply) (w : Traced N E F S) (p : Plain N) →
         TurnsGo n line_of g takes h v turns replies w → AgreesPlain n line_of g v p → RunAgrees v turns replies w p
     run_agrees v [] [] w p same agrees = subst (λ (u : Traced N E F S). RunAgrees v [] [] u p) (sym same)
-        (refl, agrees, stays v.stack p.outs agrees.1)
+        (refl, agrees, λ stack. stays (stack_in v stack) (p.outs stack) (agrees.1 stack))
     run_agrees v [] (reply ∷ replies) w p goes agrees = absurd goes
     run_agrees v (t ∷ ts) [] w p goes agrees = absurd goes
     run_agrees v (t ∷ ts) (reply ∷ replies) w p (mid, first, rest) agrees =
@@ -161,13 +167,14 @@ module _ {N E F S : Type 0} (n : Ghosts N) (line_of : E → Settings → PlainCo
         let others = run_agrees mid ts replies w (plain_after n p t) rest one.1 in (
           ap (λ (r : Reply). r ∷ replies) one.0 ∙ ap (λ (rs : List Reply). plain_reply n p t ∷ rs) others.0,
           others.1,
-          append v.stack mid.stack w.stack (turn_lines n p t) (lines_of n (plain_after n p t) ts) one.2 others.2,
+          λ stack. append (stack_in v stack) (stack_in mid stack) (stack_in w stack) (turn_lines n p t stack)
+              (lines_of n (plain_after n p t) ts stack) (one.2 stack) (others.2 stack),
         )
 
     module _ (sg : SubscriberGhosts Stack) (law : StepsFollow n line_of g takes h sg) where
       abbrev Run : Traced N E F S → List PlainStep → List Reply → Traced N E F S → Type 0
       Run v steps replies w = (turns : List StepWithMask) × (steps_of turns ≡ steps) × TurnsGo n line_of g takes h v turns replies w ×
-          StackIsReady g h w.stack
+          TraceIsReady g h w
 
       more : (v : Traced N E F S) (step : PlainStep) (steps : List PlainStep) (reply : Reply) (replies : List Reply)
           (mid w : Traced N E F S) → Follows n line_of g takes h v step reply mid → Run mid steps replies w →
@@ -177,9 +184,9 @@ module _ {N E F S : Type 0} (n : Ghosts N) (line_of : E → Settings → PlainCo
       more v step steps reply replies mid w (inr f) rest =
           (Starved step ∷ rest.0, ap (λ (ss : List PlainStep). step ∷ ss) rest.1, (mid, f, rest.2), rest.3)
 
-      runs : (v : Traced N E F S) (steps : List PlainStep) (replies : List Reply) (w : Traced N E F S) → StackIsReady g h v.stack →
+      runs : (v : Traced N E F S) (steps : List PlainStep) (replies : List Reply) (w : Traced N E F S) → TraceIsReady g h v →
           RunGives sg v steps replies w → Run v steps replies w
-      runs v [] [] w ready same = ([], refl, same, subst (λ (u : Traced N E F S). StackIsReady g h u.stack) (sym same) ready)
+      runs v [] [] w ready same = ([], refl, same, subst (TraceIsReady g h) (sym same) ready)
       runs v [] (reply ∷ replies) w ready goes = absurd goes
       runs v (step ∷ steps) [] w ready goes = absurd goes
       runs v (step ∷ steps) (reply ∷ replies) w ready (mid, first, rest) =
@@ -187,8 +194,8 @@ module _ {N E F S : Type 0} (n : Ghosts N) (line_of : E → Settings → PlainCo
           more v step steps reply replies mid w one.0 (runs mid steps replies w one.1 rest)
 
       pub run_follows : (v : Traced N E F S) (steps : List PlainStep) (replies : List Reply) (w : Traced N E F S) →
-          StackIsReady g h v.stack →
-          RunGives sg v steps replies w → RunFollows n line_of g takes h v steps replies w × StackIsReady g h w.stack
+          TraceIsReady g h v →
+          RunGives sg v steps replies w → RunFollows n line_of g takes h v steps replies w × TraceIsReady g h w
       run_follows v steps replies w ready goes =
           let run = runs v steps replies w ready goes in
           (record { turns = run.0; each = run.1; goes = run.2; agreed = λ p agrees. run_agrees v run.0 replies w p run.2 agrees }, run.3)

@@ -1,9 +1,12 @@
 -- At a callsite in which nobody is interested no filter passes anything.
-use Rattle.std.proofs.Common.{◌≡◌, ◌⊎◌, ℕ, zero, suc, Bool, true, false, List, [], ◌∷◌, Option, Some, None, slice_get, refl, sym, ◌∙◌}
+use Rattle.std.proofs.Common.{◌≡◌, ℕ, zero, suc, Bool, true, false, List, [], ◌∷◌, Option, Some, None, slice_get, refl, sym, ◌∙◌}
 use Rattle.std.proofs.Common.{subst, inl, inr}
 use Rattle.tracing_core_fields.specs.PlainMetadata.{PlainMetadata}
 use Rattle.tracing_core.specs.declared.hub.index.CallsiteIndex.{CallsiteIndex}
-use Rattle.tracing_core_fields.specs.requests.Interests.{PlainInterest, common, joined, settled}
+use Rattle.tracing_core_fields.specs.requests.Interests.{Covers, PlainInterest, common, joined, settled}
+use Rattle.tracing_core.specs.Handles.{subscriber_with}
+use Rattle.tracing_core.specs.TableRows.{KeptCallsite}
+use Rattle.tracing_core.specs.ValidCaches.{CallsiteRight}
 use Rattle.tracing_core_fields.specs.requests.Lists.{Every}
 use Rattle.tracing_core_fields.specs.requests.PlainRequests.{PlainEvent}
 use Rattle.tracing_core_moments.specs.declared.at.At.{At}
@@ -20,13 +23,18 @@ use Rattle.span_registry_layers.specs.OutputSlots.{Afresh, filters_of, view_of}
 use Rattle.span_tracing_outputs.specs.TraceFollows.{EachAnswers, EachAsked, some_passes}
 use Rattle.span_tracing_outputs.specs.TraceStacks.{TraceStackValue}
 use Rattle.span_tracing_outputs.specs.Turns.{Lined, Lines}
-use Rattle.span_tracing_skeleton.specs.Machine.{known}
-use Rattle.span_tracing_skeleton.specs.PlainData.{Request, EventStep, SpanStep}
+use Rattle.span_tracing_skeleton.specs.Looking.{known, reach}
+use Rattle.span_tracing_skeleton.specs.PlainData.{Request}
 use Rattle.span_tracing_skeleton.specs.Skeleton.{Answers, Unasked, Wanted, Dropped, Passed, Heard}
-use Rattle.span_tracing_steps.specs.Interests.{EachKept, KeepsWordOf, is_never, is_off_at}
+use Rattle.span_tracing_steps.specs.Callsites.{own_metadata}
+use Rattle.span_tracing_steps.specs.Interests.{is_interest_never, is_never}
+use Rattle.span_tracing_steps.specs.States.{callsites_of, held_in}
+use Rattle.span_tracing_steps.specs.contracts.callsite.TraceCallsiteCallsite.TheImpl.{ghosts}
+use Rattle.span_tracing_steps.specs.declared.callsite.TraceCallsite.{TraceCallsite}
 use Rattle.span_tracing_steps.specs.StackRequests.{place_at, request_of}
-use Rattle.span_tracing_laws.specs.runs.StepFollows.{AnswersEvent, AnswersSpan, AskedWhere, IsAnswered, Traced, skeleton_of}
+use Rattle.span_tracing_laws.specs.runs.StepFollows.{AnswersEvent, AnswersSpan, AskedWhere, Traced, skeleton_of}
 use Rattle.span_tracing_laws.specs.runs.SkippedCallsites.{IsOff, MakesNone, SkipsNothing, TellsNobody}
+use Rattle.span_tracing_laws.proofs.runs.HubStacks.{kept_at}
 
 -- nobody was interested before
 abbrev Calm : Option PlainInterest → Type 0
@@ -94,82 +102,90 @@ module _ {F : Type 0} (g : FilterGhosts F) where
         rw (no, later) refl
 
 -- what is kept of a callsite by its index
-kept_at : (says : PlainMetadata → PlainInterest → Type 0) (ms : List PlainMetadata) (ks : List PlainInterest) (n : ℕ) (m : PlainMetadata) →
-    EachKept says ms ks → slice_get ms n ≡ Some m → (k : PlainInterest) × (slice_get ks n ≡ Some k) × says m k
-kept_at says [] [] n m each is = absurd (let none : None ≡ Some m = is in cc)
-kept_at says [] (k ∷ ks) n m each is = absurd each
-kept_at says (x ∷ ms) [] n m each is = absurd each
-kept_at says (x ∷ ms) (k ∷ ks) zero m each is = let same : x ≡ m = cc in (k, refl, subst (λ (y : PlainMetadata). says y k) same each.0)
-kept_at says (x ∷ ms) (k ∷ ks) (suc n) m each is = kept_at says ms ks n m each.1 is
-
-never_is : (k : PlainInterest) → is_never (Some k) ≡ true → k ≡ Never
+never_is : (k : PlainInterest) → is_interest_never k ≡ true → k ≡ Never
 never_is Never e = refl
 never_is Sometimes e = absurd (cc)
 never_is Always e = absurd (cc)
 
-said_never : (says : PlainMetadata → PlainInterest → Type 0) (ms : List PlainMetadata) (ks : List PlainInterest) (index : CallsiteIndex)
-    (m : PlainMetadata) → EachKept says ms ks → slice_get ms index.0 ≡ Some m → is_off_at ks index ≡ true → says m Never
-said_never says ms ks index m each stands off =
-    let kept = kept_at says ms ks index.0 m each stands in
-    subst (says m) (never_is kept.0 (subst (λ (o : Option PlainInterest). is_never o ≡ true) kept.1 off)) kept.2
+covered_never : (k own : PlainInterest) → is_interest_never k ≡ true → Covers k own → own ≡ Never
+covered_never Never own e covers = covers
+covered_never Sometimes own e covers = absurd (cc)
+covered_never Always own e covers = absurd (cc)
+
+module _ {T : Type 0} (sg : SubscriberGhosts T) (x : T) where
+  -- what a subscriber says of the callsite at an index of which it is kept that nobody is interested in it
+  said_never : (rows : List (KeptCallsite TraceCallsite)) (place : ℕ) (m : PlainMetadata) → Every (CallsiteRight sg ghosts x) rows →
+      slice_get (callsites_of rows) place ≡ Some m → is_never (slice_get rows place) ≡ true → sg.says x m Never
+  said_never [] place m right stands off = absurd (let none : None ≡ Some m = stands in cc)
+  said_never (row ∷ rows) zero m right stands off =
+      let same : own_metadata row.callsite ≡ m = cc in
+      let said = right.0 in
+      subst (λ (k : PlainMetadata). sg.says x k Never) same
+      (subst (sg.says x (own_metadata row.callsite)) (covered_never row.interest said.0 off said.2) said.1)
+  said_never (row ∷ rows) (suc place) m right stands off = said_never rows place m right.1 stands off
 
 module _ {N E F S : Type 0} (g : FilterGhosts F) (h : LayerGhosts (Lines N E)) (sg : SubscriberGhosts (TraceStackValue N E F S))
     (says : (x : TraceStackValue N E F S) (m : PlainMetadata) (k : PlainInterest) → sg.says x m k →
     CommonInterest g m (filters_of x.stack.rows) k)
     (valid : (x : TraceStackValue N E F S) → sg.steady x → CacheIsValid g x.stack) where
-  all_refuse : (x : TraceStackValue N E F S) (ms : List PlainMetadata) (ks : List PlainInterest) (index : CallsiteIndex)
-      (m : PlainMetadata) → KeepsWordOf sg (Some x) ms ks → slice_get ms index.0 ≡ Some m → is_off_at ks index ≡ true →
-      Every (Refuses g m) (filters_of x.stack.rows)
-  all_refuse x ms ks index m word stands off =
-      (never_from g m (filters_of x.stack.rows) None (valid x word.0).honest
-      (says x m Never (said_never (sg.says x) ms ks index m word.1 stands off))).1
+  all_refuse : (v : Traced N E F S) (stack : ℕ) (x : TraceStackValue N E F S) (index : CallsiteIndex) (m : PlainMetadata) →
+      IsOff g h sg v index m → held_in v stack ≡ Some x → Every (Refuses g m) (filters_of x.stack.rows)
+  all_refuse v stack x index m off there =
+      let kept = kept_at (subscriber_with stack v.hub.subscribers) x there in
+      let cache = off.word.valid stack kept.0 kept.1 in
+      let steady : sg.steady x = subst sg.steady kept.2 cache.steady in
+      let right : Every (CallsiteRight sg ghosts x) v.hub.callsites =
+      subst (λ (y : TraceStackValue N E F S). Every (CallsiteRight sg ghosts y) v.hub.callsites) kept.2 cache.right in
+      (never_from g m (filters_of x.stack.rows) None (valid x steady).honest
+      (says x m Never (said_never sg x v.hub.callsites index.0 m right off.stands off.off))).1
 
-  event_in : (o : Option (TraceStackValue N E F S)) (ms : List PlainMetadata) (ks : List PlainInterest) (index : CallsiteIndex)
-      (m : PlainMetadata) (e : PlainEvent) (at : At) (a : Answers) → KeepsWordOf sg o ms ks → slice_get ms index.0 ≡ Some m →
-      is_off_at ks index ≡ true → e.metadata ≡ m → AnswersEvent g h o e at a → TellsNobody a
-  event_in None ms ks index m e at a word stands off of answered = absurd answered
-  event_in (Some x) ms ks index m e at Unasked word stands off of answered = tt
-  event_in (Some x) ms ks index m e at (Wanted b) word stands off of answered = absurd answered
-  event_in (Some x) ms ks index m e at Dropped word stands off of answered = absurd answered
-  event_in (Some x) ms ks index m e at (Passed passed) word stands off of answered = absurd answered
-  event_in (Some x) ms ks index m e at (Heard passed told) word stands off of answered =
+  event_in : (o : Option (TraceStackValue N E F S)) (v : Traced N E F S) (stack : ℕ) (index : CallsiteIndex) (m : PlainMetadata)
+      (e : PlainEvent) (at : At) (a : Answers) → held_in v stack ≡ o → IsOff g h sg v index m → e.metadata ≡ m →
+      AnswersEvent g h o e at a → TellsNobody a
+  event_in None v stack index m e at a there off of answered = absurd answered
+  event_in (Some x) v stack index m e at Unasked there off of answered = tt
+  event_in (Some x) v stack index m e at (Wanted b) there off of answered = absurd answered
+  event_in (Some x) v stack index m e at Dropped there off of answered = absurd answered
+  event_in (Some x) v stack index m e at (Passed passed) there off of answered = absurd answered
+  event_in (Some x) v stack index m e at (Heard passed told) there off of answered =
       events_refused g e at x.stack.registry x.stack.rows passed told
-      (subst (λ (y : PlainMetadata). Every (Refuses g y) (filters_of x.stack.rows)) (sym of)
-      (all_refuse x ms ks index m word stands off)) answered
+      (subst (λ (y : PlainMetadata). Every (Refuses g y) (filters_of x.stack.rows)) (sym of) (all_refuse v stack x index m off there))
+      answered
 
-  span_in : (o : Option (TraceStackValue N E F S)) (ms : List PlainMetadata) (ks : List PlainInterest) (index : CallsiteIndex)
-      (m : PlainMetadata) (at : At) (a : Answers) → KeepsWordOf sg o ms ks → slice_get ms index.0 ≡ Some m → is_off_at ks index ≡ true →
-      AnswersSpan g h o m at a → MakesNone a
-  span_in None ms ks index m at a word stands off answered = absurd answered
-  span_in (Some x) ms ks index m at Unasked word stands off answered = tt
-  span_in (Some x) ms ks index m at (Wanted b) word stands off answered = absurd answered
-  span_in (Some x) ms ks index m at Dropped word stands off answered = tt
-  span_in (Some x) ms ks index m at (Passed passed) word stands off answered =
-      let none = none_passes g m at x.stack.registry x.stack.rows answered.0 (all_refuse x ms ks index m word stands off) answered.1 in
+  span_in : (o : Option (TraceStackValue N E F S)) (v : Traced N E F S) (stack : ℕ) (index : CallsiteIndex) (m : PlainMetadata)
+      (at : At) (a : Answers) → held_in v stack ≡ o → IsOff g h sg v index m → AnswersSpan g h o m at a → MakesNone a
+  span_in None v stack index m at a there off answered = absurd answered
+  span_in (Some x) v stack index m at Unasked there off answered = tt
+  span_in (Some x) v stack index m at (Wanted b) there off answered = absurd answered
+  span_in (Some x) v stack index m at Dropped there off answered = tt
+  span_in (Some x) v stack index m at (Passed passed) there off answered =
+      let none = none_passes g m at x.stack.registry x.stack.rows answered.0 (all_refuse v stack x index m off there) answered.1 in
       absurd (let clash : true ≡ false = sym answered.2 ∙ none in cc)
-  span_in (Some x) ms ks index m at (Heard passed told) word stands off answered = absurd answered
+  span_in (Some x) v stack index m at (Heard passed told) there off answered = absurd answered
 
-  event_where : (b : Bool) (o : Option PlainMetadata) (v : Traced N E F S) (index : CallsiteIndex) (m : PlainMetadata) (e : Request)
-      (a : Answers) → IsOff g h sg v index m → o ≡ Some m →
-      AskedWhere b o (λ n c. AnswersEvent g h v.stack (request_of n e) (place_at e.lane e.moment) c) a → TellsNobody a
-  event_where false o v index m e a off is asked = subst TellsNobody (sym asked) tt
-  event_where true None v index m e a off is asked = subst TellsNobody (sym asked) tt
-  event_where true (Some n) v index m e a off is asked =
+  event_where : (o : Option ℕ) (k : Option PlainMetadata) (v : Traced N E F S) (index : CallsiteIndex) (m : PlainMetadata) (e : Request)
+      (a : Answers) → IsOff g h sg v index m → k ≡ Some m →
+      AskedWhere o k (λ stack n c. AnswersEvent g h (held_in v stack) (request_of n e) (place_at e.lane e.moment) c) a → TellsNobody a
+  event_where None k v index m e a off is asked = subst TellsNobody (sym asked) tt
+  event_where (Some stack) None v index m e a off is asked = subst TellsNobody (sym asked) tt
+  event_where (Some stack) (Some n) v index m e a off is asked =
       let same : n ≡ m = cc in
-      event_in v.stack v.callsites v.interests index m (request_of n e) (place_at e.lane e.moment) a off.word off.stands off.off same asked
+      event_in (held_in v stack) v stack index m (request_of n e) (place_at e.lane e.moment) a refl off same asked
 
-  span_where : (b : Bool) (o : Option PlainMetadata) (v : Traced N E F S) (index : CallsiteIndex) (m : PlainMetadata) (s : Request)
-      (a : Answers) → IsOff g h sg v index m → o ≡ Some m → AskedWhere b o (λ n c. AnswersSpan g h v.stack n (place_at s.lane s.moment) c)
-      a → MakesNone a
-  span_where false o v index m s a off is asked = subst MakesNone (sym asked) tt
-  span_where true None v index m s a off is asked = subst MakesNone (sym asked) tt
-  span_where true (Some n) v index m s a off is asked =
+  span_where : (o : Option ℕ) (k : Option PlainMetadata) (v : Traced N E F S) (index : CallsiteIndex) (m : PlainMetadata) (s : Request)
+      (a : Answers) → IsOff g h sg v index m → k ≡ Some m →
+      AskedWhere o k (λ stack n c. AnswersSpan g h (held_in v stack) n (place_at s.lane s.moment) c) a → MakesNone a
+  span_where None k v index m s a off is asked = subst MakesNone (sym asked) tt
+  span_where (Some stack) None v index m s a off is asked = subst MakesNone (sym asked) tt
+  span_where (Some stack) (Some n) v index m s a off is asked =
       let same : n ≡ m = cc in
-      span_in v.stack v.callsites v.interests index m (place_at s.lane s.moment) a off.word off.stands off.off
-      (subst (λ (k : PlainMetadata). AnswersSpan g h v.stack k (place_at s.lane s.moment) a) same asked)
+      span_in (held_in v stack) v stack index m (place_at s.lane s.moment) a refl off
+      (subst (λ (k : PlainMetadata). AnswersSpan g h (held_in v stack) k (place_at s.lane s.moment) a) same asked)
 
   pub skips_nothing : SkipsNothing g h sg
   skips_nothing = record {
-    event = λ v index m e a off is answered. event_where v.is_global (known (skeleton_of v) e.callsite false) v index m e a off is answered;
-    span = λ v index m s a off is answered. span_where v.is_global (known (skeleton_of v) s.callsite true) v index m s a off is answered;
+    event = λ v index m e a off is answered. event_where (reach (skeleton_of v) e.lane) (known (skeleton_of v) e.callsite false) v index m e
+        a off is answered;
+    span = λ v index m s a off is answered. span_where (reach (skeleton_of v) s.lane) (known (skeleton_of v) s.callsite true) v index m s a
+        off is answered;
   }

@@ -1,29 +1,34 @@
 -- What a step that reading doesn't refuse finds.
-use Rattle.std.proofs.Common.{◌≡◌, ◌≤◌, ℕ, suc, Bool, true, false, not, ◌==◌, nat_lt, List, [], ◌∷◌, length, map, Option, Some, None, refl}
-use Rattle.std.proofs.Common.{sym, ap, ◌∙◌, arith}
-use Rattle.std.specs.Prelude.{if◌then◌else◌, ◌||◌, get_or, set}
+use Rattle.std.proofs.Common.{◌≡◌, ℕ, Bool, true, false, not, ◌==◌, nat_lt, List, [], ◌∷◌, map, Option, Some, None, refl, sym, ap, ◌∙◌}
+use Rattle.std.proofs.Common.{subst}
+use Rattle.std.specs.Cmp.{unsigned_Decides}
+use Rattle.std.specs.Prelude.{if◌then◌else◌, ◌||◌}
 use Rattle.std.specs.Option.{option_map}
 use Rattle.std.proofs.lemmas.Bool.{not-false}
-use Rattle.std.proofs.lemmas.Bool.Decides.{nat_tests}
 use Rattle.tracing_core_fields.specs.requests.PlainRequests.{explicit_parent}
 use Rattle.tracing_core_fields.specs.declared.requests.refusal.RequestError.{RequestError}
 use Rattle.tracing_core_fields.specs.declared.requests.refusal.RequestError.TheVariants as errors
 use Rattle.span_registry_layers_store.specs.SlotIndependence.{bare, bare_span}
 use Rattle.span_registry_layers_store.specs.RegistryCalls as gives
-use Rattle.span_registry_layers_store.specs.Registries.{PlainSpan, RegistryValue, kin_in, knows, new_registry, one_more, with_handle}
+use Rattle.span_registry_layers_store.specs.Registries.{PlainSpan, RegistryValue, kin_in, knows, one_more, with_handle}
 use Rattle.span_registry_layers_store.specs.Spans.{changed, found, handles_of, is_open}
 use Rattle.span_registry_layers_store.specs.Spans as spans
-use Rattle.span_tracing_skeleton.specs.Machine.{call_refusal, first, handles_in, has_open, ids_refusal, knows_stack, lane_refusal, leads_to}
-use Rattle.span_tracing_skeleton.specs.Machine.{moment_refusal, parent_refusal, reached, registry_at, span_refusal, told_parent, when}
-use Rattle.span_tracing_skeleton.specs.Machine.{with_registry}
+use Rattle.span_tracing_skeleton.specs.Acting.{told_parent}
+use Rattle.span_tracing_skeleton.specs.Looking.{handles_in, has_open, is_held, leads_to, reach, reached, registry_at}
+use Rattle.span_tracing_skeleton.specs.Order.{call_refusal, follows_refusal, pair_refusal}
+use Rattle.span_tracing_skeleton.specs.Refusing.{closed_refusal, first, foreign_refusal, ids_refusal, lane_refusal, life_refusal}
+use Rattle.span_tracing_skeleton.specs.Refusing.{living_refusal}
+use Rattle.span_tracing_skeleton.specs.Refusing.{moment_refusal, named_refusal, number_refusal, open_refusal, parent_refusal, span_refusal}
+use Rattle.span_tracing_skeleton.specs.Refusing.{when}
 use Rattle.span_tracing_skeleton.specs.Skeleton.{Skeleton}
+use Rattle.span_tracing_skeleton.specs.declared.call.FollowsCall.{FollowsCall}
 use Rattle.span_tracing_skeleton.specs.declared.call.Parent.{Parent}
 use Rattle.span_tracing_skeleton.specs.declared.call.Parent.TheVariants.{Contextual, Root, Explicit}
 use Rattle.span_tracing_skeleton.specs.declared.call.SpanCall.{SpanCall}
 use Rattle.span_tracing_skeleton.specs.declared.call.SpanName.{SpanName}
 use Rattle.span_tracing_skeleton.specs.declared.refusal.Refusal.{Refusal}
-use Rattle.span_tracing_skeleton.specs.declared.refusal.Refusal.TheVariants.{ForeignParent, IdsSpent, TooManyHandles, UnknownSpan}
-use Rattle.span_tracing_skeleton.specs.declared.refusal.Refusal.TheVariants.{UnknownStack}
+use Rattle.span_tracing_skeleton.specs.declared.refusal.Refusal.TheVariants.{ForeignParent, IdsSpent, ReleasedStack, TooManyHandles}
+use Rattle.span_tracing_skeleton.specs.declared.refusal.Refusal.TheVariants.{UnknownSpan}
 
 pub first_none : (a b : Option Refusal) → first a b ≡ None → a ≡ None
 first_none None b none = refl
@@ -76,45 +81,22 @@ more_bare (s ∷ ss) id = more_if (s.kin.id == id) s (changed kin_in one_more (m
 pub handle_bare : (x : RegistryValue) (id : ℕ) → bare (with_handle x id) ≡ with_handle (bare x) id
 handle_bare x id = ap (λ (ss : List PlainSpan). record x { spans = ss }) (sym (more_bare x.spans id))
 
--- where a skeleton has one stack, and a number is known, it is this stack's
-pub below_one : (n : ℕ) → nat_lt n 1 ≡ true → n ≡ 0
-below_one n below = grind (arith, nat_tests)
-
-pub none_below : {A : Type 0} (n : ℕ) → nat_lt n 0 ≡ true → A
-none_below n below = absurd (let never : suc n ≤ 0 = grind (arith, nat_tests) in omega arith)
-
-pub record OneStack (s : Skeleton) (kept : RegistryValue) (stack : ℕ) : Type 0 where
-  pub at : registry_at s stack ≡ kept
-  pub alone : (y : RegistryValue) → get_or (y ∷ []) stack new_registry ≡ y
-  pub with_other : (y : RegistryValue) → record s { stacks = y ∷ [] } ≡ with_registry s stack y
-
-pub one_stack : (s : Skeleton) (kept : RegistryValue) (stack : ℕ) → s.stacks ≡ kept ∷ [] → knows_stack s stack ≡ true →
-    OneStack s kept stack
-one_stack s kept stack is known =
-    let first_one = below_one stack (sym (ap (λ (ys : List RegistryValue). nat_lt stack (length ys)) is) ∙ known) in
-    record {
-      at = ap (λ (ys : List RegistryValue). get_or ys stack new_registry) is ∙ ap (λ (k : ℕ). get_or (kept ∷ []) k new_registry) first_one;
-      alone = λ y. ap (λ (k : ℕ). get_or (y ∷ []) k new_registry) first_one;
-      with_other = λ y. sym (ap (λ (ys : List RegistryValue). record s { stacks = set ys stack y }) is ∙
-          ap (λ (k : ℕ). record s { stacks = set (kept ∷ []) k y }) first_one);
-    }
-
--- the first stack is the one that lanes reach
-pub reaches_first : (y : RegistryValue) (stack : ℕ) → (stack == 0) ≡ true → get_or (y ∷ []) stack new_registry ≡ y
-reaches_first y stack is = let first_one : stack ≡ 0 = grind (arith, nat_tests) in ap (λ (k : ℕ). get_or (y ∷ []) k new_registry) first_one
-
 -- the parent of a request that is not refused is open
-pub parent_known : (s : Skeleton) (x : RegistryValue) (parent : Parent) →
-    ((stack : ℕ) → leads_to s.default stack ≡ true → registry_at s stack ≡ bare x) → parent_refusal s parent ≡ None →
-    knows x (explicit_parent (told_parent parent)) ≡ true
-parent_known s x Contextual is passes = refl
-parent_known s x Root is passes = refl
-parent_known s x (Explicit name) is passes =
-    let at_home : Option Refusal = when (not (leads_to s.default name.stack)) ForeignParent in
-    let at_open : Option Refusal = when (not (has_open s name)) UnknownSpan in
-    let both = second_none (when (not (knows_stack s name.stack)) UnknownStack) (first at_home at_open) passes in
-    sym (open_bare x.spans name.id.value) ∙ ap (λ (y : RegistryValue). is_open kin_in y.spans name.id.value)
-    (sym (is name.stack (open_by (leads_to s.default name.stack) ForeignParent (first_none at_home at_open both)))) ∙
+pub parent_known : (s : Skeleton) (x : RegistryValue) (lane stack : ℕ) (parent : Parent) → reach s lane ≡ Some stack →
+    registry_at s stack ≡ bare x → parent_refusal s lane parent ≡ None → knows x (explicit_parent (told_parent parent)) ≡ true
+parent_known s x lane stack Contextual at is passes = refl
+parent_known s x lane stack Root at is passes = refl
+parent_known s x lane stack (Explicit name) at is passes =
+    let lives : Option Refusal = life_refusal s name.stack in
+    let at_home : Option Refusal = when (not (leads_to (reach s lane) name.stack)) ForeignParent in
+    let at_open : Option Refusal = closed_refusal s name in
+    let both = second_none lives (first at_home at_open)
+    (second_none (number_refusal s name.stack) (first lives (first at_home at_open)) passes) in
+    let leads : leads_to (Some stack) name.stack ≡ true = subst (λ (o : Option ℕ). leads_to o name.stack ≡ true) at
+    (open_by (leads_to (reach s lane) name.stack) ForeignParent (first_none at_home at_open both)) in
+    let home : name.stack ≡ stack = (unsigned_Decides name.stack stack).0 leads in
+    sym (open_bare x.spans name.id.value) ∙
+    ap (λ (y : RegistryValue). is_open kin_in y.spans name.id.value) (sym (ap (registry_at s) home ∙ is)) ∙
     open_by (has_open s name) UnknownSpan (second_none at_home at_open both)
 
 -- the span of a call that is not refused, where it names one
@@ -124,16 +106,34 @@ named_passes s call name named passes = ap (span_refusal s) (sym named) ∙
     second_none (moment_refusal call.moment) (span_refusal s call.span)
     (second_none (lane_refusal s call.lane) (first (moment_refusal call.moment) (span_refusal s call.span)) passes)
 
-pub call_knows : (s : Skeleton) (call : SpanCall) (name : SpanName) → call.span ≡ Some name → call_refusal s call ≡ None →
-    knows_stack s name.stack ≡ true
-call_knows s call name named passes = open_by (knows_stack s name.stack) UnknownStack
-    (first_none (when (not (knows_stack s name.stack)) UnknownStack) (when (not (has_open s name)) UnknownSpan)
-    (named_passes s call name named passes))
+-- its stack is held, and the span is open
+lives_open : (s : Skeleton) (name : SpanName) → span_refusal s (Some name) ≡ None →
+    first (life_refusal s name.stack) (closed_refusal s name) ≡ None
+lives_open s name passes = second_none (number_refusal s name.stack) (first (life_refusal s name.stack) (closed_refusal s name)) passes
 
--- a span of a call that is not refused is open
+pub call_held : (s : Skeleton) (call : SpanCall) (name : SpanName) → call.span ≡ Some name → call_refusal s call ≡ None →
+    is_held s name.stack ≡ true
+call_held s call name named passes = open_by (is_held s name.stack) ReleasedStack
+    (first_none (life_refusal s name.stack) (closed_refusal s name) (lives_open s name (named_passes s call name named passes)))
+
 span_open : (s : Skeleton) (name : SpanName) → span_refusal s (Some name) ≡ None → has_open s name ≡ true
 span_open s name passes = open_by (has_open s name) UnknownSpan
-    (second_none (when (not (knows_stack s name.stack)) UnknownStack) (when (not (has_open s name)) UnknownSpan) passes)
+    (second_none (life_refusal s name.stack) (closed_refusal s name) (lives_open s name passes))
+
+-- so is the stack of a span that follows another one
+pub follows_held : (s : Skeleton) (call : FollowsCall) (name : SpanName) → call.span ≡ Some name →
+    follows_refusal s call ≡ None → is_held s name.stack ≡ true
+follows_held s call name named passes =
+    let span = call.span in
+    let other = call.follows in
+    let opened : Option Refusal = first (open_refusal s span) (open_refusal s other) in
+    let home : Option Refusal = first (foreign_refusal span other) opened in
+    let lives : Option Refusal = first (living_refusal s other) home in
+    let pair = second_none (moment_refusal call.moment) (pair_refusal s span other)
+    (second_none (lane_refusal s call.lane) (first (moment_refusal call.moment) (pair_refusal s span other)) passes) in
+    let both = second_none (named_refusal s other) (first (living_refusal s span) lives)
+    (second_none (named_refusal s span) (first (named_refusal s other) (first (living_refusal s span) lives)) pair) in
+    open_by (is_held s name.stack) ReleasedStack (ap (living_refusal s) (sym named) ∙ first_none (living_refusal s span) lives both)
 
 pub call_open : (s : Skeleton) (x : RegistryValue) (call : SpanCall) (name : SpanName) → registry_at s name.stack ≡ bare x →
     call.span ≡ Some name → call_refusal s call ≡ None → gives.open_refusal x name.id.value ≡ None
@@ -142,8 +142,8 @@ call_open s x call name is named passes =
     ap (λ (y : RegistryValue). is_open kin_in y.spans name.id.value) (sym is) ∙ span_open s name (named_passes s call name named passes))
 
 -- ids are left where the stack is reached
-pub ids_left : (s : Skeleton) → ids_refusal s ≡ None → nat_lt gives.most (reached s).next_id ≡ false
-ids_left s passes = when_none (nat_lt gives.most (reached s).next_id) IdsSpent passes
+pub ids_left : (s : Skeleton) (lane : ℕ) → ids_refusal s lane ≡ None → nat_lt gives.most (reached s lane).next_id ≡ false
+ids_left s lane passes = when_none (nat_lt gives.most (reached s lane).next_id) IdsSpent passes
 
 -- a handle that is not refused
 pub clone_none : (s : Skeleton) (x : RegistryValue) (name : SpanName) → registry_at s name.stack ≡ bare x →

@@ -56,8 +56,8 @@ abbrev pub FileHoldsObjects : PrunedSink → Contents → List ℕ → Type 0
 FileHoldsObjects s c name = IfSome (s.sink.found name) IsObjectLines → IfSome (bytes_at c.files name) HoldsObjects
 
 module _ {N E F D : Type 0} (contents : D → Option Contents) where
-  -- so do all files of each sink of a stack's output at a place, where the sink dropped no line in the run, was handed objects alone before it,
-  -- and the contents of its folder are known
+  -- so do all files of each sink of a stack's output at a place, where the sink dropped no line in the run, was handed objects alone
+  -- before it, and the contents of its folder are known
   abbrev pub SinksHoldObjects : FileTrace N E F D → FileTrace N E F D → ℕ → ℕ → Type 0
   SinksHoldObjects v w stack place =
       (number : ℕ) (olds news : Routed (RollingSink D)) (old new : RollingSink D) → routed_at (stack_in v stack) place ≡ Some olds →

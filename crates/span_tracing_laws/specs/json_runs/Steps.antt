@@ -6,7 +6,8 @@ use Rattle.span_registry_layers_store.specs.Registries.{PlainSpan}
 use Rattle.event_formatter_text.specs.JsonLaws.{IsInRange}
 use Rattle.event_formatter_text.specs.JsonTexts.{json_value}
 use Rattle.span_tracing_skeleton.specs.PlainData.{PlainStep, GlobalStep, EventStep, EnabledStep, SpanStep, RecordStep, FollowsFromStep}
-use Rattle.span_tracing_skeleton.specs.PlainData.{EnterStep, ExitStep, CloneStep, CloseStep, DefaultStep, ResetStep, CloneHandleStep, ReleaseStep}
+use Rattle.span_tracing_skeleton.specs.PlainData.{EnterStep, ExitStep, CloneStep, CloseStep, DefaultStep, ResetStep, CloneHandleStep}
+use Rattle.span_tracing_skeleton.specs.PlainData.{ReleaseStep}
 use Rattle.span_tracing_skeleton.specs.Skeleton.{HeldStack, Skeleton}
 use Rattle.span_tracing_laws.specs.json.Objects.{IsPlaceInRange}
 

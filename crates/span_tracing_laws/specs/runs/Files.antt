@@ -34,9 +34,8 @@ FileTrace N E F D = Traced N E F (Routed (RollingSink D))
 
 module _ {N E F D : Type 0} (contents : D → Option Contents) (failed : D → ℕ) (n : Ghosts N) (line_of : E → Settings → PlainContext →
     PlainEvent → Option (List ℕ)) (g : FilterGhosts F) where
-  -- each sink of each output of each stack took those lines of the output's machine that the route sends to it, in order, each at its own moment,
-  -- whatever became of them at the
-  -- other sinks; what that says of looks, openings and writes over any folder the laws of sinks tell
+  -- each sink of each output of each stack took those lines of the output's machine that the route sends to it, in order, each at its own
+  -- moment, whatever became of them at the other sinks; what that says of looks, openings and writes over any folder the laws of sinks tell
   abbrev pub SinksTakeTheirs : FileTrace N E F D → List StepWithMask → FileTrace N E F D → Type 0
   SinksTakeTheirs v turns w =
       (p : Plain N) → AgreesPlain n line_of g v p → (stack place : ℕ) (olds : Routed (RollingSink D)) →

@@ -40,7 +40,7 @@ module _ {N E F S : Type 0} where
 
 module _ {N E F S : Type 0} (n : Ghosts N) (line_of : E → Settings → PlainContext → PlainEvent → Option (List ℕ)) (g : FilterGhosts F)
     (takes : S → At → PlainLine → S → Type 0) (h : LayerGhosts (Lines N E)) (sg : SubscriberGhosts (TraceStackValue N E F S)) where
-  -- each step of a trace over a stack with sinks follows the skeleton and the output machines, and leaves the stack ready for the next one
+  -- each step of a trace over stacks with sinks follows the skeleton and the output machines, and leaves the trace ready for the next one
   abbrev pub StepsFollow : Type 0
   StepsFollow = (v : Traced N E F S) (step : PlainStep) (reply : Reply) (w : Traced N E F S) → TraceIsReady g h v →
       StepGives sg registry_of v step reply w →

@@ -1,5 +1,5 @@
 -- What a caller misses who makes no request at a callsite in which nobody is interested.
-use Rattle.std.specs.Prelude.{◌≡◌, ℕ, Bool, true, false, List, Option, Some, slice_get}
+use Rattle.std.specs.Prelude.{◌≡◌, Bool, true, false, Some, slice_get}
 use Rattle.tracing_core_fields.specs.PlainMetadata.{PlainMetadata}
 use Rattle.tracing_core.specs.declared.hub.index.CallsiteIndex.{CallsiteIndex}
 use Rattle.tracing_core_fields.specs.requests.Lists.{Every}
