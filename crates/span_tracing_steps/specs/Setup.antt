@@ -1,5 +1,5 @@
 -- What setup calls leave of a trace.
-use Rattle.std.specs.Prelude.{◌≡◌, ◌⊎◌, ℕ, [], ◌∷◌, ◌++◌, length, false, Option, Some, None, Result, Ok, Err}
+use Rattle.std.specs.Prelude.{◌≡◌, ◌⊎◌, ℕ, [], ◌∷◌, ◌++◌, length, false, if◌then◌else◌, nat_lt, slice_set, Option, Some, None, Result, Ok, Err}
 use Rattle.tracing_core_fields.specs.PlainMetadata.{PlainMetadata}
 use Rattle.tracing_core_fields.specs.requests.Interests.{PlainInterest}
 use Rattle.tracing_core_fields.specs.declared.requests.subscriber.Subscriber.{Ghosts}
@@ -24,6 +24,10 @@ with_thread v thread = record v {
   hub = record v.hub { lanes = v.hub.lanes ++ Running Unset ∷ []; entered = v.hub.entered ++ false ∷ [] };
   threads = v.threads ++ thread ∷ [];
 }
+
+-- without the stack that waited under a number
+abbrev pub without_retired : {T : Type 0} → StateValue T → ℕ → StateValue T
+without_retired v number = record v { retired = if nat_lt number (length v.retired) then slice_set v.retired number None else v.retired }
 
 module _ {T : Type 0} (g : Ghosts T) where
   abbrev pub RegistersAs : TraceCallsite → StateValue T → Result PlainInterest Refusal → StateValue T → Type 0

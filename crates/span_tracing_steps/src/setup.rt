@@ -1,8 +1,9 @@
 //! Setup calls, which are no steps.
-ghost use Rattle.std.specs.Prelude.{◌≡◌, IfOk, OnErr, OnOk, length, string_bytes};
+ghost use Rattle.std.specs.Prelude.{◌≡◌, IfOk, OnErr, OnOk, length, slice_get, string_bytes};
 ghost use Rattle.std.specs.Option.{option_map};
 ghost use Rattle.tracing_core_fields.specs.Metadata.{plain_metadata};
-ghost use Rattle.span_tracing_steps.specs.Setup.{AddGives, RegisterGives, own_at, with_thread};
+ghost use Rattle.span_tracing_steps.specs.Setup.{AddGives, RegisterGives, own_at, with_thread, without_retired};
+ghost use Rattle.span_tracing_skeleton.specs.Looking.{inner};
 ghost use Rattle.span_tracing_steps.specs.States.{new_state, value_in};
 
 use crate::callsite::TraceCallsite;
@@ -109,6 +110,22 @@ impl<T: Subscriber> TraceParts<T> {
             }
             Err(AddError::OutOfMemory(stack)) => Err(stack),
             Err(AddError::NumbersSpent(stack)) => Err(stack),
+        }
+    }
+
+    /// Takes the stack with a number, where it was released and wasn't taken yet. The sinks of its outputs come with it.
+    pub fn take_retired(&mut self, number: usize) -> Option<T>
+        requires { IsSound self.old }
+        ensures sound { IsSound self.new }
+        // It is the stack that waits under the number, where one does.
+        ensures taken { result ≡ inner (slice_get (value_in self.old).retired number) }
+        // It doesn't wait any more, and nothing else changes.
+        ensures left { value_in self.new ≡ without_retired (value_in self.old) number }
+    {
+        if number < self.retired.len() {
+            self.retired[number].take()
+        } else {
+            None
         }
     }
 }
