@@ -1,4 +1,3 @@
-pub mod Setup
 pub mod OpenedTrace
 pub mod Ready
 pub mod OutputReaders
@@ -6,17 +5,21 @@ pub mod Calls
 pub mod OutputIndependence
 pub mod Levels
 pub mod Sites
+pub use Rattle.span_tracing_skeleton.specs.Acting
+pub use Rattle.span_tracing_skeleton.specs.Looking
 pub use Rattle.span_tracing_skeleton.specs.Machine
+pub use Rattle.span_tracing_skeleton.specs.Order
 pub use Rattle.span_tracing_skeleton.specs.PlainData
 pub use Rattle.span_tracing_skeleton.specs.Skeleton
 pub use Rattle.span_tracing_skeleton.specs.Refusals
+pub use Rattle.span_tracing_skeleton.specs.Refusing
 pub use Rattle.span_tracing_skeleton.specs.Replies
 pub use Rattle.span_tracing_skeleton.specs.declared.call.Reply
 pub use Rattle.span_tracing_skeleton.specs.declared.call_error.CallError
 pub use Rattle.span_tracing_skeleton.specs.declared.refusal.Refusal
 pub use Rattle.span_tracing_steps.specs.InterestPreservation
 pub use Rattle.span_tracing_steps.specs.Interests
-pub use Rattle.span_tracing_steps.specs.Setup as SetupSteps
+pub use Rattle.span_tracing_steps.specs.Setup
 pub use Rattle.span_tracing_steps.specs.States
 pub use Rattle.span_tracing_steps.specs.Steps
 pub use Rattle.span_tracing_steps.specs.TraceInvariant

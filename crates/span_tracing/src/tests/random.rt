@@ -216,8 +216,8 @@ fn call(
 
 fn has_texts(rt: &impl Abort, trace: &Trace<Outputs>, model: &Model) -> Result<(), AllocError> {
     for (output, text) in model.texts.iter().enumerate() {
-        assert!(rt; trace.sink(output, 0).is_some());
-        let Some(sink) = trace.sink(output, 0) else {
+        assert!(rt; trace.sink(0, output, 0).is_some());
+        let Some(sink) = trace.sink(0, output, 0) else {
             return Ok(());
         };
         let files = sink.appender().folder().files()?;
