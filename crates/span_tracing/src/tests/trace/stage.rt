@@ -115,15 +115,26 @@ pub(crate) fn made(reply: Reply) -> Result<SpanName, Fail> {
     }
 }
 
-/// Compares the file of a sink with a text.
+/// Compares the file of an output of the first stack with a text.
 pub(crate) fn has_file(
     rt: &impl Abort,
     trace: &Trace<Written>,
-    sink: usize,
+    output: usize,
     name: &str,
     text: &str,
 ) -> Result<(), Fail> {
-    let sink = trace.sink(0, sink, 0).ok_or("a sink")?;
+    has_file_of(rt, trace, (0, output), name, text)
+}
+
+/// Compares the file of an output of a stack with a text.
+pub(crate) fn has_file_of(
+    rt: &impl Abort,
+    trace: &Trace<Written>,
+    (stack, output): (usize, usize),
+    name: &str,
+    text: &str,
+) -> Result<(), Fail> {
+    let sink = trace.sink(stack, output, 0).ok_or("a sink")?;
     assert_eq!(rt; sink.dropped(), 0);
     for entry in &sink.appender().folder().files()? {
         if entry.name == name {
