@@ -1,3 +1,4 @@
+pub mod Setup
 pub mod OpenedTrace
 pub mod Ready
 pub mod OutputReaders
@@ -19,7 +20,7 @@ pub use Rattle.span_tracing_skeleton.specs.declared.call_error.CallError
 pub use Rattle.span_tracing_skeleton.specs.declared.refusal.Refusal
 pub use Rattle.span_tracing_steps.specs.InterestPreservation
 pub use Rattle.span_tracing_steps.specs.Interests
-pub use Rattle.span_tracing_steps.specs.Setup
+pub use Rattle.span_tracing_steps.specs.Setup as SetupSteps
 pub use Rattle.span_tracing_steps.specs.States
 pub use Rattle.span_tracing_steps.specs.Steps
 pub use Rattle.span_tracing_steps.specs.TraceInvariant

@@ -32,6 +32,7 @@ pub use laws::leveled_outputs_are_honest;
 pub use laws::levels_answer;
 pub use laws::levels_are_honest;
 pub use laws::outputs_go_alone;
+pub use laws::traces_start_ready;
 pub use opening::open_trace;
 pub use site::Site;
 pub use span_registry_layers::Output;
