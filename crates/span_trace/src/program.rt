@@ -33,13 +33,27 @@ impl<X: Files + AllocGlobal + Clone + Drop> Answer<X> {
     fn write<W: Write>(&self, alloc: Global, output: &mut W) -> Result<(), PrintFault> {
         write_replies(alloc, self.replies.as_slice(), output)?;
         let mut names = self.folders.as_slice();
-        if let Some(stack) = self.trace.stack() {
-            for routed in stack.sinks() {
-                names = write_output(alloc, routed, names, output)?;
+        for number in 0..self.trace.stack_count() {
+            if let Some(stack) = self.trace.stack(number) {
+                names = write_stack(alloc, stack, names, output)?;
             }
         }
         Ok(())
     }
+}
+
+/// Writes the files of a stack's outputs in order, and gives the names that are left for later stacks.
+fn write_stack<'a, X: Files + AllocGlobal + Clone + Drop, W: Write>(
+    alloc: Global,
+    stack: &LogStack<X>,
+    names: &'a [Option<String>],
+    output: &mut W,
+) -> Result<&'a [Option<String>], PrintFault> {
+    let mut rest = names;
+    for routed in stack.sinks() {
+        rest = write_output(alloc, routed, rest, output)?;
+    }
+    Ok(rest)
 }
 
 /// Writes the files of an output's sinks, as far as they are in memory, and gives the names that are left for later outputs.

@@ -10,12 +10,24 @@ use std::rt::Files;
 #[derive(Debug, Drop)]
 struct Replies {
     replies: Vec<Reply>,
-    /// The callsites of the spans that were made. Ids are given in order from 1, so that of span N stands at
-    /// place N - 1.
-    sites: Vec<u64>,
+    /// By stack the callsites of the spans that were made. A stack gives ids in order from 1, so that of its
+    /// span N stands at place N - 1.
+    sites: Vec<Vec<u64>>,
 }
 
 impl Replies {
+    /// No reply yet, over so many stacks.
+    fn new(alloc: Global, stacks: usize) -> Result<Replies, AllocError> {
+        let mut told = Replies {
+            replies: Vec::new(alloc),
+            sites: Vec::new(alloc),
+        };
+        for _ in 0..stacks {
+            told.sites.push(Vec::new(alloc))?;
+        }
+        Ok(told)
+    }
+
     /// Runs the steps, which are then done.
     fn run<X: Files + AllocGlobal + Clone + Drop>(
         &mut self,
@@ -24,8 +36,10 @@ impl Replies {
     ) -> Result<(), AllocError> {
         let replies = trace.run(steps.as_slice())?;
         for (step, reply) in steps.iter().zip(replies.iter()) {
-            if let (Step::NewSpan(span), Reply::Span(Some(_))) = (step, reply) {
-                self.sites.push(span.callsite.0)?;
+            if let (Step::NewSpan(span), Reply::Span(Some(name))) = (step, reply)
+                && let Some(sites) = self.sites.get_mut(name.stack)
+            {
+                sites.push(span.callsite.0)?;
             }
         }
         self.replies.extend_from_slice(replies.as_slice())?;
@@ -35,8 +49,9 @@ impl Replies {
 
     /// The callsite of a span that was made.
     fn site_of(&self, span: Option<SpanName>) -> Option<u64> {
-        let place = span?.id.get().checked_sub(1)? as usize;
-        self.sites.get(place).copied()
+        let name = span?;
+        let place = name.id.get().checked_sub(1)? as usize;
+        self.sites.get(name.stack)?.get(place).copied()
     }
 }
 
@@ -47,10 +62,7 @@ pub(crate) fn run_steps<X: Files + AllocGlobal + Clone + Drop>(
     callsites: &[CallsiteLine],
     lines: Vec<StepLine>,
 ) -> Result<Vec<Reply>, AllocError> {
-    let mut told = Replies {
-        replies: Vec::new(alloc),
-        sites: Vec::new(alloc),
-    };
+    let mut told = Replies::new(alloc, trace.stack_count())?;
     let mut steps = Vec::new(alloc);
     for line in lines {
         match line {

@@ -48,7 +48,7 @@ impl Script {
         let line = decode_line(alloc, self.setup.as_slice(), bytes)?;
         match line {
             Line::Setup(setup) => {
-                if !self.steps.is_empty() || self.has_stack_already(&setup) {
+                if !self.steps.is_empty() {
                     return Err(LineFault::NotReadable);
                 }
                 self.setup.push(setup)?;
@@ -56,14 +56,5 @@ impl Script {
             Line::Step(step) => self.steps.push(step)?,
         }
         Ok(())
-    }
-
-    /// Whether the call would give a second stack.
-    fn has_stack_already(&self, setup: &Setup) -> bool {
-        matches!(setup, Setup::Stack(_))
-            && self
-                .setup
-                .iter()
-                .any(|line| matches!(line, Setup::Stack(_)))
     }
 }

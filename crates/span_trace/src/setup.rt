@@ -1,7 +1,7 @@
 //! The setup calls of a script, made on a new trace.
 
 use crate::fault::{Fault, Stop};
-use crate::lines::{CallsiteLine, LaneLine, LineFault, Setup, StackLine};
+use crate::lines::{CallsiteLine, LaneLine, Setup, StackLine};
 use crate::stack::{LogStack, stack_of};
 use span_tracing::{Refusal, Trace};
 use std::alloc::{AllocError, Global};
@@ -9,7 +9,7 @@ use std::rt::Files;
 use tracing_core::{FieldSet, Identifier, Metadata};
 
 /// A trace that is set up, its callsites' lines, and for each sink the name under which its files are shown, where they are in
-/// memory.
+/// memory: of the first stack's sinks in order, then of the second's, and so on.
 #[derive(Drop)]
 pub(crate) struct Stage<X: Files + AllocGlobal + Clone + Drop> {
     pub(crate) trace: Trace<LogStack<X>>,
@@ -50,9 +50,6 @@ impl<X: Files + AllocGlobal + Clone + Drop> Stage<X> {
 
     fn add_stack(&mut self, rt: &X, line: StackLine) -> Result<(), Fault> {
         let stack = stack_of(rt, line, &mut self.folders)?;
-        if self.trace.has_stack() {
-            return Err(Fault::Unread(LineFault::NotReadable));
-        }
         match self.trace.add_stack(stack) {
             Ok(_) => Ok(()),
             Err(_) => Err(Fault::Refused(Refusal::OutOfMemory)),

@@ -268,7 +268,7 @@ impl<D: Folder> Stage<D> {
 impl Stage<CountingFolder> {
     /// What was handed over to all folders.
     pub(crate) fn counted(&self) -> Result<Counter, Fault> {
-        let Some(stack) = self.trace.stack() else {
+        let Some(stack) = self.trace.stack(0) else {
             return Err(Fault::OddReply);
         };
         let mut counted = Counter { bytes: 0, lines: 0 };

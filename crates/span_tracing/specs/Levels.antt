@@ -12,17 +12,19 @@ use Rattle.span_tracing_outputs.specs.OutputNotices.{Notice}
 use Rattle.span_tracing_outputs.specs.TraceFollows.{numbers_in, some_passes, verdicts_from}
 use Rattle.span_tracing_outputs.specs.TraceStacks.{TraceStackValue}
 use Rattle.span_tracing_outputs.specs.Turns.{FilterHears, Lined, Lines}
-use Rattle.span_tracing_skeleton.specs.Machine.{known, named}
+use Rattle.span_tracing_skeleton.specs.Looking.{known, named, reach}
 use Rattle.span_tracing_skeleton.specs.PlainData.{PlainStep, GlobalStep, EventStep, EnabledStep, SpanStep, RecordStep, FollowsFromStep}
-use Rattle.span_tracing_skeleton.specs.PlainData.{EnterStep, ExitStep, CloneStep, CloseStep}
+use Rattle.span_tracing_skeleton.specs.PlainData.{EnterStep, ExitStep, CloneStep, CloseStep, DefaultStep, ResetStep, CloneHandleStep}
+use Rattle.span_tracing_skeleton.specs.PlainData.{ReleaseStep}
 use Rattle.span_tracing_skeleton.specs.Skeleton.{Answers, Unasked, Wanted, Dropped, Passed, Heard}
+use Rattle.span_tracing_steps.specs.States.{held_in}
 use Rattle.span_tracing_laws.specs.runs.StepFollows.{IsAnswered, Traced, skeleton_of}
 
--- where the stack is reached, and the callsite is known; else nobody is asked
-abbrev pub if_asked : Bool → Option PlainMetadata → (PlainMetadata → Answers) → Answers
-if_asked false callsite answers = Unasked
-if_asked true None answers = Unasked
-if_asked true (Some m) answers = answers m
+-- where a stack is reached, and the callsite is known; else nobody is asked
+abbrev pub if_asked : Option ℕ → Option PlainMetadata → (ℕ → PlainMetadata → Answers) → Answers
+if_asked None callsite answers = Unasked
+if_asked (Some stack) None answers = Unasked
+if_asked (Some stack) (Some m) answers = answers stack m
 
 module _ {N E : Type 0} where
   -- for each output, whether the callsite's level is no more verbose than the output's
@@ -51,15 +53,22 @@ module _ {N E : Type 0} where
     -- what the levels of a trace answer of a step that isn't refused
     abbrev pub level_answers : Traced N E ℕ S → PlainStep → Answers
     level_answers v (GlobalStep handle) = Unasked
-    level_answers v (EventStep e) = if_asked v.is_global (known (skeleton_of v) e.callsite false) (heard_by v.stack)
-    level_answers v (EnabledStep call) = if_asked v.is_global (named v.callsites call.callsite.0) (wanted_by v.stack)
-    level_answers v (SpanStep n) = if_asked v.is_global (known (skeleton_of v) n.callsite true) (made_by v.stack)
+    level_answers v (EventStep e) = if_asked (reach (skeleton_of v) e.lane) (known (skeleton_of v) e.callsite false)
+        (λ stack m. heard_by (held_in v stack) m)
+    level_answers v (EnabledStep call) = if_asked (reach (skeleton_of v) call.lane) (named (skeleton_of v).callsites call.callsite.0)
+        (λ stack m. wanted_by (held_in v stack) m)
+    level_answers v (SpanStep n) = if_asked (reach (skeleton_of v) n.lane) (known (skeleton_of v) n.callsite true)
+        (λ stack m. made_by (held_in v stack) m)
     level_answers v (RecordStep r) = Unasked
     level_answers v (FollowsFromStep call) = Unasked
     level_answers v (EnterStep call) = Unasked
     level_answers v (ExitStep call) = Unasked
     level_answers v (CloneStep call) = Unasked
     level_answers v (CloseStep call) = Unasked
+    level_answers v (DefaultStep call) = Unasked
+    level_answers v (ResetStep call) = Unasked
+    level_answers v (CloneHandleStep handle) = Unasked
+    level_answers v (ReleaseStep handle) = Unasked
 
 -- Asked of a step, levels answer just that, and whatever they are told they stay.
 pub record LevelsAnswer {N E : Type 0} (S : Type 0) (n : Ghosts N) (line_of : E → Settings → PlainContext → PlainEvent → Option (List ℕ))

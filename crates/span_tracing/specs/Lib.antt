@@ -6,10 +6,14 @@ pub mod Calls
 pub mod OutputIndependence
 pub mod Levels
 pub mod Sites
+pub use Rattle.span_tracing_skeleton.specs.Acting
+pub use Rattle.span_tracing_skeleton.specs.Looking
 pub use Rattle.span_tracing_skeleton.specs.Machine
+pub use Rattle.span_tracing_skeleton.specs.Order
 pub use Rattle.span_tracing_skeleton.specs.PlainData
 pub use Rattle.span_tracing_skeleton.specs.Skeleton
 pub use Rattle.span_tracing_skeleton.specs.Refusals
+pub use Rattle.span_tracing_skeleton.specs.Refusing
 pub use Rattle.span_tracing_skeleton.specs.Replies
 pub use Rattle.span_tracing_skeleton.specs.declared.call.Reply
 pub use Rattle.span_tracing_skeleton.specs.declared.call_error.CallError

@@ -1,5 +1,5 @@
 -- A trace that was opened with its outputs.
-use Rattle.std.specs.Prelude.{ℕ, [], List, Option, Some}
+use Rattle.std.specs.Prelude.{◌≡◌, ℕ, [], ◌∷◌, List, Option, Some}
 use Rattle.tracing_core_moments.specs.declared.moment.Moment.{Moment}
 use Rattle.tracing_appender_rolling.specs.folders.Contents.{Contents}
 use Rattle.span_registry_layers_layers.specs.declared.filter.Filter.{Ghosts as FilterGhosts}
@@ -14,13 +14,25 @@ use Rattle.span_tracing_outputs.specs.files.Settings.{Shown}
 use Rattle.span_tracing_outputs.specs.sinks.Routed.{Routed}
 use Rattle.span_tracing_outputs.specs.declared.files.output_spec.OutputSpec.{OutputSpec}
 use Rattle.span_tracing_outputs.specs.declared.sinks.sink.RollingSink.{RollingSink}
+use Rattle.span_tracing_skeleton.specs.Looking.{reach}
+use Rattle.span_tracing_skeleton.specs.Skeleton.{Own, Unset}
 use Rattle.span_tracing_laws.specs.runs.Laws.{StackStays}
+use Rattle.span_tracing_laws.specs.runs.StepFollows.{Traced, skeleton_of}
 
 module _ {F D : Type 0} (contents : D → Option Contents) (failed : D → ℕ) (g : FilterGhosts F) (h : LayerGhosts Shown) (m : Moment) where
-  -- the trace has a stack. Its outputs and sinks are those of a new stack of these outputs, whose files were opened at the moment, and
+  -- the stack is there. Its outputs and sinks are those of a new stack of these outputs, whose files were opened at the moment, and
   -- its registry is that of the new stack, without a span
   abbrev pub HasOutputs : List (OutputSpec F D) → Option (TraceStackValue Fields (Format LineFormat Timer) F (Routed (RollingSink D))) →
       Type 0
   HasOutputs specs stack =
       (made : TraceStackValue Fields (Format LineFormat Timer) F (Routed (RollingSink D))) ×
       OpensStack contents failed g h m [] specs made × StackStays (Some made) stack
+
+-- the trace has one stack, one lane, one handle and no guard: the lane reaches the stack, by the global default
+pub record ReachesFirst {N E F S : Type 0} (v : Traced N E F S) : Type 0 where
+  pub given : (skeleton_of v).given ≡ 1
+  pub lanes : (skeleton_of v).lanes ≡ Unset ∷ []
+  pub default : (skeleton_of v).default ≡ Own 0
+  pub reached : reach (skeleton_of v) 0 ≡ Some 0
+  pub handles : (skeleton_of v).handles ≡ Some 0 ∷ []
+  pub guards : (skeleton_of v).guards ≡ []

@@ -1,35 +1,45 @@
--- Each output goes its own way while all filters answer the same, whatever the other outputs' formats and kept texts are, and whatever
--- becomes of their texts and lines.
-use Rattle.std.specs.Prelude.{◌≡◌, ℕ, zero, suc, List, [], ◌∷◌, slice_get}
+-- Each output goes its own way while all filters answer the same, whatever the other outputs' formats and kept texts are, also those of
+-- other stacks, and whatever becomes of their texts and lines.
+use Rattle.std.specs.Prelude.{◌≡◌, ℕ, zero, suc, List, [], ◌∷◌, Option, Some, None, slice_get}
 use Rattle.event_formatter_text.specs.declared.format_fields.FormatFields.{Ghosts}
-use Rattle.span_tracing_outputs.specs.OutputFolds.{first_of, rest_of}
-use Rattle.span_tracing_laws.specs.runs.Runs.{Plain, StepWithMask, Went, Starved, lines_of, plain_run}
+use Rattle.span_tracing_skeleton.specs.Skeleton.{Skeleton}
+use Rattle.span_tracing_outputs.specs.OutputFolds.{Fates, first_of, rest_of}
+use Rattle.span_tracing_laws.specs.runs.Runs.{Plain, StepWithMask, Went, Starved, lines_of, plain_after, plain_run}
+use Rattle.span_tracing_laws.specs.runs.StepNotices.{Told, told_of, told_to}
 
 -- of lists for each output, that of the output at a place; nothing where there is none
 abbrev pub list_at : {A : Type 0} → List (List A) → ℕ → List A
 list_at lists zero = first_of lists
 list_at lists (suc place) = list_at (rest_of lists) place
 
--- two plain states with one skeleton and the same output machine at a place, whatever their other machines are
-pub record AreAlikeAt {N : Type 0} (place : ℕ) (p q : Plain N) : Type 0 where
+-- two plain states with one skeleton and the same output machine at a place of a stack, whatever their other machines are
+pub record AreAlikeAt {N : Type 0} (stack place : ℕ) (p q : Plain N) : Type 0 where
   pub skeleton : p.skeleton ≡ q.skeleton
-  pub out : slice_get p.outs place ≡ slice_get q.outs place
+  pub out : slice_get (p.outs stack) place ≡ slice_get (q.outs stack) place
 
--- the same step with the same answers, and the same fates of the texts and lines of the output at a place, whatever became of the others'
-abbrev pub GoAlikeAt : ℕ → StepWithMask → StepWithMask → Type 0
-GoAlikeAt place (Went step a fates) (Went other b others) = (step ≡ other) × (a ≡ b) × (list_at fates place ≡ list_at others place)
-GoAlikeAt place (Went step a fates) (Starved other) = ⊥
-GoAlikeAt place (Starved step) (Went other b others) = ⊥
-GoAlikeAt place (Starved step) (Starved other) = step ≡ other
+-- the same fates of the texts and lines of the output at a place, where its stack is told something
+abbrev pub FatedAlikeAt : {N : Type 0} → ℕ → Option (Told N) → Fates → Fates → Type 0
+FatedAlikeAt place None fates others = Unit {0}
+FatedAlikeAt place (Some told) fates others = list_at fates place ≡ list_at others place
 
-abbrev pub AllGoAlikeAt : ℕ → List StepWithMask → List StepWithMask → Type 0
-AllGoAlikeAt place [] [] = Unit {0}
-AllGoAlikeAt place [] (u ∷ us) = ⊥
-AllGoAlikeAt place (t ∷ ts) [] = ⊥
-AllGoAlikeAt place (t ∷ ts) (u ∷ us) = GoAlikeAt place t u × AllGoAlikeAt place ts us
+-- the same step with the same answers, and the same fates of the texts and lines of the output at a place of a stack, whatever became of
+-- the others'
+abbrev pub GoAlikeAt : Type 0 → Skeleton → ℕ → ℕ → StepWithMask → StepWithMask → Type 0
+GoAlikeAt N s stack place (Went step a fates) (Went other b others) =
+    (step ≡ other) × (a ≡ b) × FatedAlikeAt place (told_to N stack (told_of N s step a)) fates others
+GoAlikeAt N s stack place (Went step a fates) (Starved other) = ⊥
+GoAlikeAt N s stack place (Starved step) (Went other b others) = ⊥
+GoAlikeAt N s stack place (Starved step) (Starved other) = step ≡ other
 
--- then the output at that place is the same afterwards, and offers the same lines
-abbrev pub OutputsGoAlone : {N : Type 0} → Ghosts N → Type 0
-OutputsGoAlone {N = N} n =
-    (place : ℕ) (p q : Plain N) (ts us : List StepWithMask) → AreAlikeAt place p q → AllGoAlikeAt place ts us →
-    AreAlikeAt place (plain_run n p ts) (plain_run n q us) × (slice_get (lines_of n p ts) place ≡ slice_get (lines_of n q us) place)
+module _ {N : Type 0} (n : Ghosts N) where
+  abbrev pub AllGoAlikeAt : ℕ → ℕ → Plain N → List StepWithMask → List StepWithMask → Type 0
+  AllGoAlikeAt stack place p [] [] = Unit {0}
+  AllGoAlikeAt stack place p [] (u ∷ us) = ⊥
+  AllGoAlikeAt stack place p (t ∷ ts) [] = ⊥
+  AllGoAlikeAt stack place p (t ∷ ts) (u ∷ us) = GoAlikeAt N p.skeleton stack place t u × AllGoAlikeAt stack place (plain_after n p t) ts us
+
+  -- then the output at that place of that stack is the same afterwards, and offers the same lines
+  abbrev pub OutputsGoAlone : Type 0
+  OutputsGoAlone = (stack place : ℕ) (p q : Plain N) (ts us : List StepWithMask) → AreAlikeAt stack place p q →
+      AllGoAlikeAt stack place p ts us → AreAlikeAt stack place (plain_run n p ts) (plain_run n q us) ×
+      (slice_get (lines_of n p ts stack) place ≡ slice_get (lines_of n q us stack) place)

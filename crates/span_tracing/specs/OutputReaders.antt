@@ -1,4 +1,4 @@
--- What can be read of a trace's outputs.
+-- What can be read of the outputs of a stack.
 use Rattle.std.specs.Prelude.{ℕ, ◌+◌, min, List, [], ◌∷◌, Option, Some, None, slice_get}
 use Rattle.span_tracing_outputs.specs.TraceStacks.{TraceStackValue}
 use Rattle.span_tracing_outputs.specs.Turns.{Lined}
@@ -9,7 +9,7 @@ abbrev pub sink_of : {S : Type 0} → Option (Routed S) → ℕ → Option S
 sink_of None number = None
 sink_of (Some routed) number = slice_get routed.sinks number
 
--- the sink with a number of the output at a place
+-- the sink with a number of the output at a place of a stack
 abbrev pub sink_at : {N E F S : Type 0} → Option (TraceStackValue N E F (Routed S)) → ℕ → ℕ → Option S
 sink_at None output number = None
 sink_at (Some x) output number = sink_of (slice_get x.sinks output) number

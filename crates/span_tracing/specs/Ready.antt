@@ -1,4 +1,4 @@
--- Steps and runs of a trace whose stack is ready.
+-- Steps and runs of a trace that is ready.
 use Rattle.std.specs.Prelude.{ℕ, List, Option}
 use Rattle.tracing_core_fields.specs.requests.PlainRequests.{PlainEvent}
 use Rattle.tracing_core_fields.specs.declared.requests.subscriber.Subscriber.{Ghosts as SubscriberGhosts}
@@ -17,18 +17,17 @@ use Rattle.span_tracing_outputs.specs.declared.sinks.sink.RollingSink.{RollingSi
 use Rattle.span_tracing_skeleton.specs.PlainData.{PlainStep}
 use Rattle.span_tracing_skeleton.specs.declared.call.Reply.{Reply}
 use Rattle.span_tracing_laws.specs.runs.Files.{RunsToFiles}
-use Rattle.span_tracing_laws.specs.runs.StepFollows.{Follows, StackIsReady, Traced, registry_of}
+use Rattle.span_tracing_laws.specs.runs.StepFollows.{Follows, TraceIsReady, Traced, registry_of}
 use Rattle.span_tracing_steps.specs.Steps.{StepGives}
 
--- A step follows the skeleton and the output machines where the stack is ready, as it is where there is none, when it comes with its sinks
--- and is honest, and
--- after each step; and it leaves the stack ready.
+-- A step follows the skeleton and the output machines where the trace is ready, as it is where it has no stack, when a stack was added with
+-- its sinks and with honest filters, and after each step; and it leaves the trace ready.
 abbrev pub FollowsReady : {N E F S : Type 0} → Ghosts N → (E → Settings → PlainContext → PlainEvent → Option (List ℕ)) → FilterGhosts F →
     (S → At → PlainLine → S → Type 0) → LayerGhosts (Lines N E) → Traced N E F S → PlainStep → Reply → Traced N E F S → Type 0
-FollowsReady n line_of g takes h v step reply w = StackIsReady g h v.stack → Follows n line_of g takes h v step reply w ×
-    StackIsReady g h w.stack
+FollowsReady n line_of g takes h v step reply w = TraceIsReady g h v → Follows n line_of g takes h v step reply w ×
+    TraceIsReady g h w
 
--- A step: what the trace's parts make of it, and, where the stack is ready, what the skeleton and the output machines make of it.
+-- A step: what the trace's parts make of it, and, where the trace is ready, what the skeleton and the output machines make of it.
 pub record IsStep {N E F S : Type 0} (s : SubscriberGhosts (TraceStackValue N E F S)) (n : Ghosts N)
     (line_of : E → Settings → PlainContext → PlainEvent → Option (List ℕ)) (g : FilterGhosts F)
     (takes : S → At → PlainLine → S → Type 0) (h : LayerGhosts (Lines N E)) (v : Traced N E F S) (step : PlainStep) (reply : Reply)
@@ -40,5 +39,5 @@ pub record IsStep {N E F S : Type 0} (s : SubscriberGhosts (TraceStackValue N E 
 abbrev pub RunsReady : {N E F D : Type 0} → (D → Option Contents) → (D → ℕ) → Ghosts N →
     (E → Settings → PlainContext → PlainEvent → Option (List ℕ)) → FilterGhosts F → LayerGhosts (Lines N E) →
     Traced N E F (Routed (RollingSink D)) → List PlainStep → List Reply → Traced N E F (Routed (RollingSink D)) → Type 0
-RunsReady contents failed n line_of g h v steps replies w = StackIsReady g h v.stack →
-    RunsToFiles contents failed n line_of g h v steps replies w × StackIsReady g h w.stack
+RunsReady contents failed n line_of g h v steps replies w = TraceIsReady g h v →
+    RunsToFiles contents failed n line_of g h v steps replies w × TraceIsReady g h w

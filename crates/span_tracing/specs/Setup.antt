@@ -1,9 +1,12 @@
--- What a stack that is added makes of a trace.
-use Rattle.std.specs.Prelude.{Ok}
-use Rattle.tracing_core_fields.specs.declared.requests.subscriber.Subscriber.{Ghosts}
-use Rattle.span_tracing_steps.specs.Setup.{AddGives}
-use Rattle.span_tracing_steps.specs.States.{StateValue}
+-- Traces before their first step.
+use Rattle.span_registry_layers_layers.specs.declared.filter.Filter.{Ghosts as FilterGhosts}
+use Rattle.span_registry_layers_layers.specs.declared.layer.Layer.{Ghosts as LayerGhosts}
+use Rattle.span_tracing_outputs.specs.Turns.{Lines}
+use Rattle.span_tracing_laws.specs.runs.StepFollows.{TraceIsReady, Traced}
+use Rattle.span_tracing_steps.specs.Setup.{with_thread}
+use Rattle.span_tracing_steps.specs.States.{PlainThread, new_state}
 
--- the stack was told of its handle, asked of each callsite and for its hint, and is kept
-abbrev pub AddsStack : {T : Type 0} → Ghosts T → StateValue T → T → StateValue T → Type 0
-AddsStack g v x w = AddGives g v x (Ok tt) w
+-- a trace without stacks is ready, and so is one with a lane more; its stacks are the same then, by what a lane leaves alone
+pub record StartsReady {N E F : Type 0} (g : FilterGhosts F) (h : LayerGhosts (Lines N E)) (S : Type 0) : Type 0 where
+  pub new : TraceIsReady {N = N} {E = E} {F = F} {S = S} g h new_state
+  pub thread : (v : Traced N E F S) (thread : PlainThread) → TraceIsReady g h v → TraceIsReady g h (with_thread v thread)

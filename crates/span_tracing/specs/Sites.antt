@@ -5,11 +5,11 @@ use Rattle.tracing_core_fields.specs.PlainKind.{PlainKind}
 use Rattle.tracing_core_fields.specs.PlainMetadata.{PlainMetadata}
 use Rattle.tracing_core_fields.specs.requests.Interests.{PlainInterest}
 use Rattle.tracing_core_fields.specs.declared.requests.subscriber.Subscriber.{Ghosts}
-use Rattle.span_tracing_skeleton.specs.Machine.{named}
+use Rattle.span_tracing_skeleton.specs.Looking.{named}
 use Rattle.span_tracing_skeleton.specs.declared.refusal.Refusal.{Refusal}
 use Rattle.span_tracing_skeleton.specs.declared.refusal.Refusal.TheVariants.{Taken}
 use Rattle.span_tracing_steps.specs.Setup.{RegisterGives, own_at}
-use Rattle.span_tracing_steps.specs.States.{StateValue, at_index}
+use Rattle.span_tracing_steps.specs.States.{StateValue, at_index, callsites_of}
 use Rattle.span_tracing.specs.declared.site.Site.{Site}
 
 module _ {T : Type 0} (g : Ghosts T) (v : StateValue T) (m : PlainMetadata) where
@@ -17,7 +17,7 @@ module _ {T : Type 0} (g : Ghosts T) (v : StateValue T) (m : PlainMetadata) wher
   abbrev pub RegistersSite : Result Site Refusal → StateValue T → Type 0
   RegistersSite (Ok site) w =
       (k : PlainInterest) × RegisterGives g v (own_at m.callsite m) (Ok k) w × (site.identifier.0 ≡ m.callsite) ×
-      (at_index w.callsites (Some site.index) ≡ named w.callsites m.callsite)
+      (at_index (callsites_of w.hub.callsites) (Some site.index) ≡ named (callsites_of w.hub.callsites) m.callsite)
   RegistersSite (Err refusal) w = RegisterGives g v (own_at m.callsite m) (Err refusal) w
 
 -- what makes events
@@ -54,6 +54,6 @@ AreTaken callsites = (n : ℕ) → n < 18446744073709551615 → is_some (named c
 -- a callsite was registered under an identifier that was free, or none was left
 abbrev pub MakesSite : {T : Type 0} → Ghosts T → StateValue T → (ℕ → PlainMetadata) → Result Site Refusal → StateValue T → Type 0
 MakesSite g v m result w =
-    ((identifier : ℕ) × (named v.callsites identifier ≡ None) × RegistersSite g v (m identifier) result w ×
+    ((identifier : ℕ) × (named (callsites_of v.hub.callsites) identifier ≡ None) × RegistersSite g v (m identifier) result w ×
     HasFields (m identifier) result) ⊎
-    (AreTaken v.callsites × (result ≡ Err Taken) × (w ≡ v))
+    (AreTaken (callsites_of v.hub.callsites) × (result ≡ Err Taken) × (w ≡ v))

@@ -1,8 +1,8 @@
 //! What a trace keeps of the interest in its callsites.
 ghost use Rattle.std.specs.Prelude.{◌≡◌, is_some};
-ghost use Rattle.span_tracing_skeleton.specs.Machine.{named};
+ghost use Rattle.span_tracing_skeleton.specs.Looking.{named};
 ghost use Rattle.span_tracing_steps.specs.Interests.{is_off_at};
-ghost use Rattle.span_tracing_steps.specs.States.{at_index};
+ghost use Rattle.span_tracing_steps.specs.States.{at_index, callsites_of};
 
 use crate::trace::Trace;
 use span_tracing_skeleton::HasRegistry;
@@ -14,20 +14,20 @@ impl<T: Subscriber + HasRegistry> Trace<T> {
     /// while the trace lives.
     pub fn callsite(&self, identifier: Identifier) -> Option<CallsiteIndex>
         // It is the place of the callsite with the identifier.
-        ensures names { at_index self.now.callsites result ≡ named self.now.callsites identifier.0 }
+        ensures names { at_index (callsites_of self.now.hub.callsites) result ≡ named (callsites_of self.now.hub.callsites) identifier.0 }
         // There is a place exactly where there is such a callsite.
-        ensures there { is_some result ≡ is_some (named self.now.callsites identifier.0) }
+        ensures there { is_some result ≡ is_some (named (callsites_of self.now.hub.callsites) identifier.0) }
     {
         self.parts.callsite(identifier)
     }
 }
 
 impl<T: Subscriber> Trace<T> {
-    /// Whether it is kept of the callsite that nobody is interested in it. As long as what the trace keeps is what its stack says, an event
+    /// Whether it is kept of the callsite that nobody is interested in it. As long as what the trace keeps is right of each stack, an event
     /// there would reach no output, and a span wouldn't be made: whoever makes no request misses no line (`skipping_misses_nothing`).
     /// No refusal is told then: of a lane that isn't there, of a moment out of range, or of a parent that is closed.
     pub fn is_off(&self, callsite: CallsiteIndex) -> bool
-        ensures { result ≡ is_off_at self.now.interests callsite }
+        ensures { result ≡ is_off_at self.now.hub.callsites callsite }
     {
         self.parts.is_off(callsite)
     }

@@ -3,6 +3,7 @@ ghost use Rattle.std.specs.Prelude.{List};
 ghost use Rattle.tracing_core_fields.specs.requests.Lists.{Every};
 ghost use Rattle.span_tracing.specs.OutputIndependence.{OutputsGoAlone};
 ghost use Rattle.span_tracing.specs.Levels.{LevelsAnswer};
+ghost use Rattle.span_tracing.specs.Setup.{StartsReady};
 ghost use Rattle.span_registry_layers_layers.specs.declared.filtered.Filtered.{Filtered};
 ghost use Rattle.span_registry_layers.specs.declared.output.Output.{Output};
 ghost use Rattle.span_tracing_outputs.specs.declared.files.output_spec.OutputSpec.{OutputSpec};
@@ -28,9 +29,15 @@ pub fn leveled_outputs_are_honest<D>()
         Every (λ (spec : OutputSpec LevelFilter D). ⟦<LevelFilter as Filter>⟧.honest spec.filter) outputs }
 {}
 
+/// A new trace is ready, and a lane leaves a ready trace so. With `setup_follows` it is ready for its first step, whatever setup calls are
+/// made.
+pub fn traces_start_ready<N: FormatFields + Drop, E: FormatEvent, F: Filter, S>()
+    ensures { StartsReady ⟦<F as Filter>⟧ ⟦<event_formatter::Layer<N, E, PendingLines> as Layer>⟧ S }
+{}
+
 /// Each output goes its own way: two runs of the same steps, in which all filters answer the same, leave an output's machine the
-/// same, and it offers the same lines to its sink, whatever the other outputs' formats and kept texts are, and whatever becomes of
-/// their texts and lines.
+/// same, and it offers the same lines to its sink, whatever the other outputs' formats and kept texts are, also those of other stacks,
+/// and whatever becomes of their texts and lines.
 pub fn outputs_go_alone<N: FormatFields>()
     ensures { OutputsGoAlone ⟦<N as FormatFields>⟧ }
 {}

@@ -11,7 +11,7 @@
 /// nothing was done.
 ///
 /// Where nobody is interested in the callsite no value is computed, and the answer is `Ok(())`: no output would be told, as long as what
-/// the trace keeps is what its stack says (`skipping_misses_nothing`). That the lane isn't there, that the moment is out of range
+/// the trace keeps is right of each stack (`skipping_misses_nothing`). That the lane isn't there, that the moment is out of range
 /// or that a field isn't there isn't told then.
 ///
 /// The trace's expression is written more than once: give a variable or a field.

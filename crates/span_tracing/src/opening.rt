@@ -2,8 +2,9 @@
 ghost use Rattle.std.specs.Prelude.{◌≡◌, ◌∷◌, [], Err, IfOk, None, true, false};
 ghost use Rattle.tracing_core_fields.specs.requests.Lists.{Every};
 ghost use Rattle.tracing_core_moments.specs.Moments.{is_moment};
-ghost use Rattle.span_tracing.specs.OpenedTrace.{HasOutputs};
-ghost use Rattle.span_tracing_laws.specs.runs.StepFollows.{StackIsReady};
+ghost use Rattle.span_tracing.specs.OpenedTrace.{HasOutputs, ReachesFirst};
+ghost use Rattle.span_tracing_laws.specs.runs.StepFollows.{TraceIsReady};
+ghost use Rattle.span_tracing_steps.specs.States.{stack_in};
 ghost use Rattle.span_tracing_outputs.specs.files.OpenedStack.{Answers, of_all, outputs_refusal};
 ghost use Rattle.span_tracing_outputs.specs.files.OpenRefusals.{IsRouted, NamesAnswer};
 ghost use Rattle.span_tracing_outputs.specs.declared.files.output_spec.OutputSpec.{OutputSpec};
@@ -20,8 +21,9 @@ use std::alloc::Global;
 use tracing_appender_rolling::Folder;
 use tracing_core_moments::Moment;
 
-/// A trace with these outputs, whose files are opened at the moment, and with one lane. The lane has the number 0, its thread has no name
-/// and the number 1, and what it tells reaches the outputs.
+/// A trace with one stack of these outputs, whose files are opened at the moment, and with one lane. The stack, its handle and the lane have
+/// the number 0. The stack is the global default, so that what the lane tells reaches the outputs. The lane's thread has no name and the
+/// number 1.
 ///
 /// # Errors
 ///
@@ -40,18 +42,19 @@ pub fn open_trace<F: Filter, D: Folder>(
     // told a fault.
     ensures names { is_moment moment ≡ true → outputs_refusal outputs.items ≡ None → Every IsRouted outputs.items →
         NamesAnswer D.failed outputs.items result }
-    // With honest filters the stack is ready.
+    // With honest filters the trace is ready.
     ensures ready { Every (λ (spec : OutputSpec F D). F.honest spec.filter) outputs.items →
-        IfOk result (λ trace. StackIsReady ⟦<F as Filter>⟧ ⟦<Lines as span_registry_layers_layers::Layer>⟧ trace.stack) }
+        IfOk result (λ trace. TraceIsReady ⟦<F as Filter>⟧ ⟦<Lines as span_registry_layers_layers::Layer>⟧ trace) }
     // With honest filters the trace's outputs and sinks are those that were asked for, under their keys, filters, settings and routes,
     // with their files open, and no span is open.
     ensures opened { Every (λ (spec : OutputSpec F D). F.honest spec.filter) outputs.items →
         IfOk result (λ trace. HasOutputs D.contents D.failed ⟦<F as Filter>⟧ ⟦<Lines as span_registry_layers_layers::Layer>⟧ moment
-        outputs.items trace.stack) }
+        outputs.items (stack_in trace 0)) }
     // No callsite is registered.
-    ensures bare { IfOk result (λ trace. (trace.callsites ≡ []) × (trace.interests ≡ [])) }
-    // The lane reaches the stack, and is the only one.
-    ensures reached { IfOk result (λ trace. trace.is_global ≡ true) }
+    ensures bare { IfOk result (λ trace. trace.hub.callsites ≡ []) }
+    // The lane reaches the stack, which is the only one: it is the global default, and has a handle. There is no guard.
+    ensures reached { IfOk result (λ trace. ReachesFirst trace) }
+    // The lane is the only one.
     ensures lane { IfOk result (λ trace. trace.threads ≡ record { name = None; number = 1 } ∷ []) }
 {
     setup_follows::<Fields, Format<LineFormat, Timer>, F, RoutedSinks<RollingSink<D>>>();

@@ -2,6 +2,7 @@
 ghost use Rattle.std.specs.Prelude.{◌≡◌};
 ghost use Rattle.std.specs.Option.{option_copied};
 ghost use Rattle.span_tracing.specs.OutputReaders.{lost_at, lost_by, lost_by_all, sink_at, starved_at};
+ghost use Rattle.span_tracing_steps.specs.States.{stack_in};
 
 use crate::trace::Trace;
 use event_formatter::FormatEvent;
@@ -32,12 +33,12 @@ fn lost_by_all<D: Folder>(before: usize, sinks: &[RollingSink<D>]) -> usize
 impl<N: FormatFields + Drop, E: FormatEvent, F: Filter, S: LineSink> Trace<
     TraceStack<N, E, F, RoutedSinks<S>>,
 > {
-    /// The sink with this number of the output at a place. A sink tells how many lines it dropped; of a rolling file it has the folder,
+    /// The sink with this number of the output at a place of a stack, also of one that was released. A sink tells how many lines it dropped; of a rolling file it has the folder,
     /// and what was lost to the folder's faults.
-    pub fn sink(&self, output: usize, number: usize) -> Option<&S>
-        ensures { option_copied result ≡ sink_at self.now.stack output number }
+    pub fn sink(&self, stack: usize, output: usize, number: usize) -> Option<&S>
+        ensures { option_copied result ≡ sink_at (stack_in self.now stack) output number }
     {
-        match self.parts.stack() {
+        match self.parts.stack(stack) {
             Some(stack) => match stack.sinks().get(output) {
                 Some(routed) => routed.sinks().get(number),
                 None => None,
@@ -46,11 +47,11 @@ impl<N: FormatFields + Drop, E: FormatEvent, F: Filter, S: LineSink> Trace<
         }
     }
 
-    /// How many texts of spans and lines the output at a place missed where memory ran out, at most `usize::MAX`.
-    pub fn starved(&self, output: usize) -> Option<usize>
-        ensures { result ≡ starved_at self.now.stack output }
+    /// How many texts of spans and lines the output at a place of a stack missed where memory ran out, at most `usize::MAX`.
+    pub fn starved(&self, stack: usize, output: usize) -> Option<usize>
+        ensures { result ≡ starved_at (stack_in self.now stack) output }
     {
-        match self.parts.stack() {
+        match self.parts.stack(stack) {
             Some(stack) => match stack.stack().output(output) {
                 Some(filtered) => Some(filtered.inner().starved() as usize),
                 None => None,
@@ -63,16 +64,16 @@ impl<N: FormatFields + Drop, E: FormatEvent, F: Filter, S: LineSink> Trace<
 impl<N: FormatFields + Drop, E: FormatEvent, F: Filter, D: Folder> Trace<
     TraceStack<N, E, F, RoutedSinks<RollingSink<D>>>,
 > {
-    /// How many texts and lines of the output at a place are missing in its files, at most `usize::MAX`: those that found no memory before
+    /// How many texts and lines of the output at a place of a stack are missing in its files, at most `usize::MAX`: those that found no memory before
     /// its sinks or at one, and lines that a folder didn't take whole. A line that is missing at two sinks counts twice.
-    pub fn lost(&self, output: usize) -> Option<usize>
-        ensures { result ≡ lost_at self.now.stack output }
+    pub fn lost(&self, stack: usize, output: usize) -> Option<usize>
+        ensures { result ≡ lost_at (stack_in self.now stack) output }
     {
-        let starved = self.starved(output)?;
-        let Some(stack) = self.parts.stack() else {
+        let starved = self.starved(stack, output)?;
+        let Some(found) = self.parts.stack(stack) else {
             return None;
         };
-        match stack.sinks().get(output) {
+        match found.sinks().get(output) {
             Some(routed) => Some(lost_by_all(starved, routed.sinks())),
             None => Some(starved),
         }

@@ -4,7 +4,8 @@ ghost use Rattle.tracing_core_fields.specs.FieldSet.{index_of_name};
 ghost use Rattle.tracing_core_fields.specs.Metadata.{metadata_fields, plain_metadata};
 ghost use Rattle.span_tracing.specs.Sites.{AreTaken, MakesSite, RegistersSite, event_kind, site_metadata, span_kind};
 ghost use Rattle.span_tracing_skeleton.specs.declared.call_error.CallError.TheVariants.{NoField};
-ghost use Rattle.span_tracing_skeleton.specs.Machine.{named};
+ghost use Rattle.span_tracing_skeleton.specs.Looking.{named};
+ghost use Rattle.span_tracing_steps.specs.States.{callsites_of};
 
 use crate::Trace;
 use span_tracing_skeleton::{CallError, HasRegistry, Refusal};
@@ -25,7 +26,8 @@ pub struct Site {
 
 /// The number of an identifier that no callsite of the trace has, or none where all but the greatest are taken.
 fn free_number<T: Subscriber + HasRegistry>(trace: &Trace<T>) -> Option<u64>
-    ensures { MatchOption result (AreTaken trace.now.callsites) (λ number. named trace.now.callsites number ≡ None) }
+    ensures { MatchOption result (AreTaken (callsites_of trace.now.hub.callsites))
+        (λ number. named (callsites_of trace.now.hub.callsites) number ≡ None) }
 {
     for number in 0..u64::MAX {
         if trace.callsite(Identifier(number)).is_none() {

@@ -4,8 +4,9 @@ ghost use Rattle.tracing_core_fields.specs.IndexedEntries.{lent_entries};
 ghost use Rattle.span_tracing.specs.Ready.{IsStep, RunsReady};
 ghost use Rattle.span_tracing_laws.specs.runs.Runs.{RunGives};
 ghost use Rattle.span_tracing_outputs.specs.sinks.Takes.{TakesLine};
-ghost use Rattle.span_tracing_skeleton.specs.PlainData.{CloneStep, CloseStep, EnabledStep, EnterStep, EventStep, ExitStep, FollowsFromStep};
-ghost use Rattle.span_tracing_skeleton.specs.PlainData.{GlobalStep, RecordStep, SpanStep, plain_step, plain_steps};
+ghost use Rattle.span_tracing_skeleton.specs.PlainData.{CloneHandleStep, CloneStep, CloseStep, DefaultStep, EnabledStep, EnterStep};
+ghost use Rattle.span_tracing_skeleton.specs.PlainData.{EventStep, ExitStep, FollowsFromStep, GlobalStep, RecordStep, ReleaseStep};
+ghost use Rattle.span_tracing_skeleton.specs.PlainData.{ResetStep, SpanStep, plain_step, plain_steps};
 ghost use Rattle.span_tracing_steps.specs.Steps.{StepGives};
 
 use crate::trace::Trace;
@@ -15,7 +16,8 @@ use span_registry_layers_layers::Filter;
 use span_tracing_laws::{files_follow, runs_follow, steps_follow};
 use span_tracing_outputs::{LineSink, PendingLines, RollingSink, RoutedSinks, TraceStack};
 use span_tracing_skeleton::{
-    EnabledCall, FollowsCall, HasRegistry, Parent, Reply, SpanCall, SpanName, Step,
+    DefaultCall, EnabledCall, FollowsCall, HasRegistry, Parent, Reply, ResetCall, SpanCall,
+    SpanName, Step,
 };
 use span_tracing_steps::{RecordRequest, Request};
 use std::alloc::AllocError;
@@ -56,12 +58,16 @@ impl<T: Subscriber + HasRegistry> Trace<T> {
             Step::Exit(call) => self.parts.exit(call),
             Step::CloneSpan(call) => self.parts.clone_span(call),
             Step::TryClose(call) => self.parts.try_close(call),
+            Step::SetDefault(call) => self.parts.set_default(call),
+            Step::ResetDefault(call) => self.parts.reset_default(call),
+            Step::CloneHandle(handle) => self.parts.clone_handle(*handle),
+            Step::Release(handle) => self.parts.release(*handle),
         }
     }
 }
 
 impl<N: FormatFields + Drop, E: FormatEvent, F: Filter, S: LineSink> Trace<TraceStack<N, E, F, S>> {
-    /// Makes the stack with this handle the one that lanes reach. Takes no memory.
+    /// Makes the stack with this handle the one that lanes reach which have no default of their own. Takes no memory.
     pub fn set_global_default(&mut self, handle: usize) -> Reply
         ensures { IsStep ⟦<TraceStack<N, E, F, S> as Subscriber>⟧ ⟦<N as FormatFields>⟧ E.line_of ⟦<F as Filter>⟧ S.takes
             ⟦<Layer<N, E, PendingLines> as span_registry_layers_layers::Layer>⟧ self.old
@@ -70,6 +76,52 @@ impl<N: FormatFields + Drop, E: FormatEvent, F: Filter, S: LineSink> Trace<Trace
     {
         steps_follow::<N, E, F, S>();
         self.parts.set_global_default(handle)
+    }
+
+    /// Gives a lane a default of its own: the stack with this handle, which the lane holds from then on, or none, so that it reaches
+    /// nothing. Answers the number of a guard that keeps the default before.
+    pub fn set_default(&mut self, lane: usize, handle: Option<usize>) -> Reply
+        ensures { IsStep ⟦<TraceStack<N, E, F, S> as Subscriber>⟧ ⟦<N as FormatFields>⟧ E.line_of ⟦<F as Filter>⟧ S.takes
+            ⟦<Layer<N, E, PendingLines> as span_registry_layers_layers::Layer>⟧ self.old
+            (DefaultStep (record { lane = lane; handle = handle }))
+            result self.new }
+    {
+        steps_follow::<N, E, F, S>();
+        self.parts.set_default(&DefaultCall { lane, handle })
+    }
+
+    /// Gives a lane the default back that the guard with this number keeps, and spends the guard. Guards may be spent in any order. The
+    /// default that the lane had lets its stack go. Takes no memory.
+    pub fn reset_default(&mut self, lane: usize, guard: usize) -> Reply
+        ensures { IsStep ⟦<TraceStack<N, E, F, S> as Subscriber>⟧ ⟦<N as FormatFields>⟧ E.line_of ⟦<F as Filter>⟧ S.takes
+            ⟦<Layer<N, E, PendingLines> as span_registry_layers_layers::Layer>⟧ self.old
+            (ResetStep (record { lane = lane; guard = guard }))
+            result self.new }
+    {
+        steps_follow::<N, E, F, S>();
+        self.parts.reset_default(&ResetCall { lane, guard })
+    }
+
+    /// Takes one more handle of the stack with this handle, and answers its number.
+    pub fn clone_handle(&mut self, handle: usize) -> Reply
+        ensures { IsStep ⟦<TraceStack<N, E, F, S> as Subscriber>⟧ ⟦<N as FormatFields>⟧ E.line_of ⟦<F as Filter>⟧ S.takes
+            ⟦<Layer<N, E, PendingLines> as span_registry_layers_layers::Layer>⟧ self.old
+            (CloneHandleStep handle)
+            result self.new }
+    {
+        steps_follow::<N, E, F, S>();
+        self.parts.clone_handle(handle)
+    }
+
+    /// Spends a handle. Where nobody else holds its stack, that is released. Takes no memory.
+    pub fn release(&mut self, handle: usize) -> Reply
+        ensures { IsStep ⟦<TraceStack<N, E, F, S> as Subscriber>⟧ ⟦<N as FormatFields>⟧ E.line_of ⟦<F as Filter>⟧ S.takes
+            ⟦<Layer<N, E, PendingLines> as span_registry_layers_layers::Layer>⟧ self.old
+            (ReleaseStep handle)
+            result self.new }
+    {
+        steps_follow::<N, E, F, S>();
+        self.parts.release(handle)
     }
 
     /// Makes an event on a lane. A line that finds no memory is missing alone, and counted.
@@ -257,7 +309,7 @@ impl<N: FormatFields + Drop, E: FormatEvent, F: Filter, D: Folder> Trace<
 > {
     /// Steps in order, with a reply to each. A step that is refused for lack of memory does nothing, and the others run.
     ///
-    /// Where the stack is ready, each sink of an output takes exactly those lines that the output's machine offers and the route sends to
+    /// Where the trace is ready, each sink of an output of a stack takes exactly those lines that the output's machine offers and the route sends to
     /// it.
     /// Where the sink dropped none, its folder's contents are known, and its appender agreed with a sink before (`AgreesSink`), these lines
     /// stand in its files behind what was found and handed over before, as far as retention left the files.
@@ -269,7 +321,7 @@ impl<N: FormatFields + Drop, E: FormatEvent, F: Filter, D: Folder> Trace<
         // There is one reply for each step, and each step goes as it would alone, from where the one before left the trace.
         ensures gives { IfOk result (λ replies. RunGives ⟦<TraceStack<N, E, F, RoutedSinks<RollingSink<D>>> as Subscriber>⟧ self.old
             (plain_steps steps.now) replies.items self.new) }
-        // Where the stack is ready, replies, sinks and files are as `RunsToFiles` says, and the stack is ready afterwards.
+        // Where the trace is ready, replies, sinks and files are as `RunsToFiles` says, and the trace is ready afterwards.
         ensures run { IfOk result
             (λ replies. RunsReady D.contents D.failed ⟦<N as FormatFields>⟧ E.line_of ⟦<F as Filter>⟧
             ⟦<Layer<N, E, PendingLines> as span_registry_layers_layers::Layer>⟧

@@ -1,9 +1,11 @@
-//! The tests of the crates below; one output, folders that refuse, and random runs over four outputs beside a slow model of them.
+//! The tests of the crates below; one output, several stacks, folders that refuse, and random runs over stacks of four outputs beside slow
+//! models of them.
 
 mod common;
 mod copies;
 mod faulty;
 mod files;
+mod holders;
 mod model;
 mod outputs;
 mod random;

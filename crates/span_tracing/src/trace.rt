@@ -1,10 +1,9 @@
 //! A trace, and its setup.
-ghost use Rattle.std.specs.Prelude.{◌≡◌, ◌++◌, ◌∷◌, [], IfErr, IfOk, None, OnErr, OnOk, is_some, length, string_bytes};
+ghost use Rattle.std.specs.Prelude.{◌≡◌, IfOk, OnErr, OnOk, length, string_bytes};
 ghost use Rattle.std.specs.Option.{option_copied, option_map};
 ghost use Rattle.tracing_core_fields.specs.Metadata.{plain_metadata};
-ghost use Rattle.span_tracing.specs.Setup.{AddsStack};
-ghost use Rattle.span_tracing_steps.specs.Setup.{RegisterGives, own_at};
-ghost use Rattle.span_tracing_steps.specs.States.{new_state};
+ghost use Rattle.span_tracing_steps.specs.Setup.{AddGives, RegisterGives, own_at, with_thread};
+ghost use Rattle.span_tracing_steps.specs.States.{new_state, stack_in};
 
 use span_tracing_skeleton::Refusal;
 use span_tracing_steps::TraceParts;
@@ -12,11 +11,15 @@ use std::alloc::{AllocError, Global};
 use std::marker::Model;
 use tracing_core_fields::{Identifier, Interest, Metadata, Subscriber};
 
-/// Takes calls of events and spans and answers replies, over one stack `T`: a
-/// [`TraceStack`](span_tracing_outputs::TraceStack) of outputs, each with a sink that takes its lines.
+/// Takes calls of events and spans and answers replies, over stacks of the type `T`: each is a
+/// [`TraceStack`](span_tracing_outputs::TraceStack) of outputs, which have sinks that take their lines.
 ///
-/// A contract sees a trace as its callsites, what is kept of the interest in each, threads, whether the stack is the global
-/// default, and the stack.
+/// Stacks are numbered from 0 in the order of adding. A *handle* is a number that holds a stack. A lane reaches the stack that is its own
+/// default, or else the global default. These hold their stacks, too. So does a *guard*, the number of a lane's earlier default. A stack
+/// that nobody holds any more is *released*: it takes no further call, and can still be read.
+///
+/// A contract sees a trace as what its hub keeps (stacks with who holds them, callsites with the interest in them, lanes and the global
+/// default), the lanes' threads, handles, guards, and the stacks that were released.
 pub struct Trace<T: Subscriber> {
     pub(crate) parts: TraceParts<T>,
 }
@@ -49,18 +52,18 @@ impl<T: Subscriber> Trace<T> {
         }
     }
 
-    /// Whether the trace has a stack.
-    pub fn has_stack(&self) -> bool
-        ensures { result ≡ is_some self.now.stack }
+    /// How many stacks were added.
+    pub fn stack_count(&self) -> usize
+        ensures { result ≡ self.now.hub.next }
     {
-        self.parts.stack().is_some()
+        self.parts.given()
     }
 
-    /// The stack, where there is one.
-    pub fn stack(&self) -> Option<&T>
-        ensures { option_copied result ≡ self.now.stack }
+    /// The stack with this number, also where it was released; none where no stack has the number.
+    pub fn stack(&self, number: usize) -> Option<&T>
+        ensures { option_copied result ≡ stack_in self.now number }
     {
-        self.parts.stack()
+        self.parts.stack(number)
     }
 
     /// Adds a lane, and answers its number: lanes are numbered from 0. No layer is told of its thread yet, so that lines show
@@ -71,17 +74,17 @@ impl<T: Subscriber> Trace<T> {
     /// Out of memory, which leaves the trace as it was.
     pub fn thread(&mut self, name: Option<String>, thread_id: u64) -> Result<usize, AllocError>
         ensures number { IfOk result (λ lane. lane ≡ length self.old.threads) }
-        // The new lane, with its name and its thread's number, stands behind the others, and nothing else changes.
-        ensures ok { OnOk result (self.new ≡ record self.old {
-          threads = self.old.threads ++ (record { name = option_map string_bytes name; number = thread_id }) ∷ [];
-        }) }
+        // The new lane, with its name and its thread's number, stands behind the others and has no default of its own, and nothing else
+        // changes.
+        ensures ok { OnOk result (self.new ≡ with_thread self.old
+            (record { name = option_map string_bytes name; number = thread_id })) }
         // Where there is no memory, the trace stays as it was.
         ensures err { OnErr result (self.new ≡ self.old) }
     {
         self.parts.thread(name, thread_id)
     }
 
-    /// Registers a callsite under an identifier, and answers the interest in it that is kept: what the stack says of it,
+    /// Registers a callsite under an identifier, and answers the interest in it that is kept: what the stacks have in common of it,
     /// and never where there is no stack. Equal metadata may be registered again, which answers the kept interest
     /// and changes nothing.
     ///
@@ -99,23 +102,17 @@ impl<T: Subscriber> Trace<T> {
         self.parts.register(identifier, metadata)
     }
 
-    /// Takes a stack, and answers its handle, which is 0. A trace has one stack. The stack is told of its handle, and asked
-    /// of each callsite.
+    /// Takes a stack under the next number, and answers the number of its handle. The stack is told of its handle, and asked of each
+    /// callsite.
     ///
     /// # Errors
     ///
     /// Out of memory, which leaves the trace as it was and gives the stack back.
     pub fn add_stack(&mut self, stack: T) -> Result<usize, T>
-        requires none { self.old.stack ≡ None }
-        ensures handle { IfOk result (λ handle. handle ≡ 0) }
-        // The stack is told its handle, is asked of each callsite in order and for its hint, and is kept with what it said.
-        ensures ok { OnOk result (AddsStack ⟦<T as Subscriber>⟧ self.old stack self.new) }
-        ensures err { OnErr result (self.new ≡ self.old) }
-        ensures back { IfErr result (λ back. back ≡ stack) }
+        // The stack is told its handle, is asked of each callsite in order and for its hint, and is kept with what it said; its handle
+        // stands behind the others. Or it comes back, and nothing changes.
+        ensures gives { AddGives ⟦<T as Subscriber>⟧ self.old stack result self.new }
     {
-        match self.parts.add_stack(stack) {
-            Ok(()) => Ok(0),
-            Err(stack) => Err(stack),
-        }
+        self.parts.add_stack(stack)
     }
 }

@@ -1,12 +1,13 @@
 //! Events and spans of a program, written as lines to a log file.
 
-ghost use Rattle.std.specs.Prelude.{◌≡◌, ◌∷◌, [], IfOk, OnErr, length, true, false, Err};
+ghost use Rattle.std.specs.Prelude.{◌≡◌, ◌∷◌, [], IfOk, OnErr, Some, length, true, false, Err};
 ghost use Rattle.tracing_core.specs.IndexedEntries.{lent_entries};
 ghost use Rattle.tracing_core.specs.PlainValue.{Text};
 ghost use Rattle.tracing_core_moments.specs.Moments.{is_moment};
 ghost use Rattle.span_tracing_outputs.specs.TraceFollows.{IsReady};
 ghost use Rattle.span_tracing_steps.specs.Steps.{StepGives};
-ghost use Rattle.span_tracing_laws.specs.runs.StepFollows.{StackIsReady, registry_of};
+ghost use Rattle.span_tracing_skeleton.specs.Looking.{reach};
+ghost use Rattle.span_tracing_laws.specs.runs.StepFollows.{TraceIsReady, registry_of, skeleton_of};
 ghost use Rattle.span_tracing_laws.specs.runs.Runs.{RunGives};
 ghost use Rattle.span_tracing.specs.Ready.{RunsReady};
 ghost use Rattle.uses.specs.Programs.{message_step};
@@ -19,7 +20,7 @@ use span_tracing::{
     Builder, Fields, FileStack, Folder, Format, LineFormat, LineSettings, Lines, MemoryFolder,
     Moment, OutputKey, OutputSpec, Parent, Refusal, Reply, RollingSink, Rotation, Route,
     RoutedSinks, SinkSpec, Timer, Trace, calls_make_runs, leveled_outputs_are_honest, open_stack,
-    setup_follows,
+    setup_follows, traces_start_ready,
 };
 use std::alloc::Global;
 use tracing_core::{Identifier, LevelFilter, Subscriber};
@@ -77,11 +78,12 @@ fn trace_over(
     stack: FileStack<LevelFilter, MemoryFolder>,
 ) -> Result<MemoryTrace, Refusal>
     requires { IsReady ⟦<LevelFilter as Filter>⟧ stack }
-    ensures ready { IfOk result (λ trace. StackIsReady ⟦<LevelFilter as Filter>⟧ ⟦<Lines as span_registry_layers::Layer>⟧
-        trace.stack) }
-    ensures reached { IfOk result (λ trace. trace.is_global ≡ true) }
+    ensures ready { IfOk result (λ trace. TraceIsReady ⟦<LevelFilter as Filter>⟧ ⟦<Lines as span_registry_layers::Layer>⟧
+        trace) }
+    ensures reached { IfOk result (λ trace. reach (skeleton_of trace) 0 ≡ Some 0) }
     ensures lane { IfOk result (λ trace. length trace.threads ≡ 1) }
 {
+    traces_start_ready::<Fields, Format<LineFormat, Timer>, LevelFilter, Sinks>();
     setup_follows::<Fields, Format<LineFormat, Timer>, LevelFilter, Sinks>();
     let mut trace = Trace::new(alloc);
     let Ok(_lane) = trace.thread(None, 1) else {
@@ -111,9 +113,9 @@ pub fn open_trace(
     moment: Moment,
 ) -> Result<MemoryTrace, Refusal>
     ensures moment { is_moment moment ≡ false → result ≡ Err Refusal.BadMoment }
-    ensures ready { IfOk result (λ trace. StackIsReady ⟦<LevelFilter as Filter>⟧ ⟦<Lines as span_registry_layers::Layer>⟧
-        trace.stack) }
-    ensures reached { IfOk result (λ trace. trace.is_global ≡ true) }
+    ensures ready { IfOk result (λ trace. TraceIsReady ⟦<LevelFilter as Filter>⟧ ⟦<Lines as span_registry_layers::Layer>⟧
+        trace) }
+    ensures reached { IfOk result (λ trace. reach (skeleton_of trace) 0 ≡ Some 0) }
     ensures lane { IfOk result (λ trace. length trace.threads ≡ 1) }
 {
     if !moment.is_in_range() {
@@ -143,7 +145,7 @@ pub fn log_text(trace: &mut MemoryTrace, moment: Moment, callsite: Identifier, t
     trace.event(0, moment, callsite, Parent::Contextual, &[message(text)])
 }
 
-/// Logs two texts, each as `log_text` does, by two calls. They are a run of two steps. So where the stack is ready, as `open_trace` leaves
+/// Logs two texts, each as `log_text` does, by two calls. They are a run of two steps. So where the trace is ready, as `open_trace` leaves
 /// it, `RunsReady` says which lines the sink took of them, and which bytes stand in its files afterwards.
 pub fn log_both(
     trace: &mut MemoryTrace,

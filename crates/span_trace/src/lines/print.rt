@@ -81,6 +81,14 @@ fn reply_value(alloc: Global, reply: Reply) -> Result<Json, AllocError> {
             json!(in alloc; {"span": [stack, id]})
         }
         Reply::Closed(is_closed) => json!(in alloc; {"closed": is_closed}),
+        Reply::Handle(handle) => {
+            let number = handle as u64;
+            json!(in alloc; {"handle": number})
+        }
+        Reply::Guard(guard) => {
+            let number = guard as u64;
+            json!(in alloc; {"guard": number})
+        }
         Reply::Refused(refusal) => {
             let number = refusal.number();
             json!(in alloc; {"refused": number})

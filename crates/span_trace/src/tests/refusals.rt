@@ -21,7 +21,7 @@ const CLOSE: &str = r#"{"do":"try_close","lane":0,"moment":[1739786460,0],"span"
 
 const CLONE: &str = r#"{"do":"clone_span","lane":0,"moment":[1739786460,0],"span":[0,1]}"#;
 
-const REPLIES: [Row<'static>; 14] = [
+const REPLIES: [Row<'static>; 16] = [
     Row {
         steps: &[DEFAULT, NEW_SPAN, ENTER, EVENT],
         replies: &[r#""done""#, r#"{"span":[0,1]}"#, r#""done""#, r#""done""#],
@@ -240,6 +240,66 @@ const REPLIES: [Row<'static>; 14] = [
         ],
         status: 1,
         text: r"fake time outer{x=42}: app: \nfake time app: n=-5\n",
+    },
+    Row {
+        steps: &[
+            r#"{"do":"set_default","lane":0,"handle":0}"#,
+            EVENT,
+            r#"{"do":"release","handle":0}"#,
+            EVENT,
+            r#"{"do":"set_default","lane":0,"handle":0}"#,
+            r#"{"do":"set_default","lane":0,"handle":null}"#,
+            EVENT,
+            r#"{"do":"reset_default","lane":0,"guard":1}"#,
+            NEW_SPAN,
+            r#"{"do":"reset_default","lane":0,"guard":0}"#,
+            ENTER,
+            DEFAULT,
+        ],
+        replies: &[
+            r#"{"guard":0}"#,
+            r#""done""#,
+            r#""done""#,
+            r#""done""#,
+            r#"{"refused":3}"#,
+            r#"{"guard":1}"#,
+            r#""done""#,
+            r#""done""#,
+            r#"{"span":[0,1]}"#,
+            r#""done""#,
+            r#"{"refused":3}"#,
+            r#"{"refused":3}"#,
+        ],
+        status: 1,
+        text: r"fake time app: hi n=3\nfake time app: hi n=3\n",
+    },
+    Row {
+        steps: &[
+            r#"{"do":"clone_handle","handle":0}"#,
+            r#"{"do":"clone_handle","handle":1}"#,
+            r#"{"do":"release","handle":1}"#,
+            r#"{"do":"release","handle":1}"#,
+            r#"{"do":"clone_handle","handle":1}"#,
+            r#"{"do":"release","handle":3}"#,
+            r#"{"do":"clone_handle","handle":18446744073709551615}"#,
+            r#"{"do":"reset_default","lane":0,"guard":0}"#,
+            r#"{"do":"reset_default","lane":1,"guard":18446744073709551615}"#,
+            r#"{"do":"set_default","lane":1,"handle":3}"#,
+        ],
+        replies: &[
+            r#"{"handle":1}"#,
+            r#"{"handle":2}"#,
+            r#""done""#,
+            r#"{"refused":3}"#,
+            r#"{"refused":3}"#,
+            r#"{"refused":2}"#,
+            r#"{"refused":2}"#,
+            r#"{"refused":28}"#,
+            r#"{"refused":23}"#,
+            r#"{"refused":23}"#,
+        ],
+        status: 1,
+        text: "",
     },
     Row {
         steps: &[

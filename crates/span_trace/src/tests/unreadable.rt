@@ -9,7 +9,7 @@ use std::rt::Files;
 use std::test::Fail;
 
 /// Whole lines.
-const LINES: [&str; 31] = [
+const LINES: [&str; 43] = [
     "",
     " ",
     "null",
@@ -37,8 +37,20 @@ const LINES: [&str; 31] = [
     r#"{"do":"record","lane":0,"moment":[0,0],"span":[0,1],"callsite":1,"values":[]}"#,
     r#"{"do":"swap_filter","lane":0,"moment":[0,0],"span":[0,1]}"#,
     r#"{"do":"work","moment":[0,0],"sink":0,"lines":9}"#,
-    r#"{"do":"set_default","lane":0,"handle":0}"#,
-    r#"{"do":"release","handle":0}"#,
+    r#"{"do":"set_default","lane":0}"#,
+    r#"{"do":"set_default","handle":0}"#,
+    r#"{"do":"set_default","lane":null,"handle":0}"#,
+    r#"{"do":"set_default","lane":0,"handle":"0"}"#,
+    r#"{"do":"set_default","lane":0,"handle":0,"moment":[0,0]}"#,
+    r#"{"do":"reset_default","lane":0}"#,
+    r#"{"do":"reset_default","guard":0}"#,
+    r#"{"do":"reset_default","lane":0,"guard":null}"#,
+    r#"{"do":"reset_default","lane":0,"guard":0,"handle":0}"#,
+    r#"{"do":"clone_handle"}"#,
+    r#"{"do":"clone_handle","handle":null}"#,
+    r#"{"do":"clone_handle","handle":0,"lane":0}"#,
+    r#"{"do":"release","handle":-1}"#,
+    r#"{"do":"release","lane":0,"handle":0}"#,
     "\u{feff}{\"do\":\"lane\",\"thread\":1}",
     r#"{"do":"lane","thread":1.5"#,
 ];
@@ -256,7 +268,6 @@ fn unreadable_places(rt: HostRuntime) -> Result<(), Fail> {
     let other = OUTER.replace(alloc, r#"["x"]"#, r#"["y"]"#)?;
     let event = r#"{"do":"event","lane":0,"moment":[0,0],"callsite":1,"values":[["y",1]]}"#;
     for lines in [
-        [STACK, LANE, STACK, LANE],
         [OUTER, DEFAULT, LANE, NEW_SPAN],
         [OUTER, DEFAULT, OUTER, NEW_SPAN],
         [OUTER, DEFAULT, STACK, NEW_SPAN],

@@ -1,4 +1,4 @@
-// A slow model of four outputs: each line is made anew from lists of spans and entries.
+// A slow model of a stack of four outputs: each line is made anew from lists of spans and entries.
 
 use std::alloc::{AllocError, Global};
 
@@ -24,6 +24,16 @@ struct ModelSpan {
     parent: Option<usize>,
     handles: u64,
     is_open: bool,
+}
+
+/// What a new span stands under.
+#[derive(Clone, Copy, Debug)]
+pub(crate) enum Under {
+    /// The lane's current span, where there is one.
+    Current,
+    Nothing,
+    /// The span at this place of the list.
+    Span(usize),
 }
 
 /// An entry of a span on a lane. Only the first entry of a span on a lane keeps it open, and is looked at.
@@ -62,7 +72,7 @@ impl Model {
         self.spans.len()
     }
 
-    fn is_open(&self, span: usize) -> bool {
+    pub(crate) fn is_open(&self, span: usize) -> bool {
         self.spans.get(span).is_some_and(|found| found.is_open)
     }
 
@@ -190,12 +200,16 @@ impl Model {
         lane: usize,
         level: usize,
         x: u64,
-        is_root: bool,
+        under: Under,
     ) -> Result<bool, AllocError> {
         if level > FILTERS[0] {
             return Ok(false);
         }
-        let parent = if is_root { None } else { self.current(lane) };
+        let parent = match under {
+            Under::Current => self.current(lane),
+            Under::Nothing => None,
+            Under::Span(span) => Some(span),
+        };
         self.spans.push(ModelSpan {
             level,
             x,

@@ -68,7 +68,6 @@ fn register(parts: &mut TraceParts<Keeper>, number: u64, kind: Kind) -> Result<(
 }
 
 /// Two lanes, three callsites, and a stack that no lane reaches.
-#[tactic(auto, using(span_tracing_steps::proofs::Stackless::no_handle))]
 fn parts_of(alloc: Global, failure: Option<RequestError>) -> Result<TraceParts<Keeper>, Fail>
     ensures { IfOk result (λ p. IsSound p) }
 {
@@ -99,7 +98,7 @@ fn set_parts(alloc: Global, failure: Option<RequestError>) -> Result<TraceParts<
 
 /// How many requests the stack was handed, what it was told last, and for which lane.
 fn heard(parts: &TraceParts<Keeper>) -> Result<(u64, Told, u64), Fail> {
-    let keeper = parts.stack().ok_or("a stack")?;
+    let keeper = parts.stack(0).ok_or("a stack")?;
     Ok((keeper.calls, keeper.told, keeper.lane))
 }
 

@@ -1,5 +1,6 @@
-//! Runs and calls of a trace over two outputs, with the replies and the bytes of their files.
+//! Runs and calls of a trace over stacks of two outputs, with the replies and the bytes of their files.
 
 mod refused;
 mod running;
+mod several;
 mod stage;

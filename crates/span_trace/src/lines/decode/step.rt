@@ -1,12 +1,13 @@
 //! Step lines.
 
-use crate::lines::decode::members::{Members, owned_text, pair};
+use crate::lines::decode::members::{Members, owned_text, pair, whole_number};
 use crate::lines::decode::setup::{CallsiteLine, Setup};
 use crate::lines::decode::value::value_of;
 use crate::lines::fault::LineFault;
 use serde_json::Value as Json;
 use span_tracing_skeleton::{
-    EnabledCall, EventCall, FollowsCall, NewSpanCall, Parent, SpanCall, SpanName, Step,
+    DefaultCall, EnabledCall, EventCall, FollowsCall, NewSpanCall, Parent, ResetCall, SpanCall,
+    SpanName, Step,
 };
 use std::alloc::Global;
 use std::num::NonZeroU64;
@@ -58,10 +59,6 @@ fn whole_step(
     members: Members<'_>,
 ) -> Result<Step, LineFault> {
     match name {
-        "set_global_default" => {
-            members.only(&["do", "handle"])?;
-            Ok(Step::SetGlobalDefault(members.size("handle")?))
-        }
         "event" => Ok(Step::Event(event_call(alloc, setup, members)?)),
         "enabled" => Ok(Step::Enabled(enabled_call(members)?)),
         "new_span" => Ok(Step::NewSpan(new_span_call(alloc, setup, members)?)),
@@ -70,8 +67,49 @@ fn whole_step(
         "exit" => Ok(Step::Exit(span_call(members)?)),
         "clone_span" => Ok(Step::CloneSpan(span_call(members)?)),
         "try_close" => Ok(Step::TryClose(span_call(members)?)),
+        _ => hold_step(name, members),
+    }
+}
+
+/// A step that changes who holds stacks.
+fn hold_step(name: &str, members: Members<'_>) -> Result<Step, LineFault> {
+    match name {
+        "set_global_default" => Ok(Step::SetGlobalDefault(handle_of(members)?)),
+        "set_default" => Ok(Step::SetDefault(default_call(members)?)),
+        "reset_default" => Ok(Step::ResetDefault(reset_call(members)?)),
+        "clone_handle" => Ok(Step::CloneHandle(handle_of(members)?)),
+        "release" => Ok(Step::Release(handle_of(members)?)),
         _ => Err(LineFault::NotReadable),
     }
+}
+
+fn handle_of(members: Members<'_>) -> Result<usize, LineFault> {
+    members.only(&["do", "handle"])?;
+    members.size("handle")
+}
+
+fn default_call(members: Members<'_>) -> Result<DefaultCall, LineFault> {
+    members.only(&["do", "lane", "handle"])?;
+    Ok(DefaultCall {
+        lane: members.size("lane")?,
+        handle: handle_or_none(members.get("handle")?)?,
+    })
+}
+
+/// A handle, or none for null.
+fn handle_or_none(value: &Json) -> Result<Option<usize>, LineFault> {
+    if value.is_null() {
+        return Ok(None);
+    }
+    Ok(Some(whole_number(value)?))
+}
+
+fn reset_call(members: Members<'_>) -> Result<ResetCall, LineFault> {
+    members.only(&["do", "lane", "guard"])?;
+    Ok(ResetCall {
+        lane: members.size("lane")?,
+        guard: members.size("guard")?,
+    })
 }
 
 const REQUEST_KEYS: [&str; 6] = ["do", "lane", "moment", "callsite", "parent", "values"];

@@ -7,7 +7,8 @@ fn lanes_are_numbered_from_zero(rt: HostRuntime) -> Result<(), Fail> {
     let mut parts: TraceParts<Keeper> = TraceParts::new(rt.alloc());
     assert_eq!(rt; parts.thread(None, 7)?, 0);
     assert_eq!(rt; parts.thread(None, 7)?, 1);
-    assert!(rt; parts.stack().is_none());
+    assert!(rt; parts.stack(0).is_none());
+    assert_eq!(rt; parts.given(), 0);
     Ok(())
 }
 

@@ -84,10 +84,10 @@ pub(crate) fn trace_of_two(rt: &impl Abort, alloc: Global) -> Result<Trace<Writt
     assert_eq!(rt; trace.thread(None, 1)?, 0);
     let name = String::from_str(alloc, "second")?;
     assert_eq!(rt; trace.thread(Some(name), 2)?, 1);
-    assert!(rt; !trace.has_stack());
+    assert_eq!(rt; trace.stack_count(), 0);
     let handle = trace.add_stack(stack_of_two(alloc)?).ok().ok_or("room")?;
     assert_eq!(rt; handle, 0);
-    assert!(rt; trace.has_stack());
+    assert_eq!(rt; trace.stack_count(), 1);
     // The outputs differ on spans, and agree on warnings.
     let kept = [Interest::sometimes(), Interest::always()];
     assert_eq!(rt; register_both(&mut trace)?, kept);
@@ -115,15 +115,26 @@ pub(crate) fn made(reply: Reply) -> Result<SpanName, Fail> {
     }
 }
 
-/// Compares the file of a sink with a text.
+/// Compares the file of an output of the first stack with a text.
 pub(crate) fn has_file(
     rt: &impl Abort,
     trace: &Trace<Written>,
-    sink: usize,
+    output: usize,
     name: &str,
     text: &str,
 ) -> Result<(), Fail> {
-    let sink = trace.sink(sink, 0).ok_or("a sink")?;
+    has_file_of(rt, trace, (0, output), name, text)
+}
+
+/// Compares the file of an output of a stack with a text.
+pub(crate) fn has_file_of(
+    rt: &impl Abort,
+    trace: &Trace<Written>,
+    (stack, output): (usize, usize),
+    name: &str,
+    text: &str,
+) -> Result<(), Fail> {
+    let sink = trace.sink(stack, output, 0).ok_or("a sink")?;
     assert_eq!(rt; sink.dropped(), 0);
     for entry in &sink.appender().folder().files()? {
         if entry.name == name {
