@@ -1,8 +1,9 @@
 //! A trace, and its setup.
-ghost use Rattle.std.specs.Prelude.{◌≡◌, IfOk, OnErr, OnOk, length, string_bytes};
+ghost use Rattle.std.specs.Prelude.{◌≡◌, IfOk, OnErr, OnOk, length, slice_get, string_bytes};
 ghost use Rattle.std.specs.Option.{option_copied, option_map};
 ghost use Rattle.tracing_core_fields.specs.Metadata.{plain_metadata};
-ghost use Rattle.span_tracing_steps.specs.Setup.{AddGives, RegisterGives, own_at, with_thread};
+ghost use Rattle.span_tracing_skeleton.specs.Looking.{inner};
+ghost use Rattle.span_tracing_steps.specs.Setup.{AddGives, RegisterGives, own_at, with_thread, without_retired};
 ghost use Rattle.span_tracing_steps.specs.States.{new_state, stack_in};
 
 use span_tracing_skeleton::Refusal;
@@ -114,5 +115,16 @@ impl<T: Subscriber> Trace<T> {
         ensures gives { AddGives ⟦<T as Subscriber>⟧ self.old stack result self.new }
     {
         self.parts.add_stack(stack)
+    }
+
+    /// Takes the stack with this number, where it was released and wasn't taken yet. The sinks of its outputs come with it, so that their
+    /// files close when it is let go. Spans of the stack and its handles stay refused as before.
+    pub fn take_retired(&mut self, number: usize) -> Option<T>
+        // It is the stack that waits under the number, where one does.
+        ensures taken { result ≡ inner (slice_get self.old.retired number) }
+        // It doesn't wait any more, and nothing else changes.
+        ensures left { self.new ≡ without_retired self.old number }
+    {
+        self.parts.take_retired(number)
     }
 }
