@@ -19,20 +19,23 @@ use Rattle.span_tracing_outputs.specs.OutputNotices.{Notice}
 use Rattle.span_tracing_outputs.specs.TraceFollows.{EachAnswers, EachAsked, numbers_in, some_passes, verdicts_from}
 use Rattle.span_tracing_outputs.specs.TraceStacks.{TraceStackValue}
 use Rattle.span_tracing_outputs.specs.Turns.{FilterHears, Lined, Lines, filter_after, hook_of}
-use Rattle.span_tracing_skeleton.specs.Machine.{known, named}
+use Rattle.span_tracing_skeleton.specs.Looking.{known, named, reach}
 use Rattle.span_tracing_skeleton.specs.PlainData.{PlainStep, GlobalStep, EventStep, EnabledStep, SpanStep, RecordStep, FollowsFromStep}
-use Rattle.span_tracing_skeleton.specs.PlainData.{EnterStep, ExitStep, CloneStep, CloseStep}
+use Rattle.span_tracing_skeleton.specs.PlainData.{EnterStep, ExitStep, CloneStep, CloseStep, DefaultStep, ResetStep, CloneHandleStep}
+use Rattle.span_tracing_skeleton.specs.PlainData.{ReleaseStep}
 use Rattle.span_tracing_skeleton.specs.Skeleton.{Answers, Unasked, Wanted, Dropped, Passed, Heard}
 use Rattle.span_tracing_steps.specs.StackRequests.{place_at, request_of}
+use Rattle.span_tracing_steps.specs.States.{held_in}
 use Rattle.span_tracing_laws.specs.runs.StepFollows.{AnswersEvent, AnswersQuestion, AnswersSpan, AskedWhere, IsAnswered, Traced}
 use Rattle.span_tracing_laws.specs.runs.StepFollows.{skeleton_of}
 use Rattle.span_tracing.specs.Levels.{LevelsAnswer, heard_by, if_asked, level_answers, made_by, made_if, passing, wanted_by}
 
-where_asked : (reached : Bool) (callsite : Option PlainMetadata) (asked : PlainMetadata → Answers → Type 0) (f : PlainMetadata → Answers)
-    (a : Answers) → ((m : PlainMetadata) → asked m a → a ≡ f m) → AskedWhere reached callsite asked a → a ≡ if_asked reached callsite f
-where_asked false callsite asked f a each w = w
-where_asked true None asked f a each w = w
-where_asked true (Some m) asked f a each w = each m w
+where_asked : (reached : Option ℕ) (callsite : Option PlainMetadata) (asked : ℕ → PlainMetadata → Answers → Type 0)
+    (f : ℕ → PlainMetadata → Answers) (a : Answers) → ((stack : ℕ) (m : PlainMetadata) → asked stack m a → a ≡ f stack m) →
+    AskedWhere reached callsite asked a → a ≡ if_asked reached callsite f
+where_asked None callsite asked f a each w = w
+where_asked (Some stack) None asked f a each w = w
+where_asked (Some stack) (Some m) asked f a each w = each stack m w
 
 two : (a b : Bool) (xs ys : List Bool) → a ≡ b → xs ≡ ys → a ∷ xs ≡ b ∷ ys
 two a b xs ys e es = ap (λ x. x ∷ xs) e ∙ ap (λ zs. b ∷ zs) es
@@ -147,23 +150,29 @@ module _ (g : FilterGhosts ℕ)
     step_answers : (v : Traced N E ℕ S) (step : PlainStep) (a : Answers) → IsAnswered g h v step a → a ≡ level_answers v step
     step_answers v (GlobalStep handle) a w = w
     step_answers v (EventStep e) a w =
-        where_asked v.is_global (known (skeleton_of v) e.callsite false)
-        (λ m b. AnswersEvent g h v.stack (request_of m e) (place_at e.lane e.moment) b) (heard_by v.stack) a
-        (λ m asked. event v.stack (request_of m e) (place_at e.lane e.moment) a asked) w
+        where_asked (reach (skeleton_of v) e.lane) (known (skeleton_of v) e.callsite false)
+        (λ stack m b. AnswersEvent g h (held_in v stack) (request_of m e) (place_at e.lane e.moment) b)
+        (λ stack m. heard_by (held_in v stack) m) a
+        (λ stack m asked. event (held_in v stack) (request_of m e) (place_at e.lane e.moment) a asked) w
     step_answers v (EnabledStep call) a w =
-        where_asked v.is_global (named v.callsites call.callsite.0)
-        (λ m b. AnswersQuestion g h v.stack m (place_at call.lane call.moment) b) (wanted_by v.stack) a
-        (λ m asked. question v.stack m (place_at call.lane call.moment) a asked) w
+        where_asked (reach (skeleton_of v) call.lane) (named (skeleton_of v).callsites call.callsite.0)
+        (λ stack m b. AnswersQuestion g h (held_in v stack) m (place_at call.lane call.moment) b)
+        (λ stack m. wanted_by (held_in v stack) m) a
+        (λ stack m asked. question (held_in v stack) m (place_at call.lane call.moment) a asked) w
     step_answers v (SpanStep n) a w =
-        where_asked v.is_global (known (skeleton_of v) n.callsite true) (λ m b. AnswersSpan g h v.stack m (place_at n.lane n.moment) b)
-        (made_by v.stack) a
-        (λ m asked. span v.stack m (place_at n.lane n.moment) a asked) w
+        where_asked (reach (skeleton_of v) n.lane) (known (skeleton_of v) n.callsite true)
+        (λ stack m b. AnswersSpan g h (held_in v stack) m (place_at n.lane n.moment) b) (λ stack m. made_by (held_in v stack) m) a
+        (λ stack m asked. span (held_in v stack) m (place_at n.lane n.moment) a asked) w
     step_answers v (RecordStep r) a w = w
     step_answers v (FollowsFromStep call) a w = w
     step_answers v (EnterStep call) a w = w
     step_answers v (ExitStep call) a w = w
     step_answers v (CloneStep call) a w = w
     step_answers v (CloseStep call) a w = w
+    step_answers v (DefaultStep call) a w = w
+    step_answers v (ResetStep call) a w = w
+    step_answers v (CloneHandleStep handle) a w = w
+    step_answers v (ReleaseStep handle) a w = w
 
   module _ {N E : Type 0} (n : Ghosts N) (line_of : E → Settings → PlainContext → PlainEvent → Option (List ℕ)) where
     after_none : (f : ℕ) (hook : Option Hook) → filter_after n line_of g f hook ≡ f

@@ -1,85 +1,125 @@
--- A stack that was made the global default.
-use Rattle.std.proofs.Common.{◌≡◌, ℕ, Bool, true, false, not, nat_lt, length, is_some, List, [], ◌∷◌, Option}
-use Rattle.std.proofs.Common.{Some, None, refl, ap, sym, ◌∙◌}
-use Rattle.tracing_core_fields.specs.PlainMetadata.{PlainMetadata}
-use Rattle.tracing_core_fields.specs.requests.Interests.{PlainInterest}
-use Rattle.tracing_core_fields.specs.requests.PlainRequests.{PlainEvent}
-use Rattle.tracing_core_fields.specs.declared.requests.subscriber.Subscriber.{Ghosts as SubscriberGhosts}
-use Rattle.tracing_core_moments.specs.declared.at.At.{At}
-use Rattle.span_registry_layers_layers.specs.declared.filter.Filter.{Ghosts as FilterGhosts}
-use Rattle.span_registry_layers_layers.specs.declared.layer.Layer.{Ghosts as LayerGhosts}
-use Rattle.event_formatter_text.specs.declared.format_fields.FormatFields.{Ghosts}
-use Rattle.event_formatter_text.specs.declared.settings.Settings.{Settings}
-use Rattle.event_formatter.specs.formats.Contexts.{PlainContext}
-use Rattle.span_tracing_laws.specs.runs.StepFollows.{Traced, registry_of}
-use Rattle.span_tracing_outputs.specs.OutputMachines.{PlainLine}
-use Rattle.span_tracing_outputs.specs.TraceStacks.{TraceStackValue}
-use Rattle.span_tracing_outputs.specs.Turns.{Lines}
-use Rattle.span_tracing_skeleton.specs.Machine.{first, refusal_of, when}
+-- The first stack of a trace with one lane, made the global default.
+use Rattle.std.proofs.Common.{◌≡◌, ℕ, inl, inr, true, false, List, [], ◌∷◌, Option, Some, None, Ok, refl, ap, sym, ◌∙◌, subst}
+use Rattle.tracing_core_fields.specs.declared.requests.subscriber.Subscriber.{Ghosts}
+use Rattle.tracing_core.specs.CacheRefresh.{Formed}
+use Rattle.tracing_core.specs.Commands.{living}
+use Rattle.tracing_core.specs.InterestsAndHints.{Each, GivesHint, Raises, RowAsked}
+use Rattle.tracing_core.specs.Table.{Table}
+use Rattle.tracing_core.specs.TableRows.{KeptCallsite, KeptSubscriber}
+use Rattle.tracing_core.specs.declared.hub.parts.Lane.TheVariants.{Running}
+use Rattle.tracing_core.specs.declared.hub.parts.LaneDefault.TheVariants.{Unset}
+use Rattle.span_registry_layers_store.specs.Registries.{RegistryValue}
 use Rattle.span_tracing_skeleton.specs.PlainData.{GlobalStep}
 use Rattle.span_tracing_skeleton.specs.declared.call.Reply.{Reply}
-use Rattle.span_tracing_skeleton.specs.declared.call.Reply.TheVariants.{Done, Refused}
-use Rattle.span_tracing_skeleton.specs.declared.refusal.Refusal.{Refusal}
-use Rattle.span_tracing_skeleton.specs.declared.refusal.Refusal.TheVariants.{GlobalSet, UnknownStack}
-use Rattle.span_tracing_steps.specs.States.{StateValue, default_in, registries_in, skeleton_of}
-use Rattle.span_tracing_steps.specs.Setup.{AskedInTurn}
-use Rattle.span_tracing_steps.specs.Steps.{StepUnless}
-use Rattle.span_tracing.specs.Ready.{IsStep}
-use Rattle.span_tracing.specs.Setup.{AddsStack}
+use Rattle.span_tracing_skeleton.specs.declared.call.Reply.TheVariants.{Done}
+use Rattle.span_tracing_steps.specs.Setup.{AddGives, with_thread}
+use Rattle.span_tracing_steps.specs.States.{PlainThread, StateValue, new_state}
+use Rattle.span_tracing_steps.specs.Steps.{StepGives, with_global}
+use Rattle.span_tracing_steps.specs.contracts.callsite.TraceCallsiteCallsite.TheImpl.{ghosts}
+use Rattle.span_tracing_steps.specs.declared.callsite.TraceCallsite.{TraceCallsite}
+use Rattle.span_tracing_laws.specs.runs.StepFollows.{Traced}
+use Rattle.span_tracing.specs.OpenedTrace.{ReachesFirst}
 
--- where there is no callsite, nothing is answered
-none_asked : {T : Type 0} (s : SubscriberGhosts T) (ms : List PlainMetadata) (ks : List PlainInterest) (x y : T) → ms ≡ [] →
-    AskedInTurn s ms ks x y → ks ≡ []
-none_asked s [] [] x y none asked = refl
-none_asked s [] (k ∷ ks) x y none asked = absurd asked
-none_asked s (m ∷ ms) ks x y none asked = absurd (let odd : m ∷ ms ≡ [] = none in cc)
+module _ {T : Type 0} where
+  -- a stack with its handle, which told its hint
+  abbrev first_kept : T → Option ℕ → KeptSubscriber T
+  first_kept y top = record { serial = 0; handles = 1; lent = false; interests = []; hint = Some top; subscriber = y }
 
--- a stack that is added to a trace without callsites leaves it without
-added_bare : {T : Type 0} (s : SubscriberGhosts T) (v : StateValue T) (x : T) (w : StateValue T) → v.callsites ≡ [] → AddsStack s v x w →
-    (w.callsites ≡ []) × (w.interests ≡ [])
-added_bare s v x w none (number, z, a, y, ks, told, asked, hinted, is) = (
-  ap (λ u. u.callsites) is ∙ none,
-  ap (λ u. u.interests) is ∙ none_asked s v.callsites ks z a none asked,
-)
+  abbrev first_hub : List (KeptSubscriber T) → List (KeptCallsite TraceCallsite) → ℕ → Table T TraceCallsite
+  first_hub subscribers callsites greatest = record {
+    subscribers = subscribers;
+    next = 1;
+    callsites = callsites;
+    lanes = Running Unset ∷ [];
+    entered = false ∷ [];
+    global = Unset;
+    greatest = greatest;
+  }
 
-module _ {N E F S : Type 0} (s : SubscriberGhosts (TraceStackValue N E F S)) where
-  set_if : (o : Option Refusal) (v w : Traced N E F S) (handle : ℕ) (reply : Reply) → reply ≡ Done →
-      StepUnless s registry_of o v (GlobalStep handle) reply w → w ≡ record v { is_global = true }
-  set_if (Some refusal) v w handle reply is (refused, same) = absurd (let odd : Done ≡ Refused refusal = sym is ∙ refused in cc)
-  set_if None v w handle reply is (told, set) = set
+  abbrev first_on : PlainThread → Table T TraceCallsite → StateValue T
+  first_on thread hub = record { hub = hub; threads = thread ∷ []; handles = Some (Some 0) ∷ []; guards = []; retired = None ∷ [] }
 
-  done_if : (o : Option Refusal) (v w : Traced N E F S) (handle : ℕ) (reply : Reply) → o ≡ None →
-      StepUnless s registry_of o v (GlobalStep handle) reply w → reply ≡ Done
-  done_if (Some refusal) v w handle reply none step = absurd (let odd : Some refusal ≡ None = none in cc)
-  done_if None v w handle reply none (told, set) = told
+  -- one lane and one stack
+  abbrev pub first_state : PlainThread → T → Option ℕ → ℕ → StateValue T
+  first_state thread y top greatest = first_on thread (first_hub (first_kept y top ∷ []) [] greatest)
 
-  not_refused : (o : Option (TraceStackValue N E F S)) (b : Bool) (x : TraceStackValue N E F S) → o ≡ Some x → b ≡ false →
-      first (when (not (nat_lt 0 (length (registries_in (registry_of {N = N} {E = E} {F = F} {S = S}) o)))) UnknownStack)
-      (when (is_some (default_in b)) GlobalSet) ≡ None
-  not_refused None b x there unset = absurd (let odd : None ≡ Some x = there in cc)
-  not_refused (Some y) true x there unset = absurd (let odd : true ≡ false = unset in cc)
-  not_refused (Some y) false x there unset = refl
+  -- which is the global default
+  abbrev pub opened_state : PlainThread → T → Option ℕ → ℕ → StateValue T
+  opened_state thread y top greatest = with_global (first_state thread y top greatest) (Some 0)
 
-  module _ (n : Ghosts N) (line_of : E → Settings → PlainContext → PlainEvent → Option (List ℕ)) (g : FilterGhosts F)
-      (takes : S → At → PlainLine → S → Type 0) (h : LayerGhosts (Lines N E)) where
-    -- where the call is answered as done, nothing changes but that lanes reach the stack
-    pub default_is_set : (v w : Traced N E F S) (handle : ℕ) (reply : Reply) → reply ≡ Done →
-        IsStep s n line_of g takes h v (GlobalStep handle) reply w → w ≡ record v { is_global = true }
-    default_is_set v w handle reply is step =
-        set_if (refusal_of (skeleton_of registry_of v) (GlobalStep handle)) v w handle reply is step.gives
+module _ {T : Type 0} (s : Ghosts T) where
+  abbrev OneTells : List (KeptSubscriber T) → Type 0
+  OneTells fs = (y : T) × (top : Option ℕ) × (fs ≡ first_kept y top ∷ [])
 
-    -- of a stack that is there, where no default was set, it is answered as done
-    pub default_is_done : (v w : Traced N E F S) (x : TraceStackValue N E F S) (handle : ℕ) (reply : Reply) → handle ≡ 0 → v.stack ≡ Some x →
-        v.is_global ≡ false → IsStep s n line_of g takes h v (GlobalStep handle) reply w → reply ≡ Done
-    default_is_done v w x handle reply first there unset step =
-        done_if (refusal_of (skeleton_of registry_of v) (GlobalStep handle)) v w handle reply
-        (ap (λ (k : ℕ). refusal_of (skeleton_of registry_of v) (GlobalStep k)) first ∙ not_refused v.stack v.is_global x there unset) step.gives
+  gives_one : (z : T) (top : Option ℕ) (f : KeptSubscriber T) → GivesHint s false top (living 0 z) f → OneTells (f ∷ [])
+  gives_one z top f (inl told) = (f.subscriber, top, ap (λ (e : KeptSubscriber T). e ∷ []) told.2)
+  gives_one z top f (inr told) = absurd (let odd : true ≡ false = told.0 in cc)
 
-    -- with a stack that was added to a trace without callsites, it leaves the trace without
-    pub default_is_bare : (u v w : Traced N E F S) (x : TraceStackValue N E F S) (handle : ℕ) (reply : Reply) → reply ≡ Done →
-        u.callsites ≡ [] → AddsStack s u x v → IsStep s n line_of g takes h v (GlobalStep handle) reply w →
-        (w.callsites ≡ []) × (w.interests ≡ [])
-    default_is_bare u v w x handle reply is none added step =
-        let set = default_is_set v w handle reply is step in
-        let bare = added_bare s u x v none added in
-        (ap (λ (t : Traced N E F S). t.callsites) set ∙ bare.0, ap (λ (t : Traced N E F S). t.interests) set ∙ bare.1)
+  one_tells : (z : T) (fs : List (KeptSubscriber T)) (last : ℕ) → Each (Raises s false) 0 (living 0 z ∷ []) fs last → OneTells fs
+  one_tells z [] last each = absurd each
+  one_tells z (f ∷ []) last each = gives_one z each.1.0 f each.1.1
+  one_tells z (f ∷ d ∷ ds) last each = absurd each.2
+
+  no_rows : (before after : ℕ × List (KeptSubscriber T)) (laters : List (KeptCallsite TraceCallsite)) →
+      Each (RowAsked s ghosts false) before [] laters after → (laters ≡ []) × (after ≡ before)
+  no_rows before after [] each = (refl, each)
+  no_rows before after (later ∷ laters) each = absurd each
+
+  formed_first : (z : T) (u : Table T TraceCallsite) → Formed s ghosts false (first_hub (living 0 z ∷ []) [] 0) u →
+      (y : T) × (top : Option ℕ) × (u ≡ first_hub (first_kept y top ∷ []) [] u.greatest)
+  formed_first z u formed =
+      let rows = no_rows (0, living 0 z ∷ []) (formed.callsites.0, formed.asked) u.callsites formed.callsites.1 in
+      let one = one_tells z u.subscribers u.greatest
+          (subst (λ (es : List (KeptSubscriber T)). Each (Raises s false) 0 es u.subscribers u.greatest)
+          (ap (λ (p : ℕ × List (KeptSubscriber T)). p.1) rows.1) formed.hints) in (
+        one.0,
+        one.1,
+        formed.rest
+            ∙ ap (λ (es : List (KeptSubscriber T)). first_hub es u.callsites u.greatest) one.2
+            ∙ ap (λ (cs : List (KeptCallsite TraceCallsite)). first_hub (first_kept one.0 one.1 ∷ []) cs u.greatest) rows.0,
+      )
+
+  -- the first stack of a trace with one lane
+  first_added : (thread : PlainThread) (x : T) (handle : ℕ) (v : StateValue T) → AddGives s (with_thread new_state thread) x (Ok handle) v →
+      (handle ≡ 0) × ((y : T) × (top : Option ℕ) × (v ≡ first_state thread y top v.hub.greatest))
+  first_added thread x handle v (number, (told, (z, moved, formed)), is) =
+      let first = formed_first z v.hub formed in
+      (number, (first.0, first.1, is ∙ ap (first_on thread) first.2))
+
+  module _ (registry_of : T → RegistryValue) where
+    set_first : (thread : PlainThread) (y : T) (top : Option ℕ) (greatest handle : ℕ) (reply : Reply) (w : StateValue T) → handle ≡ 0 →
+        StepGives s registry_of (first_state thread y top greatest) (GlobalStep handle) reply w →
+        (reply ≡ Done) × (w ≡ opened_state thread y top greatest)
+    set_first thread y top greatest handle reply w first step =
+        subst (λ (k : ℕ). StepGives s registry_of (first_state thread y top greatest) (GlobalStep k) reply w) first step
+
+    -- Made the global default, it is reached, and there is no other.
+    pub record Opens (thread : PlainThread) (v : StateValue T) (handle : ℕ) (reply : Reply) (w : StateValue T) : Type 0 where
+      pub stack : T
+      pub hint : Option ℕ
+      pub greatest : ℕ
+      pub added : v ≡ first_state thread stack hint greatest
+      pub done : reply ≡ Done
+      pub set : w ≡ opened_state thread stack hint greatest
+
+    pub opens : (thread : PlainThread) (x : T) (handle : ℕ) (v : StateValue T) (reply : Reply) (w : StateValue T) →
+        AddGives s (with_thread new_state thread) x (Ok handle) v → StepGives s registry_of v (GlobalStep handle) reply w →
+        Opens thread v handle reply w
+    opens thread x handle v reply w adds step =
+        let first = first_added thread x handle v adds in
+        let set = set_first thread first.1.0 first.1.1 v.hub.greatest handle reply w first.0
+            (subst (λ (u : StateValue T). StepGives s registry_of u (GlobalStep handle) reply w) first.1.2 step) in
+        record {
+          stack = first.1.0;
+          hint = first.1.1;
+          greatest = v.hub.greatest;
+          added = first.1.2;
+          done = set.0;
+          set = set.1;
+        }
+
+module _ {N E F S : Type 0} where
+  pub reaches_first : (thread : PlainThread) (w : Traced N E F S) (y : _) (top : Option ℕ) (greatest : ℕ) →
+      w ≡ opened_state thread y top greatest → ReachesFirst w
+  reaches_first thread w y top greatest is = subst (λ (u : Traced N E F S). ReachesFirst u) (sym is)
+      (record { given = refl; lanes = refl; default = refl; reached = refl; handles = refl; guards = refl })

@@ -1,6 +1,7 @@
 -- Each output goes its own way.
 use Rattle.std.proofs.Common.{◌≡◌, ℕ, zero, suc, Bool, true, false, List, [], ◌∷◌, ◌++◌, map, Option, Some, None, slice_get, refl, ap, sym}
 use Rattle.std.proofs.Common.{◌∙◌, subst}
+use Rattle.std.specs.Prelude.{◌==◌, if◌then◌else◌}
 use Rattle.std.specs.Option.{option_map}
 use Rattle.std.proofs.lemmas.Option.{slice_get-map}
 use Rattle.tracing_core_fields.specs.PlainMetadata.{PlainMetadata}
@@ -14,16 +15,19 @@ use Rattle.span_tracing_outputs.specs.OutputFolds.{Fates, Numbered, call_lists, 
 use Rattle.span_tracing_outputs.specs.TraceFollows.{at_rest, lines_offered}
 use Rattle.span_tracing_outputs.specs.sinks.OutputRuns.{joined}
 use Rattle.span_tracing_outputs.specs.sinks.Runs.{lines_at}
-use Rattle.span_tracing_skeleton.specs.Machine.{callsite_of, known, or_same, reached, refusal_of}
+use Rattle.span_tracing_skeleton.specs.Looking.{callsite_of, known, reach, registry_at}
+use Rattle.span_tracing_skeleton.specs.Machine.{or_same}
+use Rattle.span_tracing_skeleton.specs.Order.{refusal_of}
 use Rattle.span_tracing_skeleton.specs.PlainData.{PlainStep, Request, RecordRequest, GlobalStep, EventStep, EnabledStep, SpanStep}
-use Rattle.span_tracing_skeleton.specs.PlainData.{RecordStep, FollowsFromStep, EnterStep, ExitStep, CloneStep, CloseStep}
+use Rattle.span_tracing_skeleton.specs.PlainData.{RecordStep, FollowsFromStep, EnterStep, ExitStep, CloneStep, CloseStep, DefaultStep}
+use Rattle.span_tracing_skeleton.specs.PlainData.{ResetStep, CloneHandleStep, ReleaseStep}
 use Rattle.span_tracing_skeleton.specs.Skeleton.{Skeleton, Answers, Unasked, Wanted, Dropped, Passed, Heard}
 use Rattle.span_tracing_skeleton.specs.declared.call.SpanName.{SpanName}
 use Rattle.span_tracing_skeleton.specs.declared.refusal.Refusal.{Refusal}
 use Rattle.span_tracing_laws.specs.runs.Runs.{Plain, StepWithMask, Went, Starved, lines_left, lines_of, none_for, outs_left, plain_after}
 use Rattle.span_tracing_laws.specs.runs.Runs.{plain_run, turn_lines}
-use Rattle.span_tracing_laws.specs.runs.StepNotices.{Told, event_told_by, span_told_by, values_told_by, told_by, told_of}
-use Rattle.span_tracing.specs.OutputIndependence.{AllGoAlikeAt, AreAlikeAt, GoAlikeAt, OutputsGoAlone, list_at}
+use Rattle.span_tracing_laws.specs.runs.StepNotices.{Told, event_told_by, span_told_by, values_told_by, told_by, told_of, told_to}
+use Rattle.span_tracing.specs.OutputIndependence.{AllGoAlikeAt, AreAlikeAt, FatedAlikeAt, GoAlikeAt, OutputsGoAlone, list_at}
 
 -- an output's two lines of text, one behind the other
 abbrev both : {A : Type 0} → Option (List A) → Option (List A) → Option (List A)
@@ -98,21 +102,26 @@ IsLocalIf place None = Unit {0}
 IsLocalIf place (Some told) = IsLocal place told.lists
 
 module _ (N : Type 0) (place : ℕ) where
-  event_is_local : (s : Skeleton) (e : Request) (m : Option PlainMetadata) (a : Answers) → IsLocalIf place (event_told_by N s e m a)
-  event_is_local s e None a = tt
-  event_is_local s e (Some m) Unasked = tt
-  event_is_local s e (Some m) (Wanted b) = tt
-  event_is_local s e (Some m) Dropped = tt
-  event_is_local s e (Some m) (Passed passed) = tt
-  event_is_local s e (Some m) (Heard passed told) = λ outs others same. event_local N place (reached s) _ _ told outs others same
+  event_is_local : (s : Skeleton) (e : Request) (o : Option ℕ) (m : Option PlainMetadata) (a : Answers) →
+      IsLocalIf place (event_told_by N s e o m a)
+  event_is_local s e None m a = tt
+  event_is_local s e (Some stack) None a = tt
+  event_is_local s e (Some stack) (Some m) Unasked = tt
+  event_is_local s e (Some stack) (Some m) (Wanted b) = tt
+  event_is_local s e (Some stack) (Some m) Dropped = tt
+  event_is_local s e (Some stack) (Some m) (Passed passed) = tt
+  event_is_local s e (Some stack) (Some m) (Heard passed told) = λ outs others same. event_local N place (registry_at s stack) _ _ told
+      outs others same
 
-  span_is_local : (s : Skeleton) (e : Request) (m : Option PlainMetadata) (a : Answers) → IsLocalIf place (span_told_by N s e m a)
-  span_is_local s e None a = tt
-  span_is_local s e (Some m) Unasked = tt
-  span_is_local s e (Some m) (Wanted b) = tt
-  span_is_local s e (Some m) Dropped = tt
-  span_is_local s e (Some m) (Passed passed) = λ outs others same. call_local N place _ outs others same
-  span_is_local s e (Some m) (Heard passed told) = tt
+  span_is_local : (s : Skeleton) (e : Request) (o : Option ℕ) (m : Option PlainMetadata) (a : Answers) →
+      IsLocalIf place (span_told_by N s e o m a)
+  span_is_local s e None m a = tt
+  span_is_local s e (Some stack) None a = tt
+  span_is_local s e (Some stack) (Some m) Unasked = tt
+  span_is_local s e (Some stack) (Some m) (Wanted b) = tt
+  span_is_local s e (Some stack) (Some m) Dropped = tt
+  span_is_local s e (Some stack) (Some m) (Passed passed) = λ outs others same. call_local N place _ outs others same
+  span_is_local s e (Some stack) (Some m) (Heard passed told) = tt
 
   values_are_local : (s : Skeleton) (r : RecordRequest) (name : SpanName) (m : Option PlainMetadata) →
       IsLocalIf place (values_told_by N s r name m)
@@ -121,9 +130,9 @@ module _ (N : Type 0) (place : ℕ) where
 
   step_is_local : (s : Skeleton) (step : PlainStep) (a : Answers) → IsLocalIf place (told_by N s step a)
   step_is_local s (GlobalStep handle) a = tt
-  step_is_local s (EventStep e) a = event_is_local s e (known s e.callsite false) a
+  step_is_local s (EventStep e) a = event_is_local s e (reach s e.lane) (known s e.callsite false) a
   step_is_local s (EnabledStep call) a = tt
-  step_is_local s (SpanStep e) a = span_is_local s e (known s e.callsite true) a
+  step_is_local s (SpanStep e) a = span_is_local s e (reach s e.lane) (known s e.callsite true) a
   step_is_local s (RecordStep r) a = by_span r.span
     where
       by_span : (span : Option SpanName) → IsLocalIf place (told_by N s (RecordStep (record r { span = span })) a)
@@ -146,13 +155,26 @@ module _ (N : Type 0) (place : ℕ) where
       by_span : (span : Option SpanName) → IsLocalIf place (told_by N s (CloseStep (record call { span = span })) a)
       by_span None = tt
       by_span (Some name) = λ outs others same. call_local N place _ outs others same
+  step_is_local s (DefaultStep call) a = tt
+  step_is_local s (ResetStep call) a = tt
+  step_is_local s (CloneHandleStep handle) a = tt
+  step_is_local s (ReleaseStep handle) a = tt
 
   told_unless : (refusal : Option Refusal) (told : Option (Told N)) → IsLocalIf place told → IsLocalIf place (or_same refusal None told)
   told_unless None told w = w
   told_unless (Some refusal) told w = tt
 
-  told_is_local : (s : Skeleton) (step : PlainStep) (a : Answers) → IsLocalIf place (told_of N s step a)
-  told_is_local s step a = told_unless (refusal_of s step) (told_by N s step a) (step_is_local s step a)
+  told_if : (b : Bool) (told : Told N) → IsLocal place told.lists → IsLocalIf place (if b then Some told else None)
+  told_if true told local = local
+  told_if false told local = tt
+
+  told_there : (stack : ℕ) (o : Option (Told N)) → IsLocalIf place o → IsLocalIf place (told_to N stack o)
+  told_there stack None w = tt
+  told_there stack (Some told) w = told_if (told.stack == stack) told w
+
+  told_is_local : (s : Skeleton) (stack : ℕ) (step : PlainStep) (a : Answers) → IsLocalIf place (told_to N stack (told_of N s step a))
+  told_is_local s stack step a = told_there stack (told_of N s step a)
+      (told_unless (refusal_of s step) (told_by N s step a) (step_is_local s step a))
 
 module _ {N : Type 0} (n : Ghosts N) where
   abbrev told_or_none : List Notice → List Fate → Option (Numbered N) → Option (Numbered N)
@@ -166,22 +188,22 @@ module _ {N : Type 0} (n : Ghosts N) where
   outs_told_at nss (o ∷ outs) fates (suc place) = outs_told_at (rest_of nss) outs (rest_of fates) place
 
 module _ {N : Type 0} (n : Ghosts N) (place : ℕ) (outs others : List (Numbered N)) (fates other_fates : Fates)
-    (same : slice_get outs place ≡ slice_get others place) (fated : list_at fates place ≡ list_at other_fates place) where
-  told_alike : (told : Told N) → IsLocal place told.lists →
+    (same : slice_get outs place ≡ slice_get others place) where
+  told_alike : (told : Told N) → IsLocal place told.lists → list_at fates place ≡ list_at other_fates place →
       slice_get (outs_told n (told.lists outs) outs fates) place ≡ slice_get (outs_told n (told.lists others) others other_fates) place
-  told_alike told local =
+  told_alike told local fated =
       outs_told_at n (told.lists outs) outs fates place
       ∙ ap (λ ns. told_or_none n ns (list_at fates place) (slice_get outs place)) (local outs others same)
       ∙ ap (λ fs. told_or_none n (list_at (told.lists others) place) fs (slice_get outs place)) fated
       ∙ ap (told_or_none n (list_at (told.lists others) place) (list_at other_fates place)) same
       ∙ sym (outs_told_at n (told.lists others) others other_fates place)
 
-  outs_alike : (told : Option (Told N)) → IsLocalIf place told →
+  outs_alike : (told : Option (Told N)) → IsLocalIf place told → FatedAlikeAt place told fates other_fates →
       slice_get (outs_left n told outs fates) place ≡ slice_get (outs_left n told others other_fates) place
-  outs_alike None local = same
-  outs_alike (Some told) local =
+  outs_alike None local fated = same
+  outs_alike (Some told) local fated =
       slice_get-map at_rest (outs_told n (told.lists outs) outs fates) place
-      ∙ ap (option_map at_rest) (told_alike told local)
+      ∙ ap (option_map at_rest) (told_alike told local fated)
       ∙ sym (slice_get-map at_rest (outs_told n (told.lists others) others other_fates) place)
 
   offered_at : (at : At) (xs : List (Numbered N)) → slice_get (map (lines_at at) (lines_offered xs)) place ≡ option_map (lines_at at)
@@ -195,34 +217,37 @@ module _ {N : Type 0} (n : Ghosts N) (place : ℕ) (outs others : List (Numbered
   none_alike = slice_get-map (λ (o : Numbered N). []) outs place ∙ ap (option_map (λ (o : Numbered N). [])) same ∙
       sym (slice_get-map (λ (o : Numbered N). []) others place)
 
-  lines_alike : (told : Option (Told N)) → IsLocalIf place told →
+  lines_alike : (told : Option (Told N)) → IsLocalIf place told → FatedAlikeAt place told fates other_fates →
       slice_get (lines_left n told outs fates) place ≡ slice_get (lines_left n told others other_fates) place
-  lines_alike None local = none_alike
-  lines_alike (Some told) local =
+  lines_alike None local fated = none_alike
+  lines_alike (Some told) local fated =
       offered_at told.at (outs_told n (told.lists outs) outs fates)
-      ∙ ap (λ o. option_map (lines_at told.at) (option_map (λ (o : Numbered N). o.out.lines) o)) (told_alike told local)
+      ∙ ap (λ o. option_map (lines_at told.at) (option_map (λ (o : Numbered N). o.out.lines) o)) (told_alike told local fated)
       ∙ sym (offered_at told.at (outs_told n (told.lists others) others other_fates))
 
-module _ {N : Type 0} (n : Ghosts N) (place : ℕ) where
-  -- a turn leaves the output at the place alike, and it offers the same lines
+module _ {N : Type 0} (n : Ghosts N) (stack place : ℕ) where
+  -- a turn leaves the output at the place of the stack alike, and it offers the same lines
   abbrev TurnsAlike : Plain N → Plain N → StepWithMask → StepWithMask → Type 0
-  TurnsAlike p q t u = AreAlikeAt place (plain_after n p t) (plain_after n q u) ×
-      (slice_get (turn_lines n p t) place ≡ slice_get (turn_lines n q u) place)
+  TurnsAlike p q t u = AreAlikeAt stack place (plain_after n p t) (plain_after n q u) ×
+      (slice_get (turn_lines n p t stack) place ≡ slice_get (turn_lines n q u stack) place)
 
-  went : (s : Skeleton) (outs others : List (Numbered N)) (step : PlainStep) (a : Answers) (fates other_fates : Fates) →
-      slice_get outs place ≡ slice_get others place → list_at fates place ≡ list_at other_fates place →
+  went : (s : Skeleton) (outs others : ℕ → List (Numbered N)) (step : PlainStep) (a : Answers) (fates other_fates : Fates) →
+      slice_get (outs stack) place ≡ slice_get (others stack) place →
+      FatedAlikeAt place (told_to N stack (told_of N s step a)) fates other_fates →
       TurnsAlike (record { skeleton = s; outs = outs }) (record { skeleton = s; outs = others }) (Went step a fates)
       (Went step a other_fates)
-  went s outs others step a fates other_fates same fated = (
-    record {
-      skeleton = refl;
-      out = outs_alike n place outs others fates other_fates same fated (told_of N s step a)
-          (told_is_local N place s step a);
-    },
-    lines_alike n place outs others fates other_fates same fated (told_of N s step a) (told_is_local N place s step a),
-  )
+  went s outs others step a fates other_fates same fated =
+      let told = told_to N stack (told_of N s step a) in
+      let local = told_is_local N place s stack step a in (
+        record {
+          skeleton = refl;
+          out = outs_alike n place (outs stack) (others stack) fates other_fates same told local fated;
+        },
+        lines_alike n place (outs stack) (others stack) fates other_fates same told local fated,
+      )
 
-  turn_alike : (p q : Plain N) (t u : StepWithMask) → AreAlikeAt place p q → GoAlikeAt place t u → TurnsAlike p q t u
+  turn_alike : (p q : Plain N) (t u : StepWithMask) → AreAlikeAt stack place p q → GoAlikeAt N p.skeleton stack place t u →
+      TurnsAlike p q t u
   turn_alike p q (Went step a fates) (Went other b others) alike (same_step, same_answers, fated) =
       subst (λ k. TurnsAlike p (record { skeleton = k; outs = q.outs }) (Went step a fates) (Went other b others)) alike.skeleton
       (subst (λ st. TurnsAlike p (record { skeleton = p.skeleton; outs = q.outs }) (Went step a fates) (Went st b others)) same_step
@@ -230,22 +255,23 @@ module _ {N : Type 0} (n : Ghosts N) (place : ℕ) where
       (went p.skeleton p.outs q.outs step a fates others alike.out fated)))
   turn_alike p q (Went step a fates) (Starved other) alike w = absurd w
   turn_alike p q (Starved step) (Went other b others) alike w = absurd w
-  turn_alike p q (Starved step) (Starved other) alike w = (alike, none_alike n place p.outs q.outs [] [] alike.out refl)
+  turn_alike p q (Starved step) (Starved other) alike w = (alike, none_alike n place (p.outs stack) (q.outs stack) [] [] alike.out)
 
-  alone : (p q : Plain N) (ts us : List StepWithMask) → AreAlikeAt place p q → AllGoAlikeAt place ts us →
-      AreAlikeAt place (plain_run n p ts) (plain_run n q us) × (slice_get (lines_of n p ts) place ≡ slice_get (lines_of n q us) place)
-  alone p q [] [] alike all = (alike, none_alike n place p.outs q.outs [] [] alike.out refl)
+  alone : (p q : Plain N) (ts us : List StepWithMask) → AreAlikeAt stack place p q → AllGoAlikeAt n stack place p ts us →
+      AreAlikeAt stack place (plain_run n p ts) (plain_run n q us) ×
+      (slice_get (lines_of n p ts stack) place ≡ slice_get (lines_of n q us stack) place)
+  alone p q [] [] alike all = (alike, none_alike n place (p.outs stack) (q.outs stack) [] [] alike.out)
   alone p q [] (u ∷ us) alike all = absurd all
   alone p q (t ∷ ts) [] alike all = absurd all
   alone p q (t ∷ ts) (u ∷ us) alike (first, later) =
       let next = turn_alike p q t u alike first in
       let rest = alone (plain_after n p t) (plain_after n q u) ts us next.0 later in (
         rest.0,
-        joined_at (turn_lines n p t) (lines_of n (plain_after n p t) ts) place
-            ∙ ap (λ xs. both xs (slice_get (lines_of n (plain_after n p t) ts) place)) next.1
-            ∙ ap (both (slice_get (turn_lines n q u) place)) rest.1
-            ∙ sym (joined_at (turn_lines n q u) (lines_of n (plain_after n q u) us) place),
+        joined_at (turn_lines n p t stack) (lines_of n (plain_after n p t) ts stack) place
+            ∙ ap (λ xs. both xs (slice_get (lines_of n (plain_after n p t) ts stack) place)) next.1
+            ∙ ap (both (slice_get (turn_lines n q u stack) place)) rest.1
+            ∙ sym (joined_at (turn_lines n q u stack) (lines_of n (plain_after n q u) us stack) place),
       )
 
 pub outputs_go_alone : {N : Type 0} (n : Ghosts N) → OutputsGoAlone n
-outputs_go_alone n place p q ts us alike all = alone n place p q ts us alike all
+outputs_go_alone n stack place p q ts us alike all = alone n stack place p q ts us alike all
