@@ -70,8 +70,8 @@ module _ {T : Type 0} (s : Ghosts T) where
   formed_first z u formed =
       let rows = no_rows (0, living 0 z ∷ []) (formed.callsites.0, formed.asked) u.callsites formed.callsites.1 in
       let one = one_tells z u.subscribers u.greatest
-          (subst (λ (es : List (KeptSubscriber T)). Each (Raises s false) 0 es u.subscribers u.greatest)
-          (ap (λ (p : ℕ × List (KeptSubscriber T)). p.1) rows.1) formed.hints) in (
+      (subst (λ (es : List (KeptSubscriber T)). Each (Raises s false) 0 es u.subscribers u.greatest)
+      (ap (λ (p : ℕ × List (KeptSubscriber T)). p.1) rows.1) formed.hints) in (
         one.0,
         one.1,
         formed.rest
@@ -108,7 +108,7 @@ module _ {T : Type 0} (s : Ghosts T) where
     opens thread x handle v reply w adds step =
         let first = first_added thread x handle v adds in
         let set = set_first thread first.1.0 first.1.1 v.hub.greatest handle reply w first.0
-            (subst (λ (u : StateValue T). StepGives s registry_of u (GlobalStep handle) reply w) first.1.2 step) in
+        (subst (λ (u : StateValue T). StepGives s registry_of u (GlobalStep handle) reply w) first.1.2 step) in
         record {
           stack = first.1.0;
           hint = first.1.1;
