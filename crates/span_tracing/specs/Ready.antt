@@ -20,8 +20,8 @@ use Rattle.span_tracing_laws.specs.runs.Files.{RunsToFiles}
 use Rattle.span_tracing_laws.specs.runs.StepFollows.{Follows, TraceIsReady, Traced, registry_of}
 use Rattle.span_tracing_steps.specs.Steps.{StepGives}
 
--- A step follows the skeleton and the output machines where the trace is ready, as it is where it has no stack, when a stack was added with
--- its sinks and with honest filters, and after each step; and it leaves the trace ready.
+-- A step follows the skeleton and the output machines where the trace is ready, as it is where it has no stack, when a ready stack was
+-- added, and after each step; and it leaves the trace ready.
 abbrev pub FollowsReady : {N E F S : Type 0} → Ghosts N → (E → Settings → PlainContext → PlainEvent → Option (List ℕ)) → FilterGhosts F →
     (S → At → PlainLine → S → Type 0) → LayerGhosts (Lines N E) → Traced N E F S → PlainStep → Reply → Traced N E F S → Type 0
 FollowsReady n line_of g takes h v step reply w = TraceIsReady g h v → Follows n line_of g takes h v step reply w ×

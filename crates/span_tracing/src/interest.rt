@@ -25,7 +25,7 @@ impl<T: Subscriber + HasRegistry> Trace<T> {
 impl<T: Subscriber> Trace<T> {
     /// Whether it is kept of the callsite that nobody is interested in it. As long as what the trace keeps is right of each stack, an event
     /// there would reach no output, and a span wouldn't be made: whoever makes no request misses no line (`skipping_misses_nothing`).
-    /// No refusal is told then: of a lane that isn't there, of a moment out of range, or of a parent that is closed.
+    /// No refusal is told then.
     pub fn is_off(&self, callsite: CallsiteIndex) -> bool
         ensures { result ≡ is_off_at self.now.hub.callsites callsite }
     {

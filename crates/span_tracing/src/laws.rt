@@ -30,7 +30,7 @@ pub fn leveled_outputs_are_honest<D>()
 {}
 
 /// A new trace is ready. A lane leaves a ready trace so, and so does taking a stack that was released. With `setup_follows` a trace is ready
-/// for its next step, whatever setup calls are made.
+/// for its next step, as long as each stack that is added is ready.
 #[tactic(auto, using(crate::proofs::FirstTraces::traces_start_ready))]
 pub fn traces_start_ready<N: FormatFields + Drop, E: FormatEvent, F: Filter, S>()
     ensures { StartsReady ⟦<F as Filter>⟧ ⟦<event_formatter::Layer<N, E, PendingLines> as Layer>⟧ S }

@@ -33,8 +33,8 @@ fn lost_by_all<D: Folder>(before: usize, sinks: &[RollingSink<D>]) -> usize
 impl<N: FormatFields + Drop, E: FormatEvent, F: Filter, S: LineSink> Trace<
     TraceStack<N, E, F, RoutedSinks<S>>,
 > {
-    /// The sink with this number of the output at a place of a stack, also of one that was released. A sink tells how many lines it dropped; of a rolling file it has the folder,
-    /// and what was lost to the folder's faults.
+    /// The sink with this number of the output at a place of a stack, also of one that was released and isn't taken yet. A sink tells how
+    /// many lines it dropped; of a rolling file it has the folder, and what was lost to the folder's faults.
     pub fn sink(&self, stack: usize, output: usize, number: usize) -> Option<&S>
         ensures { option_copied result ≡ sink_at (stack_in self.now stack) output number }
     {
@@ -47,7 +47,8 @@ impl<N: FormatFields + Drop, E: FormatEvent, F: Filter, S: LineSink> Trace<
         }
     }
 
-    /// How many texts of spans and lines the output at a place of a stack missed where memory ran out, at most `usize::MAX`.
+    /// How many texts of spans and lines the output at a place of a stack missed where memory ran out, at most `usize::MAX`. The stack may
+    /// have been released, as long as it isn't taken.
     pub fn starved(&self, stack: usize, output: usize) -> Option<usize>
         ensures { result ≡ starved_at (stack_in self.now stack) output }
     {
@@ -64,8 +65,9 @@ impl<N: FormatFields + Drop, E: FormatEvent, F: Filter, S: LineSink> Trace<
 impl<N: FormatFields + Drop, E: FormatEvent, F: Filter, D: Folder> Trace<
     TraceStack<N, E, F, RoutedSinks<RollingSink<D>>>,
 > {
-    /// How many texts and lines of the output at a place of a stack are missing in its files, at most `usize::MAX`: those that found no memory before
-    /// its sinks or at one, and lines that a folder didn't take whole. A line that is missing at two sinks counts twice.
+    /// How many texts and lines of the output at a place of a stack are missing in its files, at most `usize::MAX`: those that found no
+    /// memory before its sinks or at one, and lines that a folder didn't take whole. A line that is missing at two sinks counts twice. The stack
+    /// may have been released, as long as it isn't taken.
     pub fn lost(&self, stack: usize, output: usize) -> Option<usize>
         ensures { result ≡ lost_at (stack_in self.now stack) output }
     {

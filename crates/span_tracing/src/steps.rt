@@ -67,7 +67,8 @@ impl<T: Subscriber + HasRegistry> Trace<T> {
 }
 
 impl<N: FormatFields + Drop, E: FormatEvent, F: Filter, S: LineSink> Trace<TraceStack<N, E, F, S>> {
-    /// Makes the stack with this handle the one that lanes reach which have no default of their own. Takes no memory.
+    /// Makes the stack with this handle the one that lanes reach which have no default of their own. It holds the stack from then on, and
+    /// is set once: refused where it was set (`GlobalSet`), and for a handle that isn't there or is spent. Takes no memory.
     pub fn set_global_default(&mut self, handle: usize) -> Reply
         ensures { IsStep ⟦<TraceStack<N, E, F, S> as Subscriber>⟧ ⟦<N as FormatFields>⟧ E.line_of ⟦<F as Filter>⟧ S.takes
             ⟦<Layer<N, E, PendingLines> as span_registry_layers_layers::Layer>⟧ self.old
@@ -79,7 +80,8 @@ impl<N: FormatFields + Drop, E: FormatEvent, F: Filter, S: LineSink> Trace<Trace
     }
 
     /// Gives a lane a default of its own: the stack with this handle, which the lane holds from then on, or none, so that it reaches
-    /// nothing. Answers the number of a guard that keeps the default before.
+    /// nothing. Answers the number of a guard that keeps the default before. Refused for a lane or a handle that isn't there, a spent handle,
+    /// and where the stack has too many holders or there is no memory for the guard.
     pub fn set_default(&mut self, lane: usize, handle: Option<usize>) -> Reply
         ensures { IsStep ⟦<TraceStack<N, E, F, S> as Subscriber>⟧ ⟦<N as FormatFields>⟧ E.line_of ⟦<F as Filter>⟧ S.takes
             ⟦<Layer<N, E, PendingLines> as span_registry_layers_layers::Layer>⟧ self.old
@@ -90,8 +92,9 @@ impl<N: FormatFields + Drop, E: FormatEvent, F: Filter, S: LineSink> Trace<Trace
         self.parts.set_default(&DefaultCall { lane, handle })
     }
 
-    /// Gives a lane the default back that the guard with this number keeps, and spends the guard. Guards may be spent in any order. The
-    /// default that the lane had lets its stack go. Takes no memory.
+    /// Gives a lane the default back that the guard with this number keeps, and spends the guard. Guards may be spent in any order. What the
+    /// lane had holds its stack no more; where nobody else does, the stack is released. Refused for a lane that isn't there, and for a guard
+    /// that is spent or isn't this lane's (`WrongLane`). Takes no memory.
     pub fn reset_default(&mut self, lane: usize, guard: usize) -> Reply
         ensures { IsStep ⟦<TraceStack<N, E, F, S> as Subscriber>⟧ ⟦<N as FormatFields>⟧ E.line_of ⟦<F as Filter>⟧ S.takes
             ⟦<Layer<N, E, PendingLines> as span_registry_layers_layers::Layer>⟧ self.old
@@ -102,7 +105,8 @@ impl<N: FormatFields + Drop, E: FormatEvent, F: Filter, S: LineSink> Trace<Trace
         self.parts.reset_default(&ResetCall { lane, guard })
     }
 
-    /// Takes one more handle of the stack with this handle, and answers its number.
+    /// Takes one more handle of the stack with this handle, and answers its number. Refused for a handle that isn't there or is spent, and
+    /// where the stack has too many holders or there is no memory.
     pub fn clone_handle(&mut self, handle: usize) -> Reply
         ensures { IsStep ⟦<TraceStack<N, E, F, S> as Subscriber>⟧ ⟦<N as FormatFields>⟧ E.line_of ⟦<F as Filter>⟧ S.takes
             ⟦<Layer<N, E, PendingLines> as span_registry_layers_layers::Layer>⟧ self.old
@@ -113,7 +117,8 @@ impl<N: FormatFields + Drop, E: FormatEvent, F: Filter, S: LineSink> Trace<Trace
         self.parts.clone_handle(handle)
     }
 
-    /// Spends a handle. Where nobody else holds its stack, that is released. Takes no memory.
+    /// Spends a handle. Where nobody else holds its stack, the stack is released, and waits for
+    /// [`take_retired`](Trace::take_retired). Refused for a handle that isn't there or is spent. Takes no memory.
     pub fn release(&mut self, handle: usize) -> Reply
         ensures { IsStep ⟦<TraceStack<N, E, F, S> as Subscriber>⟧ ⟦<N as FormatFields>⟧ E.line_of ⟦<F as Filter>⟧ S.takes
             ⟦<Layer<N, E, PendingLines> as span_registry_layers_layers::Layer>⟧ self.old
@@ -124,7 +129,7 @@ impl<N: FormatFields + Drop, E: FormatEvent, F: Filter, S: LineSink> Trace<Trace
         self.parts.release(handle)
     }
 
-    /// Makes an event on a lane. A line that finds no memory is missing alone, and counted.
+    /// Makes an event on a lane, for the stack that the lane reaches. A line that finds no memory is missing alone, and counted.
     #[inline(always)]
     pub fn event(
         &mut self,
@@ -149,8 +154,8 @@ impl<N: FormatFields + Drop, E: FormatEvent, F: Filter, S: LineSink> Trace<Trace
         })
     }
 
-    /// Asks whether some output's filter passes a callsite on a lane: by it a new span would be made, and an event unless the filters
-    /// refuse the event itself. Asking leaves no mark, and takes no memory.
+    /// Asks whether some output's filter of the stack that the lane reaches passes a callsite: by it a new span would be made, and an event
+    /// unless the filters refuse the event itself. It is `false` where the lane reaches no stack. Asking leaves no mark, and takes no memory.
     pub fn enabled(&mut self, lane: usize, moment: Moment, callsite: Identifier) -> Reply
         ensures { IsStep ⟦<TraceStack<N, E, F, S> as Subscriber>⟧ ⟦<N as FormatFields>⟧ E.line_of ⟦<F as Filter>⟧ S.takes
             ⟦<Layer<N, E, PendingLines> as span_registry_layers_layers::Layer>⟧ self.old
@@ -165,7 +170,8 @@ impl<N: FormatFields + Drop, E: FormatEvent, F: Filter, S: LineSink> Trace<Trace
         })
     }
 
-    /// Makes a new span on a lane, and answers its name, or none where it is dropped. A text that finds no memory is missing alone,
+    /// Makes a new span on a lane in the stack that the lane reaches, and answers its name, or none where it is dropped or the lane reaches
+    /// nothing. A text that finds no memory is missing alone,
     /// and counted.
     pub fn new_span(
         &mut self,
@@ -213,7 +219,7 @@ impl<N: FormatFields + Drop, E: FormatEvent, F: Filter, S: LineSink> Trace<Trace
         })
     }
 
-    /// Records that a span follows from another one. Nothing shows it yet.
+    /// Records that a span follows from another one of the same stack. Nothing shows it yet.
     pub fn record_follows_from(
         &mut self,
         lane: usize,
@@ -309,9 +315,8 @@ impl<N: FormatFields + Drop, E: FormatEvent, F: Filter, D: Folder> Trace<
 > {
     /// Steps in order, with a reply to each. A step that is refused for lack of memory does nothing, and the others run.
     ///
-    /// Where the trace is ready, each sink of an output of a stack takes exactly those lines that the output's machine offers and the route sends to
-    /// it.
-    /// Where the sink dropped none, its folder's contents are known, and its appender agreed with a sink before (`AgreesSink`), these lines
+    /// Where the trace is ready, each sink of an output of a stack takes exactly those lines that the output's machine offers and the route
+    /// sends to it. Where the sink dropped none, its folder's contents are known, and its appender agreed with a sink before (`AgreesSink`), these lines
     /// stand in its files behind what was found and handed over before, as far as retention left the files.
     ///
     /// # Errors

@@ -16,8 +16,9 @@ use tracing_core_fields::{Identifier, Interest, Metadata, Subscriber};
 /// [`TraceStack`](span_tracing_outputs::TraceStack) of outputs, which have sinks that take their lines.
 ///
 /// Stacks are numbered from 0 in the order of adding. A *handle* is a number that holds a stack. A lane reaches the stack that is its own
-/// default, or else the global default. These hold their stacks, too. So does a *guard*, the number of a lane's earlier default. A stack
-/// that nobody holds any more is *released*: it takes no further call, and can still be read.
+/// default, or else the global default; its own default may be that it reaches nothing. These hold their stacks, too. So does a *guard*, a
+/// number that keeps a lane's earlier default, until it is spent. A stack that nobody holds any more is *released*: it takes no further
+/// call, and can be read until it is taken.
 ///
 /// A contract sees a trace as what its hub keeps (stacks with who holds them, callsites with the interest in them, lanes and the global
 /// default), the lanes' threads, handles, guards, and the stacks that were released.
@@ -60,7 +61,7 @@ impl<T: Subscriber> Trace<T> {
         self.parts.given()
     }
 
-    /// The stack with this number, also where it was released; none where no stack has the number.
+    /// The stack with this number, also where it was released and isn't taken yet.
     pub fn stack(&self, number: usize) -> Option<&T>
         ensures { option_copied result ≡ stack_in self.now number }
     {
@@ -86,7 +87,7 @@ impl<T: Subscriber> Trace<T> {
     }
 
     /// Registers a callsite under an identifier, and answers the interest in it that is kept: what the stacks have in common of it,
-    /// and never where there is no stack. Equal metadata may be registered again, which answers the kept interest
+    /// and never where no stack is held. Equal metadata may be registered again, which answers the kept interest
     /// and changes nothing.
     ///
     /// # Errors
@@ -104,7 +105,7 @@ impl<T: Subscriber> Trace<T> {
     }
 
     /// Takes a stack under the next number, and answers the number of its handle. The stack is told of its handle, and asked of each
-    /// callsite.
+    /// callsite and for its hint. A ready trace stays ready where the stack is.
     ///
     /// # Errors
     ///

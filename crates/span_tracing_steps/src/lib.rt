@@ -1,4 +1,4 @@
-//! The steps of a trace, from a call to a reply: what is refused, and what its stack is asked to do.
+//! The steps of a trace, from a call to a reply: what is refused, and which stack is asked to do what.
 #![tactic(auto)]
 
 mod action;

@@ -1,5 +1,5 @@
--- What the outputs of a stack are told of a step, as the skeleton decides it: of a request those of the stack that lanes reach, else those
--- of the span's stack.
+-- What the outputs of a stack are told of a step, as the skeleton decides it: of a request those of the stack that its lane reaches,
+-- of a call on a span those of the span's stack.
 use Rattle.std.specs.Prelude.{ℕ, ◌==◌, true, false, if◌then◌else◌, List, Option, Some, None}
 use Rattle.tracing_core_fields.specs.PlainMetadata.{PlainMetadata}
 use Rattle.tracing_core_moments.specs.declared.at.At.{At}
