@@ -1,6 +1,6 @@
 -- A callsite that was registered is there.
 use Rattle.std.proofs.Common.{◌≡◌, ◌==◌, ℕ, inl, inr, Bool, true, false, List, [], ◌∷◌, ◌++◌, Option, Some, None, Ok, Err, is_some, refl}
-use Rattle.std.proofs.Common.{ap, sym, ◌∙◌}
+use Rattle.std.proofs.Common.{ap, sym, subst, ◌∙◌, Result, IsErrAnd}
 use Rattle.std.specs.Prelude.{if◌then◌else◌}
 use Rattle.std.proofs.lemmas.Bool.{eq-eqb}
 use Rattle.std.proofs.lemmas.List.{map-append}
@@ -13,11 +13,14 @@ use Rattle.tracing_core.specs.TableRows.{KeptCallsite}
 use Rattle.tracing_core.specs.declared.refusal.RegisterError.TheVariants as errors
 use Rattle.span_tracing_skeleton.specs.Looking.{named}
 use Rattle.span_tracing_skeleton.specs.declared.refusal.Refusal.TheVariants.{OutOfMemory}
+use Rattle.span_tracing_skeleton.specs.declared.refusal.Refusal.{Refusal}
 use Rattle.span_tracing_steps.specs.Callsites.{own_metadata}
-use Rattle.span_tracing_steps.specs.Setup.{RegisterGives}
+use Rattle.span_tracing_steps.specs.Setup.{RegisterGives, own_at}
 use Rattle.span_tracing_steps.specs.States.{StateValue, callsites_of}
 use Rattle.span_tracing_steps.specs.contracts.callsite.TraceCallsiteCallsite.TheImpl.{ghosts}
 use Rattle.span_tracing_steps.specs.declared.callsite.TraceCallsite.{TraceCallsite}
+use Rattle.span_tracing.specs.Sites.{RegistersSite}
+use Rattle.span_tracing.specs.declared.site.Site.{Site}
 
 passed : (b : Bool) (n : PlainMetadata) (o : Option PlainMetadata) → is_some o ≡ true → is_some (if b then Some n else o) ≡ true
 passed true n o e = refl
@@ -32,22 +35,24 @@ last_named [] m = met (m.callsite == m.callsite) m None (eq-eqb m.callsite m.cal
 last_named (n ∷ ms) m = passed (n.callsite == m.callsite) n (named (ms ++ m ∷ []) m.callsite) (last_named ms m)
 
 -- a row that the hub finds by its identifier, and whose metadata names it
+found_if : (b : Bool) (number : ℕ) (row r : KeptCallsite TraceCallsite) (rows : List (KeptCallsite TraceCallsite)) →
+    (own_metadata row.callsite).callsite ≡ number →
+    (callsite_with number rows ≡ Some row → is_some (named (callsites_of rows) number) ≡ true) →
+    (if b then Some r else callsite_with number rows) ≡ Some row → is_some (named (callsites_of (r ∷ rows)) number) ≡ true
+found_if true number row r rows own later found =
+    let same : r ≡ row = (let some : Some r ≡ Some row = found in cc) in
+    met ((own_metadata r.callsite).callsite == number) (own_metadata r.callsite) (named (callsites_of rows) number)
+    (eq-eqb (own_metadata r.callsite).callsite number
+    (ap (λ (k : KeptCallsite TraceCallsite). (own_metadata k.callsite).callsite) same ∙ own))
+found_if false number row r rows own later found =
+    passed ((own_metadata r.callsite).callsite == number) (own_metadata r.callsite) (named (callsites_of rows) number) (later found)
+
 found_named : (rows : List (KeptCallsite TraceCallsite)) (number : ℕ) (row : KeptCallsite TraceCallsite) →
     callsite_with number rows ≡ Some row → (own_metadata row.callsite).callsite ≡ number →
     is_some (named (callsites_of rows) number) ≡ true
 found_named [] number row found own = absurd (let odd : None ≡ Some row = found in cc)
-found_named (r ∷ rows) number row found own = by_first (is_at number r) found
-  where
-    by_first : (b : Bool) → (if b then Some r else callsite_with number rows) ≡ Some row →
-        is_some (named (callsites_of (r ∷ rows)) number) ≡ true
-    by_first true e =
-        let same : r ≡ row = (let some : Some r ≡ Some row = e in cc) in
-        met ((own_metadata r.callsite).callsite == number) (own_metadata r.callsite) (named (callsites_of rows) number)
-        (eq-eqb (own_metadata r.callsite).callsite number
-        (ap (λ (k : KeptCallsite TraceCallsite). (own_metadata k.callsite).callsite) same ∙ own))
-    by_first false e =
-        passed ((own_metadata r.callsite).callsite == number) (own_metadata r.callsite) (named (callsites_of rows) number)
-        (found_named rows number row e own)
+found_named (r ∷ rows) number row found own =
+    found_if (is_at number r) number row r rows own (λ later. found_named rows number row later own) found
 
 module _ {T : Type 0} (g : Ghosts T) (t u : Table T TraceCallsite) (callsite : TraceCallsite) (k : PlainInterest) where
   abbrev IsThere : Type 0
@@ -67,7 +72,7 @@ module _ {T : Type 0} (g : Ghosts T) (t u : Table T TraceCallsite) (callsite : T
   hub_there : (o : Option (KeptCallsite TraceCallsite)) → callsite_with (own_metadata callsite).callsite t.callsites ≡ o →
       RegisterGivesAt g ghosts t callsite (kept_alike ghosts (own_metadata callsite) o) (Ok k) u → IsThere
   hub_there None found w =
-      let number = ap (λ (m : PlainMetadata). m.callsite) w.asked.1.0 in
+      let number = ap (λ (m : PlainMetadata). m.callsite) w.asked.1 in
       ap (λ (n : ℕ). is_some (named (callsites_of u.callsites) n)) (sym number)
       ∙ ap (λ (x : Table T TraceCallsite). is_some (named (callsites_of x.callsites) (own_metadata w.row.callsite).callsite)) w.kept
       ∙ ap (λ (ms : List PlainMetadata). is_some (named ms (own_metadata w.row.callsite).callsite))
@@ -87,3 +92,9 @@ module _ {T : Type 0} (g : Ghosts T) where
   pub is_there : (v w : StateValue T) (m : PlainMetadata) (k : PlainInterest) → RegisterGives g v m (Ok k) w →
       None ≡ named (callsites_of w.hub.callsites) m.callsite → ⊥
   is_there v w m k gives none = absurd (let is : is_some (named (callsites_of w.hub.callsites) m.callsite) ≡ true = there v w m k gives in cc)
+
+  -- a refusal that is handed on
+  pub refuses : (v w : StateValue T) (m : PlainMetadata) (r : Result Site Refusal) (refusal : Refusal) → IsErrAnd r (λ e. e ≡ refusal) →
+      RegisterGives g v (own_at m.callsite m) (Err refusal) w → RegistersSite g v m r w
+  refuses v w m (Ok site) refusal is gives = absurd is
+  refuses v w m (Err e) refusal is gives = subst (λ (x : Refusal). RegisterGives g v (own_at m.callsite m) (Err x) w) (sym is) gives
