@@ -13,7 +13,7 @@ use Rattle.span_tracing_skeleton.specs.PlainData.{GlobalStep}
 use Rattle.span_tracing_skeleton.specs.declared.call.Reply.{Reply}
 use Rattle.span_tracing_skeleton.specs.declared.call.Reply.TheVariants.{Done}
 use Rattle.span_tracing_steps.specs.Setup.{AddGives, with_thread}
-use Rattle.span_tracing_steps.specs.States.{PlainThread, StateValue, new_state}
+use Rattle.span_tracing_steps.specs.States.{PlainThread, StateValue, new_state, stack_in}
 use Rattle.span_tracing_steps.specs.Steps.{StepGives, with_global}
 use Rattle.span_tracing_steps.specs.contracts.callsite.TraceCallsiteCallsite.TheImpl.{ghosts}
 use Rattle.span_tracing_steps.specs.declared.callsite.TraceCallsite.{TraceCallsite}
@@ -117,6 +117,21 @@ module _ {T : Type 0} (s : Ghosts T) where
           done = set.0;
           set = set.1;
         }
+
+    -- of a trace that was new before
+    pub opened : (thread : PlainThread) (x : T) (handle : ℕ) (fresh before v : StateValue T) (reply : Reply) (w : StateValue T) →
+        fresh ≡ new_state → before ≡ with_thread fresh thread → AddGives s before x (Ok handle) v →
+        StepGives s registry_of v (GlobalStep handle) reply w → Opens thread v handle reply w
+    opened thread x handle fresh before v reply w new is adds step =
+        opens thread x handle v reply w
+        (subst (λ (u : StateValue T). AddGives s u x (Ok handle) v) (is ∙ ap (λ (u : StateValue T). with_thread u thread) new) adds) step
+
+    pub same_stack : (thread : PlainThread) (v : StateValue T) (handle : ℕ) (reply : Reply) (w : StateValue T) →
+        Opens thread v handle reply w → (number : ℕ) → number ≡ 0 → stack_in v number ≡ stack_in w 0
+    same_stack thread v handle reply w o number first =
+        ap (λ (u : StateValue T). stack_in u number) o.added
+        ∙ ap (λ (k : ℕ). stack_in (first_state thread o.stack o.hint o.greatest) k) first
+        ∙ sym (ap (λ (u : StateValue T). stack_in u 0) o.set)
 
 module _ {N E F S : Type 0} where
   pub reaches_first : (thread : PlainThread) (w : Traced N E F S) (y : _) (top : Option ℕ) (greatest : ℕ) →

@@ -9,6 +9,7 @@ ghost use Rattle.span_tracing_outputs.specs.files.OpenedStack.{Answers, of_all, 
 ghost use Rattle.span_tracing_outputs.specs.files.OpenRefusals.{IsRouted, NamesAnswer};
 ghost use Rattle.span_tracing_outputs.specs.declared.files.output_spec.OutputSpec.{OutputSpec};
 
+use crate::laws::traces_start_ready;
 use crate::trace::Trace;
 use event_formatter::{Fields, Format, LineFormat, Timer};
 use span_registry_layers_layers::Filter;
@@ -58,6 +59,7 @@ pub fn open_trace<F: Filter, D: Folder>(
     ensures lane { IfOk result (λ trace. trace.threads ≡ record { name = None; number = 1 } ∷ []) }
 {
     setup_follows::<Fields, Format<LineFormat, Timer>, F, RoutedSinks<RollingSink<D>>>();
+    traces_start_ready::<Fields, Format<LineFormat, Timer>, F, RoutedSinks<RollingSink<D>>>();
     let stack = open_stack(alloc, outputs, moment)?;
     let mut trace = Trace::new(alloc);
     let Ok(_lane) = trace.thread(None, 1) else {

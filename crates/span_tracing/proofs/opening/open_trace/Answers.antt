@@ -1,10 +1,57 @@
-use Rattle.std.proofs.Common.{None, Some, ap, refl, subst, sym, ◌∙◌}
+use Rattle.std.proofs.Common.{None, Some, ap, subst, ◌∙◌}
 use Rattle.span_tracing_laws.specs.runs.Laws.{StackStays}
-use Rattle.span_tracing.proofs.DefaultStack.{opens, reaches_first}
+use Rattle.span_tracing_steps.specs.States.{new_state}
+use Rattle.span_tracing.proofs.DefaultStack.{opened, reaches_first, same_stack}
 use Rattle.span_tracing.proofs.opening.open_trace.Goals as goal
 
+pub unreachable-requires : goal.unreachable-requires
+unreachable-requires g c =
+    c.in_default-set_global_default.not-Done
+    (opened _ _ (record { name = None; number = 1 }) c.in_ok-stack.stack c.in-Ok-add_stack.handle c.new-trace.result c.thread.new.self
+    c.add_stack.new.self c.set_global_default.result c.set_global_default.new.self c.new-trace.ensures c.in-Ok.ensures.ok
+    c.in-Ok-add_stack.ensures.gives c.set_global_default.ensures.gives).done
+
 pub returns-clause-ready : goal.returns-clause-ready
-returns-clause-ready g c = ?
+returns-clause-ready g c =
+    λ honest. (c.set_global_default.ensures.follows (c.setup_follows.ensures.added c.thread.new.self c.in_ok-stack.stack
+    c.in-Ok-add_stack.handle c.add_stack.new.self
+    (rw (c.in-Ok.ensures.ok, c.new-trace.ensures) (c.traces_start_ready.ensures.thread new_state _ c.traces_start_ready.ensures.new))
+    (c.in_ok-stack.ensures.ready honest) c.in-Ok-add_stack.ensures.gives).0).1
+
+pub returns-clause-opened : goal.returns-clause-opened
+returns-clause-opened g c =
+    λ honest. (
+      c.in_ok-stack.stack,
+      c.in_ok-stack.ensures.opened,
+      subst (StackStays (Some c.in_ok-stack.stack))
+          (same_stack _ _ (record { name = None; number = 1 }) c.add_stack.new.self c.in-Ok-add_stack.handle c.set_global_default.result
+          c.set_global_default.new.self
+          (opened _ _ (record { name = None; number = 1 }) c.in_ok-stack.stack c.in-Ok-add_stack.handle c.new-trace.result
+          c.thread.new.self c.add_stack.new.self c.set_global_default.result c.set_global_default.new.self c.new-trace.ensures
+          c.in-Ok.ensures.ok c.in-Ok-add_stack.ensures.gives c.set_global_default.ensures.gives)
+          c.thread.new.self.hub.next (ap (λ v. v.hub.next) c.in-Ok.ensures.ok ∙ ap (λ v. v.hub.next) c.new-trace.ensures))
+          (c.setup_follows.ensures.added c.thread.new.self c.in_ok-stack.stack c.in-Ok-add_stack.handle c.add_stack.new.self
+          (rw (c.in-Ok.ensures.ok, c.new-trace.ensures) (c.traces_start_ready.ensures.thread new_state _ c.traces_start_ready.ensures.new))
+          (c.in_ok-stack.ensures.ready honest) c.in-Ok-add_stack.ensures.gives).1.stays,
+    )
+
+pub returns-clause-bare : goal.returns-clause-bare
+returns-clause-bare g c =
+    ap (λ v. v.hub.callsites)
+    (opened _ _ (record { name = None; number = 1 }) c.in_ok-stack.stack c.in-Ok-add_stack.handle c.new-trace.result c.thread.new.self
+    c.add_stack.new.self c.set_global_default.result c.set_global_default.new.self c.new-trace.ensures c.in-Ok.ensures.ok
+    c.in-Ok-add_stack.ensures.gives c.set_global_default.ensures.gives).set
 
 pub returns-clause-reached : goal.returns-clause-reached
-returns-clause-reached g c = ?
+returns-clause-reached g c =
+    let o = opened _ _ (record { name = None; number = 1 }) c.in_ok-stack.stack c.in-Ok-add_stack.handle c.new-trace.result
+    c.thread.new.self c.add_stack.new.self c.set_global_default.result c.set_global_default.new.self c.new-trace.ensures
+    c.in-Ok.ensures.ok c.in-Ok-add_stack.ensures.gives c.set_global_default.ensures.gives in
+    reaches_first (record { name = None; number = 1 }) c.set_global_default.new.self o.stack o.hint o.greatest o.set
+
+pub returns-clause-lane : goal.returns-clause-lane
+returns-clause-lane g c =
+    ap (λ v. v.threads)
+    (opened _ _ (record { name = None; number = 1 }) c.in_ok-stack.stack c.in-Ok-add_stack.handle c.new-trace.result c.thread.new.self
+    c.add_stack.new.self c.set_global_default.result c.set_global_default.new.self c.new-trace.ensures c.in-Ok.ensures.ok
+    c.in-Ok-add_stack.ensures.gives c.set_global_default.ensures.gives).set
