@@ -15,12 +15,12 @@ ghost use Rattle.uses.specs.Programs.{message_step};
 use event_formatter::FormatEvent;
 use event_formatter_text::FormatFields;
 use span_registry_layers::Filter;
+use span_tracing::laws::{leveled_outputs_are_honest, traces_start_ready};
 use span_tracing::value::{AnyValue, LentValue};
 use span_tracing::{
     Builder, Fields, FileStack, Folder, Format, LineFormat, LineSettings, Lines, MemoryFolder,
     Moment, OutputKey, OutputSpec, Parent, Refusal, Reply, RollingSink, Rotation, Route,
-    RoutedSinks, SinkSpec, Timer, Trace, calls_make_runs, leveled_outputs_are_honest, open_stack,
-    setup_follows, traces_start_ready,
+    RoutedSinks, SinkSpec, Timer, Trace, calls_make_runs, open_stack, setup_follows,
 };
 use std::alloc::Global;
 use tracing_core::{Identifier, LevelFilter, Subscriber};
