@@ -26,14 +26,14 @@ use std::alloc::Global;
 use tracing_core::{Identifier, LevelFilter, Subscriber};
 
 /// What the output's lines go to.
-pub(crate) type Sinks = RoutedSinks<RollingSink<MemoryFolder>>;
+type Sinks = RoutedSinks<RollingSink<MemoryFolder>>;
 
 /// A trace over a folder in memory, under a level.
 pub type MemoryTrace = Trace<FileStack<LevelFilter, MemoryFolder>>;
 
 // One output, which writes lines of the full format, without a time, of what a level passes, to a file for each day,
 // `prefix.DAY.log`, in an empty folder in memory.
-pub(crate) fn output_of(
+fn output_of(
     alloc: Global,
     prefix: &str,
     level: LevelFilter,
@@ -57,7 +57,7 @@ pub(crate) fn output_of(
 }
 
 // A stack of this output, which is ready for its first call.
-pub(crate) fn stack_of(
+fn stack_of(
     alloc: Global,
     output: OutputSpec<LevelFilter, MemoryFolder>,
     moment: Moment,
@@ -127,7 +127,7 @@ pub fn open_trace(
 }
 
 // A text as the value of a callsite's first field.
-pub(crate) fn message(text: &str) -> LentValue<'_>
+fn message(text: &str) -> LentValue<'_>
     ensures { lent_entries (result ∷ []) ≡ (0, Text text.now) ∷ [] }
 {
     LentValue {
