@@ -22,7 +22,7 @@ use Rattle.span_tracing_outputs.specs.Turns.{FilterHears, Lined, Lines, filter_a
 use Rattle.span_tracing_skeleton.specs.Looking.{known, named, reach}
 use Rattle.span_tracing_skeleton.specs.PlainData.{PlainStep, GlobalStep, EventStep, EnabledStep, SpanStep, RecordStep, FollowsFromStep}
 use Rattle.span_tracing_skeleton.specs.PlainData.{EnterStep, ExitStep, CloneStep, CloseStep, DefaultStep, ResetStep, CloneHandleStep}
-use Rattle.span_tracing_skeleton.specs.PlainData.{ReleaseStep}
+use Rattle.span_tracing_skeleton.specs.PlainData.{ReleaseStep, SetStep}
 use Rattle.span_tracing_skeleton.specs.Skeleton.{Answers, Unasked, Wanted, Dropped, Passed, Heard}
 use Rattle.span_tracing_steps.specs.StackRequests.{place_at, request_of}
 use Rattle.span_tracing_steps.specs.States.{held_in}
@@ -173,6 +173,7 @@ module _ (g : FilterGhosts ℕ)
     step_answers v (ResetStep call) a w = w
     step_answers v (CloneHandleStep handle) a w = w
     step_answers v (ReleaseStep handle) a w = w
+    step_answers v (SetStep call) a w = w
 
   module _ {N E : Type 0} (n : Ghosts N) (line_of : E → Settings → PlainContext → PlainEvent → Option (List ℕ)) where
     after_none : (f : ℕ) (hook : Option Hook) → filter_after n line_of g f hook ≡ f

@@ -10,6 +10,7 @@ use Rattle.tracing_core.specs.declared.hub.parts.Lane.TheVariants.{Running}
 use Rattle.tracing_core.specs.declared.hub.parts.LaneDefault.TheVariants.{Unset}
 use Rattle.span_registry_layers_store.specs.Registries.{RegistryValue}
 use Rattle.span_tracing_skeleton.specs.PlainData.{GlobalStep}
+use Rattle.span_tracing_skeleton.specs.declared.setting.Setting.{Setting}
 use Rattle.span_tracing_skeleton.specs.declared.call.Reply.{Reply}
 use Rattle.span_tracing_skeleton.specs.declared.call.Reply.TheVariants.{Done}
 use Rattle.span_tracing_steps.specs.Setup.{AddGives, with_thread}
@@ -36,18 +37,25 @@ module _ {T : Type 0} where
     greatest = greatest;
   }
 
-  abbrev first_on : PlainThread → Table T TraceCallsite → StateValue T
-  first_on thread hub = record { hub = hub; threads = thread ∷ []; handles = Some (Some 0) ∷ []; guards = []; retired = None ∷ [] }
+  abbrev first_on : PlainThread → ℕ → Table T TraceCallsite → StateValue T
+  first_on thread count hub = record {
+    hub = hub;
+    threads = thread ∷ [];
+    outputs = count ∷ [];
+    handles = Some (Some 0) ∷ [];
+    guards = [];
+    retired = None ∷ [];
+  }
 
-  -- one lane and one stack
-  abbrev pub first_state : PlainThread → T → Option ℕ → ℕ → StateValue T
-  first_state thread y top greatest = first_on thread (first_hub (first_kept y top ∷ []) [] greatest)
+  -- one lane and one stack, which has so many outputs
+  abbrev pub first_state : PlainThread → ℕ → T → Option ℕ → ℕ → StateValue T
+  first_state thread count y top greatest = first_on thread count (first_hub (first_kept y top ∷ []) [] greatest)
 
   -- which is the global default
-  abbrev pub opened_state : PlainThread → T → Option ℕ → ℕ → StateValue T
-  opened_state thread y top greatest = with_global (first_state thread y top greatest) (Some 0)
+  abbrev pub opened_state : PlainThread → ℕ → T → Option ℕ → ℕ → StateValue T
+  opened_state thread count y top greatest = with_global (first_state thread count y top greatest) (Some 0)
 
-module _ {T : Type 0} (s : Ghosts T) where
+module _ {T : Type 0} (s : Ghosts T) (outputs_in : T → ℕ) where
   abbrev OneTells : List (KeptSubscriber T) → Type 0
   OneTells fs = (y : T) × (top : Option ℕ) × (fs ≡ first_kept y top ∷ [])
 
@@ -80,36 +88,38 @@ module _ {T : Type 0} (s : Ghosts T) where
       )
 
   -- the first stack of a trace with one lane
-  first_added : (thread : PlainThread) (x : T) (handle : ℕ) (v : StateValue T) → AddGives s (with_thread new_state thread) x (Ok handle) v →
-      (handle ≡ 0) × ((y : T) × (top : Option ℕ) × (v ≡ first_state thread y top v.hub.greatest))
+  first_added : (thread : PlainThread) (x : T) (handle : ℕ) (v : StateValue T) → AddGives s outputs_in (with_thread new_state thread) x (Ok handle) v →
+      (handle ≡ 0) × ((y : T) × (top : Option ℕ) × (v ≡ first_state thread (outputs_in x) y top v.hub.greatest))
   first_added thread x handle v (number, (told, (z, moved, formed)), is) =
       let first = formed_first z v.hub formed in
-      (number, (first.0, first.1, is ∙ ap (first_on thread) first.2))
+      (number, (first.0, first.1, is ∙ ap (first_on thread (outputs_in x)) first.2))
 
-  module _ (registry_of : T → RegistryValue) where
-    set_first : (thread : PlainThread) (y : T) (top : Option ℕ) (greatest handle : ℕ) (reply : Reply) (w : StateValue T) → handle ≡ 0 →
-        StepGives s registry_of (first_state thread y top greatest) (GlobalStep handle) reply w →
-        (reply ≡ Done) × (w ≡ opened_state thread y top greatest)
-    set_first thread y top greatest handle reply w first step =
-        subst (λ (k : ℕ). StepGives s registry_of (first_state thread y top greatest) (GlobalStep k) reply w) first step
+  module _ (registry_of : T → RegistryValue) (set_of : T → ℕ → Setting → T) where
+    set_first : (thread : PlainThread) (count : ℕ) (y : T) (top : Option ℕ) (greatest handle : ℕ) (reply : Reply) (w : StateValue T) → handle ≡ 0 →
+        StepGives s registry_of set_of (first_state thread count y top greatest) (GlobalStep handle) reply w →
+        (reply ≡ Done) × (w ≡ opened_state thread count y top greatest)
+    set_first thread count y top greatest handle reply w first step =
+        subst (λ (k : ℕ). StepGives s registry_of set_of (first_state thread count y top greatest) (GlobalStep k) reply w) first step
 
     -- Made the global default, it is reached, and there is no other.
     pub record Opens (thread : PlainThread) (v : StateValue T) (handle : ℕ) (reply : Reply) (w : StateValue T) : Type 0 where
+      pub count : ℕ
       pub stack : T
       pub hint : Option ℕ
       pub greatest : ℕ
-      pub added : v ≡ first_state thread stack hint greatest
+      pub added : v ≡ first_state thread count stack hint greatest
       pub done : reply ≡ Done
-      pub set : w ≡ opened_state thread stack hint greatest
+      pub set : w ≡ opened_state thread count stack hint greatest
 
     pub opens : (thread : PlainThread) (x : T) (handle : ℕ) (v : StateValue T) (reply : Reply) (w : StateValue T) →
-        AddGives s (with_thread new_state thread) x (Ok handle) v → StepGives s registry_of v (GlobalStep handle) reply w →
+        AddGives s outputs_in (with_thread new_state thread) x (Ok handle) v → StepGives s registry_of set_of v (GlobalStep handle) reply w →
         Opens thread v handle reply w
     opens thread x handle v reply w adds step =
         let first = first_added thread x handle v adds in
-        let set = set_first thread first.1.0 first.1.1 v.hub.greatest handle reply w first.0
-        (subst (λ (u : StateValue T). StepGives s registry_of u (GlobalStep handle) reply w) first.1.2 step) in
+        let set = set_first thread (outputs_in x) first.1.0 first.1.1 v.hub.greatest handle reply w first.0
+        (subst (λ (u : StateValue T). StepGives s registry_of set_of u (GlobalStep handle) reply w) first.1.2 step) in
         record {
+          count = outputs_in x;
           stack = first.1.0;
           hint = first.1.1;
           greatest = v.hub.greatest;
@@ -120,21 +130,21 @@ module _ {T : Type 0} (s : Ghosts T) where
 
     -- of a trace that was new before
     pub opened : (thread : PlainThread) (x : T) (handle : ℕ) (fresh before v : StateValue T) (reply : Reply) (w : StateValue T) →
-        fresh ≡ new_state → before ≡ with_thread fresh thread → AddGives s before x (Ok handle) v →
-        StepGives s registry_of v (GlobalStep handle) reply w → Opens thread v handle reply w
+        fresh ≡ new_state → before ≡ with_thread fresh thread → AddGives s outputs_in before x (Ok handle) v →
+        StepGives s registry_of set_of v (GlobalStep handle) reply w → Opens thread v handle reply w
     opened thread x handle fresh before v reply w new is adds step =
         opens thread x handle v reply w
-        (subst (λ (u : StateValue T). AddGives s u x (Ok handle) v) (is ∙ ap (λ (u : StateValue T). with_thread u thread) new) adds) step
+        (subst (λ (u : StateValue T). AddGives s outputs_in u x (Ok handle) v) (is ∙ ap (λ (u : StateValue T). with_thread u thread) new) adds) step
 
     pub same_stack : (thread : PlainThread) (v : StateValue T) (handle : ℕ) (reply : Reply) (w : StateValue T) →
         Opens thread v handle reply w → (number : ℕ) → number ≡ 0 → stack_in v number ≡ stack_in w 0
     same_stack thread v handle reply w o number first =
         ap (λ (u : StateValue T). stack_in u number) o.added
-        ∙ ap (λ (k : ℕ). stack_in (first_state thread o.stack o.hint o.greatest) k) first
+        ∙ ap (λ (k : ℕ). stack_in (first_state thread o.count o.stack o.hint o.greatest) k) first
         ∙ sym (ap (λ (u : StateValue T). stack_in u 0) o.set)
 
 module _ {N E F S : Type 0} where
-  pub reaches_first : (thread : PlainThread) (w : Traced N E F S) (y : _) (top : Option ℕ) (greatest : ℕ) →
-      w ≡ opened_state thread y top greatest → ReachesFirst w
-  reaches_first thread w y top greatest is = subst (λ (u : Traced N E F S). ReachesFirst u) (sym is)
+  pub reaches_first : (thread : PlainThread) (count : ℕ) (w : Traced N E F S) (y : _) (top : Option ℕ) (greatest : ℕ) →
+      w ≡ opened_state thread count y top greatest → ReachesFirst w
+  reaches_first thread count w y top greatest is = subst (λ (u : Traced N E F S). ReachesFirst u) (sym is)
       (record { given = refl; lanes = refl; default = refl; reached = refl; handles = refl; guards = refl })

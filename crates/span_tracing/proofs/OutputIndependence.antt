@@ -12,6 +12,7 @@ use Rattle.event_formatter_text.specs.declared.format_fields.FormatFields.{Ghost
 use Rattle.span_tracing_outputs.specs.OutputNotices.{Notice, event_told}
 use Rattle.span_tracing_outputs.specs.OutputMachines.{Fate, PlainLine}
 use Rattle.span_tracing_outputs.specs.OutputFolds.{Fates, Numbered, call_lists, event_lists, out_told, outs_told, rest_of}
+use Rattle.span_tracing_outputs.specs.OutputSettings.{out_set, outs_set}
 use Rattle.span_tracing_outputs.specs.TraceFollows.{at_rest, lines_offered}
 use Rattle.span_tracing_outputs.specs.sinks.OutputRuns.{joined}
 use Rattle.span_tracing_outputs.specs.sinks.Runs.{lines_at}
@@ -20,12 +21,14 @@ use Rattle.span_tracing_skeleton.specs.Machine.{or_same}
 use Rattle.span_tracing_skeleton.specs.Order.{refusal_of}
 use Rattle.span_tracing_skeleton.specs.PlainData.{PlainStep, Request, RecordRequest, GlobalStep, EventStep, EnabledStep, SpanStep}
 use Rattle.span_tracing_skeleton.specs.PlainData.{RecordStep, FollowsFromStep, EnterStep, ExitStep, CloneStep, CloseStep, DefaultStep}
-use Rattle.span_tracing_skeleton.specs.PlainData.{ResetStep, CloneHandleStep, ReleaseStep}
+use Rattle.span_tracing_skeleton.specs.PlainData.{ResetStep, CloneHandleStep, ReleaseStep, SetStep}
 use Rattle.span_tracing_skeleton.specs.Skeleton.{Skeleton, Answers, Unasked, Wanted, Dropped, Passed, Heard}
 use Rattle.span_tracing_skeleton.specs.declared.call.SpanName.{SpanName}
+use Rattle.span_tracing_skeleton.specs.declared.setting.Setting.{Setting}
 use Rattle.span_tracing_skeleton.specs.declared.refusal.Refusal.{Refusal}
 use Rattle.span_tracing_laws.specs.runs.Runs.{Plain, StepWithMask, Went, Starved, lines_left, lines_of, none_for, outs_left, plain_after}
 use Rattle.span_tracing_laws.specs.runs.Runs.{plain_run, turn_lines}
+use Rattle.span_tracing_laws.specs.runs.StepSettings.{OutputSetting, outs_with, setting_of}
 use Rattle.span_tracing_laws.specs.runs.StepNotices.{Told, event_told_by, span_told_by, values_told_by, told_by, told_of, told_to}
 use Rattle.span_tracing.specs.OutputIndependence.{AllGoAlikeAt, AreAlikeAt, FatedAlikeAt, GoAlikeAt, OutputsGoAlone, list_at}
 
@@ -159,6 +162,7 @@ module _ (N : Type 0) (place : ℕ) where
   step_is_local s (ResetStep call) a = tt
   step_is_local s (CloneHandleStep handle) a = tt
   step_is_local s (ReleaseStep handle) a = tt
+  step_is_local s (SetStep call) a = tt
 
   told_unless : (refusal : Option Refusal) (told : Option (Told N)) → IsLocalIf place told → IsLocalIf place (or_same refusal None told)
   told_unless None told w = w
@@ -225,6 +229,40 @@ module _ {N : Type 0} (n : Ghosts N) (place : ℕ) (outs others : List (Numbered
       ∙ ap (λ o. option_map (lines_at told.at) (option_map (λ (o : Numbered N). o.out.lines) o)) (told_alike told local fated)
       ∙ sym (offered_at told.at (outs_told n (told.lists others) others other_fates))
 
+-- a setting reaches the output at its own place alone
+abbrev set_or_none : {N : Type 0} → ℕ → ℕ → Setting → Option (Numbered N) → Option (Numbered N)
+set_or_none zero zero setting o = option_map (out_set setting) o
+set_or_none zero (suc place) setting o = o
+set_or_none (suc at) zero setting o = o
+set_or_none (suc at) (suc place) setting o = set_or_none at place setting o
+
+set_none : {N : Type 0} (at place : ℕ) (setting : Setting) → set_or_none {N = N} at place setting None ≡ None
+set_none zero zero setting = refl
+set_none zero (suc place) setting = refl
+set_none (suc at) zero setting = refl
+set_none (suc at) (suc place) setting = set_none at place setting
+
+set_at : {N : Type 0} (at place : ℕ) (setting : Setting) (outs : List (Numbered N)) →
+    slice_get (outs_set at setting outs) place ≡ set_or_none at place setting (slice_get outs place)
+set_at at place setting [] = sym (set_none at place setting)
+set_at zero zero setting (o ∷ outs) = refl
+set_at zero (suc place) setting (o ∷ outs) = refl
+set_at (suc at) zero setting (o ∷ outs) = refl
+set_at (suc at) (suc place) setting (o ∷ outs) = set_at at place setting outs
+
+set_alike_if : {N : Type 0} (b : Bool) (at place : ℕ) (setting : Setting) (outs others : List (Numbered N)) →
+    slice_get outs place ≡ slice_get others place →
+    slice_get (if b then outs_set at setting outs else outs) place ≡ slice_get (if b then outs_set at setting others else others) place
+set_alike_if false at place setting outs others same = same
+set_alike_if true at place setting outs others same =
+    set_at at place setting outs ∙ ap (set_or_none at place setting) same ∙ sym (set_at at place setting others)
+
+set_alike : {N : Type 0} (stack place : ℕ) (c : Option OutputSetting) (outs others : List (Numbered N)) →
+    slice_get outs place ≡ slice_get others place →
+    slice_get (outs_with stack c outs) place ≡ slice_get (outs_with stack c others) place
+set_alike stack place None outs others same = same
+set_alike stack place (Some c) outs others same = set_alike_if (c.at.stack == stack) c.at.place place c.setting outs others same
+
 module _ {N : Type 0} (n : Ghosts N) (stack place : ℕ) where
   -- a turn leaves the output at the place of the stack alike, and it offers the same lines
   abbrev TurnsAlike : Plain N → Plain N → StepWithMask → StepWithMask → Type 0
@@ -238,12 +276,15 @@ module _ {N : Type 0} (n : Ghosts N) (stack place : ℕ) where
       (Went step a other_fates)
   went s outs others step a fates other_fates same fated =
       let told = told_to N stack (told_of N s step a) in
-      let local = told_is_local N place s stack step a in (
+      let local = told_is_local N place s stack step a in
+      let set = setting_of s step in
+      let alike = set_alike stack place set (outs stack) (others stack) same in (
         record {
           skeleton = refl;
-          out = outs_alike n place (outs stack) (others stack) fates other_fates same told local fated;
+          out = outs_alike n place (outs_with stack set (outs stack)) (outs_with stack set (others stack)) fates other_fates alike told local
+              fated;
         },
-        lines_alike n place (outs stack) (others stack) fates other_fates same told local fated,
+        lines_alike n place (outs_with stack set (outs stack)) (outs_with stack set (others stack)) fates other_fates alike told local fated,
       )
 
   turn_alike : (p q : Plain N) (t u : StepWithMask) → AreAlikeAt stack place p q → GoAlikeAt N p.skeleton stack place t u →

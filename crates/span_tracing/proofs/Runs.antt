@@ -2,6 +2,7 @@
 use Rattle.std.proofs.Common.{◌≡◌, ℕ, ◌+◌, ◌<◌, List, [], ◌∷◌, ◌++◌, length, take, map, get_or, refl, sym, ap, ◌∙◌, subst}
 use Rattle.std.proofs.lemmas.List.{take_more, map-append}
 use Rattle.tracing_core_fields.specs.declared.requests.subscriber.Subscriber.{Ghosts as SubscriberGhosts}
+use Rattle.span_tracing_outputs.specs.OutputSettings.{stack_set}
 use Rattle.span_tracing_outputs.specs.TraceStacks.{TraceStackValue}
 use Rattle.span_tracing_outputs.specs.sinks.Routed.{Routed}
 use Rattle.span_tracing_outputs.specs.declared.sinks.sink.RollingSink.{RollingSink}
@@ -39,7 +40,7 @@ calls_make_runs sg = record {
 -- a step behind a run
 pub run_more : {N E F S : Type 0} (sg : SubscriberGhosts (TraceStackValue N E F S)) (v : Traced N E F S) (steps : List PlainStep)
     (replies : List Reply) (mid : Traced N E F S) (step : PlainStep) (reply : Reply) (w : Traced N E F S) →
-    RunGives sg v steps replies mid → StepGives sg registry_of mid step reply w →
+    RunGives sg v steps replies mid → StepGives sg registry_of stack_set mid step reply w →
     RunGives sg v (steps ++ step ∷ []) (replies ++ reply ∷ []) w
 run_more sg v steps replies mid step reply w before last = run_joins sg v steps replies mid (step ∷ []) (reply ∷ []) w before
     (w, last, refl)

@@ -8,6 +8,7 @@ use Rattle.event_formatter_text.specs.declared.format_fields.FormatFields.{Ghost
 use Rattle.event_formatter_text.specs.declared.settings.Settings.{Settings}
 use Rattle.event_formatter.specs.formats.Contexts.{PlainContext}
 use Rattle.tracing_appender_rolling.specs.folders.Contents.{Contents}
+use Rattle.span_tracing_outputs.specs.OutputSettings.{stack_set}
 use Rattle.span_tracing_outputs.specs.TraceStacks.{TraceStackValue}
 use Rattle.span_tracing_outputs.specs.Turns.{Lines}
 use Rattle.span_tracing_outputs.specs.sinks.Routed.{Routed}
@@ -24,7 +25,7 @@ module _ {N E F D : Type 0} (sg : SubscriberGhosts (TraceStackValue N E F (Route
   -- a call is a run of one step, and a run with one that begins where it ended is one run
   pub record CallsMakeRuns : Type 0 where
     pub call : (v : FileTrace N E F D) (step : PlainStep) (reply : Reply) (w : FileTrace N E F D) →
-        StepGives sg registry_of v step reply w → RunGives sg v (step ∷ []) (reply ∷ []) w
+        StepGives sg registry_of stack_set v step reply w → RunGives sg v (step ∷ []) (reply ∷ []) w
     pub joined : (v : FileTrace N E F D) (steps : List PlainStep) (replies : List Reply) (mid : FileTrace N E F D) (more : List PlainStep)
         (later : List Reply) (w : FileTrace N E F D) → RunGives sg v steps replies mid → RunGives sg mid more later w →
         RunGives sg v (steps ++ more) (replies ++ later) w

@@ -15,7 +15,7 @@ use Rattle.span_tracing_outputs.specs.Turns.{FilterHears, Lined, Lines}
 use Rattle.span_tracing_skeleton.specs.Looking.{known, named, reach}
 use Rattle.span_tracing_skeleton.specs.PlainData.{PlainStep, GlobalStep, EventStep, EnabledStep, SpanStep, RecordStep, FollowsFromStep}
 use Rattle.span_tracing_skeleton.specs.PlainData.{EnterStep, ExitStep, CloneStep, CloseStep, DefaultStep, ResetStep, CloneHandleStep}
-use Rattle.span_tracing_skeleton.specs.PlainData.{ReleaseStep}
+use Rattle.span_tracing_skeleton.specs.PlainData.{ReleaseStep, SetStep}
 use Rattle.span_tracing_skeleton.specs.Skeleton.{Answers, Unasked, Wanted, Dropped, Passed, Heard}
 use Rattle.span_tracing_steps.specs.States.{held_in}
 use Rattle.span_tracing_laws.specs.runs.StepFollows.{IsAnswered, Traced, skeleton_of}
@@ -69,6 +69,7 @@ module _ {N E : Type 0} where
     level_answers v (ResetStep call) = Unasked
     level_answers v (CloneHandleStep handle) = Unasked
     level_answers v (ReleaseStep handle) = Unasked
+    level_answers v (SetStep call) = Unasked
 
 -- Asked of a step, levels answer just that, and whatever they are told they stay.
 pub record LevelsAnswer {N E : Type 0} (S : Type 0) (n : Ghosts N) (line_of : E → Settings → PlainContext → PlainEvent → Option (List ℕ))

@@ -1,4 +1,5 @@
 pub mod Setup
+pub mod SpanMoments
 pub mod OpenedTrace
 pub mod Ready
 pub mod OutputReaders
@@ -18,6 +19,8 @@ pub use Rattle.span_tracing_skeleton.specs.Replies
 pub use Rattle.span_tracing_skeleton.specs.declared.call.Reply
 pub use Rattle.span_tracing_skeleton.specs.declared.call_error.CallError
 pub use Rattle.span_tracing_skeleton.specs.declared.refusal.Refusal
+pub use Rattle.span_tracing_skeleton.specs.declared.setting.OutputPlace
+pub use Rattle.span_tracing_skeleton.specs.declared.setting.Setting
 pub use Rattle.span_tracing_steps.specs.InterestPreservation
 pub use Rattle.span_tracing_steps.specs.Interests
 pub use Rattle.span_tracing_steps.specs.Setup as SetupSteps
@@ -28,6 +31,7 @@ pub use Rattle.span_tracing_outputs.specs.LayerAgreement
 pub use Rattle.span_tracing_outputs.specs.OutputFolds
 pub use Rattle.span_tracing_outputs.specs.OutputMachines
 pub use Rattle.span_tracing_outputs.specs.OutputNotices
+pub use Rattle.span_tracing_outputs.specs.OutputSettings
 pub use Rattle.span_tracing_outputs.specs.SinkLines
 pub use Rattle.span_tracing_outputs.specs.StackFollows
 pub use Rattle.span_tracing_outputs.specs.TraceFollows
@@ -55,6 +59,7 @@ pub use Rattle.span_tracing_laws.specs.runs.Runs
 pub use Rattle.span_tracing_laws.specs.runs.SkippedCallsites
 pub use Rattle.span_tracing_laws.specs.runs.StepFollows
 pub use Rattle.span_tracing_laws.specs.runs.StepNotices
+pub use Rattle.span_tracing_laws.specs.runs.StepSettings
 pub use Rattle.span_tracing_outputs.specs.declared.files.open_error.OpenStackError
 pub use Rattle.span_tracing_outputs.specs.declared.files.output_spec.SinkSpec
 pub use Rattle.span_tracing_skeleton.specs.declared.call.Parent

@@ -10,6 +10,7 @@ use Rattle.event_formatter_text.specs.declared.settings.Settings.{Settings}
 use Rattle.event_formatter.specs.formats.Contexts.{PlainContext}
 use Rattle.tracing_appender_rolling.specs.folders.Contents.{Contents}
 use Rattle.span_tracing_outputs.specs.OutputMachines.{PlainLine}
+use Rattle.span_tracing_outputs.specs.OutputSettings.{stack_set}
 use Rattle.span_tracing_outputs.specs.TraceStacks.{TraceStackValue}
 use Rattle.span_tracing_outputs.specs.Turns.{Lines}
 use Rattle.span_tracing_outputs.specs.sinks.Routed.{Routed}
@@ -32,7 +33,7 @@ pub record IsStep {N E F S : Type 0} (s : SubscriberGhosts (TraceStackValue N E 
     (line_of : E → Settings → PlainContext → PlainEvent → Option (List ℕ)) (g : FilterGhosts F)
     (takes : S → At → PlainLine → S → Type 0) (h : LayerGhosts (Lines N E)) (v : Traced N E F S) (step : PlainStep) (reply : Reply)
     (w : Traced N E F S) : Type 0 where
-  pub gives : StepGives s registry_of v step reply w
+  pub gives : StepGives s registry_of stack_set v step reply w
   pub follows : FollowsReady n line_of g takes h v step reply w
 
 -- so does a run, and its sinks and files are told of

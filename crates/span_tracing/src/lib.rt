@@ -13,38 +13,106 @@ mod trace;
 pub mod value;
 
 pub use calls::calls_make_runs;
-pub use event_formatter::{Compact, Fields, Format, Full, Json, Layer, LineFormat, Pretty, Timer};
-pub use event_formatter_lines::{FixedText, FmtSpan, SystemTime, Uptime};
-pub use event_formatter_text::{BadRoute, Route};
+pub use event_formatter::Compact;
+pub use event_formatter::Fields;
+pub use event_formatter::Format;
+pub use event_formatter::Full;
+pub use event_formatter::Json;
+pub use event_formatter::Layer;
+pub use event_formatter::LineFormat;
+pub use event_formatter::Pretty;
+pub use event_formatter::Timer;
+pub use event_formatter_lines::FixedText;
+pub use event_formatter_lines::FmtSpan;
+pub use event_formatter_lines::SystemTime;
+pub use event_formatter_lines::Uptime;
+pub use event_formatter_text::BadRoute;
+pub use event_formatter_text::Route;
 pub use opening::open_trace;
 pub use site::Site;
-pub use span_registry_layers::{Output, Stack, StackError, StackRefusal};
-pub use span_registry_layers_layers::{Filter, FilterFn, Filtered, MetadataTest};
+pub use span_registry_layers::Output;
+pub use span_registry_layers::Stack;
+pub use span_registry_layers::StackError;
+pub use span_registry_layers::StackRefusal;
+pub use span_registry_layers_layers::Filter;
+pub use span_registry_layers_layers::FilterFn;
+pub use span_registry_layers_layers::Filtered;
+pub use span_registry_layers_layers::MetadataTest;
 pub use span_registry_layers_store::OutputKey;
-pub use span_tracing_laws::{
-    files_follow, json_files_hold_objects, json_format_files_hold_objects, runs_follow,
-    setup_follows, skipping_misses_nothing, steps_follow,
-};
-pub use span_tracing_outputs::{
-    EitherFolder, FileStack, LaneThread, LineSettings, LineSink, Lines, OpenStackError, OutputSpec,
-    PendingLines, RollingSink, RoutedSinks, SinkSpec, SpecRefusal, TraceStack, UnpairedSinks,
-    UnroutedSinks, drops_are_counted, lines_reach_files, lines_stand_in_files, open_stack,
-    open_stack_with_threads, routed_sinks_take_theirs, runs_are_told, trace_starts,
-};
-pub use span_tracing_skeleton::{
-    CallError, DefaultCall, EnabledCall, EventCall, FollowsCall, NewSpanCall, Parent, RecordCall,
-    Refusal, Reply, ResetCall, SpanCall, SpanName, Step,
-};
+pub use span_tracing_laws::files_follow;
+pub use span_tracing_laws::json_files_hold_objects;
+pub use span_tracing_laws::json_format_files_hold_objects;
+pub use span_tracing_laws::runs_follow;
+pub use span_tracing_laws::setup_follows;
+pub use span_tracing_laws::skipping_misses_nothing;
+pub use span_tracing_laws::steps_follow;
+pub use span_tracing_outputs::EitherFolder;
+pub use span_tracing_outputs::FileStack;
+pub use span_tracing_outputs::LaneThread;
+pub use span_tracing_outputs::LineSettings;
+pub use span_tracing_outputs::LineSink;
+pub use span_tracing_outputs::Lines;
+pub use span_tracing_outputs::OpenStackError;
+pub use span_tracing_outputs::OutputSpec;
+pub use span_tracing_outputs::PendingLines;
+pub use span_tracing_outputs::RollingSink;
+pub use span_tracing_outputs::RoutedSinks;
+pub use span_tracing_outputs::SinkSpec;
+pub use span_tracing_outputs::SpecRefusal;
+pub use span_tracing_outputs::TraceStack;
+pub use span_tracing_outputs::UnpairedSinks;
+pub use span_tracing_outputs::UnroutedSinks;
+pub use span_tracing_outputs::drops_are_counted;
+pub use span_tracing_outputs::lines_reach_files;
+pub use span_tracing_outputs::lines_stand_in_files;
+pub use span_tracing_outputs::open_stack;
+pub use span_tracing_outputs::open_stack_with_threads;
+pub use span_tracing_outputs::routed_sinks_take_theirs;
+pub use span_tracing_outputs::runs_are_told;
+pub use span_tracing_outputs::trace_starts;
+pub use span_tracing_skeleton::CallError;
+pub use span_tracing_skeleton::DefaultCall;
+pub use span_tracing_skeleton::EnabledCall;
+pub use span_tracing_skeleton::EventCall;
+pub use span_tracing_skeleton::FollowsCall;
+pub use span_tracing_skeleton::NewSpanCall;
+pub use span_tracing_skeleton::OutputPlace;
+pub use span_tracing_skeleton::Parent;
+pub use span_tracing_skeleton::RecordCall;
+pub use span_tracing_skeleton::Refusal;
+pub use span_tracing_skeleton::Reply;
+pub use span_tracing_skeleton::ResetCall;
+pub use span_tracing_skeleton::Setting;
+pub use span_tracing_skeleton::SettingCall;
+pub use span_tracing_skeleton::SpanCall;
+pub use span_tracing_skeleton::SpanMoments;
+pub use span_tracing_skeleton::SpanName;
+pub use span_tracing_skeleton::Step;
 pub use span_tracing_steps::cache_stays_valid;
 pub use trace::Trace;
-pub use tracing_appender::{Clock, FixedClock, SystemClock};
-pub use tracing_appender_rolling::{
-    BuildError, BuildRefusal, Builder, DiskFolder, Entry, Faults, FaultyFolder, FileEntry,
-    FileNumber, Folder, FolderError, FolderFault, InitContext, InitError, MemoryFolder,
-    RollingFileAppender, Rotation,
-};
+pub use tracing_appender::Clock;
+pub use tracing_appender::FixedClock;
+pub use tracing_appender::SystemClock;
+pub use tracing_appender_rolling::BuildError;
+pub use tracing_appender_rolling::BuildRefusal;
+pub use tracing_appender_rolling::Builder;
+pub use tracing_appender_rolling::DiskFolder;
+pub use tracing_appender_rolling::Entry;
+pub use tracing_appender_rolling::Faults;
+pub use tracing_appender_rolling::FaultyFolder;
+pub use tracing_appender_rolling::FileEntry;
+pub use tracing_appender_rolling::FileNumber;
+pub use tracing_appender_rolling::Folder;
+pub use tracing_appender_rolling::FolderError;
+pub use tracing_appender_rolling::FolderFault;
+pub use tracing_appender_rolling::InitContext;
+pub use tracing_appender_rolling::InitError;
+pub use tracing_appender_rolling::MemoryFolder;
+pub use tracing_appender_rolling::RollingFileAppender;
+pub use tracing_appender_rolling::Rotation;
 pub use tracing_core::CallsiteIndex;
-pub use tracing_core_fields::{FieldValue, OwnedValue};
+pub use tracing_core_fields::FieldValue;
+pub use tracing_core_fields::OwnedValue;
 pub use tracing_core_moments::Moment;
 
 #[cfg(test)]

@@ -1,6 +1,6 @@
 //! Requests that read like log lines.
 
-/// Tells an event of a [`Site`](crate::Site) in the span that the lane is in: `event!(trace, lane, moment, site, field = value, ..)`.
+/// Tells an event of a [`Site`](crate::Site), in the lane's current span of the stack that the lane reaches: `event!(trace, lane, moment, site, field = value, ..)`.
 ///
 /// Each field of the site may be given a value, in any order; one that is given none is left out. A value is anything that has
 /// [`Value`](crate::value::Value): numbers, bools, texts that are owned or lent, bytes, what [`display`](crate::value::display) and
@@ -35,7 +35,7 @@ macro_rules! event {
     };
 }
 
-/// Makes a span of a [`Site`](crate::Site) in the span that the lane is in, as [`event!`](crate::event) tells an event:
+/// Makes a span of a [`Site`](crate::Site) in the lane's current span, as [`event!`](crate::event) tells an event:
 /// `span!(trace, lane, moment, site, field = value, ..)`.
 ///
 /// The answer is the span's name, or `None` where it was dropped since no output wants it. All calls take a `None`, and do nothing then.

@@ -1,23 +1,26 @@
 //! Steps of a trace, one at a time and in runs.
 ghost use Rattle.std.specs.Prelude.{◌≡◌, IfOk, OnErr};
 ghost use Rattle.tracing_core_fields.specs.IndexedEntries.{lent_entries};
+ghost use Rattle.span_tracing.specs.SpanMoments.{moments_of};
 ghost use Rattle.span_tracing.specs.Ready.{IsStep, RunsReady};
 ghost use Rattle.span_tracing_laws.specs.runs.Runs.{RunGives};
 ghost use Rattle.span_tracing_outputs.specs.sinks.Takes.{TakesLine};
 ghost use Rattle.span_tracing_skeleton.specs.PlainData.{CloneHandleStep, CloneStep, CloseStep, DefaultStep, EnabledStep, EnterStep};
 ghost use Rattle.span_tracing_skeleton.specs.PlainData.{EventStep, ExitStep, FollowsFromStep, GlobalStep, RecordStep, ReleaseStep};
-ghost use Rattle.span_tracing_skeleton.specs.PlainData.{ResetStep, SpanStep, plain_step, plain_steps};
+ghost use Rattle.span_tracing_skeleton.specs.PlainData.{ResetStep, SetStep, SpanStep, plain_step, plain_steps};
+ghost use Rattle.span_tracing_skeleton.specs.declared.setting.Setting.TheVariants.{Ansi, SpanEvents};
 ghost use Rattle.span_tracing_steps.specs.Steps.{StepGives};
 
 use crate::trace::Trace;
 use event_formatter::{FormatEvent, Layer};
+use event_formatter_lines::FmtSpan;
 use event_formatter_text::FormatFields;
 use span_registry_layers_layers::Filter;
 use span_tracing_laws::{files_follow, runs_follow, steps_follow};
 use span_tracing_outputs::{LineSink, PendingLines, RollingSink, RoutedSinks, TraceStack};
 use span_tracing_skeleton::{
-    DefaultCall, EnabledCall, FollowsCall, HasRegistry, Parent, Reply, ResetCall, SpanCall,
-    SpanName, Step,
+    DefaultCall, EnabledCall, FollowsCall, HasOutputs, HasRegistry, Parent, Reply, ResetCall,
+    Setting, SettingCall, SpanCall, SpanMoments, SpanName, Step,
 };
 use span_tracing_steps::{RecordRequest, Request};
 use std::alloc::AllocError;
@@ -25,10 +28,22 @@ use tracing_appender_rolling::Folder;
 use tracing_core_fields::{Identifier, IndexedValues, LentValue, Subscriber};
 use tracing_core_moments::Moment;
 
-impl<T: Subscriber + HasRegistry> Trace<T> {
+// The same set, as a step has it.
+fn moments_of(events: FmtSpan) -> SpanMoments
+    ensures { result ≡ moments_of events }
+{
+    SpanMoments {
+        new: events.contains(FmtSpan::NEW),
+        enter: events.contains(FmtSpan::ENTER),
+        exit: events.contains(FmtSpan::EXIT),
+        close: events.contains(FmtSpan::CLOSE),
+    }
+}
+
+impl<T: Subscriber + HasRegistry + HasOutputs> Trace<T> {
     // A step, as its parts take it.
     fn act(&mut self, step: &Step) -> Reply
-        ensures { StepGives ⟦<T as Subscriber>⟧ T.registry_of self.old (plain_step step.now) result self.new }
+        ensures { StepGives ⟦<T as Subscriber>⟧ T.registry_of T.set self.old (plain_step step.now) result self.new }
     {
         match step {
             Step::SetGlobalDefault(handle) => self.parts.set_global_default(*handle),
@@ -62,6 +77,7 @@ impl<T: Subscriber + HasRegistry> Trace<T> {
             Step::ResetDefault(call) => self.parts.reset_default(call),
             Step::CloneHandle(handle) => self.parts.clone_handle(*handle),
             Step::Release(handle) => self.parts.release(*handle),
+            Step::Set(call) => self.parts.set(call),
         }
     }
 }
@@ -127,6 +143,37 @@ impl<N: FormatFields + Drop, E: FormatEvent, F: Filter, S: LineSink> Trace<Trace
     {
         steps_follow::<N, E, F, S>();
         self.parts.release(handle)
+    }
+
+    /// Sets whether the lines of an output, and the texts of spans that are made from now on, have styles. Texts that an open span has
+    /// already stay as they are. Outputs are numbered from 0 through all stacks, in the order in which they were added. Refused for an
+    /// output that isn't there (`NoOutput`), and for one of a released stack. Takes no memory.
+    pub fn set_ansi(&mut self, output: usize, has_styles: bool) -> Reply
+        ensures { IsStep ⟦<TraceStack<N, E, F, S> as Subscriber>⟧ ⟦<N as FormatFields>⟧ E.line_of ⟦<F as Filter>⟧ S.takes
+            ⟦<Layer<N, E, PendingLines> as span_registry_layers_layers::Layer>⟧ self.old
+            (SetStep (record { output = output; setting = Ansi has_styles }))
+            result self.new }
+    {
+        steps_follow::<N, E, F, S>();
+        self.parts.set(&SettingCall {
+            output,
+            setting: Setting::Ansi(has_styles),
+        })
+    }
+
+    /// Sets at which moments of a span an output has a line for it. Whether the line of a close shows the span's times is settled when the
+    /// span is made. Outputs are numbered, and refused, as by [`set_ansi`](Trace::set_ansi). Takes no memory.
+    pub fn set_span_events(&mut self, output: usize, events: FmtSpan) -> Reply
+        ensures { IsStep ⟦<TraceStack<N, E, F, S> as Subscriber>⟧ ⟦<N as FormatFields>⟧ E.line_of ⟦<F as Filter>⟧ S.takes
+            ⟦<Layer<N, E, PendingLines> as span_registry_layers_layers::Layer>⟧ self.old
+            (SetStep (record { output = output; setting = SpanEvents (moments_of events) }))
+            result self.new }
+    {
+        steps_follow::<N, E, F, S>();
+        self.parts.set(&SettingCall {
+            output,
+            setting: Setting::SpanEvents(moments_of(events)),
+        })
     }
 
     /// Makes an event on a lane, for the stack that the lane reaches. A line that finds no memory is missing alone, and counted.
@@ -263,7 +310,8 @@ impl<N: FormatFields + Drop, E: FormatEvent, F: Filter, S: LineSink> Trace<Trace
         self.parts.exit(&SpanCall { lane, moment, span })
     }
 
-    /// Takes one more handle of a span. Takes no memory.
+    /// Takes one more handle of a span. Refused for a span that isn't open, and where it has as many handles as can be counted
+    /// (`TooManyHandles`). Takes no memory.
     pub fn clone_span(&mut self, lane: usize, moment: Moment, span: Option<SpanName>) -> Reply
         ensures { IsStep ⟦<TraceStack<N, E, F, S> as Subscriber>⟧ ⟦<N as FormatFields>⟧ E.line_of ⟦<F as Filter>⟧ S.takes
             ⟦<Layer<N, E, PendingLines> as span_registry_layers_layers::Layer>⟧ self.old
@@ -274,7 +322,8 @@ impl<N: FormatFields + Drop, E: FormatEvent, F: Filter, S: LineSink> Trace<Trace
         self.parts.clone_span(&SpanCall { lane, moment, span })
     }
 
-    /// Gives up one handle of a span; answers whether the span closed.
+    /// Gives up one handle of a span; answers whether the span closed. Refused (`UnknownSpan`) for a span that isn't open, and for one that an
+    /// entry or a child keeps open while it has no handle left.
     pub fn try_close(&mut self, lane: usize, moment: Moment, span: Option<SpanName>) -> Reply
         ensures { IsStep ⟦<TraceStack<N, E, F, S> as Subscriber>⟧ ⟦<N as FormatFields>⟧ E.line_of ⟦<F as Filter>⟧ S.takes
             ⟦<Layer<N, E, PendingLines> as span_registry_layers_layers::Layer>⟧ self.old

@@ -2,11 +2,11 @@
 ghost use Rattle.std.specs.Prelude.{◌≡◌, IfOk, OnErr, OnOk, length, slice_get, string_bytes};
 ghost use Rattle.std.specs.Option.{option_copied, option_map};
 ghost use Rattle.tracing_core_fields.specs.Metadata.{plain_metadata};
-ghost use Rattle.span_tracing_skeleton.specs.Looking.{inner};
+ghost use Rattle.span_tracing_skeleton.specs.Looking.{inner, output_in};
 ghost use Rattle.span_tracing_steps.specs.Setup.{AddGives, RegisterGives, own_at, with_thread, without_retired};
 ghost use Rattle.span_tracing_steps.specs.States.{new_state, stack_in};
 
-use span_tracing_skeleton::Refusal;
+use span_tracing_skeleton::{HasOutputs, HasRegistry, OutputPlace, Refusal};
 use span_tracing_steps::TraceParts;
 use std::alloc::{AllocError, Global};
 use std::marker::Model;
@@ -21,7 +21,7 @@ use tracing_core_fields::{Identifier, Interest, Metadata, Subscriber};
 /// call, and can be read until it is taken.
 ///
 /// A contract sees a trace as what its hub keeps (stacks with who holds them, callsites with the interest in them, lanes and the global
-/// default), the lanes' threads, handles, guards, and the stacks that were released.
+/// default), the lanes' threads, how many outputs each stack has, handles, guards, and the stacks that were released.
 pub struct Trace<T: Subscriber> {
     pub(crate) parts: TraceParts<T>,
 }
@@ -68,6 +68,14 @@ impl<T: Subscriber> Trace<T> {
         self.parts.stack(number)
     }
 
+    /// Where the output with this number stands, also where its stack was released. Outputs are numbered from 0 through all stacks, in the
+    /// order in which they were added.
+    pub fn output_place(&self, output: usize) -> Option<OutputPlace>
+        ensures { result ≡ output_in self.now.outputs 0 output }
+    {
+        self.parts.output_place(output)
+    }
+
     /// Adds a lane, and answers its number: lanes are numbered from 0. No layer is told of its thread yet, so that lines show
     /// only the threads that their layer was told of.
     ///
@@ -104,20 +112,6 @@ impl<T: Subscriber> Trace<T> {
         self.parts.register(identifier, metadata)
     }
 
-    /// Takes a stack under the next number, and answers the number of its handle. The stack is told of its handle, and asked of each
-    /// callsite and for its hint. A ready trace stays ready where the stack is.
-    ///
-    /// # Errors
-    ///
-    /// Out of memory, which leaves the trace as it was and gives the stack back.
-    pub fn add_stack(&mut self, stack: T) -> Result<usize, T>
-        // The stack is told its handle, is asked of each callsite in order and for its hint, and is kept with what it said; its handle
-        // stands behind the others. Or it comes back, and nothing changes.
-        ensures gives { AddGives ⟦<T as Subscriber>⟧ self.old stack result self.new }
-    {
-        self.parts.add_stack(stack)
-    }
-
     /// Takes the stack with this number, where it was released and wasn't taken yet. The sinks of its outputs come with it, so that their
     /// files close when it is let go. Spans of the stack and its handles stay refused as before.
     pub fn take_retired(&mut self, number: usize) -> Option<T>
@@ -127,5 +121,21 @@ impl<T: Subscriber> Trace<T> {
         ensures left { self.new ≡ without_retired self.old number }
     {
         self.parts.take_retired(number)
+    }
+}
+
+impl<T: Subscriber + HasRegistry + HasOutputs> Trace<T> {
+    /// Takes a stack under the next number, and answers the number of its handle. The stack is told of its handle, and asked of each
+    /// callsite and for its hint. Its outputs get the next numbers, in order. A ready trace stays ready where the stack is.
+    ///
+    /// # Errors
+    ///
+    /// Out of memory, which leaves the trace as it was and gives the stack back.
+    pub fn add_stack(&mut self, stack: T) -> Result<usize, T>
+        // The stack is told its handle, is asked of each callsite in order and for its hint, and is kept with what it said; its handle
+        // stands behind the others, and its outputs are counted. Or it comes back, and nothing changes.
+        ensures gives { AddGives ⟦<T as Subscriber>⟧ T.outputs_in self.old stack result self.new }
+    {
+        self.parts.add_stack(stack)
     }
 }

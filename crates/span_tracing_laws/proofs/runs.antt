@@ -1,6 +1,7 @@
 pub mod HubStacks
 pub mod AskedStacks
 pub mod UnrefusedSteps
+pub mod Settings
 pub mod StepFollows
 pub mod Runs
 pub mod Files

@@ -1,4 +1,5 @@
 pub mod StepNotices
+pub mod StepSettings
 pub mod StepFollows
 pub mod Runs
 pub mod Laws

@@ -7,6 +7,7 @@ pub mod Rows
 pub mod ClosedSpans
 pub mod Stacks
 pub mod OutputFolds
+pub mod OutputSettings
 pub mod SinkLines
 pub mod OutputSinkPairs
 pub mod CallsWithoutNotices

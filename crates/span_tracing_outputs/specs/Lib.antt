@@ -6,6 +6,7 @@ pub mod LayerAgreement
 pub mod Turns
 pub mod StackFollows
 pub mod OutputFolds
+pub mod OutputSettings
 pub mod SinkLines
 pub mod TraceStacks
 pub mod TraceSteadiness

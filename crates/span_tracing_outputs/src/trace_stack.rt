@@ -23,8 +23,8 @@ use tracing_core_moments::At;
 ///
 /// A contract sees it as a `TraceStackValue`.
 pub struct TraceStack<N, E, F, S> {
-    stack: Stack<Filtered<Layer<N, E, PendingLines>, F>>,
-    sinks: Vec<S>,
+    pub(crate) stack: Stack<Filtered<Layer<N, E, PendingLines>, F>>,
+    pub(crate) sinks: Vec<S>,
 }
 
 /// It is written down, so that whoever lets a stack go needs no proof of his own for each of its parts.

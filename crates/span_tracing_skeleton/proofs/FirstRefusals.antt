@@ -1,19 +1,21 @@
 -- Which of two refusals a step is told on a skeleton with two stacks, and where none comes. These rows compute.
-use Rattle.std.proofs.Common.{◌≡◌, ℕ, negsuc, true, [], ◌∷◌, Some, None, refl}
+use Rattle.std.proofs.Common.{◌≡◌, ℕ, negsuc, true, false, [], ◌∷◌, Some, None, refl}
 use Rattle.tracing_core_fields.specs.PlainMetadata.{PlainMetadata}
 use Rattle.tracing_core_moments.specs.declared.moment.Moment.{Moment}
 use Rattle.span_tracing_skeleton.proofs.TwoStacks.{choose, enter, following, held_by, now, one_open, reaching, reset, span, stacked}
 use Rattle.span_tracing_skeleton.proofs.TwoStacks.{two_open}
+use Rattle.span_tracing_skeleton.specs.Looking.{output_at}
 use Rattle.span_tracing_skeleton.specs.Order.{pair_refusal, refusal_of}
 use Rattle.span_tracing_skeleton.specs.PlainData.{PlainStep, CloneHandleStep, EnterStep, EventStep, GlobalStep, ReleaseStep, Request}
-use Rattle.span_tracing_skeleton.specs.PlainData.{SpanStep}
+use Rattle.span_tracing_skeleton.specs.PlainData.{SetStep, SpanStep}
 use Rattle.span_tracing_skeleton.specs.Refusing.{ids_refusal, parent_refusal, span_refusal}
 use Rattle.span_tracing_skeleton.specs.Skeleton.{Skeleton, HeldStack, Default, Unset, Nowhere, Own}
 use Rattle.span_tracing_skeleton.specs.declared.call.Parent.{Parent}
 use Rattle.span_tracing_skeleton.specs.declared.call.Parent.TheVariants.{Contextual, Explicit}
 use Rattle.span_tracing_skeleton.specs.declared.call.SpanName.{SpanName}
+use Rattle.span_tracing_skeleton.specs.declared.setting.Setting.TheVariants.{Ansi}
 use Rattle.span_tracing_skeleton.specs.declared.refusal.Refusal.TheVariants.{BadMoment, ForeignParent, GlobalSet, IdsSpent, ReleasedStack}
-use Rattle.span_tracing_skeleton.specs.declared.refusal.Refusal.TheVariants.{TooManyHandles, UnknownCallsite, UnknownLane, UnknownSpan}
+use Rattle.span_tracing_skeleton.specs.declared.refusal.Refusal.TheVariants.{NoOutput, TooManyHandles, UnknownCallsite, UnknownLane, UnknownSpan}
 use Rattle.span_tracing_skeleton.specs.declared.refusal.Refusal.TheVariants.{UnknownStack, WrongLane}
 
 module _ (m : PlainMetadata) where
@@ -220,3 +222,25 @@ module _ (m : PlainMetadata) where
 
   ids_at_last : refusal_of (at_callsite (with_spent (Own 1))) (SpanStep (request (now m) 7 (Explicit (span m 1 1)))) ≡ Some IdsSpent
   ids_at_last = refl
+
+  -- outputs are numbered through all stacks; one that was never given is told of, and then that its stack was released
+  abbrev plain_at : ℕ → PlainStep
+  plain_at output = SetStep (record { output = output; setting = Ansi false })
+
+  last_of_first : output_at (reaching m Unset) 1 ≡ Some (record { stack = 0; place = 1 })
+  last_of_first = refl
+
+  first_of_second : output_at (reaching m Unset) 2 ≡ Some (record { stack = 1; place = 0 })
+  first_of_second = refl
+
+  may_be_plain : refusal_of (reaching m Unset) (plain_at 2) ≡ None
+  may_be_plain = refl
+
+  no_such_output : refusal_of (reaching m Unset) (plain_at 3) ≡ Some NoOutput
+  no_such_output = refl
+
+  released_output : refusal_of without_second (plain_at 2) ≡ Some ReleasedStack
+  released_output = refl
+
+  released_and_none : refusal_of without_second (plain_at 3) ≡ Some NoOutput
+  released_and_none = refl

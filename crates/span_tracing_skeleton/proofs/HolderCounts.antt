@@ -16,7 +16,7 @@ use Rattle.span_tracing_skeleton.specs.Looking.{own_of, reach, stack_behind, sta
 use Rattle.span_tracing_skeleton.specs.Machine.{acted, or_same}
 use Rattle.span_tracing_skeleton.specs.Order.{chosen_refusal, refusal_of}
 use Rattle.span_tracing_skeleton.specs.PlainData.{PlainStep, GlobalStep, EventStep, EnabledStep, SpanStep, RecordStep, FollowsFromStep}
-use Rattle.span_tracing_skeleton.specs.PlainData.{EnterStep, ExitStep, CloneStep, CloseStep, DefaultStep, ResetStep, CloneHandleStep}
+use Rattle.span_tracing_skeleton.specs.PlainData.{EnterStep, ExitStep, CloneStep, CloseStep, DefaultStep, ResetStep, CloneHandleStep, SetStep}
 use Rattle.span_tracing_skeleton.specs.PlainData.{ReleaseStep, Request}
 use Rattle.span_tracing_skeleton.specs.Refusing.{first, guard_refusal, handle_refusal, handle_refusal_by, hold_refusal, lane_refusal, when}
 use Rattle.span_tracing_skeleton.specs.Setup.{with_lane, with_stack}
@@ -251,6 +251,7 @@ step_counted s (ResetStep call) a none counted =
 step_counted s (CloneHandleStep handle) a none counted = handle_counted s handle counted
 step_counted s (ReleaseStep handle) a none counted =
     released_counted s handle (slice_get s.handles handle) refl none counted
+step_counted s (SetStep call) a none counted = counted
 
 -- a lane and a stack that are added
 lane_counted : (s : Skeleton) → IsCounted s → IsCounted (with_lane s)
@@ -262,8 +263,8 @@ lane_counted s counted = record {
   numbers = counted.numbers;
 }
 
-stack_counted : (s : Skeleton) (registry : RegistryValue) → IsCounted s → IsCounted (with_stack s registry)
-stack_counted s registry counted =
+stack_counted : (s : Skeleton) (registry : RegistryValue) (count : ℕ) → IsCounted s → IsCounted (with_stack s registry count)
+stack_counted s registry count counted =
     let added : HeldStack = record { number = s.given; holds = 1; registry = registry } in
     record {
       counts = λ n.

@@ -34,12 +34,13 @@ module _ (m : PlainMetadata) where
   abbrev pub stacked : ℕ → RegistryValue → HeldStack
   stacked number x = held_by 1 number x
 
-  -- two lanes without a default of their own, two stacks with a handle each, and this global default
+  -- two lanes without a default of their own, two stacks with a handle each, of two outputs and of one, and this global default
   abbrev pub reaching : Default → Skeleton
   reaching default = record {
     callsites = m ∷ [];
     lanes = Unset ∷ Unset ∷ [];
     given = 2;
+    outputs = 2 ∷ 1 ∷ [];
     stacks = stacked 0 one_open ∷ stacked 1 two_open ∷ [];
     handles = Some 0 ∷ Some 1 ∷ [];
     guards = [];

@@ -5,6 +5,7 @@ pub mod PlainData
 pub mod Skeleton
 pub mod Machine
 pub mod IgnoredEvents
+pub mod Consistency
 pub mod Acting
 pub mod Looking
 pub mod Order

@@ -1,10 +1,11 @@
 -- What is read from a skeleton.
 use Rattle.std.specs.Prelude.{ℕ, List, [], ◌∷◌, slice_get, Bool, true, false, ◌==◌, nat_lt, if◌then◌else◌, Option, Some, None, is_some}
-use Rattle.std.specs.Prelude.{option_and_then}
+use Rattle.std.specs.Prelude.{◌-◌, suc, option_and_then}
 use Rattle.tracing_core_fields.specs.PlainMetadata.{PlainMetadata}
 use Rattle.span_registry_layers_store.specs.Registries.{PlainSpan, RegistryValue, kin_in, new_registry}
 use Rattle.span_registry_layers_store.specs.Spans.{found, handles_of, is_open}
 use Rattle.span_tracing_skeleton.specs.declared.call.SpanName.{SpanName}
+use Rattle.span_tracing_skeleton.specs.declared.setting.OutputPlace.{OutputPlace}
 use Rattle.span_tracing_skeleton.specs.Skeleton.{Skeleton, HeldStack, GuardValue, Default, Unset, Nowhere, Own}
 
 -- the callsite with an identifier
@@ -22,6 +23,16 @@ if_kind (Some m) is_span = if is_kind m is_span then Some m else None
 -- the registered callsite of this kind
 abbrev pub known : Skeleton → ℕ → Bool → Option PlainMetadata
 known s number is_span = if_kind (named s.callsites number) is_span
+
+-- where the output with a number stands: stacks from this number on have so many outputs, and the first of these has this number
+abbrev pub output_in : List ℕ → ℕ → ℕ → Option OutputPlace
+output_in [] stack number = None
+output_in (count ∷ counts) stack number = if nat_lt number count then Some (record { stack = stack; place = number })
+    else output_in counts (suc stack) (number - count)
+
+-- outputs are numbered through all stacks, also those that were released
+abbrev pub output_at : Skeleton → ℕ → Option OutputPlace
+output_at s output = output_in s.outputs 0 output
 
 -- whether a stack was given under the number
 abbrev pub knows_stack : Skeleton → ℕ → Bool

@@ -2,7 +2,7 @@
 use Rattle.std.specs.Prelude.{length, Bool, false, not, ℕ, Option, Some, None}
 use Rattle.span_tracing_skeleton.specs.PlainData.{PlainStep, GlobalStep, EventStep, EnabledStep, SpanStep, RecordStep}
 use Rattle.span_tracing_skeleton.specs.PlainData.{FollowsFromStep, EnterStep, ExitStep, CloneStep, CloseStep, DefaultStep, ResetStep}
-use Rattle.span_tracing_skeleton.specs.PlainData.{CloneHandleStep, ReleaseStep}
+use Rattle.span_tracing_skeleton.specs.PlainData.{CloneHandleStep, ReleaseStep, SetStep}
 use Rattle.span_tracing_skeleton.specs.declared.call.SpanName.{SpanName}
 use Rattle.span_tracing_skeleton.specs.SpanNames.{name_of}
 use Rattle.span_tracing_skeleton.specs.declared.call.Reply.{Reply}
@@ -30,6 +30,7 @@ acted s (DefaultStep call) a = with_default s call.lane (asked_for s call.handle
 acted s (ResetStep call) a = restored s call.lane call.guard (guard_at s call.guard)
 acted s (CloneHandleStep handle) a = with_new_handle s (stack_behind s handle)
 acted s (ReleaseStep handle) a = without_stack_handle s handle (stack_behind s handle)
+acted s (SetStep call) a = s
 
 abbrev pub is_wanted : Answers → Bool
 is_wanted Unasked = false
@@ -71,6 +72,7 @@ answered s (DefaultStep call) a = Guard (length s.guards)
 answered s (ResetStep call) a = Done
 answered s (CloneHandleStep handle) a = Handle (length s.handles)
 answered s (ReleaseStep handle) a = Done
+answered s (SetStep call) a = Done
 
 abbrev pub or_refused : Option Refusal → Reply → Reply
 or_refused None reply = reply

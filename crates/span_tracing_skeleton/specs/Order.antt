@@ -12,12 +12,12 @@ use Rattle.span_tracing_skeleton.specs.declared.refusal.Refusal.{Refusal}
 use Rattle.span_tracing_skeleton.specs.declared.refusal.Refusal.TheVariants.{GlobalSet}
 use Rattle.span_tracing_skeleton.specs.PlainData.{PlainStep, on_span, GlobalStep, EventStep, EnabledStep, SpanStep, RecordStep}
 use Rattle.span_tracing_skeleton.specs.PlainData.{FollowsFromStep, EnterStep, ExitStep, CloneStep, CloseStep, DefaultStep, ResetStep}
-use Rattle.span_tracing_skeleton.specs.PlainData.{CloneHandleStep, ReleaseStep}
+use Rattle.span_tracing_skeleton.specs.PlainData.{CloneHandleStep, ReleaseStep, SetStep}
 use Rattle.span_tracing_skeleton.specs.Skeleton.{Skeleton}
 use Rattle.span_tracing_skeleton.specs.Looking.{known, named, was_set}
 use Rattle.span_tracing_skeleton.specs.Refusing.{bare_refusal, callsite_refusal, count_refusal, first, foreign_refusal, guard_refusal}
 use Rattle.span_tracing_skeleton.specs.Refusing.{handle_refusal, hold_refusal, ids_refusal, lane_refusal, living_refusal, moment_refusal}
-use Rattle.span_tracing_skeleton.specs.Refusing.{named_refusal, open_refusal, parent_refusal, span_refusal, when}
+use Rattle.span_tracing_skeleton.specs.Refusing.{named_refusal, open_refusal, output_refusal, parent_refusal, span_refusal, when}
 
 abbrev pub request_refusal : Skeleton → ℕ → Moment → ℕ → Bool → Parent → Option Refusal
 request_refusal s lane moment number is_span parent =
@@ -84,3 +84,4 @@ refusal_of s (DefaultStep call) = default_refusal s call
 refusal_of s (ResetStep call) = reset_refusal s call
 refusal_of s (CloneHandleStep handle) = further_refusal s handle
 refusal_of s (ReleaseStep handle) = handle_refusal s handle
+refusal_of s (SetStep call) = output_refusal s call.output

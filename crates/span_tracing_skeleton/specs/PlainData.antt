@@ -14,6 +14,7 @@ use Rattle.span_tracing_skeleton.specs.declared.call.NewSpanCall.{NewSpanCall}
 use Rattle.span_tracing_skeleton.specs.declared.call.RecordCall.{RecordCall}
 use Rattle.span_tracing_skeleton.specs.declared.call.ResetCall.{ResetCall}
 use Rattle.span_tracing_skeleton.specs.declared.call.Step.{Step}
+use Rattle.span_tracing_skeleton.specs.declared.setting.SettingCall.{SettingCall}
 use Rattle.span_tracing_skeleton.specs.declared.call.Step.TheVariants as steps
 
 -- a request on metadata: lane, moment, callsite, parent, and the indices of fields with their values
@@ -51,6 +52,7 @@ pub data PlainStep : Type 0 where
   ResetStep : ResetCall → PlainStep
   CloneHandleStep : ℕ → PlainStep
   ReleaseStep : ℕ → PlainStep
+  SetStep : SettingCall → PlainStep
 
 abbrev pub event_request : EventCall → Request
 event_request e = record {
@@ -90,6 +92,7 @@ plain_step (steps.SetDefault call) = DefaultStep call
 plain_step (steps.ResetDefault call) = ResetStep call
 plain_step (steps.CloneHandle handle) = CloneHandleStep handle
 plain_step (steps.Release handle) = ReleaseStep handle
+plain_step (steps.Set call) = SetStep call
 
 abbrev pub plain_steps : List Step → List PlainStep
 plain_steps ss = map plain_step ss

@@ -9,10 +9,11 @@ use Rattle.span_tracing_skeleton.specs.declared.call.Parent.TheVariants.{Context
 use Rattle.span_tracing_skeleton.specs.declared.refusal.Refusal.{Refusal}
 use Rattle.span_tracing_skeleton.specs.declared.refusal.Refusal.TheVariants.{UnknownCallsite, UnknownStack, ReleasedStack, UnknownSpan}
 use Rattle.span_tracing_skeleton.specs.declared.refusal.Refusal.TheVariants.{ForeignParent, BadMoment, UnknownLane, TooManyHandles}
-use Rattle.span_tracing_skeleton.specs.declared.refusal.Refusal.TheVariants.{IdsSpent, WrongLane}
+use Rattle.span_tracing_skeleton.specs.declared.refusal.Refusal.TheVariants.{IdsSpent, NoOutput, WrongLane}
 use Rattle.span_tracing_skeleton.specs.Skeleton.{Skeleton, HeldStack, GuardValue}
 use Rattle.span_tracing_skeleton.specs.Looking.{guard_at, handles_in, has_open, is_held, knows_stack, leads_to, reach, reached}
-use Rattle.span_tracing_skeleton.specs.Looking.{stack_behind, stack_with}
+use Rattle.span_tracing_skeleton.specs.Looking.{output_at, stack_behind, stack_with}
+use Rattle.span_tracing_skeleton.specs.declared.setting.OutputPlace.{OutputPlace}
 
 abbrev pub when : Bool → Refusal → Option Refusal
 when true refusal = Some refusal
@@ -100,6 +101,14 @@ handle_refusal_by s (Some (Some stack)) = life_refusal s stack
 
 abbrev pub handle_refusal : Skeleton → ℕ → Option Refusal
 handle_refusal s handle = handle_refusal_by s (slice_get s.handles handle)
+
+-- an output was given under the number, and somebody holds its stack
+abbrev pub output_refusal_by : Skeleton → Option OutputPlace → Option Refusal
+output_refusal_by s None = Some NoOutput
+output_refusal_by s (Some o) = life_refusal s o.stack
+
+abbrev pub output_refusal : Skeleton → ℕ → Option Refusal
+output_refusal s output = output_refusal_by s (output_at s output)
 
 -- a stack's holds are counted up to the greatest number
 abbrev pub full_refusal : Option HeldStack → Option Refusal

@@ -3,6 +3,7 @@ ghost use Rattle.std.specs.Prelude.{◌≡◌};
 
 use crate::call_error::CallError;
 use crate::refusal::Refusal;
+use crate::setting::SettingCall;
 use std::num::NonZeroU64;
 use tracing_core_fields::{FieldValue, Identifier};
 use tracing_core_moments::Moment;
@@ -21,7 +22,7 @@ pub struct SpanName {
 /// Which span a request stands under.
 #[derive(Clone, Copy, Debug, PartialEq, Eq)]
 pub enum Parent {
-    /// The lane's current span, where there is one.
+    /// The lane's current span in the stack that the lane reaches, where there is one.
     Contextual,
     /// None.
     Root,
@@ -125,8 +126,10 @@ pub enum Step {
     ResetDefault(ResetCall),
     /// Takes one more handle of the stack with this handle.
     CloneHandle(usize),
-    /// Spends a handle. Where nobody else holds its stack, that is released.
+    /// Spends a handle. Where nobody else holds its stack, the stack is released.
     Release(usize),
+    /// Changes a setting of an output, from the next step on.
+    Set(SettingCall),
 }
 
 /// The answer to a step.

@@ -68,6 +68,7 @@ impl Clone for Step {
             Step::ResetDefault(call) => Step::ResetDefault(*call),
             Step::CloneHandle(handle) => Step::CloneHandle(*handle),
             Step::Release(handle) => Step::Release(*handle),
+            Step::Set(call) => Step::Set(*call),
         })
     }
 }

@@ -107,6 +107,7 @@ impl Step {
             (Step::ResetDefault(a), Step::ResetDefault(b)) => *a == *b,
             (Step::CloneHandle(a), Step::CloneHandle(b)) => *a == *b,
             (Step::Release(a), Step::Release(b)) => *a == *b,
+            (Step::Set(a), Step::Set(b)) => *a == *b,
             _ => false,
         }
     }

@@ -6,15 +6,19 @@ mod call;
 mod call_copies;
 mod call_equality;
 mod call_error;
+mod has_outputs;
 mod has_registry;
 mod laws;
 mod refusal;
+mod setting;
 
 pub use call::{
     DefaultCall, EnabledCall, EventCall, FollowsCall, NewSpanCall, Parent, RecordCall, Reply,
     ResetCall, SpanCall, SpanName, Step,
 };
 pub use call_error::CallError;
+pub use has_outputs::HasOutputs;
 pub use has_registry::HasRegistry;
 pub use laws::stays_counted;
 pub use refusal::Refusal;
+pub use setting::{OutputPlace, Setting, SettingCall, SpanMoments};

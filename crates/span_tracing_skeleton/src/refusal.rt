@@ -15,9 +15,9 @@ pub enum Refusal {
     ReleasedStack,
     #[error("the span isn't open, or has no handle to give up")]
     UnknownSpan,
-    #[error("the parent stands in another stack than the one that the lane reaches")]
+    #[error("the parent isn't of the stack that the lane reaches, or the followed span isn't of the span's")]
     ForeignParent,
-    #[error("a stack of no outputs")]
+    #[error("a stack of no outputs, or no such output")]
     NoOutput,
     #[error("a stack has at most 64 outputs")]
     TooManyFilters,
@@ -47,7 +47,7 @@ pub enum Refusal {
     TooManyHandles,
     #[error("all span ids are given")]
     IdsSpent,
-    #[error("the guard isn't this lane's, or is spent")]
+    #[error("the guard isn't this lane's, isn't there, or is spent")]
     WrongLane,
 }
 

@@ -38,6 +38,7 @@ use Rattle.span_tracing_skeleton.specs.declared.call.DefaultCall.{DefaultCall}
 use Rattle.span_tracing_skeleton.specs.declared.call.ResetCall.{ResetCall}
 use Rattle.span_tracing_skeleton.specs.declared.call.Reply.{Reply}
 use Rattle.span_tracing_skeleton.specs.declared.call.Reply.TheVariants as replies
+use Rattle.span_tracing_skeleton.specs.declared.setting.Setting.{Setting}
 use Rattle.span_tracing_skeleton.specs.declared.refusal.Refusal.{Refusal}
 use Rattle.span_tracing_skeleton.specs.declared.refusal.Refusal.TheVariants.{GlobalSet, ReleasedStack, TooManyHandles, UnknownLane, WrongLane as wrong}
 use Rattle.span_tracing_steps.specs.FullHandles.{full_by}
@@ -156,14 +157,14 @@ set_is settings.Unset = refl
 set_is settings.Nothing = refl
 set_is (settings.To n) = refl
 
-module _ {T : Type 0} (g : Ghosts T) (registry_of : T → RegistryValue) (v : StateValue T) where
+module _ {T : Type 0} (g : Ghosts T) (registry_of : T → RegistryValue) (set : T → ℕ → Setting → T) (v : StateValue T) where
   abbrev U : Type 0
   U = Table T Rattle.span_tracing_steps.specs.declared.callsite.TraceCallsite.TraceCallsite
 
   pub global_given : (handle : ℕ) (d : Option ℕ) (u : U) → Some d ≡ inner (slice_get v.handles handle) →
       refusal_of (skeleton_of registry_of v) (GlobalStep handle) ≡ None →
       u ≡ or_same (global_refusal v.hub d) v.hub (globally v.hub d) →
-      StepGives g registry_of v (GlobalStep handle) replies.Done (record v { hub = u })
+      StepGives g registry_of set v (GlobalStep handle) replies.Done (record v { hub = u })
   global_given handle d u is none state =
       let s = skeleton_of registry_of v in
       let later = second_none (handle_refusal s handle) (first (when (was_set s.default) GlobalSet) (refusing.hold_refusal s handle)) none in
@@ -177,7 +178,7 @@ module _ {T : Type 0} (g : Ghosts T) (registry_of : T → RegistryValue) (v : St
       ap (λ (b : Bool). or_same (if b then Some AlreadySet else option_map Handle (hold_refusal d v.hub.subscribers)) v.hub (globally v.hub d))
       unset ∙ ap (λ (o : Option HandleError). or_same (option_map Handle o) v.hub (globally v.hub d)) free ∙
       ap (globally v.hub) (sym (leads registry_of v handle d is)) in
-      given g registry_of v (GlobalStep handle) replies.Done (record v { hub = u }) none
+      given g registry_of set v (GlobalStep handle) replies.Done (record v { hub = u }) none
       (refl, ap (λ (t : U). record v { hub = t }) made)
 
   -- a default that nothing refuses

@@ -1,6 +1,7 @@
 -- What is kept of the interest in callsites stays right of each stack.
 use Rattle.std.proofs.Common.{◌≡◌, ◌<◌, ◌⊎◌, inl, inr, ℕ, zero, suc, Bool, true, false, ◌==◌, ◌+◌, List, [], ◌∷◌, Option, Some, None, Result}
 use Rattle.std.proofs.Common.{Ok, Err, refl, sym, ap, ◌∙◌, subst, arith}
+use Rattle.std.specs.Option.{option_map}
 use Rattle.std.specs.Prelude.{if◌then◌else◌, slice_get}
 use Rattle.std.proofs.lemmas.Bool.Decides.{nat_tests}
 use Rattle.tracing_core_fields.specs.PlainMetadata.{PlainMetadata}
@@ -20,20 +21,23 @@ use Rattle.tracing_core.specs.declared.guard.DefaultGuard.{DefaultGuard}
 use Rattle.tracing_core.specs.declared.hub.parts.Lane.TheVariants.{Running}
 use Rattle.tracing_core.specs.declared.refusal.RegisterError.TheVariants as errors
 use Rattle.tracing_core.proofs.CachePreservation.{Alike, add_keeps, added_kept, call_keeps, given_back_keeps, held_keeps, itself_living}
-use Rattle.tracing_core.proofs.CachePreservation.{living_from, register_keeps}
+use Rattle.tracing_core.proofs.CachePreservation.{living_from, moved_keeps_by, register_keeps}
 use Rattle.tracing_core.proofs.NumbersNeverReused.{below_next}
 use Rattle.tracing_core.proofs.SubscriberNumbers.{by_bool}
 use Rattle.span_registry_layers_store.specs.Registries.{RegistryValue}
-use Rattle.span_tracing_skeleton.specs.Looking.{callsite_of, inner, known, named, reach}
+use Rattle.span_tracing_skeleton.specs.Looking.{callsite_of, inner, known, named, output_in, reach}
 use Rattle.span_tracing_skeleton.specs.Order.{refusal_of}
 use Rattle.span_tracing_skeleton.specs.PlainData.{PlainStep, GlobalStep, EventStep, EnabledStep, SpanStep, RecordStep, FollowsFromStep}
 use Rattle.span_tracing_skeleton.specs.PlainData.{EnterStep, ExitStep, CloneStep, CloseStep, DefaultStep, ResetStep, CloneHandleStep}
-use Rattle.span_tracing_skeleton.specs.PlainData.{ReleaseStep, Request, RecordRequest}
+use Rattle.span_tracing_skeleton.specs.PlainData.{ReleaseStep, SetStep, Request, RecordRequest}
 use Rattle.span_tracing_skeleton.specs.declared.call.EnabledCall.{EnabledCall}
 use Rattle.span_tracing_skeleton.specs.declared.call.FollowsCall.{FollowsCall}
 use Rattle.span_tracing_skeleton.specs.declared.call.Reply.{Reply}
 use Rattle.span_tracing_skeleton.specs.declared.call.SpanCall.{SpanCall}
 use Rattle.span_tracing_skeleton.specs.declared.call.SpanName.{SpanName}
+use Rattle.span_tracing_skeleton.specs.Consistency.{StaysConsistent}
+use Rattle.span_tracing_skeleton.specs.declared.setting.OutputPlace.{OutputPlace}
+use Rattle.span_tracing_skeleton.specs.declared.setting.Setting.{Setting}
 use Rattle.span_tracing_skeleton.specs.declared.refusal.Refusal.{Refusal}
 use Rattle.span_tracing_steps.specs.InterestPreservation.{CacheStaysValid}
 use Rattle.span_tracing_steps.specs.Interests.{KeepsWord}
@@ -42,7 +46,7 @@ use Rattle.span_tracing_steps.specs.StackRequests.{own_values, place_at, request
 use Rattle.span_tracing_steps.specs.States.{StateValue, behind, new_state, skeleton_of}
 use Rattle.span_tracing_steps.specs.Steps.{CallGoes, CloneGoes, CloseGoes, EnterGoes, EventGoes, ExitGoes, FollowsGoes, QuestionGoes, RecordGoes}
 use Rattle.span_tracing_steps.specs.Steps.{SpanGoes, StepGives, StepGoes, StepUnless, ValuesGo, asked_for, restored, with_default, with_handle}
-use Rattle.span_tracing_steps.specs.Steps.{without_handle}
+use Rattle.span_tracing_steps.specs.Steps.{becoming, set_in, with_setting, without_handle}
 use Rattle.span_tracing_steps.specs.contracts.callsite.TraceCallsiteCallsite.TheImpl.{ghosts}
 use Rattle.span_tracing_steps.specs.declared.callsite.TraceCallsite.{TraceCallsite}
 use Rattle.span_tracing_steps.proofs.Registration.{hub_stays}
@@ -180,8 +184,28 @@ module _ {T : Type 0} (g : Ghosts T) where
   or_starved v u w (inl made) keeps = moved v u w made.1 keeps
   or_starved v u w (inr none) keeps = same_state v w none.1
 
-  module _ (registry_of : T → RegistryValue) where
-    goes_keeps : (v : StateValue T) (step : PlainStep) (reply : Reply) (w : StateValue T) → StepGoes g registry_of v step reply w →
+  module _ (set : T → ℕ → Setting → T) (word : (x : T) (place : ℕ) (setting : Setting) → StaysConsistent g x (set x place setting)) where
+    set_keeps : (v : StateValue T) (at : OutputPlace) (setting : Setting) (o : Option (KeptSubscriber T)) →
+        subscriber_with at.stack v.hub.subscribers ≡ o →
+        Keeps v.hub (set_in set v at setting (option_map (λ (e : KeptSubscriber T). e.subscriber) o)).hub
+    set_keeps v at setting None there = same_hub v.hub
+    set_keeps v at setting (Some e) there =
+        let after = set e.subscriber at.place setting in
+        let u = (becoming at.stack after v).hub in
+        let same = alike v.hub u refl refl refl in
+        record {
+          caches = living_from g ghosts v.hub u
+              (moved_keeps_by g ghosts at.stack e after v.hub u there (word e.subscriber at.place setting) refl same);
+          next = refl;
+        }
+
+    setting_keeps : (v : StateValue T) (o : Option OutputPlace) (setting : Setting) → Keeps v.hub (with_setting set v o setting).hub
+    setting_keeps v None setting = same_hub v.hub
+    setting_keeps v (Some at) setting = set_keeps v at setting (subscriber_with at.stack v.hub.subscribers) refl
+
+  module _ (registry_of : T → RegistryValue) (set : T → ℕ → Setting → T)
+      (word : (x : T) (place : ℕ) (setting : Setting) → StaysConsistent g x (set x place setting)) where
+    goes_keeps : (v : StateValue T) (step : PlainStep) (reply : Reply) (w : StateValue T) → StepGoes g registry_of set v step reply w →
         Keeps v.hub w.hub
     goes_keeps v (GlobalStep handle) reply w goes =
         let d = behind v handle in
@@ -214,14 +238,17 @@ module _ {T : Type 0} (g : Ghosts T) where
         let d = behind v handle in
         let u : Hub = record v.hub { subscribers = (given_back d v.hub.subscribers).1 } in
         moved v (without_handle v handle d) w goes.1 (lets_go d v.hub u refl (alike v.hub u refl refl refl))
+    goes_keeps v (SetStep call) reply w goes =
+        let o = output_in v.outputs 0 call.output in
+        moved v (with_setting set v o call.setting) w goes.1 (setting_keeps set word v o call.setting)
 
     unless_keeps : (o : Option Refusal) (v : StateValue T) (step : PlainStep) (reply : Reply) (w : StateValue T) →
-        StepUnless g registry_of o v step reply w → Keeps v.hub w.hub
+        StepUnless g registry_of set o v step reply w → Keeps v.hub w.hub
     unless_keeps None v step reply w goes = goes_keeps v step reply w goes
     unless_keeps (Some refusal) v step reply w goes = same_state v w goes.1
 
     stepped : (v : StateValue T) (step : PlainStep) (reply : Reply) (w : StateValue T) → KeepsWord g v →
-        StepGives g registry_of v step reply w → KeepsWord g w
+        StepGives g registry_of set v step reply w → KeepsWord g w
     stepped v step reply w word goes = kept v w word (unless_keeps (refusal_of (skeleton_of registry_of v) step) v step reply w goes)
 
   as_registered : (v : StateValue T) (callsite : TraceCallsite) (r : Result PlainInterest Refusal) (w : StateValue T) →
@@ -238,33 +265,35 @@ module _ {T : Type 0} (g : Ghosts T) where
   register_word v m r w word (inl (callsite, own, goes)) = kept v w word (as_registered v callsite r w goes)
   register_word v m r w word (inr none) = kept v w word (same_state v w none.1)
 
-  added_by : (v : StateValue T) (x : T) (handle : ℕ) (w : StateValue T) (goes : AddGives g v x (Ok handle) w) → KeepsWord g v →
-      g.steady x → (n : ℕ) (f : KeptSubscriber T) → subscriber_with n w.hub.subscribers ≡ Some f → (b : Bool) → (n == v.hub.next) ≡ b →
-      HasValidCache g ghosts w.hub f
-  added_by v x handle w goes word steady n f there true own =
-      let made = added_kept g ghosts v.hub w.hub x (Some v.hub.next) goes.1 word.sound steady in
-      let same : n ≡ v.hub.next = grind (arith, nat_tests) in
-      let number : made.0.serial ≡ v.hub.next = (let both : Some v.hub.next ≡ Some made.0.serial = made.1 in cc) in
-      let is : Some made.0 ≡ Some f = sym made.2.stands ∙ ap (λ (k : ℕ). subscriber_with k w.hub.subscribers) (number ∙ sym same) ∙ there in
-      let one : made.0 ≡ f = cc in subst (HasValidCache g ghosts w.hub) one made.2
-  added_by v x handle w goes word steady n f there false other =
-      let keeps = living_from g ghosts v.hub w.hub (add_keeps g ghosts v.hub w.hub x (Ok (Some v.hub.next)) goes.1) in
-      let all : n < w.hub.next = below_next n 0 w.hub.next w.hub.subscribers f (keeps.sound word.sound).numbers there in
-      let next : w.hub.next ≡ v.hub.next + 1 = ap (λ (t : Hub). t.next) goes.1.1.2.rest in
-      let below : n < v.hub.next = grind (arith, nat_tests) in
-      right_by v.hub w.hub n f (subscriber_with n v.hub.subscribers) word.sound keeps below there refl (word.valid n)
+  module _ (outputs_in : T → ℕ) where
+    added_by : (v : StateValue T) (x : T) (handle : ℕ) (w : StateValue T) (goes : AddGives g outputs_in v x (Ok handle) w) → KeepsWord g v →
+        g.steady x → (n : ℕ) (f : KeptSubscriber T) → subscriber_with n w.hub.subscribers ≡ Some f → (b : Bool) → (n == v.hub.next) ≡ b →
+        HasValidCache g ghosts w.hub f
+    added_by v x handle w goes word steady n f there true own =
+        let made = added_kept g ghosts v.hub w.hub x (Some v.hub.next) goes.1 word.sound steady in
+        let same : n ≡ v.hub.next = grind (arith, nat_tests) in
+        let number : made.0.serial ≡ v.hub.next = (let both : Some v.hub.next ≡ Some made.0.serial = made.1 in cc) in
+        let is : Some made.0 ≡ Some f = sym made.2.stands ∙ ap (λ (k : ℕ). subscriber_with k w.hub.subscribers) (number ∙ sym same) ∙ there in
+        let one : made.0 ≡ f = cc in subst (HasValidCache g ghosts w.hub) one made.2
+    added_by v x handle w goes word steady n f there false other =
+        let keeps = living_from g ghosts v.hub w.hub (add_keeps g ghosts v.hub w.hub x (Ok (Some v.hub.next)) goes.1) in
+        let all : n < w.hub.next = below_next n 0 w.hub.next w.hub.subscribers f (keeps.sound word.sound).numbers there in
+        let next : w.hub.next ≡ v.hub.next + 1 = ap (λ (t : Hub). t.next) goes.1.1.2.rest in
+        let below : n < v.hub.next = grind (arith, nat_tests) in
+        right_by v.hub w.hub n f (subscriber_with n v.hub.subscribers) word.sound keeps below there refl (word.valid n)
 
-  added : (v : StateValue T) (x : T) (handle : ℕ) (w : StateValue T) → KeepsWord g v → g.steady x → AddGives g v x (Ok handle) w →
-      KeepsWord g w
-  added v x handle w word steady goes = record {
-    sound = (add_keeps g ghosts v.hub w.hub x (Ok (Some v.hub.next)) goes.1).sound word.sound;
-    valid = λ n f there. added_by v x handle w goes word steady n f there (n == v.hub.next) refl;
-  }
+    added : (v : StateValue T) (x : T) (handle : ℕ) (w : StateValue T) → KeepsWord g v → g.steady x → AddGives g outputs_in v x (Ok handle) w →
+        KeepsWord g w
+    added v x handle w word steady goes = record {
+      sound = (add_keeps g ghosts v.hub w.hub x (Ok (Some v.hub.next)) goes.1).sound word.sound;
+      valid = λ n f there. added_by v x handle w goes word steady n f there (n == v.hub.next) refl;
+    }
 
-  pub cache_stays_valid : (registry_of : T → RegistryValue) → CacheStaysValid g registry_of
-  cache_stays_valid registry_of = record {
+  pub cache_stays_valid : (registry_of : T → RegistryValue) (outputs_in : T → ℕ) (set : T → ℕ → Setting → T) →
+      ((x : T) (place : ℕ) (setting : Setting) → StaysConsistent g x (set x place setting)) → CacheStaysValid g registry_of outputs_in set
+  cache_stays_valid registry_of outputs_in set word = record {
     new = record { sound = record { numbers = omega arith; apart = tt; sites = tt }; valid = λ n f there. absurd (cc) };
-    added = added;
+    added = added outputs_in;
     registered = register_word;
-    stepped = stepped registry_of;
+    stepped = stepped registry_of set word;
   }

@@ -24,6 +24,7 @@ use Rattle.span_tracing_skeleton.specs.Refusing.{first, ids_refusal}
 use Rattle.span_tracing_skeleton.specs.PlainData.{PlainStep, EnabledStep, EventStep, RecordStep, SpanStep}
 use Rattle.span_tracing_skeleton.specs.declared.call.EnabledCall.{EnabledCall}
 use Rattle.span_tracing_skeleton.specs.declared.call.Parent.{Parent}
+use Rattle.span_tracing_skeleton.specs.declared.setting.Setting.{Setting}
 use Rattle.span_tracing_skeleton.specs.declared.call.Reply.{Reply}
 use Rattle.span_tracing_skeleton.specs.declared.call.Reply.TheVariants.{Done, Enabled}
 use Rattle.span_tracing_skeleton.specs.declared.call.SpanName.{SpanName}
@@ -57,7 +58,7 @@ changed_same number x [] is = refl
 changed_same number x (e ∷ es) is = same_if (e.serial == number) x e es (changed number (becomes x) es) (subscriber_with number es) is
     (changed_same number x es)
 
-module _ {T : Type 0} (g : Ghosts T) (registry_of : T → RegistryValue) (v : StateValue T) where
+module _ {T : Type 0} (g : Ghosts T) (registry_of : T → RegistryValue) (set : T → ℕ → Setting → T) (v : StateValue T) where
   -- an event that leaves its stack as it is
   took : (number : ℕ) (x : T) (m : PlainMetadata) (r : Request) (o : Option (KeptSubscriber T)) → o ≡ subscriber_with number v.hub.subscribers →
       option_map (λ (k : KeptSubscriber T). k.subscriber) o ≡ Some x → StaysAt g r.parent (Some m) x →
@@ -81,21 +82,21 @@ module _ {T : Type 0} (g : Ghosts T) (registry_of : T → RegistryValue) (v : St
 
   -- a step that reading doesn't refuse
   pub given : (step : PlainStep) (reply : Reply) (w : StateValue T) → refusal_of (skeleton_of registry_of v) step ≡ None →
-      StepGoes g registry_of v step reply w → StepGives g registry_of v step reply w
-  given step reply w none goes = subst (λ (o : Option Refusal). StepUnless g registry_of o v step reply w) (sym none) goes
+      StepGoes g registry_of set v step reply w → StepGives g registry_of set v step reply w
+  given step reply w none goes = subst (λ (o : Option Refusal). StepUnless g registry_of set o v step reply w) (sym none) goes
 
   -- an event that no stack has to be told of
   untold : (r : Request) (index : CallsiteIndex) (reached : Option ℕ) → reach (skeleton_of registry_of v) r.lane ≡ reached →
       FoundFor registry_of v r.lane r.moment r.callsite false r.parent (Ok index) →
       EventGoes g reached (known (skeleton_of registry_of v) r.callsite false) v (plain_request r) v →
-      StepGives g registry_of v (EventStep (plain_request r)) Done v
+      StepGives g registry_of set v (EventStep (plain_request r)) Done v
   untold r index reached is by goes =
       given (EventStep (plain_request r)) Done v by.2
       (refl, subst (λ (o : Option ℕ). EventGoes g o (known (skeleton_of registry_of v) r.callsite false) v (plain_request r) v) (sym is) goes)
 
   pub event_ignored : (r : Request) (index : CallsiteIndex) (o : Option ℕ) → o ≡ None → FoundFor registry_of v r.lane r.moment r.callsite
       false r.parent (Ok index) → GoesTo g registry_of v r.lane index r.parent o →
-      StepGives g registry_of v (EventStep (plain_request r)) Done v
+      StepGives g registry_of set v (EventStep (plain_request r)) Done v
   event_ignored r index (Some stack) none by goes = absurd (cc)
   event_ignored r index None none by (inl nowhere) = untold r index None nowhere by refl
   event_ignored r index None none by (inr (stack, x, reached, held, at)) =
@@ -117,7 +118,7 @@ module _ {T : Type 0} (g : Ghosts T) (registry_of : T → RegistryValue) (v : St
         FoundFor registry_of v r.lane r.moment r.callsite false r.parent (Ok index) →
         reach (skeleton_of registry_of v) r.lane ≡ Some stack →
         EventAtGives g ghosts (slice_get v.hub.callsites index.0) r.values parent at dispatch v.hub result u →
-        StepGives g registry_of v (EventStep (plain_request r)) Done later
+        StepGives g registry_of set v (EventStep (plain_request r)) Done later
     event_given r index parent at result pe now by reached w =
         let m = known (skeleton_of registry_of v) r.callsite false in
         let goes = event_at_row g v u stack (slice_get v.hub.callsites index.0) m r parent result pe
@@ -135,7 +136,7 @@ module _ {T : Type 0} (g : Ghosts T) (registry_of : T → RegistryValue) (v : St
         ids_refusal (skeleton_of registry_of v) r.lane ≡ None → reach (skeleton_of registry_of v) r.lane ≡ Some stack →
         result ≡ Some made → reply ≡ span_reply stack made →
         SpanAtGives g ghosts (slice_get v.hub.callsites index.0) r.values parent at dispatch v.hub result u →
-        StepGives g registry_of v (SpanStep (plain_request r)) reply later
+        StepGives g registry_of set v (SpanStep (plain_request r)) reply later
     span_given r found index parent at result made reply pe now is over ids reached answered told w =
         let s = skeleton_of registry_of v in
         let m = known s r.callsite true in
@@ -156,7 +157,7 @@ module _ {T : Type 0} (g : Ghosts T) (registry_of : T → RegistryValue) (v : St
         is_some found ≡ is_some (named (skeleton_of registry_of v).callsites call.callsite.0) →
         refusal_of (skeleton_of registry_of v) (EnabledStep call) ≡ None → reach (skeleton_of registry_of v) call.lane ≡ Some stack →
         result ≡ Some wanted → AskAtGives g ghosts (slice_get v.hub.callsites index.0) at dispatch v.hub result u →
-        StepGives g registry_of v (EnabledStep call) (Enabled wanted) later
+        StepGives g registry_of set v (EnabledStep call) (Enabled wanted) later
     question_given call found index at result wanted is now names there none reached answered w =
         let m = named (skeleton_of registry_of v).callsites call.callsite.0 in
         let goes = question_at_row g v u stack (slice_get v.hub.callsites index.0) m call result wanted
@@ -175,7 +176,7 @@ module _ {T : Type 0} (g : Ghosts T) (registry_of : T → RegistryValue) (v : St
         is_some found ≡ is_some (callsite_of (skeleton_of registry_of v) name) →
         refusal_of (skeleton_of registry_of v) (RecordStep (plain_record r)) ≡ None →
         RecordAtGives g ghosts (slice_get v.hub.callsites index.0) id r.values at dispatch v.hub result u →
-        StepGives g registry_of v (RecordStep (plain_record r)) Done later
+        StepGives g registry_of set v (RecordStep (plain_record r)) Done later
     values_given r name id found index at result own number now on is names there none w =
         let m = callsite_of (skeleton_of registry_of v) name in
         let row = slice_get v.hub.callsites index.0 in

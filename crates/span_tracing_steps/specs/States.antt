@@ -28,11 +28,12 @@ abbrev pub plain_thread : Thread → PlainThread
 plain_thread thread = record { name = option_map string_bytes thread.name; number = thread.thread_id }
 
 -- what the hub keeps: stacks by their numbers with who holds them, callsites with the interest in them, lanes with their own defaults, and
--- the global default; the lanes' threads; by number what each handle leads to, and each guard, where it isn't spent; and by number each
+-- the global default; the lanes' threads; by number how many outputs each stack has; by number what each handle leads to, and each guard, where it isn't spent; and by number each
 -- stack that was released and waits to be taken
 pub record StateValue (T : Type 0) : Type 0 where
   pub hub : Table T TraceCallsite
   pub threads : List PlainThread
+  pub outputs : List ℕ
   pub handles : List (Option (Option ℕ))
   pub guards : List (Option DefaultGuard)
   pub retired : List (Option T)
@@ -41,6 +42,7 @@ abbrev pub value_in : {T : Type 0} → TraceParts T → StateValue T
 value_in p = record {
   hub = p.hub;
   threads = map plain_thread p.threads.items;
+  outputs = p.outputs.items;
   handles = p.handles.items;
   guards = p.guards.items;
   retired = p.retired.items;
@@ -48,7 +50,7 @@ value_in p = record {
 
 -- no callsite, no lane, no stack
 abbrev pub new_state : {T : Type 0} → StateValue T
-new_state = record { hub = fresh; threads = []; handles = []; guards = []; retired = [] }
+new_state = record { hub = fresh; threads = []; outputs = []; handles = []; guards = []; retired = [] }
 
 abbrev pub callsites_of : List (KeptCallsite TraceCallsite) → List PlainMetadata
 callsites_of rows = map (λ (row : KeptCallsite TraceCallsite). own_metadata row.callsite) rows
@@ -74,6 +76,7 @@ module _ {T : Type 0} (registry_of : T → RegistryValue) where
     callsites = callsites_of v.hub.callsites;
     lanes = map lane_default v.hub.lanes;
     given = v.hub.next;
+    outputs = v.outputs;
     stacks = map held_stack v.hub.subscribers;
     handles = map inner v.handles;
     guards = map plain_guard v.guards;

@@ -1,4 +1,4 @@
--- What a step does: it is refused, or a stack takes a call, or what holds stacks changes.
+-- What a step does: it is refused, or a stack takes a call, or what holds stacks changes, or a setting of an output.
 use Rattle.std.specs.Prelude.{◌≡◌, ◌⊎◌, ℕ, [], ◌∷◌, ◌++◌, length, slice_get, slice_set, Bool, false, true, Option, Some, None, List}
 use Rattle.std.specs.Prelude.{Result, Ok, Err}
 use Rattle.tracing_core_fields.specs.PlainMetadata.{PlainMetadata}
@@ -7,18 +7,19 @@ use Rattle.tracing_core_fields.specs.requests.Calls.{Exited, Cloned, CloseTried}
 use Rattle.tracing_core_fields.specs.declared.requests.refusal.RequestError.{RequestError}
 use Rattle.tracing_core_fields.specs.declared.requests.refusal.RequestError.TheVariants as errors
 use Rattle.tracing_core_fields.specs.declared.requests.subscriber.Subscriber.{Ghosts}
+use Rattle.tracing_core.specs.Commands.{becomes}
 use Rattle.tracing_core.specs.Defaults.{given_up, globally, guard_of, holding, locally}
 use Rattle.tracing_core.specs.HandleCalls.{HubGives}
-use Rattle.tracing_core.specs.Handles.{given_back}
+use Rattle.tracing_core.specs.Handles.{changed, given_back}
 use Rattle.tracing_core.specs.Table.{chosen, own_setting}
 use Rattle.tracing_core.specs.declared.guard.DefaultGuard.{DefaultGuard}
 use Rattle.tracing_core.specs.declared.hub.parts.Lane.TheVariants.{Running}
 use Rattle.span_registry_layers_store.specs.Registries.{RegistryValue}
-use Rattle.span_tracing_skeleton.specs.Looking.{callsite_of, inner, known, named, reach}
+use Rattle.span_tracing_skeleton.specs.Looking.{callsite_of, inner, known, named, output_in, reach}
 use Rattle.span_tracing_skeleton.specs.Order.{refusal_of}
 use Rattle.span_tracing_skeleton.specs.PlainData.{PlainStep, Request, RecordRequest, GlobalStep, EventStep, EnabledStep, SpanStep}
 use Rattle.span_tracing_skeleton.specs.PlainData.{RecordStep, FollowsFromStep, EnterStep, ExitStep, CloneStep, CloseStep, DefaultStep}
-use Rattle.span_tracing_skeleton.specs.PlainData.{ResetStep, CloneHandleStep, ReleaseStep}
+use Rattle.span_tracing_skeleton.specs.PlainData.{ResetStep, CloneHandleStep, ReleaseStep, SetStep}
 use Rattle.span_tracing_skeleton.specs.declared.call.DefaultCall.{DefaultCall}
 use Rattle.span_tracing_skeleton.specs.declared.call.EnabledCall.{EnabledCall}
 use Rattle.span_tracing_skeleton.specs.declared.call.FollowsCall.{FollowsCall}
@@ -27,9 +28,11 @@ use Rattle.span_tracing_skeleton.specs.declared.call.Reply.{Reply}
 use Rattle.span_tracing_skeleton.specs.declared.call.Reply.TheVariants.{Done, Enabled, Span, Closed, Handle, Guard, Refused}
 use Rattle.span_tracing_skeleton.specs.declared.call.SpanCall.{SpanCall}
 use Rattle.span_tracing_skeleton.specs.declared.call.SpanName.{SpanName}
+use Rattle.span_tracing_skeleton.specs.declared.setting.OutputPlace.{OutputPlace}
+use Rattle.span_tracing_skeleton.specs.declared.setting.Setting.{Setting}
 use Rattle.span_tracing_skeleton.specs.declared.refusal.Refusal.{Refusal}
 use Rattle.span_tracing_skeleton.specs.declared.refusal.Refusal.TheVariants.{IdsSpent, OutOfMemory}
-use Rattle.span_tracing_steps.specs.States.{StateValue, behind, skeleton_of}
+use Rattle.span_tracing_steps.specs.States.{StateValue, behind, held_in, skeleton_of}
 use Rattle.span_tracing_steps.specs.StackRequests.{named_as, own_values, place_at, request_of}
 
 -- how the answer of the stack with a number to a new span is told: its parent was looked for, and that ids are left
@@ -153,11 +156,24 @@ module _ {T : Type 0} where
     retired = put_away dispatch (given_back dispatch v.hub.subscribers).0 v.retired;
   }
 
+  -- with another value of the stack of a number that somebody holds
+  abbrev pub becoming : ℕ → T → StateValue T → StateValue T
+  becoming stack y v = record v { hub = record v.hub { subscribers = changed stack (becomes y) v.hub.subscribers } }
+
+  -- with a setting of the output at a place, where somebody holds its stack
+  abbrev pub set_in : (T → ℕ → Setting → T) → StateValue T → OutputPlace → Setting → Option T → StateValue T
+  set_in set v at setting None = v
+  set_in set v at setting (Some x) = becoming at.stack (set x at.place setting) v
+
+  abbrev pub with_setting : (T → ℕ → Setting → T) → StateValue T → Option OutputPlace → Setting → StateValue T
+  with_setting set v None setting = v
+  with_setting set v (Some at) setting = set_in set v at setting (held_in v at.stack)
+
   -- this is answered and left; or there is no memory for a number more, and nothing changes
   abbrev pub OrStarved : StateValue T → Reply → StateValue T → Reply → StateValue T → Type 0
   OrStarved v made u reply w = ((reply ≡ made) × (w ≡ u)) ⊎ ((reply ≡ Refused OutOfMemory) × (w ≡ v))
 
-module _ {T : Type 0} (g : Ghosts T) (registry_of : T → RegistryValue) where
+module _ {T : Type 0} (g : Ghosts T) (registry_of : T → RegistryValue) (set : T → ℕ → Setting → T) where
   -- a step that is not refused by reading
   abbrev pub StepGoes : StateValue T → PlainStep → Reply → StateValue T → Type 0
   StepGoes v (GlobalStep handle) reply w = (reply ≡ Done) × (w ≡ with_global v (behind v handle))
@@ -177,12 +193,13 @@ module _ {T : Type 0} (g : Ghosts T) (registry_of : T → RegistryValue) where
   StepGoes v (ResetStep call) reply w = (reply ≡ Done) × (w ≡ restored v call.lane call.guard (inner (slice_get v.guards call.guard)))
   StepGoes v (CloneHandleStep handle) reply w = OrStarved v (Handle (length v.handles)) (with_handle v (behind v handle)) reply w
   StepGoes v (ReleaseStep handle) reply w = (reply ≡ Done) × (w ≡ without_handle v handle (behind v handle))
+  StepGoes v (SetStep call) reply w = (reply ≡ Done) × (w ≡ with_setting set v (output_in v.outputs 0 call.output) call.setting)
 
   abbrev pub StepUnless : Option Refusal → StateValue T → PlainStep → Reply → StateValue T → Type 0
   StepUnless (Some refusal) v step reply w = (reply ≡ Refused refusal) × (w ≡ v)
   StepUnless None v step reply w = StepGoes v step reply w
 
   -- a step: the first refusal that reading meets is answered, and leaves all as it was; else a stack takes its call, or who holds stacks
-  -- changes
+  -- changes, or a setting
   abbrev pub StepGives : StateValue T → PlainStep → Reply → StateValue T → Type 0
   StepGives v step reply w = StepUnless (refusal_of (skeleton_of registry_of v) step) v step reply w

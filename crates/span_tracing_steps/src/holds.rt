@@ -11,7 +11,7 @@ ghost use Rattle.span_tracing_steps.specs.FullHandles.{full_by};
 ghost use Rattle.span_tracing_steps.specs.Steps.{StepGives, asked_for, put_away};
 
 use crate::parts::TraceParts;
-use span_tracing_skeleton::{DefaultCall, HasRegistry, Refusal, Reply, ResetCall};
+use span_tracing_skeleton::{DefaultCall, HasOutputs, HasRegistry, Refusal, Reply, ResetCall};
 use tracing_core::{DefaultGuard, Dispatch, HandleError};
 use tracing_core_fields::{Subscriber, WeakDispatch, serial_of};
 
@@ -64,7 +64,7 @@ impl<T: Subscriber> TraceParts<T> {
     }
 }
 
-impl<T: Subscriber + HasRegistry> TraceParts<T> {
+impl<T: Subscriber + HasRegistry + HasOutputs> TraceParts<T> {
     ghost use Rattle.span_tracing_steps.specs.TraceInvariant.{IsSound};
 
     // Why a handle leads to no stack.
@@ -162,7 +162,7 @@ impl<T: Subscriber + HasRegistry> TraceParts<T> {
         requires { IsSound self.old }
         ensures sound { IsSound self.new }
         // A refused call changes nothing; else the stack becomes the global default, which holds it, and nothing else changes.
-        ensures gives { StepGives ⟦<T as Subscriber>⟧ T.registry_of (value_in self.old) (GlobalStep handle) result
+        ensures gives { StepGives ⟦<T as Subscriber>⟧ T.registry_of T.set (value_in self.old) (GlobalStep handle) result
             (value_in self.new) }
     {
         if let Some(refusal) = self.global_refusal(handle) {
@@ -236,7 +236,7 @@ impl<T: Subscriber + HasRegistry> TraceParts<T> {
         ensures sound { IsSound self.new }
         // A refused call changes nothing; else the lane has this default, which holds its stack, and there is a guard more; or out of memory
         // is answered, and nothing changes.
-        ensures gives { StepGives ⟦<T as Subscriber>⟧ T.registry_of (value_in self.old) (DefaultStep call.now) result
+        ensures gives { StepGives ⟦<T as Subscriber>⟧ T.registry_of T.set (value_in self.old) (DefaultStep call.now) result
             (value_in self.new) }
     {
         if let Some(refusal) = self.default_refusal(call) {
@@ -256,7 +256,7 @@ impl<T: Subscriber + HasRegistry> TraceParts<T> {
         requires { IsSound self.old }
         ensures sound { IsSound self.new }
         // A refused call changes nothing; else the lane has what the guard kept, and what it had lets its stack go.
-        ensures gives { StepGives ⟦<T as Subscriber>⟧ T.registry_of (value_in self.old) (ResetStep call.now) result
+        ensures gives { StepGives ⟦<T as Subscriber>⟧ T.registry_of T.set (value_in self.old) (ResetStep call.now) result
             (value_in self.new) }
     {
         if let Some(refusal) = self.reset_refusal(call) {
@@ -279,7 +279,7 @@ impl<T: Subscriber + HasRegistry> TraceParts<T> {
         ensures sound { IsSound self.new }
         // A refused call changes nothing; else there is a handle more, which holds the stack; or out of memory is answered, and nothing
         // changes.
-        ensures gives { StepGives ⟦<T as Subscriber>⟧ T.registry_of (value_in self.old) (CloneHandleStep handle) result
+        ensures gives { StepGives ⟦<T as Subscriber>⟧ T.registry_of T.set (value_in self.old) (CloneHandleStep handle) result
             (value_in self.new) }
     {
         if let Some(refusal) = self.further_refusal(handle) {
@@ -304,7 +304,7 @@ impl<T: Subscriber + HasRegistry> TraceParts<T> {
         requires { IsSound self.old }
         ensures sound { IsSound self.new }
         // A refused call changes nothing; else the handle is spent, and lets its stack go.
-        ensures gives { StepGives ⟦<T as Subscriber>⟧ T.registry_of (value_in self.old) (ReleaseStep handle) result
+        ensures gives { StepGives ⟦<T as Subscriber>⟧ T.registry_of T.set (value_in self.old) (ReleaseStep handle) result
             (value_in self.new) }
     {
         if let Some(refusal) = self.handle_refusal(handle) {

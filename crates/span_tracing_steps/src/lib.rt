@@ -10,6 +10,7 @@ mod interest;
 mod laws;
 mod parts;
 mod requests;
+mod settings;
 mod setup;
 mod spans;
 

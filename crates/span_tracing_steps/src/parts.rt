@@ -17,11 +17,12 @@ pub struct Thread {
     pub thread_id: u64,
 }
 
-/// The lanes' threads; the hub with callsites, stacks and defaults; handles and guards by number, where they aren't spent; and stacks that
+/// The lanes' threads; by number how many outputs each stack has; the hub with callsites, stacks and defaults; handles and guards by number, where they aren't spent; and stacks that
 /// were released and wait to be taken, each in the place of its number.
 pub struct TraceParts<T> {
     pub(crate) alloc: Global,
     pub(crate) threads: Vec<Thread>,
+    pub(crate) outputs: Vec<usize>,
     pub(crate) hub: Hub<T, TraceCallsite>,
     pub(crate) handles: Vec<Option<Dispatch>>,
     pub(crate) guards: Vec<Option<DefaultGuard>>,
@@ -34,6 +35,7 @@ impl<T: Drop> Drop for TraceParts<T> {
         let TraceParts {
             alloc: _alloc,
             threads: _threads,
+            outputs: _outputs,
             hub: _hub,
             handles: _handles,
             guards: _guards,

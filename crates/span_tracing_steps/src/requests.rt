@@ -16,7 +16,9 @@ ghost use Rattle.span_tracing_steps.specs.StackRequests.{named_as, place_at};
 
 use crate::action::Request;
 use crate::parts::TraceParts;
-use span_tracing_skeleton::{EnabledCall, HasRegistry, Parent, Refusal, Reply, SpanName};
+use span_tracing_skeleton::{
+    EnabledCall, HasOutputs, HasRegistry, Parent, Refusal, Reply, SpanName,
+};
 use tracing_core::{CallsiteIndex, RequestParent};
 use tracing_core_fields::{Id, IndexedValues, RequestError, Subscriber, serial_of, weak_of};
 use tracing_core_moments::{At, Moment};
@@ -85,7 +87,7 @@ fn reply_of(stack: usize, made: Result<Option<Id>, RequestError>) -> Reply
     }
 }
 
-impl<T: Subscriber + HasRegistry> TraceParts<T> {
+impl<T: Subscriber + HasRegistry + HasOutputs> TraceParts<T> {
     ghost use Rattle.span_tracing_steps.specs.TraceInvariant.{IsSound};
 
     // The stack that has to be told of an event at the callsite of the index: that which the lane reaches, unless it ignores the event.
@@ -130,7 +132,7 @@ impl<T: Subscriber + HasRegistry> TraceParts<T> {
         requires found { FoundFor T.registry_of (value_in self.old) event.now.lane event.now.moment event.now.callsite
             false event.now.parent (Ok index) }
         ensures sound { IsSound self.new }
-        ensures gives { StepGives ⟦<T as Subscriber>⟧ T.registry_of (value_in self.old) (EventStep
+        ensures gives { StepGives ⟦<T as Subscriber>⟧ T.registry_of T.set (value_in self.old) (EventStep
             (plain_request event.now)) Done (value_in self.new) }
     {
         let Some(stack) = self.goes_to(event.lane, index, event.parent) else {
@@ -164,7 +166,7 @@ impl<T: Subscriber + HasRegistry> TraceParts<T> {
         requires found { FoundFor T.registry_of (value_in self.old) lane moment callsite false parent (Ok index) }
         requires reached { reach (skeleton_of T.registry_of (value_in self.old)) lane ≡ Some stack }
         ensures sound { IsSound self.new }
-        ensures gives { StepGives ⟦<T as Subscriber>⟧ T.registry_of (value_in self.old) (EventStep
+        ensures gives { StepGives ⟦<T as Subscriber>⟧ T.registry_of T.set (value_in self.old) (EventStep
             (record { lane = lane; moment = moment; callsite = callsite; parent = parent; values = plain_entries values.entry }))
             Done (value_in self.new) }
     {
@@ -187,7 +189,7 @@ impl<T: Subscriber + HasRegistry> TraceParts<T> {
     ) -> Option<Refusal>
         requires { IsSound self.old }
         ensures sound { IsSound self.new }
-        ensures gives { StepGives ⟦<T as Subscriber>⟧ T.registry_of (value_in self.old) (EventStep
+        ensures gives { StepGives ⟦<T as Subscriber>⟧ T.registry_of T.set (value_in self.old) (EventStep
             (record { lane = lane; moment = moment; callsite = callsite; parent = parent; values = plain_entries values.entry }))
             (or_refused result Done) (value_in self.new) }
     {
@@ -213,7 +215,7 @@ impl<T: Subscriber + HasRegistry> TraceParts<T> {
         requires { IsSound self.old }
         ensures sound { IsSound self.new }
         // A refused event changes nothing; any other is done, and the stack that the lane reaches takes it.
-        ensures gives { StepGives ⟦<T as Subscriber>⟧ T.registry_of (value_in self.old) (EventStep
+        ensures gives { StepGives ⟦<T as Subscriber>⟧ T.registry_of T.set (value_in self.old) (EventStep
             (plain_request event.now)) result (value_in self.new) }
     {
         let refusal = match self.found_at_once(event) {
@@ -240,7 +242,7 @@ impl<T: Subscriber + HasRegistry> TraceParts<T> {
         requires { IsSound self.old }
         ensures sound { IsSound self.new }
         // A refused span changes nothing; else the stack that the lane reaches takes it, and its answer is told, or else it is dropped.
-        ensures gives { StepGives ⟦<T as Subscriber>⟧ T.registry_of (value_in self.old) (SpanStep
+        ensures gives { StepGives ⟦<T as Subscriber>⟧ T.registry_of T.set (value_in self.old) (SpanStep
             (plain_request span.now)) result (value_in self.new) }
     {
         let index = match self.find_for(span, true) {
@@ -271,7 +273,7 @@ impl<T: Subscriber + HasRegistry> TraceParts<T> {
         requires { IsSound self.old }
         ensures sound { IsSound self.new }
         // A refused question changes nothing; else the reached stack is asked, and where none is, the answer is no.
-        ensures gives { StepGives ⟦<T as Subscriber>⟧ T.registry_of (value_in self.old) (EnabledStep
+        ensures gives { StepGives ⟦<T as Subscriber>⟧ T.registry_of T.set (value_in self.old) (EnabledStep
             call.now) result (value_in self.new) }
     {
         let found = self.find(call.callsite.0);

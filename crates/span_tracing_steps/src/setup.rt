@@ -8,7 +8,7 @@ ghost use Rattle.span_tracing_steps.specs.States.{new_state, value_in};
 
 use crate::callsite::TraceCallsite;
 use crate::parts::{Thread, TraceParts};
-use span_tracing_skeleton::Refusal;
+use span_tracing_skeleton::{HasOutputs, HasRegistry, Refusal};
 use std::alloc::{AllocError, Global};
 use tracing_core::{AddError, Hub, RegisterError};
 use tracing_core_fields::{Identifier, Interest, Metadata, Subscriber};
@@ -25,6 +25,7 @@ impl<T: Subscriber> TraceParts<T> {
         TraceParts {
             alloc,
             threads: Vec::new(alloc),
+            outputs: Vec::new(alloc),
             hub: Hub::new(alloc),
             handles: Vec::new(alloc),
             guards: Vec::new(alloc),
@@ -83,36 +84,6 @@ impl<T: Subscriber> TraceParts<T> {
         }
     }
 
-    /// Takes a stack, asks it of each callsite, and answers the number of its handle.
-    ///
-    /// # Errors
-    ///
-    /// Out of memory, which changes nothing and gives the stack back.
-    pub fn add_stack(&mut self, stack: T) -> Result<usize, T>
-        requires { IsSound self.old }
-        ensures sound { IsSound self.new }
-        // The stack is told its handle, is asked of each callsite in order and for its hint, and is kept with what it said; where
-        // there is no memory, it comes back, and nothing changes.
-        ensures gives { AddGives ⟦<T as Subscriber>⟧ (value_in self.old) stack result (value_in self.new) }
-    {
-        if self.handles.reserve(1).is_err() {
-            return Err(stack);
-        }
-        if self.retired.reserve(1).is_err() {
-            return Err(stack);
-        }
-        match self.hub.add(stack) {
-            Ok(handle) => {
-                let number = self.handles.len();
-                self.handles.push_reserved(Some(handle));
-                self.retired.push_reserved(None);
-                Ok(number)
-            }
-            Err(AddError::OutOfMemory(stack)) => Err(stack),
-            Err(AddError::NumbersSpent(stack)) => Err(stack),
-        }
-    }
-
     /// Takes the stack with a number, where it was released and wasn't taken yet. The sinks of its outputs come with it.
     pub fn take_retired(&mut self, number: usize) -> Option<T>
         requires { IsSound self.old }
@@ -126,6 +97,45 @@ impl<T: Subscriber> TraceParts<T> {
             self.retired[number].take()
         } else {
             None
+        }
+    }
+}
+
+impl<T: Subscriber + HasRegistry + HasOutputs> TraceParts<T> {
+    ghost use Rattle.span_tracing_steps.specs.TraceInvariant.{IsSound};
+
+    /// Takes a stack, asks it of each callsite, and answers the number of its handle. Its outputs have the next numbers, in order.
+    ///
+    /// # Errors
+    ///
+    /// Out of memory, which changes nothing and gives the stack back.
+    pub fn add_stack(&mut self, stack: T) -> Result<usize, T>
+        requires { IsSound self.old }
+        ensures sound { IsSound self.new }
+        // The stack is told its handle, is asked of each callsite in order and for its hint, and is kept with what it said; where
+        // there is no memory, it comes back, and nothing changes.
+        ensures gives { AddGives ⟦<T as Subscriber>⟧ T.outputs_in (value_in self.old) stack result (value_in self.new) }
+    {
+        if self.handles.reserve(1).is_err() {
+            return Err(stack);
+        }
+        if self.outputs.reserve(1).is_err() {
+            return Err(stack);
+        }
+        if self.retired.reserve(1).is_err() {
+            return Err(stack);
+        }
+        let count = stack.output_count();
+        match self.hub.add(stack) {
+            Ok(handle) => {
+                let number = self.handles.len();
+                self.handles.push_reserved(Some(handle));
+                self.outputs.push_reserved(count);
+                self.retired.push_reserved(None);
+                Ok(number)
+            }
+            Err(AddError::OutOfMemory(stack)) => Err(stack),
+            Err(AddError::NumbersSpent(stack)) => Err(stack),
         }
     }
 }

@@ -8,7 +8,9 @@ ghost use Rattle.span_tracing_steps.specs.Steps.{StepGives};
 use crate::action::RecordRequest;
 use crate::parts::TraceParts;
 use crate::requests::{at_of, id_of};
-use span_tracing_skeleton::{FollowsCall, HasRegistry, Refusal, Reply, SpanCall, SpanName};
+use span_tracing_skeleton::{
+    FollowsCall, HasOutputs, HasRegistry, Refusal, Reply, SpanCall, SpanName,
+};
 use tracing_core_fields::{Subscriber, WeakDispatch, weak_of};
 
 // What requests of a span's stack are made by.
@@ -18,7 +20,7 @@ fn handle_of(name: SpanName) -> WeakDispatch
     weak_of(Some(name.stack as u64))
 }
 
-impl<T: Subscriber + HasRegistry> TraceParts<T> {
+impl<T: Subscriber + HasRegistry + HasOutputs> TraceParts<T> {
     ghost use Rattle.span_tracing_steps.specs.TraceInvariant.{IsSound};
 
     /// Adds values to a span's.
@@ -27,7 +29,7 @@ impl<T: Subscriber + HasRegistry> TraceParts<T> {
         ensures sound { IsSound self.new }
         // A refused record changes nothing; any other is done, and the stack takes the values by their fields' places, without those
         // of fields that the callsite lacks. A record of no span changes nothing.
-        ensures gives { StepGives ⟦<T as Subscriber>⟧ T.registry_of (value_in self.old) (RecordStep
+        ensures gives { StepGives ⟦<T as Subscriber>⟧ T.registry_of T.set (value_in self.old) (RecordStep
             (plain_record request.now)) result (value_in self.new) }
     {
         if let Some(refusal) = self.values_refusal(request) {
@@ -52,7 +54,7 @@ impl<T: Subscriber + HasRegistry> TraceParts<T> {
         requires { IsSound self.old }
         ensures sound { IsSound self.new }
         // A refused link changes nothing; any other is done, and the stack takes it unless one of the spans is none.
-        ensures gives { StepGives ⟦<T as Subscriber>⟧ T.registry_of (value_in self.old) (FollowsFromStep
+        ensures gives { StepGives ⟦<T as Subscriber>⟧ T.registry_of T.set (value_in self.old) (FollowsFromStep
             call.now) result (value_in self.new) }
     {
         if let Some(refusal) = self.follows_refusal(call) {
@@ -78,7 +80,7 @@ impl<T: Subscriber + HasRegistry> TraceParts<T> {
         ensures sound { IsSound self.new }
         // A refused entry changes nothing; else the stack takes it, and where the stack refuses, out of memory is answered. An entry
         // of no span is done, and changes nothing.
-        ensures gives { StepGives ⟦<T as Subscriber>⟧ T.registry_of (value_in self.old) (EnterStep call.now)
+        ensures gives { StepGives ⟦<T as Subscriber>⟧ T.registry_of T.set (value_in self.old) (EnterStep call.now)
             result (value_in self.new) }
     {
         if let Some(refusal) = self.call_refusal(call) {
@@ -101,7 +103,7 @@ impl<T: Subscriber + HasRegistry> TraceParts<T> {
     pub fn exit(&mut self, call: &SpanCall) -> Reply
         requires { IsSound self.old }
         ensures sound { IsSound self.new }
-        ensures gives { StepGives ⟦<T as Subscriber>⟧ T.registry_of (value_in self.old) (ExitStep call.now)
+        ensures gives { StepGives ⟦<T as Subscriber>⟧ T.registry_of T.set (value_in self.old) (ExitStep call.now)
             result (value_in self.new) }
     {
         if let Some(refusal) = self.call_refusal(call) {
@@ -121,7 +123,7 @@ impl<T: Subscriber + HasRegistry> TraceParts<T> {
         requires { IsSound self.old }
         ensures sound { IsSound self.new }
         // A refused call changes nothing; any other is done, and the stack takes it unless the span is none.
-        ensures gives { StepGives ⟦<T as Subscriber>⟧ T.registry_of (value_in self.old) (CloneStep call.now)
+        ensures gives { StepGives ⟦<T as Subscriber>⟧ T.registry_of T.set (value_in self.old) (CloneStep call.now)
             result (value_in self.new) }
     {
         if let Some(refusal) = self.clone_refusal(call) {
@@ -141,7 +143,7 @@ impl<T: Subscriber + HasRegistry> TraceParts<T> {
     pub fn try_close(&mut self, call: &SpanCall) -> Reply
         requires { IsSound self.old }
         ensures sound { IsSound self.new }
-        ensures gives { StepGives ⟦<T as Subscriber>⟧ T.registry_of (value_in self.old) (CloseStep call.now)
+        ensures gives { StepGives ⟦<T as Subscriber>⟧ T.registry_of T.set (value_in self.old) (CloseStep call.now)
             result (value_in self.new) }
     {
         if let Some(refusal) = self.close_refusal(call) {

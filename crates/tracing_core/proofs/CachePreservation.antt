@@ -306,7 +306,7 @@ module _ {S C : Type 0} (g : Ghosts S) (h : SiteGhosts C) where
   lent_keeps t None w = others_from t t (itself_keeps t)
   lent_keeps t (Some n) w = lent_keeps_at n w t
 
-  moved_keeps_by : (n : ℕ) (x : KeptSubscriber S) (after : S) (t u : Table S C) → subscriber_with n t.subscribers ≡ Some x →
+  pub moved_keeps_by : (n : ℕ) (x : KeptSubscriber S) (after : S) (t u : Table S C) → subscriber_with n t.subscribers ≡ Some x →
       AnswersAlike g x.subscriber after → u.subscribers ≡ changed n (becomes after) t.subscribers → Alike t u → PreservesCaches g h t u
   moved_keeps_by n x after t u there moved left alike =
       record {

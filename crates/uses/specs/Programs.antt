@@ -1,11 +1,21 @@
 -- The steps of a program that logs.
-use Rattle.std.specs.Prelude.{ℕ, List, [], ◌∷◌}
+use Rattle.std.specs.Prelude.{ℕ, List, [], ◌∷◌, Some}
 use Rattle.tracing_core.specs.PlainValue.{Text}
 use Rattle.tracing_core_moments.specs.declared.moment.Moment.{Moment}
-use Rattle.span_tracing_skeleton.specs.PlainData.{PlainStep, EventStep}
+use Rattle.span_tracing_skeleton.specs.PlainData.{PlainStep, DefaultStep, EventStep, ResetStep}
 use Rattle.span_tracing_skeleton.specs.declared.call.Parent.TheVariants.{Contextual}
 
--- an event on the first lane whose first field is a text
+-- an event on a lane whose first field is a text
+abbrev pub message_on : ℕ → Moment → ℕ → List ℕ → PlainStep
+message_on lane moment callsite text =
+    EventStep (record { lane = lane; moment = moment; callsite = callsite; parent = Contextual; values = (0, Text text) ∷ [] })
+
+-- on the first lane
 abbrev pub message_step : Moment → ℕ → List ℕ → PlainStep
-message_step moment callsite text =
-    EventStep (record { lane = 0; moment = moment; callsite = callsite; parent = Contextual; values = (0, Text text) ∷ [] })
+message_step moment callsite text = message_on 0 moment callsite text
+
+-- the same while the lane has the stack with this handle as its own default, which a guard gives back
+abbrev pub apart_steps : ℕ → ℕ → ℕ → Moment → ℕ → List ℕ → List PlainStep
+apart_steps lane handle guard moment callsite text =
+    DefaultStep (record { lane = lane; handle = Some handle }) ∷ message_on lane moment callsite text ∷
+    ResetStep (record { lane = lane; guard = guard }) ∷ []

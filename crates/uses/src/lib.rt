@@ -12,4 +12,5 @@ pub mod rolling;
 pub mod service;
 #[cfg(test)]
 mod tests;
+pub mod two_stacks;
 pub mod visitor;

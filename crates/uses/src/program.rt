@@ -4,6 +4,7 @@ ghost use Rattle.std.specs.Prelude.{◌≡◌, ◌∷◌, [], IfOk, OnErr, Some,
 ghost use Rattle.tracing_core.specs.IndexedEntries.{lent_entries};
 ghost use Rattle.tracing_core.specs.PlainValue.{Text};
 ghost use Rattle.tracing_core_moments.specs.Moments.{is_moment};
+ghost use Rattle.span_tracing_outputs.specs.OutputSettings.{stack_set};
 ghost use Rattle.span_tracing_outputs.specs.TraceFollows.{IsReady};
 ghost use Rattle.span_tracing_steps.specs.Steps.{StepGives};
 ghost use Rattle.span_tracing_skeleton.specs.Looking.{reach};
@@ -33,7 +34,7 @@ pub type MemoryTrace = Trace<FileStack<LevelFilter, MemoryFolder>>;
 
 // One output, which writes lines of the full format, without a time, of what a level passes, to a file for each day,
 // `prefix.DAY.log`, in an empty folder in memory.
-fn output_of(
+pub(crate) fn output_of(
     alloc: Global,
     prefix: &str,
     level: LevelFilter,
@@ -57,7 +58,7 @@ fn output_of(
 }
 
 // A stack of this output, which is ready for its first call.
-fn stack_of(
+pub(crate) fn stack_of(
     alloc: Global,
     output: OutputSpec<LevelFilter, MemoryFolder>,
     moment: Moment,
@@ -127,7 +128,7 @@ pub fn open_trace(
 }
 
 // A text as the value of a callsite's first field.
-fn message(text: &str) -> LentValue<'_>
+pub(crate) fn message(text: &str) -> LentValue<'_>
     ensures { lent_entries (result ∷ []) ≡ (0, Text text.now) ∷ [] }
 {
     LentValue {
@@ -139,7 +140,7 @@ fn message(text: &str) -> LentValue<'_>
 /// Logs a text as an event at a callsite whose first field is the message, on lane 0: the step that `message_step` tells.
 /// A refused step leaves the trace as it was.
 pub fn log_text(trace: &mut MemoryTrace, moment: Moment, callsite: Identifier, text: &str) -> Reply
-    ensures { StepGives ⟦<FileStack<LevelFilter, MemoryFolder> as Subscriber>⟧ registry_of
+    ensures { StepGives ⟦<FileStack<LevelFilter, MemoryFolder> as Subscriber>⟧ registry_of stack_set
         trace.old (message_step moment callsite.0 text.now) result trace.new }
 {
     trace.event(0, moment, callsite, Parent::Contextual, &[message(text)])

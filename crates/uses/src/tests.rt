@@ -7,6 +7,7 @@ ghost use Rattle.tracing_core.specs.Metadata.{plain_metadata};
 mod clocked;
 mod json;
 mod skipped;
+mod two_stacks;
 
 use crate::boxed::{under_both, under_box, under_context_closure};
 use crate::choice::{by_closure, by_level, under_choice};

@@ -9,7 +9,7 @@ use std::rt::Files;
 use std::test::Fail;
 
 /// Whole lines.
-const LINES: [&str; 43] = [
+const LINES: [&str; 51] = [
     "",
     " ",
     "null",
@@ -51,6 +51,14 @@ const LINES: [&str; 43] = [
     r#"{"do":"clone_handle","handle":0,"lane":0}"#,
     r#"{"do":"release","handle":-1}"#,
     r#"{"do":"release","lane":0,"handle":0}"#,
+    r#"{"do":"set_ansi","output":0}"#,
+    r#"{"do":"set_ansi","on":true}"#,
+    r#"{"do":"set_ansi","output":0,"on":1}"#,
+    r#"{"do":"set_ansi","output":0,"on":true,"lane":0}"#,
+    r#"{"do":"set_span_events","output":0}"#,
+    r#"{"do":"set_span_events","output":0,"set":null}"#,
+    r#"{"do":"set_span_events","output":0,"set":["NEW"]}"#,
+    r#"{"do":"set_span_events","output":null,"set":[]}"#,
     "\u{feff}{\"do\":\"lane\",\"thread\":1}",
     r#"{"do":"lane","thread":1.5"#,
 ];

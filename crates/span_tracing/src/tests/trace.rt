@@ -2,5 +2,6 @@
 
 mod refused;
 mod running;
+mod settings;
 mod several;
 mod stage;

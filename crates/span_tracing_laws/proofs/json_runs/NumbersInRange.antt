@@ -29,7 +29,7 @@ use Rattle.span_tracing_skeleton.specs.Machine.{acted, after, or_same}
 use Rattle.span_tracing_skeleton.specs.Order.{refusal_of}
 use Rattle.span_tracing_skeleton.specs.PlainData.{PlainStep, Request, RecordRequest, GlobalStep, EventStep, EnabledStep, SpanStep}
 use Rattle.span_tracing_skeleton.specs.PlainData.{RecordStep, FollowsFromStep, EnterStep, ExitStep, CloneStep, CloseStep, DefaultStep}
-use Rattle.span_tracing_skeleton.specs.PlainData.{ResetStep, CloneHandleStep, ReleaseStep}
+use Rattle.span_tracing_skeleton.specs.PlainData.{ResetStep, CloneHandleStep, ReleaseStep, SetStep}
 use Rattle.span_tracing_skeleton.specs.Skeleton.{GuardValue, HeldStack, Skeleton, Answers, Unasked, Wanted, Dropped, Passed, Heard}
 use Rattle.span_tracing_skeleton.specs.declared.call.SpanCall.{SpanCall}
 use Rattle.span_tracing_skeleton.specs.declared.call.SpanName.{SpanName}
@@ -235,6 +235,7 @@ acted_is s (ReleaseStep handle) a range = record {
   callsites = range.callsites;
   spans = let_go_is (stack_behind s handle) s.stacks range.spans;
 }
+acted_is s (SetStep call) a range = range
 
 same_or : (o : Option Refusal) (s t : Skeleton) → IsSkeletonInRange s → IsSkeletonInRange t → IsSkeletonInRange (or_same o s t)
 same_or None s t old new = new
@@ -377,6 +378,7 @@ module _ (Q : PlainEvent → Type 0) where
     told_is s (ResetStep call) a range brings = tt
     told_is s (CloneHandleStep handle) a range brings = tt
     told_is s (ReleaseStep handle) a range brings = tt
+    told_is s (SetStep call) a range brings = tt
 
     unless_refused : (o : Option Refusal) (told : Option (Told N)) → IfSome told ListsAreSaid → IfSome (or_same o None told) ListsAreSaid
     unless_refused None told is = is

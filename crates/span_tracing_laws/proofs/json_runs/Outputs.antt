@@ -18,11 +18,14 @@ use Rattle.event_formatter_lines.specs.JsonLaws.{IsObjectLine}
 use Rattle.span_tracing_outputs.specs.OutputNotices.{Notice, heards}
 use Rattle.span_tracing_outputs.specs.OutputMachines.{Fate, Fated, Happened, OnSpan, PlainLine, PlainOut, Said, out_run, rested, with_fates}
 use Rattle.span_tracing_outputs.specs.OutputFolds.{Fates, Numbered, first_of, outs_told, rest_of}
+use Rattle.span_tracing_outputs.specs.OutputSettings.{out_set, outs_set}
 use Rattle.span_tracing_outputs.specs.TraceFollows.{at_rest, lines_offered}
 use Rattle.span_tracing_skeleton.specs.PlainData.{PlainStep, Request, GlobalStep, EventStep, EnabledStep, SpanStep, RecordStep}
 use Rattle.span_tracing_skeleton.specs.PlainData.{FollowsFromStep, EnterStep, ExitStep, CloneStep, CloseStep, DefaultStep, ResetStep}
-use Rattle.span_tracing_skeleton.specs.PlainData.{CloneHandleStep, ReleaseStep}
+use Rattle.span_tracing_skeleton.specs.PlainData.{CloneHandleStep, ReleaseStep, SetStep}
 use Rattle.span_tracing_skeleton.specs.Skeleton.{Answers}
+use Rattle.span_tracing_skeleton.specs.declared.setting.Setting.{Setting}
+use Rattle.span_tracing_skeleton.specs.declared.setting.Setting.TheVariants.{Ansi, SpanEvents}
 use Rattle.span_tracing_steps.specs.StackRequests.{own_values, request_of}
 use Rattle.span_tracing_outputs.specs.sinks.OutputRuns.{joined}
 use Rattle.span_tracing_outputs.specs.sinks.Runs.{lines_at}
@@ -30,6 +33,7 @@ use Rattle.span_tracing_laws.specs.json.Objects.{AreFormattedSaid, AreInRangeSai
 use Rattle.span_tracing_laws.specs.json.Objects.{IsFormattedSaid, IsInRangeSaid, IsJsonOut, IsPlaceInRange, JsonRuns, WritesEach}
 use Rattle.span_tracing_laws.specs.runs.Runs.{Plain, StepWithMask, Starved, Went, lines_left, lines_of, none_for, outs_left, plain_after}
 use Rattle.span_tracing_laws.specs.runs.Runs.{steps_of, turn_lines}
+use Rattle.span_tracing_laws.specs.runs.StepSettings.{OutputSetting, outs_with, setting_of}
 use Rattle.span_tracing_laws.specs.runs.StepNotices.{Told, told_of, told_to}
 use Rattle.span_tracing_laws.proofs.json_runs.NumbersInRange.{AreSaid, EachIsSaid, ListsAreSaid, Says, after_is, own_in_range, step_is_told}
 use Rattle.span_tracing_laws.specs.json_runs.JsonRuns.{AreObjectsRun, JsonOutputsRun}
@@ -72,7 +76,8 @@ module _ (Q : PlainEvent → Type 0) where
   -- an output that stays as it is in what matters, over notices
   module _ {N : Type 0} (n : Ghosts N) (J : PlainOut N → Type 0) (lines_are : (o : PlainOut N) → J o → AreObjectLines o.lines)
       (rests : (o : PlainOut N) → J o → J (rested o))
-      (goes : (o : PlainOut N) (ts : List Fated) → AreFatedSaid ts → J o → J (out_run n o ts)) where
+      (goes : (o : PlainOut N) (ts : List Fated) → AreFatedSaid ts → J o → J (out_run n o ts))
+      (sets : (o : Numbered N) (setting : Setting) → J o.out → J (out_set setting o).out) where
     abbrev StandsAt : List (Numbered N) → ℕ → Type 0
     StandsAt outs place = IfSome (slice_get outs place) (λ (o : Numbered N). J o.out)
 
@@ -93,6 +98,23 @@ module _ (Q : PlainEvent → Type 0) where
     offered_is at [] place is = tt
     offered_is at (o ∷ outs) zero is = run_at at o.out.lines (lines_are o.out is)
     offered_is at (o ∷ outs) (suc place) is = offered_is at outs place is
+
+    set_is : (outs : List (Numbered N)) (at place : ℕ) (setting : Setting) → StandsAt outs place → StandsAt (outs_set at setting outs) place
+    set_is [] at place setting is = tt
+    set_is (o ∷ outs) zero zero setting is = sets o setting is
+    set_is (o ∷ outs) zero (suc place) setting is = is
+    set_is (o ∷ outs) (suc at) zero setting is = is
+    set_is (o ∷ outs) (suc at) (suc place) setting is = set_is outs at place setting is
+
+    set_if : (b : Bool) (outs : List (Numbered N)) (at place : ℕ) (setting : Setting) → StandsAt outs place →
+        StandsAt (if b then outs_set at setting outs else outs) place
+    set_if true outs at place setting is = set_is outs at place setting is
+    set_if false outs at place setting is = is
+
+    with_is : (stack : ℕ) (c : Option OutputSetting) (outs : List (Numbered N)) (place : ℕ) → StandsAt outs place →
+        StandsAt (outs_with stack c outs) place
+    with_is stack None outs place is = is
+    with_is stack (Some c) outs place is = set_if (c.at.stack == stack) outs c.at.place place c.setting is
 
     module _ (R : List (ℕ × PlainValue) → Type 0) (event_is : (m : PlainMetadata) (r : Request) → IsPlaceInRange m → R r.values →
         Q (request_of m r)) where
@@ -125,8 +147,10 @@ module _ (Q : PlainEvent → Type 0) where
             Goes (plain_after n p (Went step a fates)) place ×
             IfSome (slice_get (turn_lines n p (Went step a fates) stack) place) AreObjectsRun
         turn_is p step a fates place is brings =
-            let by = by_told (told_to N stack (told_of N p.skeleton step a)) (p.outs stack) fates place
-            (told_to_is stack (told_of N p.skeleton step a) (step_is_told Q N R event_is p.skeleton step a is.0 brings)) is.1 in
+            let set = setting_of p.skeleton step in
+            let by = by_told (told_to N stack (told_of N p.skeleton step a)) (outs_with stack set (p.outs stack)) fates place
+            (told_to_is stack (told_of N p.skeleton step a) (step_is_told Q N R event_is p.skeleton step a is.0 brings))
+            (with_is stack set (p.outs stack) place is.1) in
             ((after_is p.skeleton step a is.0, by.0), by.1)
 
         pub run_is : (p : Plain N) (turns : List StepWithMask) (place : ℕ) → Goes p place →
@@ -184,6 +208,7 @@ both_brought (DefaultStep call) range formatted = tt
 both_brought (ResetStep call) range formatted = tt
 both_brought (CloneHandleStep handle) range formatted = tt
 both_brought (ReleaseStep handle) range formatted = tt
+both_brought (SetStep call) range formatted = tt
 
 all_brought : (steps : List PlainStep) → StepsInRange steps → EventsAreFormatted steps → AllByRecursion (Brings AreBoth ValuesInRange) steps
 all_brought [] range formatted = tt
@@ -222,6 +247,10 @@ module _ {N : Type 0} (n : Ghosts N) (laws : JsonRuns n) where
   rested_json : (o : PlainOut N) → IsJsonOut n o → IsJsonOut n (rested o)
   rested_json o json = record { format = json.format; fields = json.fields; kept = json.kept }
 
+  set_json : (o : Numbered N) (setting : Setting) → IsJsonOut n o.out → IsJsonOut n (out_set setting o).out
+  set_json o (Ansi on) json = record { format = json.format; fields = json.fields; kept = json.kept }
+  set_json o (SpanEvents moments) json = record { format = json.format; fields = json.fields; kept = json.kept }
+
   -- an output of JSON that tells no faults
   abbrev Quiet : PlainOut N → Type 0
   Quiet o = IsJsonOut n o × (o.config.log_internal_errors ≡ false) × AreObjectLines o.lines
@@ -231,6 +260,10 @@ module _ {N : Type 0} (n : Ghosts N) (laws : JsonRuns n) where
       let range = all_in_range ts said in
       let kept = laws.stays o ts range json in
       (kept.0, ap (λ c. c.log_internal_errors) kept.1.config ∙ off, laws.untold o ts range json off lines)
+
+  quiet_set : (o : Numbered N) (setting : Setting) → Quiet o.out → Quiet (out_set setting o).out
+  quiet_set o (Ansi on) quiet = (set_json o (Ansi on) quiet.0, quiet.1, quiet.2)
+  quiet_set o (SpanEvents moments) quiet = (set_json o (SpanEvents moments) quiet.0, quiet.1, quiet.2)
 
   -- an output of JSON that has a line of each event that can be formatted
   abbrev Whole : PlainOut N → Type 0
@@ -242,12 +275,15 @@ module _ {N : Type 0} (n : Ghosts N) (laws : JsonRuns n) where
       let kept = laws.stays o ts both.0 json in
       (kept.0, subst WritesEach (sym kept.1.format) each, laws.formatted o ts both.0 both.1 json each lines)
 
+  whole_set : (o : Numbered N) (setting : Setting) → Whole o.out → Whole (out_set setting o).out
+  whole_set o setting whole = (set_json o setting whole.0, whole.1, whole.2)
+
   pub outputs_run : JsonOutputsRun n
   outputs_run p turns skeleton range stack place o at json (inl off) =
-      run_is IsEventInRange n Quiet (λ x is. is.2) (λ x is. (rested_json x is.0, is.1, tt)) quiet_goes ValuesInRange event_in_range stack p
+      run_is IsEventInRange n Quiet (λ x is. is.2) (λ x is. (rested_json x is.0, is.1, tt)) quiet_goes quiet_set ValuesInRange event_in_range stack p
       turns place
       (skeleton, subst (λ (x : Option (Numbered N)). IfSome x (λ (y : Numbered N). Quiet y.out)) (sym at) (json.0, off, json.1)) range
   outputs_run p turns skeleton range stack place o at json (inr (each, formatted)) =
-      run_is IsBoth n Whole (λ x is. is.2) (λ x is. (rested_json x is.0, is.1, tt)) whole_goes AreBoth event_is_both stack p turns place
+      run_is IsBoth n Whole (λ x is. is.2) (λ x is. (rested_json x is.0, is.1, tt)) whole_goes whole_set AreBoth event_is_both stack p turns place
       (skeleton, subst (λ (x : Option (Numbered N)). IfSome x (λ (y : Numbered N). Whole y.out)) (sym at) (json.0, each, json.1))
       (all_brought (steps_of turns) range formatted)

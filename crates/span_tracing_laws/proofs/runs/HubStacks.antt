@@ -34,7 +34,7 @@ use Rattle.span_tracing_skeleton.specs.Skeleton.{Skeleton, HeldStack, GuardValue
 use Rattle.span_tracing_steps.specs.States.{StateValue, behind, held_in, held_stack, lane_default, or_retired, plain_default, plain_guard}
 use Rattle.span_tracing_steps.specs.States.{skeleton_of, stack_in}
 use Rattle.span_tracing_steps.specs.Steps as steps
-use Rattle.span_tracing_steps.specs.Steps.{CallGoes, put_away}
+use Rattle.span_tracing_steps.specs.Steps.{CallGoes, becoming, put_away}
 
 -- a list with another element at a place
 pub set_own : {A : Type 0} (xs : List A) (i : ℕ) (x : A) → i < length xs → slice_get (slice_set xs i x) i ≡ Some x
@@ -187,10 +187,6 @@ module _ {T : Type 0} where
   put_count None released retired = refl
   put_count (Some n) None retired = refl
   put_count (Some n) (Some x) retired = length-set retired n (Some x)
-
-  -- with this as the stack of the number
-  abbrev pub becoming : ℕ → T → StateValue T → StateValue T
-  becoming stack y v = record v { hub = record v.hub { subscribers = changed stack (becomes y) v.hub.subscribers } }
 
   stack_if : (b : Bool) (n : ℕ) (e : KeptSubscriber T) (es rest : List (KeptSubscriber T)) (x : T) →
       kept_value (if b then Some e else subscriber_with n es) ≡ Some x →

@@ -1,5 +1,6 @@
 -- Runs follow the plain machine.
-use Rattle.std.proofs.Common.{◌≡◌, inl, inr, ℕ, suc, List, [], ◌∷◌, map, length, Option, Some, None, refl, sym, ap, ◌∙◌, subst}
+use Rattle.std.proofs.Common.{◌≡◌, ◌==◌, inl, inr, Bool, true, false, if◌then◌else◌, ℕ, suc, List, [], ◌∷◌, map, length, Option, Some, None, refl, sym, ap, ◌∙◌, subst}
+use Rattle.std.specs.Option.{option_map}
 use Rattle.tracing_core_fields.specs.requests.PlainRequests.{PlainEvent}
 use Rattle.tracing_core_moments.specs.declared.at.At.{At}
 use Rattle.tracing_core_fields.specs.declared.requests.subscriber.Subscriber.{Ghosts as SubscriberGhosts}
@@ -13,6 +14,7 @@ use Rattle.span_tracing_outputs.specs.OutputNotices.{Notice}
 use Rattle.span_tracing_outputs.specs.OutputMachines.{PlainLine}
 use Rattle.span_tracing_outputs.specs.OutputFolds.{Fates, Numbered, outs_told, rest_of}
 use Rattle.span_tracing_outputs.specs.TraceFollows.{at_rest, lines_offered}
+use Rattle.span_tracing_outputs.specs.OutputSettings.{stack_set}
 use Rattle.span_tracing_outputs.specs.TraceStacks.{TraceStackValue}
 use Rattle.span_tracing_outputs.specs.Turns.{Lines}
 use Rattle.span_tracing_outputs.specs.sinks.OutputRuns.{EachComposes, RunsEach, joined, no_lines}
@@ -28,6 +30,8 @@ use Rattle.span_tracing_laws.specs.runs.Runs.{AgreesPlain, OutsAgree, Plain, Run
 use Rattle.span_tracing_laws.specs.runs.Runs.{TurnGoes, TurnsGo, Went, lines_left, lines_of, none_for, outs_left, plain_after, plain_reply}
 use Rattle.span_tracing_laws.specs.runs.Runs.{plain_run, replies_of, steps_of, turn_lines}
 use Rattle.span_tracing_laws.specs.runs.StepNotices.{Told, told_of, told_to}
+use Rattle.span_tracing_laws.specs.runs.StepSettings.{OutputSetting, outs_with, setting_of, stack_with}
+use Rattle.span_tracing_laws.proofs.runs.Settings.{set_agrees}
 
 length_map : {A B : Type 0} (f : A → B) (xs : List A) → length (map f xs) ≡ length xs
 length_map f [] = refl
@@ -114,18 +118,34 @@ module _ {N E F S : Type 0} (n : Ghosts N) (line_of : E → Settings → PlainCo
     abbrev TurnAgrees : Traced N E F S → StepWithMask → Reply → Traced N E F S → Plain N → Type 0
     TurnAgrees v t reply w p = (reply ≡ plain_reply n p t) × AgreesPlain n line_of g w (plain_after n p t) × AllTake v w (turn_lines n p t)
 
+    -- a setting leaves the sinks
+    unset : (stack : ℕ) (c : Option OutputSetting) (o p : Option Stack) (runs : List (List (At × PlainLine))) →
+        SinksTake n line_of g takes (stack_with stack c o) p runs → SinksTake n line_of g takes o p runs
+    unset stack None o p runs w = w
+    unset stack (Some c) o p runs w = by_if (c.at.stack == stack) o p w where
+      by_if : (b : Bool) (o p : Option Stack) →
+          SinksTake n line_of g takes (if b then option_map (λ x. stack_set x c.at.place c.setting) o else o) p runs →
+          SinksTake n line_of g takes o p runs
+      by_if false o p w = w
+      by_if true None p w = w
+      by_if true (Some x) None w = w
+      by_if true (Some x) (Some y) w = w
+
     went_agrees : (v : Traced N E F S) (step : PlainStep) (reply : Reply) (w : Traced N E F S)
         (f : FollowsStep n line_of g takes h v step reply w) (k : Skeleton) (outs : ℕ → List (Numbered N)) → skeleton_of v ≡ k →
         ((stack : ℕ) → OutsAgree n line_of g (stack_in v stack) (outs stack)) →
         TurnAgrees v (Went step f.answers f.fates) reply w (record { skeleton = k; outs = outs })
     went_agrees v step reply w f k outs same a =
         let follows = subst (λ (s : Skeleton). (number : ℕ) → OutputsFollow n line_of g takes
-        (told_to N number (told_of N s step f.answers)) f.fates (stack_in v number) (stack_in w number)) same f.outputs in
-        let left = λ (stack : ℕ). by_told (told_to N stack (told_of N k step f.answers)) f.fates (stack_in v stack) (stack_in w stack)
-        (outs stack) (follows stack) (a stack) in (
+        (told_to N number (told_of N s step f.answers)) f.fates (stack_with number (setting_of s step) (stack_in v number))
+        (stack_in w number)) same f.outputs in
+        let set = setting_of k step in
+        let left = λ (stack : ℕ). by_told (told_to N stack (told_of N k step f.answers)) f.fates (stack_with stack set (stack_in v stack))
+        (stack_in w stack) (outs_with stack set (outs stack)) (follows stack) (set_agrees n line_of g stack set (stack_in v stack)
+        (outs stack) (a stack)) in (
           f.replied ∙ ap (λ (s : Skeleton). reply_of s step f.answers) same,
           (f.skeleton ∙ ap (λ (s : Skeleton). after s step f.answers) same, λ stack. (left stack).0),
-          λ stack. (left stack).1,
+          λ stack. unset stack set (stack_in v stack) (stack_in w stack) _ (left stack).1,
         )
 
     stays : (o : Option Stack) (outs : List (Numbered N)) → OutsAgree n line_of g o outs → SinksTake n line_of g takes o o (none_for outs)

@@ -24,6 +24,7 @@ use Rattle.span_tracing_outputs.specs.OutputMachines.{PlainLine}
 use Rattle.span_tracing_outputs.specs.StackFollows.{LinedStack}
 use Rattle.span_tracing_outputs.specs.OutputFolds.{Numbered}
 use Rattle.span_tracing_outputs.specs.TraceFollows.{IsReady, Rests, TraceFollows}
+use Rattle.span_tracing_outputs.specs.OutputSettings.{outputs_in}
 use Rattle.span_tracing_outputs.specs.TraceStacks.{TraceMoves, TraceStackValue}
 use Rattle.span_tracing_outputs.specs.Turns.{Lines}
 use Rattle.span_tracing_skeleton.specs.Looking.{inner}
@@ -134,7 +135,7 @@ module _ {N E F S : Type 0} (n : Ghosts N) (line_of : E → Settings → PlainCo
   apart_from a b e = grind arith
 
   added_goes : (v : Traced N E F S) (x : Stack) (handle : ℕ) (w : Traced N E F S) → TraceIsReady g h v → IsReady g x →
-      AddGives sg v x (Ok handle) w →
+      AddGives sg outputs_in v x (Ok handle) w →
       TraceIsReady g h w × Keeps (Some x) (stack_in w v.hub.next) ×
       ((stack : ℕ) → (stack == v.hub.next) ≡ false → Keeps (stack_in v stack) (stack_in w stack))
   added_goes v x handle w ready own (told, adds, left) =

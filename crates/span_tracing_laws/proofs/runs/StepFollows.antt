@@ -2,6 +2,7 @@
 use Rattle.std.proofs.Common.{◌≡◌, inl, inr, ℕ, Bool, true, false, not, ◌==◌, nat_lt, List, [], length, Option, Some, None, IfSome, Result}
 use Rattle.std.proofs.Common.{Ok, Err, refl, sym, ap, ◌∙◌, subst, arith}
 use Rattle.std.specs.Cmp.{unsigned_Decides}
+use Rattle.std.specs.Option.{option_map}
 use Rattle.std.specs.Prelude.{IsSome, if◌then◌else◌, slice_get}
 use Rattle.std.proofs.lemmas.List.{length-map}
 use Rattle.tracing_core_fields.specs.PlainMetadata.{PlainMetadata}
@@ -41,6 +42,7 @@ use Rattle.event_formatter.specs.formats.Contexts.{PlainContext}
 use Rattle.span_tracing_outputs.specs.OutputNotices.{close_told, enter_told, exit_told, span_told}
 use Rattle.span_tracing_outputs.specs.OutputMachines.{Made, PlainLine, Recorded}
 use Rattle.span_tracing_outputs.specs.OutputFolds.{Fates, call_lists, event_lists}
+use Rattle.span_tracing_outputs.specs.OutputSettings.{stack_set}
 use Rattle.span_tracing_outputs.specs.StackFollows.{IfTaken}
 use Rattle.span_tracing_outputs.specs.TraceFollows.{CloseIf, EventIf, IsReady, RefusedBy, Rests, StepGoes as OutputsStep, TraceFollows}
 use Rattle.span_tracing_outputs.specs.TraceFollows.{TraceGoes, numbers_in, verdicts_from}
@@ -50,14 +52,14 @@ use Rattle.span_tracing_skeleton.specs.Acting as acting
 use Rattle.span_tracing_skeleton.specs.Acting.{cloned, entered, given_up, left, parent_id, told_parent, with_made, with_registry}
 use Rattle.span_tracing_skeleton.specs.Looking as looking
 use Rattle.span_tracing_skeleton.specs.Looking.{callsite_of, default_of, has_open, known, named, or_global, reach, reached, reached_by}
-use Rattle.span_tracing_skeleton.specs.Looking.{inner, registry_at}
+use Rattle.span_tracing_skeleton.specs.Looking.{inner, is_held, output_at, registry_at}
 use Rattle.span_tracing_skeleton.specs.Machine.{acted, answered, is_closed, next_name, or_refused, or_same}
 use Rattle.span_tracing_skeleton.specs.Order.{call_refusal, refusal_of, request_refusal}
 use Rattle.span_tracing_skeleton.specs.PlainData.{PlainStep, Request, RecordRequest, on_span, GlobalStep, EventStep, EnabledStep, SpanStep}
 use Rattle.span_tracing_skeleton.specs.PlainData.{RecordStep, FollowsFromStep, EnterStep, ExitStep, CloneStep, CloseStep, DefaultStep}
-use Rattle.span_tracing_skeleton.specs.PlainData.{ResetStep, CloneHandleStep, ReleaseStep}
+use Rattle.span_tracing_skeleton.specs.PlainData.{ResetStep, CloneHandleStep, ReleaseStep, SetStep}
 use Rattle.span_tracing_skeleton.specs.Refusing.{bare_refusal, callsite_refusal, count_refusal, first, ids_refusal, lane_refusal}
-use Rattle.span_tracing_skeleton.specs.Refusing.{moment_refusal}
+use Rattle.span_tracing_skeleton.specs.Refusing.{moment_refusal, output_refusal_by}
 use Rattle.span_tracing_skeleton.specs.Refusing.{parent_refusal}
 use Rattle.span_tracing_skeleton.specs.Skeleton.{Skeleton, Answers, Unasked, Wanted, Dropped, Passed, Heard}
 use Rattle.span_tracing_skeleton.specs.declared.call.DefaultCall.{DefaultCall}
@@ -72,27 +74,32 @@ use Rattle.span_tracing_skeleton.specs.declared.call.SpanCall.{SpanCall}
 use Rattle.span_tracing_skeleton.specs.declared.call.SpanName.{SpanName}
 use Rattle.span_tracing_skeleton.specs.SpanNames.{name_of}
 use Rattle.span_tracing_skeleton.specs.declared.refusal.Refusal.{Refusal}
-use Rattle.span_tracing_skeleton.specs.declared.refusal.Refusal.TheVariants.{OutOfMemory}
+use Rattle.span_tracing_skeleton.specs.declared.refusal.Refusal.TheVariants.{NoOutput, OutOfMemory, ReleasedStack}
+use Rattle.span_tracing_skeleton.specs.declared.setting.OutputPlace.{OutputPlace}
+use Rattle.span_tracing_skeleton.specs.declared.setting.Setting.{Setting}
+use Rattle.span_tracing_skeleton.specs.declared.setting.SettingCall.{SettingCall}
 use Rattle.span_tracing_steps.specs.States.{behind, held_in, or_retired, stack_in}
 use Rattle.span_tracing_steps.specs.Steps as steps
 use Rattle.span_tracing_steps.specs.Steps.{CallGoes, CloneGoes, CloseGoes, EnterGoes, EventGoes, ExitGoes, FollowsGoes, OrStarved}
 use Rattle.span_tracing_steps.specs.Steps.{QuestionGoes, RecordGoes, SpanGoes, StepGives, StepGoes, StepUnless, ValuesGo, put_away}
-use Rattle.span_tracing_steps.specs.Steps.{span_reply}
+use Rattle.span_tracing_steps.specs.Steps.{becoming, set_in, span_reply, with_setting}
 use Rattle.span_tracing_steps.specs.StackRequests.{own_values, place_at, request_of}
 use Rattle.span_tracing_steps.specs.contracts.callsite.TraceCallsiteCallsite.TheImpl.{ghosts}
 use Rattle.span_tracing_laws.specs.runs.StepFollows.{AnswersEvent, AnswersQuestion, AnswersSpan, AskedWhere, Follows, FollowsStep}
 use Rattle.span_tracing_laws.specs.runs.StepFollows.{IsAnswered, OutputsFollow, StackFollows, TraceIsReady, Traced, registry_of}
 use Rattle.span_tracing_laws.specs.runs.StepFollows.{skeleton_of}
 use Rattle.span_tracing_laws.specs.runs.StepNotices.{Told, close_told_by, enter_told_by, event_told_by, exit_told_by, record_told_by}
+use Rattle.span_tracing_laws.specs.runs.StepSettings.{OutputSetting, setting_by, setting_for, stack_with}
 use Rattle.span_tracing_laws.specs.runs.StepNotices.{span_told_by, told_by, told_to, values_told_by}
-use Rattle.span_tracing_laws.proofs.runs.HubStacks.{asked_same, back_both, became_elsewhere, became_in, became_other, became_own, becoming}
+use Rattle.span_tracing_laws.proofs.runs.HubStacks.{asked_same, back_both, became_elsewhere, became_in, became_other, became_own}
 use Rattle.span_tracing_laws.proofs.runs.HubStacks.{becoming_same, behind_same, default_skeleton, global_skeleton, handle_skeleton}
 use Rattle.span_tracing_laws.proofs.runs.HubStacks.{held_same, held_serials, held_there, moved_by, put_count, reach_held, registry_given}
 use Rattle.span_tracing_laws.proofs.runs.HubStacks.{registry_stays, registry_there, release_skeleton, reset_skeleton, skeleton_became}
 use Rattle.span_tracing_laws.proofs.runs.HubStacks.{with_number}
 use Rattle.span_tracing_laws.proofs.runs.UnrefusedSteps.{call_held, call_open, clone_none, close_none, first_none, follows_held}
 use Rattle.span_tracing_laws.proofs.runs.UnrefusedSteps.{handle_bare}
-use Rattle.span_tracing_laws.proofs.runs.UnrefusedSteps.{ids_left, open_bare, parent_known, second_none}
+use Rattle.span_tracing_laws.proofs.runs.UnrefusedSteps.{ids_left, open_bare, open_by, parent_known, second_none}
+use Rattle.span_tracing_outputs.proofs.OutputSettings.{set_ready}
 
 -- what is told to a stack
 module _ (N : Type 0) where
@@ -128,6 +135,11 @@ module _ {N E F S : Type 0} (n : Ghosts N) (line_of : E → Settings → PlainCo
   abbrev Outs : Option (Told N) → Fates → Traced N E F S → Traced N E F S → Type 0
   Outs told fates v w = (number : ℕ) → OutputsFollow n line_of g takes (told_to N number told) fates (stack_in v number) (stack_in w number)
 
+  -- so they do from a setting on
+  abbrev Sets : Option OutputSetting → Option (Told N) → Fates → Traced N E F S → Traced N E F S → Type 0
+  Sets c told fates v w = (number : ℕ) → OutputsFollow n line_of g takes (told_to N number told) fates
+      (stack_with number c (stack_in v number)) (stack_in w number)
+
   rests_same : (x : Stack) → Rests n line_of g takes x x
   rests_same x = record { rows = refl; sinks = refl; agreed = λ outs a. a }
 
@@ -142,17 +154,19 @@ module _ {N E F S : Type 0} (n : Ghosts N) (line_of : E → Settings → PlainCo
 
   -- a step that reading doesn't refuse
   made : (v : Traced N E F S) (step : PlainStep) (reply : Reply) (w : Traced N E F S) (a : Answers) (fates : Fates) →
-      refusal_of (skeleton_of v) step ≡ None → IsAnswered g h v step a → reply ≡ answered (skeleton_of v) step a →
-      skeleton_of w ≡ acted (skeleton_of v) step a → Outs (told_by N (skeleton_of v) step a) fates v w →
-      Follows n line_of g takes h v step reply w
-  made v step reply w a fates none asked replied skeleton outputs =
+      refusal_of (skeleton_of v) step ≡ None → setting_by (skeleton_of v) step ≡ None → IsAnswered g h v step a →
+      reply ≡ answered (skeleton_of v) step a → skeleton_of w ≡ acted (skeleton_of v) step a →
+      Outs (told_by N (skeleton_of v) step a) fates v w → Follows n line_of g takes h v step reply w
+  made v step reply w a fates none calm asked replied skeleton outputs =
       inl (record {
         answers = a;
         fates = fates;
         asked = λ _. asked;
         replied = replied ∙ ap (λ (o : Option Refusal). or_refused o (answered (skeleton_of v) step a)) (sym none);
         skeleton = skeleton ∙ ap (λ (o : Option Refusal). or_same o (skeleton_of v) (acted (skeleton_of v) step a)) (sym none);
-        outputs = subst (λ (o : Option Refusal). Outs (or_same o None (told_by N (skeleton_of v) step a)) fates v w) (sym none) outputs;
+        outputs = subst (λ (o : Option Refusal). Sets (or_same o None (setting_by (skeleton_of v) step))
+            (or_same o None (told_by N (skeleton_of v) step a)) fates v w) (sym none)
+            (subst (λ (c : Option OutputSetting). Sets c (told_by N (skeleton_of v) step a) fates v w) (sym calm) outputs);
       })
 
   -- one that it refuses
@@ -164,26 +178,27 @@ module _ {N E F S : Type 0} (n : Ghosts N) (line_of : E → Settings → PlainCo
     asked = λ none. absurd (let clash : Some refusal ≡ None = sym is ∙ none in cc);
     replied = replied ∙ ap (λ (o : Option Refusal). or_refused o (answered (skeleton_of v) step Unasked)) (sym is);
     skeleton = ap skeleton_of same ∙ ap (λ (o : Option Refusal). or_same o (skeleton_of v) (acted (skeleton_of v) step Unasked)) (sym is);
-    outputs = subst (λ (o : Option Refusal). Outs (or_same o None (told_by N (skeleton_of v) step Unasked)) [] v w) (sym is)
+    outputs = subst (λ (o : Option Refusal). Sets (or_same o None (setting_by (skeleton_of v) step))
+        (or_same o None (told_by N (skeleton_of v) step Unasked)) [] v w) (sym is)
         (rest_all [] v w (λ number. ap (λ (u : Traced N E F S). stack_in u number) same));
   }
 
   -- a step that changes no stack, and of which nobody is told
   unmoved : (v : Traced N E F S) (step : PlainStep) (reply : Reply) (w : Traced N E F S) (a : Answers) →
-      refusal_of (skeleton_of v) step ≡ None → IsAnswered g h v step a → reply ≡ answered (skeleton_of v) step a →
-      skeleton_of w ≡ acted (skeleton_of v) step a → told_by N (skeleton_of v) step a ≡ None →
+      refusal_of (skeleton_of v) step ≡ None → setting_by (skeleton_of v) step ≡ None → IsAnswered g h v step a →
+      reply ≡ answered (skeleton_of v) step a → skeleton_of w ≡ acted (skeleton_of v) step a → told_by N (skeleton_of v) step a ≡ None →
       ((number : ℕ) → stack_in w number ≡ stack_in v number) → Follows n line_of g takes h v step reply w
-  unmoved v step reply w a none asked replied skeleton untold same =
-      made v step reply w a [] none asked replied skeleton
+  unmoved v step reply w a none calm asked replied skeleton untold same =
+      made v step reply w a [] none calm asked replied skeleton
       (subst (λ (told : Option (Told N)). Outs told [] v w) (sym untold) (rest_all [] v w same))
 
   -- one that changes nothing
   rested : (v : Traced N E F S) (step : PlainStep) (reply : Reply) (w : Traced N E F S) (a : Answers) →
-      refusal_of (skeleton_of v) step ≡ None → IsAnswered g h v step a → reply ≡ answered (skeleton_of v) step a →
-      acted (skeleton_of v) step a ≡ skeleton_of v → told_by N (skeleton_of v) step a ≡ None → w ≡ v → TraceIsReady g h v →
+      refusal_of (skeleton_of v) step ≡ None → setting_by (skeleton_of v) step ≡ None → IsAnswered g h v step a →
+      reply ≡ answered (skeleton_of v) step a → acted (skeleton_of v) step a ≡ skeleton_of v → told_by N (skeleton_of v) step a ≡ None → w ≡ v → TraceIsReady g h v →
       Goes v step reply w
-  rested v step reply w a none asked replied still untold same ready = (
-    unmoved v step reply w a none asked replied (ap skeleton_of same ∙ sym still) untold
+  rested v step reply w a none calm asked replied still untold same ready = (
+    unmoved v step reply w a none calm asked replied (ap skeleton_of same ∙ sym still) untold
         (λ number. ap (λ (u : Traced N E F S). stack_in u number) same),
     subst (TraceIsReady g h) (sym same) ready,
   )
@@ -273,6 +288,31 @@ module _ {N E F S : Type 0} (n : Ghosts N) (line_of : E → Settings → PlainCo
       (sym (told_other N stack number told for apart))
       (subst (λ (o : Option Stack). OutputsFollow n line_of g takes None fates (stack_in v number) o) (sym same)
       (rest_same fates (stack_in v number))))
+
+  -- the stack of the output has the setting, and the others rest
+  setting_after : (v w : Traced N E F S) (o : OutputPlace) (setting : Setting) (x : Stack) → held_in v o.stack ≡ Some x →
+      w ≡ becoming o.stack (stack_set x o.place setting) v → Sets (setting_for (Some o) setting) None [] v w
+  setting_after v w o setting x there is number =
+      by_bool (o.stack == number)
+      (λ here.
+      let same : o.stack ≡ number = (unsigned_Decides o.stack number).0 here in
+      let y = stack_set x o.place setting in
+      let before : stack_in v o.stack ≡ Some x = ap (λ (p : Option Stack). or_retired p (slice_get v.retired o.stack)) there in
+      let later : stack_in w o.stack ≡ Some y = ap (λ (u : Traced N E F S). stack_in u o.stack) is ∙ became_in v o.stack x y there in
+      subst (λ k. OutputsFollow n line_of g takes None [] (stack_with k (setting_for (Some o) setting) (stack_in v k)) (stack_in w k)) same
+      (subst (λ (b : Bool). OutputsFollow n line_of g takes None [] (if b then option_map (λ z. stack_set z o.place setting)
+      (stack_in v o.stack) else stack_in v o.stack) (stack_in w o.stack)) (sym ((unsigned_Decides o.stack o.stack).1 refl))
+      (subst (λ (p : Option Stack). OutputsFollow n line_of g takes None [] (option_map (λ z. stack_set z o.place setting) p)
+      (stack_in w o.stack)) (sym before)
+      (subst (λ (p : Option Stack). OutputsFollow n line_of g takes None [] (Some y) p) (sym later) (rests_same y)))))
+      (λ apart.
+      let other : (number == o.stack) ≡ false = apart_from N number number o.stack refl apart in
+      let same : stack_in w number ≡ stack_in v number = ap (λ (u : Traced N E F S). stack_in u number) is ∙
+      became_elsewhere v o.stack (stack_set x o.place setting) number other in
+      subst (λ (b : Bool). OutputsFollow n line_of g takes None [] (if b then option_map (λ z. stack_set z o.place setting)
+      (stack_in v number) else stack_in v number) (stack_in w number)) (sym apart)
+      (subst (λ (p : Option Stack). OutputsFollow n line_of g takes None [] (stack_in v number) p) (sym same)
+      (rest_same [] (stack_in v number))))
 
   -- the same, of what a step tells
   told_after : (v w : Traced N E F S) (stack : ℕ) (x y : Stack) (by : Option (Told N)) (told : Told N) (fates : Fates) → by ≡ Some told →
@@ -390,7 +430,7 @@ module _ {N E F S : Type 0} (n : Ghosts N) (line_of : E → Settings → PlainCo
         refusal_of (skeleton_of v) (EventStep e) ≡ None → reply ≡ Done → EventGoes sg o k v e w → Goes v (EventStep e) reply w
     event_goes v e reply w None k at is ready none done same =
         let s = skeleton_of v in
-        rested v (EventStep e) reply w Unasked none
+        rested v (EventStep e) reply w Unasked none refl
         (subst (λ (o : Option ℕ). AskedWhere o (known s e.callsite false)
         (λ stack m b. AnswersEvent g h (held_in v stack) (request_of m e) (place_at e.lane e.moment) b) Unasked) (sym at) refl) done refl
         (event_untold s e (reach s e.lane) (known s e.callsite false)) same ready
@@ -407,7 +447,7 @@ module _ {N E F S : Type 0} (n : Ghosts N) (line_of : E → Settings → PlainCo
         (parent_known s x.stack.registry e.lane stack e.parent at home parent) call.1).1 in
         let answers = Heard told.0 told.1 in
         let asks = λ (number : ℕ) (d : PlainMetadata) (b : Answers). AnswersEvent g h (held_in v number) (request_of d e) here b in (
-          made v (EventStep e) reply w answers told.3.fates none
+          made v (EventStep e) reply w answers told.3.fates none refl
               (subst (λ (o : Option ℕ). AskedWhere o (known s e.callsite false) asks answers) (sym at)
               (subst (λ (c : Option PlainMetadata). AskedWhere (Some stack) c asks answers) (sym is)
               (subst (λ (o : Option Stack). AnswersEvent g h o q here answers) (sym there) told.2))) done
@@ -426,7 +466,7 @@ module _ {N E F S : Type 0} (n : Ghosts N) (line_of : E → Settings → PlainCo
         Goes v (EnabledStep ask) reply w
     question_goes v ask reply w None k at is ready none goes =
         let s = skeleton_of v in
-        rested v (EnabledStep ask) reply w Unasked none
+        rested v (EnabledStep ask) reply w Unasked none refl
         (subst (λ (o : Option ℕ). AskedWhere o (named s.callsites ask.callsite.0)
         (λ stack m b. AnswersQuestion g h (held_in v stack) m (place_at ask.lane ask.moment) b) Unasked) (sym at) refl) goes.0 refl refl
         goes.1 ready
@@ -437,7 +477,7 @@ module _ {N E F S : Type 0} (n : Ghosts N) (line_of : E → Settings → PlainCo
         let (x, there) = reached_there v ask.lane stack at in
         let call = called stack x (Asked m here) goes.0 v w ready there goes.1 in
         let asks = λ (number : ℕ) (d : PlainMetadata) (b : Answers). AnswersQuestion g h (held_in v number) d here b in
-        rested v (EnabledStep ask) reply w (Wanted goes.0) none
+        rested v (EnabledStep ask) reply w (Wanted goes.0) none refl
         (subst (λ (o : Option ℕ). AskedWhere o (named s.callsites ask.callsite.0) asks (Wanted goes.0)) (sym at)
         (subst (λ (c : Option PlainMetadata). AskedWhere (Some stack) c asks (Wanted goes.0)) (sym is)
         (subst (λ (o : Option Stack). AnswersQuestion g h o m here (Wanted goes.0)) (sym there) call.1.0))) goes.2 refl refl
@@ -463,7 +503,7 @@ module _ {N E F S : Type 0} (n : Ghosts N) (line_of : E → Settings → PlainCo
         refusal_of (skeleton_of v) (SpanStep q) ≡ None → SpanGoes sg o k v q reply w → Goes v (SpanStep q) reply w
     span_goes v q reply w None k at is ready none goes =
         let s = skeleton_of v in
-        rested v (SpanStep q) reply w Unasked none
+        rested v (SpanStep q) reply w Unasked none refl
         (subst (λ (o : Option ℕ). AskedWhere o (known s q.callsite true)
         (λ stack m b. AnswersSpan g h (held_in v stack) m (place_at q.lane q.moment) b) Unasked) (sym at) refl) goes.0 refl
         (span_untold s q (reach s q.lane) (known s q.callsite true)) goes.1 ready
@@ -491,7 +531,7 @@ module _ {N E F S : Type 0} (n : Ghosts N) (line_of : E → Settings → PlainCo
         let (x, there) = reached_there v q.lane stack at in
         let call = called stack x (SpanMade (request_of m q) here) (Ok None) v w ready there goes in
         let asks = λ (number : ℕ) (d : PlainMetadata) (b : Answers). AnswersSpan g h (held_in v number) d here b in (
-          made v (SpanStep q) reply w Dropped [] none
+          made v (SpanStep q) reply w Dropped [] none refl
               (subst (λ (o : Option ℕ). AskedWhere o (known s q.callsite true) asks Dropped) (sym at)
               (subst (λ (c : Option PlainMetadata). AskedWhere (Some stack) c asks Dropped) (sym is)
               (subst (λ (o : Option Stack). AnswersSpan g h o m here Dropped) (sym there) call.1.1))) told
@@ -511,7 +551,7 @@ module _ {N E F S : Type 0} (n : Ghosts N) (line_of : E → Settings → PlainCo
         let outs = call.1.5 in
         let asks = λ (number : ℕ) (d : PlainMetadata) (b : Answers). AnswersSpan g h (held_in v number) d here b in
         let with_new = λ (r : RegistryValue). with_span r m (parent_id r q.lane q.parent) passed in (
-          made v (SpanStep q) reply w (Passed passed) outs.fates none
+          made v (SpanStep q) reply w (Passed passed) outs.fates none refl
               (subst (λ (o : Option ℕ). AskedWhere o (known s q.callsite true) asks (Passed passed)) (sym at)
               (subst (λ (c : Option PlainMetadata). AskedWhere (Some stack) c asks (Passed passed)) (sym is)
               (subst (λ (o : Option Stack). AnswersSpan g h o m here (Passed passed)) (sym there) (call.1.0, call.1.1, call.1.2, refl))))
@@ -537,7 +577,7 @@ module _ {N E F S : Type 0} (n : Ghosts N) (line_of : E → Settings → PlainCo
         (k : Option PlainMetadata) → r.span ≡ Some name → callsite_of (skeleton_of v) name ≡ k → TraceIsReady g h v →
         refusal_of (skeleton_of v) (RecordStep r) ≡ None → reply ≡ Done → ValuesGo sg name k v r w → Goes v (RecordStep r) reply w
     values_go v r name reply w None on is ready none done same =
-        rested v (RecordStep r) reply w Unasked none refl done refl
+        rested v (RecordStep r) reply w Unasked none refl refl done refl
         (ap (record_told_by N (skeleton_of v) r) on ∙ ap (values_told_by N (skeleton_of v) r name) is) same ready
     values_go v r name reply w (Some m) on is ready none done goes =
         let s = skeleton_of v in
@@ -553,7 +593,7 @@ module _ {N E F S : Type 0} (n : Ghosts N) (line_of : E → Settings → PlainCo
         let outs : OutputsStep n line_of g takes here (lists kept) kept x call.0 =
         subst (λ (a : Result (Unit {0}) RequestError). IfTaken a x (OutputsStep n line_of g takes here (lists kept) kept x call.0) call.0)
         answer call.1.1 in (
-          made v (RecordStep r) reply w Unasked outs.fates none refl done
+          made v (RecordStep r) reply w Unasked outs.fates none refl refl done
               (skeleton_stays v w name.stack x call.0 there call.2 outs.skeleton)
               (told_after v w name.stack x call.0 (record_told_by N s r r.span)
               (record { stack = name.stack; at = here; lists = lists kept }) outs.fates
@@ -566,7 +606,7 @@ module _ {N E F S : Type 0} (n : Ghosts N) (line_of : E → Settings → PlainCo
     record_goes : (v : Traced N E F S) (r : RecordRequest) (span : Option SpanName) (reply : Reply) (w : Traced N E F S) → r.span ≡ span →
         TraceIsReady g h v → refusal_of (skeleton_of v) (RecordStep r) ≡ None → reply ≡ Done → RecordGoes sg registry_of span v r w →
         Goes v (RecordStep r) reply w
-    record_goes v r None reply w on ready none done same = rested v (RecordStep r) reply w Unasked none refl done refl
+    record_goes v r None reply w on ready none done same = rested v (RecordStep r) reply w Unasked none refl refl done refl
         (ap (record_told_by N (skeleton_of v) r) on) same ready
     record_goes v r (Some name) reply w on ready none done goes = values_go v r name reply w (callsite_of (skeleton_of v) name) on refl
         ready none done goes
@@ -575,22 +615,22 @@ module _ {N E F S : Type 0} (n : Ghosts N) (line_of : E → Settings → PlainCo
     follows_goes : (v : Traced N E F S) (ask : FollowsCall) (span follows : Option SpanName) (reply : Reply) (w : Traced N E F S) →
         ask.span ≡ span → TraceIsReady g h v → refusal_of (skeleton_of v) (FollowsFromStep ask) ≡ None → reply ≡ Done →
         FollowsGoes sg span follows v ask w → Goes v (FollowsFromStep ask) reply w
-    follows_goes v ask None follows reply w on ready none done same = rested v (FollowsFromStep ask) reply w Unasked none refl done
+    follows_goes v ask None follows reply w on ready none done same = rested v (FollowsFromStep ask) reply w Unasked none refl refl done
         refl refl same ready
-    follows_goes v ask (Some name) None reply w on ready none done same = rested v (FollowsFromStep ask) reply w Unasked none refl done
+    follows_goes v ask (Some name) None reply w on ready none done same = rested v (FollowsFromStep ask) reply w Unasked none refl refl done
         refl refl same ready
     follows_goes v ask (Some name) (Some followed) reply w on ready none done goes =
         let (x, there) = held_there registry_of v name.stack (follows_held (skeleton_of v) ask name on none) in
         let call = called name.stack x (FollowsRecorded name.id.value followed.id.value (place_at ask.lane ask.moment)) goes.0 v w ready
         there goes.1 in
-        rested v (FollowsFromStep ask) reply w Unasked none refl done refl refl (stays v w name.stack x call.0 there call.2 call.1.1) ready
+        rested v (FollowsFromStep ask) reply w Unasked none refl refl done refl refl (stays v w name.stack x call.0 there call.2 call.1.1) ready
 
     -- an entry
     enter_goes : (v : Traced N E F S) (ask : SpanCall) (span : Option SpanName) (reply : Reply) (w : Traced N E F S) → ask.span ≡ span →
         TraceIsReady g h v → refusal_of (skeleton_of v) (EnterStep ask) ≡ None → EnterGoes sg span v ask reply w →
         Goes v (EnterStep ask) reply w
     enter_goes v ask None reply w on ready none goes =
-        rested v (EnterStep ask) reply w Unasked none refl goes.0 (ap (entered (skeleton_of v) ask.lane) on)
+        rested v (EnterStep ask) reply w Unasked none refl refl goes.0 (ap (entered (skeleton_of v) ask.lane) on)
         (ap (enter_told_by N (skeleton_of v) ask) on) goes.1 ready
     enter_goes v ask (Some name) reply w on ready none (Ok done, goes, told) =
         let s = skeleton_of v in
@@ -601,7 +641,7 @@ module _ {N E F S : Type 0} (n : Ghosts N) (line_of : E → Settings → PlainCo
         let call = called name.stack x (Entered id here) (Ok done) v w ready there goes in
         let outs = call.1.1 in
         let lists = λ (y : RegistryValue). call_lists (enter_told y here id) in (
-          made v (EnterStep ask) reply w Unasked outs.fates none refl told
+          made v (EnterStep ask) reply w Unasked outs.fates none refl refl told
               (skeleton_after v w name.stack call.0 (with_entry (registry_at s name.stack) ask.lane id) call.2
               (outs.skeleton ∙ ap (λ (y : RegistryValue). with_entry y ask.lane id) (sym home)) ∙ ap (entered s ask.lane) (sym on))
               (told_after v w name.stack x call.0 (enter_told_by N s ask ask.span)
@@ -624,7 +664,7 @@ module _ {N E F S : Type 0} (n : Ghosts N) (line_of : E → Settings → PlainCo
         TraceIsReady g h v → refusal_of (skeleton_of v) (ExitStep ask) ≡ None → reply ≡ Done → ExitGoes sg span v ask w →
         Goes v (ExitStep ask) reply w
     exit_goes v ask None reply w on ready none done same =
-        rested v (ExitStep ask) reply w Unasked none refl done (ap (left (skeleton_of v) ask.lane) on)
+        rested v (ExitStep ask) reply w Unasked none refl refl done (ap (left (skeleton_of v) ask.lane) on)
         (ap (exit_told_by N (skeleton_of v) ask) on) same ready
     exit_goes v ask (Some name) reply w on ready none done goes =
         let s = skeleton_of v in
@@ -635,7 +675,7 @@ module _ {N E F S : Type 0} (n : Ghosts N) (line_of : E → Settings → PlainCo
         let call = called name.stack x (Exited id here) tt v w ready there goes in
         let outs = call.1 in
         let lists = λ (y : RegistryValue). call_lists (exit_told y here id) in (
-          made v (ExitStep ask) reply w Unasked outs.fates none refl done
+          made v (ExitStep ask) reply w Unasked outs.fates none refl refl done
               (skeleton_after v w name.stack call.0 (swept (without_entry (registry_at s name.stack) ask.lane id)) call.2
               (outs.skeleton ∙ ap (λ (y : RegistryValue). swept (without_entry y ask.lane id)) (sym home)) ∙ ap (left s ask.lane) (sym on))
               (told_after v w name.stack x call.0 (exit_told_by N s ask ask.span)
@@ -650,7 +690,7 @@ module _ {N E F S : Type 0} (n : Ghosts N) (line_of : E → Settings → PlainCo
     clone_goes : (v : Traced N E F S) (ask : SpanCall) (span : Option SpanName) (reply : Reply) (w : Traced N E F S) → ask.span ≡ span →
         TraceIsReady g h v → refusal_of (skeleton_of v) (CloneStep ask) ≡ None → reply ≡ Done → CloneGoes sg span v ask w →
         Goes v (CloneStep ask) reply w
-    clone_goes v ask None reply w on ready none done same = rested v (CloneStep ask) reply w Unasked none refl done
+    clone_goes v ask None reply w on ready none done same = rested v (CloneStep ask) reply w Unasked none refl refl done
         (ap (cloned (skeleton_of v)) on) refl same ready
     clone_goes v ask (Some name) reply w on ready none done goes =
         let s = skeleton_of v in
@@ -665,7 +705,7 @@ module _ {N E F S : Type 0} (n : Ghosts N) (line_of : E → Settings → PlainCo
         let registry : call.0.stack.registry ≡ with_handle x.stack.registry id =
         ap (λ (p : Result ℕ RequestError × RegistryValue). p.1) call.1.0 ∙
         ap (λ (o : Option RequestError). refusals.or_same o x.stack.registry (with_handle x.stack.registry id)) free in (
-          made v (CloneStep ask) reply w Unasked [] none refl done
+          made v (CloneStep ask) reply w Unasked [] none refl refl done
               (skeleton_after v w name.stack call.0 (with_handle (registry_at s name.stack) id) call.2
               (ap bare registry ∙ handle_bare x.stack.registry id ∙ ap (λ (y : RegistryValue). with_handle y id) (sym home)) ∙
               ap (cloned s) (sym on))
@@ -677,7 +717,7 @@ module _ {N E F S : Type 0} (n : Ghosts N) (line_of : E → Settings → PlainCo
     close_goes : (v : Traced N E F S) (ask : SpanCall) (span : Option SpanName) (reply : Reply) (w : Traced N E F S) → ask.span ≡ span →
         TraceIsReady g h v → refusal_of (skeleton_of v) (CloseStep ask) ≡ None → CloseGoes sg span v ask reply w →
         Goes v (CloseStep ask) reply w
-    close_goes v ask None reply w on ready none goes = rested v (CloseStep ask) reply w Unasked none refl
+    close_goes v ask None reply w on ready none goes = rested v (CloseStep ask) reply w Unasked none refl refl
         (goes.0 ∙ ap (λ (span : Option SpanName). Closed (is_closed (skeleton_of v) span)) (sym on)) (ap (given_up (skeleton_of v)) on)
         (ap (close_told_by N (skeleton_of v) ask) on) goes.1 ready
     close_goes v ask (Some name) reply w on ready none goes =
@@ -698,7 +738,7 @@ module _ {N E F S : Type 0} (n : Ghosts N) (line_of : E → Settings → PlainCo
         let open_later : is_open kin_in later.spans id ≡ has_open (given_up s (Some name)) name =
         ap (λ (y : RegistryValue). is_open kin_in y.spans id) (sym (registry_given s name.stack later held_so)) in
         let lists = λ (y : RegistryValue). call_lists (close_told y here id) in (
-          made v (CloseStep ask) reply w Unasked outs.fates none refl
+          made v (CloseStep ask) reply w Unasked outs.fates none refl refl
               (goes.2 ∙ ap (λ (b : Bool). Closed b)
               (closed.0 ∙ ap not (sym (open_bare call.0.stack.registry.spans id) ∙
               ap (λ (y : RegistryValue). is_open kin_in y.spans id) registry ∙ open_later)) ∙
@@ -720,7 +760,7 @@ module _ {N E F S : Type 0} (n : Ghosts N) (line_of : E → Settings → PlainCo
         let o = behind v handle in
         let u = steps.with_global v o in
         let holds = more_held v u o refl refl refl refl ready in (
-          unmoved v (GlobalStep handle) reply w Unasked none refl done
+          unmoved v (GlobalStep handle) reply w Unasked none refl refl done
               (ap skeleton_of is ∙ global_skeleton registry_of v o ∙
               ap (acting.with_global (skeleton_of v)) (sym (behind_same registry_of v handle))) refl
               (λ number. ap (λ (t : Traced N E F S). stack_in t number) is ∙ holds.1 number),
@@ -736,7 +776,7 @@ module _ {N E F S : Type 0} (n : Ghosts N) (line_of : E → Settings → PlainCo
         let o = steps.asked_for v ask.handle in
         let u = steps.with_default v ask.lane o in
         let holds = more_held v u o refl refl refl refl ready in (
-          unmoved v (DefaultStep ask) reply w Unasked none refl (done ∙ ap (λ k. Guard k) (sym (length-map v.guards _)))
+          unmoved v (DefaultStep ask) reply w Unasked none refl refl (done ∙ ap (λ k. Guard k) (sym (length-map v.guards _)))
               (ap skeleton_of is ∙ default_skeleton registry_of v ask.lane o ∙
               ap (acting.with_default (skeleton_of v) ask.lane) (sym (asked_same registry_of v ask.handle))) refl
               (λ number. ap (λ (t : Traced N E F S). stack_in t number) is ∙ holds.1 number),
@@ -751,7 +791,7 @@ module _ {N E F S : Type 0} (n : Ghosts N) (line_of : E → Settings → PlainCo
         w ≡ steps.restored v ask.lane ask.guard (inner (slice_get v.guards ask.guard)) → Goes v (ResetStep ask) reply w
     reset_goes v ask reply w ready none done is =
         let holds = reset_ready sg v ask.lane ask.guard (inner (slice_get v.guards ask.guard)) ready in (
-          unmoved v (ResetStep ask) reply w Unasked none refl done
+          unmoved v (ResetStep ask) reply w Unasked none refl refl done
               (ap skeleton_of is ∙ reset_skeleton registry_of v ask.lane ask.guard) refl
               (λ number. ap (λ (t : Traced N E F S). stack_in t number) is ∙ holds.1 number),
           subst (TraceIsReady g h) (sym is) holds.0,
@@ -765,7 +805,7 @@ module _ {N E F S : Type 0} (n : Ghosts N) (line_of : E → Settings → PlainCo
         let o = behind v handle in
         let u = steps.with_handle v o in
         let holds = more_held v u o refl refl refl refl ready in (
-          unmoved v (CloneHandleStep handle) reply w Unasked none refl (done ∙ ap (λ k. Handle k) (sym (length-map v.handles _)))
+          unmoved v (CloneHandleStep handle) reply w Unasked none refl refl (done ∙ ap (λ k. Handle k) (sym (length-map v.handles _)))
               (ap skeleton_of is ∙ handle_skeleton registry_of v o ∙
               ap (acting.with_new_handle (skeleton_of v)) (sym (behind_same registry_of v handle))) refl
               (λ number. ap (λ (t : Traced N E F S). stack_in t number) is ∙ holds.1 number),
@@ -782,16 +822,42 @@ module _ {N E F S : Type 0} (n : Ghosts N) (line_of : E → Settings → PlainCo
         let o = behind v handle in
         let u = steps.without_handle v handle o in
         let holds = less_held sg v u o refl (record { next = refl; callsites = refl; greatest = refl }) refl ready in (
-          unmoved v (ReleaseStep handle) reply w Unasked none refl done
+          unmoved v (ReleaseStep handle) reply w Unasked none refl refl done
               (ap skeleton_of is ∙ release_skeleton registry_of v handle o ∙
               ap (acting.without_stack_handle (skeleton_of v) handle) (sym (behind_same registry_of v handle))) refl
               (λ number. ap (λ (t : Traced N E F S). stack_in t number) is ∙ holds.1 number),
           subst (TraceIsReady g h) (sym is) holds.0,
         )
 
+    -- a setting
+    set_goes : (v : Traced N E F S) (call : SettingCall) (reply : Reply) (w : Traced N E F S) (o : Option OutputPlace) →
+        output_at (skeleton_of v) call.output ≡ o → TraceIsReady g h v → refusal_of (skeleton_of v) (SetStep call) ≡ None → reply ≡ Done →
+        w ≡ with_setting stack_set v o call.setting → Goes v (SetStep call) reply w
+    set_goes v call reply w None at ready none done is =
+        absurd (let clash : Some NoOutput ≡ None = sym (ap (output_refusal_by (skeleton_of v)) at) ∙ none in cc)
+    set_goes v call reply w (Some o) at ready none done is =
+        let s = skeleton_of v in
+        let (x, there) = held_there registry_of v o.stack (open_by (is_held s o.stack) ReleasedStack (sym (ap (output_refusal_by s) at) ∙ none)) in
+        let y = stack_set x o.place call.setting in
+        let became : w ≡ becoming o.stack y v = is ∙ ap (set_in stack_set v o call.setting) there in (
+          inl (record {
+            answers = Unasked;
+            fates = [];
+            asked = λ _. refl;
+            replied = done ∙ ap (λ (r : Option Refusal). or_refused r Done) (sym none);
+            skeleton = skeleton_stays v w o.stack x y there became refl ∙ ap (λ (r : Option Refusal). or_same r s s) (sym none);
+            outputs = subst (λ (r : Option Refusal). Sets (or_same r None (setting_by s (SetStep call)))
+                (or_same r None (told_by N s (SetStep call) Unasked)) [] v w) (sym none)
+                (subst (λ (p : Option OutputPlace). Sets (setting_for p call.setting) None [] v w) (sym at)
+                (setting_after v w o call.setting x there became));
+          }),
+          subst (TraceIsReady g h) (sym became)
+              (became_ready v o.stack x y ready there (set_ready g x o.place call.setting (ready.stacks o.stack x there))),
+        )
+
     -- a step that isn't refused
     step_goes : (v : Traced N E F S) (step : PlainStep) (reply : Reply) (w : Traced N E F S) → TraceIsReady g h v →
-        refusal_of (skeleton_of v) step ≡ None → StepGoes sg registry_of v step reply w → Goes v step reply w
+        refusal_of (skeleton_of v) step ≡ None → StepGoes sg registry_of stack_set v step reply w → Goes v step reply w
     step_goes v (GlobalStep handle) reply w ready none goes = global_goes v handle reply w ready none goes.0 goes.1
     step_goes v (EventStep e) reply w ready none goes = event_goes v e reply w (reach (skeleton_of v) e.lane)
         (known (skeleton_of v) e.callsite false) refl refl ready none goes.0 goes.1
@@ -810,13 +876,15 @@ module _ {N E F S : Type 0} (n : Ghosts N) (line_of : E → Settings → PlainCo
     step_goes v (ResetStep ask) reply w ready none goes = reset_goes v ask reply w ready none goes.0 goes.1
     step_goes v (CloneHandleStep handle) reply w ready none goes = handle_goes v handle reply w ready none goes
     step_goes v (ReleaseStep handle) reply w ready none goes = release_goes v handle reply w ready none goes.0 goes.1
+    step_goes v (SetStep call) reply w ready none goes = set_goes v call reply w (output_at (skeleton_of v) call.output) refl ready none
+        goes.0 goes.1
 
     step_by : (o : Option Refusal) (v : Traced N E F S) (step : PlainStep) (reply : Reply) (w : Traced N E F S) →
-        refusal_of (skeleton_of v) step ≡ o → TraceIsReady g h v → StepUnless sg registry_of o v step reply w → Goes v step reply w
+        refusal_of (skeleton_of v) step ≡ o → TraceIsReady g h v → StepUnless sg registry_of stack_set o v step reply w → Goes v step reply w
     step_by None v step reply w is ready goes = step_goes v step reply w ready is goes
     step_by (Some refusal) v step reply w is ready goes =
         (inl (refused v step reply w refusal is goes.0 goes.1), subst (TraceIsReady g h) (sym goes.1) ready)
 
     pub step_follows : (v : Traced N E F S) (step : PlainStep) (reply : Reply) (w : Traced N E F S) → TraceIsReady g h v →
-        StepGives sg registry_of v step reply w → Goes v step reply w
+        StepGives sg registry_of stack_set v step reply w → Goes v step reply w
     step_follows v step reply w ready goes = step_by (refusal_of (skeleton_of v) step) v step reply w refl ready goes

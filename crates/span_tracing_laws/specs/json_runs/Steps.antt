@@ -7,7 +7,7 @@ use Rattle.event_formatter_text.specs.JsonLaws.{IsInRange}
 use Rattle.event_formatter_text.specs.JsonTexts.{json_value}
 use Rattle.span_tracing_skeleton.specs.PlainData.{PlainStep, GlobalStep, EventStep, EnabledStep, SpanStep, RecordStep, FollowsFromStep}
 use Rattle.span_tracing_skeleton.specs.PlainData.{EnterStep, ExitStep, CloneStep, CloseStep, DefaultStep, ResetStep, CloneHandleStep}
-use Rattle.span_tracing_skeleton.specs.PlainData.{ReleaseStep}
+use Rattle.span_tracing_skeleton.specs.PlainData.{ReleaseStep, SetStep}
 use Rattle.span_tracing_skeleton.specs.Skeleton.{HeldStack, Skeleton}
 use Rattle.span_tracing_laws.specs.json.Objects.{IsPlaceInRange}
 
@@ -35,6 +35,7 @@ Brings of_event of_span (DefaultStep call) = Unit {0}
 Brings of_event of_span (ResetStep call) = Unit {0}
 Brings of_event of_span (CloneHandleStep handle) = Unit {0}
 Brings of_event of_span (ReleaseStep handle) = Unit {0}
+Brings of_event of_span (SetStep call) = Unit {0}
 
 -- any values
 abbrev pub AnyValues : List (ℕ × PlainValue) → Type 0

@@ -16,6 +16,7 @@ use Rattle.event_formatter_text.specs.declared.format_fields.FormatFields.{Ghost
 use Rattle.event_formatter_text.specs.declared.settings.Settings.{Settings}
 use Rattle.event_formatter.specs.formats.Contexts.{PlainContext}
 use Rattle.span_tracing_outputs.specs.OutputMachines.{PlainLine}
+use Rattle.span_tracing_outputs.specs.OutputSettings.{outputs_in, stack_set}
 use Rattle.span_tracing_outputs.specs.TraceStacks.{TraceStackValue}
 use Rattle.span_tracing_outputs.specs.Turns.{Lines}
 use Rattle.span_tracing_skeleton.specs.PlainData.{PlainStep}
@@ -43,7 +44,7 @@ module _ {N E F S : Type 0} (n : Ghosts N) (line_of : E → Settings → PlainCo
   -- each step of a trace over stacks with sinks follows the skeleton and the output machines, and leaves the trace ready for the next one
   abbrev pub StepsFollow : Type 0
   StepsFollow = (v : Traced N E F S) (step : PlainStep) (reply : Reply) (w : Traced N E F S) → TraceIsReady g h v →
-      StepGives sg registry_of v step reply w →
+      StepGives sg registry_of stack_set v step reply w →
       Follows n line_of g takes h v step reply w × TraceIsReady g h w
 
   -- so does a run of steps
@@ -61,7 +62,7 @@ module _ {N E F S : Type 0} (n : Ghosts N) (line_of : E → Settings → PlainCo
   -- under the next number, and a callsite is registered.
   pub record SetupFollows : Type 0 where
     pub added : (v : Traced N E F S) (x : TraceStackValue N E F S) (handle : ℕ) (w : Traced N E F S) → TraceIsReady g h v → IsReady g x →
-        AddGives sg v x (Ok handle) w → TraceIsReady g h w × StackKeeps (Some x) (stack_in w v.hub.next) ×
+        AddGives sg outputs_in v x (Ok handle) w → TraceIsReady g h w × StackKeeps (Some x) (stack_in w v.hub.next) ×
         ((stack : ℕ) → (stack == v.hub.next) ≡ false → StackKeeps (stack_in v stack) (stack_in w stack))
     pub registered : (v : Traced N E F S) (m : PlainMetadata) (r : Result PlainInterest Refusal) (w : Traced N E F S) →
         TraceIsReady g h v → RegisterGives sg v m r w →

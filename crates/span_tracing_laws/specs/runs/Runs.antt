@@ -25,6 +25,8 @@ use Rattle.span_tracing_steps.specs.States.{stack_in}
 use Rattle.span_tracing_steps.specs.Steps.{StepGives}
 use Rattle.span_tracing_laws.specs.runs.StepFollows.{FindsNoMemory, FollowsStep, Traced, registry_of, skeleton_of}
 use Rattle.span_tracing_laws.specs.runs.StepNotices.{Told, told_of, told_to}
+use Rattle.span_tracing_laws.specs.runs.StepSettings.{outs_with, setting_of}
+use Rattle.span_tracing_outputs.specs.OutputSettings.{stack_set}
 
 -- the state of the plain machine: what decides replies, and of each stack, by its number, the output machines
 pub record Plain (N : Type 0) : Type 0 where
@@ -60,7 +62,7 @@ module _ {N : Type 0} (n : Ghosts N) where
   abbrev pub plain_after : Plain N → StepWithMask → Plain N
   plain_after p (Went step a fates) = record {
     skeleton = after p.skeleton step a;
-    outs = λ stack. outs_left (told_to N stack (told_of N p.skeleton step a)) (p.outs stack) fates;
+    outs = λ stack. outs_left (told_to N stack (told_of N p.skeleton step a)) (outs_with stack (setting_of p.skeleton step) (p.outs stack)) fates;
   }
   plain_after p (Starved step) = p
 
@@ -69,7 +71,8 @@ module _ {N : Type 0} (n : Ghosts N) where
   plain_reply p (Starved step) = Refused OutOfMemory
 
   abbrev pub turn_lines : Plain N → StepWithMask → ℕ → List (List (At × PlainLine))
-  turn_lines p (Went step a fates) stack = lines_left (told_to N stack (told_of N p.skeleton step a)) (p.outs stack) fates
+  turn_lines p (Went step a fates) stack = lines_left (told_to N stack (told_of N p.skeleton step a))
+      (outs_with stack (setting_of p.skeleton step) (p.outs stack)) fates
   turn_lines p (Starved step) stack = none_for (p.outs stack)
 
   -- turns in order
@@ -132,4 +135,4 @@ RunGives sg v [] [] w = w ≡ v
 RunGives sg v [] (reply ∷ replies) w = ⊥
 RunGives sg v (step ∷ steps) [] w = ⊥
 RunGives {N = N} {E = E} {F = F} {S = S} sg v (step ∷ steps) (reply ∷ replies) w = (mid : Traced N E F S) ×
-    StepGives sg registry_of v step reply mid × RunGives sg mid steps replies w
+    StepGives sg registry_of stack_set v step reply mid × RunGives sg mid steps replies w

@@ -23,7 +23,7 @@ use Rattle.span_tracing_skeleton.specs.Machine.{after, reply_of}
 use Rattle.span_tracing_skeleton.specs.Order.{refusal_of}
 use Rattle.span_tracing_skeleton.specs.PlainData.{PlainStep, GlobalStep, EventStep, EnabledStep, SpanStep, RecordStep, FollowsFromStep}
 use Rattle.span_tracing_skeleton.specs.PlainData.{EnterStep, ExitStep, CloneStep, CloseStep, DefaultStep, ResetStep, CloneHandleStep}
-use Rattle.span_tracing_skeleton.specs.PlainData.{ReleaseStep}
+use Rattle.span_tracing_skeleton.specs.PlainData.{ReleaseStep, SetStep}
 use Rattle.span_tracing_skeleton.specs.Skeleton.{Skeleton, Answers, Unasked, Wanted, Dropped, Passed, Heard}
 use Rattle.span_tracing_skeleton.specs.declared.call.Reply.{Reply}
 use Rattle.span_tracing_skeleton.specs.declared.call.Reply.TheVariants.{Refused}
@@ -33,6 +33,7 @@ use Rattle.span_tracing_steps.specs.States.{StateValue, held_in, stack_in}
 use Rattle.span_tracing_steps.specs.contracts.callsite.TraceCallsiteCallsite.TheImpl.{ghosts}
 use Rattle.tracing_core.specs.HubInvariant.{IsSound as IsSoundHub}
 use Rattle.span_tracing_steps.specs.StackRequests.{place_at, request_of}
+use Rattle.span_tracing_laws.specs.runs.StepSettings.{setting_of, stack_with}
 use Rattle.span_tracing_laws.specs.runs.StepNotices.{Told, told_of, told_to}
 
 -- a trace over stacks of outputs with sinks
@@ -105,6 +106,7 @@ module _ {N E F S : Type 0} (g : FilterGhosts F) (h : LayerGhosts (Lines N E)) w
   IsAnswered v (ResetStep call) a = a ≡ Unasked
   IsAnswered v (CloneHandleStep handle) a = a ≡ Unasked
   IsAnswered v (ReleaseStep handle) a = a ≡ Unasked
+  IsAnswered v (SetStep call) a = a ≡ Unasked
 
 module _ {N E F S : Type 0} (n : Ghosts N) (line_of : E → Settings → PlainContext → PlainEvent → Option (List ℕ)) (g : FilterGhosts F)
     (takes : S → At → PlainLine → S → Type 0) where
@@ -123,7 +125,8 @@ module _ {N E F S : Type 0} (n : Ghosts N) (line_of : E → Settings → PlainCo
 
   module _ (h : LayerGhosts (Lines N E)) where
     -- with these answers, which the filters may give there and then, and these fates of texts and lines: the reply and the next skeleton
-    -- are the plain ones, and the outputs of each stack follow what they are told, also those of one that was released
+    -- are the plain ones, and the outputs of each stack follow what they are told, also those of one that was released; first the output
+    -- of a setting that the step brings has that
     pub record FollowsStep (v : Traced N E F S) (step : PlainStep) (reply : Reply) (w : Traced N E F S) : Type 0 where
       pub answers : Answers
       pub fates : Fates
@@ -131,7 +134,8 @@ module _ {N E F S : Type 0} (n : Ghosts N) (line_of : E → Settings → PlainCo
       pub replied : reply ≡ reply_of (skeleton_of v) step answers
       pub skeleton : skeleton_of w ≡ after (skeleton_of v) step answers
       pub outputs : (number : ℕ) →
-          OutputsFollow (told_to N number (told_of N (skeleton_of v) step answers)) fates (stack_in v number) (stack_in w number)
+          OutputsFollow (told_to N number (told_of N (skeleton_of v) step answers)) fates
+          (stack_with number (setting_of (skeleton_of v) step) (stack_in v number)) (stack_in w number)
 
     -- what takes room of its own: a new span of a reached stack, an entry of a span, a guard, and a handle
     abbrev pub TakesRoom : Traced N E F S → PlainStep → Type 0
@@ -149,6 +153,7 @@ module _ {N E F S : Type 0} (n : Ghosts N) (line_of : E → Settings → PlainCo
     TakesRoom v (ResetStep call) = ⊥
     TakesRoom v (CloneHandleStep handle) = Unit {0}
     TakesRoom v (ReleaseStep handle) = ⊥
+    TakesRoom v (SetStep call) = ⊥
 
     -- a step that takes room finds no memory where nothing else stands in its way, and then changes nothing
     abbrev pub FindsNoMemory : Traced N E F S → PlainStep → Reply → Traced N E F S → Type 0

@@ -13,7 +13,7 @@ use Rattle.span_tracing_skeleton.specs.Machine.{or_same}
 use Rattle.span_tracing_skeleton.specs.Order.{refusal_of}
 use Rattle.span_tracing_skeleton.specs.PlainData.{PlainStep, Request, RecordRequest, GlobalStep, EventStep, EnabledStep, SpanStep}
 use Rattle.span_tracing_skeleton.specs.PlainData.{RecordStep, FollowsFromStep, EnterStep, ExitStep, CloneStep, CloseStep, DefaultStep}
-use Rattle.span_tracing_skeleton.specs.PlainData.{ResetStep, CloneHandleStep, ReleaseStep}
+use Rattle.span_tracing_skeleton.specs.PlainData.{ResetStep, CloneHandleStep, ReleaseStep, SetStep}
 use Rattle.span_tracing_skeleton.specs.Skeleton.{Skeleton, Answers, Unasked, Wanted, Dropped, Passed, Heard}
 use Rattle.span_tracing_skeleton.specs.declared.call.SpanCall.{SpanCall}
 use Rattle.span_tracing_skeleton.specs.declared.call.SpanName.{SpanName}
@@ -121,6 +121,7 @@ module _ (N : Type 0) where
   told_by s (ResetStep call) a = None
   told_by s (CloneHandleStep handle) a = None
   told_by s (ReleaseStep handle) a = None
+  told_by s (SetStep call) a = None
 
   -- of any step: one that is refused tells nobody
   abbrev pub told_of : Skeleton → PlainStep → Answers → Option (Told N)

@@ -142,7 +142,8 @@ fn span_events(alloc: Global, members: Members<'_>) -> Result<Vec<SpanEvent>, Li
     Ok(events)
 }
 
-fn span_event(value: &Json) -> Result<SpanEvent, LineFault> {
+/// The moment of that name.
+pub(crate) fn span_event(value: &Json) -> Result<SpanEvent, LineFault> {
     match value.as_str() {
         Some("new") => Ok(SpanEvent::New),
         Some("enter") => Ok(SpanEvent::Enter),

@@ -2,12 +2,13 @@
 
 use crate::lines::decode::members::{Members, owned_text, pair, whole_number};
 use crate::lines::decode::setup::{CallsiteLine, Setup};
+use crate::lines::decode::stack::{SpanEvent, span_event};
 use crate::lines::decode::value::value_of;
 use crate::lines::fault::LineFault;
 use serde_json::Value as Json;
 use span_tracing_skeleton::{
-    DefaultCall, EnabledCall, EventCall, FollowsCall, NewSpanCall, Parent, ResetCall, SpanCall,
-    SpanName, Step,
+    DefaultCall, EnabledCall, EventCall, FollowsCall, NewSpanCall, Parent, ResetCall, Setting,
+    SettingCall, SpanCall, SpanMoments, SpanName, Step,
 };
 use std::alloc::Global;
 use std::num::NonZeroU64;
@@ -71,7 +72,7 @@ fn whole_step(
     }
 }
 
-/// A step that changes who holds stacks.
+/// A step that changes who holds stacks, or a setting.
 fn hold_step(name: &str, members: Members<'_>) -> Result<Step, LineFault> {
     match name {
         "set_global_default" => Ok(Step::SetGlobalDefault(handle_of(members)?)),
@@ -79,8 +80,50 @@ fn hold_step(name: &str, members: Members<'_>) -> Result<Step, LineFault> {
         "reset_default" => Ok(Step::ResetDefault(reset_call(members)?)),
         "clone_handle" => Ok(Step::CloneHandle(handle_of(members)?)),
         "release" => Ok(Step::Release(handle_of(members)?)),
-        _ => Err(LineFault::NotReadable),
+        _ => Ok(Step::Set(setting_call(name, members)?)),
     }
+}
+
+/// A step that changes a setting of an output.
+fn setting_call(name: &str, members: Members<'_>) -> Result<SettingCall, LineFault> {
+    let setting = match name {
+        "set_ansi" => {
+            members.only(&["do", "output", "on"])?;
+            Setting::Ansi(flag(members.get("on")?)?)
+        }
+        "set_span_events" => {
+            members.only(&["do", "output", "set"])?;
+            Setting::SpanEvents(moments_in(members.list("set")?)?)
+        }
+        _ => return Err(LineFault::NotReadable),
+    };
+    Ok(SettingCall {
+        output: members.size("output")?,
+        setting,
+    })
+}
+
+fn flag(value: &Json) -> Result<bool, LineFault> {
+    value.as_bool().ok_or(LineFault::NotReadable)
+}
+
+/// The set of the moments that a list names.
+fn moments_in(list: &[Json]) -> Result<SpanMoments, LineFault> {
+    let mut moments = SpanMoments {
+        new: false,
+        enter: false,
+        exit: false,
+        close: false,
+    };
+    for value in list {
+        match span_event(value)? {
+            SpanEvent::New => moments.new = true,
+            SpanEvent::Enter => moments.enter = true,
+            SpanEvent::Exit => moments.exit = true,
+            SpanEvent::Close => moments.close = true,
+        }
+    }
+    Ok(moments)
 }
 
 fn handle_of(members: Members<'_>) -> Result<usize, LineFault> {

@@ -1,5 +1,7 @@
 use Rattle.std.proofs.Common.{None, Some, ap, subst, ◌∙◌}
 use Rattle.span_tracing_laws.specs.runs.Laws.{StackStays}
+use Rattle.span_tracing_outputs.specs.OutputSettings.{outputs_in, stack_set}
+use Rattle.span_tracing_laws.specs.runs.StepFollows.{registry_of}
 use Rattle.span_tracing_steps.specs.States.{new_state}
 use Rattle.span_tracing.proofs.DefaultStack.{opened, reaches_first, same_stack}
 use Rattle.span_tracing.proofs.opening.open_trace.Goals as goal
@@ -7,7 +9,7 @@ use Rattle.span_tracing.proofs.opening.open_trace.Goals as goal
 pub unreachable-requires : goal.unreachable-requires
 unreachable-requires g c =
     c.in_default-set_global_default.not-Done
-    (opened _ _ (record { name = None; number = 1 }) c.in_ok-stack.stack c.in-Ok-add_stack.handle c.new-trace.result c.thread.new.self
+    (opened _ outputs_in registry_of stack_set (record { name = None; number = 1 }) c.in_ok-stack.stack c.in-Ok-add_stack.handle c.new-trace.result c.thread.new.self
     c.add_stack.new.self c.set_global_default.result c.set_global_default.new.self c.new-trace.ensures c.in-Ok.ensures.ok
     c.in-Ok-add_stack.ensures.gives c.set_global_default.ensures.gives).done
 
@@ -24,9 +26,9 @@ returns-clause-opened g c =
       c.in_ok-stack.stack,
       c.in_ok-stack.ensures.opened,
       subst (StackStays (Some c.in_ok-stack.stack))
-          (same_stack _ _ (record { name = None; number = 1 }) c.add_stack.new.self c.in-Ok-add_stack.handle c.set_global_default.result
+          (same_stack _ outputs_in registry_of stack_set (record { name = None; number = 1 }) c.add_stack.new.self c.in-Ok-add_stack.handle c.set_global_default.result
           c.set_global_default.new.self
-          (opened _ _ (record { name = None; number = 1 }) c.in_ok-stack.stack c.in-Ok-add_stack.handle c.new-trace.result
+          (opened _ outputs_in registry_of stack_set (record { name = None; number = 1 }) c.in_ok-stack.stack c.in-Ok-add_stack.handle c.new-trace.result
           c.thread.new.self c.add_stack.new.self c.set_global_default.result c.set_global_default.new.self c.new-trace.ensures
           c.in-Ok.ensures.ok c.in-Ok-add_stack.ensures.gives c.set_global_default.ensures.gives)
           c.thread.new.self.hub.next (ap (λ v. v.hub.next) c.in-Ok.ensures.ok ∙ ap (λ v. v.hub.next) c.new-trace.ensures))
@@ -38,20 +40,20 @@ returns-clause-opened g c =
 pub returns-clause-bare : goal.returns-clause-bare
 returns-clause-bare g c =
     ap (λ v. v.hub.callsites)
-    (opened _ _ (record { name = None; number = 1 }) c.in_ok-stack.stack c.in-Ok-add_stack.handle c.new-trace.result c.thread.new.self
+    (opened _ outputs_in registry_of stack_set (record { name = None; number = 1 }) c.in_ok-stack.stack c.in-Ok-add_stack.handle c.new-trace.result c.thread.new.self
     c.add_stack.new.self c.set_global_default.result c.set_global_default.new.self c.new-trace.ensures c.in-Ok.ensures.ok
     c.in-Ok-add_stack.ensures.gives c.set_global_default.ensures.gives).set
 
 pub returns-clause-reached : goal.returns-clause-reached
 returns-clause-reached g c =
-    let o = opened _ _ (record { name = None; number = 1 }) c.in_ok-stack.stack c.in-Ok-add_stack.handle c.new-trace.result
+    let o = opened _ outputs_in registry_of stack_set (record { name = None; number = 1 }) c.in_ok-stack.stack c.in-Ok-add_stack.handle c.new-trace.result
     c.thread.new.self c.add_stack.new.self c.set_global_default.result c.set_global_default.new.self c.new-trace.ensures
     c.in-Ok.ensures.ok c.in-Ok-add_stack.ensures.gives c.set_global_default.ensures.gives in
-    reaches_first (record { name = None; number = 1 }) c.set_global_default.new.self o.stack o.hint o.greatest o.set
+    reaches_first (record { name = None; number = 1 }) o.count c.set_global_default.new.self o.stack o.hint o.greatest o.set
 
 pub returns-clause-lane : goal.returns-clause-lane
 returns-clause-lane g c =
     ap (λ v. v.threads)
-    (opened _ _ (record { name = None; number = 1 }) c.in_ok-stack.stack c.in-Ok-add_stack.handle c.new-trace.result c.thread.new.self
+    (opened _ outputs_in registry_of stack_set (record { name = None; number = 1 }) c.in_ok-stack.stack c.in-Ok-add_stack.handle c.new-trace.result c.thread.new.self
     c.add_stack.new.self c.set_global_default.result c.set_global_default.new.self c.new-trace.ensures c.in-Ok.ensures.ok
     c.in-Ok-add_stack.ensures.gives c.set_global_default.ensures.gives).set

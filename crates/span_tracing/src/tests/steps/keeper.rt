@@ -3,7 +3,7 @@ ghost use Rattle.std.specs.Prelude.{◌≡◌, None, true};
 ghost use Rattle.tracing_core_fields.specs.declared.requests.interest.InterestInner.TheVariants.{Sometimes};
 
 use span_registry_layers_store::{FilterMap, Registry};
-use span_tracing_skeleton::HasRegistry;
+use span_tracing_skeleton::{HasOutputs, HasRegistry, Setting};
 use std::alloc::Global;
 use tracing_core_fields::{
     Attributes, CurrentSpan, DebugText, Event, Field, Id, Interest, LevelFilter, Metadata, Record,
@@ -83,6 +83,31 @@ impl HasRegistry for Keeper {
     fn registry(&self) -> &Registry {
         &self.registry
     }
+}
+
+impl HasOutputs for Keeper {
+    ghost use Rattle.std.specs.Prelude.{refl};
+
+    ghost outputs_in = { λ x. 1 };
+
+    ghost set = { λ x place setting. x };
+
+    ghost spans_stay = { λ x place setting. refl };
+
+    ghost word_stays = { λ x place setting k. (
+      tt,
+      record {
+        onward = λ m j n. n;
+        back = λ m j n. n;
+        same_hint = refl;
+      },
+    ) };
+
+    fn output_count(&self) -> usize {
+        1
+    }
+
+    fn set(&mut self, _place: usize, _setting: Setting) {}
 }
 
 impl Subscriber for Keeper {
