@@ -1,9 +1,8 @@
 // Settings of outputs that change while a trace runs.
 
 use crate::tests::common::{MONDAY, lent_text};
-use crate::tests::trace::stage::{
-    OUTER, WARNING, has_file, has_file_of, made, set_trace, stack_of_two,
-};
+use crate::tests::trace::several::trace_of_both;
+use crate::tests::trace::stage::{OUTER, WARNING, has_file, has_file_of, made, set_trace};
 use event_formatter_lines::FmtSpan;
 use span_tracing_skeleton::{
     OutputPlace, Parent, Refusal, Reply, Setting, SettingCall, SpanMoments, Step,
@@ -32,12 +31,8 @@ fn lines_have_styles_from_a_call_on(rt: HostRuntime) -> Result<(), Fail> {
 
 #[test]
 fn spans_have_lines_from_a_call_on(rt: HostRuntime) -> Result<(), Fail> {
-    let mut trace = set_trace(&rt, rt.alloc())?;
-    let handle = trace
-        .add_stack(stack_of_two(rt.alloc())?)
-        .ok()
-        .ok_or("room")?;
-    assert_eq!(rt; trace.set_default(1, Some(handle)), Reply::Guard(0));
+    let mut trace = trace_of_both(&rt, rt.alloc())?;
+    assert_eq!(rt; trace.set_default(1, Some(1)), Reply::Guard(0));
     let first = made(trace.new_span(1, MONDAY, OUTER, Parent::Root, &[]))?;
     assert_eq!(rt;
         trace.set_span_events(2, FmtSpan::ENTER | FmtSpan::EXIT),
@@ -55,16 +50,12 @@ fn spans_have_lines_from_a_call_on(rt: HostRuntime) -> Result<(), Fail> {
 
 #[test]
 fn settings_are_refused_in_order(rt: HostRuntime) -> Result<(), Fail> {
-    let mut trace = set_trace(&rt, rt.alloc())?;
-    let handle = trace
-        .add_stack(stack_of_two(rt.alloc())?)
-        .ok()
-        .ok_or("room")?;
+    let mut trace = trace_of_both(&rt, rt.alloc())?;
     let last = OutputPlace { stack: 1, place: 1 };
     assert_eq!(rt; trace.output_place(3), Some(last));
     assert_eq!(rt; trace.output_place(4), None);
     assert_eq!(rt; trace.set_ansi(3, true), Reply::Done);
-    assert_eq!(rt; trace.release(handle), Reply::Done);
+    assert_eq!(rt; trace.release(1), Reply::Done);
     assert_eq!(rt;
         trace.set_ansi(3, false),
         Reply::Refused(Refusal::ReleasedStack)

@@ -13,7 +13,7 @@ use std::process::Abort;
 use std::test::Fail;
 
 /// Two stacks of two outputs each. The first is the global default, and no lane has a default of its own.
-fn trace_of_both(rt: &impl Abort, alloc: Global) -> Result<Trace<Written>, Fail> {
+pub(crate) fn trace_of_both(rt: &impl Abort, alloc: Global) -> Result<Trace<Written>, Fail> {
     let mut trace = set_trace(rt, alloc)?;
     let handle = trace.add_stack(stack_of_two(alloc)?).ok().ok_or("room")?;
     assert_eq!(rt; handle, 1);
